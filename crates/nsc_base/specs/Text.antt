@@ -1,0 +1,68 @@
+-- Texts cut into lines, fields and words. A text is a list of bytes, and nothing is decoded.
+use Rattle.std.specs.Prelude.{◌≡◌, ℕ, ◌+◌, ◌<◌, ◌≤◌, Bool, ◌==◌, ◌||◌, nat_lt, if◌then◌else◌, List, [], ◌∷◌, length, drop, filter, slice_range, true, false}
+use Rattle.nsc_base.specs.declared.span.Line.{Line}
+use Rattle.nsc_base.specs.declared.span.Span.{Span}
+
+-- the first piece with one byte more at its front
+abbrev pub onto_first : ℕ → List (List ℕ) → List (List ℕ)
+onto_first b [] = (b ∷ []) ∷ []
+onto_first b (piece ∷ pieces) = (b ∷ piece) ∷ pieces
+
+-- the pieces between the bytes that cut, one more than there are such bytes
+abbrev pub pieces : (ℕ → Bool) → List ℕ → List (List ℕ)
+pieces cuts [] = [] ∷ []
+pieces cuts (b ∷ bytes) = if cuts b then [] ∷ pieces cuts bytes else onto_first b (pieces cuts bytes)
+
+-- the fields of passwd(5) and group(5): the pieces between colons, or another separator
+abbrev pub fields_of : ℕ → List ℕ → List (List ℕ)
+fields_of cut bytes = pieces (λ b. b == cut) bytes
+
+-- a newline ends a line, and so does the end of the text: behind a last newline no line stands
+abbrev pub lines_of : List ℕ → List (List ℕ)
+lines_of [] = []
+lines_of (b ∷ bytes) = if b == 10 then [] ∷ lines_of bytes else onto_first b (lines_of bytes)
+
+-- white space within a line: a blank or a tab
+abbrev pub is_white : ℕ → Bool
+is_white b = b == 32 || b == 9
+
+abbrev pub is_filled : List ℕ → Bool
+is_filled [] = false
+is_filled (b ∷ bytes) = true
+
+-- the words between white space
+abbrev pub words_of : List ℕ → List (List ℕ)
+words_of bytes = filter is_filled (pieces is_white bytes)
+
+-- the bytes from one place up to another
+abbrev pub part : List ℕ → Span → List ℕ
+part text span = slice_range text span.from span.to
+
+-- the line that begins at this place, and the place of the next one
+pub record IsLine (text : List ℕ) (from : ℕ) (line : Line) : Type 0 where
+  pub begins : line.span.from ≡ from
+  pub ordered : from ≤ line.span.to
+  pub ends : line.span.to ≤ length text
+  pub onward : from < line.next
+  pub next_ends : line.next ≤ length text
+  pub cut : lines_of (drop from text) ≡ part text line.span ∷ lines_of (drop line.next text)
+
+-- the fields from this place on: none behind the last one
+abbrev pub fields_between : ℕ → List ℕ → ℕ → ℕ → List (List ℕ)
+fields_between cut text from to = if nat_lt to from then [] else fields_of cut (slice_range text from to)
+
+-- the field that begins at this place; the next one begins behind its separator
+pub record IsField (cut : ℕ) (text : List ℕ) (within : Span) (from : ℕ) (field : Line) : Type 0 where
+  pub begins : field.span.from ≡ from
+  pub ordered : from ≤ field.span.to
+  pub ends : field.span.to ≤ within.to
+  pub next_is : field.next ≡ field.span.to + 1
+  pub cut_is : fields_between cut text from within.to ≡ part text field.span ∷ fields_between cut text field.next within.to
+
+-- the first word from this place on, and the place where it ends
+pub record IsWord (text : List ℕ) (within : Span) (from : ℕ) (word : Line) : Type 0 where
+  pub behind : from ≤ word.span.from
+  pub filled : word.span.from < word.span.to
+  pub ends : word.span.to ≤ within.to
+  pub next_is : word.next ≡ word.span.to
+  pub cut : words_of (slice_range text from within.to) ≡ part text word.span ∷ words_of (slice_range text word.next within.to)
