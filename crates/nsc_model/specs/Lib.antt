@@ -10,3 +10,4 @@ pub mod History
 pub mod Machine
 pub mod Frames
 pub mod Replay
+pub mod Fronts

@@ -9,7 +9,7 @@ use Rattle.nsc_model.specs.declared.answer.Request.{Request}
 use Rattle.nsc_model.specs.Files.{Files, no_files, with_file, part_of}
 use Rattle.nsc_model.specs.Wire.{Asked, Look, Shutdown, Stat, Invalidate, Descriptor, Netgroup, Short, BadVersion, BadType, BadLength, request_of, field}
 use Rattle.nsc_model.specs.Machine.{Lives, Cache, new_cache, Turn, look_up}
-use Rattle.nsc_model.specs.Frames.{Frame, Ask, Become, Reach, Drop, Stop, Finish, Done, Bad, Long, Spent, NotBuilt, Cut, cut_at}
+use Rattle.nsc_model.specs.Frames.{Frame, Ask, Become, Reach, Clear, Stop, Finish, Done, Bad, Long, Spent, NotBuilt, Cut, cut_at}
 
 -- the files as they are, and the cache of users
 pub record State : Type 0 where
@@ -79,7 +79,7 @@ abbrev pub turn_of : State → Frame → Result Went Finish
 turn_of s (Ask input) = ask_frame s (request_of input)
 turn_of s (Become file held) = become_frame s file held
 turn_of s (Reach moment) = Err NotBuilt
-turn_of s (Drop db) = Err NotBuilt
+turn_of s (Clear db) = Err NotBuilt
 turn_of s Stop = Err NotBuilt
 
 -- what a replay writes, and how it ends
