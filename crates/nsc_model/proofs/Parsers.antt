@@ -7,7 +7,7 @@ use Rattle.nsc_model.specs.declared.kind.FileId.{FileId}
 use Rattle.nsc_model.specs.declared.kind.Db.{Db}
 use Rattle.nsc_model.specs.Kinds.{file_numbered}
 use Rattle.nsc_model.specs.Files.{file_limit}
-use Rattle.nsc_model.specs.Frames.{Frame, Ask, Become, Reach, Clear, Stop, Fault, NoFrame, LongFile, ◌>>=◌, chunk, number_at, input_limit, input_at, ask_at, held_at, marked_at, bytes_at, become, file_at, reach_at, db_numbered, cleared, clear_at, behind, frame_at}
+use Rattle.nsc_model.specs.Frames.{Frame, Ask, Become, Reach, Clear, Stop, Fault, Short, NoFrame, LongFile, ◌>>=◌, chunk, number_at, input_limit, input_at, ask_at, held_at, marked_at, bytes_at, become, file_at, reach_at, db_numbered, cleared, clear_at, behind, frame_at}
 use Rattle.nsc_model.specs.Fronts.{Finds, Refuses, IsPartial}
 
 abbrev pub Parser : Type 0 → Type 0
@@ -114,7 +114,7 @@ leaves_now {A} x = record { no_more = λ bytes y e. let k : length y.1 ≡ lengt
 chunk_leaves : (n : ℕ) → Leaves (chunk n)
 chunk_leaves n = record {
   no_more = λ bytes y e.
-    let g = guard_ok (ltb (length bytes) n) NoFrame (Ok (take n bytes, drop n bytes)) y e in
+    let g = guard_ok (ltb (length bytes) n) Short (Ok (take n bytes, drop n bytes)) y e in
     let k : length (drop n bytes) ≡ length y.1 = ap (λ (p : List ℕ × List ℕ). length p.1) (ok_is (take n bytes, drop n bytes) y g.1) in
     omega (arith, length-drop n bytes)
 }
@@ -122,7 +122,7 @@ chunk_leaves n = record {
 chunk_eats : (n : ℕ) → 0 < n → Eats (chunk n)
 chunk_eats n pos = record {
   fewer = λ bytes y e.
-    let g = guard_ok (ltb (length bytes) n) NoFrame (Ok (take n bytes, drop n bytes)) y e in
+    let g = guard_ok (ltb (length bytes) n) Short (Ok (take n bytes, drop n bytes)) y e in
     let long : n ≤ length bytes = ltb-false _ _ g.0 in
     let k : length (drop n bytes) ≡ length y.1 = ap (λ (p : List ℕ × List ℕ). length p.1) (ok_is (take n bytes, drop n bytes) y g.1) in
     omega (arith, length-drop n bytes)

@@ -13,13 +13,13 @@ pub struct Content {
 }
 
 impl Model for Content {
-    ghost use Rattle.nsc_model.specs.Files.{Files, files_in, Fit};
+    ghost use Rattle.nsc_model.specs.Files.{Files, files_in, FilesFit};
 
     ghost Value = { Files };
 
     ghost view = { λ c. files_in c.files };
 
-    ghost invariant = { λ c. Fit (files_in c.files) };
+    ghost invariant = { λ c. FilesFit (files_in c.files) };
 }
 
 impl Content {
