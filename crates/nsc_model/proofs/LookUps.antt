@@ -97,7 +97,7 @@ changed : (before : List Record) (cache : Cache) (files : Files) → Tells befor
 changed before cache files t differ = record {
   tells = record {
     legal = changed_legal before (cache.newest_version + 1) files t.legal (sym t.counted)
-      (λ e. false≢true (sym differ ∙ subst (λ f. same_files files f ≡ true) (files_is (sym e ∙ t.newest_is)) (content_same files)));
+        (λ e. false≢true (sym differ ∙ subst (λ f. same_files files f ≡ true) (files_is (sym e ∙ t.newest_is)) (content_same files)));
     newest_is = refl;
     counted = let n = t.counted in omega arith;
     held = rw (eqb_same (cache.newest_version + 1)) refl;
@@ -111,6 +111,7 @@ changed before cache files t differ = record {
 } where
   given : Files → Option Files
   given f = Some f
+
   files_is : Some files ≡ Some cache.sources → files ≡ cache.sources
   files_is e = cc
 
@@ -126,6 +127,7 @@ polled_is before cache files p t e = by_test (same_files files cache.sources) re
   by_count true d h = absurd cc
   by_count false d h =
       subst (λ (x : Cache × Record). Polled before x.1 cache x.0 × (x.0.sources ≡ files)) (okay_is (turned cache files, Change (cache.newest_version + 1) files) p h) (changed before cache files t d, refl)
+
   by_test : (b : Bool) → same_files files cache.sources ≡ b → cond b (Ok (cache, Poll cache.newest_version)) (cond (eqb cache.newest_version last_count) (Err last_count) (Ok (turned cache files, Change (cache.newest_version + 1) files))) ≡ Ok p → Polled before p.1 cache p.0 × (p.0.sources ≡ files)
   by_test true s h =
       subst (λ (x : Cache × Record). Polled before x.1 cache x.0 × (x.0.sources ≡ files)) (okay_is (cache, Poll cache.newest_version) p h) (confirmed before cache t, sym (one_content files cache.sources s))
@@ -205,11 +207,13 @@ law : (lives : Lives) (now : ℕ) (files : Files) (request : Request) (cache : C
 law lives now files request cache history turn t e = by_find (find test cache.entries) refl e where
   test : Fixed → Bool
   test f = is_request request f.request
+
   by_poll : (r : Result (Cache × Record) ℕ) → polled files cache ≡ r → ((f : Fixed) → Among cache.entries f → f.request ≢ request) → (r >>= λ p. Ok (loaded lives now request p.0 p.1)) ≡ Ok turn → Law history request turn
   by_poll (Err count) q others h = absurd cc
   by_poll (Ok p) q others h =
       subst (Law history request) (okay_is (loaded lives now request p.0 p.1) turn h)
       (loaded_law lives now request history p.1 cache p.0 (polled_is history cache files p t q).0 others)
+
   by_find : (o : Option Fixed) → find test cache.entries ≡ o → hit_or_load o lives now files request cache ≡ Ok turn → Law history request turn
   by_find (Some f) q h =
       let at = found test cache.entries f q in

@@ -34,8 +34,8 @@ same_cut (suc n) zero place (x ∷ bytes) a b = absurd (omega arith)
 same_cut (suc n) (suc m) place bytes a b =
     ap (λ (c : Cut). cond (ltb place place_limit) c (record { frames = []; finish = Bad place }))
     (same_from (cut_by n) (cut_by m) place bytes (frame_at bytes) (λ x e p.
-      let fewer : length x.1 < length bytes = frame_eats.fewer bytes x e in
-      same_cut n m p x.1 (omega arith) (omega arith)))
+    let fewer : length x.1 < length bytes = frame_eats.fewer bytes x e in
+    same_cut n m p x.1 (omega arith) (omega arith)))
 
 -- ---- the first frame of a cut
 

@@ -73,10 +73,10 @@ abbrev pub request_of : List ℕ → Asked
 request_of bytes =
     if nat_lt (length bytes) 12 then Short (length bytes) else (
     if field_in bytes 0 == 2 then (
-      if nat_lt 21 (field_in bytes 4) then BadType (signed_field_in bytes 4) else (
-      if nat_lt key_limit (field_in bytes 8) then BadLength (signed_field_in bytes 8) else (
-      if nat_lt (length bytes) (12 + field_in bytes 8) then Short (length bytes) else
-        asked_look (kind_numbered (field_in bytes 4)) (field_in bytes 4) (take (field_in bytes 8) (drop 12 bytes)))))
+    if nat_lt 21 (field_in bytes 4) then BadType (signed_field_in bytes 4) else (
+    if nat_lt key_limit (field_in bytes 8) then BadLength (signed_field_in bytes 8) else (
+    if nat_lt (length bytes) (12 + field_in bytes 8) then Short (length bytes) else
+    asked_look (kind_numbered (field_in bytes 4)) (field_in bytes 4) (take (field_in bytes 8) (drop 12 bytes)))))
     else BadVersion (signed_field_in bytes 0))
 
 -- ---- replies

@@ -59,7 +59,9 @@ impl Content {
         ensures value { option_copied result ≡ file_of self.now file }
         ensures bound { IfSome result (λ b. length b.now ≤ file_limit) }
     {
-        self.files[file as usize].as_ref().map(|bytes| bytes.as_slice())
+        self.files[file as usize]
+            .as_ref()
+            .map(|bytes| bytes.as_slice())
     }
 
     /// Whether two contents are the same, file by file.

@@ -16,12 +16,10 @@ pub fn each_look_up_is_answered()
         Tells history cache → look_up lives now files request cache ≡ Ok turn → Tells (turn.adds ++ history) turn.cache }
     ensures answered { (lives : Lives) (now : ℕ) (files : Files) (request : Request) (cache : Cache) (history : List Record) (turn : Turn) →
         Tells history cache → look_up lives now files request cache ≡ Ok turn → Answered history (turn.adds ++ history) request turn.reply }
-{
-}
+{}
 
 /// In every run of look-ups from a new cache, whatever the files are at each of them, the history is legal and each
 /// reply is an answer to its request, for a caller that had seen the whole history before the look-up.
 pub fn runs_are_answered()
     ensures { (lives : Lives) (files : Files) (calls : List Call) → EachAnswered lives calls (new_cache files) (Change 0 files ∷ []) }
-{
-}
+{}
