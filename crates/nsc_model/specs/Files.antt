@@ -1,0 +1,91 @@
+-- A content: seven files, each absent or its bytes.
+use Rattle.std.specs.Prelude.{ℕ, ◌≤◌, Bool, true, false, ◌&&◌, List, Option, Some, None, length, IfSome}
+use Rattle.std.specs.List.{slice_index_or}
+use Rattle.std.specs.Str.{bytes_eq}
+use Rattle.nsc_model.specs.declared.kind.Db.{Db}
+use Rattle.nsc_model.specs.declared.kind.Db.TheVariants as db
+use Rattle.nsc_model.specs.declared.kind.FileId.{FileId}
+use Rattle.nsc_model.specs.declared.kind.FileId.TheVariants as file
+
+abbrev pub File : Type 0
+File = Option (List ℕ)
+
+pub record Files : Type 0 where
+  pub switch : Option (List ℕ)
+  pub passwd : Option (List ℕ)
+  pub group : Option (List ℕ)
+  pub hosts : Option (List ℕ)
+  pub services : Option (List ℕ)
+  pub extra_passwd : Option (List ℕ)
+  pub extra_group : Option (List ℕ)
+
+-- a file has at most so many bytes
+abbrev pub file_limit : ℕ
+file_limit = 16777216
+
+abbrev pub FileFits : Option (List ℕ) → Type 0
+FileFits f = IfSome f (λ bytes. length bytes ≤ file_limit)
+
+-- no file is longer than a file may be
+pub record Fit (files : Files) : Type 0 where
+  pub switch_fits : FileFits files.switch
+  pub passwd_fits : FileFits files.passwd
+  pub group_fits : FileFits files.group
+  pub hosts_fits : FileFits files.hosts
+  pub services_fits : FileFits files.services
+  pub extra_passwd_fits : FileFits files.extra_passwd
+  pub extra_group_fits : FileFits files.extra_group
+
+-- the files in the order of their numbers
+abbrev pub files_in : List (Option (List ℕ)) → Files
+files_in all = record {
+  switch = slice_index_or all 0 None;
+  passwd = slice_index_or all 1 None;
+  group = slice_index_or all 2 None;
+  hosts = slice_index_or all 3 None;
+  services = slice_index_or all 4 None;
+  extra_passwd = slice_index_or all 5 None;
+  extra_group = slice_index_or all 6 None;
+}
+
+-- every file is absent
+abbrev pub no_files : Files
+no_files = record { switch = None; passwd = None; group = None; hosts = None; services = None; extra_passwd = None; extra_group = None }
+
+abbrev pub file_of : Files → FileId → Option (List ℕ)
+file_of files file.Switch = files.switch
+file_of files file.Passwd = files.passwd
+file_of files file.Group = files.group
+file_of files file.Hosts = files.hosts
+file_of files file.Services = files.services
+file_of files file.ExtraPasswd = files.extra_passwd
+file_of files file.ExtraGroup = files.extra_group
+
+-- one file becomes this, and the others stay
+abbrev pub with_file : Files → FileId → Option (List ℕ) → Files
+with_file files file.Switch f = record files { switch = f }
+with_file files file.Passwd f = record files { passwd = f }
+with_file files file.Group f = record files { group = f }
+with_file files file.Hosts f = record files { hosts = f }
+with_file files file.Services f = record files { services = f }
+with_file files file.ExtraPasswd f = record files { extra_passwd = f }
+with_file files file.ExtraGroup f = record files { extra_group = f }
+
+-- what a database reads: the files that it does not read count as absent
+abbrev pub part_of : Db → Files → Files
+part_of db.Passwd files = record no_files { switch = files.switch; passwd = files.passwd; extra_passwd = files.extra_passwd }
+part_of db.Group files = record no_files { switch = files.switch; group = files.group; extra_group = files.extra_group }
+part_of db.Hosts files = record no_files { switch = files.switch; hosts = files.hosts }
+part_of db.Services files = record no_files { switch = files.switch; services = files.services }
+
+-- whether two files are the same, and whether two contents are
+abbrev pub same_file : Option (List ℕ) → Option (List ℕ) → Bool
+same_file None None = true
+same_file None (Some b) = false
+same_file (Some a) None = false
+same_file (Some a) (Some b) = bytes_eq a b
+
+abbrev pub same_files : Files → Files → Bool
+same_files a b =
+    same_file a.switch b.switch && same_file a.passwd b.passwd && same_file a.group b.group && same_file a.hosts b.hosts
+    && same_file a.services b.services && same_file a.extra_passwd b.extra_passwd && same_file a.extra_group b.extra_group

@@ -1,0 +1,15 @@
+-- What never changes of an entry of a cache.
+use Rattle.std.specs.Prelude.{ℕ}
+use Rattle.nsc_model.specs.declared.answer.Request.{Request}
+use Rattle.nsc_model.specs.Marked.{Marked}
+
+pub record Fixed : Type 0 where
+  pub number : ℕ
+  pub request : Request
+  pub version : ℕ
+  pub answer : Marked
+  pub timeout : ℕ
+
+-- a key has at most so many bytes (nscd-client.h)
+abbrev pub key_limit : ℕ
+key_limit = 1024

@@ -1,0 +1,95 @@
+-- Databases, kinds of look-ups and files, with their numbers (glibc's nscd-client.h, protocol version 2).
+use Rattle.std.specs.Prelude.{ℕ, Bool, ◌==◌, ◌&&◌, if◌then◌else◌, List, Option, Some, None}
+use Rattle.std.specs.Str.{bytes_eq}
+use Rattle.nsc_model.specs.declared.kind.Db.{Db}
+use Rattle.nsc_model.specs.declared.kind.Db.TheVariants as db
+use Rattle.nsc_model.specs.declared.kind.Kind.{Kind}
+use Rattle.nsc_model.specs.declared.kind.Kind.TheVariants.{PwName, PwUid, GrName, GrGid, HostName, HostName6, HostAddr, HostAddr6, Ai, InitGroups, ServName, ServPort}
+use Rattle.nsc_model.specs.declared.kind.FileId.{FileId}
+use Rattle.nsc_model.specs.declared.kind.FileId.TheVariants as file
+use Rattle.nsc_model.specs.declared.answer.Request.{Request}
+
+-- the database of a kind
+abbrev pub database_of : Kind → Db
+database_of PwName = db.Passwd
+database_of PwUid = db.Passwd
+database_of GrName = db.Group
+database_of GrGid = db.Group
+database_of HostName = db.Hosts
+database_of HostName6 = db.Hosts
+database_of HostAddr = db.Hosts
+database_of HostAddr6 = db.Hosts
+database_of Ai = db.Hosts
+database_of InitGroups = db.Group
+database_of ServName = db.Services
+database_of ServPort = db.Services
+
+-- the request type of a kind
+abbrev pub type_number : Kind → ℕ
+type_number PwName = 0
+type_number PwUid = 1
+type_number GrName = 2
+type_number GrGid = 3
+type_number HostName = 4
+type_number HostName6 = 5
+type_number HostAddr = 6
+type_number HostAddr6 = 7
+type_number Ai = 14
+type_number InitGroups = 15
+type_number ServName = 16
+type_number ServPort = 17
+
+-- the kind of a request type, where it is a look-up
+abbrev pub kind_numbered : ℕ → Option Kind
+kind_numbered n =
+    if n == 0 then Some PwName else (
+    if n == 1 then Some PwUid else (
+    if n == 2 then Some GrName else (
+    if n == 3 then Some GrGid else (
+    if n == 4 then Some HostName else (
+    if n == 5 then Some HostName6 else (
+    if n == 6 then Some HostAddr else (
+    if n == 7 then Some HostAddr6 else (
+    if n == 14 then Some Ai else (
+    if n == 15 then Some InitGroups else (
+    if n == 16 then Some ServName else (
+    if n == 17 then Some ServPort else None)))))))))))
+
+-- the number of a file in replay frames
+abbrev pub file_number : FileId → ℕ
+file_number file.Switch = 0
+file_number file.Passwd = 1
+file_number file.Group = 2
+file_number file.Hosts = 3
+file_number file.Services = 4
+file_number file.ExtraPasswd = 5
+file_number file.ExtraGroup = 6
+
+abbrev pub file_numbered : ℕ → Option FileId
+file_numbered n =
+    if n == 0 then Some file.Switch else (
+    if n == 1 then Some file.Passwd else (
+    if n == 2 then Some file.Group else (
+    if n == 3 then Some file.Hosts else (
+    if n == 4 then Some file.Services else (
+    if n == 5 then Some file.ExtraPasswd else (
+    if n == 6 then Some file.ExtraGroup else None))))))
+
+-- two requests are one: the same kind, and the same bytes of the key
+abbrev pub is_request : Request → Request → Bool
+is_request a b = type_number a.kind == type_number b.kind && bytes_eq a.key b.key
+
+-- the kinds that are built so far
+abbrev pub IsBuilt : Kind → Type 0
+IsBuilt PwName = Unit {0}
+IsBuilt PwUid = ⊥
+IsBuilt GrName = ⊥
+IsBuilt GrGid = ⊥
+IsBuilt HostName = ⊥
+IsBuilt HostName6 = ⊥
+IsBuilt HostAddr = ⊥
+IsBuilt HostAddr6 = ⊥
+IsBuilt Ai = ⊥
+IsBuilt InitGroups = ⊥
+IsBuilt ServName = ⊥
+IsBuilt ServPort = ⊥

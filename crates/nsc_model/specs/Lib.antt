@@ -1,0 +1,13 @@
+pub mod Kinds
+pub mod Files
+pub mod Marked
+pub mod Fixed
+pub mod Wire
+pub mod Users
+pub mod Services
+pub mod Answers
+pub mod History
+pub mod Machine
+pub mod Frames
+pub mod Replay
+pub mod Fronts

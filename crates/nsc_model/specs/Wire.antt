@@ -1,0 +1,173 @@
+-- Requests and replies as bytes: protocol version 2 of glibc's nscd-client.h, in little-endian fields of four bytes.
+use Rattle.std.specs.Prelude.{◌≡◌, ◌≢◌, ℕ, ◌+◌, ◌*◌, ◌≤◌, ◌<◌, ℤ, Bool, ◌==◌, nat_lt, if◌then◌else◌, List, [], ◌∷◌, ◌++◌, length, take, drop, All, Option, Some, None}
+use Rattle.std.specs.List.{before_first}
+use Rattle.byteorder.specs.Endian.{little_number, little_bytes, twos_complement}
+use Rattle.nsc_model.specs.declared.kind.Kind.{Kind}
+use Rattle.nsc_model.specs.declared.kind.Kind.TheVariants.{PwName, PwUid, GrName, GrGid, HostName, HostName6, HostAddr, HostAddr6, Ai, InitGroups, ServName, ServPort}
+use Rattle.nsc_model.specs.declared.answer.Request.{Request}
+use Rattle.nsc_model.specs.declared.row.Passwd.{Passwd}
+use Rattle.nsc_model.specs.declared.row.Row.{Row}
+use Rattle.nsc_model.specs.declared.row.Row.TheVariants as row
+use Rattle.nsc_model.specs.declared.row.Reply.{Reply}
+use Rattle.nsc_model.specs.declared.row.Reply.TheVariants.{Found, Absent, Disabled}
+use Rattle.nsc_model.specs.Kinds.{kind_numbered}
+use Rattle.nsc_model.specs.Marked.{reply_limit}
+use Rattle.nsc_model.specs.Fixed.{key_limit}
+
+-- ---- requests
+
+-- the field of four bytes at this place, without a sign and with one
+abbrev pub field_in : List ℕ → ℕ → ℕ
+field_in bytes at = little_number 4 (drop at bytes)
+
+abbrev pub signed_field_in : List ℕ → ℕ → ℤ
+signed_field_in bytes at = twos_complement 4 (field_in bytes at)
+
+-- what the input of a connection asks
+pub data Asked : Type 0 where
+  Look : (request : Request) → Asked
+  Shutdown : Asked
+  Stat : Asked
+  Invalidate : (name : List ℕ) → Asked
+  Descriptor : Asked
+  Netgroup : Asked
+  Short : (have : ℕ) → Asked
+  BadVersion : (version : ℤ) → Asked
+  BadType : (type : ℤ) → Asked
+  BadLength : (length : ℤ) → Asked
+
+-- a text key ends before its first zero byte
+abbrev pub text_key : List ℕ → List ℕ
+text_key key = before_first (λ b. b == 0) key
+
+-- the key that is stored: an address as its raw bytes, every other key as a text
+abbrev pub stored_key : Kind → List ℕ → List ℕ
+stored_key PwName key = text_key key
+stored_key PwUid key = text_key key
+stored_key GrName key = text_key key
+stored_key GrGid key = text_key key
+stored_key HostName key = text_key key
+stored_key HostName6 key = text_key key
+stored_key HostAddr key = key
+stored_key HostAddr6 key = key
+stored_key Ai key = text_key key
+stored_key InitGroups key = text_key key
+stored_key ServName key = text_key key
+stored_key ServPort key = text_key key
+
+-- a type up to 21 that is no look-up
+abbrev pub asked_otherwise : ℕ → List ℕ → Asked
+asked_otherwise type key =
+    if type == 8 then Shutdown else (
+    if type == 9 then Stat else (
+    if type == 10 then Invalidate (text_key key) else (
+    if type == 19 then Netgroup else (
+    if type == 20 then Netgroup else Descriptor))))
+
+abbrev pub asked_look : Option Kind → ℕ → List ℕ → Asked
+asked_look (Some kind) type key = Look (record { kind = kind; key = stored_key kind key })
+asked_look None type key = asked_otherwise type key
+
+-- the three fields version, type and key length, and then the key; what stands behind the key is not looked at.
+-- A negative number is one of 2 ^ 31 or more without its sign, and so above every limit.
+abbrev pub request_of : List ℕ → Asked
+request_of bytes =
+    if nat_lt (length bytes) 12 then Short (length bytes) else (
+    if field_in bytes 0 == 2 then (
+      if nat_lt 21 (field_in bytes 4) then BadType (signed_field_in bytes 4) else (
+      if nat_lt key_limit (field_in bytes 8) then BadLength (signed_field_in bytes 8) else (
+      if nat_lt (length bytes) (12 + field_in bytes 8) then Short (length bytes) else
+        asked_look (kind_numbered (field_in bytes 4)) (field_in bytes 4) (take (field_in bytes 8) (drop 12 bytes)))))
+    else BadVersion (signed_field_in bytes 0))
+
+-- ---- replies
+
+-- a field of four bytes; -1 is 2 ^ 32 - 1
+abbrev pub field : ℕ → List ℕ
+field n = little_bytes 4 n
+
+abbrev pub minus_one : ℕ
+minus_one = 4294967295
+
+-- a text ends with a zero byte, which its length counts
+abbrev pub text : List ℕ → List ℕ
+text bytes = bytes ++ 0 ∷ []
+
+abbrev pub text_len : List ℕ → List ℕ
+text_len bytes = field (length bytes + 1)
+
+-- a text that can be sent holds no zero byte
+abbrev pub IsText : List ℕ → Type 0
+IsText bytes = All (λ b. b ≢ 0) bytes
+
+-- version, found, name length, passwd length, uid, gid, gecos length, dir length, shell length, and the five texts
+abbrev pub passwd_found : Passwd → List ℕ
+passwd_found p =
+    field 2 ++ field 1 ++ text_len p.name ++ text_len p.passwd ++ field p.uid ++ field p.gid ++ text_len p.gecos ++ text_len p.dir ++ text_len p.shell
+    ++ text p.name ++ text p.passwd ++ text p.gecos ++ text p.dir ++ text p.shell
+
+-- the same fields without an entry: the ids are -1, the lengths 0
+abbrev pub passwd_lacking : ℕ → List ℕ
+passwd_lacking found = field 2 ++ field found ++ field 0 ++ field 0 ++ field minus_one ++ field minus_one ++ field 0 ++ field 0 ++ field 0
+
+abbrev pub user_reply : Reply → List ℕ
+user_reply (Found (row.Passwd p)) = passwd_found p
+user_reply (Found (row.Group g)) = []
+user_reply (Found (row.Host h)) = []
+user_reply (Found (row.Service s)) = []
+user_reply (Found (row.Ai a)) = []
+user_reply (Found (row.Groups ids)) = []
+user_reply Absent = passwd_lacking 0
+user_reply Disabled = passwd_lacking minus_one
+
+-- the bytes of a reply of a kind; the other kinds are not built yet
+abbrev pub spelled : Kind → Reply → List ℕ
+spelled PwName reply = user_reply reply
+spelled PwUid reply = user_reply reply
+spelled GrName reply = []
+spelled GrGid reply = []
+spelled HostName reply = []
+spelled HostName6 reply = []
+spelled HostAddr reply = []
+spelled HostAddr6 reply = []
+spelled Ai reply = []
+spelled InitGroups reply = []
+spelled ServName reply = []
+spelled ServPort reply = []
+
+pub record IsUser (p : Passwd) : Type 0 where
+  pub name_is : IsText p.name
+  pub passwd_is : IsText p.passwd
+  pub gecos_is : IsText p.gecos
+  pub dir_is : IsText p.dir
+  pub shell_is : IsText p.shell
+
+abbrev pub IsUserReply : Reply → Type 0
+IsUserReply (Found (row.Passwd p)) = IsUser p
+IsUserReply (Found (row.Group g)) = ⊥
+IsUserReply (Found (row.Host h)) = ⊥
+IsUserReply (Found (row.Service s)) = ⊥
+IsUserReply (Found (row.Ai a)) = ⊥
+IsUserReply (Found (row.Groups ids)) = ⊥
+IsUserReply Absent = Unit {0}
+IsUserReply Disabled = Unit {0}
+
+-- a reply is of a kind: a row has the kind's shape and no zero byte in its texts
+abbrev pub IsReplyOf : Kind → Reply → Type 0
+IsReplyOf PwName reply = IsUserReply reply
+IsReplyOf PwUid reply = IsUserReply reply
+IsReplyOf GrName reply = ⊥
+IsReplyOf GrGid reply = ⊥
+IsReplyOf HostName reply = ⊥
+IsReplyOf HostName6 reply = ⊥
+IsReplyOf HostAddr reply = ⊥
+IsReplyOf HostAddr6 reply = ⊥
+IsReplyOf Ai reply = ⊥
+IsReplyOf InitGroups reply = ⊥
+IsReplyOf ServName reply = ⊥
+IsReplyOf ServPort reply = ⊥
+
+-- the bytes spell the reply of the kind
+pub record Spells (kind : Kind) (reply : Reply) (bytes : List ℕ) : Type 0 where
+  pub of_kind : IsReplyOf kind reply
+  pub spelling : bytes ≡ spelled kind reply

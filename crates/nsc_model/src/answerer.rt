@@ -1,0 +1,41 @@
+ghost use Rattle.std.specs.Prelude.{◌≡◌, ◌≤◌, IfOk, length};
+ghost use Rattle.std.specs.Arc.{arc_value};
+ghost use Rattle.nsc_model.specs.Files.{Files};
+ghost use Rattle.nsc_model.specs.Kinds.{IsBuilt};
+ghost use Rattle.nsc_model.specs.Answers.{answer_of};
+
+use crate::answer::Answer;
+use crate::content::Content;
+use crate::kind::Kind;
+use nsc_base::NoMemory;
+use std::alloc::Global;
+use std::sync::Arc;
+
+/// Something that answers requests over a content, as the service switch of nsswitch.conf(5) says.
+pub trait Answerer {
+    /// What is made once of a content, and serves every request over it.
+    type Ready: Drop;
+
+    /// The content that something was prepared from.
+    ghost prepared_from: { Self.Ready → Files };
+
+    /// Makes ready to answer over this content. Fails only for want of memory.
+    fn prepare(&self, alloc: Global, content: Arc<Content>) -> Result<Self::Ready, NoMemory>
+        ensures { IfOk result (λ ready. prepared_from ready ≡ arc_value content) };
+
+    /// The content that `ready` was prepared from.
+    fn content<'a>(&self, ready: &'a Self::Ready) -> &'a Arc<Content>
+        ensures { arc_value result.now ≡ prepared_from ready.now };
+
+    /// The answer to the request of this kind and key, of at most 1,024 bytes, over the content that `ready`
+    /// was prepared from. Fails only for want of memory.
+    fn answer(
+        &self,
+        alloc: Global,
+        ready: &Self::Ready,
+        kind: Kind,
+        key: &[u8],
+    ) -> Result<Answer, NoMemory>
+        requires { IsBuilt kind }
+        ensures { IfOk result (λ answer. answer ≡ answer_of (prepared_from ready.now) (record { kind = kind; key = key.now })) };
+}

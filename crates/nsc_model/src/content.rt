@@ -1,0 +1,53 @@
+ghost use Rattle.std.specs.Prelude.{◌≡◌, ◌≤◌, ◌↔◌, IsTrue, IfSome, Option, length};
+ghost use Rattle.std.specs.Option.{option_copied};
+ghost use Rattle.nsc_model.specs.Files.{no_files, file_of, with_file, file_limit};
+
+use crate::kind::FileId;
+use nsc_base::Bytes;
+use std::marker::Model;
+
+/// The seven source files as they stood at one moment, each absent or its bytes, at most 16,777,216 of them.
+#[derive(Debug, Drop)]
+pub struct Content {
+    files: [Option<Bytes>; 7],
+}
+
+impl Model for Content {
+    ghost use Rattle.nsc_model.specs.Files.{Files, files_in, Fit};
+
+    ghost Value = { Files };
+
+    ghost view = { λ c. files_in c.files };
+
+    ghost invariant = { λ c. Fit (files_in c.files) };
+}
+
+impl Content {
+    /// The longest file, in bytes.
+    pub const LIMIT: usize = 16_777_216;
+
+    /// The content in which every file is absent.
+    pub fn none() -> Content
+        ensures { result ≡ no_files }
+    {
+        Content {
+            files: [None, None, None, None, None, None, None],
+        }
+    }
+
+    /// Makes one file absent, or these bytes. The other files stay.
+    pub fn set(&mut self, file: FileId, bytes: Option<Bytes>)
+        requires { IfSome bytes (λ b. length b ≤ file_limit) }
+        ensures { self.new ≡ with_file self.old file bytes }
+    {
+        self.files[file as usize] = bytes;
+    }
+
+    /// The bytes of a file, at most 16,777,216; `None` where it is absent.
+    pub fn file(&self, file: FileId) -> Option<&[u8]>
+        ensures value { option_copied result ≡ file_of self.now file }
+        ensures bound { IfSome result (λ b. length b.now ≤ file_limit) }
+    {
+        self.files[file as usize].as_ref().map(|bytes| bytes.as_slice())
+    }
+}

@@ -1,0 +1,137 @@
+ghost use Rattle.std.specs.Prelude.{◌≡◌};
+ghost use Rattle.nsc_model.specs.Kinds.{database_of, file_numbered, file_number, kind_numbered, type_number};
+
+/// A database of the name service: each has its own files, cache and settings.
+#[derive(Clone, Copy, Debug, PartialEq, Eq)]
+pub enum Db {
+    /// Users, passwd(5).
+    Passwd,
+    /// Groups, group(5).
+    Group,
+    /// Hosts, hosts(5).
+    Hosts,
+    /// Services, services(5).
+    Services,
+}
+
+/// What a look-up asks, by the request types of protocol version 2 in glibc's nscd-client.h. Each kind has the
+/// number of its request type.
+#[derive(Clone, Copy, Debug, PartialEq, Eq)]
+pub enum Kind {
+    /// GETPWBYNAME: a user by name.
+    PwName = 0,
+    /// GETPWBYUID: a user by id.
+    PwUid = 1,
+    /// GETGRBYNAME: a group by name.
+    GrName = 2,
+    /// GETGRBYGID: a group by id.
+    GrGid = 3,
+    /// GETHOSTBYNAME: a host's IPv4 address by name.
+    HostName = 4,
+    /// GETHOSTBYNAMEv6: a host's IPv6 address by name.
+    HostName6 = 5,
+    /// GETHOSTBYADDR: a host by address.
+    HostAddr = 6,
+    /// GETHOSTBYADDRv6: a host by address.
+    HostAddr6 = 7,
+    /// GETAI: a host's addresses of both families by name.
+    Ai = 14,
+    /// INITGROUPS: the groups of a user.
+    InitGroups = 15,
+    /// GETSERVBYNAME: a service by name and protocol.
+    ServName = 16,
+    /// GETSERVBYPORT: a service by port and protocol.
+    ServPort = 17,
+}
+
+/// A source file of the name service, with its number in replay frames.
+#[derive(Clone, Copy, Debug, PartialEq, Eq)]
+pub enum FileId {
+    /// nsswitch.conf(5), usually /etc/nsswitch.conf.
+    Switch = 0,
+    /// passwd(5), usually /etc/passwd.
+    Passwd = 1,
+    /// group(5), usually /etc/group.
+    Group = 2,
+    /// hosts(5), usually /etc/hosts.
+    Hosts = 3,
+    /// services(5), usually /etc/services.
+    Services = 4,
+    /// The users of the service `extrausers`, usually /var/lib/extrausers/passwd.
+    ExtraPasswd = 5,
+    /// The groups of the service `extrausers`, usually /var/lib/extrausers/group.
+    ExtraGroup = 6,
+}
+
+impl Db {
+    /// The database that answers look-ups of this kind.
+    pub fn of(kind: Kind) -> Db
+        ensures { result ≡ database_of kind }
+    {
+        match kind {
+            Kind::PwName | Kind::PwUid => Db::Passwd,
+            Kind::GrName | Kind::GrGid | Kind::InitGroups => Db::Group,
+            Kind::HostName
+            | Kind::HostName6
+            | Kind::HostAddr
+            | Kind::HostAddr6
+            | Kind::Ai => Db::Hosts,
+            Kind::ServName | Kind::ServPort => Db::Services,
+        }
+    }
+}
+
+impl Kind {
+    /// The kind of a request type's number; `None` where the type is no look-up.
+    pub fn numbered(number: u32) -> Option<Kind>
+        ensures { result ≡ kind_numbered number }
+    {
+        match number {
+            0 => Some(Kind::PwName),
+            1 => Some(Kind::PwUid),
+            2 => Some(Kind::GrName),
+            3 => Some(Kind::GrGid),
+            4 => Some(Kind::HostName),
+            5 => Some(Kind::HostName6),
+            6 => Some(Kind::HostAddr),
+            7 => Some(Kind::HostAddr6),
+            14 => Some(Kind::Ai),
+            15 => Some(Kind::InitGroups),
+            16 => Some(Kind::ServName),
+            17 => Some(Kind::ServPort),
+            _ => None,
+        }
+    }
+
+    /// The number of the kind's request type.
+    pub fn number(self) -> u32
+        ensures { result ≡ type_number self }
+    {
+        self as u32
+    }
+}
+
+impl FileId {
+    /// The file of this number; `None` above 6.
+    pub fn numbered(number: u8) -> Option<FileId>
+        ensures { result ≡ file_numbered number }
+    {
+        match number {
+            0 => Some(FileId::Switch),
+            1 => Some(FileId::Passwd),
+            2 => Some(FileId::Group),
+            3 => Some(FileId::Hosts),
+            4 => Some(FileId::Services),
+            5 => Some(FileId::ExtraPasswd),
+            6 => Some(FileId::ExtraGroup),
+            _ => None,
+        }
+    }
+
+    /// The file's number.
+    pub fn number(self) -> u8
+        ensures { result ≡ file_number self }
+    {
+        self as u8
+    }
+}

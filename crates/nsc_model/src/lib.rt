@@ -1,0 +1,19 @@
+//! What a name service is: its requests, rows, contents, answers, histories, and the machine that a cache is.
+//!
+//! The definitions stand in `specs/`, over the types of this crate; the crates above prove that they compute them.
+#![tactic(auto)]
+
+mod answer;
+mod answerer;
+mod content;
+mod kind;
+mod laws;
+mod record;
+mod row;
+
+pub use answer::{Answer, Request};
+pub use answerer::Answerer;
+pub use content::Content;
+pub use kind::{Db, FileId, Kind};
+pub use record::{Ending, Entry, Record};
+pub use row::{Ai, Found6, Founds, Group, Host, Looked, Passwd, Reply, Row, Service};
