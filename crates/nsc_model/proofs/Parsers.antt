@@ -5,9 +5,9 @@ use Rattle.std.proofs.lemmas.List.{take_at, drop_at, length-append, length-drop,
 use Rattle.byteorder.specs.Endian.{little_number}
 use Rattle.nsc_model.specs.declared.kind.FileId.{FileId}
 use Rattle.nsc_model.specs.declared.kind.Db.{Db}
-use Rattle.nsc_model.specs.Kinds.{file_numbered}
+use Rattle.nsc_model.specs.Kinds.{db_numbered, file_numbered}
 use Rattle.nsc_model.specs.Files.{file_limit}
-use Rattle.nsc_model.specs.Frames.{Frame, Ask, Become, Reach, Clear, Stop, Fault, Short, NoFrame, LongFile, ◌>>=◌, chunk, number_at, made, input_limit, input_at, ask_at, held_at, present_at, marked_at, bytes_at, become, file_at, db_numbered, cleared, clear_at, behind, frame_at, frame_size}
+use Rattle.nsc_model.specs.Frames.{Frame, Ask, Become, Reach, Clear, Stop, Fault, Short, NoFrame, LongFile, ◌>>=◌, chunk, number_at, made, input_limit, input_at, ask_at, held_at, present_at, marked_at, bytes_at, become, file_at, cleared, clear_at, behind, frame_at, frame_size}
 use Rattle.nsc_model.specs.Fronts.{Finds, Refuses, IsPartial}
 
 abbrev pub Parser : Type 0 → Type 0

@@ -2,9 +2,8 @@
 use Rattle.std.specs.Prelude.{ℕ, ◌+◌, ◌-◌, ◌^◌, ◌==◌, nat_lt, if◌then◌else◌, List, [], ◌∷◌, length, take, drop, Option, Some, None, Result, Ok, Err, zero, suc}
 use Rattle.byteorder.specs.Endian.{little_number}
 use Rattle.nsc_model.specs.declared.kind.Db.{Db}
-use Rattle.nsc_model.specs.declared.kind.Db.TheVariants as db
 use Rattle.nsc_model.specs.declared.kind.FileId.{FileId}
-use Rattle.nsc_model.specs.Kinds.{file_numbered}
+use Rattle.nsc_model.specs.Kinds.{db_numbered, file_numbered}
 use Rattle.nsc_model.specs.Files.{file_limit}
 
 -- a frame: the input of one connection, what a file becomes, a moment, an invalidation, the end of the replay
@@ -75,13 +74,6 @@ become (Some file) rest = made (λ held. (file, held)) bytes_at rest
 -- behind an F: the number of a file, and what it becomes
 unfoldable pub file_at : List ℕ → Result ((FileId × Option (List ℕ)) × List ℕ) Fault
 file_at bytes = number_at 1 bytes >>= λ number. become (file_numbered number.0) number.1
-
-abbrev pub db_numbered : ℕ → Option Db
-db_numbered n =
-    if n == 0 then Some db.Passwd else (
-    if n == 1 then Some db.Group else (
-    if n == 2 then Some db.Hosts else (
-    if n == 3 then Some db.Services else None)))
 
 abbrev pub cleared : Option Db → List ℕ → Result (Db × List ℕ) Fault
 cleared None rest = Err NoFrame

@@ -35,13 +35,18 @@ pub enum Frame {
 
 impl Frame {
     ghost use Rattle.std.specs.Prelude.{◌≡◌, ◌≤◌, ◌<◌, ◌^◌, length};
-    ghost use Rattle.nsc_model.specs.Frames.{frame_size};
+    ghost use Rattle.std.specs.Bool.{OnFalse, OnTrue};
+    ghost use Rattle.nsc_model.specs.Frames.{Stop, frame_size, input_limit};
     ghost use Rattle.nsc_run.specs.Reading.{FrameFits, seen};
+    ghost use Rattle.nsc_run.specs.Turns.{IsFollowed};
 
     /// How many bytes the frame took.
     pub fn size(&self, room: &[u8]) -> u64
-        requires { FrameFits room.now self.now }
-        ensures { result ≡ frame_size (seen room.now self.now) }
+        requires fits { FrameFits room.now self.now }
+        requires room { length room.now ≡ input_limit }
+        ensures size { result ≡ frame_size (seen room.now self.now) }
+        ensures bound { 0 < result }
+        ensures limit { result ≤ 16777223 }
     {
         match self {
             Frame::Ask { length } => 5 + *length as u64,
@@ -52,6 +57,20 @@ impl Frame {
             Frame::Reach { .. } => 9,
             Frame::Clear { .. } => 2,
             Frame::Stop => 1,
+        }
+    }
+
+    /// Whether this is the frame that ends a replay.
+    pub fn is_stop(&self, room: &[u8]) -> bool
+        ensures stop { OnTrue result (seen room.now self.now ≡ Stop) }
+        ensures others { OnFalse result (IsFollowed (seen room.now self.now)) }
+    {
+        match self {
+            Frame::Ask { .. }
+            | Frame::Become { .. }
+            | Frame::Reach { .. }
+            | Frame::Clear { .. } => false,
+            Frame::Stop => true,
         }
     }
 }

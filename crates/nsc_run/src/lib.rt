@@ -7,5 +7,6 @@ mod halt;
 mod machine;
 mod pieces;
 mod reading;
+mod reply;
 
 pub use exit::Exit;
