@@ -7,7 +7,7 @@ use Rattle.nsc_model.specs.declared.kind.FileId.{FileId}
 use Rattle.nsc_model.specs.declared.kind.Db.{Db}
 use Rattle.nsc_model.specs.Kinds.{file_numbered}
 use Rattle.nsc_model.specs.Files.{file_limit}
-use Rattle.nsc_model.specs.Frames.{Frame, Ask, Become, Reach, Clear, Stop, Fault, NoFrame, LongFile, ◌>>=◌, chunk, number_at, input_limit, input_at, ask_at, held_at, marked_at, bytes_at, become, file_at, reach_at, db_numbered, cleared, clear_at, behind, frame_at}
+use Rattle.nsc_model.specs.Frames.{Frame, Ask, Become, Reach, Clear, Stop, Fault, Short, NoFrame, LongFile, ◌>>=◌, chunk, number_at, input_limit, input_at, ask_at, held_at, marked_at, bytes_at, become, file_at, reach_at, db_numbered, cleared, clear_at, behind, frame_at}
 use Rattle.nsc_model.specs.Fronts.{Finds, Refuses, IsPartial}
 
 abbrev pub Parser : Type 0 → Type 0
@@ -22,8 +22,8 @@ then p q bytes = p bytes >>= λ x. q x.0 x.1
 pub chunk_finds : (n : ℕ) (front : List ℕ) → length front ≡ n → Finds (chunk n) front front
 chunk_finds n front len = record {
   whatever = λ more.
-    let long : ltb (length (front ++ more)) n ≡ false = le-ltb _ _ (omega (arith, length-append front more)) in
-    rw (long, take_at front more n len, drop_at front more n len) refl
+      let long : ltb (length (front ++ more)) n ≡ false = le-ltb _ _ (omega (arith, length-append front more)) in
+      rw (long, take_at front more n len, drop_at front more n len) refl;
 }
 
 pub chunk_partial : (n : ℕ) (front : List ℕ) → length front < n → IsPartial (chunk n) front
@@ -83,19 +83,19 @@ guard_ok false d x y e = (refl, e)
 leaves_then : {A B : Type 0} (p : Parser A) (q : A → Parser B) → Leaves p → ((x : A) → Leaves (q x)) → Leaves (then p q)
 leaves_then p q a b = record {
   no_more = λ bytes y e.
-    let m = bind_ok (p bytes) (λ x. q x.0 x.1) y e in
-    let first : length m.0.1 ≤ length bytes = a.no_more bytes m.0 m.1 in
-    let second : length y.1 ≤ length m.0.1 = (b m.0.0).no_more m.0.1 y m.2 in
-    omega arith
+      let m = bind_ok (p bytes) (λ x. q x.0 x.1) y e in
+      let first : length m.0.1 ≤ length bytes = a.no_more bytes m.0 m.1 in
+      let second : length y.1 ≤ length m.0.1 = (b m.0.0).no_more m.0.1 y m.2 in
+      omega arith;
 }
 
 eats_then : {A B : Type 0} (p : Parser A) (q : A → Parser B) → Eats p → ((x : A) → Leaves (q x)) → Eats (then p q)
 eats_then p q a b = record {
   fewer = λ bytes y e.
-    let m = bind_ok (p bytes) (λ x. q x.0 x.1) y e in
-    let first : length m.0.1 < length bytes = a.fewer bytes m.0 m.1 in
-    let second : length y.1 ≤ length m.0.1 = (b m.0.0).no_more m.0.1 y m.2 in
-    omega arith
+      let m = bind_ok (p bytes) (λ x. q x.0 x.1) y e in
+      let first : length m.0.1 < length bytes = a.fewer bytes m.0 m.1 in
+      let second : length y.1 ≤ length m.0.1 = (b m.0.0).no_more m.0.1 y m.2 in
+      omega arith;
 }
 
 leaves_guard : {A : Type 0} (b : Bool) (d : Fault) (p : Parser A) → Leaves p → Leaves (λ bytes. cond b (Err d) (p bytes))
@@ -114,18 +114,18 @@ leaves_now {A} x = record { no_more = λ bytes y e. let k : length y.1 ≡ lengt
 chunk_leaves : (n : ℕ) → Leaves (chunk n)
 chunk_leaves n = record {
   no_more = λ bytes y e.
-    let g = guard_ok (ltb (length bytes) n) NoFrame (Ok (take n bytes, drop n bytes)) y e in
-    let k : length (drop n bytes) ≡ length y.1 = ap (λ (p : List ℕ × List ℕ). length p.1) (ok_is (take n bytes, drop n bytes) y g.1) in
-    omega (arith, length-drop n bytes)
+      let g = guard_ok (ltb (length bytes) n) Short (Ok (take n bytes, drop n bytes)) y e in
+      let k : length (drop n bytes) ≡ length y.1 = ap (λ (p : List ℕ × List ℕ). length p.1) (ok_is (take n bytes, drop n bytes) y g.1) in
+      omega (arith, length-drop n bytes);
 }
 
 chunk_eats : (n : ℕ) → 0 < n → Eats (chunk n)
 chunk_eats n pos = record {
   fewer = λ bytes y e.
-    let g = guard_ok (ltb (length bytes) n) NoFrame (Ok (take n bytes, drop n bytes)) y e in
-    let long : n ≤ length bytes = ltb-false _ _ g.0 in
-    let k : length (drop n bytes) ≡ length y.1 = ap (λ (p : List ℕ × List ℕ). length p.1) (ok_is (take n bytes, drop n bytes) y g.1) in
-    omega (arith, length-drop n bytes)
+      let g = guard_ok (ltb (length bytes) n) Short (Ok (take n bytes, drop n bytes)) y e in
+      let long : n ≤ length bytes = ltb-false _ _ g.0 in
+      let k : length (drop n bytes) ≡ length y.1 = ap (λ (p : List ℕ × List ℕ). length p.1) (ok_is (take n bytes, drop n bytes) y g.1) in
+      omega (arith, length-drop n bytes);
 }
 
 number_leaves : (n : ℕ) → Leaves (number_at n)

@@ -2,9 +2,9 @@
 use Rattle.std.proofs.Common.{◌≡◌, ℕ, zero, suc, ◌+◌, ◌-◌, ◌<◌, ◌≤◌, Bool, true, false, cond, ltb, eqb, List, [], ◌∷◌, ◌++◌, length, Option, Some, None, Result, Ok, Err, refl, sym, ap, subst, ◌∙◌, append_assoc, arith}
 use Rattle.std.proofs.lemmas.Bool.{ltb-false, le-ltb, lt-ltb}
 use Rattle.std.proofs.lemmas.List.{length-append}
-use Rattle.nsc_model.specs.Frames.{Frame, Ask, Become, Reach, Clear, Stop, Fault, NoFrame, LongFile, number_at, frame_at, Finish, Done, Bad, Long, Spent, NotBuilt, place_limit, Cut, more_frames, fault_at, reached, cut_on, cut_from, cut_by, cut_at}
+use Rattle.nsc_model.specs.Frames.{Frame, Ask, Become, Reach, Clear, Stop, Fault, Short, NoFrame, LongFile, number_at, frame_at, Finish, Done, Bad, Long, Spent, NotBuilt, place_limit, Cut, more_frames, fault_at, reached, cut_on, cut_from, cut_by, cut_at}
 use Rattle.nsc_model.specs.Fronts.{Finds, Refuses, IsPartial}
-use Rattle.nsc_model.specs.Replay.{State, Went, turn_of, Replayed, behind_output, play_on, play, built_finish, replay_from}
+use Rattle.nsc_model.specs.Replay.{State, Went, turn_of, Replayed, behind_output, play_on, play, replay_from}
 use Rattle.nsc_model.proofs.Parsers.{Parser, Eats, frame_eats}
 
 -- the same cut, whichever cuts the rest, where both cut the rest alike
@@ -34,8 +34,8 @@ same_cut (suc n) zero place (x ∷ bytes) a b = absurd (omega arith)
 same_cut (suc n) (suc m) place bytes a b =
     ap (λ (c : Cut). cond (ltb place place_limit) c (record { frames = []; finish = Bad place }))
     (same_from (cut_by n) (cut_by m) place bytes (frame_at bytes) (λ x e p.
-      let fewer : length x.1 < length bytes = frame_eats.fewer bytes x e in
-      same_cut n m p x.1 (omega arith) (omega arith)))
+    let fewer : length x.1 < length bytes = frame_eats.fewer bytes x e in
+    same_cut n m p x.1 (omega arith) (omega arith)))
 
 -- ---- the first frame of a cut
 
@@ -97,7 +97,7 @@ abbrev pub ended : Finish → Replayed
 ended finish = record { output = []; finish = finish }
 
 abbrev replayed_cut : State → Cut → Replayed
-replayed_cut s cut = play cut.frames (built_finish cut.finish) s
+replayed_cut s cut = play cut.frames cut.finish s
 
 -- the frame at the front is done, and the replay goes on behind it
 pub round_goes : (s : State) (place : ℕ) (front more : List ℕ) (frame : Frame) (went : Went) → place < place_limit → Finds frame_at front frame → Goes frame → turn_of s frame ≡ Ok went
@@ -106,7 +106,7 @@ unfolding play
 round_goes s place front more frame went lt found goes turned =
     let rest = cut_at (place + length front) more in
     ap (replayed_cut s) (cut_goes place front more frame lt found goes)
-    ∙ ap (play_on (play rest.frames (built_finish rest.finish))) turned
+    ∙ ap (play_on (play rest.frames rest.finish)) turned
 
 -- the frame at the front ends the replay
 pub round_ends : (s : State) (place : ℕ) (front more : List ℕ) (frame : Frame) (finish : Finish) → place < place_limit → Finds frame_at front frame → Goes frame → turn_of s frame ≡ Err finish
@@ -115,7 +115,7 @@ unfolding play
 round_ends s place front more frame finish lt found goes turned =
     let rest = cut_at (place + length front) more in
     ap (replayed_cut s) (cut_goes place front more frame lt found goes)
-    ∙ ap (play_on (play rest.frames (built_finish rest.finish))) turned
+    ∙ ap (play_on (play rest.frames rest.finish)) turned
 
 -- the first E: what stands behind it is no part of the replay
 pub round_stops : (s : State) (place : ℕ) (front more : List ℕ) → place < place_limit → Finds frame_at front Stop → replay_from s place (front ++ more) ≡ ended (Done (place + length front))
@@ -123,16 +123,16 @@ unfolding play
 round_stops s place front more lt found = ap (replayed_cut s) (cut_stops place front more lt found)
 
 -- the front is refused, whatever follows
-pub round_refused : (s : State) (place : ℕ) (front more : List ℕ) (fault : Fault) → place < place_limit → Refuses frame_at front fault → replay_from s place (front ++ more) ≡ ended (built_finish (fault_at place fault))
+pub round_refused : (s : State) (place : ℕ) (front more : List ℕ) (fault : Fault) → place < place_limit → Refuses frame_at front fault → replay_from s place (front ++ more) ≡ ended (fault_at place fault)
 unfolding play
 round_refused s place front more fault lt refused = ap (replayed_cut s) (cut_fails place (front ++ more) fault lt (refused.whatever more))
 
 -- the bytes end inside a frame, or where one should begin
-pub round_partial : (s : State) (place : ℕ) (front : List ℕ) → place < place_limit → IsPartial frame_at front → replay_from s place front ≡ ended (built_finish (Bad place))
+pub round_partial : (s : State) (place : ℕ) (front : List ℕ) → place < place_limit → IsPartial frame_at front → replay_from s place front ≡ ended (Bad place)
 unfolding play
-round_partial s place front lt part = ap (replayed_cut s) (cut_fails place front NoFrame lt part.lacks)
+round_partial s place front lt part = ap (replayed_cut s) (cut_fails place front Short lt part.lacks)
 
 -- no frame begins so late
-pub round_late : (s : State) (place : ℕ) (more : List ℕ) → place_limit ≤ place → replay_from s place more ≡ ended (built_finish (Bad place))
+pub round_late : (s : State) (place : ℕ) (more : List ℕ) → place_limit ≤ place → replay_from s place more ≡ ended (Bad place)
 unfolding play
 round_late s place more le = ap (replayed_cut s) (cut_late (length more) place more le)

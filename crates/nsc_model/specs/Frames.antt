@@ -15,8 +15,9 @@ pub data Frame : Type 0 where
   Clear : (db : Db) → Frame
   Stop : Frame
 
--- bytes are no frame, or announce a file that is longer than a file may be
+-- bytes end inside a frame; or are none, whatever follows; or announce a file that is longer than a file may be
 pub data Fault : Type 0 where
+  Short : Fault
   NoFrame : Fault
   LongFile : (length : ℕ) → Fault
 
@@ -31,7 +32,7 @@ input_limit = 4096
 
 -- the first n bytes, and those behind them
 abbrev pub chunk : ℕ → List ℕ → Result (List ℕ × List ℕ) Fault
-chunk n bytes = if nat_lt (length bytes) n then Err NoFrame else Ok (take n bytes, drop n bytes)
+chunk n bytes = if nat_lt (length bytes) n then Err Short else Ok (take n bytes, drop n bytes)
 
 -- a number of n bytes, the lowest first
 unfoldable pub number_at : ℕ → List ℕ → Result (ℕ × List ℕ) Fault
@@ -99,8 +100,8 @@ behind first rest =
 unfoldable pub frame_at : List ℕ → Result (Frame × List ℕ) Fault
 frame_at bytes = number_at 1 bytes >>= λ first. behind first.0 first.1
 
--- how a replay ends: behind its first E; at the place of what is no frame, or ends inside one; at a file that is too
--- long; at a count that stands at its end; at what is not built yet
+-- how a replay ends: behind its first E; at the place where bytes are no frame or end inside one; at a file that is too
+-- long; at a count that stands at its end; at a frame that is not built yet
 pub data Finish : Type 0 where
   Done : (place : ℕ) → Finish
   Bad : (place : ℕ) → Finish
@@ -120,6 +121,7 @@ abbrev pub more_frames : Frame → Cut → Cut
 more_frames frame cut = record { frames = frame ∷ cut.frames; finish = cut.finish }
 
 abbrev pub fault_at : ℕ → Fault → Finish
+fault_at place Short = Bad place
 fault_at place NoFrame = Bad place
 fault_at place (LongFile length) = Long length
 

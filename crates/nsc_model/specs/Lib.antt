@@ -11,3 +11,4 @@ pub mod Machine
 pub mod Frames
 pub mod Replay
 pub mod Fronts
+pub mod Calls
