@@ -1,9 +1,10 @@
-ghost use Rattle.std.specs.Prelude.{◌≡◌, ◌≤◌, ◌<◌, ◌^◌, length, find, OnOk, OnErr, IfOk, IfErr};
+ghost use Rattle.std.specs.Prelude.{◌≡◌, ◌≤◌, ◌<◌, ◌^◌, length, find, OnOk, OnErr, IfOk, IfErr, IfSome};
 ghost use Rattle.std.specs.Option.{option_map};
 ghost use Rattle.std.specs.Arc.{arc_value};
 ghost use Rattle.nsc_model.specs.Kinds.{IsBuilt, is_request};
 ghost use Rattle.nsc_model.specs.Files.{no_files};
 ghost use Rattle.nsc_model.specs.Fixed.{key_limit};
+ghost use Rattle.nsc_model.specs.Marked.{reply_limit};
 ghost use Rattle.nsc_model.specs.Machine.{new_cache, polled, look_up, life_of};
 ghost use Rattle.nsc_plain.specs.Shelf.{TurnsTo, FaultsBy, PollsTo, PollFaultsBy, Loads};
 
@@ -62,7 +63,8 @@ impl PlainCache {
     }
 
     /// A look-up of this kind and key at this moment, in seconds, over the files as they are now: the machine's. The
-    /// reply is that of the live entry of the request, or else the answer over these files, which is then kept.
+    /// reply is that of the live entry of the request, or else the answer over these files, which is then kept. It has at
+    /// most 2^30 bytes.
     ///
     /// At `NoMemory` the entries are as before, and a poll may have been made. At `Spent` nothing changed: a new
     /// version was needed, and the count of versions stands at its end.
@@ -79,6 +81,7 @@ impl PlainCache {
         requires key { length key.now ≤ key_limit }
         requires moment { now < 2 ^ 62 }
         ensures lives { self.new.lives ≡ self.old.lives }
+        ensures bound { IfOk result (λ reply. length reply ≤ reply_limit) }
         ensures turn { IfOk result (λ reply. TurnsTo (look_up self.old.lives now (arc_value content.now) (record { kind = kind; key = key.now }) self.old.cache) self.new.cache reply) }
         ensures fault { IfErr result (λ fault. FaultsBy (look_up self.old.lives now (arc_value content.now) (record { kind = kind; key = key.now }) self.old.cache) (arc_value content.now) self.old.cache self.new.cache fault) }
     {
@@ -91,7 +94,8 @@ impl PlainCache {
 
     // A copy of the reply of the live entry of the request, if there is one.
     fn hit(&self, alloc: Global, kind: Kind, key: &[u8]) -> Result<Option<Bytes>, NoMemory>
-        ensures { IfOk result (λ hit. hit ≡ option_map (λ e. e.answer.bytes) (find (λ e. is_request (record { kind = kind; key = key.now }) e.request) self.now.cache.entries)) }
+        ensures bound { IfOk result (λ hit. IfSome hit (λ reply. length reply ≤ reply_limit)) }
+        ensures hit { IfOk result (λ hit. hit ≡ option_map (λ e. e.answer.bytes) (find (λ e. is_request (record { kind = kind; key = key.now }) e.request) self.now.cache.entries)) }
     {
         match find_entry(&self.entries, kind, key) {
             Some(entry) => Ok(Some(Bytes::copy(alloc, entry.answer().bytes())?)),
@@ -130,6 +134,7 @@ impl PlainCache {
         requires key { length key.now ≤ key_limit }
         requires moment { now < 2 ^ 62 }
         ensures lives { self.new.lives ≡ self.old.lives }
+        ensures bound { IfOk result (λ reply. length reply ≤ reply_limit) }
         ensures loaded { IfOk result (λ reply. Loads self.old.lives now (record { kind = kind; key = key.now }) self.old.cache self.new.cache reply) }
         ensures stays { OnErr result (self.new.cache ≡ self.old.cache) }
     {

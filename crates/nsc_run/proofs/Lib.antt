@@ -1,3 +1,5 @@
 pub mod Steps
 pub mod Firsts
 pub mod Outputs
+pub mod OneRound
+pub mod Chains

@@ -2,6 +2,8 @@
 use Rattle.std.specs.Prelude.{ℕ, List, [], codes}
 use Rattle.nsc_plain.specs.declared.fault.PlainFault.{PlainFault}
 use Rattle.nsc_plain.specs.declared.fault.PlainFault.TheVariants as faults
+use Rattle.nsc_run.specs.declared.halt.Halt.{Halt}
+use Rattle.nsc_run.specs.declared.halt.Halt.TheVariants as halts
 use Rattle.nsc_run.specs.declared.exit.Exit.{Exit}
 use Rattle.nsc_run.specs.declared.exit.Exit.TheVariants as exits
 
@@ -27,3 +29,11 @@ text_of exits.NotBuilt = codes "nscd: not built"
 abbrev pub exit_of : PlainFault → Exit
 exit_of faults.NoMemory = exits.NoMemory
 exit_of (faults.Spent count) = exits.Spent count
+
+-- the exit where no frame was read
+abbrev pub halt_exit : Halt → Exit
+halt_exit halts.Ended = exits.NotBuilt
+halt_exit halts.NoFrame = exits.NotBuilt
+halt_exit (halts.LongFile size) = exits.NotBuilt
+halt_exit halts.ReadFault = exits.ReadFault
+halt_exit halts.NoMemory = exits.NoMemory

@@ -1,6 +1,7 @@
 ghost use Rattle.std.specs.Prelude.{◌≡◌};
 ghost use Rattle.nsc_run.specs.declared.exit.Exit.TheVariants.{NoMemory as Memory};
 
+use crate::halt::Halt;
 use nsc_base::NoMemory;
 use nsc_plain::PlainFault;
 use std::alloc::AllocFailed;
@@ -87,6 +88,20 @@ impl From<PlainFault> for Exit {
         match fault {
             PlainFault::NoMemory => Exit::NoMemory,
             PlainFault::Spent { count } => Exit::Spent { count },
+        }
+    }
+}
+
+impl From<Halt> for Exit {
+    ghost use Rattle.nsc_run.specs.Exits.{halt_exit};
+
+    ghost from_gives = { λ halt exit. exit ≡ halt_exit halt };
+
+    fn from(halt: Halt) -> Exit {
+        match halt {
+            Halt::Ended | Halt::NoFrame | Halt::LongFile { .. } => Exit::NotBuilt,
+            Halt::ReadFault => Exit::ReadFault,
+            Halt::NoMemory => Exit::NoMemory,
         }
     }
 }

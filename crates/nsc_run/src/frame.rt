@@ -52,7 +52,8 @@ impl Frame {
             Frame::Ask { length } => 5 + *length as u64,
             Frame::Become { bytes: None, .. } => 3,
             Frame::Become {
-                bytes: Some(bytes), ..
+                bytes: Some(bytes),
+                ..
             } => 7 + bytes.len() as u64,
             Frame::Reach { .. } => 9,
             Frame::Clear { .. } => 2,
@@ -66,10 +67,8 @@ impl Frame {
         ensures others { OnFalse result (IsFollowed (seen room.now self.now)) }
     {
         match self {
-            Frame::Ask { .. }
-            | Frame::Become { .. }
-            | Frame::Reach { .. }
-            | Frame::Clear { .. } => false,
+            Frame::Ask { .. } | Frame::Become { .. } | Frame::Reach { .. } | Frame::Clear { .. } =>
+                false,
             Frame::Stop => true,
         }
     }

@@ -8,5 +8,7 @@ mod machine;
 mod pieces;
 mod reading;
 mod reply;
+mod rounds;
 
 pub use exit::Exit;
+pub use rounds::replay;

@@ -1,4 +1,5 @@
-ghost use Rattle.std.specs.Prelude.{◌≡◌, None, IfOk, IfErr, OnOk};
+ghost use Rattle.std.specs.Prelude.{◌≡◌, ◌≤◌, length, None, IfOk, IfErr, IfSome, OnOk};
+ghost use Rattle.nsc_model.specs.Marked.{reply_limit};
 ghost use Rattle.nsc_model.specs.Files.{FileFits};
 ghost use Rattle.nsc_model.specs.Wire.{request_of};
 ghost use Rattle.nsc_model.specs.Replay.{ask_frame, become_frame, first_state, turn_of};
@@ -51,7 +52,7 @@ impl Machine {
         })
     }
 
-    /// One frame through the machine: the reply that is to be written, if the frame is a look-up.
+    /// One frame through the machine: the reply that is to be written, if the frame is a look-up, of at most 2^30 bytes.
     ///
     /// `NotBuilt` comes at a frame that is not built yet, and `Spent` where a count stands at its end.
     pub fn turn<A: Answerer>(
@@ -62,6 +63,7 @@ impl Machine {
         room: &[u8],
     ) -> Result<Option<Bytes>, Exit>
         requires { FrameFits room.now frame }
+        ensures bound { IfOk result (λ reply. IfSome reply (λ bytes. length bytes ≤ reply_limit)) }
         ensures turn { IfOk result (λ reply. TurnsTo (turn_of self.old (seen room.now frame)) self.new reply) }
         ensures fault { IfErr result (TurnFaults (turn_of self.old (seen room.now frame))) }
     {
@@ -83,6 +85,7 @@ impl Machine {
         answers: &A,
         input: &[u8],
     ) -> Result<Option<Bytes>, Exit>
+        ensures bound { IfOk result (λ reply. IfSome reply (λ bytes. length bytes ≤ reply_limit)) }
         ensures turn { IfOk result (λ reply. TurnsTo (ask_frame self.old (request_of input.now)) self.new reply) }
         ensures fault { IfErr result (TurnFaults (ask_frame self.old (request_of input.now))) }
     {
@@ -102,12 +105,7 @@ impl Machine {
     }
 
     // What a file becomes: only the passwd file is built.
-    fn become_file(
-        &mut self,
-        alloc: Global,
-        file: FileId,
-        bytes: Option<Bytes>,
-    ) -> Result<(), Exit>
+    fn become_file(&mut self, alloc: Global, file: FileId, bytes: Option<Bytes>) -> Result<(), Exit>
         requires { FileFits bytes }
         ensures turn { OnOk result (TurnsTo (become_frame self.old file bytes) self.new None) }
         ensures fault { IfErr result (TurnFaults (become_frame self.old file bytes)) }

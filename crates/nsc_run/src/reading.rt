@@ -9,11 +9,7 @@ use nsc_outside::Source;
 use std::alloc::Global;
 
 /// Reads the next frame, and no byte behind it. The input of a connection is left at the front of `room`.
-pub fn read_frame<R: Source>(
-    alloc: Global,
-    input: &mut R,
-    room: &mut [u8],
-) -> Result<Frame, Halt>
+pub fn read_frame<R: Source>(alloc: Global, input: &mut R, room: &mut [u8]) -> Result<Frame, Halt>
     requires { length room.old ≡ input_limit }
     ensures reads { Reads (seen room.new) frame_at (R.left input.old) (R.left input.new) result }
     ensures fits { IfOk result (FrameFits room.new) }

@@ -37,7 +37,7 @@ returns-in_err-fill_piece-clause-reads g c =
     let fits : ltb file_limit c.args.size ≡ false = le-ltb _ _ (omega arith) in
     let len : length c.deref_mut.result.now ≡ c.args.size = grind (arith, common_steps) in
     rw (p.1, p.2) (guard_halts (ltb file_limit c.args.size) (LongFile c.args.size) (chunk c.args.size) (g.R.Source.left c.args.input.now) (g.R.Source.left c.fill_piece.new.input) c.in_err-fill_piece.field-0.0 fits
-      (subst (λ (n : ℕ). Halts (chunk n) (g.R.Source.left c.args.input.now) (g.R.Source.left c.fill_piece.new.input) c.in_err-fill_piece.field-0.0) len c.in_err-fill_piece.ensures.reads))
+    (subst (λ (n : ℕ). Halts (chunk n) (g.R.Source.left c.args.input.now) (g.R.Source.left c.fill_piece.new.input) c.in_err-fill_piece.field-0.0) len c.in_err-fill_piece.ensures.reads))
 
 pub returns-clause-reads : goal.returns-clause-reads
 unfolding held_at
@@ -47,4 +47,4 @@ returns-clause-reads g c =
     let same : c.from_vec-2.result ≡ c.fill_piece.new.piece = grind (arith, common_steps) in
     subst (λ (bytes : List ℕ). Gets (held_at c.args.size) (g.R.Source.left c.args.input.now) (g.R.Source.left c.fill_piece.new.input) bytes) (sym same)
     (guard_gets (ltb file_limit c.args.size) (LongFile c.args.size) (chunk c.args.size) (g.R.Source.left c.args.input.now) (g.R.Source.left c.fill_piece.new.input) c.fill_piece.new.piece fits
-      (subst (λ (n : ℕ). Gets (chunk n) (g.R.Source.left c.args.input.now) (g.R.Source.left c.fill_piece.new.input) c.fill_piece.new.piece) len c.in_ok-fill_piece.ensures.reads))
+    (subst (λ (n : ℕ). Gets (chunk n) (g.R.Source.left c.args.input.now) (g.R.Source.left c.fill_piece.new.input) c.fill_piece.new.piece) len c.in_ok-fill_piece.ensures.reads))

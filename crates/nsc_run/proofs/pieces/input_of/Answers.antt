@@ -20,7 +20,7 @@ returns-in_err-fill_piece-clause-reads g c =
     let fits : ltb input_limit c.args.size ≡ false = le-ltb _ _ (omega arith) in
     let len : length (take c.args.size c.args.room.now) ≡ c.args.size = length-take-le c.args.size c.args.room.now (omega (arith, c.requires)) in
     rw (p.1, p.2) (guard_halts (ltb input_limit c.args.size) NoFrame (chunk c.args.size) (g.R.Source.left c.args.input.now) (g.R.Source.left c.fill_piece.new.input) c.in_err-fill_piece.field-0.0 fits
-      (subst (λ (n : ℕ). Halts (chunk n) (g.R.Source.left c.args.input.now) (g.R.Source.left c.fill_piece.new.input) c.in_err-fill_piece.field-0.0) len c.in_err-fill_piece.ensures.reads))
+    (subst (λ (n : ℕ). Halts (chunk n) (g.R.Source.left c.args.input.now) (g.R.Source.left c.fill_piece.new.input) c.in_err-fill_piece.field-0.0) len c.in_err-fill_piece.ensures.reads))
 
 pub returns-clause-reads : goal.returns-clause-reads
 unfolding input_at
@@ -30,4 +30,4 @@ returns-clause-reads g c =
     let front : take c.args.size (c.fill_piece.new.piece ++ drop c.args.size c.args.room.now) ≡ c.fill_piece.new.piece = take_at c.fill_piece.new.piece (drop c.args.size c.args.room.now) c.args.size (omega (arith, len, c.fill_piece.auto.piece)) in
     subst (λ (bytes : List ℕ). Gets (input_at c.args.size) (g.R.Source.left c.args.input.now) (g.R.Source.left c.fill_piece.new.input) bytes) (sym front)
     (guard_gets (ltb input_limit c.args.size) NoFrame (chunk c.args.size) (g.R.Source.left c.args.input.now) (g.R.Source.left c.fill_piece.new.input) c.fill_piece.new.piece fits
-      (subst (λ (n : ℕ). Gets (chunk n) (g.R.Source.left c.args.input.now) (g.R.Source.left c.fill_piece.new.input) c.fill_piece.new.piece) len c.in_ok-fill_piece.ensures.reads))
+    (subst (λ (n : ℕ). Gets (chunk n) (g.R.Source.left c.args.input.now) (g.R.Source.left c.fill_piece.new.input) c.fill_piece.new.piece) len c.in_ok-fill_piece.ensures.reads))

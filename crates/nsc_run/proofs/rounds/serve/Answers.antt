@@ -1,0 +1,13 @@
+use Rattle.std.proofs.Common.{subst, sym, List, ℕ, Option}
+use Rattle.nsc_outside.specs.Stream.{GrowsByFront}
+use Rattle.nsc_model.specs.Replay.{turn_of, framed}
+use Rattle.nsc_run.specs.Reading.{seen}
+use Rattle.nsc_run.specs.Turns.{TurnsTo}
+use Rattle.nsc_run.proofs.Outputs.{cut_by_reply}
+use Rattle.nsc_run.proofs.rounds.serve.Goals as goal
+
+pub returns-clause-ends : goal.returns-clause-ends
+returns-clause-ends g c =
+    cut_by_reply (turn_of c.args.machine.now (seen c.args.room.now c.args.frame)) c.turn.new.self (g.K.Sink.taken c.args.output.now) (g.K.Sink.taken c.put_reply.new.output) c.in-Some.reply
+    (subst (λ (reply : Option (List ℕ)). TurnsTo (turn_of c.args.machine.now (seen c.args.room.now c.args.frame)) c.turn.new.self reply) c.in-Some.is c.in_ok-reply.ensures.turn)
+    (subst (λ (reply : List ℕ). GrowsByFront (g.K.Sink.taken c.args.output.now) (g.K.Sink.taken c.put_reply.new.output) (framed reply)) c.as_slice.ensures c.in-Err.ensures.front)
