@@ -1,0 +1,4 @@
+pub mod Compare
+pub mod Pieces
+pub mod Places
+pub mod Digits

@@ -1,0 +1,184 @@
+-- What the places that a search gives say of the lines, fields and words of a text.
+use Rattle.std.proofs.Common.{◌≡◌, ℕ, ◌+◌, ◌-◌, ◌<◌, ◌≤◌, Bool, true, false, ◌==◌, List, [], ◌∷◌, ◌++◌, length, take, drop, slice_range, get_or, Some, None, refl, sym, ◌∙◌, ap, subst, arith, add-one, length-drop}
+use Rattle.std.specs.List.{list_any}
+use Rattle.std.proofs.lemmas.List.{take-append-drop, take-take, drop_all, drop-take, drop-drop, length-take, length-take-le, get_or-take, get_or-drop, take_rest}
+use Rattle.std.proofs.Math.Seq.{drop-cons, drop-length}
+use Rattle.std.proofs.lemmas.Bool.{eqb-true}
+use Rattle.memchr.specs.Find.{IsFirstByte, Passes, Nowhere, is_byte}
+use Rattle.nsc_base.specs.declared.span.Span.{Span}
+use Rattle.nsc_base.specs.Text.{pieces, lines_of, is_white, words_of, part, fields_between, IsLine, IsField, IsWord}
+use Rattle.nsc_base.proofs.Compare.{not_below, is_below}
+use Rattle.nsc_base.proofs.Pieces.{none_cuts, pieces-last, pieces-first, lines-last, lines-first, words-skip, words-first}
+
+not_true : (b : Bool) → (b ≡ true → ⊥) → b ≡ false
+not_true true h = absurd (h refl)
+not_true false h = refl
+
+not_false : (b : Bool) → (b ≡ false → ⊥) → b ≡ true
+not_false true h = refl
+not_false false h = absurd (h refl)
+
+-- a list around one of its items
+pub split_at : (xs : List ℕ) (n : ℕ) → n < length xs → xs ≡ take n xs ++ get_or xs n 0 ∷ drop (n + 1) xs
+split_at xs n l =
+    let rest : drop n xs ≡ get_or xs n 0 ∷ drop (n + 1) xs = rw add-one (drop-cons xs n 0 l) in
+    sym (take-append-drop n xs) ∙ ap (λ ys. take n xs ++ ys) rest
+
+-- no byte before a place passes the test
+before_place : (test : ℕ → Bool) (xs : List ℕ) (n : ℕ) → n ≤ length xs → Nowhere (Passes test xs) 0 n → list_any test (take n xs) ≡ false
+before_place test xs n l nowhere =
+    let len = length-take-le n xs l in
+    none_cuts test (take n xs) (λ k h.
+    let below : k < n = omega (arith, len) in
+    rw (get_or-take n xs k 0 below) (not_true _ (nowhere k (omega arith) below)))
+
+pub pieces-found : (test : ℕ → Bool) (xs : List ℕ) (n : ℕ) → IsFirstByte test xs (Some n) → pieces test xs ≡ take n xs ∷ pieces test (drop (n + 1) xs)
+pieces-found test xs n found =
+    let bound : n < length xs = found.0.high in
+    let none : list_any test (take n xs) ≡ false = before_place test xs n (omega arith) found.0.before in
+    ap (pieces test) (split_at xs n bound) ∙ pieces-first test (take n xs) (get_or xs n 0) (drop (n + 1) xs) none found.1
+
+pub pieces-missing : (test : ℕ → Bool) (xs : List ℕ) → IsFirstByte test xs None → pieces test xs ≡ xs ∷ []
+pieces-missing test xs missing =
+    pieces-last test xs (none_cuts test xs (λ k h. not_true _ (missing k (omega arith) h)))
+
+lines-found : (xs : List ℕ) (n : ℕ) → IsFirstByte (is_byte 10) xs (Some n) → lines_of xs ≡ take n xs ∷ lines_of (drop (n + 1) xs)
+lines-found xs n found =
+    let bound : n < length xs = found.0.high in
+    let none : list_any (λ b. b == 10) (take n xs) ≡ false = before_place (is_byte 10) xs n (omega arith) found.0.before in
+    let newline : get_or xs n 0 ≡ 10 = eqb-true (get_or xs n 0) 10 found.1 in
+    ap lines_of (split_at xs n bound ∙ ap (λ b. take n xs ++ b ∷ drop (n + 1) xs) newline) ∙ lines-first (take n xs) (drop (n + 1) xs) none
+
+lines-missing : (xs : List ℕ) → 0 < length xs → IsFirstByte (is_byte 10) xs None → lines_of xs ≡ xs ∷ []
+lines-missing [] filled missing = absurd (omega arith)
+lines-missing (x ∷ xs) filled missing =
+    lines-last x xs (none_cuts (λ b. b == 10) (x ∷ xs) (λ k h. not_true _ (missing k (omega arith) h)))
+
+-- a part of a part from its front, and from a place in it
+range-take : (xs : List ℕ) (a n b : ℕ) → a + n ≤ b → slice_range xs a (a + n) ≡ take n (slice_range xs a b)
+range-take xs a n b l =
+    let here : a + n - a ≡ n = omega arith in
+    rw here (sym (take-take n (b - a) (drop a xs) (omega arith)))
+
+range-drop : (xs : List ℕ) (a n b : ℕ) → a + n ≤ b → slice_range xs (a + n) b ≡ drop n (slice_range xs a b)
+range-drop xs a n b l =
+    let size : b - a ≡ n + (b - (a + n)) = omega arith in
+    sym (ap (λ m. drop n (take m (drop a xs))) size ∙ drop-take n (b - (a + n)) (drop a xs) ∙ ap (take (b - (a + n))) (drop-drop n a xs))
+
+range-length : (xs : List ℕ) (a b : ℕ) → b ≤ length xs → length (slice_range xs a b) ≡ b - a
+range-length xs a b l = omega (arith, length-take (b - a) (drop a xs), length-drop a xs)
+
+pub line-found : (text : List ℕ) (from n : ℕ) → IsFirstByte (is_byte 10) (slice_range text from (length text)) (Some n) → IsLine text from (record { span = record { from = from; to = from + n }; next = from + n + 1 })
+line-found text from n found_there =
+    let found : IsFirstByte (is_byte 10) (drop from text) (Some n) = rw (take_rest text from) at found_there in
+    let bound : n < length (drop from text) = found.0.high in
+    let size : from + n - from ≡ n = omega arith in
+    let rest : drop (n + 1) (drop from text) ≡ drop (from + n + 1) text = drop-drop (n + 1) from text ∙ ap (λ m. drop m text) (omega arith) in
+    record {
+      begins = refl;
+      ordered = omega arith;
+      ends = omega (arith, bound, length-drop from text);
+      onward = omega arith;
+      next_ends = omega (arith, bound, length-drop from text);
+      cut = lines-found (drop from text) n found ∙ ap (λ m. take m (drop from text) ∷ lines_of (drop (n + 1) (drop from text))) (sym size) ∙ ap (λ ys. part text (record { from = from; to = from + n }) ∷ lines_of ys) rest;
+    }
+
+pub line-last : (text : List ℕ) (from : ℕ) → from < length text → IsFirstByte (is_byte 10) (slice_range text from (length text)) None → IsLine text from (record { span = record { from = from; to = length text }; next = length text })
+line-last text from l missing_there =
+    let missing : IsFirstByte (is_byte 10) (drop from text) None = rw (take_rest text from) at missing_there in
+    let filled : 0 < length (drop from text) = omega (arith, length-drop from text) in
+    record {
+      begins = refl;
+      ordered = omega arith;
+      ends = omega arith;
+      onward = l;
+      next_ends = omega arith;
+      cut = lines-missing (drop from text) filled missing ∙ ap (λ ys. ys ∷ []) (sym (take_rest text from)) ∙ ap (λ ys. part text (record { from = from; to = length text }) ∷ lines_of ys) (sym (drop-length text));
+    }
+
+fields_of_part : (cut : ℕ) (text : List ℕ) (from to : ℕ) → from ≤ to → fields_between cut text from to ≡ pieces (is_byte cut) (slice_range text from to)
+fields_of_part cut text from to l = rw (not_below to from l) refl
+
+pub field-found : (cut : ℕ) (text : List ℕ) (within : Span) (from n : ℕ) → within.to ≤ length text → from ≤ within.to → IsFirstByte (is_byte cut) (slice_range text from within.to) (Some n) → IsField cut text within from (record { span = record { from = from; to = from + n }; next = from + n + 1 })
+field-found cut text within from n inside before found =
+    let size : length (slice_range text from within.to) ≡ within.to - from = range-length text from within.to inside in
+    let bound : n < length (slice_range text from within.to) = found.0.high in
+    let stops : from + n + 1 ≤ within.to = omega (arith, size, bound) in
+    let here = fields_of_part cut text from within.to before in
+    let there = fields_of_part cut text (from + n + 1) within.to stops in
+    let rest : slice_range text (from + n + 1) within.to ≡ drop (n + 1) (slice_range text from within.to) = ap (λ m. slice_range text m within.to) (omega arith) ∙ range-drop text from (n + 1) within.to (omega arith) in
+    let field : slice_range text from (from + n) ≡ take n (slice_range text from within.to) = range-take text from n within.to (omega arith) in
+    let cuts = pieces-found (is_byte cut) (slice_range text from within.to) n found in
+    record {
+      begins = refl;
+      ordered = omega arith;
+      ends = omega arith;
+      next_is = refl;
+      cut_is = here ∙ cuts ∙ ap (λ ys. ys ∷ pieces (is_byte cut) (drop (n + 1) (slice_range text from within.to))) (sym field) ∙ ap (λ ys. slice_range text from (from + n) ∷ ys) (sym (there ∙ ap (pieces (is_byte cut)) rest));
+    }
+
+pub field-last : (cut : ℕ) (text : List ℕ) (within : Span) (from : ℕ) → from ≤ within.to → IsFirstByte (is_byte cut) (slice_range text from within.to) None → IsField cut text within from (record { span = record { from = from; to = within.to }; next = within.to + 1 })
+field-last cut text within from before missing =
+    let here = fields_of_part cut text from within.to before in
+    let past : fields_between cut text (within.to + 1) within.to ≡ [] = rw (is_below within.to (within.to + 1) (omega arith)) refl in
+    record {
+      begins = refl;
+      ordered = before;
+      ends = omega arith;
+      next_is = refl;
+      cut_is = here ∙ pieces-missing (is_byte cut) (slice_range text from within.to) missing ∙ ap (λ ys. slice_range text from within.to ∷ ys) (sym past);
+    }
+
+-- the words of a text do not change where the white space at its front is dropped
+words_behind : (xs : List ℕ) (n : ℕ) → n ≤ length xs → ((k : ℕ) → k < n → is_white (get_or xs k 0) ≡ true) → words_of xs ≡ words_of (drop n xs)
+words_behind xs n l white =
+    let len = length-take-le n xs l in
+    ap words_of (sym (take-append-drop n xs)) ∙ words-skip (take n xs) (drop n xs) (λ k h.
+    let below : k < n = omega (arith, len) in
+    rw (get_or-take n xs k 0 below) (white k below))
+
+not_below_le : (xs : List ℕ) (n : ℕ) → (n < length xs → ⊥) → length xs ≤ n
+not_below_le xs n h = omega arith
+
+at_end : (xs : List ℕ) (n : ℕ) → (n < length xs → is_white (get_or xs n 0) ≡ true → ⊥) → (0 < length (drop n xs) → is_white (get_or (drop n xs) 0 0) ≡ false → ⊥) → length xs ≤ n
+at_end xs n stop none =
+    not_below_le xs n (λ l.
+    let filled : 0 < length (drop n xs) = omega (arith, length-drop n xs) in
+    let same : get_or (drop n xs) 0 0 ≡ get_or xs n 0 = get_or-drop n xs 0 0 ∙ ap (λ k. get_or xs k 0) (omega arith) in
+    none filled (ap is_white same ∙ not_true _ (stop l)))
+
+pub words-none : (xs ys : List ℕ) (n m : ℕ) → m ≡ 0 → ys ≡ drop n xs → n ≤ length xs → ((k : ℕ) → k < n → is_white (get_or xs k 0) ≡ true) → (n < length xs → is_white (get_or xs n 0) ≡ true → ⊥) → (m < length ys → is_white (get_or ys m 0) ≡ false → ⊥) → words_of xs ≡ []
+words-none xs ys n m zero_is is l white stop none =
+    let P : List ℕ → ℕ → Type 0 = λ zs k. k < length zs → is_white (get_or zs k 0) ≡ false → ⊥ in
+    let here : P (drop n xs) 0 = subst (λ (zs : List ℕ). P zs 0) is (subst (P ys) zero_is none) in
+    words_behind xs n l white ∙ ap words_of (drop_all n xs (at_end xs n stop here))
+
+-- the first word behind the white space, and what follows it
+words-found : (xs : List ℕ) (m : ℕ) → m ≤ length xs → 0 < m → ((k : ℕ) → k < m → is_white (get_or xs k 0) ≡ false) → (m < length xs → is_white (get_or xs m 0) ≡ false → ⊥) → words_of xs ≡ take m xs ∷ words_of (drop m xs)
+words-found xs m l filled black stop =
+    let len = length-take-le m xs l in
+    let none : list_any is_white (take m xs) ≡ false = none_cuts is_white (take m xs) (λ k h.
+    let below : k < m = omega (arith, len) in
+    rw (get_or-take m xs k 0 below) (black k below)) in
+    ap words_of (sym (take-append-drop m xs)) ∙ words-first (take m xs) (drop m xs) (omega (arith, len)) none (λ h.
+    let bound : m < length xs = omega (arith, length-drop m xs) in
+    let same : get_or (drop m xs) 0 0 ≡ get_or xs m 0 = get_or-drop m xs 0 0 ∙ ap (λ k. get_or xs k 0) (omega arith) in
+    ap is_white same ∙ not_false _ (stop bound))
+
+pub word-found : (text : List ℕ) (within : Span) (from n m : ℕ) (ys : List ℕ) → ys ≡ drop n (slice_range text from within.to) → within.to ≤ length text → from ≤ within.to → n ≤ length (slice_range text from within.to) → ((k : ℕ) → k < n → is_white (get_or (slice_range text from within.to) k 0) ≡ true) → m ≤ length ys → 0 < m → ((k : ℕ) → k < m → is_white (get_or ys k 0) ≡ false) → (m < length ys → is_white (get_or ys m 0) ≡ false → ⊥) → IsWord text within from (record { span = record { from = from + n; to = from + n + m }; next = from + n + m })
+word-found text within from n m ys is inside before skips white reads filled black stop =
+    let size : length (slice_range text from within.to) ≡ within.to - from = range-length text from within.to inside in
+    let left : length ys ≡ within.to - from - n = ap length is ∙ length-drop n (slice_range text from within.to) ∙ ap (λ l. l - n) size in
+    let stops : from + n + m ≤ within.to = omega (arith, size, left) in
+    let rest : slice_range text (from + n) within.to ≡ ys = range-drop text from n within.to (omega arith) ∙ sym is in
+    let word : slice_range text (from + n) (from + n + m) ≡ take m ys = range-take text (from + n) m within.to stops ∙ ap (take m) rest in
+    let later : slice_range text (from + n + m) within.to ≡ drop m ys = range-drop text (from + n) m within.to stops ∙ ap (drop m) rest in
+    let skip = words_behind (slice_range text from within.to) n skips white in
+    let found = words-found ys m reads filled black stop in
+    record {
+      behind = omega arith;
+      filled = omega arith;
+      ends = stops;
+      next_is = refl;
+      cut = skip ∙ ap words_of (sym is) ∙ found ∙ ap (λ zs. zs ∷ words_of (drop m ys)) (sym word) ∙ ap (λ zs. slice_range text (from + n) (from + n + m) ∷ words_of zs) (sym later);
+    }
