@@ -1,0 +1,102 @@
+ghost use Rattle.std.specs.Prelude.{◌≡◌, ◌<◌, ◌≤◌, [], length, min, take, IfOk, OnOk, OnErr, is_err};
+ghost use Rattle.nsc_outside.specs.Stream.{Rose, Moves, IsDrained};
+ghost use Rattle.nsc_outside.specs.Memory.{Supply, after_call, after_fault, is_next_failing};
+
+use crate::plan::Plan;
+use crate::stream::{Failed, Source};
+use std::marker::Model;
+
+/// A source in memory, seen in contracts as what it has left and how its calls go. It takes no memory.
+#[derive(Debug, Drop)]
+pub struct MemSource {
+    bytes: Vec<u8>,
+    next: usize,
+    plan: Plan,
+}
+
+impl Model for MemSource {
+    ghost use Rattle.std.specs.Prelude.{◌≤◌, drop, vec_len};
+    ghost use Rattle.nsc_outside.specs.Memory.{Supply};
+
+    ghost Value = { Supply };
+
+    ghost view = { λ s. record { left = drop s.next s.bytes.items; course = s.plan } };
+
+    ghost invariant = { λ s. s.next ≤ vec_len s.bytes };
+}
+
+impl MemSource {
+    /// A source of these bytes: a call gives as many as there is room for, and none fails.
+    pub fn new(bytes: Vec<u8>) -> MemSource
+        ensures { result ≡ record { left = bytes.items; course = record { step = usize.MAX; failing = []; calls = 0; faults = 0 } } }
+    {
+        let plan = Plan::new(*bytes.allocator());
+        MemSource {
+            bytes,
+            next: 0,
+            plan,
+        }
+    }
+
+    /// The same source, which gives `step` bytes a call at most.
+    pub fn with_step(mut self, step: usize) -> MemSource
+        requires { 0 < step }
+        ensures { result ≡ record self { course = record self.course { step = step } } }
+    {
+        self.plan.set_step(step);
+        self
+    }
+
+    /// The same source, at which the calls with these numbers fail, the first being 1.
+    pub fn failing_at(mut self, calls: Vec<u64>) -> MemSource
+        ensures { result ≡ record self { course = record self.course { failing = calls.items } } }
+    {
+        self.plan.set_failing(calls);
+        self
+    }
+
+    /// The bytes that are left.
+    pub fn rest(&self) -> &[u8]
+        ensures { result.now ≡ self.now.left }
+    {
+        let bytes = self.bytes.as_slice();
+        &bytes[self.next..]
+    }
+
+    /// How many calls have failed; the count stops at the greatest `u64`.
+    pub fn faults(&self) -> u64
+        ensures { result ≡ self.now.course.faults }
+    {
+        self.plan.faults()
+    }
+}
+
+impl Source for MemSource {
+    ghost use Rattle.std.specs.Prelude.{Some};
+
+    ghost left = { λ s. Some s.left };
+
+    ghost faults = { λ s. s.course.faults };
+
+    /// Gives as many bytes as there are, as `buf` has room for and as a call may give, and fails where it is to fail.
+    fn read(&mut self, buf: &mut [u8]) -> Result<usize, Failed>
+        ensures count { IfOk result (λ n. n ≤ length buf.old) }
+        ensures moved { IfOk result (λ n. Moves (Some self.old.left) (Some self.new.left) (take n buf.new)) }
+        ensures end { IfOk result (λ n. n ≡ 0 → 0 < length buf.old → IsDrained (Some self.new.left)) }
+        ensures stays { OnErr result (Some self.new.left ≡ Some self.old.left) }
+        ensures calm { OnOk result (self.new.course.faults ≡ self.old.course.faults) }
+        ensures failed { OnErr result (Rose self.old.course.faults self.new.course.faults) }
+
+        ensures planned { is_err result ≡ is_next_failing self.old.course }
+        ensures amount { IfOk result (λ n. n ≡ min (min self.old.course.step (length buf.old)) (length self.old.left)) }
+        ensures called { OnOk result (self.new.course ≡ after_call self.old.course) }
+        ensures counted { OnErr result (self.new.course ≡ after_fault (after_call self.old.course)) }
+    {
+        self.plan.begin()?;
+        let bytes = self.bytes.as_slice();
+        let count = self.plan.step().min(buf.len()).min(bytes.len() - self.next);
+        buf[..count].copy_from_slice(&bytes[self.next..self.next + count]);
+        self.next += count;
+        Ok(count)
+    }
+}
