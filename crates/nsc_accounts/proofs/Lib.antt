@@ -1,2 +1,4 @@
 pub mod Zeros
+pub mod Begins
+pub mod Counts
 pub mod Named

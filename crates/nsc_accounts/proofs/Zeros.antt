@@ -2,7 +2,7 @@
 use Rattle.std.proofs.Common.{◌≡◌, ℕ, suc, zero, ◌<◌, ◌≤◌, Bool, true, false, ◌||◌, List, [], ◌∷◌, length, get_or, Option, Some, None, refl, sym, ◌∙◌, ap, arith}
 use Rattle.std.specs.List.{list_any}
 use Rattle.std.specs.Option.{is_some}
-use Rattle.std.proofs.lemmas.Bool.{not_true}
+use Rattle.std.proofs.lemmas.Bool.{false_from_ne_true}
 use Rattle.memchr.specs.Find.{IsFirstByte}
 use Rattle.nsc_base.proofs.Pieces.{none_cuts}
 
@@ -17,5 +17,5 @@ passes_any test (x ∷ xs) zero l h = rw h refl
 passes_any test (x ∷ xs) (suc k) l h = or_true (test x) (list_any test xs) (passes_any test xs k (omega arith) h)
 
 pub found_is_any : (test : ℕ → Bool) (xs : List ℕ) (r : Option ℕ) → IsFirstByte test xs r → is_some r ≡ list_any test xs
-found_is_any test xs None missing = sym (none_cuts test xs (λ k h. not_true _ (missing k (omega arith) h)))
+found_is_any test xs None missing = sym (none_cuts test xs (λ k h. false_from_ne_true _ (missing k (omega arith) h)))
 found_is_any test xs (Some k) found = sym (passes_any test xs k found.0.high found.1)

@@ -50,5 +50,8 @@ fn named_line(text: &[u8], line: Span, name: &[u8]) -> Option<PasswdAt>
 fn begins_with_field(bytes: &[u8], field: &[u8]) -> bool
     ensures { IsTrue result ↔ ((rest : List ℕ) × (bytes.now ≡ field.now ++ 58 ∷ rest)) }
 {
-    field.len() < bytes.len() && bytes[field.len()] == b':' && &bytes[..field.len()] == field
+    if bytes.len() <= field.len() {
+        return false;
+    }
+    bytes[field.len()] == b':' && &bytes[..field.len()] == field
 }
