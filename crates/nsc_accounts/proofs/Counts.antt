@@ -59,7 +59,7 @@ cut_more text within from spans i field all l is field_is =
     let later = fields_between 58 text field.next within.to in
     let spans_are : take (i + 1) (set spans i field.span) ≡ take i spans ++ field.span ∷ [] = take_more_set spans i field.span l in
     let mapped : map (part text) (take (i + 1) (set spans i field.span)) ≡ map (part text) (take i spans) ++ part text field.span ∷ [] =
-      ap (map (part text)) spans_are ∙ map_push (part text) (take i spans) field.span in
+    ap (map (part text)) spans_are ∙ map_push (part text) (take i spans) field.span in
     is ∙ ap (λ (fs : List (List ℕ)). map (part text) (take i spans) ++ fs) field_is.cut_is ∙ sym (append_assoc (map (part text) (take i spans)) (part text field.span ∷ []) later)
     ∙ ap (λ (fs : List (List ℕ)). fs ++ later) (sym mapped)
 

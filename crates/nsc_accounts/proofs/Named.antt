@@ -1,16 +1,17 @@
 -- The first entry that a request names, line by line; and a line that does not begin with a name is not named.
-use Rattle.std.proofs.Common.{◌≡◌, ℕ, Bool, true, false, cond, if◌then◌else◌, ◌==◌, List, [], ◌∷◌, ◌++◌, filter, Option, Some, None, refl, sym, ◌∙◌, ap}
+use Rattle.std.proofs.Common.{◌≡◌, ℕ, Bool, true, false, cond, if◌then◌else◌, ◌==◌, List, [], ◌∷◌, ◌++◌, drop, filter, Option, Some, None, refl, sym, ◌∙◌, ap}
 use Rattle.std.specs.List.{cons_option, filter_map}
 use Rattle.std.specs.Option.{option_or, option_and_then, option_map_or}
 use Rattle.std.specs.Str.{bytes_eq}
 use Rattle.std.proofs.lemmas.Slice.Eq.{bytes_eq-Decides}
 use Rattle.std.proofs.lemmas.Bool.{false_from_ne_true}
 use Rattle.std.proofs.lemmas.Bool.Decides.{Decides-eqb}
-use Rattle.nsc_base.specs.Text.{fields_of, onto_first, pieces}
+use Rattle.nsc_base.specs.Text.{IsLine, fields_of, onto_first, part, pieces}
+use Rattle.nsc_base.specs.declared.span.Line.{Line}
 use Rattle.nsc_base.specs.Decimal.{decimal_of}
 use Rattle.nsc_base.proofs.Pieces.{pieces-some}
 use Rattle.nsc_model.specs.declared.row.Passwd.{Passwd}
-use Rattle.nsc_model.specs.Users.{has_zero, is_name, trimmed, user_of_fields, user_of_line}
+use Rattle.nsc_model.specs.Users.{has_zero, is_name, trimmed, user_of_fields, user_of_line, users_of}
 use Rattle.nsc_accounts.specs.First.{first_of, if_named}
 
 -- one line more at the front
@@ -37,14 +38,14 @@ pieces-second cuts (b ∷ bytes) first second others h =
     let some = pieces-some cuts bytes in
     elim (cuts b) as (λ v. cuts b ≡ v → (if v then [] ∷ pieces cuts bytes else onto_first b (pieces cuts bytes)) ≡ first ∷ second ∷ others → (c : ℕ) × ((rest : List ℕ) × ((cuts c ≡ true) × (b ∷ bytes ≡ first ++ c ∷ rest)))) [
       | true ↦ λ is e.
-        let none : [] ≡ first = cc in
-        (b, (bytes, (is, ap (λ (f : List ℕ). f ++ b ∷ bytes) none)))
+          let none : [] ≡ first = cc in
+          (b, (bytes, (is, ap (λ (f : List ℕ). f ++ b ∷ bytes) none)))
       | false ↦ λ is e.
-        let cut : (b ∷ some.0) ∷ some.1.0 ≡ first ∷ second ∷ others = ap (onto_first b) (sym some.1.1) ∙ e in
-        let front : b ∷ some.0 ≡ first = cc in
-        let later : some.1.0 ≡ second ∷ others = cc in
-        let found = pieces-second cuts bytes some.0 second others (some.1.1 ∙ ap (λ l. some.0 ∷ l) later) in
-        (found.0, (found.1.0, (found.1.1.0, ap (λ (l : List ℕ). b ∷ l) found.1.1.1 ∙ ap (λ (f : List ℕ). f ++ found.0 ∷ found.1.0) front)))
+          let cut : (b ∷ some.0) ∷ some.1.0 ≡ first ∷ second ∷ others = ap (onto_first b) (sym some.1.1) ∙ e in
+          let front : b ∷ some.0 ≡ first = cc in
+          let later : some.1.0 ≡ second ∷ others = cc in
+          let found = pieces-second cuts bytes some.0 second others (some.1.1 ∙ ap (λ l. some.0 ∷ l) later) in
+          (found.0, (found.1.0, (found.1.1.0, ap (λ (l : List ℕ). b ∷ l) found.1.1.1 ∙ ap (λ (f : List ℕ). f ++ found.0 ∷ found.1.0) front)))
     ] refl h
 
 -- the name of an entry, if there is one
@@ -78,20 +79,26 @@ begins_with_name line p h =
     elim (has_zero line) as (λ v. (if v then None else user_of_fields (fields_of 58 (trimmed line))) ≡ Some p → (rest : List ℕ) × (trimmed line ≡ p.name ++ 58 ∷ rest)) [
       | true ↦ λ e. cc
       | false ↦ λ e.
-        let named = user_named (fields_of 58 (trimmed line)) p e in
-        let second = pieces-second (λ b. b == 58) (trimmed line) p.name named.0 named.1.0 named.1.1 in
-        let is : second.0 ≡ 58 = (Decides-eqb second.0 58).0 second.1.1.0 in
-        (second.1.0, second.1.1.1 ∙ ap (λ c. p.name ++ c ∷ second.1.0) is)
+          let named = user_named (fields_of 58 (trimmed line)) p e in
+          let second = pieces-second (λ b. b == 58) (trimmed line) p.name named.0 named.1.0 named.1.1 in
+          let is : second.0 ≡ 58 = (Decides-eqb second.0 58).0 second.1.1.0 in
+          (second.1.0, second.1.1.1 ∙ ap (λ c. p.name ++ c ∷ second.1.0) is)
     ] h
 
 -- a line that does not begin with a name and a colon is not named
 pub unnamed : (line name : List ℕ) → ((rest : List ℕ) × (trimmed line ≡ name ++ 58 ∷ rest) → ⊥) → if_named (λ p. bytes_eq p.name name) (user_of_line line) ≡ None
 unnamed line name lacks =
     let other : (p : Passwd) → user_of_line line ≡ Some p → bytes_eq p.name name ≡ false = λ p is.
-      false_from_ne_true _ (λ same.
-        let begins = begins_with_name line p is in
-        lacks (begins.0, begins.1 ∙ ap (λ (n : List ℕ). n ++ 58 ∷ begins.0) ((bytes_eq-Decides p.name name).0 same))) in
+    false_from_ne_true _ (λ same.
+    let begins = begins_with_name line p is in
+    lacks (begins.0, begins.1 ∙ ap (λ (n : List ℕ). n ++ 58 ∷ begins.0) ((bytes_eq-Decides p.name name).0 same))) in
     elim (user_of_line line) as (λ o. user_of_line line ≡ o → if_named (λ p. bytes_eq p.name name) o ≡ None) [
       | None ↦ λ is. refl
       | Some p ↦ λ is. rw (other p is) refl
     ] refl
+
+-- behind a line that is not named the answer is the same
+pub next_line : (names : Passwd → Bool) (text : List ℕ) (from : ℕ) (line : Line) (answer : Option Passwd) → IsLine text from line → None ≡ if_named names (user_of_line (part text line.span)) → first_of (filter names (users_of (drop from text))) ≡ answer → first_of (filter names (users_of (drop line.next text))) ≡ answer
+next_line names text from line answer is none left =
+    sym (first_skip names (user_of_line (part text line.span)) (users_of (drop line.next text)) (sym none))
+    ∙ sym (ap (λ (lines : List (List ℕ)). first_of (filter names (filter_map user_of_line lines))) is.cut) ∙ left

@@ -1,8 +1,9 @@
-ghost use Rattle.std.specs.Prelude.{◌≡◌, ◌≤◌, IfSome, length};
+ghost use Rattle.std.specs.Prelude.{◌≡◌, ◌≤◌, All, IfSome, length, map};
 ghost use Rattle.std.specs.Option.{option_map};
+ghost use Rattle.nsc_base.specs.declared.span.Span.{Span};
 ghost use Rattle.nsc_base.specs.Text.{part};
-ghost use Rattle.nsc_model.specs.Users.{user_of_line};
-ghost use Rattle.nsc_accounts.specs.Passwd.{UserLiesIn, user_at};
+ghost use Rattle.nsc_model.specs.Users.{user_of_fields, user_of_line};
+ghost use Rattle.nsc_accounts.specs.Passwd.{LiesIn, UserLiesIn, user_at};
 
 use crate::fields::{fields, has_zero_byte, may_be_name, white_front};
 use nsc_base::{Span, decimal};
@@ -44,7 +45,17 @@ pub fn passwd_line(text: &[u8], line: Span) -> Option<PasswdAt>
         from: line.from + white_front(bytes),
         to: line.to,
     };
-    let [name, passwd, uid, gid, gecos, dir, shell] = fields::<7>(text, black)?;
+    entry_of(text, fields::<7>(text, black)?)
+}
+
+// The entry of seven fields, where the first may be a name and the ids are numbers. What the fields lie in, the entry
+// lies in.
+fn entry_of(text: &[u8], fields: [Span; 7]) -> Option<PasswdAt>
+    requires { All (LiesIn (record { from = 0; to = length text.now })) fields }
+    ensures entry { option_map (user_at text.now) result ≡ user_of_fields (map (part text.now) fields) }
+    ensures inside { IfSome result (λ at. (within : Span) → All (LiesIn within) fields → UserLiesIn within at) }
+{
+    let [name, passwd, uid, gid, gecos, dir, shell] = fields;
     if !may_be_name(&text[name.from..name.to]) {
         return None;
     }
