@@ -1,18 +1,11 @@
+ghost use Rattle.std.specs.Prelude.{◌≡◌};
+
 use super::{PasswdAt, find_passwd_by_name, passwd_line};
 use nsc_base::Span;
 
-// The seven texts of an entry as the table spells them, ids in numbers.
-type Entry = (
-    &'static [u8],
-    &'static [u8],
-    u32,
-    u32,
-    &'static [u8],
-    &'static [u8],
-    &'static [u8],
-);
-
-fn at(from: usize, to: usize) -> Span {
+fn at(from: usize, to: usize) -> Span
+    ensures { result ≡ record { from = from; to = to } }
+{
     Span { from, to }
 }
 
