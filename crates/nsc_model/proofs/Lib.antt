@@ -1,0 +1,5 @@
+pub mod Parsers
+pub mod Rounds
+pub mod Requests
+pub mod Histories
+pub mod LookUps

@@ -10,12 +10,14 @@ use Rattle.nsc_model.specs.declared.row.Row.TheVariants as row
 use Rattle.nsc_model.specs.declared.row.Looked.{Looked}
 use Rattle.nsc_model.specs.declared.row.Looked.TheVariants.{Found, NotFound, Unavail}
 use Rattle.nsc_model.specs.declared.row.Reply.TheVariants as reply
+use Rattle.nsc_model.specs.declared.kind.Db.{Db}
+use Rattle.nsc_model.specs.declared.kind.Db.TheVariants as db
 use Rattle.nsc_model.specs.Kinds.{database_of}
 use Rattle.nsc_model.specs.Files.{Files}
 use Rattle.nsc_model.specs.Marked.{Marked}
 use Rattle.nsc_model.specs.Wire.{spelled}
 use Rattle.nsc_model.specs.Users.{users_of}
-use Rattle.nsc_model.specs.Services.{Service, Local, Compat, Extrausers, Other, Step, action_at, ends, service_list}
+use Rattle.nsc_model.specs.Services.{SwitchService, Local, Compat, Extrausers, Other, SwitchStep, action_at, ends, service_list}
 
 -- whether a request of a user's entry names this one
 abbrev pub names_user : Request → Passwd → Bool
@@ -31,38 +33,46 @@ abbrev pub user_answer : Option (List ℕ) → Request → Looked
 user_answer None request = Unavail
 user_answer (Some file) request = first_user (filter (names_user request) (users_of file))
 
--- the service `files`, by the kind of the request; the other kinds are not built yet
-abbrev pub file_answer_by : Kind → Files → Request → Looked
-file_answer_by PwName files request = user_answer files.passwd request
-file_answer_by PwUid files request = Unavail
-file_answer_by GrName files request = Unavail
-file_answer_by GrGid files request = Unavail
-file_answer_by HostName files request = Unavail
-file_answer_by HostName6 files request = Unavail
-file_answer_by HostAddr files request = Unavail
-file_answer_by HostAddr6 files request = Unavail
-file_answer_by Ai files request = Unavail
-file_answer_by InitGroups files request = Unavail
-file_answer_by ServName files request = Unavail
-file_answer_by ServPort files request = Unavail
+-- a request over the bytes of one file, by the request's kind; the other kinds are not built yet
+abbrev pub answer_by : Kind → Option (List ℕ) → Request → Looked
+answer_by PwName file request = user_answer file request
+answer_by PwUid file request = Unavail
+answer_by GrName file request = Unavail
+answer_by GrGid file request = Unavail
+answer_by HostName file request = Unavail
+answer_by HostName6 file request = Unavail
+answer_by HostAddr file request = Unavail
+answer_by HostAddr6 file request = Unavail
+answer_by Ai file request = Unavail
+answer_by InitGroups file request = Unavail
+answer_by ServName file request = Unavail
+answer_by ServPort file request = Unavail
 
-abbrev pub file_answer : Files → Request → Looked
-file_answer files request = file_answer_by request.kind files request
+abbrev pub file_answer : Option (List ℕ) → Request → Looked
+file_answer file request = answer_by request.kind file request
+
+-- the file that the service `files` reads for a database
+abbrev pub own_file : Db → Files → Option (List ℕ)
+own_file db.Passwd files = files.passwd
+own_file db.Group files = files.group
+own_file db.Hosts files = files.hosts
+own_file db.Services files = files.services
 
 -- the outcome of a service; every service but `files` is not built yet
-abbrev pub service_answer : Files → Service → Request → Looked
-service_answer files Local request = file_answer files request
-service_answer files Compat request = Unavail
-service_answer files Extrausers request = Unavail
-service_answer files Other request = Unavail
+abbrev pub service_answer : Files → Request → SwitchService → Looked
+service_answer files request Local = file_answer (own_file (database_of request.kind) files) request
+service_answer files request Compat = Unavail
+service_answer files request Extrausers = Unavail
+service_answer files request Other = Unavail
 
--- the services in turn: the first one whose action at its status is to return ends the switch, and so does the last one
-abbrev pub switched : Files → List Step → Request → Looked
-switched files [] request = Unavail
-switched files (step ∷ []) request = service_answer files step.service request
-switched files (step ∷ next ∷ steps) request =
-    let outcome = service_answer files step.service request in
-    if ends (action_at step outcome) then outcome else switched files (next ∷ steps) request
+-- the services in turn, each with its outcome: the first one whose action at its status is to return ends the switch, and
+-- so does the last one
+abbrev pub switched : (SwitchService → Looked) → List SwitchStep → Looked
+switched look [] = Unavail
+switched look (step ∷ []) = look step.service
+switched look (step ∷ next ∷ steps) =
+    let outcome = look step.service in
+    if ends (action_at step outcome) then outcome else switched look (next ∷ steps)
 
 -- what an outcome is on the wire: the found reply, or else the not-found header with its mark
 abbrev pub marked : Kind → Looked → Marked
@@ -72,7 +82,7 @@ marked kind Unavail = record { bytes = spelled kind reply.Absent; not_found = tr
 
 -- the outcome of the switch over the service list of the request's database
 abbrev pub looked_up : Files → Request → Looked
-looked_up files request = switched files (service_list files (database_of request.kind)) request
+looked_up files request = switched (service_answer files request) (service_list files (database_of request.kind))
 
 -- the answer to a request over a content
 abbrev pub answer_of : Files → Request → Marked

@@ -27,7 +27,7 @@ abbrev pub FileFits : Option (List ℕ) → Type 0
 FileFits f = IfSome f (λ bytes. length bytes ≤ file_limit)
 
 -- no file is longer than a file may be
-pub record Fit (files : Files) : Type 0 where
+pub record FilesFit (files : Files) : Type 0 where
   pub switch_fits : FileFits files.switch
   pub passwd_fits : FileFits files.passwd
   pub group_fits : FileFits files.group

@@ -12,11 +12,12 @@ pub data Frame : Type 0 where
   Ask : (input : List ℕ) → Frame
   Become : (file : FileId) → (bytes : Option (List ℕ)) → Frame
   Reach : (moment : ℕ) → Frame
-  Drop : (db : Db) → Frame
+  Clear : (db : Db) → Frame
   Stop : Frame
 
--- bytes are no frame, or announce a file that is longer than a file may be
+-- bytes end inside a frame; or are none, whatever follows; or announce a file that is longer than a file may be
 pub data Fault : Type 0 where
+  Short : Fault
   NoFrame : Fault
   LongFile : (length : ℕ) → Fault
 
@@ -31,28 +32,33 @@ input_limit = 4096
 
 -- the first n bytes, and those behind them
 abbrev pub chunk : ℕ → List ℕ → Result (List ℕ × List ℕ) Fault
-chunk n bytes = if nat_lt (length bytes) n then Err NoFrame else Ok (take n bytes, drop n bytes)
+chunk n bytes = if nat_lt (length bytes) n then Err Short else Ok (take n bytes, drop n bytes)
 
 -- a number of n bytes, the lowest first
 unfoldable pub number_at : ℕ → List ℕ → Result (ℕ × List ℕ) Fault
-number_at n bytes = do
-  front ← chunk n bytes
-  Ok (little_number n front.0, front.1)
+number_at n bytes = chunk n bytes >>= λ front. Ok (little_number n front.0, front.1)
+
+-- the input of a connection, of this many bytes
+unfoldable pub input_at : ℕ → List ℕ → Result (Frame × List ℕ) Fault
+input_at size bytes = if nat_lt input_limit size then Err NoFrame else (chunk size bytes >>= λ input. Ok (Ask input.0, input.1))
 
 -- behind a Q: a length of four bytes, and so many bytes
 unfoldable pub ask_at : List ℕ → Result (Frame × List ℕ) Fault
-ask_at bytes = do
-  size ← number_at 4 bytes
-  if nat_lt input_limit size.0 then Err NoFrame else (chunk size.0 size.1 >>= λ input. Ok (Ask input.0, input.1))
+ask_at bytes = number_at 4 bytes >>= λ size. input_at size.0 size.1
 
--- what a file becomes: a byte 0 for absent; or a byte 1, a length of four bytes, and so many bytes
+-- the bytes of a file, of this many bytes
+unfoldable pub held_at : ℕ → List ℕ → Result (Option (List ℕ) × List ℕ) Fault
+held_at size bytes = if nat_lt file_limit size then Err (LongFile size) else (chunk size bytes >>= λ held. Ok (Some held.0, held.1))
+
+-- behind a byte 0 nothing: the file is absent; behind a byte 1 a length of four bytes, and so many bytes
+unfoldable pub marked_at : ℕ → List ℕ → Result (Option (List ℕ) × List ℕ) Fault
+marked_at mark bytes =
+    if mark == 0 then Ok (None, bytes) else (
+    if mark == 1 then (number_at 4 bytes >>= λ size. held_at size.0 size.1) else Err NoFrame)
+
+-- what a file becomes
 unfoldable pub bytes_at : List ℕ → Result (Option (List ℕ) × List ℕ) Fault
-bytes_at bytes = do
-  mark ← number_at 1 bytes
-  if mark.0 == 0 then Ok (None, mark.1) else (
-    if mark.0 == 1 then (number_at 4 mark.1 >>= λ size.
-      if nat_lt file_limit size.0 then Err (LongFile size.0) else (chunk size.0 size.1 >>= λ held. Ok (Some held.0, held.1)))
-    else Err NoFrame)
+bytes_at bytes = number_at 1 bytes >>= λ mark. marked_at mark.0 mark.1
 
 abbrev pub become : Option FileId → List ℕ → Result (Frame × List ℕ) Fault
 become None rest = Err NoFrame
@@ -60,15 +66,11 @@ become (Some file) rest = bytes_at rest >>= λ held. Ok (Become file held.0, hel
 
 -- behind an F: the number of a file, and what it becomes
 unfoldable pub file_at : List ℕ → Result (Frame × List ℕ) Fault
-file_at bytes = do
-  number ← number_at 1 bytes
-  become (file_numbered number.0) number.1
+file_at bytes = number_at 1 bytes >>= λ number. become (file_numbered number.0) number.1
 
 -- behind a T: a moment of eight bytes
 unfoldable pub reach_at : List ℕ → Result (Frame × List ℕ) Fault
-reach_at bytes = do
-  moment ← number_at 8 bytes
-  Ok (Reach moment.0, moment.1)
+reach_at bytes = number_at 8 bytes >>= λ moment. Ok (Reach moment.0, moment.1)
 
 abbrev pub db_numbered : ℕ → Option Db
 db_numbered n =
@@ -77,15 +79,13 @@ db_numbered n =
     if n == 2 then Some db.Hosts else (
     if n == 3 then Some db.Services else None)))
 
-abbrev pub dropped : Option Db → List ℕ → Result (Frame × List ℕ) Fault
-dropped None rest = Err NoFrame
-dropped (Some db) rest = Ok (Drop db, rest)
+abbrev pub cleared : Option Db → List ℕ → Result (Frame × List ℕ) Fault
+cleared None rest = Err NoFrame
+cleared (Some db) rest = Ok (Clear db, rest)
 
 -- behind an I: the number of a database
-unfoldable pub drop_at : List ℕ → Result (Frame × List ℕ) Fault
-drop_at bytes = do
-  number ← number_at 1 bytes
-  dropped (db_numbered number.0) number.1
+unfoldable pub clear_at : List ℕ → Result (Frame × List ℕ) Fault
+clear_at bytes = number_at 1 bytes >>= λ number. cleared (db_numbered number.0) number.1
 
 -- what stands behind the first byte of a frame: Q, F, T, I or E
 unfoldable pub behind : ℕ → List ℕ → Result (Frame × List ℕ) Fault
@@ -93,17 +93,15 @@ behind first rest =
     if first == 81 then ask_at rest else (
     if first == 70 then file_at rest else (
     if first == 84 then reach_at rest else (
-    if first == 73 then drop_at rest else (
+    if first == 73 then clear_at rest else (
     if first == 69 then Ok (Stop, rest) else Err NoFrame))))
 
 -- the frame at the front of the bytes, and what stands behind it
 unfoldable pub frame_at : List ℕ → Result (Frame × List ℕ) Fault
-frame_at bytes = do
-  first ← number_at 1 bytes
-  behind first.0 first.1
+frame_at bytes = number_at 1 bytes >>= λ first. behind first.0 first.1
 
--- how a replay ends: behind its first E; at the place of what is no frame, or ends inside one; at a file that is too
--- long; at a count that stands at its end; at what is not built yet
+-- how a replay ends: behind its first E; at the place where bytes are no frame or end inside one; at a file that is too
+-- long; at a count that stands at its end; at a frame that is not built yet
 pub data Finish : Type 0 where
   Done : (place : ℕ) → Finish
   Bad : (place : ℕ) → Finish
@@ -123,6 +121,7 @@ abbrev pub more_frames : Frame → Cut → Cut
 more_frames frame cut = record { frames = frame ∷ cut.frames; finish = cut.finish }
 
 abbrev pub fault_at : ℕ → Fault → Finish
+fault_at place Short = Bad place
 fault_at place NoFrame = Bad place
 fault_at place (LongFile length) = Long length
 
@@ -135,7 +134,7 @@ abbrev pub cut_on : (ℕ → List ℕ → Cut) → ℕ → List ℕ → Frame �
 cut_on next place bytes (Ask input) rest = more_frames (Ask input) (next (reached place bytes rest) rest)
 cut_on next place bytes (Become file held) rest = more_frames (Become file held) (next (reached place bytes rest) rest)
 cut_on next place bytes (Reach moment) rest = more_frames (Reach moment) (next (reached place bytes rest) rest)
-cut_on next place bytes (Drop db) rest = more_frames (Drop db) (next (reached place bytes rest) rest)
+cut_on next place bytes (Clear db) rest = more_frames (Clear db) (next (reached place bytes rest) rest)
 cut_on next place bytes Stop rest = record { frames = []; finish = Done (reached place bytes rest) }
 
 abbrev pub cut_from : (ℕ → List ℕ → Cut) → ℕ → List ℕ → Result (Frame × List ℕ) Fault → Cut

@@ -10,3 +10,5 @@ pub mod History
 pub mod Machine
 pub mod Frames
 pub mod Replay
+pub mod Fronts
+pub mod Calls

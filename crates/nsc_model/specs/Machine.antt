@@ -21,13 +21,13 @@ pub record Lives : Type 0 where
 -- a cache: its newest content with the number of its version, the live entries from the oldest on, and how many were inserted
 pub record Cache : Type 0 where
   pub sources : Files
-  pub versions : ℕ
+  pub newest_version : ℕ
   pub entries : List Fixed
   pub inserted : ℕ
 
 -- a new cache
 abbrev pub new_cache : Files → Cache
-new_cache files = record { sources = files; versions = 0; entries = []; inserted = 0 }
+new_cache files = record { sources = files; newest_version = 0; entries = []; inserted = 0 }
 
 -- what a look-up comes to: the cache after it, the reply, and its records, the newest first
 pub record Turn : Type 0 where
@@ -44,9 +44,9 @@ abbrev pub ◌>>=◌ : {A B : Type 0} → Result A ℕ → (A → Result B ℕ) 
 -- a poll: a different content is the next version, an equal one confirms the newest
 abbrev pub polled : Files → Cache → Result (Cache × Record) ℕ
 polled files cache =
-    if same_files files cache.sources then Ok (cache, Poll cache.versions) else (
-    if cache.versions == last_count then Err last_count else
-    Ok (record cache { sources = files; versions = cache.versions + 1 }, Change (cache.versions + 1) files))
+    if same_files files cache.sources then Ok (cache, Poll cache.newest_version) else (
+    if cache.newest_version == last_count then Err last_count else
+    Ok (record cache { sources = files; newest_version = cache.newest_version + 1 }, Change (cache.newest_version + 1) files))
 
 -- how long an answer lives
 abbrev pub life_of : Lives → Marked → ℕ
@@ -56,7 +56,7 @@ life_of lives marked = if marked.not_found then lives.negative else lives.positi
 abbrev pub loaded_entry : Lives → ℕ → Request → Cache → Fixed
 loaded_entry lives now request cache =
     let made = answer_of cache.sources request in
-    record { number = cache.inserted; request = request; version = cache.versions; answer = made; timeout = now + life_of lives made }
+    record { number = cache.inserted; request = request; version = cache.newest_version; answer = made; timeout = now + life_of lives made }
 
 -- a load after a poll: the answer over the newest version, which is inserted where the count of entries is not at its end
 abbrev pub loaded : Lives → ℕ → Request → Cache → Record → Turn

@@ -9,7 +9,7 @@ use Rattle.nsc_model.specs.declared.answer.Request.{Request}
 use Rattle.nsc_model.specs.Files.{Files, no_files, with_file, part_of}
 use Rattle.nsc_model.specs.Wire.{Asked, Look, Shutdown, Stat, Invalidate, Descriptor, Netgroup, Short, BadVersion, BadType, BadLength, request_of, field}
 use Rattle.nsc_model.specs.Machine.{Lives, Cache, new_cache, Turn, look_up}
-use Rattle.nsc_model.specs.Frames.{Frame, Ask, Become, Reach, Drop, Stop, Finish, Done, Bad, Long, Spent, NotBuilt, Cut, cut_at}
+use Rattle.nsc_model.specs.Frames.{Frame, Ask, Become, Reach, Clear, Stop, Finish, Spent, NotBuilt, Cut, cut_at}
 
 -- the files as they are, and the cache of users
 pub record State : Type 0 where
@@ -74,13 +74,13 @@ become_frame s file.Services held = Err NotBuilt
 become_frame s file.ExtraPasswd held = Err NotBuilt
 become_frame s file.ExtraGroup held = Err NotBuilt
 
--- one frame through the machine; moments and invalidations are not built yet, and the first E is no frame of these
+-- one frame through the machine; moments and invalidations are not built yet. The first E is cut off before.
 abbrev pub turn_of : State → Frame → Result Went Finish
 turn_of s (Ask input) = ask_frame s (request_of input)
 turn_of s (Become file held) = become_frame s file held
 turn_of s (Reach moment) = Err NotBuilt
-turn_of s (Drop db) = Err NotBuilt
-turn_of s Stop = Err NotBuilt
+turn_of s (Clear db) = Err NotBuilt
+turn_of s Stop = Ok (record { state = s; writes = [] })
 
 -- what a replay writes, and how it ends
 pub record Replayed : Type 0 where
@@ -99,17 +99,9 @@ unfoldable pub play : List Frame → Finish → State → Replayed
 play [] finish s = record { output = []; finish = finish }
 play (frame ∷ frames) finish s = play_on (play frames finish) (turn_of s frame)
 
--- so far, bytes that are no frame are not told from a form that is not built
-abbrev pub built_finish : Finish → Finish
-built_finish (Done place) = Done place
-built_finish (Bad place) = NotBuilt
-built_finish (Long length) = NotBuilt
-built_finish (Spent count) = Spent count
-built_finish NotBuilt = NotBuilt
-
 -- the rest of a replay: the bytes from this place on, in this state
 abbrev pub replay_from : State → ℕ → List ℕ → Replayed
-replay_from s place bytes = let cut = cut_at place bytes in play cut.frames (built_finish cut.finish) s
+replay_from s place bytes = let cut = cut_at place bytes in play cut.frames cut.finish s
 
 -- the replay of bytes
 abbrev pub replay : List ℕ → Replayed

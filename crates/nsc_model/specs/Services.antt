@@ -6,41 +6,41 @@ use Rattle.nsc_model.specs.declared.row.Looked.TheVariants.{Found, NotFound, Una
 use Rattle.nsc_model.specs.Files.{Files}
 
 -- the services that are built in, and every other one
-pub data Service : Type 0 where
-  Local : Service
-  Compat : Service
-  Extrausers : Service
-  Other : Service
+pub data SwitchService : Type 0 where
+  Local : SwitchService
+  Compat : SwitchService
+  Extrausers : SwitchService
+  Other : SwitchService
 
-pub data Action : Type 0 where
-  Return : Action
-  Continue : Action
-  Merge : Action
+pub data SwitchAction : Type 0 where
+  Return : SwitchAction
+  Continue : SwitchAction
+  Merge : SwitchAction
 
 -- a service of a list, with what to do at each status
-pub record Step : Type 0 where
-  pub service : Service
-  pub success : Action
-  pub notfound : Action
-  pub unavail : Action
-  pub tryagain : Action
+pub record SwitchStep : Type 0 where
+  pub service : SwitchService
+  pub success : SwitchAction
+  pub notfound : SwitchAction
+  pub unavail : SwitchAction
+  pub tryagain : SwitchAction
 
 -- a service without rules: SUCCESS returns, and the other statuses continue
-abbrev pub plain_step : Service → Step
+abbrev pub plain_step : SwitchService → SwitchStep
 plain_step service = record { service = service; success = Return; notfound = Continue; unavail = Continue; tryagain = Continue }
 
 -- what a step does at the status of an outcome; TRYAGAIN never arises from contents
-abbrev pub action_at : Step → Looked → Action
+abbrev pub action_at : SwitchStep → Looked → SwitchAction
 action_at step (Found row) = step.success
 action_at step NotFound = step.notfound
 action_at step Unavail = step.unavail
 
 -- merge acts as return
-abbrev pub ends : Action → Bool
+abbrev pub ends : SwitchAction → Bool
 ends Return = true
 ends Continue = false
 ends Merge = true
 
 -- the service list of a database. No line of nsswitch.conf is read yet: it is the list of a database without one.
-abbrev pub service_list : Files → Db → List Step
+abbrev pub service_list : Files → Db → List SwitchStep
 service_list files db = plain_step Local ∷ []

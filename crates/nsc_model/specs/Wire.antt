@@ -1,12 +1,11 @@
 -- Requests and replies as bytes: protocol version 2 of glibc's nscd-client.h, in little-endian fields of four bytes.
-use Rattle.std.specs.Prelude.{◌≡◌, ◌≢◌, ℕ, ◌+◌, ◌*◌, ◌≤◌, ◌<◌, ℤ, Bool, ◌==◌, nat_lt, if◌then◌else◌, List, [], ◌∷◌, ◌++◌, length, take, drop, All, Option, Some, None}
+use Rattle.std.specs.Prelude.{◌≡◌, ◌≢◌, ℕ, ◌+◌, ◌≤◌, ◌<◌, ◌^◌, ℤ, Bool, ◌==◌, nat_lt, if◌then◌else◌, List, [], ◌∷◌, ◌++◌, length, take, drop, All, Option, Some, None}
 use Rattle.std.specs.List.{before_first}
 use Rattle.byteorder.specs.Endian.{little_number, little_bytes, twos_complement}
 use Rattle.nsc_model.specs.declared.kind.Kind.{Kind}
 use Rattle.nsc_model.specs.declared.kind.Kind.TheVariants.{PwName, PwUid, GrName, GrGid, HostName, HostName6, HostAddr, HostAddr6, Ai, InitGroups, ServName, ServPort}
 use Rattle.nsc_model.specs.declared.answer.Request.{Request}
 use Rattle.nsc_model.specs.declared.row.Passwd.{Passwd}
-use Rattle.nsc_model.specs.declared.row.Row.{Row}
 use Rattle.nsc_model.specs.declared.row.Row.TheVariants as row
 use Rattle.nsc_model.specs.declared.row.Reply.{Reply}
 use Rattle.nsc_model.specs.declared.row.Reply.TheVariants.{Found, Absent, Disabled}
@@ -74,10 +73,10 @@ abbrev pub request_of : List ℕ → Asked
 request_of bytes =
     if nat_lt (length bytes) 12 then Short (length bytes) else (
     if field_in bytes 0 == 2 then (
-      if nat_lt 21 (field_in bytes 4) then BadType (signed_field_in bytes 4) else (
-      if nat_lt key_limit (field_in bytes 8) then BadLength (signed_field_in bytes 8) else (
-      if nat_lt (length bytes) (12 + field_in bytes 8) then Short (length bytes) else
-        asked_look (kind_numbered (field_in bytes 4)) (field_in bytes 4) (take (field_in bytes 8) (drop 12 bytes)))))
+    if nat_lt 21 (field_in bytes 4) then BadType (signed_field_in bytes 4) else (
+    if nat_lt key_limit (field_in bytes 8) then BadLength (signed_field_in bytes 8) else (
+    if nat_lt (length bytes) (12 + field_in bytes 8) then Short (length bytes) else
+    asked_look (kind_numbered (field_in bytes 4)) (field_in bytes 4) (take (field_in bytes 8) (drop 12 bytes)))))
     else BadVersion (signed_field_in bytes 0))
 
 -- ---- replies
@@ -135,9 +134,12 @@ spelled InitGroups reply = []
 spelled ServName reply = []
 spelled ServPort reply = []
 
+-- the texts can be sent, and the ids are numbers of four bytes
 pub record IsUser (p : Passwd) : Type 0 where
   pub name_is : IsText p.name
   pub passwd_is : IsText p.passwd
+  pub uid_fits : p.uid < 2 ^ 32
+  pub gid_fits : p.gid < 2 ^ 32
   pub gecos_is : IsText p.gecos
   pub dir_is : IsText p.dir
   pub shell_is : IsText p.shell
@@ -167,7 +169,8 @@ IsReplyOf InitGroups reply = ⊥
 IsReplyOf ServName reply = ⊥
 IsReplyOf ServPort reply = ⊥
 
--- the bytes spell the reply of the kind
+-- the bytes spell the reply of the kind; a reply has at most 2 ^ 30 bytes, so that its lengths fit their fields
 pub record Spells (kind : Kind) (reply : Reply) (bytes : List ℕ) : Type 0 where
   pub of_kind : IsReplyOf kind reply
   pub spelling : bytes ≡ spelled kind reply
+  pub bound : length bytes ≤ reply_limit

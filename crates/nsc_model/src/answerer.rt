@@ -27,8 +27,8 @@ pub trait Answerer {
     fn content<'a>(&self, ready: &'a Self::Ready) -> &'a Arc<Content>
         ensures { arc_value result.now ≡ prepared_from ready.now };
 
-    /// The answer to the request of this kind and key, of at most 1,024 bytes, over the content that `ready`
-    /// was prepared from. Fails only for want of memory.
+    /// The answer to the request of this kind and key over the content that `ready` was prepared from. Fails only
+    /// for want of memory.
     fn answer(
         &self,
         alloc: Global,

@@ -1,10 +1,21 @@
 ghost use Rattle.std.specs.Prelude.{◌≡◌, ◌≤◌, ◌↔◌, IsTrue, IfSome, Option, length};
 ghost use Rattle.std.specs.Option.{option_copied};
-ghost use Rattle.nsc_model.specs.Files.{no_files, file_of, with_file, file_limit};
+ghost use Rattle.nsc_model.specs.Files.{no_files, file_of, with_file, file_limit, same_file, same_files};
 
 use crate::kind::FileId;
 use nsc_base::Bytes;
 use std::marker::Model;
+
+// Whether two files are both absent, or have the same bytes.
+fn is_same_file(a: Option<&[u8]>, b: Option<&[u8]>) -> bool
+    ensures { result ≡ same_file (option_copied a.entry) (option_copied b.entry) }
+{
+    match (a, b) {
+        (None, None) => true,
+        (Some(a), Some(b)) => a == b,
+        (None, Some(_)) | (Some(_), None) => false,
+    }
+}
 
 /// The seven source files as they stood at one moment, each absent or its bytes, at most 16,777,216 of them.
 #[derive(Debug, Drop)]
@@ -13,13 +24,13 @@ pub struct Content {
 }
 
 impl Model for Content {
-    ghost use Rattle.nsc_model.specs.Files.{Files, files_in, Fit};
+    ghost use Rattle.nsc_model.specs.Files.{Files, files_in, FilesFit};
 
     ghost Value = { Files };
 
     ghost view = { λ c. files_in c.files };
 
-    ghost invariant = { λ c. Fit (files_in c.files) };
+    ghost invariant = { λ c. FilesFit (files_in c.files) };
 }
 
 impl Content {
@@ -48,6 +59,28 @@ impl Content {
         ensures value { option_copied result ≡ file_of self.now file }
         ensures bound { IfSome result (λ b. length b.now ≤ file_limit) }
     {
-        self.files[file as usize].as_ref().map(|bytes| bytes.as_slice())
+        self.files[file as usize]
+            .as_ref()
+            .map(|bytes| bytes.as_slice())
+    }
+
+    /// Whether two contents are the same, file by file.
+    pub fn is_same(&self, other: &Content) -> bool
+        ensures { result ≡ same_files self.now other.now }
+    {
+        self.has_same(other, FileId::Switch)
+            && self.has_same(other, FileId::Passwd)
+            && self.has_same(other, FileId::Group)
+            && self.has_same(other, FileId::Hosts)
+            && self.has_same(other, FileId::Services)
+            && self.has_same(other, FileId::ExtraPasswd)
+            && self.has_same(other, FileId::ExtraGroup)
+    }
+
+    // Whether one file is the same in both.
+    fn has_same(&self, other: &Content, file: FileId) -> bool
+        ensures { result ≡ same_file (file_of self.now file) (file_of other.now file) }
+    {
+        is_same_file(self.file(file), other.file(file))
     }
 }

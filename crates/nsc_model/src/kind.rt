@@ -71,11 +71,8 @@ impl Db {
         match kind {
             Kind::PwName | Kind::PwUid => Db::Passwd,
             Kind::GrName | Kind::GrGid | Kind::InitGroups => Db::Group,
-            Kind::HostName
-            | Kind::HostName6
-            | Kind::HostAddr
-            | Kind::HostAddr6
-            | Kind::Ai => Db::Hosts,
+            Kind::HostName | Kind::HostName6 | Kind::HostAddr | Kind::HostAddr6 | Kind::Ai =>
+                Db::Hosts,
             Kind::ServName | Kind::ServPort => Db::Services,
         }
     }

@@ -1,1 +1,25 @@
 //! The laws of the definitions: theorems over whole histories, each the contract of a function with no body.
+
+ghost use Rattle.std.specs.Prelude.{◌≡◌, ℕ, List, [], ◌∷◌, ◌++◌, Ok};
+ghost use Rattle.nsc_model.specs.declared.answer.Request.{Request};
+ghost use Rattle.nsc_model.specs.declared.record.Record.{Record};
+ghost use Rattle.nsc_model.specs.declared.record.Record.TheVariants.{Change};
+ghost use Rattle.nsc_model.specs.Files.{Files};
+ghost use Rattle.nsc_model.specs.History.{Answered};
+ghost use Rattle.nsc_model.specs.Machine.{Lives, Cache, Turn, new_cache, look_up};
+ghost use Rattle.nsc_model.specs.Calls.{Tells, Call, EachAnswered};
+
+/// Each look-up keeps the history legal and the cache what its history says, and its reply is an answer to its
+/// request, for a caller that had seen the whole history before the look-up.
+pub fn each_look_up_is_answered()
+    ensures kept { (lives : Lives) (now : ℕ) (files : Files) (request : Request) (cache : Cache) (history : List Record) (turn : Turn) →
+        Tells history cache → look_up lives now files request cache ≡ Ok turn → Tells (turn.adds ++ history) turn.cache }
+    ensures answered { (lives : Lives) (now : ℕ) (files : Files) (request : Request) (cache : Cache) (history : List Record) (turn : Turn) →
+        Tells history cache → look_up lives now files request cache ≡ Ok turn → Answered history (turn.adds ++ history) request turn.reply }
+{}
+
+/// In every run of look-ups from a new cache, whatever the files are at each of them, the history is legal and each
+/// reply is an answer to its request, for a caller that had seen the whole history before the look-up.
+pub fn runs_are_answered()
+    ensures { (lives : Lives) (files : Files) (calls : List Call) → EachAnswered lives calls (new_cache files) (Change 0 files ∷ []) }
+{}

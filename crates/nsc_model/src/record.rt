@@ -64,9 +64,10 @@ impl Entry {
         self.number
     }
 
-    /// The request that it answers.
+    /// The request that it answers; its key has at most 1,024 bytes.
     pub fn request(&self) -> &Request
-        ensures { result.now ≡ self.now.request }
+        ensures value { result.now ≡ self.now.request }
+        ensures bound { length result.now.key ≤ key_limit }
     {
         &self.request
     }

@@ -17,5 +17,5 @@ Moves-copied next count bytes buf copied left within left_is copied_is =
     let long : length copied ≡ count = grind (arith, places) in
     let front : take count (copied ++ drop count buf) ≡ take count (drop next bytes) = take_at copied (drop count buf) count long ∙ copied_too in
     let whole : take count (drop next bytes) ++ drop (next + count) bytes ≡ drop next bytes =
-        ap (λ t. take count (drop next bytes) ++ t) (sym (drop-drop count next bytes)) ∙ take-append-drop count (drop next bytes) in
+    ap (λ t. take count (drop next bytes) ++ t) (sym (drop-drop count next bytes)) ∙ take-append-drop count (drop next bytes) in
     (drop (next + count) bytes, refl, left_is ∙ sym (ap (λ t. t ++ drop (next + count) bytes) front ∙ whole))

@@ -13,3 +13,6 @@ pub use mem_source::MemSource;
 pub use standard::{StdSink, StdSource};
 pub use stream::{Failed, Sink, Source};
 pub use whole::{fill, write_all};
+
+#[cfg(test)]
+mod tests;

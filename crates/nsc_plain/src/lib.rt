@@ -1,0 +1,9 @@
+//! A cache of one database as a list of entries: the machine of the model, call by call.
+#![tactic(auto)]
+
+mod cache;
+mod entries;
+mod fault;
+
+pub use cache::PlainCache;
+pub use fault::PlainFault;

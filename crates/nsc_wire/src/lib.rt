@@ -1,0 +1,15 @@
+//! Requests and replies as bytes: protocol version 2 of glibc's nscd-client.h, little-endian.
+//!
+//! A reader takes no memory and looks at each byte once; a reply is written into memory that is taken once.
+#![tactic(auto)]
+
+mod reply;
+mod request;
+mod users;
+
+pub use nsc_model::Reply;
+pub use reply::encode;
+pub use request::{Wire, read_request};
+
+#[cfg(test)]
+mod tests;

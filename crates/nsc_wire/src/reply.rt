@@ -1,0 +1,60 @@
+ghost use Rattle.std.specs.Prelude.{◌≡◌, ◌≤◌, ◌++◌, length, IfOk, OnOk};
+ghost use Rattle.nsc_model.specs.Marked.{reply_limit};
+ghost use Rattle.nsc_model.specs.Wire.{IsReplyOf, Spells, field, spelled, text};
+ghost use Rattle.nsc_wire.specs.Fields.{fields};
+
+use crate::users::encode_user;
+use byteorder::{ByteOrder, LittleEndian};
+use nsc_base::{Bytes, NoMemory};
+use nsc_model::{Kind, Reply};
+use std::alloc::Global;
+
+/// The bytes of a reply of this kind. A row is of the kind's shape and has no zero byte in its texts, and the bytes are
+/// at most 2^30. Memory is taken once; fails only for want of it.
+pub fn encode(alloc: Global, kind: Kind, reply: &Reply) -> Result<Bytes, NoMemory>
+    requires of_kind { IsReplyOf kind reply.now }
+    requires fits { length (spelled kind reply.now) ≤ reply_limit }
+    ensures { IfOk result (λ bytes. Spells kind reply.now bytes) }
+{
+    match kind {
+        Kind::PwName => encode_user(alloc, reply),
+        Kind::PwUid => encode_user(alloc, reply),
+        Kind::GrName
+        | Kind::GrGid
+        | Kind::HostName
+        | Kind::HostName6
+        | Kind::HostAddr
+        | Kind::HostAddr6
+        | Kind::Ai
+        | Kind::InitGroups
+        | Kind::ServName
+        | Kind::ServPort => unreachable!(),
+    }
+}
+
+// Puts fields behind the bytes that are there.
+pub(crate) fn put_fields(out: &mut Vec<u8>, numbers: &[u32]) -> Result<(), NoMemory>
+    ensures { OnOk result (out.new.items ≡ out.old.items ++ fields numbers.now) }
+{
+    for number in numbers {
+        put_field(out, *number)?;
+    }
+    Ok(())
+}
+
+// Puts a field of four bytes behind the bytes that are there.
+fn put_field(out: &mut Vec<u8>, number: u32) -> Result<(), NoMemory>
+    ensures { OnOk result (out.new.items ≡ out.old.items ++ field number) }
+{
+    let mut bytes = [0; 4];
+    LittleEndian::write_u32(&mut bytes, number);
+    Ok(out.extend_from_slice(&bytes)?)
+}
+
+// Puts a text and its zero byte behind the bytes that are there.
+pub(crate) fn put_text(out: &mut Vec<u8>, bytes: &[u8]) -> Result<(), NoMemory>
+    ensures { OnOk result (out.new.items ≡ out.old.items ++ text bytes.now) }
+{
+    out.extend_from_slice(bytes)?;
+    Ok(out.push(0)?)
+}
