@@ -1,12 +1,12 @@
 -- The fields of a line, one after another.
-use Rattle.std.proofs.Common.{◌≡◌, ◌≢◌, ℕ, suc, ◌+◌, ◌<◌, ◌≤◌, Bool, true, false, nat_lt, nat_eq, ◌==◌, if◌then◌else◌, List, [], ◌∷◌, ◌++◌, length, map, take, drop, slice_range, Option, Some, None, refl, sym, ◌∙◌, ap, arith, set, append_assoc, length-append}
+use Rattle.std.proofs.Common.{◌≡◌, ◌≢◌, ℕ, ◌+◌, ◌<◌, ◌≤◌, true, false, nat_eq, ◌==◌, List, [], ◌∷◌, ◌++◌, length, map, take, slice_range, Some, None, refl, sym, ◌∙◌, ap, arith, set, append_assoc, length-append}
 use Rattle.std.proofs.lemmas.Bool.Decides.{nat_tests}
 use Rattle.std.proofs.lemmas.List.{append-nil, length-map, map_push, take_all, take_more_set}
 use Rattle.std.specs.List.{AllWithin}
 use Rattle.std.proofs.lemmas.List.Elements.{AllWithin-more_set}
 use Rattle.nsc_base.specs.declared.span.Span.{Span}
 use Rattle.nsc_base.specs.declared.span.Line.{Line}
-use Rattle.nsc_base.specs.Text.{IsField, fields_between, fields_of, part, pieces}
+use Rattle.nsc_base.specs.Text.{IsField, fields_between, fields_of, part}
 use Rattle.nsc_base.proofs.Pieces.{pieces-some}
 use Rattle.nsc_base.proofs.Compare.{is_below, not_below}
 use Rattle.nsc_accounts.specs.Fields.{exactly}

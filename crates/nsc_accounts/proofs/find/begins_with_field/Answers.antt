@@ -1,4 +1,4 @@
-use Rattle.std.proofs.Common.{◌≡◌, ◌+◌, length, take, drop, ◌∙◌, sym}
+use Rattle.std.proofs.Common.{◌+◌, length, take, drop, ◌∙◌, sym}
 use Rattle.std.proofs.lemmas.Slice.Eq.{bytes_eq-Decides}
 use Rattle.nsc_accounts.proofs.Begins.{begins, begins_front}
 use Rattle.nsc_accounts.proofs.find.begins_with_field.Goals as goal

@@ -1,8 +1,6 @@
 use Rattle.std.proofs.Common.{◌≡◌, ◌≤◌, ◌-◌, length, drop, filter}
-use Rattle.std.specs.List.{filter_map}
 use Rattle.std.specs.Str.{bytes_eq}
-use Rattle.nsc_base.specs.Text.{lines_of}
-use Rattle.nsc_model.specs.Users.{user_of_line, users_of}
+use Rattle.nsc_model.specs.Users.{users_of}
 use Rattle.nsc_accounts.specs.First.{first_of}
 use Rattle.nsc_accounts.proofs.find.find_passwd_by_name.Given as goal
 

@@ -1,7 +1,6 @@
-use Rattle.std.proofs.Common.{◌≡◌, false, sym, ap, ◌∙◌}
+use Rattle.std.proofs.Common.{sym, ap, ◌∙◌}
 use Rattle.std.specs.Option.{option_map}
-use Rattle.nsc_base.specs.Text.{fields_of, part}
-use Rattle.nsc_model.specs.Users.{has_zero, user_of_fields}
+use Rattle.nsc_model.specs.Users.{user_of_fields}
 use Rattle.nsc_accounts.specs.Passwd.{user_at}
 use Rattle.nsc_accounts.proofs.Entries.{entry_lies, exactly_is, lies_in_line, line_fields, unformed}
 use Rattle.nsc_accounts.proofs.passwd.passwd_line.Goals as goal
