@@ -6,13 +6,13 @@ use Rattle.std.specs.Str.{bytes_eq}
 use Rattle.std.proofs.lemmas.Slice.Eq.{bytes_eq-Decides}
 use Rattle.std.proofs.lemmas.Bool.{false_from_ne_true}
 use Rattle.std.proofs.lemmas.Bool.Decides.{Decides-eqb}
-use Rattle.nsc_base.specs.Text.{IsLine, fields_of, onto_first, part, pieces}
+use Rattle.nsc_base.specs.Text.{IsLine, fields_of, lines_of, onto_first, part, pieces}
 use Rattle.nsc_base.specs.declared.span.Line.{Line}
 use Rattle.nsc_base.specs.Decimal.{decimal_of}
 use Rattle.nsc_base.proofs.Pieces.{pieces-some}
 use Rattle.nsc_model.specs.declared.row.Passwd.{Passwd}
-use Rattle.nsc_model.specs.Users.{has_zero, is_name, trimmed, user_of_fields, user_of_line, users_of}
-use Rattle.nsc_accounts.specs.First.{first_of, if_named}
+use Rattle.nsc_model.specs.Users.{has_zero, is_name, trimmed, user_of_fields, user_of_line}
+use Rattle.nsc_accounts.specs.First.{first_named, first_of, if_named}
 
 -- one line more at the front
 pub first_step : {A : Type 0} (names : A → Bool) (o : Option A) (others : List A) → first_of (filter names (cons_option o others)) ≡ option_or (if_named names o) (first_of (filter names others))
@@ -26,10 +26,6 @@ first_step names (Some x) others =
 -- a line that is not named counts for nothing
 pub first_skip : {A : Type 0} (names : A → Bool) (o : Option A) (others : List A) → if_named names o ≡ None → first_of (filter names (cons_option o others)) ≡ first_of (filter names others)
 first_skip names o others h = first_step names o others ∙ ap (λ r. option_or r (first_of (filter names others))) h
-
--- a line that is named is the first
-pub first_hit : {A : Type 0} (names : A → Bool) (o : Option A) (others : List A) (x : A) → if_named names o ≡ Some x → first_of (filter names (cons_option o others)) ≡ Some x
-first_hit names o others x h = first_step names o others ∙ ap (λ r. option_or r (first_of (filter names others))) h
 
 -- what stands before the second piece
 pub pieces-second : (cuts : ℕ → Bool) (bytes : List ℕ) (first second : List ℕ) (others : List (List ℕ)) → pieces cuts bytes ≡ first ∷ second ∷ others → (c : ℕ) × ((rest : List ℕ) × ((cuts c ≡ true) × (bytes ≡ first ++ c ∷ rest)))
@@ -98,7 +94,7 @@ unnamed line name lacks =
     ] refl
 
 -- behind a line that is not named the answer is the same
-pub next_line : (names : Passwd → Bool) (text : List ℕ) (from : ℕ) (line : Line) (answer : Option Passwd) → IsLine text from line → None ≡ if_named names (user_of_line (part text line.span)) → first_of (filter names (users_of (drop from text))) ≡ answer → first_of (filter names (users_of (drop line.next text))) ≡ answer
-next_line names text from line answer is none left =
-    sym (first_skip names (user_of_line (part text line.span)) (users_of (drop line.next text)) (sym none))
-    ∙ sym (ap (λ (lines : List (List ℕ)). first_of (filter names (filter_map user_of_line lines))) is.cut) ∙ left
+pub next_line : {A : Type 0} (entry_of : List ℕ → Option A) (names : A → Bool) (text : List ℕ) (from : ℕ) (line : Line) (answer : Option A) → IsLine text from line → None ≡ if_named names (entry_of (part text line.span)) → first_named entry_of names (drop from text) ≡ answer → first_named entry_of names (drop line.next text) ≡ answer
+next_line entry_of names text from line answer is none left =
+    sym (first_skip names (entry_of (part text line.span)) (filter_map entry_of (lines_of (drop line.next text))) (sym none))
+    ∙ sym (ap (λ (lines : List (List ℕ)). first_of (filter names (filter_map entry_of lines))) is.cut) ∙ left

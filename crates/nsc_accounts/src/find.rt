@@ -13,7 +13,7 @@ use nsc_base::{Span, equal, line_at};
 /// The first line of a passwd file that has the form of an entry and this name, as places in the file. `None` where
 /// there is none. Takes no memory.
 pub fn find_passwd_by_name(text: &[u8], name: &[u8]) -> Option<PasswdAt>
-    ensures entry { option_map (user_at text.now) result ≡ first_of (filter (λ p. bytes_eq p.name name.now) (users_of text.now)) }
+    ensures entry { option_map (user_at text.now) result ≡ first_named user_of_line (λ p. bytes_eq p.name name.now) text.now }
     ensures inside { IfSome result (UserLiesIn (record { from = 0; to = length text.now })) }
 {
     let mut from = 0;
