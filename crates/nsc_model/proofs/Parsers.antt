@@ -1,13 +1,13 @@
 -- The parsers of frames: what they find in a front they find whatever follows, and what they leave is shorter.
 use Rattle.std.proofs.Common.{◌≡◌, ℕ, zero, suc, ◌+◌, ◌<◌, ◌≤◌, Bool, true, false, cond, ltb, eqb, List, [], ◌∷◌, ◌++◌, length, take, drop, Option, Some, None, Result, Ok, Err, refl, sym, ap, subst, ◌∙◌, append_assoc, arith}
 use Rattle.std.proofs.lemmas.Bool.{ltb-false, le-ltb, lt-ltb}
-use Rattle.std.proofs.lemmas.List.{take_at, drop_at, length-append, length-drop}
+use Rattle.std.proofs.lemmas.List.{take_at, drop_at, length-append, length-drop, length-take}
 use Rattle.byteorder.specs.Endian.{little_number}
 use Rattle.nsc_model.specs.declared.kind.FileId.{FileId}
 use Rattle.nsc_model.specs.declared.kind.Db.{Db}
-use Rattle.nsc_model.specs.Kinds.{file_numbered}
+use Rattle.nsc_model.specs.Kinds.{db_numbered, file_numbered}
 use Rattle.nsc_model.specs.Files.{file_limit}
-use Rattle.nsc_model.specs.Frames.{Frame, Ask, Become, Reach, Clear, Stop, Fault, Short, NoFrame, LongFile, ◌>>=◌, chunk, number_at, input_limit, input_at, ask_at, held_at, marked_at, bytes_at, become, file_at, reach_at, db_numbered, cleared, clear_at, behind, frame_at}
+use Rattle.nsc_model.specs.Frames.{Frame, Ask, Become, Reach, Clear, Stop, Fault, Short, NoFrame, LongFile, ◌>>=◌, chunk, number_at, made, input_limit, input_at, ask_at, held_at, present_at, marked_at, bytes_at, become, file_at, cleared, clear_at, behind, frame_at, frame_size}
 use Rattle.nsc_model.specs.Fronts.{Finds, Refuses, IsPartial}
 
 abbrev pub Parser : Type 0 → Type 0
@@ -56,15 +56,11 @@ pub number_partial : (n : ℕ) (front : List ℕ) → length front < n → IsPar
 unfolding number_at
 number_partial n front lt = record { lacks = rw (chunk_partial n front lt).lacks refl }
 
--- ---- what is left
+-- ---- how many bytes a piece takes
 
--- the bytes that a parser leaves are at most those that it was given
-pub record Leaves {A : Type 0} (p : Parser A) : Type 0 where
-  pub no_more : (bytes : List ℕ) (x : A × List ℕ) → p bytes ≡ Ok x → length x.1 ≤ length bytes
-
--- and at least one fewer
-pub record Eats {A : Type 0} (p : Parser A) : Type 0 where
-  pub fewer : (bytes : List ℕ) (x : A × List ℕ) → p bytes ≡ Ok x → length x.1 < length bytes
+-- what a parser finds takes so many bytes of those that it was given
+pub record Takes {A : Type 0} (p : Parser A) (size : A → ℕ) : Type 0 where
+  pub parts : (bytes : List ℕ) (x : A × List ℕ) → p bytes ≡ Ok x → length bytes ≡ size x.0 + length x.1
 
 abbrev done : {A : Type 0} → A → Result A Fault
 done x = Ok x
@@ -80,114 +76,167 @@ guard_ok : {A : Type 0} (b : Bool) (d : Fault) (x : Result A Fault) (y : A) → 
 guard_ok true d x y e = absurd cc
 guard_ok false d x y e = (refl, e)
 
-leaves_then : {A B : Type 0} (p : Parser A) (q : A → Parser B) → Leaves p → ((x : A) → Leaves (q x)) → Leaves (then p q)
-leaves_then p q a b = record {
-  no_more = λ bytes y e.
+-- a piece that takes n bytes, and behind it one that takes so many more
+takes_then : {A B : Type 0} (n : ℕ) (p : Parser A) (q : A → Parser B) (size whole : B → ℕ) → Takes p (λ _. n) → ((x : A) → Takes (q x) size) → ((y : B) → n + size y ≡ whole y) → Takes (then p q) whole
+takes_then n p q size whole a b sum = record {
+  parts = λ bytes y e.
       let m = bind_ok (p bytes) (λ x. q x.0 x.1) y e in
-      let first : length m.0.1 ≤ length bytes = a.no_more bytes m.0 m.1 in
-      let second : length y.1 ≤ length m.0.1 = (b m.0.0).no_more m.0.1 y m.2 in
+      let first : length bytes ≡ n + length m.0.1 = a.parts bytes m.0 m.1 in
+      let second : length m.0.1 ≡ size y.0 + length y.1 = (b m.0.0).parts m.0.1 y m.2 in
+      let third : n + size y.0 ≡ whole y.0 = sum y.0 in
       omega arith;
 }
 
-eats_then : {A B : Type 0} (p : Parser A) (q : A → Parser B) → Eats p → ((x : A) → Leaves (q x)) → Eats (then p q)
-eats_then p q a b = record {
-  fewer = λ bytes y e.
-      let m = bind_ok (p bytes) (λ x. q x.0 x.1) y e in
-      let first : length m.0.1 < length bytes = a.fewer bytes m.0 m.1 in
-      let second : length y.1 ≤ length m.0.1 = (b m.0.0).no_more m.0.1 y m.2 in
+-- a value that is made of what was found
+takes_made : {A B : Type 0} (p : Parser A) (make : A → B) (size : A → ℕ) (whole : B → ℕ) → Takes p size → ((x : A) → size x ≡ whole (make x)) → Takes (made make p) whole
+takes_made {A} {B} p make size whole a same = record {
+  parts = λ bytes y e.
+      let m = bind_ok (p bytes) (λ x. Ok (make x.0, x.1)) y e in
+      let first : length bytes ≡ size m.0.0 + length m.0.1 = a.parts bytes m.0 m.1 in
+      let is : size m.0.0 ≡ whole (make m.0.0) = same m.0.0 in
+      let value : whole (make m.0.0) ≡ whole y.0 = ap (λ (z : B × List ℕ). whole z.0) (ok_is (make m.0.0, m.0.1) y m.2) in
+      let rest : length m.0.1 ≡ length y.1 = ap (λ (z : B × List ℕ). length z.1) (ok_is (make m.0.0, m.0.1) y m.2) in
       omega arith;
 }
 
-leaves_guard : {A : Type 0} (b : Bool) (d : Fault) (p : Parser A) → Leaves p → Leaves (λ bytes. cond b (Err d) (p bytes))
-leaves_guard b d p a = record { no_more = λ bytes y e. a.no_more bytes y (guard_ok b d (p bytes) y e).1 }
+takes_guard : {A : Type 0} (b : Bool) (d : Fault) (p : Parser A) (size : A → ℕ) → Takes p size → Takes (λ bytes. cond b (Err d) (p bytes)) size
+takes_guard b d p size a = record { parts = λ bytes y e. a.parts bytes y (guard_ok b d (p bytes) y e).1 }
 
-leaves_choice : {A : Type 0} (b : Bool) (p q : Parser A) → Leaves p → Leaves q → Leaves (λ bytes. cond b (p bytes) (q bytes))
-leaves_choice true p q x y = x
-leaves_choice false p q x y = y
+takes_choice : {A : Type 0} (b : Bool) (p q : Parser A) (size : A → ℕ) → Takes p size → Takes q size → Takes (λ bytes. cond b (p bytes) (q bytes)) size
+takes_choice true p q size x y = x
+takes_choice false p q size x y = y
 
-leaves_refusal : {A : Type 0} (d : Fault) → Leaves {A = A} (λ bytes. Err d)
-leaves_refusal d = record { no_more = λ bytes y e. absurd cc }
+takes_refusal : {A : Type 0} (d : Fault) (size : A → ℕ) → Takes {A = A} (λ bytes. Err d) size
+takes_refusal d size = record { parts = λ bytes y e. absurd cc }
 
-leaves_now : {A : Type 0} (x : A) → Leaves (λ bytes. Ok (x, bytes))
-leaves_now {A} x = record { no_more = λ bytes y e. let k : length y.1 ≡ length bytes = ap (λ (p : A × List ℕ). length p.1) (sym (ok_is (x, bytes) y e)) in omega arith }
-
-chunk_leaves : (n : ℕ) → Leaves (chunk n)
-chunk_leaves n = record {
-  no_more = λ bytes y e.
-      let g = guard_ok (ltb (length bytes) n) Short (Ok (take n bytes, drop n bytes)) y e in
-      let k : length (drop n bytes) ≡ length y.1 = ap (λ (p : List ℕ × List ℕ). length p.1) (ok_is (take n bytes, drop n bytes) y g.1) in
-      omega (arith, length-drop n bytes);
+takes_now : {A : Type 0} (x : A) (size : A → ℕ) → size x ≡ 0 → Takes (λ bytes. Ok (x, bytes)) size
+takes_now {A} x size none = record {
+  parts = λ bytes y e.
+      let value : size x ≡ size y.0 = ap (λ (p : A × List ℕ). size p.0) (ok_is (x, bytes) y e) in
+      let rest : length bytes ≡ length y.1 = ap (λ (p : A × List ℕ). length p.1) (ok_is (x, bytes) y e) in
+      omega arith;
 }
 
-chunk_eats : (n : ℕ) → 0 < n → Eats (chunk n)
-chunk_eats n pos = record {
-  fewer = λ bytes y e.
+chunk_takes : (n : ℕ) → Takes (chunk n) length
+chunk_takes n = record {
+  parts = λ bytes y e.
       let g = guard_ok (ltb (length bytes) n) Short (Ok (take n bytes, drop n bytes)) y e in
       let long : n ≤ length bytes = ltb-false _ _ g.0 in
-      let k : length (drop n bytes) ≡ length y.1 = ap (λ (p : List ℕ × List ℕ). length p.1) (ok_is (take n bytes, drop n bytes) y g.1) in
+      let front : length (take n bytes) ≡ length y.0 = ap (λ (p : List ℕ × List ℕ). length p.0) (ok_is (take n bytes, drop n bytes) y g.1) in
+      let rest : length (drop n bytes) ≡ length y.1 = ap (λ (p : List ℕ × List ℕ). length p.1) (ok_is (take n bytes, drop n bytes) y g.1) in
+      omega (arith, length-drop n bytes, length-take n bytes);
+}
+
+number_takes : (n : ℕ) → Takes (number_at n) (λ _. n)
+unfolding number_at
+number_takes n = record {
+  parts = λ bytes y e.
+      let m = bind_ok (chunk n bytes) (λ front. Ok (little_number n front.0, front.1)) y e in
+      let g = guard_ok (ltb (length bytes) n) Short (Ok (take n bytes, drop n bytes)) m.0 m.1 in
+      let long : n ≤ length bytes = ltb-false _ _ g.0 in
+      let rest : length (drop n bytes) ≡ length m.0.1 = ap (λ (p : List ℕ × List ℕ). length p.1) (ok_is (take n bytes, drop n bytes) m.0 g.1) in
+      let last : length m.0.1 ≡ length y.1 = ap (λ (p : ℕ × List ℕ). length p.1) (ok_is (little_number n m.0.0, m.0.1) y m.2) in
       omega (arith, length-drop n bytes);
 }
 
-number_leaves : (n : ℕ) → Leaves (number_at n)
-unfolding number_at
-number_leaves n = leaves_then (chunk n) (λ front bytes. Ok (little_number n front, bytes)) (chunk_leaves n) (λ front. leaves_now (little_number n front))
+abbrev behind_size : Frame → ℕ
+behind_size (Ask input) = 4 + length input
+behind_size (Become file None) = 2
+behind_size (Become file (Some held)) = 6 + length held
+behind_size (Reach moment) = 8
+behind_size (Clear db) = 1
+behind_size Stop = 0
 
-number_eats : (n : ℕ) → 0 < n → Eats (number_at n)
-unfolding number_at
-number_eats n pos = eats_then (chunk n) (λ front bytes. Ok (little_number n front, bytes)) (chunk_eats n pos) (λ front. leaves_now (little_number n front))
+abbrev marked_size : Option (List ℕ) → ℕ
+marked_size None = 0
+marked_size (Some held) = 4 + length held
 
-input_leaves : (size : ℕ) → Leaves (input_at size)
+abbrev held_size : Option (List ℕ) → ℕ
+held_size held = 1 + marked_size held
+
+input_takes : (size : ℕ) → Takes (input_at size) length
 unfolding input_at
-input_leaves size = leaves_guard (ltb input_limit size) NoFrame _ (leaves_then (chunk size) (λ input bytes. Ok (Ask input, bytes)) (chunk_leaves size) (λ input. leaves_now (Ask input)))
+input_takes size = takes_guard (ltb input_limit size) NoFrame (chunk size) length (chunk_takes size)
 
-ask_leaves : Leaves ask_at
+ask_takes : Takes ask_at (λ input. 4 + length input)
 unfolding ask_at
-ask_leaves = leaves_then (number_at 4) input_at (number_leaves 4) input_leaves
+ask_takes = takes_then 4 (number_at 4) input_at length (λ input. 4 + length input) (number_takes 4) input_takes (λ y. refl)
 
-held_leaves : (size : ℕ) → Leaves (held_at size)
+held_takes : (size : ℕ) → Takes (held_at size) length
 unfolding held_at
-held_leaves size = leaves_guard (ltb file_limit size) (LongFile size) _ (leaves_then (chunk size) (λ held bytes. Ok (Some held, bytes)) (chunk_leaves size) (λ held. leaves_now (Some held)))
+held_takes size = takes_guard (ltb file_limit size) (LongFile size) (chunk size) length (chunk_takes size)
 
-marked_leaves : (mark : ℕ) → Leaves (marked_at mark)
+present_takes : Takes present_at (λ held. 4 + length held)
+unfolding present_at
+present_takes = takes_then 4 (number_at 4) held_at length (λ held. 4 + length held) (number_takes 4) held_takes (λ y. refl)
+
+marked_takes : (mark : ℕ) → Takes (marked_at mark) marked_size
 unfolding marked_at
-marked_leaves mark =
-    leaves_choice (eqb mark 0) (λ bytes. Ok (None, bytes)) _ (leaves_now None)
-    (leaves_choice (eqb mark 1) (then (number_at 4) held_at) (λ bytes. Err NoFrame) (leaves_then (number_at 4) held_at (number_leaves 4) held_leaves) (leaves_refusal NoFrame))
+marked_takes mark =
+    takes_choice (eqb mark 0) (λ bytes. Ok (None, bytes)) _ marked_size (takes_now None marked_size refl)
+    (takes_choice (eqb mark 1) (made (λ held. Some held) present_at) (λ bytes. Err NoFrame) marked_size (takes_made present_at (λ held. Some held) (λ held. 4 + length held) marked_size present_takes (λ x. refl)) (takes_refusal NoFrame marked_size))
 
-bytes_leaves : Leaves bytes_at
+bytes_takes : Takes bytes_at held_size
 unfolding bytes_at
-bytes_leaves = leaves_then (number_at 1) marked_at (number_leaves 1) marked_leaves
+bytes_takes = takes_then 1 (number_at 1) marked_at marked_size held_size (number_takes 1) marked_takes (λ y. refl)
 
-become_leaves : (o : Option FileId) → Leaves (become o)
-become_leaves None = leaves_refusal NoFrame
-become_leaves (Some file) = leaves_then bytes_at (λ held bytes. Ok (Become file held, bytes)) bytes_leaves (λ held. leaves_now (Become file held))
+abbrev become_size : FileId × Option (List ℕ) → ℕ
+become_size p = held_size p.1
 
-file_leaves : Leaves file_at
+become_takes : (o : Option FileId) → Takes (become o) become_size
+become_takes None = takes_refusal NoFrame become_size
+become_takes (Some file) = takes_made bytes_at (λ held. (file, held)) held_size become_size bytes_takes (λ x. refl)
+
+file_takes : Takes file_at (λ p. 1 + become_size p)
 unfolding file_at
-file_leaves = leaves_then (number_at 1) (λ n. become (file_numbered n)) (number_leaves 1) (λ n. become_leaves (file_numbered n))
+file_takes = takes_then 1 (number_at 1) (λ n. become (file_numbered n)) become_size (λ p. 1 + become_size p) (number_takes 1) (λ n. become_takes (file_numbered n)) (λ y. refl)
 
-reach_leaves : Leaves reach_at
-unfolding reach_at
-reach_leaves = leaves_then (number_at 8) (λ moment bytes. Ok (Reach moment, bytes)) (number_leaves 8) (λ moment. leaves_now (Reach moment))
+become_sum : (file : FileId) (held : Option (List ℕ)) → 1 + held_size held ≡ behind_size (Become file held)
+become_sum file None = refl
+become_sum file (Some held) = omega arith
 
-cleared_leaves : (o : Option Db) → Leaves (cleared o)
-cleared_leaves None = leaves_refusal NoFrame
-cleared_leaves (Some db) = leaves_now (Clear db)
+cleared_takes : (o : Option Db) → Takes (cleared o) (λ db. 0)
+cleared_takes None = takes_refusal NoFrame (λ db. 0)
+cleared_takes (Some db) = takes_now db (λ db. 0) refl
 
-clear_leaves : Leaves clear_at
+clear_takes : Takes clear_at (λ db. 1)
 unfolding clear_at
-clear_leaves = leaves_then (number_at 1) (λ n. cleared (db_numbered n)) (number_leaves 1) (λ n. cleared_leaves (db_numbered n))
+clear_takes = takes_then 1 (number_at 1) (λ n. cleared (db_numbered n)) (λ db. 0) (λ db. 1) (number_takes 1) (λ n. cleared_takes (db_numbered n)) (λ y. refl)
 
-behind_leaves : (first : ℕ) → Leaves (behind first)
+behind_takes : (first : ℕ) → Takes (behind first) behind_size
 unfolding behind
-behind_leaves first =
-    leaves_choice (eqb first 81) ask_at _ ask_leaves
-    (leaves_choice (eqb first 70) file_at _ file_leaves
-    (leaves_choice (eqb first 84) reach_at _ reach_leaves
-    (leaves_choice (eqb first 73) clear_at _ clear_leaves
-    (leaves_choice (eqb first 69) (λ bytes. Ok (Stop, bytes)) (λ bytes. Err NoFrame) (leaves_now Stop) (leaves_refusal NoFrame)))))
+behind_takes first =
+    takes_choice (eqb first 81) (made Ask ask_at) _ behind_size (takes_made ask_at Ask (λ input. 4 + length input) behind_size ask_takes (λ x. refl))
+    (takes_choice (eqb first 70) (made (λ p. Become p.0 p.1) file_at) _ behind_size (takes_made file_at (λ p. Become p.0 p.1) (λ p. 1 + become_size p) behind_size file_takes (λ p. become_sum p.0 p.1))
+    (takes_choice (eqb first 84) (made Reach (number_at 8)) _ behind_size (takes_made (number_at 8) Reach (λ _. 8) behind_size (number_takes 8) (λ x. refl))
+    (takes_choice (eqb first 73) (made Clear clear_at) _ behind_size (takes_made clear_at Clear (λ db. 1) behind_size clear_takes (λ x. refl))
+    (takes_choice (eqb first 69) (λ bytes. Ok (Stop, bytes)) (λ bytes. Err NoFrame) behind_size (takes_now Stop behind_size refl) (takes_refusal NoFrame behind_size)))))
 
--- a frame takes at least one byte
-pub frame_eats : Eats frame_at
+frame_sum : (f : Frame) → 1 + behind_size f ≡ frame_size f
+frame_sum (Ask input) = omega arith
+frame_sum (Become file None) = refl
+frame_sum (Become file (Some held)) = omega arith
+frame_sum (Reach moment) = refl
+frame_sum (Clear db) = refl
+frame_sum Stop = refl
+
+-- a frame takes so many bytes
+pub frame_takes : Takes frame_at frame_size
 unfolding frame_at
-frame_eats = eats_then (number_at 1) behind (number_eats 1 (omega arith)) behind_leaves
+frame_takes = takes_then 1 (number_at 1) behind behind_size frame_size (number_takes 1) behind_takes frame_sum
+
+some_size : (f : Frame) → 0 < frame_size f
+some_size (Ask input) = omega arith
+some_size (Become file None) = omega arith
+some_size (Become file (Some held)) = omega arith
+some_size (Reach moment) = omega arith
+some_size (Clear db) = omega arith
+some_size Stop = omega arith
+
+-- a frame leaves fewer bytes than it was given
+pub frame_eats : (bytes : List ℕ) (x : Frame × List ℕ) → frame_at bytes ≡ Ok x → length x.1 < length bytes
+frame_eats bytes x e = let parts = frame_takes.parts bytes x e in let some : 0 < frame_size x.0 = some_size x.0 in omega arith
+
+-- a front that is a frame has the frame's size
+pub front_size : (front : List ℕ) (frame : Frame) → Finds frame_at front frame → length front ≡ frame_size frame
+front_size front frame found = let parts = frame_takes.parts (front ++ []) (frame, []) (found.whatever []) in omega (arith, length-append front [])

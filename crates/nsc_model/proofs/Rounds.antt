@@ -5,7 +5,7 @@ use Rattle.std.proofs.lemmas.List.{length-append}
 use Rattle.nsc_model.specs.Frames.{Frame, Ask, Become, Reach, Clear, Stop, Fault, Short, NoFrame, LongFile, number_at, frame_at, Finish, Done, Bad, Long, Spent, NotBuilt, place_limit, Cut, more_frames, fault_at, reached, cut_on, cut_from, cut_by, cut_at}
 use Rattle.nsc_model.specs.Fronts.{Finds, Refuses, IsPartial}
 use Rattle.nsc_model.specs.Replay.{State, Went, turn_of, Replayed, behind_output, play_on, play, replay_from}
-use Rattle.nsc_model.proofs.Parsers.{Parser, Eats, frame_eats}
+use Rattle.nsc_model.proofs.Parsers.{frame_eats}
 
 -- the same cut, whichever cuts the rest, where both cut the rest alike
 same_on : (next other : ℕ → List ℕ → Cut) (place : ℕ) (bytes : List ℕ) (frame : Frame) (rest : List ℕ) → ((p : ℕ) → next p rest ≡ other p rest) → cut_on next place bytes frame rest ≡ cut_on other place bytes frame rest
@@ -34,7 +34,7 @@ same_cut (suc n) zero place (x ∷ bytes) a b = absurd (omega arith)
 same_cut (suc n) (suc m) place bytes a b =
     ap (λ (c : Cut). cond (ltb place place_limit) c (record { frames = []; finish = Bad place }))
     (same_from (cut_by n) (cut_by m) place bytes (frame_at bytes) (λ x e p.
-    let fewer : length x.1 < length bytes = frame_eats.fewer bytes x e in
+    let fewer : length x.1 < length bytes = frame_eats bytes x e in
     same_cut n m p x.1 (omega arith) (omega arith)))
 
 -- ---- the first frame of a cut

@@ -2,9 +2,8 @@
 use Rattle.std.specs.Prelude.{ℕ, ◌+◌, ◌-◌, ◌^◌, ◌==◌, nat_lt, if◌then◌else◌, List, [], ◌∷◌, length, take, drop, Option, Some, None, Result, Ok, Err, zero, suc}
 use Rattle.byteorder.specs.Endian.{little_number}
 use Rattle.nsc_model.specs.declared.kind.Db.{Db}
-use Rattle.nsc_model.specs.declared.kind.Db.TheVariants as db
 use Rattle.nsc_model.specs.declared.kind.FileId.{FileId}
-use Rattle.nsc_model.specs.Kinds.{file_numbered}
+use Rattle.nsc_model.specs.Kinds.{db_numbered, file_numbered}
 use Rattle.nsc_model.specs.Files.{file_limit}
 
 -- a frame: the input of one connection, what a file becomes, a moment, an invalidation, the end of the replay
@@ -38,67 +37,73 @@ chunk n bytes = if nat_lt (length bytes) n then Err Short else Ok (take n bytes,
 unfoldable pub number_at : ℕ → List ℕ → Result (ℕ × List ℕ) Fault
 number_at n bytes = chunk n bytes >>= λ front. Ok (little_number n front.0, front.1)
 
+-- what is made of a piece
+abbrev pub made : {A B : Type 0} → (A → B) → (List ℕ → Result (A × List ℕ) Fault) → List ℕ → Result (B × List ℕ) Fault
+made make parser bytes = parser bytes >>= λ piece. Ok (make piece.0, piece.1)
+
 -- the input of a connection, of this many bytes
-unfoldable pub input_at : ℕ → List ℕ → Result (Frame × List ℕ) Fault
-input_at size bytes = if nat_lt input_limit size then Err NoFrame else (chunk size bytes >>= λ input. Ok (Ask input.0, input.1))
+unfoldable pub input_at : ℕ → List ℕ → Result (List ℕ × List ℕ) Fault
+input_at size bytes = if nat_lt input_limit size then Err NoFrame else chunk size bytes
 
 -- behind a Q: a length of four bytes, and so many bytes
-unfoldable pub ask_at : List ℕ → Result (Frame × List ℕ) Fault
+unfoldable pub ask_at : List ℕ → Result (List ℕ × List ℕ) Fault
 ask_at bytes = number_at 4 bytes >>= λ size. input_at size.0 size.1
 
 -- the bytes of a file, of this many bytes
-unfoldable pub held_at : ℕ → List ℕ → Result (Option (List ℕ) × List ℕ) Fault
-held_at size bytes = if nat_lt file_limit size then Err (LongFile size) else (chunk size bytes >>= λ held. Ok (Some held.0, held.1))
+unfoldable pub held_at : ℕ → List ℕ → Result (List ℕ × List ℕ) Fault
+held_at size bytes = if nat_lt file_limit size then Err (LongFile size) else chunk size bytes
 
--- behind a byte 0 nothing: the file is absent; behind a byte 1 a length of four bytes, and so many bytes
+-- a length of four bytes, and so many bytes of a file
+unfoldable pub present_at : List ℕ → Result (List ℕ × List ℕ) Fault
+present_at bytes = number_at 4 bytes >>= λ size. held_at size.0 size.1
+
+-- behind a byte 0 nothing: the file is absent; behind a byte 1 its bytes
 unfoldable pub marked_at : ℕ → List ℕ → Result (Option (List ℕ) × List ℕ) Fault
 marked_at mark bytes =
     if mark == 0 then Ok (None, bytes) else (
-    if mark == 1 then (number_at 4 bytes >>= λ size. held_at size.0 size.1) else Err NoFrame)
+    if mark == 1 then made (λ held. Some held) present_at bytes else Err NoFrame)
 
 -- what a file becomes
 unfoldable pub bytes_at : List ℕ → Result (Option (List ℕ) × List ℕ) Fault
 bytes_at bytes = number_at 1 bytes >>= λ mark. marked_at mark.0 mark.1
 
-abbrev pub become : Option FileId → List ℕ → Result (Frame × List ℕ) Fault
+abbrev pub become : Option FileId → List ℕ → Result ((FileId × Option (List ℕ)) × List ℕ) Fault
 become None rest = Err NoFrame
-become (Some file) rest = bytes_at rest >>= λ held. Ok (Become file held.0, held.1)
+become (Some file) rest = made (λ held. (file, held)) bytes_at rest
 
 -- behind an F: the number of a file, and what it becomes
-unfoldable pub file_at : List ℕ → Result (Frame × List ℕ) Fault
+unfoldable pub file_at : List ℕ → Result ((FileId × Option (List ℕ)) × List ℕ) Fault
 file_at bytes = number_at 1 bytes >>= λ number. become (file_numbered number.0) number.1
 
--- behind a T: a moment of eight bytes
-unfoldable pub reach_at : List ℕ → Result (Frame × List ℕ) Fault
-reach_at bytes = number_at 8 bytes >>= λ moment. Ok (Reach moment.0, moment.1)
-
-abbrev pub db_numbered : ℕ → Option Db
-db_numbered n =
-    if n == 0 then Some db.Passwd else (
-    if n == 1 then Some db.Group else (
-    if n == 2 then Some db.Hosts else (
-    if n == 3 then Some db.Services else None)))
-
-abbrev pub cleared : Option Db → List ℕ → Result (Frame × List ℕ) Fault
+abbrev pub cleared : Option Db → List ℕ → Result (Db × List ℕ) Fault
 cleared None rest = Err NoFrame
-cleared (Some db) rest = Ok (Clear db, rest)
+cleared (Some db) rest = Ok (db, rest)
 
 -- behind an I: the number of a database
-unfoldable pub clear_at : List ℕ → Result (Frame × List ℕ) Fault
+unfoldable pub clear_at : List ℕ → Result (Db × List ℕ) Fault
 clear_at bytes = number_at 1 bytes >>= λ number. cleared (db_numbered number.0) number.1
 
--- what stands behind the first byte of a frame: Q, F, T, I or E
+-- what stands behind the first byte of a frame: Q, F, T, with a moment of eight bytes, I or E
 unfoldable pub behind : ℕ → List ℕ → Result (Frame × List ℕ) Fault
 behind first rest =
-    if first == 81 then ask_at rest else (
-    if first == 70 then file_at rest else (
-    if first == 84 then reach_at rest else (
-    if first == 73 then clear_at rest else (
+    if first == 81 then made Ask ask_at rest else (
+    if first == 70 then made (λ p. Become p.0 p.1) file_at rest else (
+    if first == 84 then made Reach (number_at 8) rest else (
+    if first == 73 then made Clear clear_at rest else (
     if first == 69 then Ok (Stop, rest) else Err NoFrame))))
 
 -- the frame at the front of the bytes, and what stands behind it
 unfoldable pub frame_at : List ℕ → Result (Frame × List ℕ) Fault
 frame_at bytes = number_at 1 bytes >>= λ first. behind first.0 first.1
+
+-- how many bytes a frame takes
+abbrev pub frame_size : Frame → ℕ
+frame_size (Ask input) = 5 + length input
+frame_size (Become file None) = 3
+frame_size (Become file (Some held)) = 7 + length held
+frame_size (Reach moment) = 9
+frame_size (Clear db) = 2
+frame_size Stop = 1
 
 -- how a replay ends: behind its first E; at the place where bytes are no frame or end inside one; at a file that is too
 -- long; at a count that stands at its end; at a frame that is not built yet

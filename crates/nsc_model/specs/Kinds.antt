@@ -24,6 +24,14 @@ database_of InitGroups = db.Group
 database_of ServName = db.Services
 database_of ServPort = db.Services
 
+-- the database of a number in replay frames
+abbrev pub db_numbered : ℕ → Option Db
+db_numbered n =
+    if n == 0 then Some db.Passwd else (
+    if n == 1 then Some db.Group else (
+    if n == 2 then Some db.Hosts else (
+    if n == 3 then Some db.Services else None)))
+
 -- the request type of a kind
 abbrev pub type_number : Kind → ℕ
 type_number PwName = 0

@@ -1,5 +1,5 @@
 ghost use Rattle.std.specs.Prelude.{◌≡◌};
-ghost use Rattle.nsc_model.specs.Kinds.{database_of, file_numbered, file_number, kind_numbered, type_number};
+ghost use Rattle.nsc_model.specs.Kinds.{database_of, db_numbered, file_numbered, file_number, kind_numbered, type_number};
 
 /// A database of the name service: each has its own files, cache and settings.
 #[derive(Clone, Copy, Debug, PartialEq, Eq)]
@@ -64,6 +64,19 @@ pub enum FileId {
 }
 
 impl Db {
+    /// The database of this number in replay frames: passwd, group, hosts and services are 0 to 3; `None` above 3.
+    pub fn numbered(number: u8) -> Option<Db>
+        ensures { result ≡ db_numbered number }
+    {
+        match number {
+            0 => Some(Db::Passwd),
+            1 => Some(Db::Group),
+            2 => Some(Db::Hosts),
+            3 => Some(Db::Services),
+            _ => None,
+        }
+    }
+
     /// The database that answers look-ups of this kind.
     pub fn of(kind: Kind) -> Db
         ensures { result ≡ database_of kind }

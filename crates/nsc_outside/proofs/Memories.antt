@@ -1,5 +1,5 @@
 -- What streams in memory do.
-use Rattle.std.proofs.Common.{◌≡◌, ℕ, ◌+◌, ◌-◌, ◌≤◌, ◌⊎◌, List, ◌++◌, length, take, drop, Some, refl, sym, ◌∙◌, ap, arith}
+use Rattle.std.proofs.Common.{◌≡◌, ℕ, ◌+◌, ◌-◌, ◌≤◌, List, ◌++◌, length, take, drop, Some, refl, sym, ◌∙◌, ap, arith}
 use Rattle.std.proofs.lemmas.List.{places, take-append-drop, take_at, drop-drop}
 use Rattle.nsc_outside.specs.Stream.{greatest, Rose, Moves}
 use Rattle.nsc_outside.specs.Memory.{risen}

@@ -4,7 +4,8 @@ ghost use Rattle.nsc_outside.specs.Memory.{Basin, after_call, after_fault, is_ne
 
 use crate::plan::Plan;
 use crate::stream::{Failed, Sink};
-use std::alloc::{AllocError, Global};
+use nsc_base::NoMemory;
+use std::alloc::Global;
 use std::marker::Model;
 
 /// A sink in memory, seen in contracts as what it took, how many bytes more it can take, and how its calls go.
@@ -30,7 +31,7 @@ impl Model for MemSink {
 impl MemSink {
     /// A sink with room for this many bytes, for which the memory is taken here: a call takes all bytes, and fails only
     /// for want of room. Fails only for want of memory.
-    pub fn new(alloc: Global, room: usize) -> Result<MemSink, AllocError>
+    pub fn new(alloc: Global, room: usize) -> Result<MemSink, NoMemory>
         ensures { IfOk result (λ sink. sink ≡ record { taken = []; room = room; course = record { step = usize.MAX; failing = []; calls = 0; faults = 0 } }) }
     {
         Ok(MemSink {

@@ -1,5 +1,5 @@
 ghost use Rattle.std.specs.Prelude.{◌≡◌, ◌<◌, ◌≤◌, length, take, IfOk, OnOk, OnErr};
-ghost use Rattle.std.specs.Io.KnownBytes.{Keeps, Consumes, Appends};
+ghost use Rattle.std.specs.Io.KnownBytes.{Keeps, Consumes, Appends, IsAtEnd};
 ghost use Rattle.nsc_outside.specs.Stream.{Rose};
 
 use crate::stream::{Failed, Sink, Source};
@@ -54,6 +54,7 @@ impl<R: Read> Source for StdSource<R> {
 
         // What the reader tells.
         ensures consumed { IfOk result (λ n. Consumes self.old.bytes self.new.bytes (take n buf.new)) }
+        ensures at_end { IfOk result (λ n. n ≡ 0 → 0 < length buf.old → IsAtEnd self.new.bytes) }
         ensures kept { OnErr result (Keeps self.old.bytes self.new.bytes) }
     {
         let Ok(count) = self.reader.read(buf) else {

@@ -17,7 +17,7 @@ pub trait Source {
     ghost faults: { Self → ℕ };
 
     /// Fills the front of `buf` with the next bytes, as many as the source has at hand, and gives their number:
-    /// 0 only if `buf` is empty or the source has ended. On `Failed` no byte is lost.
+    /// 0 only if `buf` is empty or the source has ended. On `Failed` no byte is lost, where the source tells what is left.
     fn read(&mut self, buf: &mut [u8]) -> Result<usize, Failed>
         ensures count { IfOk result (λ n. n ≤ length buf.old) }
         ensures moved { IfOk result (λ n. Moves (left self.old) (left self.new) (take n buf.new)) }
@@ -36,7 +36,7 @@ pub trait Sink {
     ghost faults: { Self → ℕ };
 
     /// Takes bytes from the front of `bytes` and gives their number, at least 1 if there is one.
-    /// On `Failed` none is taken.
+    /// On `Failed` none is taken, where the sink tells what it took.
     fn write(&mut self, bytes: &[u8]) -> Result<usize, Failed>
         ensures count { IfOk result (λ n. n ≤ length bytes.now) }
         ensures some { IfOk result (λ n. 0 < length bytes.now → 0 < n) }

@@ -15,6 +15,10 @@ fn read_slowly(rt: &HostRuntime, source: &mut MemSource) -> Result<(Vec<u8>, Vec
     Ok((came, failed))
 }
 
+fn sink_of(rt: &HostRuntime, room: usize) -> Result<MemSink, Fail> {
+    Ok(MemSink::new(rt.alloc(), room).ok().ok_or("no memory")?)
+}
+
 #[test]
 fn source_in_memory(rt: HostRuntime) -> Result<(), Fail> {
     let text = b"All human beings are born free and equal in dignity.";
@@ -39,9 +43,7 @@ fn source_in_memory(rt: HostRuntime) -> Result<(), Fail> {
 #[test]
 fn sink_in_memory(rt: HostRuntime) -> Result<(), Fail> {
     let failing = Vec::from_slice(rt.alloc(), &[1])?;
-    let mut sink = MemSink::new(rt.alloc(), 3)?
-        .with_step(1)
-        .failing_at(failing);
+    let mut sink = sink_of(&rt, 3)?.with_step(1).failing_at(failing);
     let answers = [Err(Failed), Ok(1), Ok(0), Ok(1), Ok(1), Err(Failed)];
     let calls: [&[u8]; 6] = [b"ab", b"ab", b"", b"xy", b"z", b"!"];
     for (bytes, answer) in calls.iter().zip(answers) {
@@ -50,7 +52,7 @@ fn sink_in_memory(rt: HostRuntime) -> Result<(), Fail> {
     assert_eq!(rt; sink.taken(), b"axz".as_slice());
     assert_eq!(rt; sink.faults(), 2);
 
-    let mut tight = MemSink::new(rt.alloc(), 3)?;
+    let mut tight = sink_of(&rt, 3)?;
     assert_eq!(rt; tight.write(b"four"), Err(Failed));
     assert_eq!(rt; tight.write(b"two"), Ok(3));
     assert_eq!(rt; tight.taken(), b"two".as_slice());
@@ -82,9 +84,7 @@ fn filling(rt: HostRuntime) -> Result<(), Fail> {
 #[test]
 fn writing_all(rt: HostRuntime) -> Result<(), Fail> {
     let failing = Vec::from_slice(rt.alloc(), &[5])?;
-    let mut sink = MemSink::new(rt.alloc(), 16)?
-        .with_step(3)
-        .failing_at(failing);
+    let mut sink = sink_of(&rt, 16)?.with_step(3).failing_at(failing);
     assert_eq!(rt; write_all(&mut sink, b"seven.."), Ok(()));
     assert_eq!(rt; write_all(&mut sink, b""), Ok(()));
     assert_eq!(rt; write_all(&mut sink, b"-behind"), Err(Failed));

@@ -47,98 +47,35 @@ fn replies(rt: HostRuntime) -> Result<(), Fail> {
     Ok(())
 }
 
-// What each type asks, by the key of five bytes: letter, zero, two letters, zero.
-const TYPES: [(u8, Wire); 23] = [
-    (
-        0,
-        Wire::Request {
-            kind: Kind::PwName,
-            key: TEXT,
-        },
-    ),
-    (
-        1,
-        Wire::Request {
-            kind: Kind::PwUid,
-            key: TEXT,
-        },
-    ),
-    (
-        2,
-        Wire::Request {
-            kind: Kind::GrName,
-            key: TEXT,
-        },
-    ),
-    (
-        3,
-        Wire::Request {
-            kind: Kind::GrGid,
-            key: TEXT,
-        },
-    ),
-    (
-        4,
-        Wire::Request {
-            kind: Kind::HostName,
-            key: TEXT,
-        },
-    ),
-    (
-        5,
-        Wire::Request {
-            kind: Kind::HostName6,
-            key: TEXT,
-        },
-    ),
-    (
-        6,
-        Wire::Request {
-            kind: Kind::HostAddr,
-            key: WHOLE,
-        },
-    ),
-    (
-        7,
-        Wire::Request {
-            kind: Kind::HostAddr6,
-            key: WHOLE,
-        },
-    ),
+// The kind of each type that is a look-up, and where its key ends when it is `r`, a zero byte, `ot`, a zero byte.
+const LOOK_UPS: [(u8, Kind, usize); 12] = [
+    (0, Kind::PwName, 13),
+    (1, Kind::PwUid, 13),
+    (2, Kind::GrName, 13),
+    (3, Kind::GrGid, 13),
+    (4, Kind::HostName, 13),
+    (5, Kind::HostName6, 13),
+    (6, Kind::HostAddr, 17),
+    (7, Kind::HostAddr6, 17),
+    (14, Kind::Ai, 13),
+    (15, Kind::InitGroups, 13),
+    (16, Kind::ServName, 13),
+    (17, Kind::ServPort, 13),
+];
+
+// What the other types ask, with the same key.
+const OTHERS: [(u8, Wire); 11] = [
     (8, Wire::Shutdown),
     (9, Wire::Stat),
-    (10, Wire::Invalidate { key: TEXT }),
+    (
+        10,
+        Wire::Invalidate {
+            key: Span { from: 12, to: 13 },
+        },
+    ),
     (11, Wire::Descriptor),
     (12, Wire::Descriptor),
     (13, Wire::Descriptor),
-    (
-        14,
-        Wire::Request {
-            kind: Kind::Ai,
-            key: TEXT,
-        },
-    ),
-    (
-        15,
-        Wire::Request {
-            kind: Kind::InitGroups,
-            key: TEXT,
-        },
-    ),
-    (
-        16,
-        Wire::Request {
-            kind: Kind::ServName,
-            key: TEXT,
-        },
-    ),
-    (
-        17,
-        Wire::Request {
-            kind: Kind::ServPort,
-            key: TEXT,
-        },
-    ),
     (18, Wire::Descriptor),
     (19, Wire::Netgroup),
     (20, Wire::Netgroup),
@@ -146,19 +83,32 @@ const TYPES: [(u8, Wire); 23] = [
     (22, Wire::BadType(22)),
 ];
 
-const TEXT: Span = Span { from: 12, to: 13 };
-
-const WHOLE: Span = Span { from: 12, to: 17 };
-
 #[test]
 fn types(rt: HostRuntime) {
     let mut bytes = *b"\x02\0\0\0\0\0\0\0\x05\0\0\0r\0ot\0";
-    for (number, wire) in &TYPES {
+    for (number, kind, to) in &LOOK_UPS {
+        bytes[4] = *number;
+        assert_eq!(rt;
+            read_request(&bytes),
+            look_up(*kind, *to),
+            "of type {number}"
+        );
+    }
+    for (number, wire) in &OTHERS {
         bytes[4] = *number;
         assert_eq!(rt; read_request(&bytes), *wire, "of type {number}");
     }
 }
 
+// A look-up whose key ends at this place.
+fn look_up(kind: Kind, to: usize) -> Wire {
+    Wire::Request {
+        kind,
+        key: Span { from: 12, to },
+    }
+}
+
+// Requests for a user's name, and the place where the key ends.
 const KEYS: [(&[u8], usize); 5] = [
     (b"\x02\0\0\0\0\0\0\0\x05\0\0\0root\0", 16),
     (b"\x02\0\0\0\0\0\0\0\x04\0\0\0root", 16),
@@ -170,18 +120,15 @@ const KEYS: [(&[u8], usize); 5] = [
 #[test]
 fn keys(rt: HostRuntime) {
     for (bytes, to) in &KEYS {
-        assert_eq!(rt; read_request(bytes), user(*to), "at {bytes:?}");
+        assert_eq!(rt;
+            read_request(bytes),
+            look_up(Kind::PwName, *to),
+            "at {bytes:?}"
+        );
     }
     let mut bytes = [b'a'; 1036];
     bytes[..12].copy_from_slice(b"\x02\0\0\0\0\0\0\0\0\x04\0\0");
-    assert_eq!(rt; read_request(&bytes), user(1036));
-}
-
-fn user(to: usize) -> Wire {
-    Wire::Request {
-        kind: Kind::PwName,
-        key: Span { from: 12, to },
-    }
+    assert_eq!(rt; read_request(&bytes), look_up(Kind::PwName, 1036));
 }
 
 const FAULTS: [(&[u8], Wire); 10] = [

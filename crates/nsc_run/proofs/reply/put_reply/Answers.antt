@@ -1,0 +1,9 @@
+use Rattle.std.proofs.Common.{◌++◌}
+use Rattle.std.proofs.lemmas.Result.{err_from_is_err_and}
+use Rattle.nsc_run.proofs.Outputs.{front_more}
+use Rattle.nsc_run.proofs.reply.put_reply.Goals as goal
+
+pub returns-in_err-write_all-clause-front : goal.returns-in_err-write_all-clause-front
+returns-in_err-write_all-clause-front g c =
+    let p = err_from_is_err_and c.from_residual.result c.from_residual.ensures.1 in
+    rw p.1 (front_more (g.K.Sink.taken c.args.output.now) (g.K.Sink.taken c.write_all.new.output) _ c.args.reply.now c.in_err-write_all.ensures.front)

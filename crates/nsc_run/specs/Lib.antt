@@ -1,0 +1,4 @@
+pub mod Exits
+pub mod Reading
+pub mod Turns
+pub mod Runs
