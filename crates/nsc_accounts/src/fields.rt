@@ -1,7 +1,6 @@
-ghost use Rattle.std.specs.Prelude.{◌≡◌, ◌≤◌, ◌↔◌, IfSome, IsTrue, length, map, drop, ◌++◌, ◌∷◌, List, ℕ};
+ghost use Rattle.std.specs.Prelude.{◌≡◌, ◌≤◌, All, IfSome, drop, length, map};
 ghost use Rattle.std.specs.Option.{option_map};
-ghost use Rattle.std.specs.Prelude.{All};
-ghost use Rattle.nsc_base.specs.Text.{fields_of, is_white, part};
+ghost use Rattle.nsc_base.specs.Text.{fields_of, part};
 ghost use Rattle.nsc_model.specs.Users.{has_zero, is_name, trimmed};
 ghost use Rattle.nsc_accounts.specs.Fields.{exactly};
 ghost use Rattle.nsc_accounts.specs.Passwd.{LiesIn};

@@ -1,9 +1,9 @@
-ghost use Rattle.std.specs.Prelude.{◌≡◌, ◌≤◌, ◌↔◌, ◌++◌, ◌∷◌, ℕ, List, IfSome, IsTrue, length, drop, filter};
+ghost use Rattle.std.specs.Prelude.{◌≡◌, ◌≤◌, ◌↔◌, ◌++◌, ◌∷◌, ℕ, List, IfSome, IsTrue, length};
 ghost use Rattle.std.specs.Option.{option_map};
 ghost use Rattle.std.specs.Str.{bytes_eq};
 ghost use Rattle.nsc_base.specs.Text.{part};
-ghost use Rattle.nsc_model.specs.Users.{user_of_line, users_of};
-ghost use Rattle.nsc_accounts.specs.First.{first_named, first_of, if_named};
+ghost use Rattle.nsc_model.specs.Users.{user_of_line};
+ghost use Rattle.nsc_accounts.specs.First.{first_named, if_named};
 ghost use Rattle.nsc_accounts.specs.Passwd.{UserLiesIn, user_at};
 
 use crate::fields::white_front;

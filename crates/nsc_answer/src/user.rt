@@ -1,7 +1,5 @@
 ghost use Rattle.std.specs.Prelude.{◌≡◌, ◌≤◌, length, IfOk, Some};
-ghost use Rattle.nsc_base.specs.Text.{part};
 ghost use Rattle.nsc_model.specs.declared.kind.Kind.TheVariants.{PwName};
-ghost use Rattle.nsc_model.specs.declared.row.Row.TheVariants.{Passwd as a_user};
 ghost use Rattle.nsc_model.specs.Answers.{user_answer};
 ghost use Rattle.nsc_model.specs.Files.{file_limit};
 ghost use Rattle.nsc_accounts.specs.Passwd.{UserLiesIn, user_at};
@@ -27,7 +25,7 @@ pub fn user_by_name(alloc: Global, text: &[u8], name: &[u8]) -> Result<Looked, N
 // The row of a user whose entry stands at these places of a text.
 fn user_row(alloc: Global, text: &[u8], at: &PasswdAt) -> Result<Row, NoMemory>
     requires { UserLiesIn (record { from = 0; to = length text.now }) at.now }
-    ensures { IfOk result (λ row. row ≡ a_user (user_at text.now at.now)) }
+    ensures { IfOk result (λ row. row ≡ Row.Passwd (user_at text.now at.now)) }
 {
     Ok(Row::Passwd(Passwd {
         name: Bytes::copy(alloc, &text[at.name.from..at.name.to])?,
