@@ -1,0 +1,5 @@
+pub mod Zeros
+pub mod Begins
+pub mod Counts
+pub mod Named
+pub mod Entries

@@ -1,0 +1,59 @@
+ghost use Rattle.std.specs.Prelude.{◌≡◌, ◌≤◌, All, IfSome, drop, length, map};
+ghost use Rattle.std.specs.Option.{option_map};
+ghost use Rattle.nsc_base.specs.Text.{fields_of, part};
+ghost use Rattle.nsc_model.specs.Users.{has_zero, is_name, trimmed};
+ghost use Rattle.nsc_accounts.specs.Fields.{exactly};
+ghost use Rattle.nsc_accounts.specs.Passwd.{LiesIn};
+
+use memchr::memchr;
+use nsc_base::{Span, field_at};
+
+/// Whether a byte is 0.
+pub fn has_zero_byte(bytes: &[u8]) -> bool
+    ensures { result ≡ has_zero bytes.now }
+{
+    memchr(0, bytes).is_some()
+}
+
+/// How many bytes of white space stand at the front: blanks and tabs.
+pub fn white_front(bytes: &[u8]) -> usize
+    ensures within { result ≤ length bytes.now }
+    ensures rest { drop result bytes.now ≡ trimmed bytes.now }
+{
+    for (i, byte) in bytes.iter().enumerate() {
+        if *byte != b' ' && *byte != b'\t' {
+            return i;
+        }
+    }
+    bytes.len()
+}
+
+/// Whether a text may be a name: it is not empty, and begins with none of `#`, `+` and `-`.
+pub fn may_be_name(text: &[u8]) -> bool
+    ensures { result ≡ is_name text.now }
+{
+    match text {
+        [] => false,
+        [first, ..] => *first != b'#' && *first != b'+' && *first != b'-',
+    }
+}
+
+/// The fields of a part of a text, between its colons, where there are exactly `N`.
+pub fn fields<const N: usize>(text: &[u8], within: Span) -> Option<[Span; N]>
+    requires ordered { within.from ≤ within.to }
+    requires inside { within.to ≤ length text.now }
+    ensures fields { option_map (map (part text.now)) result ≡ exactly N (fields_of 58 (part text.now within)) }
+    ensures inside { IfSome result (All (LiesIn within)) }
+{
+    let mut spans = [Span { from: 0, to: 0 }; N];
+    let mut from = within.from;
+    for span in spans.iter_mut() {
+        let field = field_at(text, within, from, b':')?;
+        *span = field.span;
+        from = field.next;
+    }
+    if from <= within.to {
+        return None;
+    }
+    Some(spans)
+}

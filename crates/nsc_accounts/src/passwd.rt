@@ -1,0 +1,73 @@
+ghost use Rattle.std.specs.Prelude.{◌≡◌, ◌≤◌, All, IfSome, length, map};
+ghost use Rattle.std.specs.Option.{option_map};
+ghost use Rattle.nsc_base.specs.declared.span.Span.{Span};
+ghost use Rattle.nsc_base.specs.Text.{part};
+ghost use Rattle.nsc_model.specs.Users.{user_of_fields, user_of_line};
+ghost use Rattle.nsc_accounts.specs.Passwd.{LiesIn, UserLiesIn, user_at};
+
+use crate::fields::{fields, has_zero_byte, may_be_name, white_front};
+use nsc_base::{Span, decimal};
+
+/// Where the texts of a user's entry stand in a text, and its ids.
+#[derive(Clone, Copy, Debug, PartialEq, Eq)]
+pub struct PasswdAt {
+    /// The login name.
+    pub name: Span,
+    /// The password field.
+    pub passwd: Span,
+    /// The user's id.
+    pub uid: u32,
+    /// The id of the user's primary group.
+    pub gid: u32,
+    /// The user's full name and the like.
+    pub gecos: Span,
+    /// The home directory.
+    pub dir: Span,
+    /// The login shell.
+    pub shell: Span,
+}
+
+/// The entry of a line of a passwd file, passwd(5), as places in the text: `name:passwd:uid:gid:gecos:dir:shell`. Blanks
+/// and tabs at the front of the line do not count. `None` where the line lacks the form: it has more or fewer than seven
+/// fields, a zero byte, an id that is not a decimal number below 2^32, or a name that is empty or begins with `#`, `+`
+/// or `-`. Takes no memory.
+pub fn passwd_line(text: &[u8], line: Span) -> Option<PasswdAt>
+    requires ordered { line.from ≤ line.to }
+    requires inside { line.to ≤ length text.now }
+    ensures entry { option_map (user_at text.now) result ≡ user_of_line (part text.now line) }
+    ensures inside { IfSome result (UserLiesIn line) }
+{
+    let bytes = &text[line.from..line.to];
+    if has_zero_byte(bytes) {
+        return None;
+    }
+    let black = Span {
+        from: line.from + white_front(bytes),
+        to: line.to,
+    };
+    entry_of(text, fields::<7>(text, black)?)
+}
+
+// The entry of seven fields, where the first may be a name and the ids are numbers. What the fields lie in, the entry
+// lies in.
+fn entry_of(text: &[u8], fields: [Span; 7]) -> Option<PasswdAt>
+    requires { All (LiesIn (record { from = 0; to = length text.now })) fields }
+    ensures entry { option_map (user_at text.now) result ≡ user_of_fields (map (part text.now) fields) }
+    ensures inside { IfSome result (λ at. (within : Span) → All (LiesIn within) fields → UserLiesIn within at) }
+{
+    let [name, passwd, uid, gid, gecos, dir, shell] = fields;
+    if !may_be_name(&text[name.from..name.to]) {
+        return None;
+    }
+    let uid = decimal(&text[uid.from..uid.to])?;
+    let gid = decimal(&text[gid.from..gid.to])?;
+    Some(PasswdAt {
+        name,
+        passwd,
+        uid,
+        gid,
+        gecos,
+        dir,
+        shell,
+    })
+}

@@ -1,0 +1,53 @@
+ghost use Rattle.std.specs.Prelude.{◌≡◌, IfOk};
+ghost use Rattle.std.specs.Arc.{arc_value};
+ghost use Rattle.nsc_model.specs.Answers.{marked};
+ghost use Rattle.nsc_answer.specs.Sendable.{Sendable};
+
+use crate::look::look_up;
+use nsc_base::NoMemory;
+use nsc_model::{Answer, Answerer, Content, Kind, Looked};
+use nsc_wire::{Reply, encode};
+use std::alloc::Global;
+use std::sync::Arc;
+
+/// Answers over the content itself: each request reads the files anew.
+#[derive(Clone, Copy, Debug)]
+pub struct Plain;
+
+impl Answerer for Plain {
+    type Ready = Arc<Content>;
+
+    ghost prepared_from = { λ ready. arc_value ready };
+
+    fn prepare(&self, _alloc: Global, content: Arc<Content>) -> Result<Arc<Content>, NoMemory> {
+        Ok(content)
+    }
+
+    fn content<'a>(&self, ready: &'a Arc<Content>) -> &'a Arc<Content> {
+        ready
+    }
+
+    fn answer(
+        &self,
+        alloc: Global,
+        ready: &Arc<Content>,
+        kind: Kind,
+        key: &[u8],
+    ) -> Result<Answer, NoMemory> {
+        let looked = look_up(alloc, ready, kind, key)?;
+        answer_with(alloc, kind, looked)
+    }
+}
+
+// The answer that an outcome gives: a reply, and a mark where nothing was found.
+fn answer_with(alloc: Global, kind: Kind, looked: Looked) -> Result<Answer, NoMemory>
+    requires { Sendable kind looked }
+    ensures { IfOk result (λ answer. answer ≡ marked kind looked) }
+{
+    let (reply, not_found) = match looked {
+        Looked::Found(row) => (Reply::Found(row), false),
+        Looked::NotFound | Looked::Unavail => (Reply::Absent, true),
+    };
+    let bytes = encode(alloc, kind, &reply)?;
+    Ok(Answer::new(bytes, not_found))
+}
