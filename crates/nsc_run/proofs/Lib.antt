@@ -3,3 +3,4 @@ pub mod Firsts
 pub mod Outputs
 pub mod OneRound
 pub mod Chains
+pub mod Ends

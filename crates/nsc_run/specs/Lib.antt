@@ -2,3 +2,4 @@ pub mod Exits
 pub mod Reading
 pub mod Turns
 pub mod Runs
+pub mod Commands

@@ -1,6 +1,7 @@
 //! The program: its command words, the replay of frames, and how it ends.
 #![tactic(auto)]
 
+mod command;
 mod exit;
 mod frame;
 mod halt;
@@ -10,5 +11,6 @@ mod reading;
 mod reply;
 mod rounds;
 
+pub use command::run;
 pub use exit::Exit;
 pub use rounds::replay;
