@@ -16,6 +16,19 @@ legal_tail (Load e) s before h = h.0
 legal_tail (End n cause) s before h = h.0
 legal_tail (Invalid n) s before h = h.0
 
+behind : (r : Record) (before : List Record) → before ≢ [] → Legal (r ∷ before) → Legal before
+behind r [] more l = absurd (more refl)
+behind r (s ∷ before) more l = legal_tail r s before l
+
+more_behind : (more seen : List Record) → seen ≢ [] → more ++ seen ≢ []
+more_behind [] seen holds e = holds e
+more_behind (r ∷ more) seen holds e = absurd cc
+
+-- what a history was at an earlier moment was legal then
+pub prefix_legal : (more seen : List Record) → seen ≢ [] → Legal (more ++ seen) → Legal seen
+prefix_legal [] seen holds l = l
+prefix_legal (r ∷ more) seen holds l = prefix_legal more seen holds (behind r (more ++ seen) (more_behind more seen holds) l)
+
 -- an entry that was inserted has a number below the count of entries
 pub load_below : (h : List Record) (e : Fixed) → Legal h → HasLoad h e → e.number < loads h
 load_below [] e l a = absurd a

@@ -1,11 +1,11 @@
 //! The laws of the definitions: theorems over whole histories, each the contract of a function with no body.
 
-ghost use Rattle.std.specs.Prelude.{◌≡◌, ℕ, List, [], ◌∷◌, ◌++◌, Ok};
+ghost use Rattle.std.specs.Prelude.{◌≡◌, ◌≢◌, ℕ, List, [], ◌∷◌, ◌++◌, Ok};
 ghost use Rattle.nsc_model.specs.declared.answer.Request.{Request};
 ghost use Rattle.nsc_model.specs.declared.record.Record.{Record};
 ghost use Rattle.nsc_model.specs.declared.record.Record.TheVariants.{Change};
 ghost use Rattle.nsc_model.specs.Files.{Files};
-ghost use Rattle.nsc_model.specs.History.{Answered};
+ghost use Rattle.nsc_model.specs.History.{Legal, Answered};
 ghost use Rattle.nsc_model.specs.Machine.{Lives, Cache, Turn, new_cache, look_up};
 ghost use Rattle.nsc_model.specs.Calls.{Tells, Call, EachAnswered};
 
@@ -22,4 +22,9 @@ pub fn each_look_up_is_answered()
 /// reply is an answer to its request, for a caller that had seen the whole history before the look-up.
 pub fn runs_are_answered()
     ensures { (lives : Lives) (files : Files) (calls : List Call) → EachAnswered lives calls (new_cache files) (Change 0 files ∷ []) }
+{}
+
+/// What a legal history was at any earlier moment, from its first record on, was a legal history.
+pub fn prefixes_are_legal()
+    ensures { (more seen : List Record) → seen ≢ [] → Legal (more ++ seen) → Legal seen }
 {}
