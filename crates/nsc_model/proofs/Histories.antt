@@ -1,12 +1,9 @@
 -- Facts on histories: numbers of entries, and what a poll and a load add.
-use Rattle.std.proofs.Common.{◌≡◌, ◌≢◌, ℕ, zero, suc, ◌+◌, ◌<◌, ◌≤◌, Bool, true, false, cond, eqb, List, [], ◌∷◌, ◌++◌, length, Option, Some, None, refl, sym, ap, subst, ◌∙◌, arith, inl, inr, rules}
-use Rattle.std.specs.Prelude.{◌⊎◌}
-use Rattle.nsc_model.specs.declared.answer.Request.{Request}
+use Rattle.std.proofs.Common.{◌≡◌, ◌≢◌, ℕ, ◌<◌, List, [], ◌∷◌, ◌++◌, refl, ap, arith, inl, inr}
 use Rattle.nsc_model.specs.declared.record.Record.{Record}
 use Rattle.nsc_model.specs.declared.record.Record.TheVariants.{Change, Poll, Load, End, Invalid}
-use Rattle.nsc_model.specs.Files.{Files}
 use Rattle.nsc_model.specs.Fixed.{Fixed}
-use Rattle.nsc_model.specs.History.{changes, loads, newest, version_in, HasLoad, HasEnd, IsLive, Legal}
+use Rattle.nsc_model.specs.History.{loads, HasLoad, HasEnd, Legal}
 
 -- what a legal history begins with was legal before
 legal_tail : (r : Record) (s : Record) (before : List Record) → Legal (r ∷ s ∷ before) → Legal (s ∷ before)
