@@ -1,12 +1,9 @@
 -- Facts on histories: numbers of entries, and what a poll and a load add.
-use Rattle.std.proofs.Common.{◌≡◌, ◌≢◌, ℕ, zero, suc, ◌+◌, ◌<◌, ◌≤◌, Bool, true, false, cond, eqb, List, [], ◌∷◌, ◌++◌, length, Option, Some, None, refl, sym, ap, subst, ◌∙◌, arith, inl, inr, rules}
-use Rattle.std.specs.Prelude.{◌⊎◌}
-use Rattle.nsc_model.specs.declared.answer.Request.{Request}
+use Rattle.std.proofs.Common.{◌≡◌, ◌≢◌, ℕ, ◌<◌, List, [], ◌∷◌, ◌++◌, refl, ap, arith, inl, inr}
 use Rattle.nsc_model.specs.declared.record.Record.{Record}
 use Rattle.nsc_model.specs.declared.record.Record.TheVariants.{Change, Poll, Load, End, Invalid}
-use Rattle.nsc_model.specs.Files.{Files}
 use Rattle.nsc_model.specs.Fixed.{Fixed}
-use Rattle.nsc_model.specs.History.{changes, loads, newest, version_in, HasLoad, HasEnd, IsLive, Legal}
+use Rattle.nsc_model.specs.History.{loads, HasLoad, HasEnd, Legal}
 
 -- what a legal history begins with was legal before
 legal_tail : (r : Record) (s : Record) (before : List Record) → Legal (r ∷ s ∷ before) → Legal (s ∷ before)
@@ -15,6 +12,19 @@ legal_tail (Poll v) s before h = h.0
 legal_tail (Load e) s before h = h.0
 legal_tail (End n cause) s before h = h.0
 legal_tail (Invalid n) s before h = h.0
+
+behind : (r : Record) (before : List Record) → before ≢ [] → Legal (r ∷ before) → Legal before
+behind r [] more l = absurd (more refl)
+behind r (s ∷ before) more l = legal_tail r s before l
+
+more_behind : (more seen : List Record) → seen ≢ [] → more ++ seen ≢ []
+more_behind [] seen holds e = holds e
+more_behind (r ∷ more) seen holds e = absurd cc
+
+-- what a history was at an earlier moment was legal then
+pub prefix_legal : (more seen : List Record) → seen ≢ [] → Legal (more ++ seen) → Legal seen
+prefix_legal [] seen holds l = l
+prefix_legal (r ∷ more) seen holds l = prefix_legal more seen holds (behind r (more ++ seen) (more_behind more seen holds) l)
 
 -- an entry that was inserted has a number below the count of entries
 pub load_below : (h : List Record) (e : Fixed) → Legal h → HasLoad h e → e.number < loads h

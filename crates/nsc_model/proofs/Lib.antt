@@ -1,4 +1,5 @@
 pub mod Parsers
+pub mod Spellings
 pub mod Rounds
 pub mod Requests
 pub mod Histories

@@ -1,19 +1,19 @@
 -- The law of look-ups: the history stays legal, the cache stays what it says, and the reply is an answer.
-use Rattle.std.proofs.Common.{◌≡◌, ◌≢◌, ℕ, zero, suc, ◌+◌, ◌<◌, ◌≤◌, Bool, true, false, cond, eqb, List, [], ◌∷◌, ◌++◌, length, Option, Some, None, Result, Ok, Err, refl, sym, ap, subst, ◌∙◌, append_assoc, arith, inl, inr, rules}
+use Rattle.std.proofs.Common.{◌≡◌, ◌≢◌, ℕ, ◌+◌, ◌<◌, Bool, true, false, cond, eqb, List, [], ◌∷◌, ◌++◌, Option, Some, None, Result, Ok, Err, refl, sym, subst, ◌∙◌, append_assoc, arith, inl, inr, rules}
 use Rattle.std.specs.Prelude.{◌⊎◌, find}
 use Rattle.std.proofs.lemmas.Bool.{false≢true}
 use Rattle.nsc_model.specs.declared.answer.Request.{Request}
 use Rattle.nsc_model.specs.declared.record.Record.{Record}
-use Rattle.nsc_model.specs.declared.record.Record.TheVariants.{Change, Poll, Load, End, Invalid}
+use Rattle.nsc_model.specs.declared.record.Record.TheVariants.{Change, Poll, Load}
 use Rattle.nsc_model.specs.Kinds.{is_request}
 use Rattle.nsc_model.specs.Files.{Files, same_files}
 use Rattle.nsc_model.specs.Fixed.{Fixed}
 use Rattle.nsc_model.specs.Answers.{answer_of}
-use Rattle.nsc_model.specs.History.{changes, loads, newest, version_in, HasLoad, HasEnd, IsLive, NoneLiveOf, IsTrueAnswer, WasPolled, Legal, IsPrefix, FromEntry, FromPoll, LooksAt, Answered}
+use Rattle.nsc_model.specs.History.{changes, loads, newest, version_in, IsLive, WasPolled, Legal, LooksAt, Answered}
 use Rattle.nsc_model.specs.Machine.{Lives, Cache, new_cache, Turn, ◌>>=◌, last_count, polled, loaded_entry, loaded, hit_or_load, look_up}
 use Rattle.nsc_model.specs.Calls.{Among, Tells, Call, AnsweredThen, EachAnswered}
 use Rattle.nsc_model.proofs.Requests.{same_request, request_same, one_content, content_same}
-use Rattle.nsc_model.proofs.Histories.{load_below, end_below}
+use Rattle.nsc_model.proofs.Histories.{end_below}
 
 -- ---- what a search of the entries finds
 

@@ -1,8 +1,8 @@
 -- One round of a replay: what the frame at the front comes to, whatever follows it.
-use Rattle.std.proofs.Common.{◌≡◌, ℕ, zero, suc, ◌+◌, ◌-◌, ◌<◌, ◌≤◌, Bool, true, false, cond, ltb, eqb, List, [], ◌∷◌, ◌++◌, length, Option, Some, None, Result, Ok, Err, refl, sym, ap, subst, ◌∙◌, append_assoc, arith}
-use Rattle.std.proofs.lemmas.Bool.{ltb-false, le-ltb, lt-ltb}
+use Rattle.std.proofs.Common.{◌≡◌, ℕ, zero, suc, ◌+◌, ◌<◌, ◌≤◌, true, false, cond, ltb, List, [], ◌∷◌, ◌++◌, length, Result, Ok, Err, refl, sym, ap, ◌∙◌, arith}
+use Rattle.std.proofs.lemmas.Bool.{le-ltb, lt-ltb}
 use Rattle.std.proofs.lemmas.List.{length-append}
-use Rattle.nsc_model.specs.Frames.{Frame, Ask, Become, Reach, Clear, Stop, Fault, Short, NoFrame, LongFile, number_at, frame_at, Finish, Done, Bad, Long, Spent, NotBuilt, place_limit, Cut, more_frames, fault_at, reached, cut_on, cut_from, cut_by, cut_at}
+use Rattle.nsc_model.specs.Frames.{Frame, Ask, Become, Reach, Clear, Stop, Fault, Short, number_at, frame_at, Finish, Done, Bad, place_limit, Cut, more_frames, fault_at, reached, cut_on, cut_from, cut_by, cut_at}
 use Rattle.nsc_model.specs.Fronts.{Finds, Refuses, IsPartial}
 use Rattle.nsc_model.specs.Replay.{State, Went, turn_of, Replayed, behind_output, play_on, play, replay_from}
 use Rattle.nsc_model.proofs.Parsers.{frame_eats}

@@ -4,7 +4,7 @@ use Rattle.nsc_model.specs.declared.answer.Request.{Request}
 use Rattle.nsc_model.specs.declared.record.Record.{Record}
 use Rattle.nsc_model.specs.declared.record.Record.TheVariants.{Change, Poll, Load}
 use Rattle.nsc_model.specs.Kinds.{is_request}
-use Rattle.nsc_model.specs.Files.{Files, same_files, no_files}
+use Rattle.nsc_model.specs.Files.{Files, same_files}
 use Rattle.nsc_model.specs.Marked.{Marked}
 use Rattle.nsc_model.specs.Fixed.{Fixed}
 use Rattle.nsc_model.specs.Answers.{answer_of}

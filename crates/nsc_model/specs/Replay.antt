@@ -9,7 +9,7 @@ use Rattle.nsc_model.specs.declared.answer.Request.{Request}
 use Rattle.nsc_model.specs.Files.{Files, no_files, with_file, part_of}
 use Rattle.nsc_model.specs.Wire.{Asked, Look, Shutdown, Stat, Invalidate, Descriptor, Netgroup, Short, BadVersion, BadType, BadLength, request_of, field}
 use Rattle.nsc_model.specs.Machine.{Lives, Cache, new_cache, Turn, look_up}
-use Rattle.nsc_model.specs.Frames.{Frame, Ask, Become, Reach, Clear, Stop, Finish, Spent, NotBuilt, Cut, cut_at}
+use Rattle.nsc_model.specs.Frames.{Frame, Ask, Become, Reach, Clear, Stop, Finish, Spent, NotBuilt, cut_at}
 
 -- the files as they are, and the cache of users
 pub record State : Type 0 where

@@ -1,5 +1,5 @@
 -- The entries of a passwd file, passwd(5).
-use Rattle.std.specs.Prelude.{ℕ, Bool, true, false, not, ◌==◌, ◌||◌, ◌&&◌, if◌then◌else◌, List, [], ◌∷◌, filter, Option, Some, None, option_and_then}
+use Rattle.std.specs.Prelude.{ℕ, Bool, false, not, ◌==◌, ◌||◌, if◌then◌else◌, List, [], ◌∷◌, Option, Some, None, option_and_then}
 use Rattle.std.specs.List.{list_any, filter_map}
 use Rattle.nsc_base.specs.Text.{fields_of, lines_of, is_white}
 use Rattle.nsc_base.specs.Decimal.{decimal_of}

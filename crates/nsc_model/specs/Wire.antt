@@ -1,5 +1,5 @@
 -- Requests and replies as bytes: protocol version 2 of glibc's nscd-client.h, in little-endian fields of four bytes.
-use Rattle.std.specs.Prelude.{◌≡◌, ◌≢◌, ℕ, ◌+◌, ◌≤◌, ◌<◌, ◌^◌, ℤ, Bool, ◌==◌, nat_lt, if◌then◌else◌, List, [], ◌∷◌, ◌++◌, length, take, drop, All, Option, Some, None}
+use Rattle.std.specs.Prelude.{◌≡◌, ◌≢◌, ℕ, ◌+◌, ◌≤◌, ◌<◌, ◌^◌, ℤ, ◌==◌, nat_lt, if◌then◌else◌, List, [], ◌∷◌, ◌++◌, length, take, drop, All, Option, Some, None}
 use Rattle.std.specs.List.{before_first}
 use Rattle.byteorder.specs.Endian.{little_number, little_bytes, twos_complement}
 use Rattle.nsc_model.specs.declared.kind.Kind.{Kind}

@@ -1,13 +1,16 @@
-//! The laws of the definitions: theorems over whole histories, each the contract of a function with no body.
+//! The laws of the definitions: theorems over whole histories and over replies, each the contract of a function with no body.
 
-ghost use Rattle.std.specs.Prelude.{◌≡◌, ℕ, List, [], ◌∷◌, ◌++◌, Ok};
+ghost use Rattle.std.specs.Prelude.{◌≡◌, ◌≢◌, ℕ, List, [], ◌∷◌, ◌++◌, Ok};
 ghost use Rattle.nsc_model.specs.declared.answer.Request.{Request};
+ghost use Rattle.nsc_model.specs.declared.kind.Kind.{Kind};
 ghost use Rattle.nsc_model.specs.declared.record.Record.{Record};
 ghost use Rattle.nsc_model.specs.declared.record.Record.TheVariants.{Change};
+ghost use Rattle.nsc_model.specs.declared.row.Reply.{Reply};
 ghost use Rattle.nsc_model.specs.Files.{Files};
-ghost use Rattle.nsc_model.specs.History.{Answered};
+ghost use Rattle.nsc_model.specs.History.{Legal, Answered};
 ghost use Rattle.nsc_model.specs.Machine.{Lives, Cache, Turn, new_cache, look_up};
 ghost use Rattle.nsc_model.specs.Calls.{Tells, Call, EachAnswered};
+ghost use Rattle.nsc_model.specs.Wire.{Spells};
 
 /// Each look-up keeps the history legal and the cache what its history says, and its reply is an answer to its
 /// request, for a caller that had seen the whole history before the look-up.
@@ -22,4 +25,14 @@ pub fn each_look_up_is_answered()
 /// reply is an answer to its request, for a caller that had seen the whole history before the look-up.
 pub fn runs_are_answered()
     ensures { (lives : Lives) (files : Files) (calls : List Call) → EachAnswered lives calls (new_cache files) (Change 0 files ∷ []) }
+{}
+
+/// What a legal history was at any earlier moment, from its first record on, was a legal history.
+pub fn prefixes_are_legal()
+    ensures { (more seen : List Record) → seen ≢ [] → Legal (more ++ seen) → Legal seen }
+{}
+
+/// No bytes spell two replies of one kind: a client that reads the bytes of a reply learns which one was sent.
+pub fn bytes_spell_one_reply()
+    ensures { (kind : Kind) (a b : Reply) (bytes : List ℕ) → Spells kind a bytes → Spells kind b bytes → a ≡ b }
 {}

@@ -7,3 +7,6 @@ mod fault;
 
 pub use cache::PlainCache;
 pub use fault::PlainFault;
+
+#[cfg(test)]
+mod tests;
