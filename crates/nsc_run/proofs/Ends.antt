@@ -44,7 +44,7 @@ finish_at finish bytes after had got r =
     elim r.ends [
       | inl always ↦ ap (λ (x : Replayed). x.finish) (ap replay (sym same) ∙ always rest)
       | inr here ↦ (let none : rest ≡ [] = drained_rest after rest r.moved.1 here.0 in
-        ap (λ (x : Replayed). x.finish) (ap replay (sym same ∙ (ap (λ (xs : List ℕ). r.front ++ xs) none ∙ append-nil r.front)) ∙ here.1))
+          ap (λ (x : Replayed). x.finish) (ap replay (sym same ∙ (ap (λ (xs : List ℕ). r.front ++ xs) none ∙ append-nil r.front)) ∙ here.1))
     ]
 
 unbuilt_tells : (finish : Finish) → IsUnbuilt finish → TellsEnd finish exits.NotBuilt

@@ -14,3 +14,6 @@ mod rounds;
 pub use command::run;
 pub use exit::Exit;
 pub use rounds::replay;
+
+#[cfg(test)]
+mod tests;
