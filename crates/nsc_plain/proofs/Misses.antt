@@ -1,5 +1,5 @@
 -- A look-up that misses is a poll and then a load.
-use Rattle.std.proofs.Common.{◌≡◌, ℕ, Bool, List, Option, Some, None, Result, Ok, Err, refl, sym, ap, subst, ◌∙◌}
+use Rattle.std.proofs.Common.{◌≡◌, ℕ, List, Option, Some, None, Result, Ok, Err, refl, sym, subst}
 use Rattle.std.specs.Prelude.{find}
 use Rattle.std.specs.Option.{option_map}
 use Rattle.nsc_model.specs.declared.answer.Request.{Request}
@@ -7,7 +7,7 @@ use Rattle.nsc_model.specs.declared.record.Record.{Record}
 use Rattle.nsc_model.specs.Kinds.{is_request}
 use Rattle.nsc_model.specs.Files.{Files}
 use Rattle.nsc_model.specs.Fixed.{Fixed}
-use Rattle.nsc_model.specs.Machine.{Lives, Cache, Turn, ◌>>=◌, polled, loaded, hit_or_load, look_up}
+use Rattle.nsc_model.specs.Machine.{Lives, Cache, ◌>>=◌, polled, loaded, hit_or_load, look_up}
 use Rattle.nsc_plain.specs.Shelf.{TurnsTo, PollsTo, Loads}
 
 loads_behind : (lives : Lives) (now : ℕ) (request : Request) (r : Result (Cache × Record) ℕ) (mid after : Cache) (reply : List ℕ) → PollsTo r mid → Loads lives now request mid after reply
