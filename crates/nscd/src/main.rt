@@ -5,10 +5,9 @@
 use nsc_outside::{StdSink, StdSource};
 use nsc_run::{Exit, run};
 use std::alloc::AllocError;
-use std::env;
-use std::io;
 use std::io::{BufReader, ErrorKind};
 use std::process::ExitCode;
+use std::{env, io};
 
 fn main(rt: HostRuntime) -> ExitCode {
     let exit = command(&rt);
