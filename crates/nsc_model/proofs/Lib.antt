@@ -4,3 +4,6 @@ pub mod Rounds
 pub mod Requests
 pub mod Histories
 pub mod LookUps
+pub mod CoreLawRecords
+pub mod CoreLaw
+pub mod CoreLawLive

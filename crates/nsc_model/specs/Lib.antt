@@ -7,6 +7,8 @@ pub mod Users
 pub mod Services
 pub mod Answers
 pub mod History
+pub mod Settings
+pub mod Core
 pub mod Machine
 pub mod Frames
 pub mod Replay

@@ -1,16 +1,38 @@
 //! The laws of the definitions: theorems over whole histories and over replies, each the contract of a function with no body.
 
-ghost use Rattle.std.specs.Prelude.{◌≡◌, ◌≢◌, ℕ, List, [], ◌∷◌, ◌++◌, Ok};
+ghost use Rattle.std.specs.Prelude.{◌≡◌, ◌≢◌, ℕ, List, [], ◌∷◌, ◌++◌, Some, Ok};
 ghost use Rattle.nsc_model.specs.declared.answer.Request.{Request};
+ghost use Rattle.nsc_model.specs.declared.kind.Db.{Db};
 ghost use Rattle.nsc_model.specs.declared.kind.Kind.{Kind};
 ghost use Rattle.nsc_model.specs.declared.record.Record.{Record};
 ghost use Rattle.nsc_model.specs.declared.record.Record.TheVariants.{Change};
 ghost use Rattle.nsc_model.specs.declared.row.Reply.{Reply};
 ghost use Rattle.nsc_model.specs.Files.{Files};
-ghost use Rattle.nsc_model.specs.History.{Legal, Answered};
+ghost use Rattle.nsc_model.specs.History.{Legal, Answered, version_in};
+ghost use Rattle.nsc_model.specs.Core.{Core, Move, Empty, Moves, Runs, RepliesAnswer, opening};
 ghost use Rattle.nsc_model.specs.Machine.{Lives, Cache, Turn, new_cache, look_up};
 ghost use Rattle.nsc_model.specs.Calls.{Tells, Call, EachAnswered};
 ghost use Rattle.nsc_model.specs.Wire.{Spells};
+
+/// In every run of moves from an opening, whatever its callers do and in whatever order, the history is legal, and each
+/// reply that a caller may get is an answer to its request, between what the caller had seen at the start of its call and
+/// the history at the reply.
+pub fn core_runs_are_legal()
+    ensures legal { (db : Db) (files : Files) (moves : List Move) (new : Core) → Runs db moves (opening db files) new → Legal new.history }
+    ensures answered { (db : Db) (files : Files) (moves : List Move) (new : Core) → Runs db moves (opening db files) new → RepliesAnswer new }
+{}
+
+/// In every run, the versions that a caller polled have a content: so a caller that polled in its call has an answer to
+/// reply, and one that polled since it noted the invalidations has an answer to insert.
+pub fn polled_versions_are_held()
+    ensures asked { (db : Db) (files : Files) (moves : List Move) (new : Core) → Runs db moves (opening db files) new → (a n : ℕ) → (new.callers a).asked ≡ Some n → (content : Files) × (version_in new.history n ≡ Some content) }
+    ensures version { (db : Db) (files : Files) (moves : List Move) (new : Core) → Runs db moves (opening db files) new → (a n : ℕ) → (new.callers a).version ≡ Some n → (content : Files) × (version_in new.history n ≡ Some content) }
+{}
+
+/// After every run the database can be emptied: its live entries are a list, each once, in rising number.
+pub fn core_can_be_emptied()
+    ensures { (db : Db) (files : Files) (moves : List Move) (new : Core) → Runs db moves (opening db files) new → (emptied : Core) × Moves db Empty new emptied }
+{}
 
 /// Each look-up keeps the history legal and the cache what its history says, and its reply is an answer to its
 /// request, for a caller that had seen the whole history before the look-up.
