@@ -1,14 +1,13 @@
 -- A round, and then the rest of the run.
-use Rattle.std.proofs.Common.{◌≡◌, ℕ, ◌+◌, ◌<◌, ◌≤◌, List, [], ◌++◌, length, Option, Some, None, refl, sym, ap, subst, ◌∙◌, append_assoc, arith, inl, inr}
-use Rattle.std.specs.Prelude.{◌⊎◌}
+use Rattle.std.proofs.Common.{◌≡◌, ℕ, ◌+◌, List, ◌++◌, length, Option, sym, ap, subst, ◌∙◌, append_assoc, arith, inl, inr}
 use Rattle.std.proofs.lemmas.List.{length-append}
-use Rattle.nsc_outside.specs.Stream.{Moves, IsDrained, Grows}
+use Rattle.nsc_outside.specs.Stream.{Grows}
 use Rattle.nsc_outside.proofs.Streams.{Moves-then, Grows-then}
-use Rattle.nsc_model.specs.Frames.{Finish, Done, Spent, NotBuilt}
+use Rattle.nsc_model.specs.Frames.{Finish, Done, Spent}
 use Rattle.nsc_model.specs.Replay.{State, Replayed, behind_output, replay_from}
 use Rattle.nsc_run.specs.declared.exit.Exit.{Exit}
 use Rattle.nsc_run.specs.declared.exit.Exit.TheVariants as exits
-use Rattle.nsc_run.specs.Runs.{RunsToEnd, RunsTo, RunsToReadFault, RunsToWriteFault, AllButLast, RunsOutOfMemory, IsUnbuilt, Run, GoesOn}
+use Rattle.nsc_run.specs.Runs.{RunsToEnd, RunsTo, RunsToReadFault, RunsToWriteFault, RunsOutOfMemory, Run, GoesOn}
 
 abbrev Told : Type 0
 Told = Option (List ℕ)

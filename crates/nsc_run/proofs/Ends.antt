@@ -1,10 +1,10 @@
 -- What a run says of the whole input, where the source tells it.
 use Rattle.std.proofs.Common.{◌≡◌, ℕ, ◌+◌, List, [], ◌++◌, length, drop, Option, Some, None, refl, sym, ap, subst, ◌∙◌, arith, inl, inr}
-use Rattle.std.specs.Prelude.{◌⊎◌, IfSome}
+use Rattle.std.specs.Prelude.{IfSome}
 use Rattle.std.proofs.lemmas.List.{drop_at, append-nil}
 use Rattle.nsc_outside.specs.Stream.{Rose, Moves, IsDrained, Grows}
 use Rattle.nsc_model.specs.Frames.{Finish, Done, Bad, Long, Spent, NotBuilt}
-use Rattle.nsc_model.specs.Replay.{Replayed, first_state, replay_from, replay}
+use Rattle.nsc_model.specs.Replay.{Replayed, first_state, replay}
 use Rattle.nsc_run.specs.declared.exit.Exit.{Exit}
 use Rattle.nsc_run.specs.declared.exit.Exit.TheVariants as exits
 use Rattle.nsc_run.specs.Runs.{RunsToEnd, RunsTo, IsUnbuilt, Run, Counted}

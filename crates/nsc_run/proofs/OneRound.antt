@@ -1,15 +1,13 @@
 -- One round of a replay over a source and a sink.
-use Rattle.std.proofs.Common.{◌≡◌, ℕ, ◌+◌, ◌<◌, ◌≤◌, List, [], ◌++◌, length, Option, Some, None, Result, Ok, Err, refl, sym, ap, subst, ◌∙◌, append_assoc, arith, inl, inr}
-use Rattle.std.specs.Prelude.{◌⊎◌}
-use Rattle.std.proofs.lemmas.List.{append-nil, length-append}
-use Rattle.nsc_outside.specs.Stream.{Moves, IsDrained, Grows, GrowsByFront}
-use Rattle.nsc_outside.proofs.Streams.{Moves-nothing, Moves-then, Grows-nothing, Grows-then}
-use Rattle.nsc_model.specs.Frames.{Frame, Ask, Become, Reach, Clear, Stop, Fault, Short, NoFrame, LongFile, frame_at, frame_size, Finish, Done, Bad, Long, Spent, NotBuilt, place_limit}
-use Rattle.nsc_model.specs.Fronts.{Finds, Refuses, IsPartial}
+use Rattle.std.proofs.Common.{◌≡◌, ℕ, ◌+◌, ◌<◌, ◌≤◌, List, [], ◌++◌, length, Option, Result, Ok, Err, refl, sym, ap, subst, ◌∙◌, append_assoc, arith, inl, inr}
+use Rattle.std.proofs.lemmas.List.{append-nil}
+use Rattle.nsc_outside.specs.Stream.{Grows}
+use Rattle.nsc_outside.proofs.Streams.{Moves-nothing, Grows-nothing}
+use Rattle.nsc_model.specs.Frames.{Frame, Ask, Become, Reach, Clear, Stop, NoFrame, LongFile, frame_at, frame_size, Finish, Bad, Long, Spent, NotBuilt, place_limit}
 use Rattle.nsc_model.specs.Replay.{State, Went, turn_of, Replayed, behind_output, replay_from, play}
 use Rattle.nsc_model.specs.Frames.{cut_by}
 use Rattle.nsc_model.proofs.Parsers.{front_size}
-use Rattle.nsc_model.proofs.Rounds.{Goes, ended, round_goes, round_ends, round_stops, round_refused, round_partial, round_late}
+use Rattle.nsc_model.proofs.Rounds.{Goes, round_goes, round_ends, round_stops, round_refused, round_partial, round_late}
 use Rattle.nsc_run.specs.declared.exit.Exit.{Exit}
 use Rattle.nsc_run.specs.declared.exit.Exit.TheVariants as exits
 use Rattle.nsc_run.specs.declared.halt.Halt.{Halt}
@@ -17,7 +15,7 @@ use Rattle.nsc_run.specs.declared.halt.Halt.TheVariants as halts
 use Rattle.nsc_run.specs.Reading.{Halts, Gets}
 use Rattle.nsc_run.specs.Turns.{IsFollowed, IsDone, IsCutShort, DoesNot}
 use Rattle.nsc_run.specs.Exits.{halt_exit}
-use Rattle.nsc_run.specs.Runs.{RunsToEnd, RunsTo, RunsToReadFault, RunsToWriteFault, AllButLast, RunsOutOfMemory, IsUnbuilt, Run, GoesOn}
+use Rattle.nsc_run.specs.Runs.{RunsTo, RunsToWriteFault, RunsOutOfMemory, Run, GoesOn}
 
 abbrev Told : Type 0
 Told = Option (List ℕ)

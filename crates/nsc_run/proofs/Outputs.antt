@@ -1,5 +1,5 @@
 -- What a sink took.
-use Rattle.std.proofs.Common.{◌≡◌, ℕ, List, [], ◌++◌, Option, Some, Result, Ok, Err, refl, sym, ap, subst, ◌∙◌, append_assoc}
+use Rattle.std.proofs.Common.{ℕ, List, ◌++◌, Option, Some, Result, Ok, Err, sym, ap, subst, ◌∙◌, append_assoc}
 use Rattle.nsc_outside.specs.Stream.{GrowsByFront}
 use Rattle.nsc_model.specs.Frames.{Finish}
 use Rattle.nsc_model.specs.Replay.{State, Went, framed}

@@ -1,11 +1,11 @@
 -- Readers, one behind the other.
-use Rattle.std.proofs.Common.{◌≡◌, ◌≢◌, ℕ, ◌+◌, ◌<◌, ◌≤◌, Bool, true, false, cond, ltb, eqb, List, [], ◌∷◌, ◌++◌, length, take, Option, Some, None, Result, Ok, Err, refl, sym, ap, subst, ◌∙◌, append_assoc, arith}
+use Rattle.std.proofs.Common.{◌≡◌, ◌≢◌, ℕ, ◌<◌, Bool, true, false, cond, eqb, List, [], ◌++◌, Option, Some, None, Result, Ok, Err, refl, sym, subst}
 use Rattle.std.proofs.lemmas.Bool.{eqb-true}
-use Rattle.nsc_outside.specs.Stream.{Moves, IsDrained}
+use Rattle.nsc_outside.specs.Stream.{Moves}
 use Rattle.nsc_outside.proofs.Streams.{Moves-then}
 use Rattle.nsc_model.specs.declared.kind.Db.{Db}
 use Rattle.nsc_model.specs.Frames.{Fault, NoFrame, LongFile, chunk, cleared, present_at, marked_at, made}
-use Rattle.nsc_model.specs.Fronts.{Finds, Refuses, IsPartial}
+use Rattle.nsc_model.specs.Fronts.{Finds}
 use Rattle.nsc_model.proofs.Parsers.{Parser, then, chunk_finds, chunk_partial, finds_then, refuses_then, partial_then, refuses_first, partial_first, finds_now}
 use Rattle.nsc_run.specs.declared.halt.Halt.{Halt}
 use Rattle.nsc_run.specs.declared.halt.Halt.TheVariants as halts

@@ -1,5 +1,5 @@
 -- The command words, and what the program claims of a whole run.
-use Rattle.std.specs.Prelude.{◌≡◌, ℕ, ◌⊎◌, Bool, false, List, [], ◌∷◌, length, drop, Option, Some, IfSome, codes}
+use Rattle.std.specs.Prelude.{◌≡◌, ℕ, ◌⊎◌, Bool, false, List, [], ◌∷◌, drop, Option, Some, codes}
 use Rattle.std.specs.Str.{bytes_eq}
 use Rattle.nsc_outside.specs.Stream.{Grows}
 use Rattle.nsc_model.specs.Frames.{Finish, Done, Bad, Long, Spent, NotBuilt}

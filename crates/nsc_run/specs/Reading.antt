@@ -1,5 +1,5 @@
 -- Frames read from a source: what is claimed of the bytes that were read, where the source tells them.
-use Rattle.std.specs.Prelude.{◌≡◌, ℕ, ◌<◌, ◌≤◌, ◌⊎◌, List, ◌++◌, length, take, Option, Some, None, IfSome, Result, Ok, Err}
+use Rattle.std.specs.Prelude.{◌≡◌, ℕ, ◌≤◌, List, length, take, Option, IfSome, Result, Ok, Err}
 use Rattle.nsc_outside.specs.Stream.{Rose, Moves, IsDrained}
 use Rattle.nsc_model.specs.Files.{file_limit}
 use Rattle.nsc_model.specs.Frames as frames

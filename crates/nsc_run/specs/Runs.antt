@@ -3,7 +3,7 @@ use Rattle.std.specs.Prelude.{◌≡◌, ℕ, ◌+◌, ◌⊎◌, List, ◌++◌
 use Rattle.nsc_outside.specs.Stream.{Rose, Moves, IsDrained, Grows}
 use Rattle.nsc_model.specs.Frames.{Frame, frame_at, Finish, Done, Bad, Long, Spent, NotBuilt}
 use Rattle.nsc_model.specs.Fronts.{Finds}
-use Rattle.nsc_model.specs.Replay.{State, Replayed, behind_output, replay_from}
+use Rattle.nsc_model.specs.Replay.{State, behind_output, replay_from}
 use Rattle.nsc_run.specs.declared.exit.Exit.{Exit}
 use Rattle.nsc_run.specs.declared.exit.Exit.TheVariants as exits
 

@@ -1,4 +1,4 @@
-use Rattle.std.proofs.Common.{◌≡◌, ℕ, Ok, subst, sym, get_or, arith}
+use Rattle.std.proofs.Common.{◌≡◌, Ok, subst, get_or, arith}
 use Rattle.std.proofs.lemmas.Result.{err_from_is_err_and}
 use Rattle.byteorder.specs.Endian.{little_number}
 use Rattle.nsc_model.specs.Frames.{chunk, number_at}

@@ -1,4 +1,4 @@
-use Rattle.std.proofs.Common.{◌≡◌, ◌≤◌, ◌<◌, ℕ, List, [], ltb, true, false, arith, subst, sym, ◌∙◌, length, rules}
+use Rattle.std.proofs.Common.{◌≡◌, ℕ, List, [], ltb, true, false, arith, subst, sym, length, rules}
 use Rattle.std.proofs.lemmas.Bool.{lt-ltb, le-ltb}
 use Rattle.std.proofs.lemmas.Grind.{common_steps}
 use Rattle.std.proofs.lemmas.Result.{err_from_is_err_and}

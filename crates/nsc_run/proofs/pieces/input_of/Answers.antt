@@ -1,4 +1,4 @@
-use Rattle.std.proofs.Common.{◌≡◌, ◌≤◌, ◌++◌, ℕ, List, ltb, true, false, arith, subst, sym, ◌∙◌, length, take, drop}
+use Rattle.std.proofs.Common.{◌≡◌, ◌++◌, ℕ, List, ltb, true, false, arith, subst, sym, length, take, drop}
 use Rattle.std.proofs.lemmas.Bool.{lt-ltb, le-ltb}
 use Rattle.std.proofs.lemmas.List.{length-take-le, take_at}
 use Rattle.std.proofs.lemmas.Result.{err_from_is_err_and}

@@ -1,4 +1,4 @@
-use Rattle.std.proofs.Common.{subst, sym, List, ℕ, Option}
+use Rattle.std.proofs.Common.{subst, List, ℕ, Option}
 use Rattle.nsc_outside.specs.Stream.{GrowsByFront}
 use Rattle.nsc_model.specs.Replay.{turn_of, framed}
 use Rattle.nsc_run.specs.Reading.{seen}
