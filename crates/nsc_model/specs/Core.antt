@@ -1,5 +1,5 @@
 -- The core of one database: what its callers may do in any order, and the history that this makes.
-use Rattle.std.specs.Prelude.{◌≡◌, ◌≢◌, ℕ, ◌+◌, ◌<◌, ◌⊎◌, ◌==◌, if◌then◌else◌, List, [], ◌∷◌, ◌++◌, Option, Some, None, ⊤}
+use Rattle.std.specs.Prelude.{◌≡◌, ◌≢◌, ℕ, ◌+◌, ◌<◌, ◌⊎◌, ◌==◌, if◌then◌else◌, List, [], ◌∷◌, ◌++◌, Option, Some, None}
 use Rattle.nsc_model.specs.declared.kind.Db.{Db}
 use Rattle.nsc_model.specs.declared.answer.Request.{Request}
 use Rattle.nsc_model.specs.declared.record.Ending.{Ending}
@@ -10,7 +10,7 @@ use Rattle.nsc_model.specs.Files as files
 use Rattle.nsc_model.specs.Files.{part_of}
 use Rattle.nsc_model.specs.Fixed.{Fixed}
 use Rattle.nsc_model.specs.Answers.{answer_of}
-use Rattle.nsc_model.specs.History.{changes, loads, invalidations, newest, version_in, HasLoad, HasEnd, IsLive, NoneLive, NoneLiveOf, Allows, IsPrefix, Legal, Answered}
+use Rattle.nsc_model.specs.History.{changes, loads, invalidations, newest, version_in, IsLive, NoneLiveOf, Allows, IsPrefix, Answered}
 
 -- A caller: its request, and what it had seen at the start of its call; the number of invalidations that it noted, the
 -- content that it fetched since, and the version that it polled since; and of this call the load that it took and the
