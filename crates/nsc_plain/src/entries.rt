@@ -2,7 +2,6 @@ ghost use Rattle.std.specs.Prelude.{◌≡◌, find};
 ghost use Rattle.std.specs.Option.{option_copied};
 ghost use Rattle.nsc_model.specs.Kinds.{is_request};
 
-use nsc_base::equal;
 use nsc_model::{Entry, Kind};
 
 // Whether an entry answers the request of this kind and key.

@@ -7,10 +7,6 @@ use Rattle.nsc_model.specs.Replay.{State, behind_output, replay_from}
 use Rattle.nsc_run.specs.declared.exit.Exit.{Exit}
 use Rattle.nsc_run.specs.declared.exit.Exit.TheVariants as exits
 
--- what a source tells that it has left, or a sink that it took
-abbrev pub Told : Type 0
-Told = Option (List ℕ)
-
 -- The first E was reached: whatever follows the bytes that were read, the replay ends behind them, and what was written is
 -- its output.
 pub record RunsToEnd (s : State) (place : ℕ) (before after had got : Option (List ℕ)) : Type 0 where

@@ -9,6 +9,9 @@ use nsc_base::{Bytes, NoMemory};
 use nsc_model::{Kind, Reply};
 use std::alloc::Global;
 
+// The version of the protocol, in the first field of each request and each reply.
+pub(crate) const VERSION: u32 = 2;
+
 /// The bytes of a reply of this kind. A row is of the kind's shape and has no zero byte in its texts, and the bytes are
 /// at most 2^30. Memory is taken once; fails only for want of it.
 pub fn encode(alloc: Global, kind: Kind, reply: &Reply) -> Result<Bytes, NoMemory>

@@ -5,6 +5,7 @@ ghost use Rattle.nsc_model.specs.Kinds.{kind_numbered};
 ghost use Rattle.nsc_model.specs.Wire.{asked_look, asked_otherwise, request_of, stored_key, text_key};
 ghost use Rattle.nsc_wire.specs.Request.{IsKeyIn, KeyFits, KeyIsIn, asked_by};
 
+use crate::reply::VERSION;
 use memchr::memchr;
 use nsc_base::{Span, i32_at, u32_at};
 use nsc_model::Kind;
@@ -47,8 +48,6 @@ pub enum Wire {
 
 // The fields of a request before its key: version, type and key length, of four bytes each.
 const HEADER: usize = 12;
-
-const VERSION: u32 = 2;
 
 const LAST_TYPE: u32 = 21;
 

@@ -2,15 +2,13 @@ ghost use Rattle.std.specs.Prelude.{◌≡◌, ◌+◌, ◌<◌, ◌≤◌, leng
 ghost use Rattle.nsc_model.specs.Marked.{reply_limit};
 ghost use Rattle.nsc_model.specs.Wire.{IsUserReply, passwd_found, passwd_lacking, user_reply};
 
-use crate::reply::{put_fields, put_text};
+use crate::reply::{VERSION, put_fields, put_text};
 use nsc_base::{Bytes, NoMemory};
 use nsc_model::{Passwd, Reply, Row};
 use std::alloc::Global;
 
 // The nine fields of a user's reply, in bytes.
 const FIELDS: usize = 36;
-
-const VERSION: u32 = 2;
 
 // A number that is not there, or a database that is not cached.
 const MINUS_ONE: u32 = u32::MAX;
