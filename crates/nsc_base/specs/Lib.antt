@@ -1,3 +1,4 @@
 pub mod Text
 pub mod Decimal
 pub mod Room
+pub mod Nodes

@@ -3,7 +3,6 @@ pub mod Spellings
 pub mod Rounds
 pub mod Requests
 pub mod Histories
-pub mod LookUps
 pub mod CoreLawRecords
 pub mod CoreLaw
 pub mod CoreLawLive

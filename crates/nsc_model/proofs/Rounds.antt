@@ -4,6 +4,7 @@ use Rattle.std.proofs.lemmas.Bool.{le-ltb, lt-ltb}
 use Rattle.std.proofs.lemmas.List.{length-append}
 use Rattle.nsc_model.specs.Frames.{Frame, Ask, Become, Reach, Clear, Stop, Fault, Short, number_at, frame_at, Finish, Done, Bad, place_limit, Cut, more_frames, fault_at, reached, cut_on, cut_from, cut_by, cut_at}
 use Rattle.nsc_model.specs.Fronts.{Finds, Refuses, IsPartial}
+use Rattle.nsc_model.specs.Settings.{Settings}
 use Rattle.nsc_model.specs.Replay.{State, Went, turn_of, Replayed, behind_output, play_on, play, replay_from}
 use Rattle.nsc_model.proofs.Parsers.{frame_eats}
 
@@ -96,43 +97,43 @@ cut_late (suc n) place bytes le = let late : ltb place place_limit ≡ false = l
 abbrev pub ended : Finish → Replayed
 ended finish = record { output = []; finish = finish }
 
-abbrev replayed_cut : State → Cut → Replayed
-replayed_cut s cut = play cut.frames cut.finish s
+abbrev replayed_cut : Settings → State → Cut → Replayed
+replayed_cut settings s cut = play settings cut.frames cut.finish s
 
 -- the frame at the front is done, and the replay goes on behind it
-pub round_goes : (s : State) (place : ℕ) (front more : List ℕ) (frame : Frame) (went : Went) → place < place_limit → Finds frame_at front frame → Goes frame → turn_of s frame ≡ Ok went
-    → replay_from s place (front ++ more) ≡ behind_output went.writes (replay_from went.state (place + length front) more)
+pub round_goes : (settings : Settings) (s : State) (place : ℕ) (front more : List ℕ) (frame : Frame) (went : Went) → place < place_limit → Finds frame_at front frame → Goes frame → turn_of settings s frame ≡ Ok went
+    → replay_from settings s place (front ++ more) ≡ behind_output went.writes (replay_from settings went.state (place + length front) more)
 unfolding play
-round_goes s place front more frame went lt found goes turned =
+round_goes settings s place front more frame went lt found goes turned =
     let rest = cut_at (place + length front) more in
-    ap (replayed_cut s) (cut_goes place front more frame lt found goes)
-    ∙ ap (play_on (play rest.frames rest.finish)) turned
+    ap (replayed_cut settings s) (cut_goes place front more frame lt found goes)
+    ∙ ap (play_on (play settings rest.frames rest.finish)) turned
 
 -- the frame at the front ends the replay
-pub round_ends : (s : State) (place : ℕ) (front more : List ℕ) (frame : Frame) (finish : Finish) → place < place_limit → Finds frame_at front frame → Goes frame → turn_of s frame ≡ Err finish
-    → replay_from s place (front ++ more) ≡ ended finish
+pub round_ends : (settings : Settings) (s : State) (place : ℕ) (front more : List ℕ) (frame : Frame) (finish : Finish) → place < place_limit → Finds frame_at front frame → Goes frame → turn_of settings s frame ≡ Err finish
+    → replay_from settings s place (front ++ more) ≡ ended finish
 unfolding play
-round_ends s place front more frame finish lt found goes turned =
+round_ends settings s place front more frame finish lt found goes turned =
     let rest = cut_at (place + length front) more in
-    ap (replayed_cut s) (cut_goes place front more frame lt found goes)
-    ∙ ap (play_on (play rest.frames rest.finish)) turned
+    ap (replayed_cut settings s) (cut_goes place front more frame lt found goes)
+    ∙ ap (play_on (play settings rest.frames rest.finish)) turned
 
 -- the first E: what stands behind it is no part of the replay
-pub round_stops : (s : State) (place : ℕ) (front more : List ℕ) → place < place_limit → Finds frame_at front Stop → replay_from s place (front ++ more) ≡ ended (Done (place + length front))
+pub round_stops : (settings : Settings) (s : State) (place : ℕ) (front more : List ℕ) → place < place_limit → Finds frame_at front Stop → replay_from settings s place (front ++ more) ≡ ended (Done (place + length front))
 unfolding play
-round_stops s place front more lt found = ap (replayed_cut s) (cut_stops place front more lt found)
+round_stops settings s place front more lt found = ap (replayed_cut settings s) (cut_stops place front more lt found)
 
 -- the front is refused, whatever follows
-pub round_refused : (s : State) (place : ℕ) (front more : List ℕ) (fault : Fault) → place < place_limit → Refuses frame_at front fault → replay_from s place (front ++ more) ≡ ended (fault_at place fault)
+pub round_refused : (settings : Settings) (s : State) (place : ℕ) (front more : List ℕ) (fault : Fault) → place < place_limit → Refuses frame_at front fault → replay_from settings s place (front ++ more) ≡ ended (fault_at place fault)
 unfolding play
-round_refused s place front more fault lt refused = ap (replayed_cut s) (cut_fails place (front ++ more) fault lt (refused.whatever more))
+round_refused settings s place front more fault lt refused = ap (replayed_cut settings s) (cut_fails place (front ++ more) fault lt (refused.whatever more))
 
 -- the bytes end inside a frame, or where one should begin
-pub round_partial : (s : State) (place : ℕ) (front : List ℕ) → place < place_limit → IsPartial frame_at front → replay_from s place front ≡ ended (Bad place)
+pub round_partial : (settings : Settings) (s : State) (place : ℕ) (front : List ℕ) → place < place_limit → IsPartial frame_at front → replay_from settings s place front ≡ ended (Bad place)
 unfolding play
-round_partial s place front lt part = ap (replayed_cut s) (cut_fails place front Short lt part.lacks)
+round_partial settings s place front lt part = ap (replayed_cut settings s) (cut_fails place front Short lt part.lacks)
 
 -- no frame begins so late
-pub round_late : (s : State) (place : ℕ) (more : List ℕ) → place_limit ≤ place → replay_from s place more ≡ ended (Bad place)
+pub round_late : (settings : Settings) (s : State) (place : ℕ) (more : List ℕ) → place_limit ≤ place → replay_from settings s place more ≡ ended (Bad place)
 unfolding play
-round_late s place more le = ap (replayed_cut s) (cut_late (length more) place more le)
+round_late settings s place more le = ap (replayed_cut settings s) (cut_late (length more) place more le)

@@ -1,40 +1,102 @@
--- A cache over a whole run of look-ups, with the history that it makes.
-use Rattle.std.specs.Prelude.{◌≡◌, ℕ, ◌+◌, List, [], ◌∷◌, ◌++◌, Some, Result, Ok, Err, ◌⊎◌}
+-- The machine over whole runs, with the history that it makes: its events are moves of the core, made by one caller.
+use Rattle.std.specs.Prelude.{◌≡◌, ℕ, ◌+◌, List, [], ◌∷◌, ◌++◌, map, All, Option, Some, Result, Ok, Err}
+use Rattle.nsc_model.specs.declared.kind.Db.{Db}
 use Rattle.nsc_model.specs.declared.answer.Request.{Request}
 use Rattle.nsc_model.specs.declared.record.Record.{Record}
-use Rattle.nsc_model.specs.Files.{Files}
+use Rattle.nsc_model.specs.declared.record.Record.TheVariants.{Change}
+use Rattle.nsc_model.specs.Files as files
+use Rattle.nsc_model.specs.Files.{part_of}
 use Rattle.nsc_model.specs.Fixed.{Fixed}
-use Rattle.nsc_model.specs.History.{changes, loads, newest, version_in, HasLoad, HasEnd, IsLive, Legal, Answered}
-use Rattle.nsc_model.specs.Machine.{Lives, Cache, Turn, look_up}
+use Rattle.nsc_model.specs.Settings.{DbSettings}
+use Rattle.nsc_model.specs.History.{changes, loads, invalidations, newest, version_in, Legal, IsPrefix, Answered}
+use Rattle.nsc_model.specs.Core.{Core, Move, Files, Begin, Look, Note, Fetch, PollStep, Insert, Finish, Empty, Compact, Reply, AreLive, Runs, Replies, opening}
+use Rattle.nsc_model.specs.Machine.{Kept, Cache, Passed, Stopped, Turn, look_up, tick, invalidated}
 
--- the entry is in the list
-abbrev pub Among : List Fixed → Fixed → Type 0
-Among [] e = ⊥
-Among (entry ∷ entries) e = (entry ≡ e) ⊎ Among entries e
+-- what never changes of the entries
+abbrev pub fixed_of : List Kept → List Fixed
+fixed_of entries = map (λ k. k.entry) entries
 
--- the cache is what its history says: the newest version, and the live entries with no other
+-- the cache is what its history says: the newest version with its number, the live entries in rising number, and the counts
 pub record Tells (history : List Record) (cache : Cache) : Type 0 where
   pub legal : Legal history
   pub newest_is : newest history ≡ Some cache.sources
   pub counted : changes history ≡ cache.newest_version + 1
   pub held : version_in history cache.newest_version ≡ Some cache.sources
   pub loads_are : loads history ≡ cache.inserted
-  pub live : (e : Fixed) → Among cache.entries e → IsLive history e
-  pub all : (e : Fixed) → HasLoad history e → Among cache.entries e ⊎ HasEnd history e.number
+  pub epochs_are : invalidations history ≡ cache.epoch
+  pub entries_are : AreLive history (fixed_of cache.entries)
 
--- a look-up: the files as they are at it, its moment and its request
-pub record Call : Type 0 where
-  pub files : Files
-  pub moment : ℕ
-  pub request : Request
+-- a move of this caller, or of the files or the entries, where the caller has seen this history at the start of its calls
+abbrev pub IsOwn : ℕ → List Record → Move → Type 0
+IsOwn a history (Files content) = Unit {0}
+IsOwn a history (Begin caller request seen) = (caller ≡ a) × (seen ≡ history)
+IsOwn a history (Look caller found) = caller ≡ a
+IsOwn a history (Note caller) = caller ≡ a
+IsOwn a history (Fetch caller) = caller ≡ a
+IsOwn a history (PollStep caller) = caller ≡ a
+IsOwn a history (Insert caller timeout) = caller ≡ a
+IsOwn a history (Finish number cause) = Unit {0}
+IsOwn a history Empty = Unit {0}
+IsOwn a history Compact = Unit {0}
+IsOwn a history (Reply caller bytes) = caller ≡ a
 
--- at every call of a run the history is legal, and the reply is an answer to its request whose caller had seen the whole
--- history before it
-abbrev pub AnsweredThen : (Cache → List Record → Type 0) → List Record → Request → Result Turn ℕ → Type 0
-AnsweredThen others history request (Err count) = Unit {0}
+-- a core that a caller drives alone, from an opening on, and the cache that tells its history
+pub record Drives (db : Db) (a : ℕ) (core : Core) (cache : Cache) : Type 0 where
+  pub first : files.Files
+  pub moves : List Move
+  pub runs : Runs db moves (opening db first) core
+  pub seen_before : IsPrefix (core.callers a).seen core.history
+  pub tells : Tells core.history cache
+
+-- the core moves on by moves of this caller, who has seen the whole history before them, and gains exactly these records;
+-- the files are these before and after
+pub record IsMoved (db : Db) (a : ℕ) (old : Core) (adds : List Record) (after : Cache) (new : Core) : Type 0 where
+  pub moves : List Move
+  pub own : All (IsOwn a old.history) moves
+  pub runs : Runs db moves old new
+  pub history_is : new.history ≡ adds ++ old.history
+  pub sources_stay : new.sources ≡ old.sources
+  pub drives : Drives db a new after
+
+-- and behind them the caller may get this reply to this request
+pub record IsTurned (db : Db) (a : ℕ) (old : Core) (request : Request) (adds : List Record) (reply : List ℕ) (after : Cache) (new : Core) : Type 0 where
+  pub moved : IsMoved db a old adds after new
+  pub requested : (new.callers a).request ≡ Some request
+  pub replies : Replies new a reply
+  pub answered : Answered old.history new.history request reply
+
+-- what an event comes to is moves of the core, also where it stops
+abbrev pub PassesBy : Db → ℕ → Core → Result Passed Stopped → Type 0
+PassesBy db a old (Ok passed) = (new : Core) × IsMoved db a old passed.adds passed.cache new
+PassesBy db a old (Err stop) = (new : Core) × IsMoved db a old stop.adds stop.cache new
+
+abbrev pub TurnsBy : Db → ℕ → Core → Request → Result Turn Stopped → Type 0
+TurnsBy db a old request (Ok turn) = (new : Core) × IsTurned db a old request turn.adds turn.reply turn.cache new
+TurnsBy db a old request (Err stop) = (new : Core) × IsMoved db a old stop.adds stop.cache new
+
+-- ---- whole runs
+
+-- an event of a database, with the files as they are at it, and its moment in seconds
+pub data Event : Type 0 where
+  LookUp : (content : files.Files) → (now : ℕ) → (request : Request) → Event
+  Tick : (content : files.Files) → (now : ℕ) → Event
+  Invalidation : Event
+
+-- in every run of events the history stays legal, and each reply is an answer to its request whose caller had seen the whole
+-- history before it; a run ends where an event stops
+abbrev pub AnsweredThen : (Cache → List Record → Type 0) → List Record → Request → Result Turn Stopped → Type 0
 AnsweredThen others history request (Ok turn) = Answered history (turn.adds ++ history) request turn.reply × others turn.cache (turn.adds ++ history)
+AnsweredThen others history request (Err stop) = Legal (stop.adds ++ history)
 
-abbrev pub EachAnswered : Lives → List Call → Cache → List Record → Type 0
-EachAnswered lives [] cache history = Legal history
-EachAnswered lives (call ∷ calls) cache history =
-    Legal history × AnsweredThen (EachAnswered lives calls) history call.request (look_up lives call.moment call.files call.request cache)
+abbrev pub LegalThen : (Cache → List Record → Type 0) → List Record → Result Passed Stopped → Type 0
+LegalThen others history (Ok passed) = others passed.cache (passed.adds ++ history)
+LegalThen others history (Err stop) = Legal (stop.adds ++ history)
+
+abbrev pub EachAnswered : Db → DbSettings → Option ℕ → List Event → Cache → List Record → Type 0
+EachAnswered db settings reloads [] cache history = Legal history
+EachAnswered db settings reloads (LookUp content now request ∷ events) cache history =
+    Legal history × AnsweredThen (EachAnswered db settings reloads events) history request (look_up settings now (part_of db content) request cache)
+EachAnswered db settings reloads (Tick content now ∷ events) cache history =
+    Legal history × LegalThen (EachAnswered db settings reloads events) history (tick settings reloads now (part_of db content) cache)
+EachAnswered db settings reloads (Invalidation ∷ events) cache history =
+    Legal history × LegalThen (EachAnswered db settings reloads events) history (invalidated cache)

@@ -13,3 +13,7 @@ pub record Fixed : Type 0 where
 -- a key has at most so many bytes (nscd-client.h)
 abbrev pub key_limit : ℕ
 key_limit = 1024
+
+-- a reply that is kept has at most so many bytes
+abbrev pub kept_limit : ℕ
+kept_limit = 65536

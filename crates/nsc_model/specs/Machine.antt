@@ -1,78 +1,250 @@
--- The machine that a cache is: from a state and an event to the next state, the reply and the records that the event adds.
-use Rattle.std.specs.Prelude.{ℕ, ◌+◌, ◌^◌, ◌==◌, if◌then◌else◌, List, [], ◌∷◌, ◌++◌, find, Option, Some, None, Result, Ok, Err}
+-- The machine that the cache of a database is: its events, each with the records that it adds to the history. One caller
+-- drives it, so no insertion comes behind an invalidation that it did not note, and none finds its request live.
+use Rattle.std.specs.Prelude.{ℕ, ◌+◌, ◌-◌, ◌*◌, ◌^◌, ◌==◌, nat_lt, nat_le, min, Bool, true, false, not, ◌&&◌, ◌||◌, if◌then◌else◌, List, [], ◌∷◌, ◌++◌, length, map, filter, find, sum_by, Option, Some, None, Result, Ok, Err}
+use Rattle.nsc_base.specs.Nodes.{node_words}
 use Rattle.nsc_model.specs.declared.answer.Request.{Request}
+use Rattle.nsc_model.specs.declared.record.Ending.{Ending}
+use Rattle.nsc_model.specs.declared.record.Ending.TheVariants.{Expired, Invalidated, Replaced}
 use Rattle.nsc_model.specs.declared.record.Record.{Record}
-use Rattle.nsc_model.specs.declared.record.Record.TheVariants.{Change, Poll, Load}
+use Rattle.nsc_model.specs.declared.record.Record.TheVariants.{Change, Poll, Load, End, Invalid}
 use Rattle.nsc_model.specs.Kinds.{is_request}
 use Rattle.nsc_model.specs.Files.{Files, same_files}
 use Rattle.nsc_model.specs.Marked.{Marked}
-use Rattle.nsc_model.specs.Fixed.{Fixed}
+use Rattle.nsc_model.specs.Fixed.{Fixed, kept_limit}
+use Rattle.nsc_model.specs.Settings.{DbSettings}
 use Rattle.nsc_model.specs.Answers.{answer_of}
 
--- where the counts of versions and of entries end
+-- where every count ends
 abbrev pub last_count : ℕ
 last_count = 2 ^ 62
 
--- how long entries live, in seconds: found ones and not-found ones (nscd.conf(5))
-pub record Lives : Type 0 where
-  pub positive : ℕ
-  pub negative : ℕ
+-- a live entry, and how often it was reloaded since it was last used
+pub record Kept : Type 0 where
+  pub entry : Fixed
+  pub reloads : ℕ
 
--- a cache: its newest content with the number of its version, the live entries from the oldest on, and how many were inserted
+-- a cache: its newest content with the number of its version, the live entries from the oldest on, how many words of its
+-- room are used, how often it was invalidated, how many entries were inserted, the count of its compactions, which goes on
+-- by two at each, the version that the last tick found, and how many insertions found no room
 pub record Cache : Type 0 where
   pub sources : Files
   pub newest_version : ℕ
-  pub entries : List Fixed
+  pub entries : List Kept
+  pub used : ℕ
+  pub epoch : ℕ
   pub inserted : ℕ
+  pub cycle : ℕ
+  pub ticked_version : ℕ
+  pub add_failed : ℕ
 
 -- a new cache
 abbrev pub new_cache : Files → Cache
-new_cache files = record { sources = files; newest_version = 0; entries = []; inserted = 0 }
+new_cache files = record { sources = files; newest_version = 0; entries = []; used = 0; epoch = 0; inserted = 0; cycle = 0; ticked_version = 0; add_failed = 0 }
 
--- what a look-up comes to: the cache after it, the reply, and its records, the newest first
-pub record Turn : Type 0 where
+-- an event is done: the cache after it, and the records that it added, the newest first
+pub record Passed : Type 0 where
   pub cache : Cache
-  pub reply : List ℕ
   pub adds : List Record
 
--- a step stops the machine where it needs a count that stands at its end
+-- an event stopped, since it needs a count that stands at its end: the cache and the records up to there, and the count
+pub record Stopped : Type 0 where
+  pub cache : Cache
+  pub adds : List Record
+  pub count : ℕ
+
+-- a look-up is done: the cache after it, its records, and the reply
+pub record Turn : Type 0 where
+  pub cache : Cache
+  pub adds : List Record
+  pub reply : List ℕ
+
+abbrev pub unchanged : Cache → Passed
+unchanged cache = record { cache = cache; adds = [] }
+
+abbrev pub stopped : Cache → Stopped
+stopped cache = record { cache = cache; adds = []; count = last_count }
+
+-- an event goes on behind these records
+abbrev pub behind : List Record → Result Passed Stopped → Result Passed Stopped
+behind adds (Ok passed) = Ok (record { cache = passed.cache; adds = passed.adds ++ adds })
+behind adds (Err stop) = Err (record { cache = stop.cache; adds = stop.adds ++ adds; count = stop.count })
+
+-- one part of an event, and then the next
 infixl 10 ◌>>=◌
-abbrev pub ◌>>=◌ : {A B : Type 0} → Result A ℕ → (A → Result B ℕ) → Result B ℕ
-(Ok x) >>= f = f x
-(Err count) >>= f = Err count
+abbrev pub ◌>>=◌ : Result Passed Stopped → (Cache → Result Passed Stopped) → Result Passed Stopped
+(Ok passed) >>= next = behind passed.adds (next passed.cache)
+(Err stop) >>= next = Err stop
 
--- a poll: a different content is the next version, an equal one confirms the newest
-abbrev pub polled : Files → Cache → Result (Cache × Record) ℕ
+-- a poll: an equal content confirms the newest version, a different one is the next
+abbrev pub polled : Files → Cache → Result Passed Stopped
 polled files cache =
-    if same_files files cache.sources then Ok (cache, Poll cache.newest_version) else (
-    if cache.newest_version == last_count then Err last_count else
-    Ok (record cache { sources = files; newest_version = cache.newest_version + 1 }, Change (cache.newest_version + 1) files))
+    if same_files files cache.sources then Ok (record { cache = cache; adds = Poll cache.newest_version ∷ [] }) else (
+    if cache.newest_version == last_count then Err (stopped cache) else
+    Ok (record { cache = record cache { sources = files; newest_version = cache.newest_version + 1 }; adds = Change (cache.newest_version + 1) files ∷ [] }))
 
--- how long an answer lives
-abbrev pub life_of : Lives → Marked → ℕ
-life_of lives marked = if marked.not_found then lives.negative else lives.positive
+-- ---- insertions
 
--- the entry that a load would insert
-abbrev pub loaded_entry : Lives → ℕ → Request → Cache → Fixed
-loaded_entry lives now request cache =
-    let made = answer_of cache.sources request in
-    record { number = cache.inserted; request = request; version = cache.newest_version; answer = made; timeout = now + life_of lives made }
+-- the words of an entry, and of all entries
+abbrev pub entry_words : Fixed → ℕ
+entry_words e = node_words (length e.request.key) (length e.answer.bytes)
 
--- a load after a poll: the answer over the newest version, which is inserted where the count of entries is not at its end
-abbrev pub loaded : Lives → ℕ → Request → Cache → Record → Turn
-loaded lives now request cache poll =
-    let e = loaded_entry lives now request cache in
-    if cache.inserted == last_count then record { cache = cache; reply = e.answer.bytes; adds = poll ∷ [] }
-    else record {
-      cache = record cache { entries = cache.entries ++ e ∷ []; inserted = cache.inserted + 1 };
-      reply = e.answer.bytes;
-      adds = Load e ∷ poll ∷ [];
-    }
+abbrev pub all_words : List Kept → ℕ
+all_words entries = sum_by (λ k. entry_words k.entry) entries
 
-abbrev pub hit_or_load : Option Fixed → Lives → ℕ → Files → Request → Cache → Result Turn ℕ
-hit_or_load (Some e) lives now files request cache = Ok (record { cache = cache; reply = e.answer.bytes; adds = [] })
-hit_or_load None lives now files request cache = polled files cache >>= λ p. Ok (loaded lives now request p.0 p.1)
+-- the room of a cache in words, by its suggested size (nscd.conf(5))
+abbrev pub room_of : DbSettings → ℕ
+room_of settings = settings.size * 128
 
--- a look-up: the reply of the live entry of the request, or else a load
-abbrev pub look_up : Lives → ℕ → Files → Request → Cache → Result Turn ℕ
-look_up lives now files request cache = hit_or_load (find (λ e. is_request request e.request) cache.entries) lives now files request cache
+-- for how many seconds an answer is kept
+abbrev pub life_of : DbSettings → Marked → ℕ
+life_of settings answer = if answer.not_found then settings.negative else settings.positive
+
+-- the entry of a request that is to be inserted: the answer over the newest version, until its time is over
+abbrev pub new_entry : DbSettings → ℕ → Request → ℕ → Cache → Kept
+new_entry settings now request reloads cache =
+    let answer = answer_of cache.sources request in
+    record { entry = record { number = cache.inserted; request = request; version = cache.newest_version; answer = answer; timeout = now + life_of settings answer }; reloads = reloads }
+
+-- why an insertion is refused
+pub data Refusal : Type 0 where
+  TooLarge : (length : ℕ) → Refusal
+  Spent : (count : ℕ) → Refusal
+  Full : (need : ℕ) → (free : ℕ) → Refusal
+
+-- the first cause that holds: the reply is too long, no more entries can be counted, or the entry needs more words than are free
+abbrev pub refusal : DbSettings → Fixed → Cache → Option Refusal
+refusal settings e cache =
+    if nat_lt kept_limit (length e.answer.bytes) then Some (TooLarge (length e.answer.bytes)) else (
+    if cache.inserted == last_count then Some (Spent last_count) else (
+    if nat_lt (room_of settings - cache.used) (entry_words e) then Some (Full (entry_words e) (room_of settings - cache.used)) else None))
+
+-- a refused insertion leaves the cache as it was, but that a full one is counted; that count stays at its end
+abbrev pub tried_by : Option Refusal → Kept → Cache → Passed
+tried_by None k cache = record { cache = record cache { entries = cache.entries ++ k ∷ []; used = cache.used + entry_words k.entry; inserted = cache.inserted + 1 }; adds = Load k.entry ∷ [] }
+tried_by (Some (TooLarge size)) k cache = unchanged cache
+tried_by (Some (Spent count)) k cache = unchanged cache
+tried_by (Some (Full need free)) k cache = unchanged (record cache { add_failed = min (cache.add_failed + 1) last_count })
+
+-- an insertion is tried
+abbrev pub tried : DbSettings → ℕ → Request → ℕ → Cache → Passed
+tried settings now request reloads cache = let k = new_entry settings now request reloads cache in tried_by (refusal settings k.entry cache) k cache
+
+-- ---- look-ups
+
+-- the live entry that answers a request, where the database is cached
+abbrev pub cached : DbSettings → Request → Cache → Option Kept
+cached settings request cache = if settings.enabled then find (λ k. is_request request k.entry.request) cache.entries else None
+
+-- the entry of this request is used: its count of reloads begins anew
+abbrev pub used_now : Request → List Kept → List Kept
+used_now request entries = map (λ k. if is_request request k.entry.request then record k { reloads = 0 } else k) entries
+
+-- behind a poll an insertion is tried, where the database is cached
+abbrev pub kept_answer : DbSettings → ℕ → Request → Cache → Passed
+kept_answer settings now request cache = if settings.enabled then tried settings now request 0 cache else unchanged cache
+
+-- a poll, and then the answer over the newest version
+abbrev pub loaded : DbSettings → ℕ → Request → Result Passed Stopped → Result Turn Stopped
+loaded settings now request (Ok poll) =
+    let after = kept_answer settings now request poll.cache in
+    Ok (record { cache = after.cache; adds = after.adds ++ poll.adds; reply = (answer_of poll.cache.sources request).bytes })
+loaded settings now request (Err stop) = Err stop
+
+abbrev pub hit_or_load : Option Kept → DbSettings → ℕ → Files → Request → Cache → Result Turn Stopped
+hit_or_load (Some k) settings now files request cache = Ok (record { cache = record cache { entries = used_now request cache.entries }; adds = []; reply = k.entry.answer.bytes })
+hit_or_load None settings now files request cache = loaded settings now request (polled files cache)
+
+-- a look-up: the reply of the live entry of the request, whose time is not looked at, or else a poll and its answer
+unfoldable pub look_up : DbSettings → ℕ → Files → Request → Cache → Result Turn Stopped
+look_up settings now files request cache = hit_or_load (cached settings request cache) settings now files request cache
+
+-- ---- ends
+
+-- a compaction: the words of ended entries are free again
+abbrev pub compacted : Cache → Result Passed Stopped
+compacted cache = if nat_lt cache.cycle last_count then Ok (unchanged (record cache { cycle = cache.cycle + 2; used = all_words cache.entries })) else Err (stopped cache)
+
+-- a compaction where any entry was ended
+abbrev pub compacted_behind : List Kept → Cache → Result Passed Stopped
+compacted_behind [] cache = Ok (unchanged cache)
+compacted_behind (k ∷ ended) cache = compacted cache
+
+-- the ends of entries, one after the other, each by its cause, behind these records
+abbrev pub ends_of : (Kept → Ending) → List Kept → List Record → List Record
+ends_of cause [] before = before
+ends_of cause (k ∷ entries) before = ends_of cause entries (End k.entry.number (cause k) ∷ before)
+
+abbrev pub by_invalidation : Kept → Ending
+by_invalidation k = Invalidated
+
+-- an invalidation: every live entry ends
+unfoldable pub invalidated : Cache → Result Passed Stopped
+invalidated cache =
+    if cache.epoch == last_count then Err (stopped cache) else
+    behind (Invalid (cache.epoch + 1) ∷ ends_of by_invalidation cache.entries [])
+        (compacted_behind cache.entries (record cache { entries = []; epoch = cache.epoch + 1 }))
+
+-- ---- ticks
+
+-- the entry's time is over
+abbrev pub is_due : ℕ → Kept → Bool
+is_due now k = nat_lt k.entry.timeout now
+
+-- as many reloads as this were made without a use; none is the limit that no count reaches
+abbrev pub reached : Option ℕ → ℕ → Bool
+reached None count = false
+reached (Some limit) count = nat_le limit count
+
+-- a due entry is dropped, and not reloaded: its reply is a not-found one, or it was reloaded often enough
+abbrev pub is_dropped : Option ℕ → Kept → Bool
+is_dropped reloads k = k.entry.answer.not_found || reached reloads k.reloads
+
+abbrev pub due_cause : Option ℕ → ℕ → Kept → Ending
+due_cause reloads now k = if is_dropped reloads k then Expired now else Replaced
+
+abbrev pub next_reloads : ℕ → ℕ
+next_reloads count = min (count + 1) last_count
+
+-- entries are reloaded, one after the other; one whose insertion is refused is gone
+abbrev pub reloaded : DbSettings → ℕ → List Kept → Cache → Passed
+reloaded settings now [] cache = unchanged cache
+reloaded settings now (k ∷ entries) cache =
+    let first = tried settings now k.entry.request (next_reloads k.reloads) cache in
+    let rest = reloaded settings now entries first.cache in
+    record { cache = rest.cache; adds = rest.adds ++ first.adds }
+
+-- those of the entries whose time is over, and the others
+abbrev pub due_of : ℕ → List Kept → List Kept
+due_of now entries = filter (is_due now) entries
+
+abbrev pub others_of : ℕ → List Kept → List Kept
+others_of now entries = filter (λ k. not (is_due now k)) entries
+
+-- those of them that are reloaded
+abbrev pub reloaded_of : Option ℕ → List Kept → List Kept
+reloaded_of reloads due = filter (λ k. not (is_dropped reloads k)) due
+
+-- the entries whose time is over end, in rising number, and then those that are not dropped are reloaded
+abbrev pub pruned : DbSettings → Option ℕ → ℕ → Cache → Result Passed Stopped
+pruned settings reloads now cache =
+    let due = due_of now cache.entries in
+    behind (ends_of (due_cause reloads now) due [])
+        (compacted_behind due (record cache { entries = others_of now cache.entries }) >>= λ after. Ok (reloaded settings now (reloaded_of reloads due) after))
+
+-- the version that a tick found is kept
+abbrev pub ticked : Cache → Cache
+ticked cache = record cache { ticked_version = cache.newest_version }
+
+-- the files changed since the last tick, and such a change counts
+abbrev pub is_outdated : DbSettings → Cache → Bool
+is_outdated settings cache = settings.check_files && not (cache.newest_version == cache.ticked_version)
+
+-- behind the poll of a tick: an invalidation where the files changed, after which nothing is left to prune
+abbrev pub checked : DbSettings → Option ℕ → ℕ → Cache → Result Passed Stopped
+checked settings reloads now cache =
+    if is_outdated settings cache then (invalidated cache >>= λ after. Ok (unchanged (ticked after))) else
+    pruned settings reloads now (ticked cache)
+
+-- a tick of a database; one that is not cached does nothing
+unfoldable pub tick : DbSettings → Option ℕ → ℕ → Files → Cache → Result Passed Stopped
+tick settings reloads now files cache = if settings.enabled then (polled files cache >>= checked settings reloads now) else Ok (unchanged cache)

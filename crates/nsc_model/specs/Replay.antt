@@ -1,27 +1,48 @@
--- A replay: frames through the machine, from every file absent to the first E.
-use Rattle.std.specs.Prelude.{ℕ, List, [], ◌∷◌, ◌++◌, length, Option, Result, Ok, Err}
+-- A replay: frames through the machines of the four databases, from every file absent at moment 0 to the first E.
+use Rattle.std.specs.Prelude.{ℕ, ◌-◌, min, max, List, [], ◌∷◌, ◌++◌, length, Option, Result, Ok, Err}
 use Rattle.nsc_model.specs.declared.kind.Kind.{Kind}
 use Rattle.nsc_model.specs.declared.kind.Kind.TheVariants.{PwName, PwUid, GrName, GrGid, HostName, HostName6, HostAddr, HostAddr6, Ai, InitGroups, ServName, ServPort}
+use Rattle.nsc_model.specs.declared.kind.Db.{Db}
 use Rattle.nsc_model.specs.declared.kind.Db.TheVariants as db
 use Rattle.nsc_model.specs.declared.kind.FileId.{FileId}
 use Rattle.nsc_model.specs.declared.kind.FileId.TheVariants as file
 use Rattle.nsc_model.specs.declared.answer.Request.{Request}
 use Rattle.nsc_model.specs.Files.{Files, no_files, with_file, part_of}
+use Rattle.nsc_model.specs.Settings.{Settings, settings_of}
 use Rattle.nsc_model.specs.Wire.{Asked, Look, Shutdown, Stat, Invalidate, Descriptor, Netgroup, Short, BadVersion, BadType, BadLength, request_of, field}
-use Rattle.nsc_model.specs.Machine.{Lives, Cache, new_cache, Turn, look_up}
+use Rattle.nsc_model.specs.Machine.{Cache, new_cache, Passed, Stopped, Turn, last_count, look_up, tick, invalidated}
 use Rattle.nsc_model.specs.Frames.{Frame, Ask, Become, Reach, Clear, Stop, Finish, Spent, NotBuilt, cut_at}
 
--- the files as they are, and the cache of users
+-- the files as they are, the moment in seconds, and the cache of each database
 pub record State : Type 0 where
   pub files : Files
+  pub moment : ℕ
   pub users : Cache
+  pub groups : Cache
+  pub hosts : Cache
+  pub services : Cache
 
 abbrev pub first_state : State
-first_state = record { files = no_files; users = new_cache (part_of db.Passwd no_files) }
+first_state = record {
+  files = no_files;
+  moment = 0;
+  users = new_cache (part_of db.Passwd no_files);
+  groups = new_cache (part_of db.Group no_files);
+  hosts = new_cache (part_of db.Hosts no_files);
+  services = new_cache (part_of db.Services no_files);
+}
 
--- how long users live in a cache that nothing configures (nscd.conf(5))
-abbrev pub user_lives : Lives
-user_lives = record { positive = 3600; negative = 20 }
+abbrev pub cache_of : State → Db → Cache
+cache_of s db.Passwd = s.users
+cache_of s db.Group = s.groups
+cache_of s db.Hosts = s.hosts
+cache_of s db.Services = s.services
+
+abbrev pub with_cache : State → Db → Cache → State
+with_cache s db.Passwd cache = record s { users = cache }
+with_cache s db.Group cache = record s { groups = cache }
+with_cache s db.Hosts cache = record s { hosts = cache }
+with_cache s db.Services cache = record s { services = cache }
 
 -- what a frame comes to: the state after it, and what is written for it
 pub record Went : Type 0 where
@@ -32,55 +53,88 @@ pub record Went : Type 0 where
 abbrev pub framed : List ℕ → List ℕ
 framed reply = field (length reply) ++ reply
 
-abbrev pub looked_at : State → Result Turn ℕ → Result Went Finish
-looked_at s (Ok turn) = Ok (record { state = record s { users = turn.cache }; writes = framed turn.reply })
-looked_at s (Err count) = Err (Spent count)
+abbrev pub looked_at : State → Db → Result Turn Stopped → Result Went Finish
+looked_at s db (Ok turn) = Ok (record { state = with_cache s db turn.cache; writes = framed turn.reply })
+looked_at s db (Err stop) = Err (Spent stop.count)
 
--- a look-up at moment 0, of the kinds that are built
-abbrev pub look_frame : Kind → State → Request → Result Went Finish
-look_frame PwName s request = looked_at s (look_up user_lives 0 (part_of db.Passwd s.files) request s.users)
-look_frame PwUid s request = Err NotBuilt
-look_frame GrName s request = Err NotBuilt
-look_frame GrGid s request = Err NotBuilt
-look_frame HostName s request = Err NotBuilt
-look_frame HostName6 s request = Err NotBuilt
-look_frame HostAddr s request = Err NotBuilt
-look_frame HostAddr6 s request = Err NotBuilt
-look_frame Ai s request = Err NotBuilt
-look_frame InitGroups s request = Err NotBuilt
-look_frame ServName s request = Err NotBuilt
-look_frame ServPort s request = Err NotBuilt
+-- a look-up, of the kinds that are built
+abbrev pub look_frame : Kind → Settings → State → Request → Result Went Finish
+look_frame PwName settings s request = looked_at s db.Passwd (look_up settings.passwd s.moment (part_of db.Passwd s.files) request s.users)
+look_frame PwUid settings s request = Err NotBuilt
+look_frame GrName settings s request = Err NotBuilt
+look_frame GrGid settings s request = Err NotBuilt
+look_frame HostName settings s request = Err NotBuilt
+look_frame HostName6 settings s request = Err NotBuilt
+look_frame HostAddr settings s request = Err NotBuilt
+look_frame HostAddr6 settings s request = Err NotBuilt
+look_frame Ai settings s request = Err NotBuilt
+look_frame InitGroups settings s request = Err NotBuilt
+look_frame ServName settings s request = Err NotBuilt
+look_frame ServPort settings s request = Err NotBuilt
 
--- the input of a connection; only look-ups are built
-abbrev pub ask_frame : State → Asked → Result Went Finish
-ask_frame s (Look request) = look_frame request.kind s request
-ask_frame s Shutdown = Err NotBuilt
-ask_frame s Stat = Err NotBuilt
-ask_frame s (Invalidate name) = Err NotBuilt
-ask_frame s Descriptor = Err NotBuilt
-ask_frame s Netgroup = Err NotBuilt
-ask_frame s (Short have) = Err NotBuilt
-ask_frame s (BadVersion version) = Err NotBuilt
-ask_frame s (BadType type) = Err NotBuilt
-ask_frame s (BadLength length) = Err NotBuilt
+-- an input that asks for no look-up gets no reply: an empty one is written
+abbrev pub unanswered : State → Result Went Finish
+unanswered s = Ok (record { state = s; writes = framed [] })
+
+-- the input of a connection
+abbrev pub ask_frame : Settings → State → Asked → Result Went Finish
+ask_frame settings s (Look request) = look_frame request.kind settings s request
+ask_frame settings s Shutdown = unanswered s
+ask_frame settings s Stat = unanswered s
+ask_frame settings s (Invalidate name) = unanswered s
+ask_frame settings s Descriptor = unanswered s
+ask_frame settings s Netgroup = unanswered s
+ask_frame settings s (Short have) = unanswered s
+ask_frame settings s (BadVersion version) = unanswered s
+ask_frame settings s (BadType type) = unanswered s
+ask_frame settings s (BadLength length) = unanswered s
+
+-- a frame for which nothing is written
+abbrev pub silent : State → Result Went Finish
+silent s = Ok (record { state = s; writes = [] })
 
 -- a file becomes this; only the passwd file is built
 abbrev pub become_frame : State → FileId → Option (List ℕ) → Result Went Finish
 become_frame s file.Switch held = Err NotBuilt
-become_frame s file.Passwd held = Ok (record { state = record s { files = with_file s.files file.Passwd held }; writes = [] })
+become_frame s file.Passwd held = silent (record s { files = with_file s.files file.Passwd held })
 become_frame s file.Group held = Err NotBuilt
 become_frame s file.Hosts held = Err NotBuilt
 become_frame s file.Services held = Err NotBuilt
 become_frame s file.ExtraPasswd held = Err NotBuilt
 become_frame s file.ExtraGroup held = Err NotBuilt
 
--- one frame through the machine; moments and invalidations are not built yet. The first E is cut off before.
-abbrev pub turn_of : State → Frame → Result Went Finish
-turn_of s (Ask input) = ask_frame s (request_of input)
-turn_of s (Become file held) = become_frame s file held
-turn_of s (Reach moment) = Err NotBuilt
-turn_of s (Clear db) = Err NotBuilt
-turn_of s Stop = Ok (record { state = s; writes = [] })
+-- one database did this, and the next part goes on behind it
+abbrev pub then_on : State → Db → Result Passed Stopped → (State → Result Went Finish) → Result Went Finish
+then_on s db (Ok passed) next = next (with_cache s db passed.cache)
+then_on s db (Err stop) next = Err (Spent stop.count)
+
+-- a database is ticked at the moment as it is
+abbrev pub ticked_in : Settings → Db → State → (State → Result Went Finish) → Result Went Finish
+ticked_in settings db s next = then_on s db (tick (settings_of settings db) settings.reloads s.moment (part_of db s.files) (cache_of s db)) next
+
+-- all databases are ticked, one after the other
+abbrev pub ticks : Settings → State → Result Went Finish
+ticks settings s = ticked_in settings db.Passwd s (λ s1. ticked_in settings db.Group s1 (λ s2. ticked_in settings db.Hosts s2 (λ s3. ticked_in settings db.Services s3 silent)))
+
+-- the greatest moment
+abbrev pub last_moment : ℕ
+last_moment = last_count - 1
+
+-- the moment becomes this one, unless it is later already
+abbrev pub reach_frame : Settings → State → ℕ → Result Went Finish
+reach_frame settings s moment = ticks settings (record s { moment = max s.moment (min moment last_moment) })
+
+-- a database is invalidated
+abbrev pub clear_frame : State → Db → Result Went Finish
+clear_frame s db = then_on s db (invalidated (cache_of s db)) silent
+
+-- one frame through the machines. The first E is cut off before.
+abbrev pub turn_of : Settings → State → Frame → Result Went Finish
+turn_of settings s (Ask input) = ask_frame settings s (request_of input)
+turn_of settings s (Become file held) = become_frame s file held
+turn_of settings s (Reach moment) = reach_frame settings s moment
+turn_of settings s (Clear db) = clear_frame s db
+turn_of settings s Stop = silent s
 
 -- what a replay writes, and how it ends
 pub record Replayed : Type 0 where
@@ -94,15 +148,15 @@ abbrev pub play_on : (State → Replayed) → Result Went Finish → Replayed
 play_on next (Ok went) = behind_output went.writes (next went.state)
 play_on next (Err finish) = record { output = []; finish = finish }
 
--- frames through the machine, one after another, up to one that ends the replay
-unfoldable pub play : List Frame → Finish → State → Replayed
-play [] finish s = record { output = []; finish = finish }
-play (frame ∷ frames) finish s = play_on (play frames finish) (turn_of s frame)
+-- frames through the machines, one after another, up to one that ends the replay
+unfoldable pub play : Settings → List Frame → Finish → State → Replayed
+play settings [] finish s = record { output = []; finish = finish }
+play settings (frame ∷ frames) finish s = play_on (play settings frames finish) (turn_of settings s frame)
 
 -- the rest of a replay: the bytes from this place on, in this state
-abbrev pub replay_from : State → ℕ → List ℕ → Replayed
-replay_from s place bytes = let cut = cut_at place bytes in play cut.frames cut.finish s
+abbrev pub replay_from : Settings → State → ℕ → List ℕ → Replayed
+replay_from settings s place bytes = let cut = cut_at place bytes in play settings cut.frames cut.finish s
 
--- the replay of bytes
-abbrev pub replay : List ℕ → Replayed
-replay bytes = replay_from first_state 0 bytes
+-- the replay of bytes, with these settings
+abbrev pub replay : Settings → List ℕ → Replayed
+replay settings bytes = replay_from settings first_state 0 bytes

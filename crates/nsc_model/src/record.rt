@@ -16,7 +16,7 @@ pub enum Ending {
     Replaced,
 }
 
-/// What never changes of an entry of a cache. Its key has at most 1,024 bytes.
+/// What never changes of an entry of a cache. Its key has at most 1,024 bytes, and its reply at most 65,536.
 #[derive(Debug, Drop)]
 pub struct Entry {
     number: u64,
@@ -28,24 +28,25 @@ pub struct Entry {
 
 impl Model for Entry {
     ghost use Rattle.std.specs.Prelude.{◌≤◌, length};
-    ghost use Rattle.nsc_model.specs.Fixed.{Fixed, key_limit};
+    ghost use Rattle.nsc_model.specs.Fixed.{Fixed, key_limit, kept_limit};
 
     ghost Value = { Fixed };
 
     ghost view = { λ e. record { number = e.number; request = e.request; version = e.version; answer = e.answer; timeout = e.timeout } };
 
-    ghost invariant = { λ e. length e.request.key ≤ key_limit };
+    ghost invariant = { λ e. (length e.request.key ≤ key_limit) × (length e.answer.bytes ≤ kept_limit) };
 }
 
 impl Entry {
     ghost use Rattle.std.specs.Prelude.{◌≡◌, ◌≤◌, length};
-    ghost use Rattle.nsc_model.specs.Fixed.{key_limit};
+    ghost use Rattle.nsc_model.specs.Fixed.{key_limit, kept_limit};
 
     /// The entry of these parts: its number in its database, the request that it answers, the source version
     /// that the answer was made over, the answer, and the last moment, in seconds, at which it is not yet
     /// over.
     pub fn new(number: u64, request: Request, version: u64, answer: Answer, timeout: u64) -> Entry
-        requires { length request.key ≤ key_limit }
+        requires key { length request.key ≤ key_limit }
+        requires reply { length answer.bytes ≤ kept_limit }
         ensures { result ≡ record { number = number; request = request; version = version; answer = answer; timeout = timeout } }
     {
         Entry {
@@ -79,9 +80,10 @@ impl Entry {
         self.version
     }
 
-    /// Its answer.
+    /// Its answer, of at most 65,536 bytes.
     pub fn answer(&self) -> &Answer
-        ensures { result.now ≡ self.now.answer }
+        ensures value { result.now ≡ self.now.answer }
+        ensures bound { length result.now.bytes ≤ kept_limit }
     {
         &self.answer
     }

@@ -1,70 +1,77 @@
-ghost use Rattle.std.specs.Prelude.{◌≡◌, ◌≤◌, ◌<◌, ◌^◌, length, find, OnOk, OnErr, IfOk, IfErr, IfSome};
-ghost use Rattle.std.specs.Option.{option_map};
+ghost use Rattle.std.specs.Prelude.{◌≡◌, ◌≤◌, ◌<◌, ◌^◌, true, length, IfOk, IfErr, OnOk};
+ghost use Rattle.std.specs.Bool.{OnTrue};
 ghost use Rattle.std.specs.Arc.{arc_value};
-ghost use Rattle.nsc_model.specs.Kinds.{IsBuilt, is_request};
+ghost use Rattle.nsc_model.specs.Kinds.{IsBuilt};
 ghost use Rattle.nsc_model.specs.Files.{no_files};
 ghost use Rattle.nsc_model.specs.Fixed.{key_limit};
 ghost use Rattle.nsc_model.specs.Marked.{reply_limit};
-ghost use Rattle.nsc_model.specs.Machine.{new_cache, polled, look_up, life_of};
-ghost use Rattle.nsc_plain.specs.Shelf.{TurnsTo, FaultsBy, PollsTo, PollFaultsBy, Loads};
+ghost use Rattle.nsc_model.specs.Machine.{new_cache, look_up, tick, invalidated};
+ghost use Rattle.nsc_daemonconf.specs.Conf.{db_settings};
+ghost use Rattle.nsc_plain.specs.Shelf.{TurnsTo, PassesTo, FaultsBy, StopsBy};
 
-use crate::entries::find_entry;
 use crate::fault::PlainFault;
 use nsc_base::{Bytes, NoMemory};
-use nsc_model::{Answer, Answerer, Content, Entry, Kind, Request};
+use nsc_daemonconf::DbConf;
+use nsc_model::{Answerer, Content, Entry, Kind};
 use std::alloc::Global;
 use std::marker::Model;
 use std::sync::Arc;
 
-/// A cache of one database: its newest content, and its live entries as a list from the oldest on.
+// A live entry, and how often it was reloaded since it was last used.
+#[derive(Drop)]
+struct Held {
+    entry: Entry,
+    reloads: u64,
+}
+
+/// A cache of one database: its settings, its newest content, and its live entries as a list from the oldest on.
 #[derive(Drop)]
 pub struct PlainCache {
-    positive: u32,
-    negative: u32,
+    conf: DbConf,
+    reloads: Option<u32>,
     content: Arc<Content>,
     newest_version: u64,
-    entries: Vec<Entry>,
+    entries: Vec<Held>,
+    used: u64,
+    epoch: u64,
     inserted: u64,
+    cycle: u64,
+    ticked_version: u64,
+    add_failed: u64,
 }
 
 impl Model for PlainCache {
-    ghost use Rattle.std.specs.Prelude.{◌≤◌};
+    ghost use Rattle.std.specs.Prelude.{◌≤◌, map};
     ghost use Rattle.std.specs.Arc.{arc_value};
     ghost use Rattle.nsc_model.specs.Machine.{last_count};
+    ghost use Rattle.nsc_daemonconf.specs.Conf.{db_settings};
     ghost use Rattle.nsc_plain.specs.Shelf.{Shelf};
 
     ghost Value = { Shelf };
 
     ghost view = { λ c. record {
-      lives = record { positive = c.positive; negative = c.negative };
-      cache = record { sources = arc_value c.content; newest_version = c.newest_version; entries = c.entries.items; inserted = c.inserted };
+      settings = db_settings c.conf;
+      reloads = c.reloads;
+      cache = record { sources = arc_value c.content; newest_version = c.newest_version; entries = map (λ k. record { entry = k.entry; reloads = k.reloads }) c.entries.items; used = c.used; epoch = c.epoch; inserted = c.inserted; cycle = c.cycle; ticked_version = c.ticked_version; add_failed = c.add_failed };
     } };
 
-    ghost invariant = { λ c. (c.newest_version ≤ last_count) × (c.inserted ≤ last_count) };
+    ghost invariant = { λ c. c.newest_version ≤ last_count };
 }
 
-// The last number of a version or an entry: 2^62.
-const LAST_COUNT: u64 = 4_611_686_018_427_387_904;
-
 impl PlainCache {
-    /// An empty cache over the content in which every file is absent, at version 0. Found replies live for `positive`
-    /// seconds, and not-found ones for `negative`. Fails only for want of memory.
-    pub fn new(alloc: Global, positive: u32, negative: u32) -> Result<PlainCache, NoMemory>
-        ensures { IfOk result (λ cache. cache ≡ record { lives = record { positive = positive; negative = negative }; cache = new_cache no_files }) }
+    /// An empty cache with these settings over the content in which every file is absent, at version 0. `reloads` is
+    /// after how many reloads without a use an entry is dropped; `None` for never. Fails only for want of memory.
+    pub fn new(alloc: Global, conf: DbConf, reloads: Option<u32>) -> Result<PlainCache, NoMemory>
+        requires some { 1 ≤ conf.size }
+        requires limit { conf.size ≤ 65536 }
+        ensures { IfOk result (λ cache. cache ≡ record { settings = db_settings conf; reloads = reloads; cache = new_cache no_files }) }
     {
-        Ok(PlainCache {
-            positive,
-            negative,
-            content: Arc::new(alloc, Content::none())?,
-            newest_version: 0,
-            entries: Vec::new(alloc),
-            inserted: 0,
-        })
+        Err(NoMemory)
     }
 
     /// A look-up of this kind and key at this moment, in seconds, over the files as they are now: the machine's. The
-    /// reply is that of the live entry of the request, or else the answer over these files, which is then kept. It has at
-    /// most 2^30 bytes.
+    /// reply is that of the live entry of the request, or else the answer over these files, which is then kept where
+    /// nothing refuses it. It has at most 2^30 bytes.
     ///
     /// At `NoMemory` the entries are as before, and a poll may have been made. At `Spent` nothing changed: a new
     /// version was needed, and the count of versions stands at its end.
@@ -80,92 +87,97 @@ impl PlainCache {
         requires built { IsBuilt kind }
         requires key { length key.now ≤ key_limit }
         requires moment { now < 2 ^ 62 }
-        ensures lives { self.new.lives ≡ self.old.lives }
+        ensures settings { self.new.settings ≡ self.old.settings }
+        ensures limit { self.new.reloads ≡ self.old.reloads }
         ensures bound { IfOk result (λ reply. length reply ≤ reply_limit) }
-        ensures turn { IfOk result (λ reply. TurnsTo (look_up self.old.lives now (arc_value content.now) (record { kind = kind; key = key.now }) self.old.cache) self.new.cache reply) }
-        ensures fault { IfErr result (λ fault. FaultsBy (look_up self.old.lives now (arc_value content.now) (record { kind = kind; key = key.now }) self.old.cache) (arc_value content.now) self.old.cache self.new.cache fault) }
+        ensures turn { IfOk result (λ reply. TurnsTo (look_up self.old.settings now (arc_value content.now) (record { kind = kind; key = key.now }) self.old.cache) self.new.cache reply) }
+        ensures fault { IfErr result (FaultsBy (look_up self.old.settings now (arc_value content.now) (record { kind = kind; key = key.now }) self.old.cache) (arc_value content.now) self.old.cache self.new.cache) }
     {
-        if let Some(reply) = self.hit(alloc, kind, key)? {
-            return Ok(reply);
-        }
-        self.poll(content)?;
-        Ok(self.load(alloc, answers, kind, key, now)?)
+        let mut is_newest = false;
+        self.look_up_marked(alloc, content, &mut is_newest, answers, kind, key, now)
     }
 
-    // A copy of the reply of the live entry of the request, if there is one.
-    fn hit(&self, alloc: Global, kind: Kind, key: &[u8]) -> Result<Option<Bytes>, NoMemory>
-        ensures bound { IfOk result (λ hit. IfSome hit (λ reply. length reply ≤ reply_limit)) }
-        ensures hit { IfOk result (λ hit. hit ≡ option_map (λ e. e.answer.bytes) (find (λ e. is_request (record { kind = kind; key = key.now }) e.request) self.now.cache.entries)) }
-    {
-        match find_entry(&self.entries, kind, key) {
-            Some(entry) => Ok(Some(Bytes::copy(alloc, entry.answer().bytes())?)),
-            None => Ok(None),
-        }
-    }
-
-    // Makes the files the newest version, or confirms it where they are the same.
-    fn poll(&mut self, content: &Arc<Content>) -> Result<(), PlainFault>
-        ensures lives { self.new.lives ≡ self.old.lives }
-        ensures polled { OnOk result (PollsTo (polled (arc_value content.now) self.old.cache) self.new.cache) }
-        ensures fault { IfErr result (λ fault. PollFaultsBy (polled (arc_value content.now) self.old.cache) fault) }
-        ensures stays { OnErr result (self.new.cache ≡ self.old.cache) }
-    {
-        if content.is_same(&self.content) {
-            return Ok(());
-        }
-        if self.newest_version == LAST_COUNT {
-            return Err(PlainFault::Spent { count: LAST_COUNT });
-        }
-        self.content = content.clone()?;
-        self.newest_version += 1;
-        Ok(())
-    }
-
-    // The answer over the newest version, which is kept where the count of entries is not at its end.
-    fn load<A: Answerer>(
+    /// As `look_up`, with a mark whether the files are known to be the newest content: where it is set, a poll compares
+    /// nothing. It is set by a poll, also by that of a call that gave up behind it, and stays set.
+    pub fn look_up_marked<A: Answerer>(
         &mut self,
         alloc: Global,
+        content: &Arc<Content>,
+        is_newest: &mut bool,
         answers: &A,
         kind: Kind,
         key: &[u8],
         now: u64,
-    ) -> Result<Bytes, NoMemory>
+    ) -> Result<Bytes, PlainFault>
         requires built { IsBuilt kind }
         requires key { length key.now ≤ key_limit }
         requires moment { now < 2 ^ 62 }
-        ensures lives { self.new.lives ≡ self.old.lives }
+        requires mark { OnTrue is_newest.old (self.old.cache.sources ≡ arc_value content.now) }
+        ensures settings { self.new.settings ≡ self.old.settings }
+        ensures limit { self.new.reloads ≡ self.old.reloads }
+        ensures newest { OnTrue is_newest.new (self.new.cache.sources ≡ arc_value content.now) }
+        ensures stays { OnTrue is_newest.old (is_newest.new ≡ true) }
         ensures bound { IfOk result (λ reply. length reply ≤ reply_limit) }
-        ensures loaded { IfOk result (λ reply. Loads self.old.lives now (record { kind = kind; key = key.now }) self.old.cache self.new.cache reply) }
-        ensures stays { OnErr result (self.new.cache ≡ self.old.cache) }
+        ensures turn { IfOk result (λ reply. TurnsTo (look_up self.old.settings now (arc_value content.now) (record { kind = kind; key = key.now }) self.old.cache) self.new.cache reply) }
+        ensures fault { IfErr result (FaultsBy (look_up self.old.settings now (arc_value content.now) (record { kind = kind; key = key.now }) self.old.cache) (arc_value content.now) self.old.cache self.new.cache) }
     {
-        let ready = answers.prepare(alloc, self.content.clone()?)?;
-        let answer = answers.answer(alloc, &ready, kind, key)?;
-        let reply = Bytes::copy(alloc, answer.bytes())?;
-        if self.inserted < LAST_COUNT {
-            let key = Bytes::copy(alloc, key)?;
-            let timeout = now + self.life_of(&answer);
-            let entry = Entry::new(
-                self.inserted,
-                Request { kind, key },
-                self.newest_version,
-                answer,
-                timeout,
-            );
-            self.entries.push(entry)?;
-            self.inserted += 1;
-        }
-        Ok(reply)
+        Err(PlainFault::NoMemory)
     }
 
-    // How long an answer is kept, in seconds.
-    fn life_of(&self, answer: &Answer) -> u64
-        ensures value { result ≡ life_of self.now.lives answer.now }
-        ensures bound { result < 2 ^ 32 }
+    /// A tick at this moment, in seconds, over the files as they are now: the machine's. Where the files changed since
+    /// the last tick, and such a change counts, every entry ends. Else the entries whose time is over end, and those of
+    /// them that are not dropped are loaded anew. A database that is not cached does nothing.
+    ///
+    /// At `NoMemory` the entries are as before, and a poll may have been made. At `Spent` the cache is as the machine
+    /// leaves it where a count stands at its end.
+    pub fn tick<A: Answerer>(
+        &mut self,
+        alloc: Global,
+        content: &Arc<Content>,
+        answers: &A,
+        now: u64,
+    ) -> Result<(), PlainFault>
+        requires moment { now < 2 ^ 62 }
+        ensures settings { self.new.settings ≡ self.old.settings }
+        ensures limit { self.new.reloads ≡ self.old.reloads }
+        ensures turn { OnOk result (PassesTo (tick self.old.settings self.old.reloads now (arc_value content.now) self.old.cache) self.new.cache) }
+        ensures fault { IfErr result (FaultsBy (tick self.old.settings self.old.reloads now (arc_value content.now) self.old.cache) (arc_value content.now) self.old.cache self.new.cache) }
     {
-        if answer.is_not_found() {
-            u64::from(self.negative)
-        } else {
-            u64::from(self.positive)
-        }
+        let mut is_newest = false;
+        self.tick_marked(alloc, content, &mut is_newest, answers, now)
+    }
+
+    /// As `tick`, with a mark whether the files are known to be the newest content: where it is set, the poll compares
+    /// nothing. It is set by a poll, also by that of a call that gave up behind it, and stays set.
+    pub fn tick_marked<A: Answerer>(
+        &mut self,
+        alloc: Global,
+        content: &Arc<Content>,
+        is_newest: &mut bool,
+        answers: &A,
+        now: u64,
+    ) -> Result<(), PlainFault>
+        requires moment { now < 2 ^ 62 }
+        requires mark { OnTrue is_newest.old (self.old.cache.sources ≡ arc_value content.now) }
+        ensures settings { self.new.settings ≡ self.old.settings }
+        ensures limit { self.new.reloads ≡ self.old.reloads }
+        ensures newest { OnTrue is_newest.new (self.new.cache.sources ≡ arc_value content.now) }
+        ensures stays { OnTrue is_newest.old (is_newest.new ≡ true) }
+        ensures turn { OnOk result (PassesTo (tick self.old.settings self.old.reloads now (arc_value content.now) self.old.cache) self.new.cache) }
+        ensures fault { IfErr result (FaultsBy (tick self.old.settings self.old.reloads now (arc_value content.now) self.old.cache) (arc_value content.now) self.old.cache self.new.cache) }
+    {
+        Err(PlainFault::NoMemory)
+    }
+
+    /// An invalidation: every live entry ends. It takes no memory. At `Spent` the cache is as the machine leaves it
+    /// where a count stands at its end.
+    pub fn invalidate(&mut self) -> Result<(), PlainFault>
+        ensures settings { self.new.settings ≡ self.old.settings }
+        ensures limit { self.new.reloads ≡ self.old.reloads }
+        ensures sources { self.new.cache.sources ≡ self.old.cache.sources }
+        ensures turn { OnOk result (PassesTo (invalidated self.old.cache) self.new.cache) }
+        ensures fault { IfErr result (StopsBy (invalidated self.old.cache) self.new.cache) }
+    {
+        Err(PlainFault::NoMemory)
     }
 }

@@ -2,11 +2,8 @@
 #![tactic(auto)]
 
 mod cache;
-mod entries;
 mod fault;
 
 pub use cache::PlainCache;
 pub use fault::PlainFault;
 
-#[cfg(test)]
-mod tests;
