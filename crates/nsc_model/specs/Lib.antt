@@ -14,3 +14,4 @@ pub mod Frames
 pub mod Replay
 pub mod Fronts
 pub mod Calls
+pub mod Replies

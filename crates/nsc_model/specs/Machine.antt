@@ -136,8 +136,11 @@ abbrev pub cached : DbSettings → Request → Cache → Option Kept
 cached settings request cache = if settings.enabled then find (λ k. is_request request k.entry.request) cache.entries else None
 
 -- the entry of this request is used: its count of reloads begins anew
+abbrev pub used_by : Request → Kept → Kept
+used_by request k = if is_request request k.entry.request then record k { reloads = 0 } else k
+
 abbrev pub used_now : Request → List Kept → List Kept
-used_now request entries = map (λ k. if is_request request k.entry.request then record k { reloads = 0 } else k) entries
+used_now request entries = map (used_by request) entries
 
 -- behind a poll an insertion is tried, where the database is cached
 abbrev pub kept_answer : DbSettings → ℕ → Request → Cache → Passed
