@@ -58,6 +58,9 @@ impl Model for PlainCache {
     ghost invariant = { λ c. c.newest_version ≤ last_count };
 }
 
+// Where every count ends: 2^62.
+const LAST_COUNT: u64 = 4_611_686_018_427_387_904;
+
 impl PlainCache {
     /// An empty cache with these settings over the content in which every file is absent, at version 0. `reloads` is
     /// after how many reloads without a use an entry is dropped; `None` for never. Fails only for want of memory.
