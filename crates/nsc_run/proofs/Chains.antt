@@ -3,7 +3,8 @@ use Rattle.std.proofs.Common.{◌≡◌, ℕ, ◌+◌, List, ◌++◌, length, O
 use Rattle.std.proofs.lemmas.List.{length-append}
 use Rattle.nsc_outside.specs.Stream.{Grows}
 use Rattle.nsc_outside.proofs.Streams.{Moves-then, Grows-then}
-use Rattle.nsc_model.specs.Frames.{Finish, Done, Spent}
+use Rattle.nsc_model.specs.Frames.{Finish, Done, Bad, Long, Spent, NotBuilt}
+use Rattle.nsc_model.specs.Settings.{Settings}
 use Rattle.nsc_model.specs.Replay.{State, Replayed, behind_output, replay_from}
 use Rattle.nsc_run.specs.declared.exit.Exit.{Exit}
 use Rattle.nsc_run.specs.declared.exit.Exit.TheVariants as exits
@@ -13,82 +14,84 @@ abbrev Told : Type 0
 Told = Option (List ℕ)
 
 -- what the replay of two parts is, by the replay of the second
-joined : (s next : State) (place next_place : ℕ) (before after had got : Told) (a : GoesOn s place next next_place before after had got) (xs : List ℕ) (r : Replayed) → replay_from next next_place xs ≡ r → replay_from s place (a.front ++ xs) ≡ behind_output a.out r
-joined s next place next_place before after had got a xs r e = a.goes xs ∙ ap (behind_output a.out) e
+joined : (settings : Settings) (s next : State) (place next_place : ℕ) (before after had got : Told) (a : GoesOn settings s place next next_place before after had got) (xs : List ℕ) (r : Replayed) → replay_from settings next next_place xs ≡ r → replay_from settings s place (a.front ++ xs) ≡ behind_output a.out r
+joined settings s next place next_place before after had got a xs r e = a.goes xs ∙ ap (behind_output a.out) e
 
-regrouped : (s : State) (place : ℕ) (a b more : List ℕ) → replay_from s place ((a ++ b) ++ more) ≡ replay_from s place (a ++ (b ++ more))
-regrouped s place a b more = ap (λ (bytes : List ℕ). replay_from s place bytes) (append_assoc a b more)
+regrouped : (settings : Settings) (s : State) (place : ℕ) (a b more : List ℕ) → replay_from settings s place ((a ++ b) ++ more) ≡ replay_from settings s place (a ++ (b ++ more))
+regrouped settings s place a b more = ap (λ (bytes : List ℕ). replay_from settings s place bytes) (append_assoc a b more)
 
-then_end : (s next : State) (place next_place : ℕ) (before mid after had between got : Told) → GoesOn s place next next_place before mid had between → RunsToEnd next next_place mid after between got → RunsToEnd s place before after had got
-then_end s next place next_place before mid after had between got a b = record {
+then_end : (settings : Settings) (s next : State) (place next_place : ℕ) (before mid after had between got : Told) → GoesOn settings s place next next_place before mid had between → RunsToEnd settings next next_place mid after between got → RunsToEnd settings s place before after had got
+then_end settings s next place next_place before mid after had between got a b = record {
   front = a.front ++ b.front;
   moved = Moves-then before mid after a.front b.front a.moved b.moved;
   out = a.out ++ b.out;
   grown = Grows-then had between got a.out b.out a.grown b.grown;
   whole = λ more.
       let len : next_place + length b.front ≡ place + length (a.front ++ b.front) = let p = a.place_is in omega (arith, length-append a.front b.front) in
-      regrouped s place a.front b.front more
-      ∙ (joined s next place next_place before mid had between a (b.front ++ more) _ (b.whole more)
+      regrouped settings s place a.front b.front more
+      ∙ (joined settings s next place next_place before mid had between a (b.front ++ more) _ (b.whole more)
       ∙ ap (λ p. record { output = a.out ++ b.out; finish = Done p }) len);
 }
 
-then_to : (finish : Finish) (s next : State) (place next_place : ℕ) (before mid after had between got : Told) → GoesOn s place next next_place before mid had between → RunsTo finish next next_place mid after between got → RunsTo finish s place before after had got
-then_to finish s next place next_place before mid after had between got a b = record {
+then_to : (finish : Finish) (settings : Settings) (s next : State) (place next_place : ℕ) (before mid after had between got : Told) → GoesOn settings s place next next_place before mid had between → RunsTo finish settings next next_place mid after between got → RunsTo finish settings s place before after had got
+then_to finish settings s next place next_place before mid after had between got a b = record {
   front = a.front ++ b.front;
   moved = Moves-then before mid after a.front b.front a.moved b.moved;
   out = a.out ++ b.out;
   grown = Grows-then had between got a.out b.out a.grown b.grown;
   ends = elim b.ends [
-    | inl always ↦ inl (λ more. regrouped s place a.front b.front more ∙ joined s next place next_place before mid had between a (b.front ++ more) _ (always more))
-    | inr here ↦ inr (here.0, joined s next place next_place before mid had between a b.front _ here.1)
+    | inl always ↦ inl (λ more. regrouped settings s place a.front b.front more ∙ joined settings s next place next_place before mid had between a (b.front ++ more) _ (always more))
+    | inr here ↦ inr (here.0, joined settings s next place next_place before mid had between a b.front _ here.1)
   ];
 }
 
-output_joined : (s next : State) (place next_place : ℕ) (before after had got : Told) (a : GoesOn s place next next_place before after had got) (xs : List ℕ) → (replay_from s place (a.front ++ xs)).output ≡ a.out ++ (replay_from next next_place xs).output
-output_joined s next place next_place before after had got a xs = ap (λ (r : Replayed). r.output) (a.goes xs)
+output_joined : (settings : Settings) (s next : State) (place next_place : ℕ) (before after had got : Told) (a : GoesOn settings s place next next_place before after had got) (xs : List ℕ) → (replay_from settings s place (a.front ++ xs)).output ≡ a.out ++ (replay_from settings next next_place xs).output
+output_joined settings s next place next_place before after had got a xs = ap (λ (r : Replayed). r.output) (a.goes xs)
 
-then_read_fault : (s next : State) (place next_place : ℕ) (before mid after had between got : Told) → GoesOn s place next next_place before mid had between → RunsToReadFault next next_place mid after between got → RunsToReadFault s place before after had got
-then_read_fault s next place next_place before mid after had between got a b = record {
+then_read_fault : (settings : Settings) (s next : State) (place next_place : ℕ) (before mid after had between got : Told) → GoesOn settings s place next next_place before mid had between → RunsToReadFault settings next next_place mid after between got → RunsToReadFault settings s place before after had got
+then_read_fault settings s next place next_place before mid after had between got a b = record {
   front = a.front ++ b.front;
   moved = Moves-then before mid after a.front b.front a.moved b.moved;
-  grown = subst (Grows had got) (sym (output_joined s next place next_place before mid had between a b.front)) (Grows-then had between got a.out _ a.grown b.grown);
+  grown = subst (Grows had got) (sym (output_joined settings s next place next_place before mid had between a b.front)) (Grows-then had between got a.out _ a.grown b.grown);
 }
 
-then_write_fault : (s next : State) (place next_place : ℕ) (before mid after had between got : Told) → GoesOn s place next next_place before mid had between → RunsToWriteFault next next_place mid after between got → RunsToWriteFault s place before after had got
-then_write_fault s next place next_place before mid after had between got a b = record {
+then_write_fault : (settings : Settings) (s next : State) (place next_place : ℕ) (before mid after had between got : Told) → GoesOn settings s place next next_place before mid had between → RunsToWriteFault settings next next_place mid after between got → RunsToWriteFault settings s place before after had got
+then_write_fault settings s next place next_place before mid after had between got a b = record {
   front = a.front ++ b.front;
   moved = Moves-then before mid after a.front b.front a.moved b.moved;
   out = a.out ++ b.out;
   rest = b.rest;
-  is_front = output_joined s next place next_place before mid had between a b.front ∙ (ap (λ (w : List ℕ). a.out ++ w) b.is_front ∙ sym (append_assoc a.out b.out b.rest));
+  is_front = output_joined settings s next place next_place before mid had between a b.front ∙ (ap (λ (w : List ℕ). a.out ++ w) b.is_front ∙ sym (append_assoc a.out b.out b.rest));
   grown = Grows-then had between got a.out b.out a.grown b.grown;
 }
 
-then_no_memory : (s next : State) (place next_place : ℕ) (before mid after had between got : Told) → GoesOn s place next next_place before mid had between → RunsOutOfMemory next next_place mid after between got → RunsOutOfMemory s place before after had got
-then_no_memory s next place next_place before mid after had between got a b = record {
+then_no_memory : (settings : Settings) (s next : State) (place next_place : ℕ) (before mid after had between got : Told) → GoesOn settings s place next next_place before mid had between → RunsOutOfMemory settings next next_place mid after between got → RunsOutOfMemory settings s place before after had got
+then_no_memory settings s next place next_place before mid after had between got a b = record {
   front = a.front ++ b.front;
   moved = Moves-then before mid after a.front b.front a.moved b.moved;
   out = a.out ++ b.out;
   grown = Grows-then had between got a.out b.out a.grown b.grown;
   which = elim b.which [
-    | inl all ↦ inl (ap (λ (w : List ℕ). a.out ++ w) all ∙ sym (output_joined s next place next_place before mid had between a b.front))
+    | inl all ↦ inl (ap (λ (w : List ℕ). a.out ++ w) all ∙ sym (output_joined settings s next place next_place before mid had between a b.front))
     | inr but ↦ inr (record {
       earlier = a.front ++ but.earlier;
       last = but.last;
       parts = ap (λ (w : List ℕ). a.front ++ w) but.parts ∙ sym (append_assoc a.front but.earlier but.last);
       frame_is = but.frame_is;
       one_frame = but.one_frame;
-      written_is = ap (λ (w : List ℕ). a.out ++ w) but.written_is ∙ sym (output_joined s next place next_place before mid had between a but.earlier);
+      written_is = ap (λ (w : List ℕ). a.out ++ w) but.written_is ∙ sym (output_joined settings s next place next_place before mid had between a but.earlier);
     })
   ];
 }
 
 -- a round that goes on, and a run from there, are a run
-pub chained : (s next : State) (place next_place : ℕ) (before mid after had between got : Told) (exit : Exit) → GoesOn s place next next_place before mid had between → Run next next_place mid after between got exit → Run s place before after had got exit
-chained s next place next_place before mid after had between got exits.Ok a b = then_end s next place next_place before mid after had between got a b
-chained s next place next_place before mid after had between got exits.Usage a b = b
-chained s next place next_place before mid after had between got exits.ReadFault a b = then_read_fault s next place next_place before mid after had between got a b
-chained s next place next_place before mid after had between got exits.WriteFault a b = then_write_fault s next place next_place before mid after had between got a b
-chained s next place next_place before mid after had between got (exits.Spent count) a b = then_to (Spent count) s next place next_place before mid after had between got a b
-chained s next place next_place before mid after had between got exits.NoMemory a b = then_no_memory s next place next_place before mid after had between got a b
-chained s next place next_place before mid after had between got exits.NotBuilt a b = (b.0, b.1, then_to b.0 s next place next_place before mid after had between got a b.2)
+pub chained : (settings : Settings) (s next : State) (place next_place : ℕ) (before mid after had between got : Told) (exit : Exit) → GoesOn settings s place next next_place before mid had between → Run settings next next_place mid after between got exit → Run settings s place before after had got exit
+chained settings s next place next_place before mid after had between got exits.Ok a b = then_end settings s next place next_place before mid after had between got a b
+chained settings s next place next_place before mid after had between got exits.Usage a b = b
+chained settings s next place next_place before mid after had between got exits.ReadFault a b = then_read_fault settings s next place next_place before mid after had between got a b
+chained settings s next place next_place before mid after had between got exits.WriteFault a b = then_write_fault settings s next place next_place before mid after had between got a b
+chained settings s next place next_place before mid after had between got (exits.Spent count) a b = then_to (Spent count) settings s next place next_place before mid after had between got a b
+chained settings s next place next_place before mid after had between got exits.NoMemory a b = then_no_memory settings s next place next_place before mid after had between got a b
+chained settings s next place next_place before mid after had between got (exits.BadFrame offset) a b = then_to (Bad offset) settings s next place next_place before mid after had between got a b
+chained settings s next place next_place before mid after had between got (exits.TooLong size) a b = then_to (Long size) settings s next place next_place before mid after had between got a b
+chained settings s next place next_place before mid after had between got exits.NotBuilt a b = then_to NotBuilt settings s next place next_place before mid after had between got a b

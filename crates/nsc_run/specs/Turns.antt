@@ -1,16 +1,11 @@
 -- One frame through the machine of a replay.
 use Rattle.std.specs.Prelude.{◌≡◌, ℕ, List, [], Option, Some, None, Result, Ok, Err}
-use Rattle.nsc_model.specs.declared.kind.FileId.TheVariants as file
-use Rattle.nsc_model.specs.Files.{Files, no_files, with_file}
 use Rattle.nsc_outside.specs.Stream.{Grows, GrowsByFront}
 use Rattle.nsc_model.specs.Frames.{Frame, Ask, Become, Reach, Clear, Stop, Finish, Spent, NotBuilt}
+use Rattle.nsc_model.specs.Machine.{Stopped}
 use Rattle.nsc_model.specs.Replay.{State, Went, framed}
 use Rattle.nsc_run.specs.declared.exit.Exit.{Exit}
 use Rattle.nsc_run.specs.declared.exit.Exit.TheVariants as exits
-
--- no file but the passwd file was ever set
-abbrev pub IsUsersAlone : Files → Type 0
-IsUsersAlone files = files ≡ with_file no_files file.Passwd files.passwd
 
 -- what is written for a reply, and for none
 abbrev pub written : Option (List ℕ) → List ℕ
@@ -31,6 +26,25 @@ TurnFaults turn exits.Ok = ⊥
 TurnFaults turn exits.Usage = ⊥
 TurnFaults turn exits.ReadFault = ⊥
 TurnFaults turn exits.WriteFault = ⊥
+TurnFaults turn (exits.BadFrame offset) = ⊥
+TurnFaults turn (exits.TooLong size) = ⊥
+
+-- an event of the machine stops at this count
+abbrev pub StopsWith : {A : Type 0} → Result A Stopped → ℕ → Type 0
+StopsWith (Ok done) count = ⊥
+StopsWith (Err stop) count = stop.count ≡ count
+
+-- an event of a database ended the replay: memory was wanting, or the machine stops at a count; no other end comes
+abbrev pub EventFaults : {A : Type 0} → Result A Stopped → Exit → Type 0
+EventFaults event exits.NoMemory = Unit {0}
+EventFaults event (exits.Spent count) = StopsWith event count
+EventFaults event exits.NotBuilt = ⊥
+EventFaults event exits.Ok = ⊥
+EventFaults event exits.Usage = ⊥
+EventFaults event exits.ReadFault = ⊥
+EventFaults event exits.WriteFault = ⊥
+EventFaults event (exits.BadFrame offset) = ⊥
+EventFaults event (exits.TooLong size) = ⊥
 
 -- a frame that is followed by others: each but the first E
 abbrev pub IsFollowed : Frame → Type 0
@@ -59,3 +73,5 @@ DoesNot turn had got exits.WriteFault = IsCutShort turn had got
 DoesNot turn had got exits.Ok = ⊥
 DoesNot turn had got exits.Usage = ⊥
 DoesNot turn had got exits.ReadFault = ⊥
+DoesNot turn had got (exits.BadFrame offset) = ⊥
+DoesNot turn had got (exits.TooLong size) = ⊥

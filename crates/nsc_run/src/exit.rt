@@ -1,10 +1,10 @@
 ghost use Rattle.std.specs.Prelude.{◌≡◌};
 ghost use Rattle.nsc_run.specs.declared.exit.Exit.TheVariants.{NoMemory as Memory};
 
-use crate::halt::Halt;
 use nsc_base::NoMemory;
 use nsc_plain::PlainFault;
 use std::alloc::AllocFailed;
+use std::fmt;
 
 /// How the program ends.
 #[derive(Clone, Copy, Debug, PartialEq, Eq)]
@@ -17,6 +17,11 @@ pub enum Exit {
     ReadFault,
     /// The output failed.
     WriteFault,
+    /// The input begins no frame, or ends inside one.
+    BadFrame {
+        /// The place of the frame's first byte in the input.
+        offset: u64,
+    },
     /// A count that the machine needed stands at its end.
     Spent {
         /// The count.
@@ -24,13 +29,18 @@ pub enum Exit {
     },
     /// Memory was wanting.
     NoMemory,
-    /// The input goes on with what is not built yet, or is no frame.
+    /// A file is announced that is longer than a file may be.
+    TooLong {
+        /// The length that is announced, in bytes.
+        length: u64,
+    },
+    /// A frame sets a file or asks a kind of look-up that is not built yet.
     NotBuilt,
 }
 
 impl Exit {
     ghost use Rattle.std.specs.Prelude.{◌≡◌};
-    ghost use Rattle.nsc_run.specs.Exits.{status_of, text_of};
+    ghost use Rattle.nsc_run.specs.Exits.{status_of};
 
     /// The status with which the program ends: 0 where the command was done.
     pub fn status(&self) -> u8
@@ -41,24 +51,33 @@ impl Exit {
             Exit::Usage => 2,
             Exit::ReadFault => 3,
             Exit::WriteFault => 4,
+            Exit::BadFrame { .. } => 5,
             Exit::Spent { .. } => 9,
             Exit::NoMemory => 10,
+            Exit::TooLong { .. } => 11,
             Exit::NotBuilt => 13,
         }
     }
+}
 
-    /// What is told on standard error, without a newline: empty where the command was done.
-    pub fn text(&self) -> &'static str
-        ensures { result.now ≡ text_of self.now }
-    {
+// What is told on standard error, without a newline: nothing where the command was done.
+impl fmt::Display for Exit {
+    ghost use Rattle.std.specs.Prelude.{Some};
+    ghost use Rattle.nsc_run.specs.Exits.{text_of};
+
+    ghost output = { λ exit. Some (text_of exit) };
+
+    fn fmt<W: fmt::Write>(&self, f: &mut fmt::Formatter<W>) -> fmt::Result {
         match self {
-            Exit::Ok => "",
-            Exit::Usage => "nscd: usage",
-            Exit::ReadFault => "nscd: input failed",
-            Exit::WriteFault => "nscd: output failed",
-            Exit::Spent { .. } => "nscd: counter spent",
-            Exit::NoMemory => "nscd: no memory",
-            Exit::NotBuilt => "nscd: not built",
+            Exit::Ok => write!(f, ""),
+            Exit::Usage => write!(f, "nscd: usage"),
+            Exit::ReadFault => write!(f, "nscd: input failed"),
+            Exit::WriteFault => write!(f, "nscd: output failed"),
+            Exit::BadFrame { offset } => write!(f, "nscd: bad frame at {offset}"),
+            Exit::Spent { .. } => write!(f, "nscd: counter spent"),
+            Exit::NoMemory => write!(f, "nscd: no memory"),
+            Exit::TooLong { length } => write!(f, "nscd: file of {length} bytes is too long"),
+            Exit::NotBuilt => write!(f, "nscd: not built"),
         }
     }
 }
@@ -88,20 +107,6 @@ impl From<PlainFault> for Exit {
         match fault {
             PlainFault::NoMemory => Exit::NoMemory,
             PlainFault::Spent { count } => Exit::Spent { count },
-        }
-    }
-}
-
-impl From<Halt> for Exit {
-    ghost use Rattle.nsc_run.specs.Exits.{halt_exit};
-
-    ghost from_gives = { λ halt exit. exit ≡ halt_exit halt };
-
-    fn from(halt: Halt) -> Exit {
-        match halt {
-            Halt::Ended | Halt::NoFrame | Halt::LongFile { .. } => Exit::NotBuilt,
-            Halt::ReadFault => Exit::ReadFault,
-            Halt::NoMemory => Exit::NoMemory,
         }
     }
 }

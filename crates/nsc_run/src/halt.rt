@@ -1,6 +1,7 @@
 ghost use Rattle.std.specs.Prelude.{◌≡◌};
 ghost use Rattle.nsc_run.specs.declared.halt.Halt.TheVariants.{ReadFault, NoMemory as Memory};
 
+use crate::exit::Exit;
 use nsc_base::NoMemory;
 use nsc_outside::Failed;
 use std::alloc::{AllocError, AllocFailed};
@@ -21,6 +22,23 @@ pub enum Halt {
     ReadFault,
     /// Memory was wanting.
     NoMemory,
+}
+
+impl Halt {
+    ghost use Rattle.std.specs.Prelude.{◌≡◌};
+    ghost use Rattle.nsc_run.specs.Exits.{halt_exit};
+
+    /// How a replay ends where no frame was read at this place of the input.
+    pub fn at(self, place: u64) -> Exit
+        ensures { result ≡ halt_exit place self }
+    {
+        match self {
+            Halt::Ended | Halt::NoFrame => Exit::BadFrame { offset: place },
+            Halt::LongFile { length } => Exit::TooLong { length },
+            Halt::ReadFault => Exit::ReadFault,
+            Halt::NoMemory => Exit::NoMemory,
+        }
+    }
 }
 
 impl From<Failed> for Halt {

@@ -1,6 +1,7 @@
 //! The program: its command words, the replay of frames, and how it ends.
 #![tactic(auto)]
 
+mod cached;
 mod command;
 mod exit;
 mod frame;
@@ -11,9 +12,5 @@ mod reading;
 mod reply;
 mod rounds;
 
-pub use command::run;
+pub use command::{replay, run};
 pub use exit::Exit;
-pub use rounds::replay;
-
-#[cfg(test)]
-mod tests;

@@ -1,58 +1,69 @@
 ghost use Rattle.std.specs.Prelude.{◌≡◌, ◌≤◌, length, None, IfOk, IfErr, IfSome, OnOk};
 ghost use Rattle.nsc_model.specs.Marked.{reply_limit};
 ghost use Rattle.nsc_model.specs.Files.{FileFits};
+ghost use Rattle.nsc_model.specs.Fixed.{key_limit};
 ghost use Rattle.nsc_model.specs.Wire.{request_of};
-ghost use Rattle.nsc_model.specs.Replay.{ask_frame, become_frame, first_state, turn_of};
+ghost use Rattle.nsc_model.specs.Replay.{ask_frame, become_frame, clear_frame, first_state, look_frame, reach_frame, turn_of};
+ghost use Rattle.nsc_daemonconf.specs.Conf.{settings};
+ghost use Rattle.nsc_run.specs.Commands.{SizesFit};
 ghost use Rattle.nsc_run.specs.Reading.{FrameFits, seen};
 ghost use Rattle.nsc_run.specs.Turns.{TurnsTo, TurnFaults};
 
+use crate::cached::Cached;
 use crate::exit::Exit;
 use crate::frame::Frame;
 use nsc_base::{Bytes, NoMemory};
-use nsc_model::{Answerer, Content, FileId, Kind};
-use nsc_plain::PlainCache;
+use nsc_daemonconf::Conf;
+use nsc_model::{Answerer, Content, Db, FileId, Kind};
 use nsc_wire::{Wire, read_request};
 use std::alloc::Global;
+use std::cmp::{max, min};
 use std::marker::Model;
 use std::sync::Arc;
 
-/// The machine of a replay: the files as they are, and the cache of users.
+/// The machine of a replay: its settings, the moment in seconds, and the four databases.
 #[derive(Drop)]
 pub struct Machine {
-    files: Arc<Content>,
-    users: PlainCache,
+    conf: Conf,
+    moment: u64,
+    users: Cached,
+    groups: Cached,
+    hosts: Cached,
+    services: Cached,
 }
 
 impl Model for Machine {
-    ghost use Rattle.std.specs.Prelude.{◌≡◌};
-    ghost use Rattle.std.specs.Arc.{arc_value};
-    ghost use Rattle.nsc_model.specs.Replay.{State, user_lives};
-    ghost use Rattle.nsc_run.specs.Turns.{IsUsersAlone};
+    ghost use Rattle.nsc_daemonconf.specs.Conf.{settings};
+    ghost use Rattle.nsc_run.specs.Desks.{Desk, Agrees, state_of};
 
-    ghost Value = { State };
+    ghost Value = { Desk };
 
-    ghost view = { λ m. record { files = arc_value m.files; users = m.users.cache } };
+    ghost view = { λ m. record { settings = settings m.conf; state = state_of m.moment m.users m.groups m.hosts m.services } };
 
-    ghost invariant = { λ m. (m.users.lives ≡ user_lives) × IsUsersAlone (arc_value m.files) };
+    ghost invariant = { λ m. Agrees (settings m.conf) m.moment m.users m.groups m.hosts m.services };
 }
 
-// How long the replies on users live in a cache that nothing configures, in seconds: nscd.conf(5).
-const POSITIVE: u32 = 3600;
-
-const NEGATIVE: u32 = 20;
+// The greatest moment, in seconds: 2^62 - 1.
+const LAST_MOMENT: u64 = 4_611_686_018_427_387_903;
 
 impl Machine {
-    /// Every file absent, and an empty cache. Fails only for want of memory.
-    pub fn new(alloc: Global) -> Result<Machine, NoMemory>
-        ensures { IfOk result (λ machine. machine ≡ first_state) }
+    /// Every file absent, moment 0, and four empty caches with these settings. Fails only for want of memory.
+    pub fn new(alloc: Global, conf: &Conf) -> Result<Machine, NoMemory>
+        requires { SizesFit (settings conf.now) }
+        ensures { IfOk result (λ machine. machine ≡ record { settings = settings conf.now; state = first_state }) }
     {
         Ok(Machine {
-            files: Arc::new(alloc, Content::none())?,
-            users: PlainCache::new(alloc, POSITIVE, NEGATIVE)?,
+            conf: *conf,
+            moment: 0,
+            users: Cached::new(alloc, conf.passwd, conf.reloads)?,
+            groups: Cached::new(alloc, conf.group, conf.reloads)?,
+            hosts: Cached::new(alloc, conf.hosts, conf.reloads)?,
+            services: Cached::new(alloc, conf.services, conf.reloads)?,
         })
     }
 
-    /// One frame through the machine: the reply that is to be written, if the frame is a look-up, of at most 2^30 bytes.
+    /// One frame through the machine: the reply that is to be written, if the frame is an input of a connection, of at
+    /// most 2^30 bytes; an empty one where the input asks for no look-up.
     ///
     /// `NotBuilt` comes at a frame that is not built yet, and `Spent` where a count stands at its end.
     pub fn turn<A: Answerer>(
@@ -63,9 +74,10 @@ impl Machine {
         room: &[u8],
     ) -> Result<Option<Bytes>, Exit>
         requires { FrameFits room.now frame }
+        ensures settings { self.new.settings ≡ self.old.settings }
         ensures bound { IfOk result (λ reply. IfSome reply (λ bytes. length bytes ≤ reply_limit)) }
-        ensures turn { IfOk result (λ reply. TurnsTo (turn_of self.old (seen room.now frame)) self.new reply) }
-        ensures fault { IfErr result (TurnFaults (turn_of self.old (seen room.now frame))) }
+        ensures turn { IfOk result (λ reply. TurnsTo (turn_of self.old.settings self.old.state (seen room.now frame)) self.new.state reply) }
+        ensures fault { IfErr result (TurnFaults (turn_of self.old.settings self.old.state (seen room.now frame))) }
     {
         match frame {
             Frame::Ask { length } => self.ask(alloc, answers, &room[..length]),
@@ -73,49 +85,125 @@ impl Machine {
                 self.become_file(alloc, file, bytes)?;
                 Ok(None)
             }
-            Frame::Reach { .. } | Frame::Clear { .. } => Err(Exit::NotBuilt),
+            Frame::Reach { moment } => {
+                self.reach(alloc, answers, moment)?;
+                Ok(None)
+            }
+            Frame::Clear { db } => {
+                self.clear(db)?;
+                Ok(None)
+            }
             Frame::Stop => Ok(None),
         }
     }
 
-    // The input of one connection: only look-ups of users by name are built.
+    // The input of one connection.
     fn ask<A: Answerer>(
         &mut self,
         alloc: Global,
         answers: &A,
         input: &[u8],
     ) -> Result<Option<Bytes>, Exit>
+        ensures settings { self.new.settings ≡ self.old.settings }
         ensures bound { IfOk result (λ reply. IfSome reply (λ bytes. length bytes ≤ reply_limit)) }
-        ensures turn { IfOk result (λ reply. TurnsTo (ask_frame self.old (request_of input.now)) self.new reply) }
-        ensures fault { IfErr result (TurnFaults (ask_frame self.old (request_of input.now))) }
+        ensures turn { IfOk result (λ reply. TurnsTo (ask_frame self.old.settings self.old.state (request_of input.now)) self.new.state reply) }
+        ensures fault { IfErr result (TurnFaults (ask_frame self.old.settings self.old.state (request_of input.now))) }
     {
         match read_request(input) {
-            Wire::Request {
-                kind: Kind::PwName,
-                key,
-            } => {
-                let key = &input[key.from..key.to];
+            Wire::Request { kind, key } => self.look(
+                alloc,
+                answers,
+                kind,
+                &input[key.from..key.to],
+            ),
+            Wire::Descriptor
+            | Wire::Netgroup
+            | Wire::Shutdown
+            | Wire::Stat
+            | Wire::Invalidate { .. }
+            | Wire::Short { .. }
+            | Wire::BadVersion(_)
+            | Wire::BadType(_)
+            | Wire::BadLength(_) => Ok(Some(Bytes::from_vec(Vec::new(alloc)))),
+        }
+    }
+
+    // A look-up: only those of users by name are built.
+    fn look<A: Answerer>(
+        &mut self,
+        alloc: Global,
+        answers: &A,
+        kind: Kind,
+        key: &[u8],
+    ) -> Result<Option<Bytes>, Exit>
+        requires { length key.now ≤ key_limit }
+        ensures settings { self.new.settings ≡ self.old.settings }
+        ensures bound { IfOk result (λ reply. IfSome reply (λ bytes. length bytes ≤ reply_limit)) }
+        ensures turn { IfOk result (λ reply. TurnsTo (look_frame kind self.old.settings self.old.state (record { kind = kind; key = key.now })) self.new.state reply) }
+        ensures fault { IfErr result (TurnFaults (look_frame kind self.old.settings self.old.state (record { kind = kind; key = key.now }))) }
+    {
+        match kind {
+            Kind::PwName => {
                 let reply = self
                     .users
-                    .look_up(alloc, &self.files, answers, Kind::PwName, key, 0)?;
+                    .look_up(alloc, answers, Kind::PwName, key, self.moment)?;
                 Ok(Some(reply))
             }
-            _ => Err(Exit::NotBuilt),
+            Kind::PwUid
+            | Kind::GrName
+            | Kind::GrGid
+            | Kind::HostName
+            | Kind::HostName6
+            | Kind::HostAddr
+            | Kind::HostAddr6
+            | Kind::Ai
+            | Kind::InitGroups
+            | Kind::ServName
+            | Kind::ServPort => Err(Exit::NotBuilt),
         }
     }
 
     // What a file becomes: only the passwd file is built.
     fn become_file(&mut self, alloc: Global, file: FileId, bytes: Option<Bytes>) -> Result<(), Exit>
         requires { FileFits bytes }
-        ensures turn { OnOk result (TurnsTo (become_frame self.old file bytes) self.new None) }
-        ensures fault { IfErr result (TurnFaults (become_frame self.old file bytes)) }
+        ensures settings { self.new.settings ≡ self.old.settings }
+        ensures turn { OnOk result (TurnsTo (become_frame self.old.state file bytes) self.new.state None) }
+        ensures fault { IfErr result (TurnFaults (become_frame self.old.state file bytes)) }
     {
         if file != FileId::Passwd {
             return Err(Exit::NotBuilt);
         }
         let mut files = Content::none();
         files.set(FileId::Passwd, bytes);
-        self.files = Arc::new(alloc, files)?;
+        self.users.set(Arc::new(alloc, files)?);
         Ok(())
+    }
+
+    // The moment becomes this one, unless it is later already, and every database is ticked.
+    fn reach<A: Answerer>(&mut self, alloc: Global, answers: &A, moment: u64) -> Result<(), Exit>
+        ensures settings { self.new.settings ≡ self.old.settings }
+        ensures turn { OnOk result (TurnsTo (reach_frame self.old.settings self.old.state moment) self.new.state None) }
+        ensures fault { IfErr result (TurnFaults (reach_frame self.old.settings self.old.state moment)) }
+    {
+        self.moment = max(self.moment, min(moment, LAST_MOMENT));
+        self.users.tick(alloc, answers, self.moment)?;
+        self.groups.tick(alloc, answers, self.moment)?;
+        self.hosts.tick(alloc, answers, self.moment)?;
+        self.services.tick(alloc, answers, self.moment)?;
+        Ok(())
+    }
+
+    // A database is invalidated.
+    fn clear(&mut self, db: Db) -> Result<(), Exit>
+        ensures settings { self.new.settings ≡ self.old.settings }
+        ensures turn { OnOk result (TurnsTo (clear_frame self.old.state db) self.new.state None) }
+        ensures fault { IfErr result (TurnFaults (clear_frame self.old.state db)) }
+    {
+        match db {
+            Db::Passwd => self.users.invalidate(),
+            Db::Group => self.groups.invalidate(),
+            Db::Hosts => self.hosts.invalidate(),
+            Db::Services => self.services.invalidate(),
+        }
     }
 }

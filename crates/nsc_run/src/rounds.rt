@@ -1,6 +1,8 @@
 ghost use Rattle.std.specs.Prelude.{◌≡◌, ◌≤◌, ◌<◌, ◌+◌, length, IfOk, IfErr, OnOk};
 ghost use Rattle.nsc_model.specs.Frames.{input_limit, place_limit};
 ghost use Rattle.nsc_model.specs.Replay.{first_state, turn_of};
+ghost use Rattle.nsc_daemonconf.specs.Conf.{settings};
+ghost use Rattle.nsc_run.specs.Commands.{SizesFit};
 ghost use Rattle.nsc_run.specs.Reading.{FrameFits, seen};
 ghost use Rattle.nsc_run.specs.Turns.{DoesNot, IsDone};
 ghost use Rattle.nsc_run.specs.Runs.{Calm, Counted, GoesOn, Run};
@@ -10,6 +12,7 @@ use crate::frame::{Frame, INPUT_LIMIT};
 use crate::machine::Machine;
 use crate::reading::read_frame;
 use crate::reply::put_reply;
+use nsc_daemonconf::Conf;
 use nsc_model::Answerer;
 use nsc_outside::{Sink, Source};
 use std::alloc::Global;
@@ -17,22 +20,20 @@ use std::alloc::Global;
 // A frame begins below this place: 2^40.
 const PLACE_LIMIT: u64 = 1_099_511_627_776;
 
-/// Replays the frames of the input: from every file absent, at moment 0, up to and with the first E. For each look-up
-/// the reply is written behind its length.
-///
-/// At `Ok` the input stands right behind its first E, and what was written is the whole output of the replay. At
-/// `NotBuilt` and `Spent` it is the output of the frames before. At `ReadFault` it is that of the whole frames that were
-/// read, at `NoMemory` that of these or of all but the last, and at `WriteFault` a front of it.
-pub fn replay<A: Answerer, R: Source, K: Sink>(
+/// Replays the frames of the input with these settings: from every file absent, at moment 0, up to and with the first E.
+/// For each input of a connection the reply is written behind its length.
+pub fn replay_over<A: Answerer, R: Source, K: Sink>(
     alloc: Global,
+    conf: &Conf,
     answers: &A,
     input: &mut R,
     output: &mut K,
 ) -> Exit
-    ensures run { Run first_state 0 (R.left input.old) (R.left input.new) (K.taken output.old) (K.taken output.new) result }
+    requires { SizesFit (settings conf.now) }
+    ensures run { Run (settings conf.now) first_state 0 (R.left input.old) (R.left input.new) (K.taken output.old) (K.taken output.new) result }
     ensures counts { Counted result (R.faults input.old) (R.faults input.new) (K.faults output.old) (K.faults output.new) }
 {
-    let mut machine = match Machine::new(alloc) {
+    let mut machine = match Machine::new(alloc, conf) {
         Ok(machine) => machine,
         Err(_) => return Exit::NoMemory,
     };
@@ -50,7 +51,7 @@ fn all_rounds<A: Answerer, R: Source, K: Sink>(
     room: &mut [u8],
 ) -> Exit
     requires { length room.old ≡ input_limit }
-    ensures run { Run machine.old 0 (R.left input.old) (R.left input.new) (K.taken output.old) (K.taken output.new) result }
+    ensures run { Run machine.old.settings machine.old.state 0 (R.left input.old) (R.left input.new) (K.taken output.old) (K.taken output.new) result }
     ensures counts { Counted result (R.faults input.old) (R.faults input.new) (K.faults output.old) (K.faults output.new) }
 {
     let mut place = 0;
@@ -60,7 +61,7 @@ fn all_rounds<A: Answerer, R: Source, K: Sink>(
             Err(exit) => return exit,
         }
     }
-    Exit::NotBuilt
+    Exit::BadFrame { offset: place }
 }
 
 // The frame at this place of the input. Gives the place behind it, or how the replay ends.
@@ -75,13 +76,17 @@ fn round<A: Answerer, R: Source, K: Sink>(
 ) -> Result<u64, Exit>
     requires room { length room.old ≡ input_limit }
     requires place { place < place_limit }
-    ensures goes { IfOk result (λ next. GoesOn machine.old place machine.new next (R.left input.old) (R.left input.new) (K.taken output.old) (K.taken output.new)) }
+    ensures settings { machine.new.settings ≡ machine.old.settings }
+    ensures goes { IfOk result (λ next. GoesOn machine.old.settings machine.old.state place machine.new.state next (R.left input.old) (R.left input.new) (K.taken output.old) (K.taken output.new)) }
     ensures onward { IfOk result (λ next. place < next) }
     ensures calm { OnOk result (Calm (R.faults input.old) (R.faults input.new) (K.faults output.old) (K.faults output.new)) }
-    ensures ends { IfErr result (λ exit. Run machine.old place (R.left input.old) (R.left input.new) (K.taken output.old) (K.taken output.new) exit) }
+    ensures ends { IfErr result (λ exit. Run machine.old.settings machine.old.state place (R.left input.old) (R.left input.new) (K.taken output.old) (K.taken output.new) exit) }
     ensures counts { IfErr result (λ exit. Counted exit (R.faults input.old) (R.faults input.new) (K.faults output.old) (K.faults output.new)) }
 {
-    let frame = read_frame(alloc, input, room)?;
+    let frame = match read_frame(alloc, input, room) {
+        Ok(frame) => frame,
+        Err(halt) => return Err(halt.at(place)),
+    };
     if frame.is_stop(room) {
         return Err(Exit::Ok);
     }
@@ -100,9 +105,10 @@ fn serve<A: Answerer, K: Sink>(
     room: &[u8],
 ) -> Result<(), Exit>
     requires { FrameFits room.now frame }
-    ensures done { OnOk result (IsDone (turn_of machine.old (seen room.now frame)) machine.new (K.taken output.old) (K.taken output.new)) }
+    ensures settings { machine.new.settings ≡ machine.old.settings }
+    ensures done { OnOk result (IsDone (turn_of machine.old.settings machine.old.state (seen room.now frame)) machine.new.state (K.taken output.old) (K.taken output.new)) }
     ensures calm { OnOk result (K.faults output.new ≡ K.faults output.old) }
-    ensures ends { IfErr result (DoesNot (turn_of machine.old (seen room.now frame)) (K.taken output.old) (K.taken output.new)) }
+    ensures ends { IfErr result (DoesNot (turn_of machine.old.settings machine.old.state (seen room.now frame)) (K.taken output.old) (K.taken output.new)) }
     ensures counts { IfErr result (λ exit. Counted exit 0 0 (K.faults output.old) (K.faults output.new)) }
 {
     let Some(reply) = machine.turn(alloc, answers, frame, room)? else {

@@ -10,7 +10,8 @@ invariant-loop-place g l =
     let left = g.R.Source.left in
     let taken = g.K.Sink.taken in
     record {
-      chain : (after got : Option (List ℕ)) (exit : Exit) → Run l.machine l.place (left l.input) after (taken l.output) got exit → Run l.fn.machine 0 (left l.fn.input) after (taken l.fn.output) got exit;
+      settings_stay : l.machine.settings ≡ l.fn.machine.settings;
+      chain : (after got : Option (List ℕ)) (exit : Exit) → Run l.machine.settings l.machine.state l.place (left l.input) after (taken l.output) got exit → Run l.fn.machine.settings l.fn.machine.state 0 (left l.fn.input) after (taken l.fn.output) got exit;
       input_calm : g.R.Source.faults l.input ≡ g.R.Source.faults l.fn.input;
       output_calm : g.K.Sink.faults l.output ≡ g.K.Sink.faults l.fn.output;
     }

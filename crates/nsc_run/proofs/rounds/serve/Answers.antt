@@ -8,6 +8,6 @@ use Rattle.nsc_run.proofs.rounds.serve.Goals as goal
 
 pub returns-clause-ends : goal.returns-clause-ends
 returns-clause-ends g c =
-    cut_by_reply (turn_of c.args.machine.now (seen c.args.room.now c.args.frame)) c.turn.new.self (g.K.Sink.taken c.args.output.now) (g.K.Sink.taken c.put_reply.new.output) c.in-Some.reply
-    (subst (λ (reply : Option (List ℕ)). TurnsTo (turn_of c.args.machine.now (seen c.args.room.now c.args.frame)) c.turn.new.self reply) c.in-Some.is c.in_ok-reply.ensures.turn)
+    cut_by_reply (turn_of c.args.machine.now.settings c.args.machine.now.state (seen c.args.room.now c.args.frame)) c.turn.new.self.state (g.K.Sink.taken c.args.output.now) (g.K.Sink.taken c.put_reply.new.output) c.in-Some.reply
+    (subst (λ (reply : Option (List ℕ)). TurnsTo (turn_of c.args.machine.now.settings c.args.machine.now.state (seen c.args.room.now c.args.frame)) c.turn.new.self.state reply) c.in-Some.is c.in_ok-reply.ensures.turn)
     (subst (λ (reply : List ℕ). GrowsByFront (g.K.Sink.taken c.args.output.now) (g.K.Sink.taken c.put_reply.new.output) (framed reply)) c.as_slice.ensures c.in-Err.ensures.front)
