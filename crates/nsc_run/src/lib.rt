@@ -14,3 +14,6 @@ mod rounds;
 
 pub use command::{replay, run};
 pub use exit::Exit;
+
+#[cfg(test)]
+mod tests;

@@ -11,10 +11,9 @@ use std::{env, io};
 
 fn main(rt: HostRuntime) -> ExitCode {
     let exit = command(&rt);
-    let text = exit.text();
-    if !text.is_empty() {
+    if exit != Exit::Ok {
         // Where standard error fails there is nobody left to tell; the status still says why.
-        let _ = eprintln!(&rt; "{text}");
+        let _ = eprintln!(&rt; "{exit}");
     }
     ExitCode::from(exit.status())
 }
