@@ -40,7 +40,8 @@ IsOwn a history Empty = Unit {0}
 IsOwn a history Compact = Unit {0}
 IsOwn a history (Reply caller bytes) = caller ≡ a
 
--- a core that a caller drives alone, from an opening on, and the cache that tells its history
+-- a core that a run from an opening reaches, with a caller that has seen some front of its history, and the cache that tells
+-- the whole of it
 pub record Drives (db : Db) (a : ℕ) (core : Core) (cache : Cache) : Type 0 where
   pub first : files.Files
   pub moves : List Move

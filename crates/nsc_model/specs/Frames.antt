@@ -14,7 +14,7 @@ pub data Frame : Type 0 where
   Clear : (db : Db) → Frame
   Stop : Frame
 
--- bytes end inside a frame; or are none, whatever follows; or announce a file that is longer than a file may be
+-- bytes end inside a frame; or begin no frame, whatever follows; or announce a file that is longer than a file may be
 pub data Fault : Type 0 where
   Short : Fault
   NoFrame : Fault

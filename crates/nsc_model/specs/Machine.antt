@@ -24,8 +24,9 @@ pub record Kept : Type 0 where
   pub reloads : ℕ
 
 -- a cache: its newest content with the number of its version, the live entries from the oldest on, how many words of its
--- room are used, how often it was invalidated, how many entries were inserted, the count of its compactions, which goes on
--- by two at each, the version that the last tick found, and how many insertions found no room
+-- room are used (by live entries, and by ended ones that no compaction followed), how often it was invalidated, how many
+-- entries were inserted, the count of its compactions, which goes on by two at each, the version that the last tick found,
+-- and how many insertions found no room
 pub record Cache : Type 0 where
   pub sources : Files
   pub newest_version : ℕ
@@ -46,13 +47,14 @@ pub record Passed : Type 0 where
   pub cache : Cache
   pub adds : List Record
 
--- an event stopped, since it needs a count that stands at its end: the cache and the records up to there, and the count
+-- an event stopped, since it needs a count that stands at its end: the cache and the records up to there, the newest first,
+-- and the count
 pub record Stopped : Type 0 where
   pub cache : Cache
   pub adds : List Record
   pub count : ℕ
 
--- a look-up is done: the cache after it, its records, and the reply
+-- a look-up is done: the cache after it, its records, the newest first, and the reply
 pub record Turn : Type 0 where
   pub cache : Cache
   pub adds : List Record
@@ -91,7 +93,7 @@ entry_words e = node_words (length e.request.key) (length e.answer.bytes)
 abbrev pub all_words : List Kept → ℕ
 all_words entries = sum_by (λ k. entry_words k.entry) entries
 
--- the room of a cache in words, by its suggested size (nscd.conf(5))
+-- the room of a cache in words: 128 for each of its suggested size (nscd.conf(5))
 abbrev pub room_of : DbSettings → ℕ
 room_of settings = settings.size * 128
 
@@ -185,7 +187,7 @@ unfoldable pub invalidated : Cache → Result Passed Stopped
 invalidated cache =
     if cache.epoch == last_count then Err (stopped cache) else
     behind (Invalid (cache.epoch + 1) ∷ ends_of by_invalidation cache.entries [])
-        (compacted_behind cache.entries (record cache { entries = []; epoch = cache.epoch + 1 }))
+    (compacted_behind cache.entries (record cache { entries = []; epoch = cache.epoch + 1 }))
 
 -- ---- ticks
 
@@ -232,13 +234,13 @@ abbrev pub pruned : DbSettings → Option ℕ → ℕ → Cache → Result Passe
 pruned settings reloads now cache =
     let due = due_of now cache.entries in
     behind (ends_of (due_cause reloads now) due [])
-        (compacted_behind due (record cache { entries = others_of now cache.entries }) >>= λ after. Ok (reloaded settings now (reloaded_of reloads due) after))
+    (compacted_behind due (record cache { entries = others_of now cache.entries }) >>= λ after. Ok (reloaded settings now (reloaded_of reloads due) after))
 
 -- the version that a tick found is kept
 abbrev pub ticked : Cache → Cache
 ticked cache = record cache { ticked_version = cache.newest_version }
 
--- the files changed since the last tick, and such a change counts
+-- the newest version is not the one that the last tick found, and such a change counts
 abbrev pub is_outdated : DbSettings → Cache → Bool
 is_outdated settings cache = settings.check_files && not (cache.newest_version == cache.ticked_version)
 

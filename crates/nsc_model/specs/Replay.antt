@@ -120,7 +120,8 @@ ticks settings s = ticked_in settings db.Passwd s (λ s1. ticked_in settings db.
 abbrev pub last_moment : ℕ
 last_moment = last_count - 1
 
--- the moment becomes this one, unless it is later already
+-- the moment becomes this one, or the greatest moment if that is earlier, unless it is later already; and every database is
+-- ticked, also where the moment stays
 abbrev pub reach_frame : Settings → State → ℕ → Result Went Finish
 reach_frame settings s moment = ticks settings (record s { moment = max s.moment (min moment last_moment) })
 

@@ -10,7 +10,7 @@ use Rattle.nsc_model.specs.Calls.{Drives}
 use Rattle.nsc_model.specs.Frames.{Frame, Ask, Become, Reach, Clear, Stop, Finish}
 use Rattle.nsc_model.specs.Replay.{State, cache_of, Went, framed, turn_of}
 
--- the cores of the four databases, over the files as they are, each driven by one caller alone
+-- the cores of the four databases, over the files as they are, with the caches that tell their histories
 pub record AllDrive (s : State) (cores : Db → Core) : Type 0 where
   pub drives : (db : Db) → Drives db 0 (cores db) (cache_of s db)
   pub sources_are : (db : Db) → (cores db).sources ≡ s.files

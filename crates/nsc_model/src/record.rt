@@ -12,7 +12,7 @@ pub enum Ending {
     },
     /// Its whole database was invalidated.
     Invalidated,
-    /// A reload takes its place.
+    /// Its time was over, and it was to be loaded anew.
     Replaced,
 }
 

@@ -1,3 +1,5 @@
+ghost use Rattle.std.specs.Prelude.{◌<◌};
+
 use super::{ASK_ANN, ASK_NOBODY, ASK_ROOT, END, FILE, FILE_ABSENT, FILE_CHANGED, sink};
 use crate::{Exit, run};
 use nsc_outside::MemSource;
@@ -52,7 +54,9 @@ fn stream(rt: &HostRuntime, seed: u64) -> Result<Vec<u8>, Fail> {
 }
 
 // What the command makes of an input that gives at most this many bytes a call.
-fn outcome(rt: &HostRuntime, bytes: &[u8], step: usize) -> Result<(Exit, Vec<u8>), Fail> {
+fn outcome(rt: &HostRuntime, bytes: &[u8], step: usize) -> Result<(Exit, Vec<u8>), Fail>
+    requires { 0 < step }
+{
     let mut words = Vec::new(rt.alloc());
     words.push(String::from_str(rt.alloc(), "--replay")?)?;
     let mut source = MemSource::new(Vec::from_slice(rt.alloc(), bytes)?).with_step(step);
