@@ -42,6 +42,32 @@ const AT_FARTHER: &[u8] = b"T\0\0\0\0\x01\0\0\0";
 
 const AT_END: &[u8] = b"T\xff\xff\xff\xff\xff\xff\xff\xff";
 
+// Look-ups of users' names of 17 bytes.
+const ASK_0: &[u8] = b"Q\x1e\0\0\0\x02\0\0\0\0\0\0\0\x12\0\0\0absent-user-name0\0";
+
+const ASK_1: &[u8] = b"Q\x1e\0\0\0\x02\0\0\0\0\0\0\0\x12\0\0\0absent-user-name1\0";
+
+const ASK_2: &[u8] = b"Q\x1e\0\0\0\x02\0\0\0\0\0\0\0\x12\0\0\0absent-user-name2\0";
+
+const ASK_3: &[u8] = b"Q\x1e\0\0\0\x02\0\0\0\0\0\0\0\x12\0\0\0absent-user-name3\0";
+
+const ASK_4: &[u8] = b"Q\x1e\0\0\0\x02\0\0\0\0\0\0\0\x12\0\0\0absent-user-name4\0";
+
+const ASK_5: &[u8] = b"Q\x1e\0\0\0\x02\0\0\0\0\0\0\0\x12\0\0\0absent-user-name5\0";
+
+const ASK_6: &[u8] = b"Q\x1e\0\0\0\x02\0\0\0\0\0\0\0\x12\0\0\0absent-user-name6\0";
+
+const ASK_7: &[u8] = b"Q\x1e\0\0\0\x02\0\0\0\0\0\0\0\x12\0\0\0absent-user-name7\0";
+
+// A look-up of the name of 25 letters a, a file in which this one and the eighth absent one are users, and the reply.
+const ASK_LETTERS: &[u8] = b"Q\x26\0\0\0\x02\0\0\0\0\0\0\0\x1a\0\0\0aaaaaaaaaaaaaaaaaaaaaaaaa\0";
+
+const FILE_LETTERS: &[u8] =
+    b"F\x01\x01\x40\0\0\0aaaaaaaaaaaaaaaaaaaaaaaaa:x:1:2:::\nabsent-user-name7:x:3:4::/:/bin\n";
+
+const LETTERS: &[u8] =
+    b"\x42\0\0\0\x02\0\0\0\x01\0\0\0\x1a\0\0\0\x02\0\0\0\x01\0\0\0\x02\0\0\0\x01\0\0\0\x01\0\0\0\x01\0\0\0aaaaaaaaaaaaaaaaaaaaaaaaa\0x\0\0\0\0";
+
 const CLEAR_USERS: &[u8] = b"I\0";
 
 const CLEAR_GROUPS: &[u8] = b"I\x01";
@@ -103,6 +129,12 @@ const LONG_LIVED: Users = Users {
     ..UNCHECKED
 };
 
+// Room for 128 words.
+const SMALL: Users = Users {
+    size: 1,
+    ..UNCHECKED
+};
+
 const UNCACHED: Users = Users {
     enabled: false,
     ..DEFAULTS
@@ -129,7 +161,7 @@ fn conf_of(users: Users) -> Conf
 // Settings, the frames of an input before its E, and the replies.
 type Case = (Users, &'static [&'static [u8]], &'static [&'static [u8]]);
 
-const CASES: [Case; 24] = [
+const CASES: [Case; 25] = [
     // Time is over behind the timeout, and not at it.
     (
         UNCHECKED,
@@ -273,6 +305,28 @@ const CASES: [Case; 24] = [
         ],
         &[ROOT, ROOT_SH, NO_USER],
     ),
+    // Seven entries of 16 words leave 16, which one of 17 words does not fit in, and one of 16 does.
+    (
+        SMALL,
+        &[
+            ASK_0,
+            ASK_1,
+            ASK_2,
+            ASK_3,
+            ASK_4,
+            ASK_5,
+            ASK_6,
+            ASK_LETTERS,
+            ASK_7,
+            FILE_LETTERS,
+            ASK_LETTERS,
+            ASK_7,
+        ],
+        &[
+            NO_USER, NO_USER, NO_USER, NO_USER, NO_USER, NO_USER, NO_USER, NO_USER, NO_USER,
+            LETTERS, NO_USER,
+        ],
+    ),
     // Keys of no length and of lengths that no key has.
     (
         DEFAULTS,
@@ -333,47 +387,4 @@ fn machines(rt: HostRuntime) -> Result<(), Fail> {
         expect(&rt, *users, frames, output)?;
     }
     Ok(())
-}
-
-// A look-up of a user's name of 17 bytes, `absent-user-name` and a digit.
-const ASK_ABSENT: [&[u8]; 8] = [
-    b"Q\x1e\0\0\0\x02\0\0\0\0\0\0\0\x12\0\0\0absent-user-name0\0",
-    b"Q\x1e\0\0\0\x02\0\0\0\0\0\0\0\x12\0\0\0absent-user-name1\0",
-    b"Q\x1e\0\0\0\x02\0\0\0\0\0\0\0\x12\0\0\0absent-user-name2\0",
-    b"Q\x1e\0\0\0\x02\0\0\0\0\0\0\0\x12\0\0\0absent-user-name3\0",
-    b"Q\x1e\0\0\0\x02\0\0\0\0\0\0\0\x12\0\0\0absent-user-name4\0",
-    b"Q\x1e\0\0\0\x02\0\0\0\0\0\0\0\x12\0\0\0absent-user-name5\0",
-    b"Q\x1e\0\0\0\x02\0\0\0\0\0\0\0\x12\0\0\0absent-user-name6\0",
-    b"Q\x1e\0\0\0\x02\0\0\0\0\0\0\0\x12\0\0\0absent-user-name7\0",
-];
-
-// A look-up of the name of 25 letters a, a file in which this one and the eighth absent one are users, and the reply.
-const ASK_LETTERS: &[u8] = b"Q\x26\0\0\0\x02\0\0\0\0\0\0\0\x1a\0\0\0aaaaaaaaaaaaaaaaaaaaaaaaa\0";
-
-const FILE_LETTERS: &[u8] =
-    b"F\x01\x01\x40\0\0\0aaaaaaaaaaaaaaaaaaaaaaaaa:x:1:2:::\nabsent-user-name7:x:3:4::/:/bin\n";
-
-const LETTERS: &[u8] =
-    b"\x42\0\0\0\x02\0\0\0\x01\0\0\0\x1a\0\0\0\x02\0\0\0\x01\0\0\0\x02\0\0\0\x01\0\0\0\x01\0\0\0\x01\0\0\0aaaaaaaaaaaaaaaaaaaaaaaaa\0x\0\0\0\0";
-
-// Room for 128 words: seven entries of 16 words leave 16, which one of 17 words does not fit in, and one of 16 does.
-#[test]
-fn full_room(rt: HostRuntime) -> Result<(), Fail> {
-    let alloc = rt.alloc();
-    let seven = joined(alloc, &ASK_ABSENT[..7])?;
-    let small = Users {
-        size: 1,
-        ..UNCHECKED
-    };
-    let frames: [&[u8]; 6] = [
-        seven.as_slice(),
-        ASK_LETTERS,
-        ASK_ABSENT[7],
-        FILE_LETTERS,
-        ASK_LETTERS,
-        ASK_ABSENT[7],
-    ];
-    let absent = joined(alloc, &[NO_USER; 9])?;
-    let output: [&[u8]; 3] = [absent.as_slice(), LETTERS, NO_USER];
-    expect(&rt, small, &frames, &output)
 }

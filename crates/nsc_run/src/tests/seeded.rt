@@ -68,7 +68,7 @@ fn outcome(rt: &HostRuntime, bytes: &[u8], step: usize) -> Result<(Exit, Vec<u8>
 // How an input is cut into calls changes neither the output nor the exit.
 #[test]
 fn seeded_streams(rt: HostRuntime) -> Result<(), Fail> {
-    let mut whole = 0;
+    let mut whole: u64 = 0;
     for seed in 0..1000 {
         let bytes = stream(&rt, seed)?;
         let (exit, output) = outcome(&rt, &bytes, usize::MAX)?;
@@ -76,7 +76,7 @@ fn seeded_streams(rt: HostRuntime) -> Result<(), Fail> {
         assert_eq!(rt; exit, slow_exit, "of seed {seed}");
         assert_eq!(rt; output.as_slice(), slow_output.as_slice(), "of seed {seed}");
         if exit == Exit::Ok {
-            whole += 1;
+            whole = whole.saturating_add(1);
         }
     }
     // Most of the streams are whole, and not all.
