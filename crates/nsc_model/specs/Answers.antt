@@ -16,7 +16,8 @@ use Rattle.nsc_model.specs.Files.{Files}
 use Rattle.nsc_model.specs.Marked.{Marked}
 use Rattle.nsc_model.specs.Wire.{spelled}
 use Rattle.nsc_model.specs.Users.{users_of}
-use Rattle.nsc_model.specs.Services.{SwitchService, Local, Compat, Extrausers, Other, SwitchStep, action_at, ends, service_list}
+use Rattle.nsc_model.specs.Services.{SwitchService, Local, Compat, Extrausers, Other, SwitchStep, action_at, ends}
+use Rattle.nsc_model.specs.Switches.{service_list}
 
 -- whether a request of a user's entry names this one
 abbrev pub names_user : Request → Passwd → Bool
@@ -57,11 +58,18 @@ own_file db.Group files = files.group
 own_file db.Hosts files = files.hosts
 own_file db.Services files = files.services
 
--- the outcome of a service; every service but `files` is not built yet
+-- the file that the service `extrausers` reads for a database: users and groups have one
+abbrev pub extra_file : Db → Files → Option (List ℕ)
+extra_file db.Passwd files = files.extra_passwd
+extra_file db.Group files = files.extra_group
+extra_file db.Hosts files = None
+extra_file db.Services files = None
+
+-- the outcome of a service; `compat` is not built yet
 abbrev pub service_answer : Files → Request → SwitchService → Looked
 service_answer files request Local = file_answer (own_file (database_of request.kind) files) request
 service_answer files request Compat = Unavail
-service_answer files request Extrausers = Unavail
+service_answer files request Extrausers = file_answer (extra_file (database_of request.kind) files) request
 service_answer files request Other = Unavail
 
 -- the services in turn, each with its outcome: the first one whose action at its status is to return ends the switch, and

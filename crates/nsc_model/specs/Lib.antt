@@ -5,6 +5,7 @@ pub mod Fixed
 pub mod Wire
 pub mod Users
 pub mod Services
+pub mod Switches
 pub mod Answers
 pub mod History
 pub mod Settings

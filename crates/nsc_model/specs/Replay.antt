@@ -93,14 +93,14 @@ ask_frame settings s (BadLength length) = unanswered s
 abbrev pub silent : State → Result Went Finish
 silent s = Ok (record { state = s; writes = [] })
 
--- a file becomes this; only the passwd file is built
+-- a file becomes this; the files that users read are built
 abbrev pub become_frame : State → FileId → Option (List ℕ) → Result Went Finish
-become_frame s file.Switch held = Err NotBuilt
+become_frame s file.Switch held = silent (record s { files = with_file s.files file.Switch held })
 become_frame s file.Passwd held = silent (record s { files = with_file s.files file.Passwd held })
 become_frame s file.Group held = Err NotBuilt
 become_frame s file.Hosts held = Err NotBuilt
 become_frame s file.Services held = Err NotBuilt
-become_frame s file.ExtraPasswd held = Err NotBuilt
+become_frame s file.ExtraPasswd held = silent (record s { files = with_file s.files file.ExtraPasswd held })
 become_frame s file.ExtraGroup held = Err NotBuilt
 
 -- one database did this, and the next part goes on behind it

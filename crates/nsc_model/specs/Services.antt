@@ -1,9 +1,7 @@
--- The service lists of nsswitch.conf(5).
-use Rattle.std.specs.Prelude.{Bool, true, false, List, [], ◌∷◌}
-use Rattle.nsc_model.specs.declared.kind.Db.{Db}
+-- The services of a list of nsswitch.conf(5), and what it does at each status.
+use Rattle.std.specs.Prelude.{Bool, true, false}
 use Rattle.nsc_model.specs.declared.row.Looked.{Looked}
 use Rattle.nsc_model.specs.declared.row.Looked.TheVariants.{Found, NotFound, Unavail}
-use Rattle.nsc_model.specs.Files.{Files}
 
 -- the services that are built in, and every other one
 pub data SwitchService : Type 0 where
@@ -40,7 +38,3 @@ abbrev pub ends : SwitchAction → Bool
 ends Return = true
 ends Continue = false
 ends Merge = true
-
--- the service list of a database. No line of nsswitch.conf is read yet: it is the list of a database without one.
-abbrev pub service_list : Files → Db → List SwitchStep
-service_list files db = plain_step Local ∷ []
