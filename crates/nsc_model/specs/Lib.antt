@@ -1,4 +1,5 @@
 pub mod Kinds
+pub mod Held
 pub mod Files
 pub mod Marked
 pub mod Fixed

@@ -1,10 +1,12 @@
 ghost use Rattle.std.specs.Prelude.{◌≡◌, ◌≤◌, ◌↔◌, IsTrue, IfSome, Option, length};
-ghost use Rattle.std.specs.Option.{option_copied};
+ghost use Rattle.std.specs.Arc.{arc_value};
+ghost use Rattle.std.specs.Option.{option_copied, option_map};
 ghost use Rattle.nsc_model.specs.Files.{no_files, file_of, with_file, file_limit, same_file, same_files};
 
 use crate::kind::FileId;
 use nsc_base::Bytes;
 use std::marker::Model;
+use std::sync::Arc;
 
 // Whether two files are both absent, or have the same bytes.
 fn is_same_file(a: Option<&[u8]>, b: Option<&[u8]>) -> bool
@@ -17,10 +19,62 @@ fn is_same_file(a: Option<&[u8]>, b: Option<&[u8]>) -> bool
     }
 }
 
+// Bytes that are a content's own, or shared with other contents.
+#[derive(Debug, Drop)]
+enum Held {
+    Own(Bytes),
+    Shared(Arc<Bytes>),
+}
+
+// The bytes of a file that is present.
+#[derive(Debug, Drop)]
+struct Text {
+    held: Held,
+}
+
+impl Model for Text {
+    ghost use Rattle.std.specs.Prelude.{List, ℕ};
+    ghost use Rattle.nsc_model.specs.Held.{held_bytes};
+
+    ghost Value = { List ℕ };
+
+    ghost view = { λ text. held_bytes text.held };
+}
+
+impl Text {
+    ghost use Rattle.std.specs.Prelude.{◌≡◌};
+    ghost use Rattle.std.specs.Arc.{arc_value};
+
+    fn own(bytes: Bytes) -> Text
+        ensures { result ≡ bytes }
+    {
+        Text {
+            held: Held::Own(bytes),
+        }
+    }
+
+    fn shared(bytes: Arc<Bytes>) -> Text
+        ensures { result ≡ arc_value bytes }
+    {
+        Text {
+            held: Held::Shared(bytes),
+        }
+    }
+
+    fn as_slice(&self) -> &[u8]
+        ensures { result.now ≡ self.now }
+    {
+        match &self.held {
+            Held::Own(bytes) => bytes.as_slice(),
+            Held::Shared(bytes) => bytes.as_slice(),
+        }
+    }
+}
+
 /// The seven source files as they stood at one moment, each absent or its bytes, at most 16,777,216 of them.
 #[derive(Debug, Drop)]
 pub struct Content {
-    files: [Option<Bytes>; 7],
+    files: [Option<Text>; 7],
 }
 
 impl Model for Content {
@@ -51,7 +105,15 @@ impl Content {
         requires { IfSome bytes (λ b. length b ≤ file_limit) }
         ensures { self.new ≡ with_file self.old file bytes }
     {
-        self.files[file as usize] = bytes;
+        self.files[file as usize] = bytes.map(Text::own);
+    }
+
+    /// Makes one file absent, or these bytes, which other contents may share. The other files stay.
+    pub fn share(&mut self, file: FileId, bytes: Option<Arc<Bytes>>)
+        requires { IfSome bytes (λ b. length (arc_value b) ≤ file_limit) }
+        ensures { self.new ≡ with_file self.old file (option_map (λ b. arc_value b) bytes) }
+    {
+        self.files[file as usize] = bytes.map(Text::shared);
     }
 
     /// The bytes of a file, at most 16,777,216; `None` where it is absent.
@@ -61,7 +123,7 @@ impl Content {
     {
         self.files[file as usize]
             .as_ref()
-            .map(|bytes| bytes.as_slice())
+            .map(|text| text.as_slice())
     }
 
     /// Whether two contents are the same, file by file.
