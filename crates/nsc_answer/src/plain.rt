@@ -1,16 +1,16 @@
 ghost use Rattle.std.specs.Prelude.{◌≡◌, IfOk};
 ghost use Rattle.std.specs.Arc.{arc_value};
 ghost use Rattle.nsc_model.specs.Answers.{marked};
-ghost use Rattle.nsc_answer.specs.Sendable.{Sendable};
+ghost use Rattle.nsc_model.specs.Sendable.{Sendable};
 
-use crate::look::look_up;
 use nsc_base::NoMemory;
 use nsc_model::{Answer, Answerer, Content, Kind, Looked};
+use nsc_switch::switch;
 use nsc_wire::{Reply, encode};
 use std::alloc::Global;
 use std::sync::Arc;
 
-/// Answers over the content itself: each request reads the files anew.
+/// Answers over the content itself: each request reads the service list and the files anew.
 #[derive(Clone, Copy, Debug)]
 pub struct Plain;
 
@@ -34,7 +34,7 @@ impl Answerer for Plain {
         kind: Kind,
         key: &[u8],
     ) -> Result<Answer, NoMemory> {
-        let looked = look_up(alloc, ready, kind, key)?;
+        let looked = switch(alloc, ready, kind, key)?;
         answer_with(alloc, kind, looked)
     }
 }

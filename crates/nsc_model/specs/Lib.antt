@@ -8,6 +8,7 @@ pub mod Users
 pub mod Services
 pub mod Switches
 pub mod Answers
+pub mod Sendable
 pub mod History
 pub mod Settings
 pub mod Core

@@ -1,0 +1,10 @@
+//! The services `files` and `extrausers`: what a database's own file, or the extra one, answers.
+#![tactic(auto)]
+
+mod lookup;
+mod users;
+
+pub use lookup::{extra_lookup, files_lookup};
+
+#[cfg(test)]
+mod tests;

@@ -1,0 +1,101 @@
+ghost use Rattle.std.specs.Prelude.{◌≡◌, IfOk};
+ghost use Rattle.nsc_model.specs.Answers.{looked_up, service_answer, switched};
+ghost use Rattle.nsc_model.specs.Files.{file_of};
+ghost use Rattle.nsc_model.specs.Kinds.{IsBuilt, database_of};
+ghost use Rattle.nsc_model.specs.Services.{action_at, ends};
+ghost use Rattle.nsc_model.specs.Sendable.{Sendable};
+ghost use Rattle.nsc_model.specs.Switches.{list_name, service_list, text_of};
+ghost use Rattle.nsc_switchconf.specs.Steps.{action_of, name_of, step_of, steps_of};
+
+use crate::services::{PlainServices, ServiceLook};
+use nsc_base::NoMemory;
+use nsc_model::{Content, Db, FileId, Kind, Looked};
+use nsc_switchconf::{Action, DbName, Step, service_list};
+use std::alloc::Global;
+
+/// The outcome of the switch for the request of this kind and key, over a content: the services that its
+/// nsswitch.conf(5) lists for the kind's database are asked in turn. Fails only for want of memory.
+pub fn switch(alloc: Global, content: &Content, kind: Kind, key: &[u8]) -> Result<Looked, NoMemory>
+    requires { IsBuilt kind }
+    ensures outcome { IfOk result (λ looked. looked ≡ looked_up content.now (record { kind = kind; key = key.now })) }
+    ensures sendable { IfOk result (λ looked. Sendable kind looked) }
+{
+    let steps = steps_for(alloc, content, Db::of(kind))?;
+    switch_over(alloc, &PlainServices { content }, &steps, kind, key)
+}
+
+// The service list of a database over a content.
+#[tactic(auto, unfolding(nsc_model::specs::Switches::service_list))]
+fn steps_for(alloc: Global, content: &Content, db: Db) -> Result<Vec<Step>, NoMemory>
+    ensures { IfOk result (λ list. steps_of list.items ≡ service_list content.now db) }
+{
+    service_list(alloc, switch_text(content), name_of(db))
+}
+
+// The text of nsswitch.conf(5); an absent file is like an empty one.
+fn switch_text(content: &Content) -> &[u8]
+    ensures { result.now ≡ text_of (file_of content.now FileId.Switch) }
+{
+    match content.file(FileId::Switch) {
+        Some(text) => text,
+        None => b"",
+    }
+}
+
+// The name of a database's list.
+fn name_of(db: Db) -> DbName
+    ensures { name_of result ≡ list_name db }
+{
+    match db {
+        Db::Passwd => DbName::Passwd,
+        Db::Group => DbName::Group,
+        Db::Hosts => DbName::Hosts,
+        Db::Services => DbName::Services,
+    }
+}
+
+/// The outcome of the switch over these steps and these services, for the request of this kind and key: that of the
+/// first step whose action at its outcome's status is not to continue, or else that of the last step. Over no step it is
+/// unavailable. Fails only for want of memory.
+#[tactic(auto, using(crate::proofs::Turns::is_switch, crate::proofs::Turns::unavail_told))]
+pub fn switch_over<V: ServiceLook>(
+    alloc: Global,
+    services: &V,
+    steps: &[Step],
+    kind: Kind,
+    key: &[u8],
+) -> Result<Looked, NoMemory>
+    requires { IsBuilt kind }
+    ensures outcome { IfOk result (λ looked. looked ≡ switched (service_answer (V.content services.now) (record { kind = kind; key = key.now })) (steps_of steps.now)) }
+    ensures sendable { IfOk result (λ looked. Sendable kind looked) }
+{
+    let mut outcome = Looked::Unavail;
+    for step in steps {
+        outcome = services.look(alloc, step.service, kind, key)?;
+        if is_end(action_of(step, &outcome)) {
+            return Ok(outcome);
+        }
+    }
+    Ok(outcome)
+}
+
+// What a step does at the status of an outcome. No service answers that it may be tried again.
+fn action_of(step: &Step, outcome: &Looked) -> Action
+    ensures { action_of result ≡ action_at (step_of step.now) outcome.now }
+{
+    match outcome {
+        Looked::Found(_) => step.success,
+        Looked::NotFound => step.notfound,
+        Looked::Unavail => step.unavail,
+    }
+}
+
+// Whether the switch ends at this action; to merge is to return as long as no outcomes are joined.
+fn is_end(action: Action) -> bool
+    ensures { result ≡ ends (action_of action) }
+{
+    match action {
+        Action::Return | Action::Merge => true,
+        Action::Continue => false,
+    }
+}

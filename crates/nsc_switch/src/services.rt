@@ -1,0 +1,55 @@
+ghost use Rattle.std.specs.Prelude.{◌≡◌, IfOk};
+ghost use Rattle.nsc_model.specs.Answers.{service_answer};
+ghost use Rattle.nsc_model.specs.Files.{Files};
+ghost use Rattle.nsc_model.specs.Kinds.{IsBuilt};
+ghost use Rattle.nsc_model.specs.Sendable.{Sendable};
+ghost use Rattle.nsc_switchconf.specs.Steps.{service_of};
+
+use nsc_base::NoMemory;
+use nsc_files::{extra_lookup, files_lookup};
+use nsc_model::{Content, Kind, Looked};
+use nsc_switchconf::Service;
+use std::alloc::Global;
+
+/// The services over one content.
+pub trait ServiceLook {
+    /// The content that the services answer over.
+    ghost content: { Self → Files };
+
+    /// The outcome of a service for the request of this kind and key. Fails only for want of memory.
+    fn look(
+        &self,
+        alloc: Global,
+        service: Service,
+        kind: Kind,
+        key: &[u8],
+    ) -> Result<Looked, NoMemory>
+        requires { IsBuilt kind }
+        ensures outcome { IfOk result (λ looked. looked ≡ service_answer (content self.now) (record { kind = kind; key = key.now }) (service_of service)) }
+        ensures sendable { IfOk result (λ looked. Sendable kind looked) };
+}
+
+/// The services that read a content as it is: each request goes over its files anew.
+#[derive(Drop)]
+pub struct PlainServices<'a> {
+    /// The content.
+    pub content: &'a Content,
+}
+
+impl<'a> ServiceLook for PlainServices<'a> {
+    ghost content = { λ services. services.content.now };
+
+    fn look(
+        &self,
+        alloc: Global,
+        service: Service,
+        kind: Kind,
+        key: &[u8],
+    ) -> Result<Looked, NoMemory> {
+        match service {
+            Service::Files => files_lookup(alloc, self.content, kind, key),
+            Service::Extrausers => extra_lookup(alloc, self.content, kind, key),
+            Service::Compat | Service::Other => Ok(Looked::Unavail),
+        }
+    }
+}
