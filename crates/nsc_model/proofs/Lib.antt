@@ -6,3 +6,8 @@ pub mod Histories
 pub mod CoreLawRecords
 pub mod CoreLaw
 pub mod CoreLawLive
+pub mod MachineLawLists
+pub mod MachineLawEnds
+pub mod MachineLawSteps
+pub mod MachineLawParts
+pub mod MachineLaw

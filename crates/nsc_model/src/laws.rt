@@ -1,13 +1,17 @@
 //! The laws of the definitions: theorems over whole histories and over replies, each the contract of a function with no body.
 
-ghost use Rattle.std.specs.Prelude.{◌≡◌, ◌≢◌, ℕ, List, [], ◌++◌, Some};
+ghost use Rattle.std.specs.Prelude.{◌≡◌, ◌≢◌, ℕ, List, [], ◌++◌, Option, Some};
+ghost use Rattle.nsc_model.specs.declared.answer.Request.{Request};
 ghost use Rattle.nsc_model.specs.declared.kind.Db.{Db};
 ghost use Rattle.nsc_model.specs.declared.kind.Kind.{Kind};
 ghost use Rattle.nsc_model.specs.declared.record.Record.{Record};
 ghost use Rattle.nsc_model.specs.declared.row.Reply.{Reply};
-ghost use Rattle.nsc_model.specs.Files.{Files};
+ghost use Rattle.nsc_model.specs.Files.{Files, part_of};
+ghost use Rattle.nsc_model.specs.Settings.{DbSettings};
 ghost use Rattle.nsc_model.specs.History.{Legal, version_in};
 ghost use Rattle.nsc_model.specs.Core.{Core, Move, Empty, Moves, Runs, RepliesAnswer, opening};
+ghost use Rattle.nsc_model.specs.Machine.{Cache, new_cache, look_up, tick, invalidated};
+ghost use Rattle.nsc_model.specs.Calls.{Drives, TurnsBy, PassesBy};
 ghost use Rattle.nsc_model.specs.Wire.{Spells};
 
 /// In every run of moves from an opening, whatever its callers do and in whatever order, the history is legal, and each
@@ -28,6 +32,18 @@ pub fn polled_versions_are_held()
 /// After every run the database can be emptied: its live entries are a list, each once, in rising number.
 pub fn core_can_be_emptied()
     ensures { (db : Db) (files : Files) (moves : List Move) (new : Core) → Runs db moves (opening db files) new → (emptied : Core) × Moves db Empty new emptied }
+{}
+
+/// Each event of the machine is a list of moves of the core, made by one caller that has seen the whole history before
+/// it, with the same records and the same reply; so also where it stops. The reply is an answer to its request.
+pub fn machine_events_are_moves()
+    ensures begins { (db : Db) (a : ℕ) (files : Files) → Drives db a (opening db files) (new_cache (part_of db files)) }
+    ensures files { (db : Db) (a : ℕ) (old : Core) (cache : Cache) (files : Files) → Drives db a old cache → Drives db a (record old { sources = files }) cache }
+    ensures look_up { (db : Db) (a : ℕ) (settings : DbSettings) (now : ℕ) (request : Request) (old : Core) (cache : Cache) →
+        Drives db a old cache → TurnsBy db a old request (look_up settings now (part_of db old.sources) request cache) }
+    ensures tick { (db : Db) (a : ℕ) (settings : DbSettings) (reloads : Option ℕ) (now : ℕ) (old : Core) (cache : Cache) →
+        Drives db a old cache → PassesBy db a old (tick settings reloads now (part_of db old.sources) cache) }
+    ensures invalidation { (db : Db) (a : ℕ) (old : Core) (cache : Cache) → Drives db a old cache → PassesBy db a old (invalidated cache) }
 {}
 
 /// What a legal history was at any earlier moment, from its first record on, was a legal history.
