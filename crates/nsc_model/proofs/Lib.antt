@@ -11,3 +11,4 @@ pub mod MachineLawEnds
 pub mod MachineLawSteps
 pub mod MachineLawParts
 pub mod MachineLaw
+pub mod MachineLawRuns

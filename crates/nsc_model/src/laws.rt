@@ -1,17 +1,18 @@
 //! The laws of the definitions: theorems over whole histories and over replies, each the contract of a function with no body.
 
-ghost use Rattle.std.specs.Prelude.{◌≡◌, ◌≢◌, ℕ, List, [], ◌++◌, Option, Some};
+ghost use Rattle.std.specs.Prelude.{◌≡◌, ◌≢◌, ℕ, List, [], ◌∷◌, ◌++◌, Option, Some};
 ghost use Rattle.nsc_model.specs.declared.answer.Request.{Request};
 ghost use Rattle.nsc_model.specs.declared.kind.Db.{Db};
 ghost use Rattle.nsc_model.specs.declared.kind.Kind.{Kind};
 ghost use Rattle.nsc_model.specs.declared.record.Record.{Record};
+ghost use Rattle.nsc_model.specs.declared.record.Record.TheVariants.{Change};
 ghost use Rattle.nsc_model.specs.declared.row.Reply.{Reply};
 ghost use Rattle.nsc_model.specs.Files.{Files, part_of};
 ghost use Rattle.nsc_model.specs.Settings.{DbSettings};
 ghost use Rattle.nsc_model.specs.History.{Legal, version_in};
 ghost use Rattle.nsc_model.specs.Core.{Core, Move, Empty, Moves, Runs, RepliesAnswer, opening};
 ghost use Rattle.nsc_model.specs.Machine.{Cache, new_cache, look_up, tick, invalidated};
-ghost use Rattle.nsc_model.specs.Calls.{Drives, TurnsBy, PassesBy};
+ghost use Rattle.nsc_model.specs.Calls.{Drives, TurnsBy, PassesBy, Event, EachAnswered};
 ghost use Rattle.nsc_model.specs.Wire.{Spells};
 
 /// In every run of moves from an opening, whatever its callers do and in whatever order, the history is legal, and each
@@ -44,6 +45,13 @@ pub fn machine_events_are_moves()
     ensures tick { (db : Db) (a : ℕ) (settings : DbSettings) (reloads : Option ℕ) (now : ℕ) (old : Core) (cache : Cache) →
         Drives db a old cache → PassesBy db a old (tick settings reloads now (part_of db old.sources) cache) }
     ensures invalidation { (db : Db) (a : ℕ) (old : Core) (cache : Cache) → Drives db a old cache → PassesBy db a old (invalidated cache) }
+{}
+
+/// In every run of events from a new cache, whatever the files are at each of them, the history is legal and each reply
+/// is an answer to its request, for a caller that had seen the whole history before the look-up.
+pub fn runs_are_answered()
+    ensures { (db : Db) (settings : DbSettings) (reloads : Option ℕ) (files : Files) (events : List Event) →
+        EachAnswered db settings reloads events (new_cache (part_of db files)) (Change 0 (part_of db files) ∷ []) }
 {}
 
 /// What a legal history was at any earlier moment, from its first record on, was a legal history.
