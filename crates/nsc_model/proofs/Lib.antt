@@ -12,3 +12,4 @@ pub mod MachineLawSteps
 pub mod MachineLawParts
 pub mod MachineLaw
 pub mod MachineLawRuns
+pub mod MachineLawReplays

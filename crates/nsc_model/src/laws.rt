@@ -7,13 +7,16 @@ ghost use Rattle.nsc_model.specs.declared.kind.Kind.{Kind};
 ghost use Rattle.nsc_model.specs.declared.record.Record.{Record};
 ghost use Rattle.nsc_model.specs.declared.record.Record.TheVariants.{Change};
 ghost use Rattle.nsc_model.specs.declared.row.Reply.{Reply};
-ghost use Rattle.nsc_model.specs.Files.{Files, part_of};
-ghost use Rattle.nsc_model.specs.Settings.{DbSettings};
+ghost use Rattle.nsc_model.specs.Files.{Files, no_files, part_of};
+ghost use Rattle.nsc_model.specs.Settings.{DbSettings, Settings};
 ghost use Rattle.nsc_model.specs.History.{Legal, version_in};
 ghost use Rattle.nsc_model.specs.Core.{Core, Move, Empty, Moves, Runs, RepliesAnswer, opening};
 ghost use Rattle.nsc_model.specs.Machine.{Cache, new_cache, look_up, tick, invalidated};
 ghost use Rattle.nsc_model.specs.Calls.{Drives, TurnsBy, PassesBy, Event, EachAnswered};
 ghost use Rattle.nsc_model.specs.Wire.{Spells};
+ghost use Rattle.nsc_model.specs.Frames.{Frame};
+ghost use Rattle.nsc_model.specs.Replay.{first_state};
+ghost use Rattle.nsc_model.specs.Replies.{EachReplied};
 
 /// In every run of moves from an opening, whatever its callers do and in whatever order, the history is legal, and each
 /// reply that a caller may get is an answer to its request, between what the caller had seen at the start of its call and
@@ -52,6 +55,13 @@ pub fn machine_events_are_moves()
 pub fn runs_are_answered()
     ensures { (db : Db) (settings : DbSettings) (reloads : Option ℕ) (files : Files) (events : List Event) →
         EachAnswered db settings reloads events (new_cache (part_of db files)) (Change 0 (part_of db files) ∷ []) }
+{}
+
+/// In every replay, with any settings and any frames, each reply that is written for a look-up is an answer to its
+/// request over the history of the request's database, whose caller had seen the whole of it before the look-up; and each of
+/// the four histories goes on from what it was.
+pub fn replays_are_answered()
+    ensures { (settings : Settings) (frames : List Frame) → EachReplied settings frames first_state (λ db. opening db no_files) }
 {}
 
 /// What a legal history was at any earlier moment, from its first record on, was a legal history.
