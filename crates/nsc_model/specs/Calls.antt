@@ -3,7 +3,6 @@ use Rattle.std.specs.Prelude.{◌≡◌, ℕ, ◌+◌, List, [], ◌∷◌, ◌+
 use Rattle.nsc_model.specs.declared.kind.Db.{Db}
 use Rattle.nsc_model.specs.declared.answer.Request.{Request}
 use Rattle.nsc_model.specs.declared.record.Record.{Record}
-use Rattle.nsc_model.specs.declared.record.Record.TheVariants.{Change}
 use Rattle.nsc_model.specs.Files as files
 use Rattle.nsc_model.specs.Files.{part_of}
 use Rattle.nsc_model.specs.Fixed.{Fixed}

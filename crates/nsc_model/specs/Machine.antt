@@ -1,6 +1,6 @@
 -- The machine that the cache of a database is: its events, each with the records that it adds to the history. One caller
 -- drives it, so no insertion comes behind an invalidation that it did not note, and none finds its request live.
-use Rattle.std.specs.Prelude.{ℕ, ◌+◌, ◌-◌, ◌*◌, ◌^◌, ◌==◌, nat_lt, nat_le, min, Bool, true, false, not, ◌&&◌, ◌||◌, if◌then◌else◌, List, [], ◌∷◌, ◌++◌, length, map, filter, find, sum_by, Option, Some, None, Result, Ok, Err}
+use Rattle.std.specs.Prelude.{ℕ, ◌+◌, ◌-◌, ◌*◌, ◌^◌, ◌==◌, nat_lt, nat_le, min, Bool, false, not, ◌&&◌, ◌||◌, if◌then◌else◌, List, [], ◌∷◌, ◌++◌, length, map, filter, find, sum_by, Option, Some, None, Result, Ok, Err}
 use Rattle.nsc_base.specs.Nodes.{node_words}
 use Rattle.nsc_model.specs.declared.answer.Request.{Request}
 use Rattle.nsc_model.specs.declared.record.Ending.{Ending}
@@ -185,7 +185,7 @@ unfoldable pub invalidated : Cache → Result Passed Stopped
 invalidated cache =
     if cache.epoch == last_count then Err (stopped cache) else
     behind (Invalid (cache.epoch + 1) ∷ ends_of by_invalidation cache.entries [])
-        (compacted_behind cache.entries (record cache { entries = []; epoch = cache.epoch + 1 }))
+    (compacted_behind cache.entries (record cache { entries = []; epoch = cache.epoch + 1 }))
 
 -- ---- ticks
 
@@ -232,7 +232,7 @@ abbrev pub pruned : DbSettings → Option ℕ → ℕ → Cache → Result Passe
 pruned settings reloads now cache =
     let due = due_of now cache.entries in
     behind (ends_of (due_cause reloads now) due [])
-        (compacted_behind due (record cache { entries = others_of now cache.entries }) >>= λ after. Ok (reloaded settings now (reloaded_of reloads due) after))
+    (compacted_behind due (record cache { entries = others_of now cache.entries }) >>= λ after. Ok (reloaded settings now (reloaded_of reloads due) after))
 
 -- the version that a tick found is kept
 abbrev pub ticked : Cache → Cache
