@@ -1,9 +1,8 @@
 -- The law of the machine: its events are moves of the core, made by one caller.
-use Rattle.std.proofs.Common.{◌≡◌, ◌≢◌, ℕ, ◌+◌, Bool, true, false, cond, ltb, List, [], ◌∷◌, ◌++◌, refl, sym, ap, subst, ◌∙◌, inl, inr}
-use Rattle.std.specs.Prelude.{◌⊎◌, not, filter, find, All, Option, Some, None, Result, Ok, Err}
+use Rattle.std.proofs.Common.{◌≡◌, ◌≢◌, ℕ, Bool, true, false, cond, ltb, List, [], ◌∷◌, ◌++◌, refl, sym, ap, subst, ◌∙◌, inl, inr}
+use Rattle.std.specs.Prelude.{◌⊎◌, not, find, Option, Some, None, Result, Ok, Err}
 use Rattle.std.proofs.lemmas.Bool.{false≢true}
 use Rattle.std.proofs.lemmas.List.{append-nil}
-use Rattle.std.proofs.lemmas.List.Elements.{All-nil, All-cons}
 use Rattle.nsc_model.specs.declared.kind.Db.{Db}
 use Rattle.nsc_model.specs.declared.answer.Request.{Request}
 use Rattle.nsc_model.specs.declared.record.Record.{Record}
@@ -14,15 +13,15 @@ use Rattle.nsc_model.specs.Files.{part_of}
 use Rattle.nsc_model.specs.Fixed.{Fixed}
 use Rattle.nsc_model.specs.Settings.{DbSettings}
 use Rattle.nsc_model.specs.Answers.{answer_of}
-use Rattle.nsc_model.specs.History.{version_in, Legal, IsPrefix, Answered}
-use Rattle.nsc_model.specs.Core.{Caller, Core, opening, Move, Files, Look, Among, AreLive, Replies}
-use Rattle.nsc_model.specs.Machine.{Kept, Cache, new_cache, Passed, Stopped, Turn, unchanged, behind, ◌>>=◌, polled, tried, kept_answer, cached, used_now, loaded, hit_or_load, look_up, invalidated, compacted_behind, ends_of, is_dropped, due_cause, next_reloads, reloaded, due_of, others_of, reloaded_of, pruned, ticked, is_outdated, checked, tick}
-use Rattle.nsc_model.specs.Calls.{fixed_of, Tells, IsOwn, Drives, IsMoved, IsTurned, PassesBy, TurnsBy}
+use Rattle.nsc_model.specs.History.{version_in, Legal, Answered}
+use Rattle.nsc_model.specs.Core.{Caller, Core, opening, Files, Look, Among, AreLive, Replies}
+use Rattle.nsc_model.specs.Machine.{Kept, Cache, new_cache, Passed, Stopped, unchanged, ◌>>=◌, polled, tried, kept_answer, cached, used_now, loaded, hit_or_load, look_up, invalidated, compacted_behind, ends_of, is_dropped, due_cause, next_reloads, reloaded, due_of, others_of, reloaded_of, pruned, ticked, is_outdated, checked, tick}
+use Rattle.nsc_model.specs.Calls.{fixed_of, Drives, IsTurned, PassesBy, TurnsBy}
 use Rattle.nsc_model.proofs.Requests.{same_request, request_same}
 use Rattle.nsc_model.proofs.CoreLaw.{changed, begun, taking, answered_law}
 use Rattle.nsc_model.proofs.MachineLawLists.{filter_from, rise_filter, found, missed, used_fixed, one_live, Apart, live_apart}
 use Rattle.nsc_model.proofs.MachineLawEnds.{ends_behind, invalidations_ends, polled_ends, finishes, finishes_own, ended, ends_run, due_allowed, due_is, other_is, due_live, due_rise, pruned_tells}
-use Rattle.nsc_model.proofs.MachineLawSteps.{Step, no_step, one_step, then_step, silent_step, runs_append, Stands, Looked, retold, gains_on, caller_on, begin_step, begin_stands, Went, Nothing, Comes, comes_behind, comes_then, stays, drive_on, moved, passes, driven}
+use Rattle.nsc_model.proofs.MachineLawSteps.{Step, no_step, one_step, then_step, silent_step, runs_append, Stands, Looked, retold, gains_on, caller_on, begin_step, begin_stands, Went, Nothing, Comes, comes_behind, comes_then, stays, moved, passes, driven}
 use Rattle.nsc_model.proofs.MachineLawParts.{Polled, poll_comes, Tried, tries, compacts, invalid_comes}
 
 abbrev given : ℕ → Option ℕ
@@ -47,7 +46,7 @@ reloads db a event settings now (k ∷ rest) core c cache s l free =
     let core1 = changed core a c1 in
     let first = tried settings now request (next_reloads k.reloads) cache in
     let t = tries db a event core1 c1 settings now request (next_reloads k.reloads) cache (begin_stands a event core c cache request s)
-        (record { version_is = l.version_is; noted_is = l.noted_is; was = l.was }) refl (λ e among. free.differ e k.entry among (inl refl)) in
+    (record { version_is = l.version_is; noted_is = l.noted_is; was = l.was }) refl (λ e among. free.differ e k.entry among (inl refl)) in
     let w = reloads db a event settings now rest t.new c1 first.cache t.stands t.looked (record {
       differ = λ e f x y. elim (t.among e x) [ inl old ↦ free.differ e f old (inr y) | inr same ↦ λ both. free.apart.0 f y (sym both ∙ same) ];
       apart = free.apart.1;
@@ -179,23 +178,29 @@ keeps db a event core c settings now request cache s l is others = by_test setti
   by_test true e = tries db a event core c settings now request 0 cache s l is (others e)
   by_test false e = record { new = core; step = no_step db a event core; stands = s; looked = l; held = s.tells.held; among = λ x y. inl y }
 
+abbrev asks : Core → ℕ → Request → Core
+asks old a request = changed old a (begun (old.callers a) request old.history)
+
 misses : (db : Db) (a : ℕ) (old : Core) (settings : DbSettings) (now : ℕ) (request : Request) (cache : Cache) → Drives db a old cache → (settings.enabled ≡ true → (e : Fixed) → Among (fixed_of cache.entries) e → e.request ≢ request)
     → TurnsBy db a old request (loaded settings now request (polled (part_of db old.sources) cache))
-misses db a old settings now request cache d others =
-    by_poll (polled (part_of db old.sources) cache) (poll_comes db a old.history (changed old a (begun (old.callers a) request old.history)) (begun (old.callers a) request old.history) cache (begin_stands a old.history old (old.callers a) cache request (driven db a old cache d))) where
-  begins : Step db a old.history old [] (changed old a (begun (old.callers a) request old.history))
+misses db a old settings now request cache d others = by_poll (polled (part_of db old.sources) cache) looks where
+  begins : Step db a old.history old [] (asks old a request)
   begins = begin_step db a old.history old (old.callers a) cache request (driven db a old cache d)
 
-  by_poll : (r : Result Passed Stopped) → Comes db a old.history (changed old a (begun (old.callers a) request old.history)) (Polled (Some request) old.history cache.entries) r → TurnsBy db a old request (loaded settings now request r)
+  looks : Comes db a old.history (asks old a request) (Polled (Some request) old.history cache.entries) (polled (part_of db old.sources) cache)
+  looks = poll_comes db a old.history (asks old a request) (begun (old.callers a) request old.history) cache (begin_stands a old.history old (old.callers a) cache request (driven db a old cache d))
+
+  by_poll : (r : Result Passed Stopped) → Comes db a old.history (asks old a request) (Polled (Some request) old.history cache.entries) r → TurnsBy db a old request (loaded settings now request r)
   by_poll (Ok poll) w =
       let after = kept_answer settings now request poll.cache in
-      let t = keeps db a old.history w.new w.caller settings now request poll.cache w.stands w.holds.looked w.holds.request_is
-          (λ e f x. others e f (subst (λ (ks : List Kept). Among (fixed_of ks) f) w.holds.entries_stay x)) in
+      let others_there : settings.enabled ≡ true → (e : Fixed) → Among (fixed_of poll.cache.entries) e → e.request ≢ request =
+      λ enabled e x. others enabled e (subst (λ (ks : List Kept). Among (fixed_of ks) e) w.holds.entries_stay x) in
+      let t = keeps db a old.history w.new w.caller settings now request poll.cache w.stands w.holds.looked w.holds.request_is others_there in
+      let both = then_step db a old.history (asks old a request) w.new t.new poll.adds after.adds w.step t.step in
       let g : Gets db a old request (after.adds ++ poll.adds) (answer_of poll.cache.sources request).bytes after.cache = record {
         new = t.new;
         caller = w.caller;
-        step = silent_step db a old.history old (changed old a (begun (old.callers a) request old.history)) t.new (after.adds ++ poll.adds) begins
-            (then_step db a old.history (changed old a (begun (old.callers a) request old.history)) w.new t.new poll.adds after.adds w.step t.step);
+        step = silent_step db a old.history old (asks old a request) t.new (after.adds ++ poll.adds) begins both;
         stands = t.stands;
         request_is = w.holds.request_is;
         seen_is = w.holds.seen_is;
@@ -203,7 +208,8 @@ misses db a old settings now request cache d others =
       } in
       (g.new, gets_turned db a old cache request (after.adds ++ poll.adds) (answer_of poll.cache.sources request).bytes after.cache d g)
   by_poll (Err stop) w =
-      (w.new, moved db a old cache stop.adds w.new w.caller stop.cache d (silent_step db a old.history old (changed old a (begun (old.callers a) request old.history)) w.new stop.adds begins w.step) w.stands)
+      let step = silent_step db a old.history old (asks old a request) w.new stop.adds begins w.step in
+      (w.new, moved db a old cache stop.adds w.new w.caller stop.cache d step w.stands)
 
 -- ---- the law
 
@@ -248,7 +254,7 @@ look_up_turns db a settings now request old cache d = by_found (cached settings 
   by_found None e =
       misses db a old settings now request cache d
       (λ enabled f x same. false≢true (sym (missed (λ y. is_request request y.request) cache.entries f (subst (λ (b : Bool). cond b (find (λ y. is_request request y.entry.request) cache.entries) None ≡ None) enabled e) x)
-          ∙ subst (λ (y : Request). is_request request y ≡ true) (sym same) (request_same request)))
+      ∙ subst (λ (y : Request). is_request request y ≡ true) (sym same) (request_same request)))
 
 pub tick_passes : (db : Db) (a : ℕ) (settings : DbSettings) (options : Option ℕ) (now : ℕ) (old : Core) (cache : Cache) → Drives db a old cache → PassesBy db a old (tick settings options now (part_of db old.sources) cache)
 tick_passes db a settings options now old cache d = passes db a old cache Nothing (tick settings options now (part_of db old.sources) cache) d (tick_comes db a old.history settings options now old (old.callers a) cache (driven db a old cache d))

@@ -1,14 +1,13 @@
 -- The ends of entries, one after the other: what stays of the history, which entries are left, and the moves that they are.
-use Rattle.std.proofs.Common.{◌≡◌, ◌≢◌, ℕ, ◌+◌, ◌<◌, Bool, true, false, cond, ltb, List, [], ◌∷◌, ◌++◌, refl, sym, ap, subst, ◌∙◌, arith, inl, inr}
-use Rattle.std.specs.Prelude.{◌⊎◌, not, filter, All, Option, Some}
+use Rattle.std.proofs.Common.{◌≡◌, ℕ, ◌<◌, Bool, true, false, cond, ltb, List, [], ◌∷◌, ◌++◌, refl, sym, ap, subst, ◌∙◌, arith, inl, inr}
+use Rattle.std.specs.Prelude.{◌⊎◌, not, All, Option}
 use Rattle.std.proofs.lemmas.Bool.{ltb-true, not-true}
 use Rattle.std.proofs.lemmas.List.Elements.{All-nil, All-cons}
 use Rattle.nsc_model.specs.declared.kind.Db.{Db}
 use Rattle.nsc_model.specs.declared.record.Ending.{Ending}
 use Rattle.nsc_model.specs.declared.record.Ending.TheVariants.{Expired, Replaced}
 use Rattle.nsc_model.specs.declared.record.Record.{Record}
-use Rattle.nsc_model.specs.declared.record.Record.TheVariants.{Change, Poll, Load, End, Invalid}
-use Rattle.nsc_model.specs.Files.{Files}
+use Rattle.nsc_model.specs.declared.record.Record.TheVariants.{End}
 use Rattle.nsc_model.specs.Fixed.{Fixed}
 use Rattle.nsc_model.specs.History.{changes, loads, invalidations, newest, version_in, HasLoad, HasEnd, IsLive, WasPolled, Allows, Legal}
 use Rattle.nsc_model.specs.Core.{Core, Among, Rise, ended_all, AreLive, Move, Finish, Runs}
@@ -109,9 +108,11 @@ pub ends_run : (db : Db) (cause : Kept → Ending) (ks : List Kept) (core : Core
 unfolding finishes
 ends_run db cause [] core live allowed r = refl
 ends_run db cause (k ∷ ks) core live allowed r =
-    let next = record core { history = End k.entry.number (cause k) ∷ core.history } in
-    (next, (k.entry, live k.entry (inl refl), refl, allowed.0, refl),
-    ends_run db cause ks next (λ f a. lives_on core.history k.entry f (cause k) (first_least k.entry (fixed_of ks) f r a) (live f (inr a))) allowed.1 (rise_tail k.entry (fixed_of ks) r))
+    let next = record core { history = End k.entry.number (cause k) ∷ core.history } in (
+      next,
+      (k.entry, live k.entry (inl refl), refl, allowed.0, refl),
+      ends_run db cause ks next (λ f a. lives_on core.history k.entry f (cause k) (first_least k.entry (fixed_of ks) f r a) (live f (inr a))) allowed.1 (rise_tail k.entry (fixed_of ks) r),
+    )
 
 ends_legal : (cause : Kept → Ending) (ks : List Kept) (h : List Record) → Legal h → ((e : Fixed) → Among (fixed_of ks) e → IsLive h e) → Allowed cause ks → Rise (fixed_of ks) → Legal (ends_of cause ks h)
 ends_legal cause [] h l live allowed r = l

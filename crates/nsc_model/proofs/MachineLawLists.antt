@@ -1,6 +1,6 @@
 -- Lists of kept entries: what a filter keeps of them, and the requests of live entries.
-use Rattle.std.proofs.Common.{◌≡◌, ◌≢◌, ℕ, ◌<◌, Bool, true, false, cond, List, [], ◌∷◌, refl, sym, ap, subst, ◌∙◌, arith, inl, inr}
-use Rattle.std.specs.Prelude.{◌⊎◌, filter, find, map, Option, Some, None}
+use Rattle.std.proofs.Common.{◌≡◌, ◌≢◌, ◌<◌, Bool, true, false, cond, List, [], ◌∷◌, refl, sym, ap, subst, ◌∙◌, arith, inl, inr}
+use Rattle.std.specs.Prelude.{filter, find, Option, Some, None}
 use Rattle.nsc_model.specs.declared.answer.Request.{Request}
 use Rattle.nsc_model.specs.declared.record.Record.{Record}
 use Rattle.nsc_model.specs.declared.record.Record.TheVariants.{Change, Poll, Load, End, Invalid}
@@ -8,7 +8,7 @@ use Rattle.nsc_model.specs.Kinds.{is_request}
 use Rattle.nsc_model.specs.Fixed.{Fixed}
 use Rattle.nsc_model.specs.History.{loads, HasLoad, HasEnd, IsLive, Legal}
 use Rattle.nsc_model.specs.Core.{Among, Rise}
-use Rattle.nsc_model.specs.Machine.{Kept, used_by, used_now}
+use Rattle.nsc_model.specs.Machine.{Kept, used_now}
 use Rattle.nsc_model.specs.Calls.{fixed_of}
 use Rattle.nsc_model.proofs.Histories.{load_below}
 use Rattle.nsc_model.proofs.CoreLawRecords.{rise_tail, first_least}

@@ -1,29 +1,26 @@
 -- The parts of an event as moves of the core: a poll, an insertion, an invalidation, and the pruning of a tick.
 use Rattle.std.proofs.Common.{◌≡◌, ◌≢◌, ℕ, ◌+◌, ◌<◌, Bool, true, false, cond, eqb, ltb, List, [], ◌∷◌, ◌++◌, refl, sym, ap, subst, ◌∙◌, arith, inl, inr, rules}
-use Rattle.std.specs.Prelude.{◌⊎◌, not, filter, min, All, Option, Some, None, Result, Ok, Err}
+use Rattle.std.specs.Prelude.{◌⊎◌, min, Option, Some, None, Ok, Err}
 use Rattle.std.proofs.lemmas.Bool.{false≢true}
-use Rattle.std.proofs.lemmas.List.Elements.{All-nil, All-cons}
 use Rattle.nsc_model.specs.declared.kind.Db.{Db}
 use Rattle.nsc_model.specs.declared.answer.Request.{Request}
-use Rattle.nsc_model.specs.declared.record.Ending.{Ending}
 use Rattle.nsc_model.specs.declared.record.Record.{Record}
-use Rattle.nsc_model.specs.declared.record.Record.TheVariants.{Change, Poll, Load, End, Invalid}
+use Rattle.nsc_model.specs.declared.record.Record.TheVariants.{Change, Poll, Load, Invalid}
 use Rattle.nsc_model.specs.Files as files
 use Rattle.nsc_model.specs.Files.{part_of, same_files}
 use Rattle.nsc_model.specs.Fixed.{Fixed}
 use Rattle.nsc_model.specs.Settings.{DbSettings}
-use Rattle.nsc_model.specs.History.{changes, loads, invalidations, newest, version_in, HasLoad, HasEnd, IsLive, NoneLiveOf, WasPolled, Legal}
-use Rattle.nsc_model.specs.Core.{Caller, Core, Move, Insert, Finish, Empty, IsPoll, Inserts, Among, ended_all, AreLive}
-use Rattle.nsc_model.specs.Machine.{last_count, Kept, Cache, Passed, Stopped, unchanged, stopped, behind, ◌>>=◌, polled, new_entry, Refusal, TooLarge, Spent, Full, refusal, tried_by, tried, entry_words, all_words, compacted, compacted_behind, ends_of, by_invalidation, invalidated, is_dropped, due_cause, next_reloads, reloaded, due_of, others_of, reloaded_of, pruned, ticked, is_outdated, checked}
-use Rattle.nsc_model.specs.Calls.{fixed_of, Tells, IsOwn}
+use Rattle.nsc_model.specs.History.{loads, invalidations, newest, version_in, HasEnd, IsLive, NoneLiveOf, WasPolled, Legal}
+use Rattle.nsc_model.specs.Core.{Caller, Core, Insert, Empty, IsPoll, Among, ended_all, AreLive}
+use Rattle.nsc_model.specs.Machine.{last_count, Kept, Cache, unchanged, stopped, behind, polled, new_entry, Refusal, TooLarge, Spent, Full, refusal, tried_by, tried, entry_words, all_words, compacted_behind, ends_of, by_invalidation, invalidated}
+use Rattle.nsc_model.specs.Calls.{fixed_of, Tells}
 use Rattle.nsc_model.proofs.Requests.{content_same, one_content}
 use Rattle.nsc_model.proofs.Histories.{load_below}
 use Rattle.nsc_model.proofs.CoreLawRecords.{ended_or_not, same_invalidations, none_left, all_ended}
 use Rattle.nsc_model.proofs.CoreLawLive.{among_more, among_first, among_last, rise_last, new_live}
-use Rattle.nsc_model.proofs.CoreLaw.{changed, begun, noting, fetching, polling, change_legal}
-use Rattle.nsc_model.proofs.MachineLawLists.{filter_from, rise_filter, one_live, Apart, live_apart}
-use Rattle.nsc_model.proofs.MachineLawEnds.{ends_behind, ended_same, changes_ends, loads_ends, invalidations_ends, newest_ends, version_ends, polled_ends, Allowed, finishes, ended, ends_run, due_allowed, due_is, other_is, due_live, due_rise, pruned_tells}
-use Rattle.nsc_model.proofs.MachineLawSteps.{Step, no_step, one_step, then_step, silent_step, Stands, Looked, retold, gains_on, begin_step, begin_stands, note_step, note_stands, fetch_step, fetch_stands, polled_core, poll_step, poll_stands, Went, Nothing, Comes, comes_behind, comes_then, stays}
+use Rattle.nsc_model.proofs.CoreLaw.{changed, noting, fetching, polling, change_legal}
+use Rattle.nsc_model.proofs.MachineLawEnds.{ends_behind, ended_same, changes_ends, loads_ends, newest_ends, version_ends}
+use Rattle.nsc_model.proofs.MachineLawSteps.{Step, no_step, one_step, silent_step, Stands, Looked, retold, gains_on, note_step, note_stands, fetch_step, fetch_stands, polled_core, poll_step, poll_stands, Went, Nothing, Comes, comes_behind, stays}
 
 -- ---- a poll
 
@@ -133,7 +130,7 @@ poll_comes db a event core c cache s = by_test (same_files (part_of db core.sour
 
   by_test : (b : Bool) → same_files (part_of db core.sources) cache.sources ≡ b
       → Comes db a event core (Polled c.request c.seen cache.entries) (cond b (Ok (record { cache = cache; adds = Poll cache.newest_version ∷ [] }))
-          (cond (eqb cache.newest_version last_count) (Err (stopped cache)) (Ok (record { cache = turned cache (part_of db core.sources); adds = Change (cache.newest_version + 1) (part_of db core.sources) ∷ [] }))))
+      (cond (eqb cache.newest_version last_count) (Err (stopped cache)) (Ok (record { cache = turned cache (part_of db core.sources); adds = Change (cache.newest_version + 1) (part_of db core.sources) ∷ [] }))))
   by_test true same = poll_went db a event core c cache cache (Poll cache.newest_version) refl s (confirmed core.history (part_of db core.sources) cache s.tells same)
   by_test false other = by_count (eqb cache.newest_version last_count) other
 
@@ -209,17 +206,21 @@ inserts db a event core c settings now request reloads cache s l is others =
     record {
       new = record core { history = Load k.entry ∷ h };
       step = one_step db a event (Insert a k.entry.timeout) core (Load k.entry ∷ []) (record core { history = Load k.entry ∷ h }) refl
-          (inl (k.entry, record {
-            content = cache.sources;
-            request_is = ap (λ (x : Caller). x.request) s.caller_is ∙ is;
-            version_is = ap (λ (x : Caller). x.version) s.caller_is ∙ l.version_is;
-            noted_is = ap (λ (x : Caller). x.noted) s.caller_is ∙ l.noted_is;
-            none_live = none;
-            held = s.tells.held;
-            number_is = sym s.tells.loads_are;
-            answer_is = refl;
-            timeout_is = refl;
-          }, refl)) refl refl;
+          (inl (
+            k.entry,
+            record {
+              content = cache.sources;
+              request_is = ap (λ (x : Caller). x.request) s.caller_is ∙ is;
+              version_is = ap (λ (x : Caller). x.version) s.caller_is ∙ l.version_is;
+              noted_is = ap (λ (x : Caller). x.noted) s.caller_is ∙ l.noted_is;
+              none_live = none;
+              held = s.tells.held;
+              number_is = sym s.tells.loads_are;
+              answer_is = refl;
+              timeout_is = refl;
+            },
+            refl,
+          )) refl refl;
       stands = gains_on a event core (Load k.entry ∷ h) (Load k.entry ∷ []) c cache (inserted_by k cache) refl t s;
       looked = record { version_is = l.version_is; noted_is = l.noted_is; was = l.was };
       held = s.tells.held;

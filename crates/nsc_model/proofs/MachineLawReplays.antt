@@ -1,5 +1,5 @@
 -- The law of replays: each reply that is written for a look-up is an answer, over the history of its request's database.
-use Rattle.std.proofs.Common.{◌≡◌, ℕ, List, [], ◌∷◌, ◌++◌, refl, subst, ◌∙◌}
+use Rattle.std.proofs.Common.{◌≡◌, ℕ, List, [], ◌∷◌, refl, subst, ◌∙◌}
 use Rattle.std.specs.Prelude.{min, max, Option, Result, Ok, Err}
 use Rattle.nsc_model.specs.declared.kind.Db.{Db}
 use Rattle.nsc_model.specs.declared.kind.Db.TheVariants.{Passwd, Group, Hosts, Services}
@@ -16,8 +16,8 @@ use Rattle.nsc_model.specs.Core.{Core, opening}
 use Rattle.nsc_model.specs.Machine.{Cache, Passed, Stopped, Turn, look_up, tick, invalidated}
 use Rattle.nsc_model.specs.Calls.{Drives, PassesBy, TurnsBy}
 use Rattle.nsc_model.specs.Frames.{Frame, Ask, Become, Reach, Clear, Stop, Finish}
-use Rattle.nsc_model.specs.Replay.{State, first_state, cache_of, with_cache, Went, framed, last_moment, looked_at, look_frame, unanswered, ask_frame, silent, become_frame, then_on, ticked_in, ticks, reach_frame, clear_frame, turn_of}
-use Rattle.nsc_model.specs.Replies.{AllDrive, IsReplied, RepliesTo, IsPlayed, PlayedThen, EachReplied}
+use Rattle.nsc_model.specs.Replay.{State, first_state, cache_of, with_cache, Went, framed, last_moment, looked_at, look_frame, unanswered, ask_frame, silent, become_frame, then_on, ticked_in, ticks, turn_of}
+use Rattle.nsc_model.specs.Replies.{AllDrive, IsReplied, RepliesTo, PlayedThen, EachReplied}
 use Rattle.nsc_model.proofs.MachineLaw.{opening_drives, files_drive, look_up_turns, tick_passes, invalidation_passes}
 use Rattle.nsc_model.proofs.MachineLawSteps.{same_prefix, both_prefix}
 
@@ -128,7 +128,7 @@ tick_part : (others : State → (Db → Core) → Type 0) (old : Db → Core) (f
 tick_part others old frame settings db next onward s cores g =
     then_part others old frame s cores db (tick (settings_of settings db) settings.reloads s.moment (part_of db s.files) (cache_of s db)) next g
     (subst (λ (f : Files). PassesBy db 0 (cores db) (tick (settings_of settings db) settings.reloads s.moment (part_of db f) (cache_of s db))) (g.drive.sources_are db)
-      (tick_passes db 0 (settings_of settings db) settings.reloads s.moment (cores db) (cache_of s db) (g.drive.drives db)))
+    (tick_passes db 0 (settings_of settings db) settings.reloads s.moment (cores db) (cache_of s db) (g.drive.drives db)))
     onward
 
 begun_part : (s : State) (cores : Db → Core) → AllDrive s cores → Grown cores s cores
@@ -178,7 +178,7 @@ look_asked : (others : State → (Db → Core) → Type 0) (settings : Settings)
 look_asked others settings s cores PwName key d next =
     user_asked others s cores key (look_up settings.passwd s.moment (part_of Passwd s.files) (request PwName key) s.users) d
     (subst (λ (f : Files). TurnsBy Passwd 0 (cores Passwd) (request PwName key) (look_up settings.passwd s.moment (part_of Passwd f) (request PwName key) s.users)) (d.sources_are Passwd)
-      (look_up_turns Passwd 0 settings.passwd s.moment (request PwName key) (cores Passwd) s.users (d.drives Passwd))) next
+    (look_up_turns Passwd 0 settings.passwd s.moment (request PwName key) (cores Passwd) s.users (d.drives Passwd))) next
 look_asked others settings s cores PwUid key d next = tt
 look_asked others settings s cores GrName key d next = tt
 look_asked others settings s cores GrGid key d next = tt

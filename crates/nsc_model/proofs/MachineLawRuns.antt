@@ -1,5 +1,5 @@
 -- The law of whole runs of the machine: in each the history stays legal, and each reply is an answer.
-use Rattle.std.proofs.Common.{◌≡◌, ℕ, List, [], ◌∷◌, ◌++◌, subst}
+use Rattle.std.proofs.Common.{ℕ, List, [], ◌∷◌, subst}
 use Rattle.std.specs.Prelude.{Option, Result, Ok, Err}
 use Rattle.nsc_model.specs.declared.kind.Db.{Db}
 use Rattle.nsc_model.specs.declared.answer.Request.{Request}
@@ -30,12 +30,16 @@ legal_then db others old (Err stop) w next = subst Legal w.1.history_is w.1.driv
 
 each_answered : (db : Db) (settings : DbSettings) (reloads : Option ℕ) (events : List Event) (core : Core) (cache : Cache) → Drives db 0 core cache → EachAnswered db settings reloads events cache core.history
 each_answered db settings reloads [] core cache d = d.tells.legal
-each_answered db settings reloads (LookUp content now request ∷ events) core cache d =
-    (d.tells.legal, answered_then db (EachAnswered db settings reloads events) (record core { sources = content }) request (look_up settings now (part_of db content) request cache)
-    (look_up_turns db 0 settings now request (record core { sources = content }) cache (files_drive db 0 core cache content d)) (λ new after e. each_answered db settings reloads events new after e))
-each_answered db settings reloads (Tick content now ∷ events) core cache d =
-    (d.tells.legal, legal_then db (EachAnswered db settings reloads events) (record core { sources = content }) (tick settings reloads now (part_of db content) cache)
-    (tick_passes db 0 settings reloads now (record core { sources = content }) cache (files_drive db 0 core cache content d)) (λ new after e. each_answered db settings reloads events new after e))
+each_answered db settings reloads (LookUp content now request ∷ events) core cache d = (
+  d.tells.legal,
+  answered_then db (EachAnswered db settings reloads events) (record core { sources = content }) request (look_up settings now (part_of db content) request cache)
+      (look_up_turns db 0 settings now request (record core { sources = content }) cache (files_drive db 0 core cache content d)) (λ new after e. each_answered db settings reloads events new after e),
+)
+each_answered db settings reloads (Tick content now ∷ events) core cache d = (
+  d.tells.legal,
+  legal_then db (EachAnswered db settings reloads events) (record core { sources = content }) (tick settings reloads now (part_of db content) cache)
+      (tick_passes db 0 settings reloads now (record core { sources = content }) cache (files_drive db 0 core cache content d)) (λ new after e. each_answered db settings reloads events new after e),
+)
 each_answered db settings reloads (Invalidation ∷ events) core cache d =
     (d.tells.legal, legal_then db (EachAnswered db settings reloads events) core (invalidated cache) (invalidation_passes db 0 core cache d) (λ new after e. each_answered db settings reloads events new after e))
 

@@ -1,18 +1,17 @@
 -- Steps of one caller of the core, one behind the other, and what is known behind them.
-use Rattle.std.proofs.Common.{◌≡◌, ◌≢◌, ℕ, ◌+◌, Bool, true, false, cond, eqb, List, [], ◌∷◌, ◌++◌, refl, sym, ap, subst, ◌∙◌, append_assoc, arith, inl, inr, rules}
-use Rattle.std.specs.Prelude.{All, Option, Some, None, Result, Ok, Err}
+use Rattle.std.proofs.Common.{◌≡◌, ℕ, true, eqb, List, [], ◌∷◌, ◌++◌, refl, sym, ap, subst, ◌∙◌, append_assoc, rules}
+use Rattle.std.specs.Prelude.{All, Some, Result, Ok, Err}
 use Rattle.std.proofs.lemmas.List.Elements.{All-nil, All-cons, All-append}
 use Rattle.nsc_model.specs.declared.kind.Db.{Db}
 use Rattle.nsc_model.specs.declared.answer.Request.{Request}
 use Rattle.nsc_model.specs.declared.record.Record.{Record}
 use Rattle.nsc_model.specs.Files as files
 use Rattle.nsc_model.specs.Files.{part_of}
-use Rattle.nsc_model.specs.Fixed.{Fixed}
 use Rattle.nsc_model.specs.History.{invalidations, WasPolled, IsPrefix}
-use Rattle.nsc_model.specs.Core.{Caller, Core, with_caller, Move, Begin, Look, Note, Fetch, PollStep, IsPoll, Moves, Runs}
+use Rattle.nsc_model.specs.Core.{Caller, Core, with_caller, Move, Begin, Note, Fetch, PollStep, IsPoll, Moves, Runs}
 use Rattle.nsc_model.specs.Machine.{Kept, Cache, Passed, Stopped, behind, ◌>>=◌}
 use Rattle.nsc_model.specs.Calls.{fixed_of, Tells, IsOwn, Drives, IsMoved, PassesBy}
-use Rattle.nsc_model.proofs.CoreLaw.{changed, begun, noting, fetching, polling, after_poll}
+use Rattle.nsc_model.proofs.CoreLaw.{changed, begun, noting, fetching, polling}
 
 -- ---- steps
 
