@@ -8,9 +8,9 @@ use Rattle.nsc_model.specs.declared.record.Record.{Record}
 use Rattle.nsc_model.specs.Files as files
 use Rattle.nsc_model.specs.Files.{part_of}
 use Rattle.nsc_model.specs.History.{invalidations, WasPolled, IsPrefix}
-use Rattle.nsc_model.specs.Core.{Caller, Core, with_caller, Move, Begin, Note, Fetch, PollStep, IsPoll, Moves, Runs}
+use Rattle.nsc_model.specs.Core.{Caller, Core, with_caller, Move, Files, Begin, Look, Note, Fetch, PollStep, Insert, Finish, Empty, Compact, Reply, IsPoll, Moves, Runs}
 use Rattle.nsc_model.specs.Machine.{Kept, Cache, Passed, Stopped, behind, ◌>>=◌}
-use Rattle.nsc_model.specs.Calls.{fixed_of, Tells, IsOwn, Drives, IsMoved, PassesBy}
+use Rattle.nsc_model.specs.Calls.{fixed_of, Tells, IsOwn, IsBy, Drives, IsMoved, PassesBy}
 use Rattle.nsc_model.proofs.CoreLaw.{changed, begun, noting, fetching, polling}
 
 -- ---- steps
@@ -26,6 +26,20 @@ pub record Step (db : Db) (a : ℕ) (event : List Record) (old : Core) (adds : L
 pub runs_append : (db : Db) (xs ys : List Move) (a b c : Core) → Runs db xs a b → Runs db ys b c → Runs db (xs ++ ys) a c
 runs_append db [] ys a b c r s = subst (λ (x : Core). Runs db ys x c) r s
 runs_append db (x ∷ xs) ys a b c r s = (r.0, r.1, runs_append db xs ys r.0 b c r.2 s)
+
+-- such moves are of this caller, and leave the files as they are
+pub own_by : (a : ℕ) (event : List Record) (move : Move) → IsOwn a event move → IsBy a move
+own_by a event (Files content) own = own
+own_by a event (Begin caller request seen) own = own.0
+own_by a event (Look caller found) own = own
+own_by a event (Note caller) own = own
+own_by a event (Fetch caller) own = own
+own_by a event (PollStep caller) own = own
+own_by a event (Insert caller timeout) own = own
+own_by a event (Finish number cause) own = tt
+own_by a event Empty own = tt
+own_by a event Compact own = tt
+own_by a event (Reply caller bytes) own = own
 
 pub no_step : (db : Db) (a : ℕ) (event : List Record) (core : Core) → Step db a event core [] core
 no_step db a event core = record { moves = []; own = All-nil (IsOwn a event); runs = refl; history_is = refl; sources_stay = refl }
