@@ -66,13 +66,13 @@ told_with h callers a c t others b = by_test (eqb a b) where
   by_test true = t
   by_test false = others b
 
-abbrev changed : Core → ℕ → Caller → Core
+abbrev pub changed : Core → ℕ → Caller → Core
 changed core a c = record core { callers = with_caller core.callers a c }
 
 becomes : (core : Core) (a : ℕ) (c : Caller) → Sound core → Told core.history c → Sound (changed core a c)
 becomes core a c s t = record { legal = s.legal; told = told_with core.history core.callers a c t s.told }
 
-abbrev begun : Caller → Request → List Record → Caller
+abbrev pub begun : Caller → Request → List Record → Caller
 begun c request seen = record c { request = Some request; seen = seen; taken = None; asked = None }
 
 begins : (h : List Record) (c : Caller) (request : Request) (seen : List Record) → IsPrefix seen h → Told h c → Told h (begun c request seen)
@@ -104,7 +104,7 @@ misses h c t = record {
   asks = t.asks;
 }
 
-abbrev taking : Caller → Fixed → Caller
+abbrev pub taking : Caller → Fixed → Caller
 taking c e = record c { taken = Some e }
 
 takes : (h : List Record) (c : Caller) (e : Fixed) → IsLive h e → c.request ≡ Some e.request → Told h c → Told h (taking c e)
@@ -120,7 +120,7 @@ takes h c e live request t = record {
   asks = t.asks;
 }
 
-abbrev noting : Caller → ℕ → Caller
+abbrev pub noting : Caller → ℕ → Caller
 noting c k = record c { noted = Some k; fetched = None; version = None }
 
 notes : (h : List Record) (c : Caller) → Told h c → Told h (noting c (invalidations h))
@@ -136,7 +136,7 @@ notes h c t = record {
   asks = t.asks;
 }
 
-abbrev fetching : Caller → files.Files → Caller
+abbrev pub fetching : Caller → files.Files → Caller
 fetching c content = record c { fetched = Some content }
 
 fetches : (h : List Record) (c : Caller) (content : files.Files) → Told h c → Told h (fetching c content)
@@ -154,7 +154,7 @@ fetches h c content t = record {
 
 -- ---- a poll
 
-abbrev polling : Caller → ℕ → Caller
+abbrev pub polling : Caller → ℕ → Caller
 polling c n = record c { version = Some n; asked = Some n }
 
 polls : (h : List Record) (c : Caller) (poll : Record) (n : ℕ) → n < changes (poll ∷ h) → WasPolled (poll ∷ h) n → LooksAt (poll ∷ h) n → Told h c → Told (poll ∷ h) (polling c n)
@@ -182,7 +182,7 @@ record IsLook (h : List Record) (poll : Record) (n : ℕ) : Type 0 where
   was : WasPolled (poll ∷ h) n
   looks : LooksAt (poll ∷ h) n
 
-change_legal : (h : List Record) (n : ℕ) (content : files.Files) → Legal h → n ≡ changes h → newest h ≢ Some content → Legal (Change n content ∷ h)
+pub change_legal : (h : List Record) (n : ℕ) (content : files.Files) → Legal h → n ≡ changes h → newest h ≢ Some content → Legal (Change n content ∷ h)
 change_legal [] n content l e d = absurd l
 change_legal (r ∷ h) n content l e d = (l, e, d)
 
@@ -190,7 +190,7 @@ is_look : (h : List Record) (content : files.Files) (poll : Record) (n : ℕ) �
 is_look h content poll n l (inl same) = subst (λ (r : Record). IsLook h r n) (sym same.2) (record { legal = (l, same.1); below = let next : n + 1 ≡ changes h = same.1 in omega arith; was = inl refl; looks = refl })
 is_look h content poll n l (inr other) = subst (λ (r : Record). IsLook h r n) (sym other.2) (record { legal = change_legal h n content l other.1 other.0; below = let new : n ≡ changes h = other.1 in omega arith; was = inl refl; looks = refl })
 
-abbrev after_poll : Core → ℕ → Record → ℕ → Core
+abbrev pub after_poll : Core → ℕ → Record → ℕ → Core
 after_poll core a poll n = record core { history = poll ∷ core.history; callers = with_caller core.callers a (polling (core.callers a) n) }
 
 poll_sound : (core : Core) (a : ℕ) (content : files.Files) (poll : Record) (n : ℕ) → Sound core → IsPoll core.history content poll n → Sound (after_poll core a poll n)

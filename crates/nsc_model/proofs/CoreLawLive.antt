@@ -16,26 +16,26 @@ use Rattle.nsc_model.proofs.CoreLaw.{legal_law}
 
 -- ---- lists of entries in rising number
 
-among_more : (entries : List Fixed) (f e : Fixed) → Among (entries ++ f ∷ []) e → Among entries e ⊎ (f ≡ e)
+pub among_more : (entries : List Fixed) (f e : Fixed) → Among (entries ++ f ∷ []) e → Among entries e ⊎ (f ≡ e)
 among_more [] f e (inl same) = inr same
 among_more [] f e (inr a) = absurd a
 among_more (x ∷ entries) f e (inl same) = inl (inl same)
 among_more (x ∷ entries) f e (inr a) = elim (among_more entries f e a) [ inl b ↦ inl (inr b) | inr same ↦ inr same ]
 
-among_first : (entries : List Fixed) (f e : Fixed) → Among entries e → Among (entries ++ f ∷ []) e
+pub among_first : (entries : List Fixed) (f e : Fixed) → Among entries e → Among (entries ++ f ∷ []) e
 among_first [] f e a = absurd a
 among_first (x ∷ entries) f e (inl same) = inl same
 among_first (x ∷ entries) f e (inr a) = inr (among_first entries f e a)
 
-among_last : (entries : List Fixed) (f : Fixed) → Among (entries ++ f ∷ []) f
+pub among_last : (entries : List Fixed) (f : Fixed) → Among (entries ++ f ∷ []) f
 among_last [] f = inl refl
 among_last (x ∷ entries) f = inr (among_last entries f)
 
-rise_first : (e : Fixed) (entries : List Fixed) → ((f : Fixed) → Among entries f → e.number < f.number) → Rise entries → Rise (e ∷ entries)
+pub rise_first : (e : Fixed) (entries : List Fixed) → ((f : Fixed) → Among entries f → e.number < f.number) → Rise entries → Rise (e ∷ entries)
 rise_first e [] low r = tt
 rise_first e (f ∷ entries) low r = (low f (inl refl), r)
 
-rise_last : (entries : List Fixed) (f : Fixed) → ((e : Fixed) → Among entries e → e.number < f.number) → Rise entries → Rise (entries ++ f ∷ [])
+pub rise_last : (entries : List Fixed) (f : Fixed) → ((e : Fixed) → Among entries e → e.number < f.number) → Rise entries → Rise (entries ++ f ∷ [])
 rise_last [] f low r = tt
 rise_last (e ∷ []) f low r = (low e (inl refl), tt)
 rise_last (e ∷ g ∷ entries) f low r = (r.0, rise_last (g ∷ entries) f (λ x a. low x (inr a)) r.1)
@@ -111,7 +111,7 @@ after_invalid n h s = record {
   };
 }
 
-new_live : (h : List Record) (f : Fixed) → Legal h → f.number ≡ loads h → IsLive (Load f ∷ h) f
+pub new_live : (h : List Record) (f : Fixed) → Legal h → f.number ≡ loads h → IsLive (Load f ∷ h) f
 new_live h f l is = record { inserted = inl refl; not_ended = λ ended. let below : f.number < loads h = end_below h f.number l ended in omega arith }
 
 after_load : (f : Fixed) (h : List Record) → Legal h → f.number ≡ loads h → Lives h → Lives (Load f ∷ h)

@@ -120,7 +120,7 @@ all_ended (e ∷ entries) h l live r =
     all_ended entries (End e.number Invalidated ∷ h) (l, e, live e (inl refl), refl, tt) (λ f a. lives_on h e f (first_least e entries f r a) (live f (inr a))) (rise_tail e entries r)
 
 -- an entry of a number ended, or it did not
-ended_or_not : (h : List Record) (n : ℕ) → HasEnd h n ⊎ (HasEnd h n → ⊥)
+pub ended_or_not : (h : List Record) (n : ℕ) → HasEnd h n ⊎ (HasEnd h n → ⊥)
 ended_or_not [] n = inr (λ a. a)
 ended_or_not (Change v c ∷ h) n = ended_or_not h n
 ended_or_not (Poll v ∷ h) n = ended_or_not h n

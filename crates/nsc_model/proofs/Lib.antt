@@ -6,3 +6,10 @@ pub mod Histories
 pub mod CoreLawRecords
 pub mod CoreLaw
 pub mod CoreLawLive
+pub mod MachineLawLists
+pub mod MachineLawEnds
+pub mod MachineLawSteps
+pub mod MachineLawParts
+pub mod MachineLaw
+pub mod MachineLawRuns
+pub mod MachineLawReplays

@@ -3,7 +3,6 @@ use Rattle.std.specs.Prelude.{◌≡◌, ℕ, ◌+◌, List, [], ◌∷◌, ◌+
 use Rattle.nsc_model.specs.declared.kind.Db.{Db}
 use Rattle.nsc_model.specs.declared.answer.Request.{Request}
 use Rattle.nsc_model.specs.declared.record.Record.{Record}
-use Rattle.nsc_model.specs.declared.record.Record.TheVariants.{Change}
 use Rattle.nsc_model.specs.Files as files
 use Rattle.nsc_model.specs.Files.{part_of}
 use Rattle.nsc_model.specs.Fixed.{Fixed}
@@ -26,9 +25,9 @@ pub record Tells (history : List Record) (cache : Cache) : Type 0 where
   pub epochs_are : invalidations history ≡ cache.epoch
   pub entries_are : AreLive history (fixed_of cache.entries)
 
--- a move of this caller, or of the files or the entries, where the caller has seen this history at the start of its calls
+-- a move of this caller, or of the entries, where the caller has seen this history at the start of its calls; the files stay
 abbrev pub IsOwn : ℕ → List Record → Move → Type 0
-IsOwn a history (Files content) = Unit {0}
+IsOwn a history (Files content) = ⊥
 IsOwn a history (Begin caller request seen) = (caller ≡ a) × (seen ≡ history)
 IsOwn a history (Look caller found) = caller ≡ a
 IsOwn a history (Note caller) = caller ≡ a
@@ -40,6 +39,26 @@ IsOwn a history Empty = Unit {0}
 IsOwn a history Compact = Unit {0}
 IsOwn a history (Reply caller bytes) = caller ≡ a
 
+-- a move of this caller, or of the entries; the files stay
+abbrev pub IsBy : ℕ → Move → Type 0
+IsBy a (Files content) = ⊥
+IsBy a (Begin caller request seen) = caller ≡ a
+IsBy a (Look caller found) = caller ≡ a
+IsBy a (Note caller) = caller ≡ a
+IsBy a (Fetch caller) = caller ≡ a
+IsBy a (PollStep caller) = caller ≡ a
+IsBy a (Insert caller timeout) = caller ≡ a
+IsBy a (Finish number cause) = Unit {0}
+IsBy a Empty = Unit {0}
+IsBy a Compact = Unit {0}
+IsBy a (Reply caller bytes) = caller ≡ a
+
+-- the files become these, and then the core moves on by moves of this caller alone
+pub record MovesOver (db : Db) (a : ℕ) (sources : files.Files) (old new : Core) : Type 0 where
+  pub moves : List Move
+  pub own : All (IsBy a) moves
+  pub runs : Runs db moves (record old { sources = sources }) new
+
 -- a core that a run from an opening reaches, with a caller that has seen some front of its history, and the cache that tells
 -- the whole of it
 pub record Drives (db : Db) (a : ℕ) (core : Core) (cache : Cache) : Type 0 where
@@ -50,7 +69,7 @@ pub record Drives (db : Db) (a : ℕ) (core : Core) (cache : Cache) : Type 0 whe
   pub tells : Tells core.history cache
 
 -- the core moves on by moves of this caller, who has seen the whole history before them, and gains exactly these records;
--- the files are these before and after
+-- the files stay
 pub record IsMoved (db : Db) (a : ℕ) (old : Core) (adds : List Record) (after : Cache) (new : Core) : Type 0 where
   pub moves : List Move
   pub own : All (IsOwn a old.history) moves

@@ -1,6 +1,6 @@
 -- The machine that the cache of a database is: its events, each with the records that it adds to the history. One caller
 -- drives it, so no insertion comes behind an invalidation that it did not note, and none finds its request live.
-use Rattle.std.specs.Prelude.{ℕ, ◌+◌, ◌-◌, ◌*◌, ◌^◌, ◌==◌, nat_lt, nat_le, min, Bool, true, false, not, ◌&&◌, ◌||◌, if◌then◌else◌, List, [], ◌∷◌, ◌++◌, length, map, filter, find, sum_by, Option, Some, None, Result, Ok, Err}
+use Rattle.std.specs.Prelude.{ℕ, ◌+◌, ◌-◌, ◌*◌, ◌^◌, ◌==◌, nat_lt, nat_le, min, Bool, false, not, ◌&&◌, ◌||◌, if◌then◌else◌, List, [], ◌∷◌, ◌++◌, length, map, filter, find, sum_by, Option, Some, None, Result, Ok, Err}
 use Rattle.nsc_base.specs.Nodes.{node_words}
 use Rattle.nsc_model.specs.declared.answer.Request.{Request}
 use Rattle.nsc_model.specs.declared.record.Ending.{Ending}

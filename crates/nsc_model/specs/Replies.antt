@@ -1,33 +1,35 @@
 -- Replays, and the histories that they make: each reply that a replay writes is an answer.
-use Rattle.std.specs.Prelude.{◌≡◌, ℕ, List, [], ◌∷◌, Result, Ok, Err}
+use Rattle.std.specs.Prelude.{◌≡◌, ℕ, List, [], ◌∷◌, None, Result, Ok, Err}
 use Rattle.nsc_model.specs.declared.kind.Db.{Db}
 use Rattle.nsc_model.specs.Kinds.{database_of}
 use Rattle.nsc_model.specs.Settings.{Settings}
 use Rattle.nsc_model.specs.Wire.{Asked, Look, Shutdown, Stat, Invalidate, Descriptor, Netgroup, Short, BadVersion, BadType, BadLength, request_of}
 use Rattle.nsc_model.specs.History.{IsPrefix, Answered}
 use Rattle.nsc_model.specs.Core.{Core}
-use Rattle.nsc_model.specs.Calls.{Drives}
+use Rattle.nsc_model.specs.Calls.{Drives, MovesOver}
 use Rattle.nsc_model.specs.Frames.{Frame, Ask, Become, Reach, Clear, Stop, Finish}
 use Rattle.nsc_model.specs.Replay.{State, cache_of, Went, framed, turn_of}
 
--- the cores of the four databases, over the files as they are, with the caches that tell their histories
+-- the cores of the four databases, over the files as they are, with the caches that tell their histories; the caller holds
+-- no content that it fetched before
 pub record AllDrive (s : State) (cores : Db → Core) : Type 0 where
   pub drives : (db : Db) → Drives db 0 (cores db) (cache_of s db)
   pub sources_are : (db : Db) → (cores db).sources ≡ s.files
+  pub none_fetched : (db : Db) → ((cores db).callers 0).fetched ≡ None
 
 -- what is written for a look-up is a reply behind its length, and the reply is an answer to the request, for a caller that
--- had seen the whole history of the request's database before it
+-- had seen the whole history of the request's database before it; for any other input an empty reply is written
 abbrev pub IsReplied : (Db → Core) → (Db → Core) → List ℕ → Asked → Type 0
 IsReplied old new writes (Look request) = (reply : List ℕ) × (writes ≡ framed reply) × Answered (old (database_of request.kind)).history (new (database_of request.kind)).history request reply
-IsReplied old new writes Shutdown = Unit {0}
-IsReplied old new writes Stat = Unit {0}
-IsReplied old new writes (Invalidate name) = Unit {0}
-IsReplied old new writes Descriptor = Unit {0}
-IsReplied old new writes Netgroup = Unit {0}
-IsReplied old new writes (Short have) = Unit {0}
-IsReplied old new writes (BadVersion version) = Unit {0}
-IsReplied old new writes (BadType type) = Unit {0}
-IsReplied old new writes (BadLength length) = Unit {0}
+IsReplied old new writes Shutdown = writes ≡ framed []
+IsReplied old new writes Stat = writes ≡ framed []
+IsReplied old new writes (Invalidate name) = writes ≡ framed []
+IsReplied old new writes Descriptor = writes ≡ framed []
+IsReplied old new writes Netgroup = writes ≡ framed []
+IsReplied old new writes (Short have) = writes ≡ framed []
+IsReplied old new writes (BadVersion version) = writes ≡ framed []
+IsReplied old new writes (BadType type) = writes ≡ framed []
+IsReplied old new writes (BadLength length) = writes ≡ framed []
 
 abbrev pub RepliesTo : (Db → Core) → (Db → Core) → List ℕ → Frame → Type 0
 RepliesTo old new writes (Ask input) = IsReplied old new writes (request_of input)
@@ -36,10 +38,11 @@ RepliesTo old new writes (Reach moment) = writes ≡ []
 RepliesTo old new writes (Clear db) = writes ≡ []
 RepliesTo old new writes Stop = writes ≡ []
 
--- a frame moves the cores on
+-- a frame moves the cores on, over the files as they are behind it
 pub record IsPlayed (old : Db → Core) (frame : Frame) (went : Went) (new : Db → Core) : Type 0 where
   pub drive : AllDrive went.state new
   pub onward : (db : Db) → IsPrefix (old db).history (new db).history
+  pub over : (db : Db) → MovesOver db 0 went.state.files (old db) (new db)
   pub replied : RepliesTo old new went.writes frame
 
 -- and so do the frames behind it, up to one that ends the replay

@@ -37,5 +37,5 @@ FaultsBy event files before after (Spent count) = StopsAt event after count
 
 -- an event that takes no memory gave up: the machine stops there
 abbrev pub StopsBy : {A : Type 0} → Result A Stopped → Cache → PlainFault → Type 0
-StopsBy event after NoMemory = Unit {0}
+StopsBy event after NoMemory = ⊥
 StopsBy event after (Spent count) = StopsAt event after count
