@@ -1,5 +1,5 @@
 -- The law of replays: each reply that is written for a look-up is an answer, over the history of its request's database.
-use Rattle.std.proofs.Common.{◌≡◌, ℕ, List, [], ◌∷◌, ◌++◌, refl, sym, ap, subst, ◌∙◌}
+use Rattle.std.proofs.Common.{◌≡◌, ℕ, List, [], ◌∷◌, ◌++◌, refl, sym, ap, subst, ◌∙◌, inl, inr}
 use Rattle.std.specs.Prelude.{min, max, Option, None, Result, Ok, Err}
 use Rattle.std.proofs.lemmas.List.Elements.{All-nil, All-cons, All-append, All-weaker}
 use Rattle.nsc_model.specs.declared.kind.Db.{Db}
@@ -16,10 +16,10 @@ use Rattle.nsc_model.specs.Wire.{Asked, Look, Shutdown, Stat, Invalidate, Descri
 use Rattle.nsc_model.specs.History.{invalidations, IsPrefix}
 use Rattle.nsc_model.specs.Core.{Caller, Core, Note, opening}
 use Rattle.nsc_model.specs.Machine.{Cache, Passed, Stopped, Turn, look_up, tick, invalidated}
-use Rattle.nsc_model.specs.Calls.{IsOwn, IsBy, MovesOver, Drives, IsMoved, PassesBy, TurnsBy}
+use Rattle.nsc_model.specs.Calls.{IsOwn, IsBy, MovesOver, Drives, IsMoved, IsTurned, PassesBy, TurnsBy}
 use Rattle.nsc_model.specs.Frames.{Frame, Ask, Become, Reach, Clear, Stop, Finish}
 use Rattle.nsc_model.specs.Replay.{State, first_state, cache_of, with_cache, Went, framed, last_moment, looked_at, look_frame, unanswered, ask_frame, silent, become_frame, then_on, ticked_in, ticks, turn_of}
-use Rattle.nsc_model.specs.Replies.{AllDrive, IsReplied, RepliesTo, PlayedThen, EachReplied}
+use Rattle.nsc_model.specs.Replies.{AllDrive, IsGiven, IsReplied, RepliesTo, PlayedThen, EachReplied}
 use Rattle.nsc_model.proofs.CoreLaw.{changed, noting}
 use Rattle.nsc_model.proofs.MachineLaw.{opening_drives, files_drive, look_up_turns, tick_passes, invalidation_passes}
 use Rattle.nsc_model.proofs.MachineLawSteps.{own_by, runs_append, same_prefix, both_prefix, at_own, note_step, note_stands, drive_on, driven}
@@ -232,6 +232,24 @@ asked_played others old input (Err finish) w = tt
 abbrev request : Kind → List ℕ → Request
 request kind key = record { kind = kind; key = key }
 
+-- a reply is given where its look-up is made, and still where the caller noted the invalidations anew
+given_on : (db : Db) (old new : Core) (request : Request) (adds : List Record) (reply : List ℕ) (after : Cache) → IsTurned db 0 old request adds reply after new → IsGiven old (settled new) request reply
+given_on db old new request adds reply after t =
+    let is = at_own new.callers 0 (noting (new.callers 0) (invalidations new.history)) in
+    record {
+      requested = ap (λ (c : Caller). c.request) is ∙ t.requested;
+      replies = record {
+        request = t.replies.request;
+        request_is = ap (λ (c : Caller). c.request) is ∙ t.replies.request_is;
+        source = elim t.replies.source [
+          | inl x ↦ inl (x.0, ap (λ (c : Caller). c.taken) is ∙ x.1, x.2)
+          | inr x ↦ inr (x.0, x.1, ap (λ (c : Caller). c.asked) is ∙ x.2, x.3, x.4)
+        ];
+      };
+      live = λ e taken. t.live e (sym (ap (λ (c : Caller). c.taken) is) ∙ taken);
+      answered = t.answered;
+    }
+
 user_asked : (others : State → (Db → Core) → Type 0) (s : State) (cores : Db → Core) (key : List ℕ) (r : Result Turn Stopped) → AllDrive s cores → TurnsBy Passwd 0 (cores Passwd) (request PwName key) r → Next others
     → AskedThen others cores (Look (request PwName key)) (looked_at s Passwd r)
 user_asked others s cores key (Ok turn) d w next =
@@ -244,7 +262,7 @@ user_asked others s cores key (Ok turn) d w next =
       onward = onward_with cores cores Passwd new begun.onward (turn.adds, m.history_is);
       over = over_with s.files cores cores Passwd new begun.over (over_more Passwd s.files (cores Passwd) (cores Passwd) w.0 turn.adds turn.cache (begun.over Passwd) m);
     } in
-    (with_core cores Passwd new, g, (turn.reply, refl, w.1.answered), next (with_cache s Passwd turn.cache) (with_core cores Passwd new) drive)
+    (with_core cores Passwd new, g, (turn.reply, refl, given_on Passwd (cores Passwd) w.0 (request PwName key) turn.adds turn.reply turn.cache w.1), next (with_cache s Passwd turn.cache) (with_core cores Passwd new) drive)
 user_asked others s cores key (Err stop) d w next = tt
 
 look_asked : (others : State → (Db → Core) → Type 0) (settings : Settings) (s : State) (cores : Db → Core) (kind : Kind) (key : List ℕ) → AllDrive s cores → Next others → AskedThen others cores (Look (request kind key)) (look_frame kind settings s (request kind key))

@@ -1,11 +1,13 @@
 -- Replays, and the histories that they make: each reply that a replay writes is an answer.
-use Rattle.std.specs.Prelude.{◌≡◌, ℕ, List, [], ◌∷◌, None, Result, Ok, Err}
+use Rattle.std.specs.Prelude.{◌≡◌, ℕ, List, [], ◌∷◌, None, Some, Result, Ok, Err}
 use Rattle.nsc_model.specs.declared.kind.Db.{Db}
+use Rattle.nsc_model.specs.declared.answer.Request.{Request}
 use Rattle.nsc_model.specs.Kinds.{database_of}
+use Rattle.nsc_model.specs.Fixed.{Fixed}
 use Rattle.nsc_model.specs.Settings.{Settings}
 use Rattle.nsc_model.specs.Wire.{Asked, Look, Shutdown, Stat, Invalidate, Descriptor, Netgroup, Short, BadVersion, BadType, BadLength, request_of}
-use Rattle.nsc_model.specs.History.{IsPrefix, Answered}
-use Rattle.nsc_model.specs.Core.{Core}
+use Rattle.nsc_model.specs.History.{IsPrefix, IsLive, Answered}
+use Rattle.nsc_model.specs.Core.{Core, Replies}
 use Rattle.nsc_model.specs.Calls.{Drives, MovesOver}
 use Rattle.nsc_model.specs.Frames.{Frame, Ask, Become, Reach, Clear, Stop, Finish}
 use Rattle.nsc_model.specs.Replay.{State, cache_of, Went, framed, turn_of}
@@ -17,10 +19,18 @@ pub record AllDrive (s : State) (cores : Db → Core) : Type 0 where
   pub sources_are : (db : Db) → (cores db).sources ≡ s.files
   pub none_fetched : (db : Db) → ((cores db).callers 0).fetched ≡ None
 
--- what is written for a look-up is a reply behind its length, and the reply is an answer to the request, for a caller that
--- had seen the whole history of the request's database before it; for any other input an empty reply is written
+-- the caller may get this reply to this request, and it is an answer to it for a caller that had seen the whole history
+-- before it; an entry that the reply comes from is live at that moment
+pub record IsGiven (old new : Core) (request : Request) (reply : List ℕ) : Type 0 where
+  pub requested : (new.callers 0).request ≡ Some request
+  pub replies : Replies new 0 reply
+  pub live : (e : Fixed) → (new.callers 0).taken ≡ Some e → IsLive new.history e
+  pub answered : Answered old.history new.history request reply
+
+-- what is written for a look-up is a reply behind its length, given by the core of the request's database; for any other
+-- input an empty reply is written
 abbrev pub IsReplied : (Db → Core) → (Db → Core) → List ℕ → Asked → Type 0
-IsReplied old new writes (Look request) = (reply : List ℕ) × (writes ≡ framed reply) × Answered (old (database_of request.kind)).history (new (database_of request.kind)).history request reply
+IsReplied old new writes (Look request) = (reply : List ℕ) × (writes ≡ framed reply) × IsGiven (old (database_of request.kind)) (new (database_of request.kind)) request reply
 IsReplied old new writes Shutdown = writes ≡ framed []
 IsReplied old new writes Stat = writes ≡ framed []
 IsReplied old new writes (Invalidate name) = writes ≡ framed []
