@@ -60,7 +60,7 @@ pub fn runs_are_answered()
 
 /// In every replay, with any settings and any frames, each reply that is written for a look-up is an answer to its
 /// request over the history of the request's database, whose caller had seen the whole of it before the look-up, and an entry
-/// that it comes from is live at that moment; and each of the four histories goes on from what it was.
+/// that it comes from is live at that moment; and each of the four histories goes on from what it was, also up to a stop.
 pub fn replays_are_answered()
     ensures { (settings : Settings) (frames : List Frame) → EachReplied settings frames first_state (λ db. opening db no_files) }
 {}
