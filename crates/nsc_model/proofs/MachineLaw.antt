@@ -3,6 +3,7 @@ use Rattle.std.proofs.Common.{◌≡◌, ◌≢◌, ℕ, Bool, true, false, cond
 use Rattle.std.specs.Prelude.{◌⊎◌, not, find, Option, Some, None, Result, Ok, Err}
 use Rattle.std.proofs.lemmas.Bool.{false≢true}
 use Rattle.std.proofs.lemmas.List.{append-nil}
+use Rattle.std.proofs.lemmas.Option.{none-some, same_Some}
 use Rattle.nsc_model.specs.declared.kind.Db.{Db}
 use Rattle.nsc_model.specs.declared.answer.Request.{Request}
 use Rattle.nsc_model.specs.declared.record.Record.{Record}
@@ -13,7 +14,7 @@ use Rattle.nsc_model.specs.Files.{part_of}
 use Rattle.nsc_model.specs.Fixed.{Fixed}
 use Rattle.nsc_model.specs.Settings.{DbSettings}
 use Rattle.nsc_model.specs.Answers.{answer_of}
-use Rattle.nsc_model.specs.History.{version_in, Legal, Answered}
+use Rattle.nsc_model.specs.History.{version_in, IsLive, Legal, Answered}
 use Rattle.nsc_model.specs.Core.{Caller, Core, opening, Files, Look, Among, AreLive, Replies}
 use Rattle.nsc_model.specs.Machine.{Kept, Cache, new_cache, Passed, Stopped, unchanged, ◌>>=◌, polled, tried, kept_answer, cached, used_now, loaded, hit_or_load, look_up, invalidated, compacted_behind, ends_of, is_dropped, due_cause, next_reloads, reloaded, due_of, others_of, reloaded_of, pruned, ticked, is_outdated, checked, tick}
 use Rattle.nsc_model.specs.Calls.{fixed_of, Drives, IsTurned, PassesBy, TurnsBy}
@@ -119,7 +120,7 @@ tick_comes : (db : Db) (a : ℕ) (event : List Record) (settings : DbSettings) (
 unfolding tick
 tick_comes db a event settings options now core c cache s = by_test settings.enabled where
   by_test : (b : Bool) → Comes db a event core Nothing (cond b (polled (part_of db core.sources) cache >>= checked settings options now) (Ok (unchanged cache)))
-  by_test true = comes_then db a event core (Polled c.request c.seen cache.entries) Nothing (polled (part_of db core.sources) cache) (checked settings options now) (poll_comes db a event core c cache s)
+  by_test true = comes_then db a event core (Polled c.request c.seen c.taken cache.entries) Nothing (polled (part_of db core.sources) cache) (checked settings options now) (poll_comes db a event core c cache s)
       (λ mid d x sources t p. check_comes db a event settings options now mid d x t p.looked)
   by_test false = stays db a event core c Nothing cache s tt
 
@@ -133,6 +134,7 @@ record Gets (db : Db) (a : ℕ) (old : Core) (request : Request) (adds : List Re
   stands : Stands a old.history new caller after
   request_is : caller.request ≡ Some request
   seen_is : caller.seen ≡ old.history
+  live : (e : Fixed) → caller.taken ≡ Some e → IsLive new.history e
   source : ((e : Fixed) × ((new.callers a).taken ≡ Some e) × (e.answer.bytes ≡ reply))
       ⊎ ((n : ℕ) × (content : files.Files) × ((new.callers a).asked ≡ Some n) × (version_in new.history n ≡ Some content) × ((answer_of content request).bytes ≡ reply))
 
@@ -146,6 +148,7 @@ gets_turned db a old cache request adds reply after d g =
       moved = m;
       requested = is;
       replies = replies;
+      live = λ e is. g.live e (sym (ap (λ (x : Caller). x.taken) g.stands.caller_is) ∙ is);
       answered = subst (λ (h : List Record). Answered h g.new.history request reply) seen (answered_law db m.drives.first m.drives.moves g.new m.drives.runs a reply replies);
     }
 
@@ -167,6 +170,7 @@ hits db a old request cache k s among same =
       stands = retold a old.history core2 c2 cache (used_now request cache.entries) cache.used cache.cycle cache.ticked_version cache.add_failed (used_fixed request cache.entries) s2;
       request_is = refl;
       seen_is = refl;
+      live = λ e is. subst (IsLive old.history) (same_Some k.entry e is) (s.tells.entries_are.live k.entry among);
       source = inl (k.entry, ap (λ (x : Caller). x.taken) s2.caller_is, refl);
     }
 
@@ -187,10 +191,10 @@ misses db a old settings now request cache d others = by_poll (polled (part_of d
   begins : Step db a old.history old [] (asks old a request)
   begins = begin_step db a old.history old (old.callers a) cache request (driven db a old cache d)
 
-  looks : Comes db a old.history (asks old a request) (Polled (Some request) old.history cache.entries) (polled (part_of db old.sources) cache)
+  looks : Comes db a old.history (asks old a request) (Polled (Some request) old.history None cache.entries) (polled (part_of db old.sources) cache)
   looks = poll_comes db a old.history (asks old a request) (begun (old.callers a) request old.history) cache (begin_stands a old.history old (old.callers a) cache request (driven db a old cache d))
 
-  by_poll : (r : Result Passed Stopped) → Comes db a old.history (asks old a request) (Polled (Some request) old.history cache.entries) r → TurnsBy db a old request (loaded settings now request r)
+  by_poll : (r : Result Passed Stopped) → Comes db a old.history (asks old a request) (Polled (Some request) old.history None cache.entries) r → TurnsBy db a old request (loaded settings now request r)
   by_poll (Ok poll) w =
       let after = kept_answer settings now request poll.cache in
       let others_there : settings.enabled ≡ true → (e : Fixed) → Among (fixed_of poll.cache.entries) e → e.request ≢ request =
@@ -204,6 +208,7 @@ misses db a old settings now request cache d others = by_poll (polled (part_of d
         stands = t.stands;
         request_is = w.holds.request_is;
         seen_is = w.holds.seen_is;
+        live = λ e is. absurd (none-some e (sym w.holds.taken_is ∙ is));
         source = inr (poll.cache.newest_version, poll.cache.sources, ap (λ (x : Caller). x.asked) t.stands.caller_is ∙ w.holds.asked_is, t.held, refl);
       } in
       (g.new, gets_turned db a old cache request (after.adds ++ poll.adds) (answer_of poll.cache.sources request).bytes after.cache d g)

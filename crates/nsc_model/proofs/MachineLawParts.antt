@@ -25,11 +25,12 @@ use Rattle.nsc_model.proofs.MachineLawSteps.{Step, no_step, one_step, silent_ste
 -- ---- a poll
 
 -- what is known behind a poll: this caller's call goes on
-pub record Polled (request : Option Request) (seen : List Record) (entries : List Kept) (h : List Record) (c : Caller) (cache : Cache) : Type 0 where
+pub record Polled (request : Option Request) (seen : List Record) (taken : Option Fixed) (entries : List Kept) (h : List Record) (c : Caller) (cache : Cache) : Type 0 where
   pub looked : Looked h c cache
   pub asked_is : c.asked ≡ Some cache.newest_version
   pub request_is : c.request ≡ request
   pub seen_is : c.seen ≡ seen
+  pub taken_is : c.taken ≡ taken
   pub entries_stay : cache.entries ≡ entries
 
 -- the history tells this version of this content behind the poll
@@ -43,7 +44,7 @@ abbrev given : ℕ → Option ℕ
 given n = Some n
 
 poll_went : (db : Db) (a : ℕ) (event : List Record) (core : Core) (c : Caller) (cache after : Cache) (poll : Record) → after.entries ≡ cache.entries → Stands a event core c cache → Finds core.history (part_of db core.sources) poll after
-    → Went db a event core (Polled c.request c.seen cache.entries) (poll ∷ []) after
+    → Went db a event core (Polled c.request c.seen c.taken cache.entries) (poll ∷ []) after
 poll_went db a event core c cache after poll same s f =
     let k = invalidations core.history in
     let content = part_of db core.sources in
@@ -64,6 +65,7 @@ poll_went db a event core c cache after poll same s f =
         asked_is = refl;
         request_is = refl;
         seen_is = refl;
+        taken_is = refl;
         entries_stay = same;
       };
     }
@@ -121,15 +123,15 @@ turns h content cache t other = record {
   same = refl;
 }
 
-pub poll_comes : (db : Db) (a : ℕ) (event : List Record) (core : Core) (c : Caller) (cache : Cache) → Stands a event core c cache → Comes db a event core (Polled c.request c.seen cache.entries) (polled (part_of db core.sources) cache)
+pub poll_comes : (db : Db) (a : ℕ) (event : List Record) (core : Core) (c : Caller) (cache : Cache) → Stands a event core c cache → Comes db a event core (Polled c.request c.seen c.taken cache.entries) (polled (part_of db core.sources) cache)
 poll_comes db a event core c cache s = by_test (same_files (part_of db core.sources) cache.sources) refl where
   by_count : (b : Bool) → same_files (part_of db core.sources) cache.sources ≡ false
-      → Comes db a event core (Polled c.request c.seen cache.entries) (cond b (Err (stopped cache)) (Ok (record { cache = turned cache (part_of db core.sources); adds = Change (cache.newest_version + 1) (part_of db core.sources) ∷ [] })))
+      → Comes db a event core (Polled c.request c.seen c.taken cache.entries) (cond b (Err (stopped cache)) (Ok (record { cache = turned cache (part_of db core.sources); adds = Change (cache.newest_version + 1) (part_of db core.sources) ∷ [] })))
   by_count true other = stays db a event core c Nothing cache s tt
   by_count false other = poll_went db a event core c cache (turned cache (part_of db core.sources)) (Change (cache.newest_version + 1) (part_of db core.sources)) refl s (turns core.history (part_of db core.sources) cache s.tells other)
 
   by_test : (b : Bool) → same_files (part_of db core.sources) cache.sources ≡ b
-      → Comes db a event core (Polled c.request c.seen cache.entries) (cond b (Ok (record { cache = cache; adds = Poll cache.newest_version ∷ [] }))
+      → Comes db a event core (Polled c.request c.seen c.taken cache.entries) (cond b (Ok (record { cache = cache; adds = Poll cache.newest_version ∷ [] }))
       (cond (eqb cache.newest_version last_count) (Err (stopped cache)) (Ok (record { cache = turned cache (part_of db core.sources); adds = Change (cache.newest_version + 1) (part_of db core.sources) ∷ [] }))))
   by_test true same = poll_went db a event core c cache cache (Poll cache.newest_version) refl s (confirmed core.history (part_of db core.sources) cache s.tells same)
   by_test false other = by_count (eqb cache.newest_version last_count) other

@@ -1,5 +1,5 @@
 -- The law of replays: each reply that is written for a look-up is an answer, over the history of its request's database.
-use Rattle.std.proofs.Common.{◌≡◌, ℕ, List, [], ◌∷◌, ◌++◌, refl, sym, ap, subst, ◌∙◌}
+use Rattle.std.proofs.Common.{◌≡◌, ℕ, List, [], ◌∷◌, ◌++◌, refl, sym, ap, subst, ◌∙◌, inl, inr}
 use Rattle.std.specs.Prelude.{min, max, Option, None, Result, Ok, Err}
 use Rattle.std.proofs.lemmas.List.Elements.{All-nil, All-cons, All-append, All-weaker}
 use Rattle.nsc_model.specs.declared.kind.Db.{Db}
@@ -10,16 +10,17 @@ use Rattle.nsc_model.specs.declared.kind.Kind.{Kind}
 use Rattle.nsc_model.specs.declared.kind.Kind.TheVariants.{PwName, PwUid, GrName, GrGid, HostName, HostName6, HostAddr, HostAddr6, Ai, InitGroups, ServName, ServPort}
 use Rattle.nsc_model.specs.declared.answer.Request.{Request}
 use Rattle.nsc_model.specs.declared.record.Record.{Record}
+use Rattle.nsc_model.specs.Kinds.{database_of}
 use Rattle.nsc_model.specs.Files.{Files, no_files, with_file, part_of}
 use Rattle.nsc_model.specs.Settings.{Settings, settings_of}
 use Rattle.nsc_model.specs.Wire.{Asked, Look, Shutdown, Stat, Invalidate, Descriptor, Netgroup, Short, BadVersion, BadType, BadLength, request_of}
 use Rattle.nsc_model.specs.History.{invalidations, IsPrefix}
 use Rattle.nsc_model.specs.Core.{Caller, Core, Note, opening}
 use Rattle.nsc_model.specs.Machine.{Cache, Passed, Stopped, Turn, look_up, tick, invalidated}
-use Rattle.nsc_model.specs.Calls.{IsOwn, IsBy, MovesOver, Drives, IsMoved, PassesBy, TurnsBy}
+use Rattle.nsc_model.specs.Calls.{IsOwn, IsBy, MovesOver, Drives, IsMoved, IsTurned, PassesBy, TurnsBy}
 use Rattle.nsc_model.specs.Frames.{Frame, Ask, Become, Reach, Clear, Stop, Finish}
 use Rattle.nsc_model.specs.Replay.{State, first_state, cache_of, with_cache, Went, framed, last_moment, looked_at, look_frame, unanswered, ask_frame, silent, become_frame, then_on, ticked_in, ticks, turn_of}
-use Rattle.nsc_model.specs.Replies.{AllDrive, IsReplied, RepliesTo, PlayedThen, EachReplied}
+use Rattle.nsc_model.specs.Replies.{AllDrive, AllMove, IsGiven, IsReplied, RepliesTo, left_on, left_looked, left_ticked, left_ticks, left_look, left_asked, left_by, stopped_in, PlayedThen, EachReplied}
 use Rattle.nsc_model.proofs.CoreLaw.{changed, noting}
 use Rattle.nsc_model.proofs.MachineLaw.{opening_drives, files_drive, look_up_turns, tick_passes, invalidation_passes}
 use Rattle.nsc_model.proofs.MachineLawSteps.{own_by, runs_append, same_prefix, both_prefix, at_own, note_step, note_stands, drive_on, driven}
@@ -155,18 +156,12 @@ become_drive s cores f d =
 abbrev Next : (State → (Db → Core) → Type 0) → Type 0
 Next others = (s : State) (cores : Db → Core) → AllDrive s cores → others s cores
 
--- the cores as a part of a frame left them
-record Grown (old : Db → Core) (s : State) (cores : Db → Core) : Type 0 where
-  drive : AllDrive s cores
-  onward : Onward old cores
-  over : Over s.files old cores
+-- a frame's next part, from any cores that the part before it may leave; a stop in it leaves this state
+abbrev PartThen : (State → (Db → Core) → Type 0) → (Db → Core) → Frame → State → (State → State) → (State → Result Went Finish) → Type 0
+PartThen others old frame first left next = (s : State) (cores : Db → Core) → AllMove old s cores → PlayedThen others old frame (stopped_in first (left s)) (next s)
 
--- a frame's next part, from any cores that the part before it may leave
-abbrev PartThen : (State → (Db → Core) → Type 0) → (Db → Core) → Frame → (State → Result Went Finish) → Type 0
-PartThen others old frame next = (s : State) (cores : Db → Core) → Grown old s cores → PlayedThen others old frame (next s)
-
-silent_part : (others : State → (Db → Core) → Type 0) (old : Db → Core) (frame : Frame) → ((new : Db → Core) → RepliesTo old new [] frame) → Next others → PartThen others old frame silent
-silent_part others old frame writes next s cores g = (cores, record { drive = g.drive; onward = g.onward; over = g.over; replied = writes cores }, next s cores g.drive)
+silent_part : (others : State → (Db → Core) → Type 0) (old : Db → Core) (frame : Frame) (first : State) (left : State → State) → ((new : Db → Core) → RepliesTo old new [] frame) → Next others → PartThen others old frame first left silent
+silent_part others old frame first left writes next s cores g = (cores, record { moves = g; replied = writes cores }, next s cores g.drive)
 
 files_with : (s : State) (db : Db) (cache : Cache) → (with_cache s db cache).files ≡ s.files
 files_with s Passwd cache = refl
@@ -174,121 +169,143 @@ files_with s Group cache = refl
 files_with s Hosts cache = refl
 files_with s Services cache = refl
 
-then_part : (others : State → (Db → Core) → Type 0) (old : Db → Core) (frame : Frame) (s : State) (cores : Db → Core) (db : Db) (r : Result Passed Stopped) (next : State → Result Went Finish)
-    → Grown old s cores → PassesBy db 0 (cores db) r → PartThen others old frame next → PlayedThen others old frame (then_on s db r next)
-then_part others old frame s cores db (Ok passed) next g w onward =
-    let new = settled w.0 in
-    let over = over_with s.files old cores db new g.over (over_more db s.files (old db) (cores db) w.0 passed.adds passed.cache (g.over db) w.1) in
-    onward (with_cache s db passed.cache) (with_core cores db new) (record {
-      drive = drive_with s cores db new passed.cache g.drive (settled_drives db w.0 passed.cache w.1.drives) (settled_rests s.files w.0 (w.1.sources_stay ∙ g.drive.sources_are db));
-      onward = onward_with old cores db new g.onward (passed.adds, w.1.history_is);
-      over = subst (λ (f : Files). Over f old (with_core cores db new)) (sym (files_with s db passed.cache)) over;
-    })
-then_part others old frame s cores db (Err stop) next g w onward = tt
+-- one of the cores moves on
+one_moves : (old : Db → Core) (s : State) (cores : Db → Core) (db : Db) (core : Core) (adds : List Record) (after : Cache) → AllMove old s cores → IsMoved db 0 (cores db) adds after core → AllMove old (with_cache s db after) (with_core cores db (settled core))
+one_moves old s cores db core adds after g m =
+    let new = settled core in
+    let over = over_with s.files old cores db new g.over (over_more db s.files (old db) (cores db) core adds after (g.over db) m) in
+    record {
+      drive = drive_with s cores db new after g.drive (settled_drives db core after m.drives) (settled_rests s.files core (m.sources_stay ∙ g.drive.sources_are db));
+      onward = onward_with old cores db new g.onward (adds, m.history_is);
+      over = subst (λ (f : Files). Over f old (with_core cores db new)) (sym (files_with s db after)) over;
+    }
 
-tick_part : (others : State → (Db → Core) → Type 0) (old : Db → Core) (frame : Frame) (settings : Settings) (db : Db) (next : State → Result Went Finish) → PartThen others old frame next → PartThen others old frame (λ s. ticked_in settings db s next)
-tick_part others old frame settings db next onward s cores g =
-    then_part others old frame s cores db (tick (settings_of settings db) settings.reloads s.moment (part_of db s.files) (cache_of s db)) next g
+then_part : (others : State → (Db → Core) → Type 0) (old : Db → Core) (frame : Frame) (first s : State) (cores : Db → Core) (db : Db) (r : Result Passed Stopped) (left : State → State) (next : State → Result Went Finish)
+    → AllMove old s cores → PassesBy db 0 (cores db) r → PartThen others old frame first left next → PlayedThen others old frame (stopped_in first (left_on s db r left)) (then_on s db r next)
+then_part others old frame first s cores db (Ok passed) left next g w onward =
+    onward (with_cache s db passed.cache) (with_core cores db (settled w.0)) (one_moves old s cores db w.0 passed.adds passed.cache g w.1)
+then_part others old frame first s cores db (Err stop) left next g w onward = (with_core cores db (settled w.0), one_moves old s cores db w.0 stop.adds stop.cache g w.1)
+
+tick_part : (others : State → (Db → Core) → Type 0) (old : Db → Core) (frame : Frame) (first : State) (settings : Settings) (db : Db) (left : State → State) (next : State → Result Went Finish) → PartThen others old frame first left next
+    → PartThen others old frame first (λ s. left_ticked settings db s left) (λ s. ticked_in settings db s next)
+tick_part others old frame first settings db left next onward s cores g =
+    then_part others old frame first s cores db (tick (settings_of settings db) settings.reloads s.moment (part_of db s.files) (cache_of s db)) left next g
     (subst (λ (f : Files). PassesBy db 0 (cores db) (tick (settings_of settings db) settings.reloads s.moment (part_of db f) (cache_of s db))) (g.drive.sources_are db)
     (tick_passes db 0 (settings_of settings db) settings.reloads s.moment (cores db) (cache_of s db) (g.drive.drives db)))
     onward
 
-begun_part : (s : State) (cores : Db → Core) → AllDrive s cores → Grown cores s cores
+begun_part : (s : State) (cores : Db → Core) → AllDrive s cores → AllMove cores s cores
 begun_part s cores d = record { drive = d; onward = λ db. same_prefix (cores db).history; over = λ db. over_same db s.files (cores db) (d.sources_are db) }
 
-ticks_part : (others : State → (Db → Core) → Type 0) (old : Db → Core) (frame : Frame) (settings : Settings) → ((new : Db → Core) → RepliesTo old new [] frame) → Next others → PartThen others old frame (ticks settings)
-ticks_part others old frame settings writes next =
-    tick_part others old frame settings Passwd (λ s1. ticked_in settings Group s1 (λ s2. ticked_in settings Hosts s2 (λ s3. ticked_in settings Services s3 silent)))
-    (tick_part others old frame settings Group (λ s2. ticked_in settings Hosts s2 (λ s3. ticked_in settings Services s3 silent))
-    (tick_part others old frame settings Hosts (λ s3. ticked_in settings Services s3 silent)
-    (tick_part others old frame settings Services silent (silent_part others old frame writes next))))
+ticks_part : (others : State → (Db → Core) → Type 0) (old : Db → Core) (frame : Frame) (first : State) (settings : Settings) → ((new : Db → Core) → RepliesTo old new [] frame) → Next others → PartThen others old frame first (left_ticks settings) (ticks settings)
+ticks_part others old frame first settings writes next =
+    tick_part others old frame first settings Passwd (λ s1. left_ticked settings Group s1 (λ s2. left_ticked settings Hosts s2 (λ s3. left_ticked settings Services s3 (λ s4. s4)))) (λ s1. ticked_in settings Group s1 (λ s2. ticked_in settings Hosts s2 (λ s3. ticked_in settings Services s3 silent)))
+    (tick_part others old frame first settings Group (λ s2. left_ticked settings Hosts s2 (λ s3. left_ticked settings Services s3 (λ s4. s4))) (λ s2. ticked_in settings Hosts s2 (λ s3. ticked_in settings Services s3 silent))
+    (tick_part others old frame first settings Hosts (λ s3. left_ticked settings Services s3 (λ s4. s4)) (λ s3. ticked_in settings Services s3 silent)
+    (tick_part others old frame first settings Services (λ s4. s4) silent (silent_part others old frame first (λ s4. s4) writes next))))
 
-become_played : (others : State → (Db → Core) → Type 0) (s : State) (cores : Db → Core) (id : FileId) (held : Option (List ℕ)) → AllDrive s cores → Next others → PlayedThen others cores (Become id held) (become_frame s id held)
-become_played others s cores file.Switch held d next = tt
+become_played : (others : State → (Db → Core) → Type 0) (s : State) (cores : Db → Core) (id : FileId) (held : Option (List ℕ)) → AllDrive s cores → Next others → PlayedThen others cores (Become id held) (stopped_in s s) (become_frame s id held)
+become_played others s cores file.Switch held d next = (cores, begun_part s cores d)
 become_played others s cores file.Passwd held d next =
     let f = with_file s.files file.Passwd held in
-    silent_part others cores (Become file.Passwd held) (λ new. refl) next (record s { files = f }) (over_files f cores) (record {
+    silent_part others cores (Become file.Passwd held) s (λ t. s) (λ new. refl) next (record s { files = f }) (over_files f cores) (record {
       drive = become_drive s cores f d;
       onward = λ db. same_prefix (cores db).history;
       over = λ db. record { moves = []; own = All-nil (IsBy 0); runs = refl };
     })
-become_played others s cores file.Group held d next = tt
-become_played others s cores file.Hosts held d next = tt
-become_played others s cores file.Services held d next = tt
-become_played others s cores file.ExtraPasswd held d next = tt
-become_played others s cores file.ExtraGroup held d next = tt
+become_played others s cores file.Group held d next = (cores, begun_part s cores d)
+become_played others s cores file.Hosts held d next = (cores, begun_part s cores d)
+become_played others s cores file.Services held d next = (cores, begun_part s cores d)
+become_played others s cores file.ExtraPasswd held d next = (cores, begun_part s cores d)
+become_played others s cores file.ExtraGroup held d next = (cores, begun_part s cores d)
 
 -- ---- the input of a connection
 
 -- as PlayedThen, of what a connection asked
-abbrev AskedThen : (State → (Db → Core) → Type 0) → (Db → Core) → Asked → Result Went Finish → Type 0
-AskedThen others old asked (Ok went) = (new : Db → Core) × Grown old went.state new × IsReplied old new went.writes asked × others went.state new
-AskedThen others old asked (Err finish) = Unit {0}
+abbrev AskedThen : (State → (Db → Core) → Type 0) → (Db → Core) → Asked → (Finish → State) → Result Went Finish → Type 0
+AskedThen others old asked left (Ok went) = (new : Db → Core) × AllMove old went.state new × IsReplied old new went.writes asked × others went.state new
+AskedThen others old asked left (Err finish) = (new : Db → Core) × AllMove old (left finish) new
 
-asked_played : (others : State → (Db → Core) → Type 0) (old : Db → Core) (input : List ℕ) (r : Result Went Finish) → AskedThen others old (request_of input) r → PlayedThen others old (Ask input) r
-asked_played others old input (Ok went) w = (w.0, record { drive = w.1.drive; onward = w.1.onward; over = w.1.over; replied = w.2 }, w.3)
-asked_played others old input (Err finish) w = tt
+asked_played : (others : State → (Db → Core) → Type 0) (old : Db → Core) (input : List ℕ) (left : Finish → State) (r : Result Went Finish) → AskedThen others old (request_of input) left r → PlayedThen others old (Ask input) left r
+asked_played others old input left (Ok went) w = (w.0, record { moves = w.1; replied = w.2 }, w.3)
+asked_played others old input left (Err finish) w = w
 
 abbrev request : Kind → List ℕ → Request
 request kind key = record { kind = kind; key = key }
 
-user_asked : (others : State → (Db → Core) → Type 0) (s : State) (cores : Db → Core) (key : List ℕ) (r : Result Turn Stopped) → AllDrive s cores → TurnsBy Passwd 0 (cores Passwd) (request PwName key) r → Next others
-    → AskedThen others cores (Look (request PwName key)) (looked_at s Passwd r)
-user_asked others s cores key (Ok turn) d w next =
-    let m = w.1.moved in
-    let new = settled w.0 in
-    let begun = begun_part s cores d in
-    let drive = drive_with s cores Passwd new turn.cache d (settled_drives Passwd w.0 turn.cache m.drives) (settled_rests s.files w.0 (m.sources_stay ∙ d.sources_are Passwd)) in
-    let g : Grown cores (with_cache s Passwd turn.cache) (with_core cores Passwd new) = record {
-      drive = drive;
-      onward = onward_with cores cores Passwd new begun.onward (turn.adds, m.history_is);
-      over = over_with s.files cores cores Passwd new begun.over (over_more Passwd s.files (cores Passwd) (cores Passwd) w.0 turn.adds turn.cache (begun.over Passwd) m);
-    } in
-    (with_core cores Passwd new, g, (turn.reply, refl, w.1.answered), next (with_cache s Passwd turn.cache) (with_core cores Passwd new) drive)
-user_asked others s cores key (Err stop) d w next = tt
+-- a reply is given where its look-up is made, and still where the caller noted the invalidations anew
+given_on : (db : Db) (old new : Core) (request : Request) (adds : List Record) (reply : List ℕ) (after : Cache) → IsTurned db 0 old request adds reply after new → IsGiven old (settled new) request reply
+given_on db old new request adds reply after t =
+    let is = at_own new.callers 0 (noting (new.callers 0) (invalidations new.history)) in
+    record {
+      requested = ap (λ (c : Caller). c.request) is ∙ t.requested;
+      replies = record {
+        request = t.replies.request;
+        request_is = ap (λ (c : Caller). c.request) is ∙ t.replies.request_is;
+        source = elim t.replies.source [
+          | inl x ↦ inl (x.0, ap (λ (c : Caller). c.taken) is ∙ x.1, x.2)
+          | inr x ↦ inr (x.0, x.1, ap (λ (c : Caller). c.asked) is ∙ x.2, x.3, x.4)
+        ];
+      };
+      live = λ e taken. t.live e (sym (ap (λ (c : Caller). c.taken) is) ∙ taken);
+      answered = t.answered;
+    }
 
-look_asked : (others : State → (Db → Core) → Type 0) (settings : Settings) (s : State) (cores : Db → Core) (kind : Kind) (key : List ℕ) → AllDrive s cores → Next others → AskedThen others cores (Look (request kind key)) (look_frame kind settings s (request kind key))
+user_asked : (others : State → (Db → Core) → Type 0) (s : State) (cores : Db → Core) (key : List ℕ) (r : Result Turn Stopped) → AllDrive s cores → TurnsBy Passwd 0 (cores Passwd) (request PwName key) r → Next others
+    → AskedThen others cores (Look (request PwName key)) (stopped_in s (left_looked s Passwd r)) (looked_at s Passwd r)
+user_asked others s cores key (Ok turn) d w next =
+    let g = one_moves cores s cores Passwd w.0 turn.adds turn.cache (begun_part s cores d) w.1.moved in (
+      with_core cores Passwd (settled w.0),
+      g,
+      (turn.reply, refl, given_on Passwd (cores Passwd) w.0 (request PwName key) turn.adds turn.reply turn.cache w.1),
+      next (with_cache s Passwd turn.cache) (with_core cores Passwd (settled w.0)) g.drive,
+    )
+user_asked others s cores key (Err stop) d w next = (with_core cores Passwd (settled w.0), one_moves cores s cores Passwd w.0 stop.adds stop.cache (begun_part s cores d) w.1)
+
+look_asked : (others : State → (Db → Core) → Type 0) (settings : Settings) (s : State) (cores : Db → Core) (kind : Kind) (key : List ℕ) → AllDrive s cores → Next others
+    → AskedThen others cores (Look (request kind key)) (stopped_in s (left_look settings s (database_of kind) (request kind key))) (look_frame kind settings s (request kind key))
 look_asked others settings s cores PwName key d next =
     user_asked others s cores key (look_up settings.passwd s.moment (part_of Passwd s.files) (request PwName key) s.users) d
     (subst (λ (f : Files). TurnsBy Passwd 0 (cores Passwd) (request PwName key) (look_up settings.passwd s.moment (part_of Passwd f) (request PwName key) s.users)) (d.sources_are Passwd)
     (look_up_turns Passwd 0 settings.passwd s.moment (request PwName key) (cores Passwd) s.users (d.drives Passwd))) next
-look_asked others settings s cores PwUid key d next = tt
-look_asked others settings s cores GrName key d next = tt
-look_asked others settings s cores GrGid key d next = tt
-look_asked others settings s cores HostName key d next = tt
-look_asked others settings s cores HostName6 key d next = tt
-look_asked others settings s cores HostAddr key d next = tt
-look_asked others settings s cores HostAddr6 key d next = tt
-look_asked others settings s cores Ai key d next = tt
-look_asked others settings s cores InitGroups key d next = tt
-look_asked others settings s cores ServName key d next = tt
-look_asked others settings s cores ServPort key d next = tt
+look_asked others settings s cores PwUid key d next = (cores, begun_part s cores d)
+look_asked others settings s cores GrName key d next = (cores, begun_part s cores d)
+look_asked others settings s cores GrGid key d next = (cores, begun_part s cores d)
+look_asked others settings s cores HostName key d next = (cores, begun_part s cores d)
+look_asked others settings s cores HostName6 key d next = (cores, begun_part s cores d)
+look_asked others settings s cores HostAddr key d next = (cores, begun_part s cores d)
+look_asked others settings s cores HostAddr6 key d next = (cores, begun_part s cores d)
+look_asked others settings s cores Ai key d next = (cores, begun_part s cores d)
+look_asked others settings s cores InitGroups key d next = (cores, begun_part s cores d)
+look_asked others settings s cores ServName key d next = (cores, begun_part s cores d)
+look_asked others settings s cores ServPort key d next = (cores, begun_part s cores d)
 
-no_look : (others : State → (Db → Core) → Type 0) (s : State) (cores : Db → Core) (asked : Asked) → IsReplied cores cores (framed []) asked → AllDrive s cores → Next others → AskedThen others cores asked (unanswered s)
-no_look others s cores asked is d next = (cores, begun_part s cores d, is, next s cores d)
+no_look : (others : State → (Db → Core) → Type 0) (s : State) (cores : Db → Core) (asked : Asked) (left : Finish → State) → IsReplied cores cores (framed []) asked → AllDrive s cores → Next others → AskedThen others cores asked left (unanswered s)
+no_look others s cores asked left is d next = (cores, begun_part s cores d, is, next s cores d)
 
-ask_asked : (others : State → (Db → Core) → Type 0) (settings : Settings) (s : State) (cores : Db → Core) (asked : Asked) → AllDrive s cores → Next others → AskedThen others cores asked (ask_frame settings s asked)
+ask_asked : (others : State → (Db → Core) → Type 0) (settings : Settings) (s : State) (cores : Db → Core) (asked : Asked) → AllDrive s cores → Next others → AskedThen others cores asked (stopped_in s (left_asked settings s asked)) (ask_frame settings s asked)
 ask_asked others settings s cores (Look r) d next = look_asked others settings s cores r.kind r.key d next
-ask_asked others settings s cores Shutdown d next = no_look others s cores Shutdown refl d next
-ask_asked others settings s cores Stat d next = no_look others s cores Stat refl d next
-ask_asked others settings s cores (Invalidate name) d next = no_look others s cores (Invalidate name) refl d next
-ask_asked others settings s cores Descriptor d next = no_look others s cores Descriptor refl d next
-ask_asked others settings s cores Netgroup d next = no_look others s cores Netgroup refl d next
-ask_asked others settings s cores (Short have) d next = no_look others s cores (Short have) refl d next
-ask_asked others settings s cores (BadVersion version) d next = no_look others s cores (BadVersion version) refl d next
-ask_asked others settings s cores (BadType type) d next = no_look others s cores (BadType type) refl d next
-ask_asked others settings s cores (BadLength length) d next = no_look others s cores (BadLength length) refl d next
+ask_asked others settings s cores Shutdown d next = no_look others s cores Shutdown (stopped_in s s) refl d next
+ask_asked others settings s cores Stat d next = no_look others s cores Stat (stopped_in s s) refl d next
+ask_asked others settings s cores (Invalidate name) d next = no_look others s cores (Invalidate name) (stopped_in s s) refl d next
+ask_asked others settings s cores Descriptor d next = no_look others s cores Descriptor (stopped_in s s) refl d next
+ask_asked others settings s cores Netgroup d next = no_look others s cores Netgroup (stopped_in s s) refl d next
+ask_asked others settings s cores (Short have) d next = no_look others s cores (Short have) (stopped_in s s) refl d next
+ask_asked others settings s cores (BadVersion version) d next = no_look others s cores (BadVersion version) (stopped_in s s) refl d next
+ask_asked others settings s cores (BadType type) d next = no_look others s cores (BadType type) (stopped_in s s) refl d next
+ask_asked others settings s cores (BadLength length) d next = no_look others s cores (BadLength length) (stopped_in s s) refl d next
 
 -- ---- the law
 
-frame_played : (others : State → (Db → Core) → Type 0) (settings : Settings) (s : State) (cores : Db → Core) (frame : Frame) → AllDrive s cores → Next others → PlayedThen others cores frame (turn_of settings s frame)
-frame_played others settings s cores (Ask input) d next = asked_played others cores input (ask_frame settings s (request_of input)) (ask_asked others settings s cores (request_of input) d next)
+frame_played : (others : State → (Db → Core) → Type 0) (settings : Settings) (s : State) (cores : Db → Core) (frame : Frame) → AllDrive s cores → Next others → PlayedThen others cores frame (stopped_in s (left_by settings s frame)) (turn_of settings s frame)
+frame_played others settings s cores (Ask input) d next =
+    asked_played others cores input (stopped_in s (left_asked settings s (request_of input))) (ask_frame settings s (request_of input)) (ask_asked others settings s cores (request_of input) d next)
 frame_played others settings s cores (Become id held) d next = become_played others s cores id held d next
 frame_played others settings s cores (Reach moment) d next =
-    ticks_part others cores (Reach moment) settings (λ new. refl) next (record s { moment = max s.moment (min moment last_moment) }) cores (begun_part _ cores (moment_drive s cores (max s.moment (min moment last_moment)) d))
+    ticks_part others cores (Reach moment) s settings (λ new. refl) next (record s { moment = max s.moment (min moment last_moment) }) cores (begun_part _ cores (moment_drive s cores (max s.moment (min moment last_moment)) d))
 frame_played others settings s cores (Clear db) d next =
-    then_part others cores (Clear db) s cores db (invalidated (cache_of s db)) silent (begun_part s cores d) (invalidation_passes db 0 (cores db) (cache_of s db) (d.drives db)) (silent_part others cores (Clear db) (λ new. refl) next)
-frame_played others settings s cores Stop d next = silent_part others cores Stop (λ new. refl) next s cores (begun_part s cores d)
+    then_part others cores (Clear db) s s cores db (invalidated (cache_of s db)) (λ t. t) silent (begun_part s cores d) (invalidation_passes db 0 (cores db) (cache_of s db) (d.drives db)) (silent_part others cores (Clear db) s (λ t. t) (λ new. refl) next)
+frame_played others settings s cores Stop d next = silent_part others cores Stop s (λ t. s) (λ new. refl) next s cores (begun_part s cores d)
 
 each_replied : (settings : Settings) (frames : List Frame) (s : State) (cores : Db → Core) → AllDrive s cores → EachReplied settings frames s cores
 each_replied settings [] s cores d = d

@@ -7,7 +7,7 @@ use Rattle.nsc_model.specs.Files as files
 use Rattle.nsc_model.specs.Files.{part_of}
 use Rattle.nsc_model.specs.Fixed.{Fixed}
 use Rattle.nsc_model.specs.Settings.{DbSettings}
-use Rattle.nsc_model.specs.History.{changes, loads, invalidations, newest, version_in, Legal, IsPrefix, Answered}
+use Rattle.nsc_model.specs.History.{changes, loads, invalidations, newest, version_in, IsLive, Legal, IsPrefix, Answered}
 use Rattle.nsc_model.specs.Core.{Core, Move, Files, Begin, Look, Note, Fetch, PollStep, Insert, Finish, Empty, Compact, Reply, AreLive, Runs, Replies, opening}
 use Rattle.nsc_model.specs.Machine.{Kept, Cache, Passed, Stopped, Turn, look_up, tick, invalidated}
 
@@ -78,11 +78,12 @@ pub record IsMoved (db : Db) (a : ℕ) (old : Core) (adds : List Record) (after 
   pub sources_stay : new.sources ≡ old.sources
   pub drives : Drives db a new after
 
--- and behind them the caller may get this reply to this request
+-- and behind them the caller may get this reply to this request; an entry that the reply comes from is live at that moment
 pub record IsTurned (db : Db) (a : ℕ) (old : Core) (request : Request) (adds : List Record) (reply : List ℕ) (after : Cache) (new : Core) : Type 0 where
   pub moved : IsMoved db a old adds after new
   pub requested : (new.callers a).request ≡ Some request
   pub replies : Replies new a reply
+  pub live : (e : Fixed) → (new.callers a).taken ≡ Some e → IsLive new.history e
   pub answered : Answered old.history new.history request reply
 
 -- what an event comes to is moves of the core, also where it stops

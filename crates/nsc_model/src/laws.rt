@@ -39,7 +39,8 @@ pub fn core_can_be_emptied()
 {}
 
 /// Each event of the machine is a list of moves of the core, made by one caller that has seen the whole history before
-/// it, with the same records and the same reply; so also where it stops. The reply is an answer to its request.
+/// it, with the same records and the same reply; so also where it stops. The reply is an answer to its request, and an entry
+/// that it comes from is live at that moment.
 pub fn machine_events_are_moves()
     ensures begins { (db : Db) (a : ℕ) (files : Files) → Drives db a (opening db files) (new_cache (part_of db files)) }
     ensures files { (db : Db) (a : ℕ) (old : Core) (cache : Cache) (files : Files) → Drives db a old cache → Drives db a (record old { sources = files }) cache }
@@ -58,8 +59,8 @@ pub fn runs_are_answered()
 {}
 
 /// In every replay, with any settings and any frames, each reply that is written for a look-up is an answer to its
-/// request over the history of the request's database, whose caller had seen the whole of it before the look-up; and each of
-/// the four histories goes on from what it was.
+/// request over the history of the request's database, whose caller had seen the whole of it before the look-up, and an entry
+/// that it comes from is live at that moment; and each of the four histories goes on from what it was, also up to a stop.
 pub fn replays_are_answered()
     ensures { (settings : Settings) (frames : List Frame) → EachReplied settings frames first_state (λ db. opening db no_files) }
 {}
