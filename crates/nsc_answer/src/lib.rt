@@ -5,5 +5,6 @@ mod plain;
 
 pub use plain::Plain;
 
+
 #[cfg(test)]
 mod tests;

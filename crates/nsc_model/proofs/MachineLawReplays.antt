@@ -204,19 +204,22 @@ ticks_part others old frame first settings writes next =
     (tick_part others old frame first settings Hosts (λ s3. left_ticked settings Services s3 (λ s4. s4)) (λ s3. ticked_in settings Services s3 silent)
     (tick_part others old frame first settings Services (λ s4. s4) silent (silent_part others old frame first (λ s4. s4) writes next))))
 
-become_played : (others : State → (Db → Core) → Type 0) (s : State) (cores : Db → Core) (id : FileId) (held : Option (List ℕ)) → AllDrive s cores → Next others → PlayedThen others cores (Become id held) (stopped_in s s) (become_frame s id held)
-become_played others s cores file.Switch held d next = (cores, begun_part s cores d)
-become_played others s cores file.Passwd held d next =
-    let f = with_file s.files file.Passwd held in
-    silent_part others cores (Become file.Passwd held) s (λ t. s) (λ new. refl) next (record s { files = f }) (over_files f cores) (record {
+set_played : (others : State → (Db → Core) → Type 0) (s : State) (cores : Db → Core) (id : FileId) (held : Option (List ℕ)) → AllDrive s cores → Next others → PlayedThen others cores (Become id held) (stopped_in s s) (silent (record s { files = with_file s.files id held }))
+set_played others s cores id held d next =
+    let f = with_file s.files id held in
+    silent_part others cores (Become id held) s (λ t. s) (λ new. refl) next (record s { files = f }) (over_files f cores) (record {
       drive = become_drive s cores f d;
       onward = λ db. same_prefix (cores db).history;
       over = λ db. record { moves = []; own = All-nil (IsBy 0); runs = refl };
     })
+
+become_played : (others : State → (Db → Core) → Type 0) (s : State) (cores : Db → Core) (id : FileId) (held : Option (List ℕ)) → AllDrive s cores → Next others → PlayedThen others cores (Become id held) (stopped_in s s) (become_frame s id held)
+become_played others s cores file.Switch held d next = set_played others s cores file.Switch held d next
+become_played others s cores file.Passwd held d next = set_played others s cores file.Passwd held d next
 become_played others s cores file.Group held d next = (cores, begun_part s cores d)
 become_played others s cores file.Hosts held d next = (cores, begun_part s cores d)
 become_played others s cores file.Services held d next = (cores, begun_part s cores d)
-become_played others s cores file.ExtraPasswd held d next = (cores, begun_part s cores d)
+become_played others s cores file.ExtraPasswd held d next = set_played others s cores file.ExtraPasswd held d next
 become_played others s cores file.ExtraGroup held d next = (cores, begun_part s cores d)
 
 -- ---- the input of a connection

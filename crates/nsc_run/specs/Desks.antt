@@ -1,8 +1,11 @@
 -- What a replay keeps: its settings, its state, and of each database the files that it reads.
 use Rattle.std.specs.Prelude.{◌≡◌, ℕ, ◌≤◌}
+use Rattle.nsc_model.specs.declared.kind.Db.{Db}
+use Rattle.nsc_model.specs.declared.kind.Db.TheVariants as db
+use Rattle.nsc_model.specs.declared.kind.FileId.{FileId}
 use Rattle.nsc_model.specs.declared.kind.FileId.TheVariants as file
-use Rattle.nsc_model.specs.Files.{Files, no_files, with_file}
-use Rattle.nsc_model.specs.Settings.{DbSettings, Settings}
+use Rattle.nsc_model.specs.Files.{Files, part_of}
+use Rattle.nsc_model.specs.Settings.{Settings, settings_of}
 use Rattle.nsc_model.specs.Replay.{State, last_moment}
 use Rattle.nsc_plain.specs.Shelf.{Shelf}
 
@@ -16,10 +19,10 @@ pub record Desk : Type 0 where
   pub settings : Settings
   pub state : State
 
--- the state of the databases as they are, at this moment
-abbrev pub state_of : ℕ → Database → Database → Database → Database → State
-state_of moment users groups hosts services = record {
-  files = users.files;
+-- the state of these files and databases as they are, at this moment
+abbrev pub state_of : Files → ℕ → Database → Database → Database → Database → State
+state_of files moment users groups hosts services = record {
+  files = files;
   moment = moment;
   users = users.shelf.cache;
   groups = groups.shelf.cache;
@@ -27,24 +30,26 @@ state_of moment users groups hosts services = record {
   services = services.shelf.cache;
 }
 
--- no file but the passwd file was ever set
-abbrev pub IsUsersAlone : Files → Type 0
-IsUsersAlone files = files ≡ with_file no_files file.Passwd files.passwd
+-- users read the file, and no other database does
+abbrev pub IsOfUsers : FileId → Type 0
+IsOfUsers file.Switch = ⊥
+IsOfUsers file.Passwd = Unit {0}
+IsOfUsers file.Group = ⊥
+IsOfUsers file.Hosts = ⊥
+IsOfUsers file.Services = ⊥
+IsOfUsers file.ExtraPasswd = Unit {0}
+IsOfUsers file.ExtraGroup = ⊥
 
--- a database has its settings, and reads these files
-pub record HasSettings (database : Database) (one : DbSettings) (all : Settings) : Type 0 where
-  pub own : database.shelf.settings ≡ one
-  pub limit : database.shelf.reloads ≡ all.reloads
+-- a database has its settings, and reads its part of the files
+pub record HasOwn (which : Db) (settings : Settings) (files : Files) (database : Database) : Type 0 where
+  pub own : database.shelf.settings ≡ settings_of settings which
+  pub limit : database.shelf.reloads ≡ settings.reloads
+  pub part : database.files ≡ part_of which files
 
--- each database has its own settings, and the files that it reads are as they are: so far the passwd file alone is ever
--- set, which users read and the others do not
-pub record Agrees (settings : Settings) (moment : ℕ) (users groups hosts services : Database) : Type 0 where
-  pub users_set : HasSettings users settings.passwd settings
-  pub groups_set : HasSettings groups settings.group settings
-  pub hosts_set : HasSettings hosts settings.hosts settings
-  pub services_set : HasSettings services settings.services settings
-  pub users_alone : IsUsersAlone users.files
-  pub groups_read : groups.files ≡ no_files
-  pub hosts_read : hosts.files ≡ no_files
-  pub services_read : services.files ≡ no_files
+-- so does each of them, and the moment is none behind the last one
+pub record Agrees (settings : Settings) (files : Files) (moment : ℕ) (users groups hosts services : Database) : Type 0 where
+  pub users_own : HasOwn db.Passwd settings files users
+  pub groups_own : HasOwn db.Group settings files groups
+  pub hosts_own : HasOwn db.Hosts settings files hosts
+  pub services_own : HasOwn db.Services settings files services
   pub in_time : moment ≤ last_moment

@@ -11,6 +11,7 @@ mod pieces;
 mod reading;
 mod reply;
 mod rounds;
+mod sources;
 
 pub use command::{replay, run};
 pub use exit::Exit;

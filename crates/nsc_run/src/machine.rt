@@ -1,30 +1,32 @@
 ghost use Rattle.std.specs.Prelude.{◌≡◌, ◌≤◌, length, None, IfOk, IfErr, IfSome, OnOk};
 ghost use Rattle.nsc_model.specs.Marked.{reply_limit};
-ghost use Rattle.nsc_model.specs.Files.{FileFits};
+ghost use Rattle.nsc_model.specs.Files.{FileFits, with_file};
 ghost use Rattle.nsc_model.specs.Fixed.{key_limit};
 ghost use Rattle.nsc_model.specs.Wire.{request_of};
 ghost use Rattle.nsc_model.specs.Replay.{ask_frame, become_frame, clear_frame, first_state, look_frame, reach_frame, turn_of};
 ghost use Rattle.nsc_daemonconf.specs.Conf.{settings};
 ghost use Rattle.nsc_run.specs.Commands.{SizesFit};
+ghost use Rattle.nsc_run.specs.Desks.{IsOfUsers};
 ghost use Rattle.nsc_run.specs.Reading.{FrameFits, seen};
 ghost use Rattle.nsc_run.specs.Turns.{TurnsTo, TurnFaults};
 
 use crate::cached::Cached;
 use crate::exit::Exit;
 use crate::frame::Frame;
+use crate::sources::{Shared, Sources};
 use nsc_base::{Bytes, NoMemory};
 use nsc_daemonconf::Conf;
-use nsc_model::{Answerer, Content, Db, FileId, Kind};
+use nsc_model::{Answerer, Db, FileId, Kind};
 use nsc_wire::{Wire, read_request};
 use std::alloc::Global;
 use std::cmp::{max, min};
 use std::marker::Model;
-use std::sync::Arc;
 
-/// The machine of a replay: its settings, the moment in seconds, and the four databases.
+/// The machine of a replay: its settings, the files as they are, the moment in seconds, and the four databases.
 #[derive(Drop)]
 pub struct Machine {
     conf: Conf,
+    sources: Sources,
     moment: u64,
     users: Cached,
     groups: Cached,
@@ -38,9 +40,9 @@ impl Model for Machine {
 
     ghost Value = { Desk };
 
-    ghost view = { λ m. record { settings = settings m.conf; state = state_of m.moment m.users m.groups m.hosts m.services } };
+    ghost view = { λ m. record { settings = settings m.conf; state = state_of m.sources m.moment m.users m.groups m.hosts m.services } };
 
-    ghost invariant = { λ m. Agrees (settings m.conf) m.moment m.users m.groups m.hosts m.services };
+    ghost invariant = { λ m. Agrees (settings m.conf) m.sources m.moment m.users m.groups m.hosts m.services };
 }
 
 // The greatest moment, in seconds: 2^62 - 1.
@@ -54,6 +56,7 @@ impl Machine {
     {
         Ok(Machine {
             conf: *conf,
+            sources: Sources::none(),
             moment: 0,
             users: Cached::new(alloc, conf.passwd, conf.reloads)?,
             groups: Cached::new(alloc, conf.group, conf.reloads)?,
@@ -163,19 +166,63 @@ impl Machine {
         }
     }
 
-    // What a file becomes: only the passwd file is built.
+    // What a file becomes: the files that users read are built. All memory is taken before anything changes.
     fn become_file(&mut self, alloc: Global, file: FileId, bytes: Option<Bytes>) -> Result<(), Exit>
         requires { FileFits bytes }
         ensures settings { self.new.settings ≡ self.old.settings }
         ensures turn { OnOk result (TurnsTo (become_frame self.old.state file bytes) self.new.state None) }
         ensures fault { IfErr result (TurnFaults (become_frame self.old.state file bytes)) }
     {
-        if file != FileId::Passwd {
-            return Err(Exit::NotBuilt);
+        match file {
+            FileId::Switch => self.switch_becomes(Shared::new(alloc, bytes)?, alloc)?,
+            FileId::Passwd | FileId::ExtraPasswd => self.users_become(
+                file,
+                Shared::new(alloc, bytes)?,
+                alloc,
+            )?,
+            FileId::Group | FileId::Hosts | FileId::Services | FileId::ExtraGroup => return Err(
+                Exit::NotBuilt,
+            ),
         }
-        let mut files = Content::none();
-        files.set(FileId::Passwd, bytes);
-        self.users.set(Arc::new(alloc, files)?);
+        Ok(())
+    }
+
+    // The file of the service lists, which every database reads, becomes this.
+    fn switch_becomes(&mut self, held: Shared, alloc: Global) -> Result<(), NoMemory>
+        requires { FileFits held }
+        ensures settings { self.new.settings ≡ self.old.settings }
+        ensures set { OnOk result (self.new.state ≡ record self.old.state { files = with_file self.old.state.files FileId.Switch held }) }
+    {
+        let users = self
+            .sources
+            .part_with(alloc, Db::Passwd, FileId::Switch, &held)?;
+        let groups = self
+            .sources
+            .part_with(alloc, Db::Group, FileId::Switch, &held)?;
+        let hosts = self
+            .sources
+            .part_with(alloc, Db::Hosts, FileId::Switch, &held)?;
+        let services = self
+            .sources
+            .part_with(alloc, Db::Services, FileId::Switch, &held)?;
+        self.users.set(users);
+        self.groups.set(groups);
+        self.hosts.set(hosts);
+        self.services.set(services);
+        self.sources.set(FileId::Switch, held);
+        Ok(())
+    }
+
+    // A file that users read alone becomes this.
+    fn users_become(&mut self, file: FileId, held: Shared, alloc: Global) -> Result<(), NoMemory>
+        requires fits { FileFits held }
+        requires own { IsOfUsers file }
+        ensures settings { self.new.settings ≡ self.old.settings }
+        ensures set { OnOk result (self.new.state ≡ record self.old.state { files = with_file self.old.state.files file held }) }
+    {
+        let users = self.sources.part_with(alloc, Db::Passwd, file, &held)?;
+        self.users.set(users);
+        self.sources.set(file, held);
         Ok(())
     }
 

@@ -1,0 +1,132 @@
+ghost use Rattle.std.specs.Prelude.{◌≡◌, IfOk, IfSome, OnOk};
+ghost use Rattle.std.specs.Arc.{arc_value};
+ghost use Rattle.std.specs.Option.{option_map};
+ghost use Rattle.nsc_model.specs.Files.{FileFits, file_of, no_files, part_of, with_file};
+
+use nsc_base::{Bytes, NoMemory};
+use nsc_model::{Content, Db, FileId};
+use std::alloc::Global;
+use std::marker::Model;
+use std::sync::Arc;
+
+/// The bytes of a file, which contents share; `None` where the file is absent.
+#[derive(Drop)]
+pub struct Shared {
+    bytes: Option<Arc<Bytes>>,
+}
+
+impl Model for Shared {
+    ghost use Rattle.std.specs.Prelude.{Option, List, ℕ};
+    ghost use Rattle.std.specs.Arc.{arc_value};
+    ghost use Rattle.std.specs.Option.{option_map};
+
+    ghost Value = { Option (List ℕ) };
+
+    ghost view = { λ file. option_map (λ b. arc_value b) file.bytes };
+}
+
+impl Shared {
+    /// An absent file, or one of these bytes, which are not copied. Fails only for want of memory.
+    pub fn new(alloc: Global, bytes: Option<Bytes>) -> Result<Shared, NoMemory>
+        ensures { IfOk result (λ file. file ≡ bytes) }
+    {
+        let bytes = match bytes {
+            Some(bytes) => Some(Arc::new(alloc, bytes)?),
+            None => None,
+        };
+        Ok(Shared { bytes })
+    }
+
+    // Another handle on the bytes.
+    fn handle(&self) -> Result<Option<Arc<Bytes>>, NoMemory>
+        ensures { IfOk result (λ bytes. option_map (λ b. arc_value b) bytes ≡ self.now) }
+    {
+        match &self.bytes {
+            Some(bytes) => Ok(Some(bytes.clone()?)),
+            None => Ok(None),
+        }
+    }
+}
+
+/// The seven files as they are, whose bytes the contents of the databases share.
+#[derive(Drop)]
+pub struct Sources {
+    files: [Shared; 7],
+}
+
+impl Model for Sources {
+    ghost use Rattle.nsc_model.specs.Files.{Files, files_in, FilesFit};
+
+    ghost Value = { Files };
+
+    ghost view = { λ s. files_in s.files };
+
+    ghost invariant = { λ s. FilesFit (files_in s.files) };
+}
+
+// An absent file.
+const ABSENT: Shared = Shared { bytes: None };
+
+impl Sources {
+    /// Every file is absent.
+    pub fn none() -> Sources
+        ensures { result ≡ no_files }
+    {
+        Sources {
+            files: [ABSENT, ABSENT, ABSENT, ABSENT, ABSENT, ABSENT, ABSENT],
+        }
+    }
+
+    /// A file becomes this. The other files stay.
+    pub fn set(&mut self, file: FileId, held: Shared)
+        requires { FileFits held }
+        ensures { self.new ≡ with_file self.old file held }
+    {
+        self.files[file as usize] = held;
+    }
+
+    /// What a database will read once a file, one of its own, is this. No bytes are copied. Fails only for want of memory.
+    pub fn part_with(
+        &self,
+        alloc: Global,
+        db: Db,
+        file: FileId,
+        held: &Shared,
+    ) -> Result<Arc<Content>, NoMemory>
+        requires { FileFits held.now }
+        ensures { IfOk result (λ content. arc_value content ≡ with_file (part_of db self.now) file held.now) }
+    {
+        let mut part = self.part(db)?;
+        part.share(file, held.handle()?);
+        Ok(Arc::new(alloc, part)?)
+    }
+
+    // What a database reads.
+    fn part(&self, db: Db) -> Result<Content, NoMemory>
+        ensures { IfOk result (λ content. content ≡ part_of db self.now) }
+    {
+        let mut part = Content::none();
+        self.lend(&mut part, FileId::Switch)?;
+        match db {
+            Db::Passwd => {
+                self.lend(&mut part, FileId::Passwd)?;
+                self.lend(&mut part, FileId::ExtraPasswd)?;
+            }
+            Db::Group => {
+                self.lend(&mut part, FileId::Group)?;
+                self.lend(&mut part, FileId::ExtraGroup)?;
+            }
+            Db::Hosts => self.lend(&mut part, FileId::Hosts)?,
+            Db::Services => self.lend(&mut part, FileId::Services)?,
+        }
+        Ok(part)
+    }
+
+    // A file of a content becomes what it is here.
+    fn lend(&self, part: &mut Content, file: FileId) -> Result<(), NoMemory>
+        ensures { OnOk result (part.new ≡ with_file part.old file (file_of self.now file)) }
+    {
+        part.share(file, self.files[file as usize].handle()?);
+        Ok(())
+    }
+}
