@@ -6,6 +6,7 @@ mod cache;
 mod entries;
 mod fault;
 mod held;
+mod table;
 
 pub use cache::PlainCache;
 pub use fault::PlainFault;
