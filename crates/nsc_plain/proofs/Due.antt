@@ -56,3 +56,12 @@ when_none {X} {P} (Some x) o b e h f = OnFalse_from b P (λ n. absurd cc)
 pub when_some : {X P : Type 0} (r : Option (Bor X)) (o : Option X) (b : Bool) → b ≡ is_some r → option_copied r ≡ o → ((y : X) → o ≡ Some y → P) → OnTrue b P
 when_some {X} {P} None o b e h f = OnTrue_from b P (λ n. absurd cc)
 when_some {X} {P} (Some x) o b e h f = OnTrue_from b P (λ n. f x.now (sym h))
+
+-- what passes one test of what passes another
+twice_by : {X : Type 0} (q : X → Bool) (a : Bool) (x : X) (ys zs : List X) → filter q ys ≡ zs → filter q (cond a (x ∷ ys) ys) ≡ cond (a && q x) (x ∷ zs) zs
+twice_by q true x ys zs e = ap (λ (l : List _). cond (q x) (x ∷ l) l) e
+twice_by q false x ys zs e = e
+
+pub filter_twice : {X : Type 0} (p q : X → Bool) (xs : List X) → filter q (filter p xs) ≡ filter (λ x. p x && q x) xs
+filter_twice p q [] = refl
+filter_twice p q (x ∷ xs) = twice_by q (p x) x (filter p xs) (filter (λ y. p y && q y) xs) (filter_twice p q xs)

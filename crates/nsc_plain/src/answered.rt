@@ -1,14 +1,17 @@
-ghost use Rattle.std.specs.Prelude.{◌≡◌, ◌≤◌, ◌<◌, ◌+◌, ◌^◌, length};
+ghost use Rattle.std.specs.Prelude.{◌≡◌, ◌≤◌, ◌<◌, ◌+◌, ◌^◌, length, map, IfOk};
 ghost use Rattle.nsc_base.specs.Nodes.{node_words};
 ghost use Rattle.nsc_model.specs.Fixed.{key_limit, kept_limit};
 ghost use Rattle.nsc_model.specs.Kinds.{IsBuilt};
-ghost use Rattle.nsc_model.specs.Machine.{life_of};
+ghost use Rattle.nsc_model.specs.Machine.{life_of, due_of, reloaded_of};
+ghost use Rattle.nsc_plain.specs.Stock.{anew};
 ghost use Rattle.nsc_daemonconf.specs.Conf.{db_settings};
 
 use crate::held::Held;
+use nsc_base::{Bytes, NoMemory};
 use nsc_daemonconf::DbConf;
-use nsc_model::{Answer, Entry, Request};
+use nsc_model::{Answer, Answerer, Entry, Request};
 use nsc_words::node_words;
+use std::alloc::Global;
 use std::marker::Model;
 
 /// A request with its answer, that is to be inserted with this count of reloads. Its kind is built, and its key has at
@@ -84,4 +87,40 @@ fn life_of(conf: &DbConf, answer: &Answer) -> u64
     } else {
         u64::from(conf.positive)
     }
+}
+
+/// What is to be inserted for the entries whose time is over and that are reloaded, in their order.
+pub fn answer_all<A: Answerer>(
+    alloc: Global,
+    answers: &A,
+    ready: &A::Ready,
+    entries: &[Held],
+    limit: Option<u32>,
+    now: u64,
+) -> Result<Vec<Answered>, NoMemory>
+    ensures { IfOk result (λ all. all.items ≡ map (anew (A.prepared_from ready.now)) (reloaded_of limit (due_of now entries.now))) }
+{
+    let mut all = Vec::new(alloc);
+    for held in entries {
+        if held.is_reloaded(limit, now) {
+            all.push(answer_again(alloc, answers, ready, held)?)?;
+        }
+    }
+    Ok(all)
+}
+
+// What is to be inserted where this entry is reloaded.
+fn answer_again<A: Answerer>(
+    alloc: Global,
+    answers: &A,
+    ready: &A::Ready,
+    held: &Held,
+) -> Result<Answered, NoMemory>
+    ensures { IfOk result (λ again. again ≡ anew (A.prepared_from ready.now) held.now) }
+{
+    let request = held.entry().request();
+    let answer = answers.answer(alloc, ready, request.kind, request.key.as_slice())?;
+    let key = Bytes::copy(alloc, request.key.as_slice())?;
+    let kind = request.kind;
+    Ok(Answered::new(Request { kind, key }, answer, held.next_reloads()))
 }

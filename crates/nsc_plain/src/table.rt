@@ -113,8 +113,8 @@ impl Table {
         }
     }
 
-    /// A compaction: the words of ended entries are free again.
-    pub fn compact(&mut self) -> Result<(), PlainFault>
+    // A compaction: the words of ended entries are free again.
+    fn compact(&mut self) -> Result<(), PlainFault>
         ensures turn { OnOk result ((cache : Cache) → PassesTo (compacted (over cache self.old)) (over cache self.new)) }
         ensures fault { IfErr result (λ fault. (cache : Cache) → StopsBy (compacted (over cache self.old)) (over cache self.new) fault) }
         ensures entries { self.new.entries ≡ self.old.entries }
