@@ -74,3 +74,56 @@ invalidation_faults cache after NoMemory ne h = absurd h
 invalidation_faults cache after (Spent n) ne h =
     let adds = Invalid (cache.epoch + 1) ∷ ends_of by_invalidation cache.entries [] in
     subst (λ (r : Result Passed Stopped). StopsAt r after n) (sym (goes_on cache (other_number cache.epoch last_count ne))) (stops_behind adds (compacted_behind cache.entries (emptied cache)) after n h)
+
+-- ---- look-ups
+
+pub keeps : (settings : DbSettings) (now : ℕ) (request : Request) (cache after : Cache) → settings.enabled ≡ true
+    → put settings now cache.newest_version (record { request = request; answer = answer_of cache.sources request; reloads = 0 }) cache ≡ after → (kept_answer settings now request cache).cache ≡ after
+keeps settings now request cache after on h =
+    let at : kept_answer settings now request cache ≡ tried settings now request 0 cache = at_true _ _ on in
+    ap (λ (p : Passed). p.cache) at ∙ h
+
+-- a hit is the machine's
+hit_turns : (o : Option Kept) (settings : DbSettings) (now : ℕ) (files : Files) (request : Request) (before after : Cache) (reply : List ℕ) → HitsBy o request before after (Some reply)
+    → TurnsTo (hit_or_load o settings now files request before) after reply
+hit_turns None settings now files request before after reply h = absurd cc
+hit_turns (Some k) settings now files request before after reply h = let e : k.entry.answer.bytes ≡ reply = cc in (sym h.1, e)
+
+pub hits : (settings : DbSettings) (now : ℕ) (files : Files) (request : Request) (before after : Cache) (reply : List ℕ) → HitsBy (cached settings request before) request before after (Some reply)
+    → TurnsTo (look_up settings now files request before) after reply
+unfolding look_up
+hits settings now files request before after reply h = hit_turns (cached settings request before) settings now files request before after reply h
+
+-- a look-up that finds nothing changes nothing
+nothing_hit : (o : Option Kept) (request : Request) (before mid : Cache) → HitsBy o request before mid None → (o ≡ None) × (mid ≡ before)
+nothing_hit None request before mid h = (refl, h.1)
+nothing_hit (Some k) request before mid h = absurd cc
+
+pub misses : (settings : DbSettings) (request : Request) (before mid : Cache) → HitsBy (cached settings request before) request before mid None → (cached settings request before ≡ None) × (mid ≡ before)
+misses settings request before mid h = nothing_hit (cached settings request before) request before mid h
+
+pub looks_on : (settings : DbSettings) (now : ℕ) (files : Files) (request : Request) (before : Cache) → cached settings request before ≡ None
+    → look_up settings now files request before ≡ loaded settings now request (polled files before)
+unfolding look_up
+looks_on settings now files request before none = ap (λ (o : Option Kept). hit_or_load o settings now files request before) none
+
+load_turns : (settings : DbSettings) (now : ℕ) (request : Request) (r : Result Passed Stopped) (mid after : Cache) (reply : List ℕ) → PassesTo r mid
+    → (kept_answer settings now request mid).cache ≡ after → (answer_of mid.sources request).bytes ≡ reply → TurnsTo (loaded settings now request r) after reply
+load_turns settings now request (Ok poll) mid after reply p k a =
+    (subst (λ (c : Cache). (kept_answer settings now request c).cache ≡ after) (sym p) k, subst (λ (c : Cache). (answer_of c.sources request).bytes ≡ reply) (sym p) a)
+load_turns settings now request (Err stop) mid after reply p k a = absurd p
+
+pub loads : (settings : DbSettings) (now : ℕ) (files : Files) (request : Request) (before mid after : Cache) (reply : List ℕ) → cached settings request before ≡ None → PassesTo (polled files before) mid
+    → (kept_answer settings now request mid).cache ≡ after → (answer_of mid.sources request).bytes ≡ reply → TurnsTo (look_up settings now files request before) after reply
+loads settings now files request before mid after reply none p k a =
+    subst (λ (r : Result Turn Stopped). TurnsTo r after reply) (sym (looks_on settings now files request before none)) (load_turns settings now request (polled files before) mid after reply p k a)
+
+load_stops : (settings : DbSettings) (now : ℕ) (request : Request) (r : Result Passed Stopped) (after : Cache) (n : ℕ) → StopsAt r after n → StopsAt (loaded settings now request r) after n
+load_stops settings now request (Ok poll) after n h = absurd h
+load_stops settings now request (Err stop) after n h = h
+
+pub look_up_faults : (settings : DbSettings) (now : ℕ) (files : Files) (request : Request) (before after : Cache) (fault : PlainFault) → cached settings request before ≡ None
+    → GivesUpBy (polled files before) before after fault → FaultsBy (look_up settings now files request before) files before after fault
+look_up_faults settings now files request before after NoMemory none h = inl h
+look_up_faults settings now files request before after (Spent n) none h =
+    subst (λ (r : Result Turn Stopped). StopsAt r after n) (sym (looks_on settings now files request before none)) (load_stops settings now request (polled files before) after n h)
