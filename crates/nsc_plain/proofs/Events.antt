@@ -10,7 +10,7 @@ use Rattle.nsc_model.specs.declared.record.Record.TheVariants.{Invalid}
 use Rattle.nsc_model.specs.Files.{Files}
 use Rattle.nsc_model.specs.Settings.{DbSettings}
 use Rattle.nsc_model.specs.Answers.{answer_of}
-use Rattle.nsc_model.specs.Machine.{Kept, Cache, Passed, Stopped, Turn, Refusal, TooLarge, Spent as Full_count, Full, last_count, behind, ◌>>=◌, refusal, tried, tried_by, new_entry, polled, cached, kept_answer, loaded, hit_or_load, look_up, used_now, compacted, compacted_behind, invalidated, ends_of, by_invalidation, stopped, due_of, others_of, reloaded_of, reloaded, next_reloads, pruned, ticked, is_outdated, checked, tick}
+use Rattle.nsc_model.specs.Machine.{Kept, Cache, Passed, Stopped, Turn, Refusal, TooLarge, Spent as Uncounted, Full, last_count, behind, ◌>>=◌, refusal, tried, tried_by, new_entry, polled, cached, kept_answer, loaded, hit_or_load, look_up, used_now, compacted, compacted_behind, invalidated, ends_of, by_invalidation, due_cause, stopped, unchanged, due_of, others_of, reloaded_of, reloaded, next_reloads, pruned, ticked, is_outdated, checked, tick}
 use Rattle.nsc_plain.specs.Shelf.{TurnsTo, PassesTo, StopsAt, StopsBy, FaultsBy, GivesUpBy, HitsBy, IsPolledAtMost}
 use Rattle.nsc_plain.specs.Stock.{Fresh, put, put_all, anew}
 
@@ -127,3 +127,78 @@ pub look_up_faults : (settings : DbSettings) (now : ℕ) (files : Files) (reques
 look_up_faults settings now files request before after NoMemory none h = inl h
 look_up_faults settings now files request before after (Spent n) none h =
     subst (λ (r : Result Turn Stopped). StopsAt r after n) (sym (looks_on settings now files request before none)) (load_stops settings now request (polled files before) after n h)
+
+-- ---- insertions, one after the other
+
+-- a tried insertion keeps the content and the number of its version
+tried_sources : (r : Option Refusal) (k : Kept) (cache : Cache) → ((tried_by r k cache).cache.sources ≡ cache.sources) × ((tried_by r k cache).cache.newest_version ≡ cache.newest_version)
+tried_sources None k cache = (refl, refl)
+tried_sources (Some (TooLarge size)) k cache = (refl, refl)
+tried_sources (Some (Uncounted count)) k cache = (refl, refl)
+tried_sources (Some (Full need free)) k cache = (refl, refl)
+
+pub put_is_reloaded : (settings : DbSettings) (now : ℕ) (entries : List Kept) (cache : Cache)
+    → put_all settings now cache.newest_version (map (anew cache.sources) entries) cache ≡ (reloaded settings now entries cache).cache
+put_is_reloaded settings now [] cache = refl
+put_is_reloaded settings now (k ∷ entries) cache =
+    let first = (tried settings now k.entry.request (next_reloads k.reloads) cache).cache in
+    let same = tried_sources (refusal settings (new_entry settings now k.entry.request (next_reloads k.reloads) cache).entry cache) (new_entry settings now k.entry.request (next_reloads k.reloads) cache) cache in
+    subst (λ (files : Files). put_all settings now cache.newest_version (map (anew files) entries) first ≡ (reloaded settings now entries first).cache) same.0
+    (subst (λ (version : ℕ). put_all settings now version (map (anew first.sources) entries) first ≡ (reloaded settings now entries first).cache) same.1 (put_is_reloaded settings now entries first))
+
+-- ---- ticks
+
+-- where entries are due, the others stay, and the table is compacted
+abbrev pub left : ℕ → Cache → Cache
+left now cache = record cache { entries = others_of now cache.entries }
+
+compacted_some : (due : List Kept) (cache : Cache) → 0 < length due → compacted_behind due cache ≡ compacted cache
+compacted_some [] cache h = absurd (omega arith)
+compacted_some (k ∷ due) cache h = refl
+
+pub prunes : (settings : DbSettings) (reloads : Option ℕ) (now : ℕ) (cache mid after : Cache) → 0 < length (due_of now cache.entries) → PassesTo (compacted (left now cache)) mid
+    → (reloaded settings now (reloaded_of reloads (due_of now cache.entries)) mid).cache ≡ after → PassesTo (pruned settings reloads now cache) after
+prunes settings reloads now cache mid after some h k =
+    let due = due_of now cache.entries in
+    let next : Cache → Result Passed Stopped = λ c. Ok (reloaded settings now (reloaded_of reloads due) c) in
+    let first : PassesTo (compacted_behind due (left now cache)) mid = subst (λ (r : Result Passed Stopped). PassesTo r mid) (sym (compacted_some due (left now cache) some)) h in
+    passes_behind (ends_of (due_cause reloads now) due []) (compacted_behind due (left now cache) >>= next) after (passes_then (compacted_behind due (left now cache)) next mid after first k)
+
+pub prune_faults : (settings : DbSettings) (reloads : Option ℕ) (now : ℕ) (cache before after : Cache) (fault : PlainFault) → 0 < length (due_of now cache.entries)
+    → StopsBy (compacted (left now cache)) after fault → GivesUpBy (pruned settings reloads now cache) before after fault
+prune_faults settings reloads now cache before after NoMemory some h = absurd h
+prune_faults settings reloads now cache before after (Spent n) some h =
+    let due = due_of now cache.entries in
+    let next : Cache → Result Passed Stopped = λ c. Ok (reloaded settings now (reloaded_of reloads due) c) in
+    let first : StopsAt (compacted_behind due (left now cache)) after n = subst (λ (r : Result Passed Stopped). StopsAt r after n) (sym (compacted_some due (left now cache) some)) h in
+    stops_behind (ends_of (due_cause reloads now) due []) (compacted_behind due (left now cache) >>= next) after n (stops_first (compacted_behind due (left now cache)) next after n first)
+
+pub tick_rests : (settings : DbSettings) (reloads : Option ℕ) (now : ℕ) (files : Files) (cache : Cache) → settings.enabled ≡ false → PassesTo (tick settings reloads now files cache) cache
+unfolding tick
+tick_rests settings reloads now files cache off =
+    let at : tick settings reloads now files cache ≡ Ok (unchanged cache) = at_false _ _ off in
+    subst (λ (r : Result Passed Stopped). PassesTo r cache) (sym at) refl
+
+tick_runs : (settings : DbSettings) (reloads : Option ℕ) (now : ℕ) (files : Files) (cache : Cache) → settings.enabled ≡ true
+    → tick settings reloads now files cache ≡ (polled files cache >>= checked settings reloads now)
+unfolding tick
+tick_runs settings reloads now files cache on = at_true _ _ on
+
+pub tick_passes : (settings : DbSettings) (reloads : Option ℕ) (now : ℕ) (files : Files) (before mid after : Cache) → settings.enabled ≡ true → PassesTo (polled files before) mid
+    → PassesTo (checked settings reloads now mid) after → PassesTo (tick settings reloads now files before) after
+tick_passes settings reloads now files before mid after on h k =
+    subst (λ (r : Result Passed Stopped). PassesTo r after) (sym (tick_runs settings reloads now files before on)) (passes_then (polled files before) (checked settings reloads now) mid after h k)
+
+-- the poll of a tick gave up
+pub tick_unpolled : (settings : DbSettings) (reloads : Option ℕ) (now : ℕ) (files : Files) (before after : Cache) (fault : PlainFault) → settings.enabled ≡ true
+    → GivesUpBy (polled files before) before after fault → FaultsBy (tick settings reloads now files before) files before after fault
+tick_unpolled settings reloads now files before after NoMemory on h = inl h
+tick_unpolled settings reloads now files before after (Spent n) on h =
+    subst (λ (r : Result Passed Stopped). StopsAt r after n) (sym (tick_runs settings reloads now files before on)) (stops_first (polled files before) (checked settings reloads now) after n h)
+
+-- what came behind its poll gave up
+pub tick_faults : (settings : DbSettings) (reloads : Option ℕ) (now : ℕ) (files : Files) (before mid after : Cache) (fault : PlainFault) → settings.enabled ≡ true → PassesTo (polled files before) mid
+    → GivesUpBy (checked settings reloads now mid) mid after fault → FaultsBy (tick settings reloads now files before) files before after fault
+tick_faults settings reloads now files before mid after NoMemory on h k = inr (subst (λ (c : Cache). PassesTo (polled files before) c) (sym k) h)
+tick_faults settings reloads now files before mid after (Spent n) on h k =
+    subst (λ (r : Result Passed Stopped). StopsAt r after n) (sym (tick_runs settings reloads now files before on)) (stops_then (polled files before) (checked settings reloads now) mid after n h k)

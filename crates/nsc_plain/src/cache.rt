@@ -6,12 +6,12 @@ ghost use Rattle.nsc_model.specs.Files.{no_files};
 ghost use Rattle.nsc_model.specs.Fixed.{key_limit};
 ghost use Rattle.nsc_model.specs.Marked.{reply_limit};
 ghost use Rattle.nsc_model.specs.Answers.{answer_of};
-ghost use Rattle.nsc_model.specs.Machine.{new_cache, cached, polled, kept_answer, look_up, due_of, reloaded_of, pruned, ticked, tick, invalidated};
+ghost use Rattle.nsc_model.specs.Machine.{new_cache, cached, polled, kept_answer, look_up, due_of, reloaded_of, pruned, ticked, is_outdated, checked, tick, invalidated};
 ghost use Rattle.nsc_daemonconf.specs.Conf.{db_settings};
 ghost use Rattle.nsc_plain.specs.Shelf.{TurnsTo, PassesTo, FaultsBy, StopsBy, GivesUpBy, HitsBy};
 ghost use Rattle.nsc_plain.specs.Stock.{anew};
 
-use crate::answered::{answer_all, Answered};
+use crate::answered::{Answered, answer_all};
 use crate::entries::{find_entry, has_due, has_reloaded};
 use crate::fault::PlainFault;
 use crate::held::LAST_COUNT;
@@ -280,12 +280,31 @@ impl PlainCache {
             return Ok(());
         }
         self.poll(content, is_newest)?;
-        if self.conf.check_files && self.newest_version != self.ticked_version {
-            self.invalidate()?;
-            self.ticked_version = self.newest_version;
-            return Ok(());
+        self.check(alloc, answers, now)
+    }
+
+    // Behind the poll of a tick: an invalidation where the files changed since the last one, and else a pruning.
+    fn check<A: Answerer>(&mut self, alloc: Global, answers: &A, now: u64) -> Result<(), PlainFault>
+        requires moment { now < 2 ^ 62 }
+        ensures settings { self.new.settings ≡ self.old.settings }
+        ensures limit { self.new.reloads ≡ self.old.reloads }
+        ensures sources { self.new.cache.sources ≡ self.old.cache.sources }
+        ensures turn { OnOk result (PassesTo (checked self.old.settings self.old.reloads now self.old.cache) self.new.cache) }
+        ensures fault { IfErr result (GivesUpBy (checked self.old.settings self.old.reloads now self.old.cache) self.old.cache self.new.cache) }
+    {
+        if !self.is_outdated() {
+            return self.prune(alloc, answers, now);
         }
-        self.prune(alloc, answers, now)
+        self.invalidate()?;
+        self.ticked_version = self.newest_version;
+        Ok(())
+    }
+
+    // Whether the files changed since the last tick, and such a change counts.
+    fn is_outdated(&self) -> bool
+        ensures { result ≡ is_outdated self.now.settings self.now.cache }
+    {
+        self.conf.check_files && self.newest_version != self.ticked_version
     }
 
     // The entries whose time is over end, and those of them that are not dropped are loaded anew.
