@@ -321,7 +321,6 @@ impl PlainCache {
             return Ok(());
         }
         let fresh = self.answer_due(alloc, answers, now)?;
-        self.table.reserve(fresh.len())?;
         self.ticked_version = self.newest_version;
         self.table.end_due(now)?;
         self.table

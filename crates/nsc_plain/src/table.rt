@@ -1,5 +1,5 @@
 ghost use Rattle.std.specs.Prelude.{◌≡◌, ◌≤◌, ◌<◌, ◌+◌, ◌^◌, [], length, min, OnOk, IfErr};
-ghost use Rattle.nsc_model.specs.Machine.{Cache, used_now, others_of, compacted, compacted_behind, room_of, last_count};
+ghost use Rattle.nsc_model.specs.Machine.{Cache, used_now, due_of, others_of, compacted, compacted_behind, room_of, last_count};
 ghost use Rattle.nsc_daemonconf.specs.Conf.{db_settings};
 ghost use Rattle.nsc_plain.specs.Shelf.{PassesTo, StopsBy};
 ghost use Rattle.nsc_plain.specs.Stock.{over, put, put_all};
@@ -128,12 +128,11 @@ impl Table {
         Ok(())
     }
 
-    /// The entries whose time is over leave, and then the table is compacted.
+    /// The entries whose time is over leave, and then the table is compacted. Their memory stays.
     pub fn end_due(&mut self, now: u64) -> Result<(), PlainFault>
         ensures turn { OnOk result ((cache : Cache) → PassesTo (compacted (over cache (record self.old { entries = others_of now self.old.entries }))) (over cache self.new)) }
         ensures fault { IfErr result (λ fault. (cache : Cache) → StopsBy (compacted (over cache (record self.old { entries = others_of now self.old.entries }))) (over cache self.new) fault) }
-        ensures capacity { self.new.capacity ≡ self.old.capacity }
-        ensures length { length self.new.entries ≤ length self.old.entries }
+        ensures memory { length self.new.entries + length (due_of now self.old.entries) ≤ self.new.capacity }
     {
         drop_due(&mut self.entries, now);
         self.compact()
