@@ -89,20 +89,23 @@ hit_turns : (o : Option Kept) (settings : DbSettings) (now : ℕ) (files : Files
 hit_turns None settings now files request before after reply h = absurd cc
 hit_turns (Some k) settings now files request before after reply h = let e : k.entry.answer.bytes ≡ reply = cc in (sym h.1, e)
 
-pub hits : (settings : DbSettings) (now : ℕ) (files : Files) (request : Request) (before after : Cache) (reply : List ℕ) → HitsBy (cached settings request before) request before after (Some reply)
-    → TurnsTo (look_up settings now files request before) after reply
+pub hits : (settings : DbSettings) (now : ℕ) (files : Files) (request : Request) (before after : Cache) (hit : Option (List ℕ)) (reply : List ℕ) → hit ≡ Some reply
+    → HitsBy (cached settings request before) request before after hit → TurnsTo (look_up settings now files request before) after reply
 unfolding look_up
-hits settings now files request before after reply h = hit_turns (cached settings request before) settings now files request before after reply h
+hits settings now files request before after hit reply e h =
+    hit_turns (cached settings request before) settings now files request before after reply (subst (λ (o : Option (List ℕ)). HitsBy (cached settings request before) request before after o) e h)
 
 -- a look-up that finds nothing changes nothing
 nothing_hit : (o : Option Kept) (request : Request) (before mid : Cache) → HitsBy o request before mid None → (o ≡ None) × (mid ≡ before)
 nothing_hit None request before mid h = (refl, h.1)
 nothing_hit (Some k) request before mid h = absurd cc
 
-pub misses : (settings : DbSettings) (request : Request) (before mid : Cache) → HitsBy (cached settings request before) request before mid None → (cached settings request before ≡ None) × (mid ≡ before)
-misses settings request before mid h = nothing_hit (cached settings request before) request before mid h
+pub misses : (settings : DbSettings) (request : Request) (before mid : Cache) (hit : Option (List ℕ)) → hit ≡ None → HitsBy (cached settings request before) request before mid hit
+    → (cached settings request before ≡ None) × (mid ≡ before)
+misses settings request before mid hit e h =
+    nothing_hit (cached settings request before) request before mid (subst (λ (o : Option (List ℕ)). HitsBy (cached settings request before) request before mid o) e h)
 
-pub looks_on : (settings : DbSettings) (now : ℕ) (files : Files) (request : Request) (before : Cache) → cached settings request before ≡ None
+looks_on : (settings : DbSettings) (now : ℕ) (files : Files) (request : Request) (before : Cache) → cached settings request before ≡ None
     → look_up settings now files request before ≡ loaded settings now request (polled files before)
 unfolding look_up
 looks_on settings now files request before none = ap (λ (o : Option Kept). hit_or_load o settings now files request before) none

@@ -10,3 +10,6 @@ mod table;
 
 pub use cache::PlainCache;
 pub use fault::PlainFault;
+
+#[cfg(test)]
+mod tests;
