@@ -1,6 +1,7 @@
 ghost use Rattle.std.specs.Prelude.{◌≡◌, ◌≤◌, ◌<◌, ◌^◌, true, length, map, IfOk, IfErr, IfSome, OnOk, OnErr};
 ghost use Rattle.std.specs.Bool.{OnTrue};
 ghost use Rattle.std.specs.Arc.{arc_value};
+ghost use Rattle.std.specs.Option.{option_copied};
 ghost use Rattle.nsc_model.specs.Kinds.{IsBuilt};
 ghost use Rattle.nsc_model.specs.Files.{no_files};
 ghost use Rattle.nsc_model.specs.Fixed.{key_limit};
@@ -14,7 +15,7 @@ ghost use Rattle.nsc_plain.specs.Stock.{anew};
 use crate::answered::{Answered, answer_all};
 use crate::entries::{find_entry, has_due, has_reloaded};
 use crate::fault::PlainFault;
-use crate::held::LAST_COUNT;
+use crate::held::{Held, LAST_COUNT};
 use crate::table::Table;
 use nsc_base::{Bytes, NoMemory};
 use nsc_daemonconf::DbConf;
@@ -139,15 +140,23 @@ impl PlainCache {
         ensures hit { IfOk result (HitsBy (cached self.old.settings (record { kind = kind; key = key.now }) self.old.cache) (record { kind = kind; key = key.now }) self.old.cache self.new.cache) }
         ensures stays { OnErr result (self.new.cache ≡ self.old.cache) }
     {
-        if !self.conf.enabled {
-            return Ok(None);
-        }
-        let Some(held) = find_entry(self.table.entries(), kind, key) else {
+        let Some(held) = self.find(kind, key) else {
             return Ok(None);
         };
         let reply = Bytes::copy(alloc, held.entry().answer().bytes())?;
         self.table.use_entry(kind, key);
         Ok(Some(reply))
+    }
+
+    // The live entry that answers the request, where the database is cached.
+    fn find(&self, kind: Kind, key: &[u8]) -> Option<&Held>
+        ensures { option_copied result ≡ cached self.now.settings (record { kind = kind; key = key.now }) self.now.cache }
+    {
+        if self.conf.enabled {
+            find_entry(self.table.entries(), kind, key)
+        } else {
+            None
+        }
     }
 
     // Makes the files the newest version, or confirms it where they are the same; where they are known to be the newest
@@ -223,14 +232,14 @@ impl PlainCache {
         ensures kept { OnOk result ((kept_answer self.old.settings now (record { kind = kind; key = key.now }) self.old.cache).cache ≡ self.new.cache) }
         ensures stays { OnErr result (self.new.cache ≡ self.old.cache) }
     {
-        if !self.conf.enabled {
+        let conf = self.conf;
+        if !conf.enabled {
             return Ok(());
         }
         let key = Bytes::copy(alloc, key)?;
         self.table.reserve(1)?;
         let fresh = Answered::new(Request { kind, key }, answer, 0);
-        self.table
-            .insert(&self.conf, now, self.newest_version, fresh);
+        self.table.insert(&conf, now, self.newest_version, fresh);
         Ok(())
     }
 

@@ -15,5 +15,5 @@ returns-clause-kept c =
     = cc (c.new-fresh.ensures, c.in_ok-key.ensures, c.requires.answer, sources) in
     let at = subst (λ (s : Stock). put (db_settings c.self.inside.conf) c.args.now c.self.inside.newest_version c.new-fresh.result (over base s) ≡ over base c.insert.new.self) c.in_ok-reserve.ensures.stays (c.insert.ensures.inserted base) in
     rw (← c.self.view_is)
-    (keeps (db_settings c.self.inside.conf) c.args.now record { kind = c.args.kind; key = c.args.key.now } (over base c.self.inside.table) (over base c.insert.new.self) c.if-not-self.false
+    (keeps (db_settings c.self.inside.conf) c.args.now record { kind = c.args.kind; key = c.args.key.now } (over base c.self.inside.table) (over base c.insert.new.self) c.if-not-conf.false
     (subst (λ (f : Fresh). put (db_settings c.self.inside.conf) c.args.now c.self.inside.newest_version f (over base record c.self.inside.table { capacity = c.reserve.new.self.capacity }) ≡ over base c.insert.new.self) fresh at))
