@@ -1,10 +1,11 @@
 -- What a plain cache is: the machine's cache with its settings, and what its calls come to.
-use Rattle.std.specs.Prelude.{◌≡◌, ℕ, List, Option, Result, Ok, Err, ◌⊎◌}
+use Rattle.std.specs.Prelude.{◌≡◌, ℕ, List, Option, Some, None, Result, Ok, Err, ◌⊎◌}
 use Rattle.nsc_plain.specs.declared.fault.PlainFault.{PlainFault}
 use Rattle.nsc_plain.specs.declared.fault.PlainFault.TheVariants.{NoMemory, Spent}
+use Rattle.nsc_model.specs.declared.answer.Request.{Request}
 use Rattle.nsc_model.specs.Files.{Files}
 use Rattle.nsc_model.specs.Settings.{DbSettings}
-use Rattle.nsc_model.specs.Machine.{Cache, Passed, Stopped, Turn, polled}
+use Rattle.nsc_model.specs.Machine.{Kept, Cache, Passed, Stopped, Turn, used_now, polled}
 
 pub record Shelf : Type 0 where
   pub settings : DbSettings
@@ -39,3 +40,13 @@ FaultsBy event files before after (Spent count) = StopsAt event after count
 abbrev pub StopsBy : {A : Type 0} → Result A Stopped → Cache → PlainFault → Type 0
 StopsBy event after NoMemory = ⊥
 StopsBy event after (Spent count) = StopsAt event after count
+
+-- a part of an event gave up: memory was wanting, and nothing changed; or the machine stops there
+abbrev pub GivesUpBy : {A : Type 0} → Result A Stopped → Cache → Cache → PlainFault → Type 0
+GivesUpBy event before after NoMemory = after ≡ before
+GivesUpBy event before after (Spent count) = StopsAt event after count
+
+-- the entry that answers a request, if there is one: its reply is given, and its count of reloads begins anew
+abbrev pub HitsBy : Option Kept → Request → Cache → Cache → Option (List ℕ) → Type 0
+HitsBy None request before after hit = (hit ≡ None) × (after ≡ before)
+HitsBy (Some k) request before after hit = (hit ≡ Some k.entry.answer.bytes) × (after ≡ record before { entries = used_now request before.entries })

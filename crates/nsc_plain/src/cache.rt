@@ -1,28 +1,28 @@
-ghost use Rattle.std.specs.Prelude.{◌≡◌, ◌≤◌, ◌<◌, ◌^◌, true, length, IfOk, IfErr, OnOk};
+ghost use Rattle.std.specs.Prelude.{◌≡◌, ◌≤◌, ◌<◌, ◌^◌, true, length, map, IfOk, IfErr, IfSome, OnOk, OnErr};
 ghost use Rattle.std.specs.Bool.{OnTrue};
 ghost use Rattle.std.specs.Arc.{arc_value};
+ghost use Rattle.std.specs.Option.{option_copied};
 ghost use Rattle.nsc_model.specs.Kinds.{IsBuilt};
 ghost use Rattle.nsc_model.specs.Files.{no_files};
 ghost use Rattle.nsc_model.specs.Fixed.{key_limit};
 ghost use Rattle.nsc_model.specs.Marked.{reply_limit};
-ghost use Rattle.nsc_model.specs.Machine.{new_cache, look_up, tick, invalidated};
+ghost use Rattle.nsc_model.specs.Answers.{answer_of};
+ghost use Rattle.nsc_model.specs.Machine.{new_cache, cached, polled, kept_answer, look_up, due_of, reloaded_of, pruned, ticked, is_outdated, checked, tick, invalidated};
 ghost use Rattle.nsc_daemonconf.specs.Conf.{db_settings};
-ghost use Rattle.nsc_plain.specs.Shelf.{TurnsTo, PassesTo, FaultsBy, StopsBy};
+ghost use Rattle.nsc_plain.specs.Shelf.{TurnsTo, PassesTo, FaultsBy, StopsBy, GivesUpBy, HitsBy};
+ghost use Rattle.nsc_plain.specs.Stock.{anew};
 
+use crate::answered::{Answered, answer_all};
+use crate::entries::{find_entry, has_due, has_reloaded};
 use crate::fault::PlainFault;
+use crate::held::{Held, LAST_COUNT};
+use crate::table::Table;
 use nsc_base::{Bytes, NoMemory};
 use nsc_daemonconf::DbConf;
-use nsc_model::{Answerer, Content, Entry, Kind};
+use nsc_model::{Answer, Answerer, Content, Kind, Request};
 use std::alloc::Global;
 use std::marker::Model;
 use std::sync::Arc;
-
-// A live entry, and how often it was reloaded since it was last used.
-#[derive(Drop)]
-struct Held {
-    entry: Entry,
-    reloads: u64,
-}
 
 /// A cache of one database: its settings, its newest content, and its live entries as a list from the oldest on.
 #[derive(Drop)]
@@ -31,17 +31,13 @@ pub struct PlainCache {
     reloads: Option<u32>,
     content: Arc<Content>,
     newest_version: u64,
-    entries: Vec<Held>,
-    used: u64,
+    table: Table,
     epoch: u64,
-    inserted: u64,
-    cycle: u64,
     ticked_version: u64,
-    add_failed: u64,
 }
 
 impl Model for PlainCache {
-    ghost use Rattle.std.specs.Prelude.{◌≤◌, map};
+    ghost use Rattle.std.specs.Prelude.{◌≤◌};
     ghost use Rattle.std.specs.Arc.{arc_value};
     ghost use Rattle.nsc_model.specs.Machine.{last_count};
     ghost use Rattle.nsc_daemonconf.specs.Conf.{db_settings};
@@ -52,14 +48,11 @@ impl Model for PlainCache {
     ghost view = { λ c. record {
       settings = db_settings c.conf;
       reloads = c.reloads;
-      cache = record { sources = arc_value c.content; newest_version = c.newest_version; entries = map (λ k. record { entry = k.entry; reloads = k.reloads }) c.entries.items; used = c.used; epoch = c.epoch; inserted = c.inserted; cycle = c.cycle; ticked_version = c.ticked_version; add_failed = c.add_failed };
+      cache = record { sources = arc_value c.content; newest_version = c.newest_version; entries = c.table.entries; used = c.table.used; epoch = c.epoch; inserted = c.table.inserted; cycle = c.table.cycle; ticked_version = c.ticked_version; add_failed = c.table.add_failed };
     } };
 
-    ghost invariant = { λ c. c.newest_version ≤ last_count };
+    ghost invariant = { λ c. (c.newest_version ≤ last_count) × (c.epoch ≤ last_count) };
 }
-
-// Where every count ends: 2^62.
-const LAST_COUNT: u64 = 4_611_686_018_427_387_904;
 
 impl PlainCache {
     /// An empty cache with these settings over the content in which every file is absent, at version 0. `reloads` is
@@ -69,7 +62,15 @@ impl PlainCache {
         requires limit { conf.size ≤ 65536 }
         ensures { IfOk result (λ cache. cache ≡ record { settings = db_settings conf; reloads = reloads; cache = new_cache no_files }) }
     {
-        Err(NoMemory)
+        Ok(PlainCache {
+            conf,
+            reloads,
+            content: Arc::new(alloc, Content::none())?,
+            newest_version: 0,
+            table: Table::new(alloc),
+            epoch: 0,
+            ticked_version: 0,
+        })
     }
 
     /// A look-up of this kind and key at this moment, in seconds, over the files as they are now: the machine's. The
@@ -124,7 +125,122 @@ impl PlainCache {
         ensures turn { IfOk result (λ reply. TurnsTo (look_up self.old.settings now (arc_value content.now) (record { kind = kind; key = key.now }) self.old.cache) self.new.cache reply) }
         ensures fault { IfErr result (FaultsBy (look_up self.old.settings now (arc_value content.now) (record { kind = kind; key = key.now }) self.old.cache) (arc_value content.now) self.old.cache self.new.cache) }
     {
-        Err(PlainFault::NoMemory)
+        if let Some(reply) = self.hit(alloc, kind, key)? {
+            return Ok(reply);
+        }
+        self.poll(content, is_newest)?;
+        Ok(self.load(alloc, answers, kind, key, now)?)
+    }
+
+    // The reply of the live entry of the request, whose count of reloads begins anew, if there is one.
+    fn hit(&mut self, alloc: Global, kind: Kind, key: &[u8]) -> Result<Option<Bytes>, NoMemory>
+        ensures settings { self.new.settings ≡ self.old.settings }
+        ensures limit { self.new.reloads ≡ self.old.reloads }
+        ensures bound { IfOk result (λ hit. IfSome hit (λ reply. length reply ≤ reply_limit)) }
+        ensures hit { IfOk result (HitsBy (cached self.old.settings (record { kind = kind; key = key.now }) self.old.cache) (record { kind = kind; key = key.now }) self.old.cache self.new.cache) }
+        ensures stays { OnErr result (self.new.cache ≡ self.old.cache) }
+    {
+        let Some(held) = self.find(kind, key) else {
+            return Ok(None);
+        };
+        let reply = Bytes::copy(alloc, held.entry().answer().bytes())?;
+        self.table.use_entry(kind, key);
+        Ok(Some(reply))
+    }
+
+    // The live entry that answers the request, where the database is cached.
+    fn find(&self, kind: Kind, key: &[u8]) -> Option<&Held>
+        ensures { option_copied result ≡ cached self.now.settings (record { kind = kind; key = key.now }) self.now.cache }
+    {
+        if self.conf.enabled {
+            find_entry(self.table.entries(), kind, key)
+        } else {
+            None
+        }
+    }
+
+    // Makes the files the newest version, or confirms it where they are the same; where they are known to be the newest
+    // content, nothing is compared.
+    fn poll(&mut self, content: &Arc<Content>, is_newest: &mut bool) -> Result<(), PlainFault>
+        requires mark { OnTrue is_newest.old (self.old.cache.sources ≡ arc_value content.now) }
+        ensures settings { self.new.settings ≡ self.old.settings }
+        ensures limit { self.new.reloads ≡ self.old.reloads }
+        ensures newest { OnTrue is_newest.new (self.new.cache.sources ≡ arc_value content.now) }
+        ensures stays { OnTrue is_newest.old (is_newest.new ≡ true) }
+        ensures turn { OnOk result (PassesTo (polled (arc_value content.now) self.old.cache) self.new.cache) }
+        ensures fault { IfErr result (GivesUpBy (polled (arc_value content.now) self.old.cache) self.old.cache self.new.cache) }
+    {
+        if *is_newest {
+            return Ok(());
+        }
+        if content.is_same(&self.content) {
+            *is_newest = true;
+            return Ok(());
+        }
+        if self.newest_version == LAST_COUNT {
+            return Err(PlainFault::Spent { count: LAST_COUNT });
+        }
+        self.content = content.clone()?;
+        self.newest_version += 1;
+        *is_newest = true;
+        Ok(())
+    }
+
+    // The reply over the newest version; where the database is cached, its insertion is tried.
+    fn load<A: Answerer>(
+        &mut self,
+        alloc: Global,
+        answers: &A,
+        kind: Kind,
+        key: &[u8],
+        now: u64,
+    ) -> Result<Bytes, NoMemory>
+        requires built { IsBuilt kind }
+        requires key { length key.now ≤ key_limit }
+        requires moment { now < 2 ^ 62 }
+        ensures settings { self.new.settings ≡ self.old.settings }
+        ensures limit { self.new.reloads ≡ self.old.reloads }
+        ensures sources { self.new.cache.sources ≡ self.old.cache.sources }
+        ensures bound { IfOk result (λ reply. length reply ≤ reply_limit) }
+        ensures kept { OnOk result ((kept_answer self.old.settings now (record { kind = kind; key = key.now }) self.old.cache).cache ≡ self.new.cache) }
+        ensures reply { IfOk result (λ reply. (answer_of self.old.cache.sources (record { kind = kind; key = key.now })).bytes ≡ reply) }
+        ensures stays { OnErr result (self.new.cache ≡ self.old.cache) }
+    {
+        let ready = answers.prepare(alloc, self.content.clone()?)?;
+        let answer = answers.answer(alloc, &ready, kind, key)?;
+        let reply = Bytes::copy(alloc, answer.bytes())?;
+        self.keep(alloc, kind, key, answer, now)?;
+        Ok(reply)
+    }
+
+    // The insertion of an answer is tried, where the database is cached.
+    fn keep(
+        &mut self,
+        alloc: Global,
+        kind: Kind,
+        key: &[u8],
+        answer: Answer,
+        now: u64,
+    ) -> Result<(), NoMemory>
+        requires built { IsBuilt kind }
+        requires key { length key.now ≤ key_limit }
+        requires moment { now < 2 ^ 62 }
+        requires answer { answer ≡ answer_of self.old.cache.sources (record { kind = kind; key = key.now }) }
+        ensures settings { self.new.settings ≡ self.old.settings }
+        ensures limit { self.new.reloads ≡ self.old.reloads }
+        ensures sources { self.new.cache.sources ≡ self.old.cache.sources }
+        ensures kept { OnOk result ((kept_answer self.old.settings now (record { kind = kind; key = key.now }) self.old.cache).cache ≡ self.new.cache) }
+        ensures stays { OnErr result (self.new.cache ≡ self.old.cache) }
+    {
+        let conf = self.conf;
+        if !conf.enabled {
+            return Ok(());
+        }
+        let key = Bytes::copy(alloc, key)?;
+        self.table.reserve(1)?;
+        let fresh = Answered::new(Request { kind, key }, answer, 0);
+        self.table.insert(&conf, now, self.newest_version, fresh);
+        Ok(())
     }
 
     /// A tick at this moment, in seconds, over the files as they are now: the machine's. Where the files changed since
@@ -169,7 +285,73 @@ impl PlainCache {
         ensures turn { OnOk result (PassesTo (tick self.old.settings self.old.reloads now (arc_value content.now) self.old.cache) self.new.cache) }
         ensures fault { IfErr result (FaultsBy (tick self.old.settings self.old.reloads now (arc_value content.now) self.old.cache) (arc_value content.now) self.old.cache self.new.cache) }
     {
-        Err(PlainFault::NoMemory)
+        if !self.conf.enabled {
+            return Ok(());
+        }
+        self.poll(content, is_newest)?;
+        self.check(alloc, answers, now)
+    }
+
+    // Behind the poll of a tick: an invalidation where the files changed since the last one, and else a pruning.
+    fn check<A: Answerer>(&mut self, alloc: Global, answers: &A, now: u64) -> Result<(), PlainFault>
+        requires moment { now < 2 ^ 62 }
+        ensures settings { self.new.settings ≡ self.old.settings }
+        ensures limit { self.new.reloads ≡ self.old.reloads }
+        ensures sources { self.new.cache.sources ≡ self.old.cache.sources }
+        ensures turn { OnOk result (PassesTo (checked self.old.settings self.old.reloads now self.old.cache) self.new.cache) }
+        ensures fault { IfErr result (GivesUpBy (checked self.old.settings self.old.reloads now self.old.cache) self.old.cache self.new.cache) }
+    {
+        if !self.is_outdated() {
+            return self.prune(alloc, answers, now);
+        }
+        self.invalidate()?;
+        self.ticked_version = self.newest_version;
+        Ok(())
+    }
+
+    // Whether the files changed since the last tick, and such a change counts.
+    fn is_outdated(&self) -> bool
+        ensures { result ≡ is_outdated self.now.settings self.now.cache }
+    {
+        self.conf.check_files && self.newest_version != self.ticked_version
+    }
+
+    // The entries whose time is over end, and those of them that are not dropped are loaded anew.
+    fn prune<A: Answerer>(&mut self, alloc: Global, answers: &A, now: u64) -> Result<(), PlainFault>
+        requires moment { now < 2 ^ 62 }
+        ensures settings { self.new.settings ≡ self.old.settings }
+        ensures limit { self.new.reloads ≡ self.old.reloads }
+        ensures sources { self.new.cache.sources ≡ self.old.cache.sources }
+        ensures turn { OnOk result (PassesTo (pruned self.old.settings self.old.reloads now (ticked self.old.cache)) self.new.cache) }
+        ensures fault { IfErr result (GivesUpBy (pruned self.old.settings self.old.reloads now (ticked self.old.cache)) self.old.cache self.new.cache) }
+    {
+        if !has_due(self.table.entries(), now) {
+            self.ticked_version = self.newest_version;
+            return Ok(());
+        }
+        let fresh = self.answer_due(alloc, answers, now)?;
+        self.ticked_version = self.newest_version;
+        self.table.end_due(now)?;
+        self.table
+            .insert_all(&self.conf, now, self.newest_version, fresh);
+        Ok(())
+    }
+
+    // What is to be inserted for the entries that are reloaded; where there is none, nothing is made ready.
+    fn answer_due<A: Answerer>(
+        &self,
+        alloc: Global,
+        answers: &A,
+        now: u64,
+    ) -> Result<Vec<Answered>, NoMemory>
+        ensures { IfOk result (λ fresh. fresh.items ≡ map (anew self.now.cache.sources) (reloaded_of self.now.reloads (due_of now self.now.cache.entries))) }
+    {
+        let entries = self.table.entries();
+        if !has_reloaded(entries, self.reloads, now) {
+            return Ok(Vec::new(alloc));
+        }
+        let ready = answers.prepare(alloc, self.content.clone()?)?;
+        answer_all(alloc, answers, &ready, entries, self.reloads, now)
     }
 
     /// An invalidation: every live entry ends. It takes no memory. At `Spent` the cache is as the machine leaves it
@@ -181,6 +363,10 @@ impl PlainCache {
         ensures turn { OnOk result (PassesTo (invalidated self.old.cache) self.new.cache) }
         ensures fault { IfErr result (StopsBy (invalidated self.old.cache) self.new.cache) }
     {
-        Err(PlainFault::NoMemory)
+        if self.epoch == LAST_COUNT {
+            return Err(PlainFault::Spent { count: LAST_COUNT });
+        }
+        self.epoch += 1;
+        self.table.end_all()
     }
 }

@@ -1,9 +1,15 @@
 //! A cache of one database as a list of entries: the machine of the model, call by call.
 #![tactic(auto)]
 
+mod answered;
 mod cache;
+mod entries;
 mod fault;
+mod held;
+mod table;
 
 pub use cache::PlainCache;
 pub use fault::PlainFault;
 
+#[cfg(test)]
+mod tests;

@@ -63,10 +63,10 @@ const ASK_7: &[u8] = b"Q\x1e\0\0\0\x02\0\0\0\0\0\0\0\x12\0\0\0absent-user-name7\
 const ASK_LETTERS: &[u8] = b"Q\x26\0\0\0\x02\0\0\0\0\0\0\0\x1a\0\0\0aaaaaaaaaaaaaaaaaaaaaaaaa\0";
 
 const FILE_LETTERS: &[u8] =
-    b"F\x01\x01\x40\0\0\0aaaaaaaaaaaaaaaaaaaaaaaaa:x:1:2:::\nabsent-user-name7:x:3:4::/:/bin\n";
+    b"F\x01\x01\x43\0\0\0aaaaaaaaaaaaaaaaaaaaaaaaa:x:1:2:::\nabsent-user-name7:x:3:4::/:/bin\n";
 
 const LETTERS: &[u8] =
-    b"\x42\0\0\0\x02\0\0\0\x01\0\0\0\x1a\0\0\0\x02\0\0\0\x01\0\0\0\x02\0\0\0\x01\0\0\0\x01\0\0\0\x01\0\0\0aaaaaaaaaaaaaaaaaaaaaaaaa\0x\0\0\0\0";
+    b"\x43\0\0\0\x02\0\0\0\x01\0\0\0\x1a\0\0\0\x02\0\0\0\x01\0\0\0\x02\0\0\0\x01\0\0\0\x01\0\0\0\x01\0\0\0aaaaaaaaaaaaaaaaaaaaaaaaa\0x\0\0\0\0";
 
 const CLEAR_USERS: &[u8] = b"I\0";
 

@@ -1,0 +1,17 @@
+use Rattle.std.proofs.Common.{◌≤◌, length, List, sym, subst, arith}
+use Rattle.nsc_model.specs.Machine.{Kept, all_words}
+use Rattle.nsc_plain.proofs.Ends.{others_words, all_length}
+use Rattle.nsc_plain.proofs.table.Table.end_due.Goals as goal
+
+pub invariant_of-self : goal.invariant_of-self
+invariant_of-self c =
+    let words = others_words c.args.now c.self.inside.entries.items in
+    (subst (λ (ks : List Kept). all_words ks ≤ c.self.inside.used) (sym c.drop_due.ensures.items) (omega arith), c.self.invariant.1)
+
+pub returns-clause-fault : goal.returns-clause-fault
+returns-clause-fault c = rw (← c.self.view_is, ← c.drop_due.ensures.items) c.compact.ensures.fault
+
+pub returns-clause-memory : goal.returns-clause-memory
+returns-clause-memory c =
+    let both = all_length c.args.now c.self.inside.entries.items in
+    rw (c.compact.ensures.entries, ← c.self.view_is, c.drop_due.ensures.items, c.compact.ensures.capacity, c.drop_due.ensures.capacity) (omega arith)

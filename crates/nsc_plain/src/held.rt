@@ -1,0 +1,116 @@
+ghost use Rattle.std.specs.Prelude.{◌≡◌};
+ghost use Rattle.nsc_model.specs.Kinds.{IsBuilt, is_request};
+ghost use Rattle.nsc_model.specs.Machine.{entry_words, is_due, is_dropped, reached, next_reloads, used_by};
+ghost use Rattle.nsc_plain.specs.Stock.{is_reloaded};
+
+use nsc_model::{Entry, Kind};
+use nsc_words::node_words;
+use std::marker::Model;
+
+/// Where every count ends: 2^62.
+pub const LAST_COUNT: u64 = 4_611_686_018_427_387_904;
+
+/// A live entry, and how often it was reloaded since it was last used.
+#[derive(Drop)]
+pub struct Held {
+    entry: Entry,
+    reloads: u64,
+}
+
+impl Model for Held {
+    ghost use Rattle.nsc_model.specs.Kinds.{IsBuilt};
+    ghost use Rattle.nsc_model.specs.Machine.{Kept};
+
+    ghost Value = { Kept };
+
+    ghost view = { λ h. record { entry = h.entry; reloads = h.reloads } };
+
+    ghost invariant = { λ h. IsBuilt h.entry.request.kind };
+}
+
+impl Held {
+    /// The entry, reloaded so often.
+    pub fn new(entry: Entry, reloads: u64) -> Held
+        requires { IsBuilt entry.request.kind }
+        ensures { result ≡ record { entry = entry; reloads = reloads } }
+    {
+        Held { entry, reloads }
+    }
+
+    /// The entry, whose kind is built.
+    pub fn entry(&self) -> &Entry
+        ensures value { result.now ≡ self.now.entry }
+        ensures built { IsBuilt result.now.request.kind }
+    {
+        &self.entry
+    }
+
+    /// Whether it answers the request of this kind and key.
+    pub fn answers(&self, kind: Kind, key: &[u8]) -> bool
+        ensures { result ≡ is_request (record { kind = kind; key = key.now }) self.now.entry.request }
+    {
+        let request = self.entry.request();
+        kind.number() == request.kind.number() && key == request.key.as_slice()
+    }
+
+    /// Its use by the request of this kind and key: the count of reloads begins anew where it answers it.
+    pub fn use_by(&mut self, kind: Kind, key: &[u8])
+        ensures { self.new ≡ used_by (record { kind = kind; key = key.now }) self.old }
+    {
+        if self.answers(kind, key) {
+            self.reloads = 0;
+        }
+    }
+
+    /// How many words it takes: at most 8,328.
+    pub fn words(&self) -> usize
+        ensures { result ≡ entry_words self.now.entry }
+    {
+        node_words(
+            self.entry.request().key.len(),
+            self.entry.answer().bytes().len(),
+        )
+    }
+
+    /// Whether its time is over.
+    pub fn is_due(&self, now: u64) -> bool
+        ensures { result ≡ is_due now self.now }
+    {
+        self.entry.timeout() < now
+    }
+
+    /// Whether it is dropped once its time is over, and not reloaded.
+    pub fn is_dropped(&self, limit: Option<u32>) -> bool
+        ensures { result ≡ is_dropped limit self.now }
+    {
+        self.entry.answer().is_not_found() || self.has_reached(limit)
+    }
+
+    /// Whether its time is over and it is reloaded.
+    pub fn is_reloaded(&self, limit: Option<u32>, now: u64) -> bool
+        ensures { result ≡ is_reloaded limit now self.now }
+    {
+        self.is_due(now) && !self.is_dropped(limit)
+    }
+
+    // Whether it was reloaded so often without a use.
+    fn has_reached(&self, limit: Option<u32>) -> bool
+        ensures { result ≡ reached limit self.now.reloads }
+    {
+        match limit {
+            Some(limit) => u64::from(limit) <= self.reloads,
+            None => false,
+        }
+    }
+
+    /// The count of one more reload; it stays at its end.
+    pub fn next_reloads(&self) -> u64
+        ensures { result ≡ next_reloads self.now.reloads }
+    {
+        if self.reloads < LAST_COUNT {
+            self.reloads + 1
+        } else {
+            LAST_COUNT
+        }
+    }
+}

@@ -1,0 +1,170 @@
+ghost use Rattle.std.specs.Prelude.{◌≡◌, ◌≤◌, ◌<◌, ◌+◌, ◌^◌, [], length, min, OnOk, IfErr};
+ghost use Rattle.nsc_model.specs.Machine.{Cache, used_now, due_of, others_of, compacted, compacted_behind, room_of, last_count};
+ghost use Rattle.nsc_daemonconf.specs.Conf.{db_settings};
+ghost use Rattle.nsc_plain.specs.Shelf.{PassesTo, StopsBy};
+ghost use Rattle.nsc_plain.specs.Stock.{over, put, put_all};
+
+use crate::answered::Answered;
+use crate::entries::{drop_due, use_entry, words_of};
+use crate::fault::PlainFault;
+use crate::held::{Held, LAST_COUNT};
+use nsc_base::NoMemory;
+use nsc_daemonconf::DbConf;
+use nsc_model::Kind;
+use std::alloc::Global;
+use std::marker::Model;
+
+/// The live entries of a cache from the oldest on, with their counts; it knows of no content.
+#[derive(Drop)]
+pub struct Table {
+    entries: Vec<Held>,
+    used: usize,
+    inserted: u64,
+    cycle: u64,
+    add_failed: u64,
+}
+
+impl Model for Table {
+    ghost use Rattle.std.specs.Prelude.{◌≤◌};
+    ghost use Rattle.std.specs.Vec.{vec_capacity};
+    ghost use Rattle.nsc_model.specs.Machine.{all_words, last_count};
+    ghost use Rattle.nsc_plain.specs.Stock.{Stock};
+
+    ghost Value = { Stock };
+
+    ghost view = { λ t. record { entries = t.entries.items; used = t.used; inserted = t.inserted; cycle = t.cycle; add_failed = t.add_failed; capacity = vec_capacity t.entries } };
+
+    ghost invariant = { λ t. (all_words t.entries.items ≤ t.used) × (t.inserted ≤ last_count) };
+}
+
+// The longest reply that is kept.
+const KEPT_LIMIT: usize = 65_536;
+
+impl Table {
+    /// No entry, and no memory for one.
+    pub fn new(alloc: Global) -> Table
+        ensures { result ≡ record { entries = []; used = 0; inserted = 0; cycle = 0; add_failed = 0; capacity = 0 } }
+    {
+        Table {
+            entries: Vec::new(alloc),
+            used: 0,
+            inserted: 0,
+            cycle: 0,
+            add_failed: 0,
+        }
+    }
+
+    /// The entries.
+    pub fn entries(&self) -> &[Held]
+        ensures { result.now ≡ self.now.entries }
+    {
+        self.entries.as_slice()
+    }
+
+    /// The count of reloads of the entry that answers the request of this kind and key begins anew.
+    pub fn use_entry(&mut self, kind: Kind, key: &[u8])
+        ensures { self.new ≡ record self.old { entries = used_now (record { kind = kind; key = key.now }) self.old.entries } }
+    {
+        use_entry(&mut self.entries, kind, key);
+    }
+
+    /// Takes the memory for so many more entries.
+    pub fn reserve(&mut self, more: usize) -> Result<(), NoMemory>
+        ensures stays { self.new ≡ record self.old { capacity = self.new.capacity } }
+        ensures room { OnOk result (length self.new.entries + more ≤ self.new.capacity) }
+    {
+        self.entries.reserve(more)?;
+        Ok(())
+    }
+
+    /// An insertion is tried, with memory that was taken before.
+    pub fn insert(&mut self, conf: &DbConf, now: u64, version: u64, fresh: Answered)
+        requires moment { now < 2 ^ 62 }
+        requires memory { length self.old.entries < self.old.capacity }
+        ensures inserted { (cache : Cache) → put (db_settings conf.now) now version fresh (over cache self.old) ≡ over cache self.new }
+        ensures capacity { self.old.capacity ≤ self.new.capacity }
+        ensures length { length self.new.entries ≤ length self.old.entries + 1 }
+    {
+        if fresh.reply_len() > KEPT_LIMIT || self.inserted == LAST_COUNT {
+            return;
+        }
+        let words = fresh.words();
+        if room_of(conf).saturating_sub(self.used) < words {
+            self.add_failed = next_count(self.add_failed);
+            return;
+        }
+        let held = fresh.into_held(conf, now, version, self.inserted);
+        match self.entries.push(held) {
+            Ok(()) => {}
+            Err(_) => unreachable!(),
+        }
+        self.used += words;
+        self.inserted += 1;
+    }
+
+    /// Insertions are tried, one after the other, with memory that was taken before.
+    pub fn insert_all(&mut self, conf: &DbConf, now: u64, version: u64, fresh: Vec<Answered>)
+        requires moment { now < 2 ^ 62 }
+        requires memory { length self.old.entries + length fresh.items ≤ self.old.capacity }
+        ensures { (cache : Cache) → put_all (db_settings conf.now) now version fresh.items (over cache self.old) ≡ over cache self.new }
+    {
+        for one in fresh {
+            self.insert(conf, now, version, one);
+        }
+    }
+
+    // A compaction: the words of ended entries are free again.
+    fn compact(&mut self) -> Result<(), PlainFault>
+        ensures turn { OnOk result ((cache : Cache) → PassesTo (compacted (over cache self.old)) (over cache self.new)) }
+        ensures fault { IfErr result (λ fault. (cache : Cache) → StopsBy (compacted (over cache self.old)) (over cache self.new) fault) }
+        ensures entries { self.new.entries ≡ self.old.entries }
+        ensures capacity { self.new.capacity ≡ self.old.capacity }
+    {
+        if self.cycle >= LAST_COUNT {
+            return Err(PlainFault::Spent { count: LAST_COUNT });
+        }
+        self.cycle += 2;
+        self.used = words_of(&self.entries);
+        Ok(())
+    }
+
+    /// The entries whose time is over leave, and then the table is compacted. Their memory stays.
+    pub fn end_due(&mut self, now: u64) -> Result<(), PlainFault>
+        ensures turn { OnOk result ((cache : Cache) → PassesTo (compacted (over cache (record self.old { entries = others_of now self.old.entries }))) (over cache self.new)) }
+        ensures fault { IfErr result (λ fault. (cache : Cache) → StopsBy (compacted (over cache (record self.old { entries = others_of now self.old.entries }))) (over cache self.new) fault) }
+        ensures memory { length self.new.entries + length (due_of now self.old.entries) ≤ self.new.capacity }
+    {
+        drop_due(&mut self.entries, now);
+        self.compact()
+    }
+
+    /// Every entry leaves, and where there was any, the table is compacted.
+    pub fn end_all(&mut self) -> Result<(), PlainFault>
+        ensures turn { OnOk result ((cache : Cache) → PassesTo (compacted_behind self.old.entries (over cache (record self.old { entries = [] }))) (over cache self.new)) }
+        ensures fault { IfErr result (λ fault. (cache : Cache) → StopsBy (compacted_behind self.old.entries (over cache (record self.old { entries = [] }))) (over cache self.new) fault) }
+    {
+        if self.entries.is_empty() {
+            return Ok(());
+        }
+        self.entries.clear();
+        self.compact()
+    }
+}
+
+// The room of a cache in words.
+fn room_of(conf: &DbConf) -> usize
+    ensures { result ≡ room_of (db_settings conf.now) }
+{
+    conf.size as usize * 128
+}
+
+// The next count, that stays at its end.
+fn next_count(count: u64) -> u64
+    ensures { result ≡ min (count + 1) last_count }
+{
+    if count < LAST_COUNT {
+        count + 1
+    } else {
+        LAST_COUNT
+    }
+}
