@@ -1,7 +1,7 @@
 -- What a line has behind its name and its colon: the remark may be cut off at the end as well as first.
-use Rattle.std.proofs.Common.{◌≡◌, ◌≢◌, ℕ, ◌+◌, ◌<◌, Bool, true, false, not, ◌||◌, if◌then◌else◌, ◌==◌, List, [], ◌∷◌, ◌++◌, length, take, drop, get_or, Option, Some, None, MatchOption, Bor, refl, sym, ◌∙◌, ap, subst, arith}
+use Rattle.std.proofs.Common.{◌≡◌, ◌≢◌, ℕ, ◌+◌, Bool, true, false, not, ◌||◌, if◌then◌else◌, ◌==◌, List, [], ◌∷◌, ◌++◌, length, take, drop, get_or, Option, Some, None, MatchOption, Bor, refl, sym, ◌∙◌, ap, arith}
 use Rattle.std.specs.Cmp.Lexicographic.{pointwise}
-use Rattle.std.specs.List.{cons_option, filter_map, list_any, prefix_len}
+use Rattle.std.specs.List.{list_any, prefix_len}
 use Rattle.std.specs.Option.{option_copied, option_map}
 use Rattle.std.proofs.lemmas.Bool.{eqb-true}
 use Rattle.std.proofs.lemmas.Bool.Decides.{Decides-eqb, nat_tests}
@@ -9,10 +9,9 @@ use Rattle.std.proofs.lemmas.List.{take_all}
 use Rattle.std.proofs.lemmas.List.Sums.{prefix_len_is, take_while-cons}
 use Rattle.std.proofs.lemmas.Slice.Eq.{strip_prefix_is}
 use Rattle.memchr.specs.Find.{IsFirstByte, is_byte}
-use Rattle.nsc_base.specs.declared.span.Line.{Line}
-use Rattle.nsc_base.specs.Text.{IsLine, is_white, lines_of, part}
+use Rattle.nsc_base.specs.Text.{is_white}
 use Rattle.nsc_model.specs.Users.{◌>>=◌, trimmed}
-use Rattle.nsc_model.specs.Switches.{ListName, Users, Groups, Hosts, Services, UsersCompat, GroupsCompat, before_remark, behind_colon, behind_text, first_line, first_of, name_text, own_part}
+use Rattle.nsc_model.specs.Switches.{ListName, Users, Groups, Hosts, Services, UsersCompat, GroupsCompat, before_remark, behind_colon, behind_text, name_text, own_part}
 
 -- ---- remarks
 
@@ -173,17 +172,3 @@ part_is name line bytes text behind more r is word strips goes ends =
     own_part-remark name line
     ∙ ap (λ o. option_map before_remark (o >>= λ rest. behind_colon (trimmed rest))) (named name line bytes text (Some behind) is word strips)
     ∙ ap (option_map before_remark) (ap behind_colon (sym goes) ∙ sym (colon more) ∙ stripped more (58 ∷ []) r ends)
-
--- ---- the lines of a text
-
--- behind a line that is not of this list the first one is the same
-pub next_line : (name : ListName) (text : List ℕ) (from : ℕ) (line : Line) (answer : Option (List ℕ)) → IsLine text from line → None ≡ own_part name (part text line.span) → first_line name (drop from text) ≡ answer → first_line name (drop line.next text) ≡ answer
-next_line name text from line answer is none left =
-    ap (λ o. first_of (cons_option o (filter_map (own_part name) (lines_of (drop line.next text))))) none
-    ∙ sym (ap (λ (lines : List (List ℕ)). first_of (filter_map (own_part name) lines)) is.cut) ∙ left
-
--- a line of this list gives the first part
-pub own_line : (name : ListName) (text : List ℕ) (from : ℕ) (line : Line) (found : List ℕ) (answer : Option (List ℕ)) → IsLine text from line → Some found ≡ own_part name (part text line.span) → first_line name (drop from text) ≡ answer → Some found ≡ answer
-own_line name text from line found answer is some left =
-    ap (λ o. first_of (cons_option o (filter_map (own_part name) (lines_of (drop line.next text))))) some
-    ∙ sym (ap (λ (lines : List (List ℕ)). first_of (filter_map (own_part name) lines)) is.cut) ∙ left

@@ -1,5 +1,5 @@
 -- The reading of a list, token by token: the steps that are done stand before what the rest comes to.
-use Rattle.std.proofs.Common.{◌≡◌, ◌≢◌, ℕ, List, [], ◌∷◌, ◌++◌, map, Option, Some, None, refl, sym, ◌∙◌, ap, append_assoc}
+use Rattle.std.proofs.Common.{◌≡◌, ℕ, List, [], ◌∷◌, ◌++◌, Option, Some, None, refl, sym, ◌∙◌, ap, append_assoc}
 use Rattle.std.specs.Option.{option_map}
 use Rattle.nsc_model.specs.Services.{SwitchStep}
 use Rattle.nsc_model.specs.Switches as switches

@@ -1,7 +1,6 @@
 -- How a text falls into tokens: a mark by itself, and a word up to the next mark.
-use Rattle.std.proofs.Common.{◌≡◌, ℕ, zero, suc, ◌+◌, ◌<◌, ◌==◌, Bool, true, false, if◌then◌else◌, List, [], ◌∷◌, length, take, drop, Option, Some, None, refl, sym, ◌∙◌, ap, arith}
+use Rattle.std.proofs.Common.{◌≡◌, ℕ, suc, ◌<◌, ◌==◌, Bool, true, false, if◌then◌else◌, List, [], ◌∷◌, take, drop, Some, None, refl, sym, ◌∙◌, ap, arith}
 use Rattle.std.specs.List.{prefix_len}
-use Rattle.std.specs.Option.{is_none}
 use Rattle.nsc_base.specs.Text.{is_white}
 use Rattle.nsc_model.specs.Switches.{Token, Word, Open, Close, Not, Equals, Gap, mark_of, onto_word, put_token, tokens_of}
 use Rattle.nsc_switchconf.specs.Tokens.{in_word}

@@ -4,9 +4,9 @@ use Rattle.nsc_model.specs.Services.{SwitchStep, plain_step}
 use Rattle.nsc_model.specs.Switches as switches
 use Rattle.nsc_model.specs.Switches.{Rest, onto_steps, ruled}
 use Rattle.nsc_switchconf.specs.Steps.{action_of, service_of}
-use Rattle.nsc_switchconf.specs.declared.place.Status.{Status}
-use Rattle.nsc_switchconf.specs.declared.place.Status.TheVariants as statuses
-use Rattle.nsc_switchconf.specs.declared.place.Rule.{Rule}
+use Rattle.nsc_switchconf.specs.declared.rule.Status.{Status}
+use Rattle.nsc_switchconf.specs.declared.rule.Status.TheVariants as statuses
+use Rattle.nsc_switchconf.specs.declared.rule.Rule.{Rule}
 use Rattle.nsc_switchconf.specs.declared.place.Place.{Place}
 use Rattle.nsc_switchconf.specs.declared.place.Place.TheVariants as places
 use Rattle.nsc_switchconf.specs.declared.place.Move.{Move}

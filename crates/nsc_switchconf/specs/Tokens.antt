@@ -1,5 +1,5 @@
 -- The tokens of a service list, as the tokens of its text.
-use Rattle.std.specs.Prelude.{ℕ, Bool, List}
+use Rattle.std.specs.Prelude.{ℕ, Bool}
 use Rattle.std.specs.Option.{is_none}
 use Rattle.nsc_model.specs.Switches as switches
 use Rattle.nsc_switchconf.specs.declared.token.Token.{Token}

@@ -5,9 +5,12 @@ mod line;
 mod list;
 mod names;
 mod place;
+mod rule;
 mod step;
 mod token;
 
 pub use list::service_list;
 pub use step::{Action, DbName, Service, Step};
 
+#[cfg(test)]
+mod tests;

@@ -4,7 +4,7 @@ ghost use Rattle.nsc_model.specs.Switches.{default_list, list_of, spelled_list};
 ghost use Rattle.nsc_switchconf.specs.Steps.{name_of, steps_of};
 
 use crate::line::first_part;
-use crate::place::{Move, Place, move_at, plain, with_rule};
+use crate::place::{Move, Place, move_at};
 use crate::step::{DbName, Service, Step};
 use crate::token::next_token;
 use nsc_base::NoMemory;
@@ -32,8 +32,8 @@ fn default_step(name: DbName) -> Step
     ensures { steps_of (result ∷ []) ≡ default_list (name_of name) }
 {
     match name {
-        DbName::PasswdCompat | DbName::GroupCompat => plain(Service::Other),
-        _ => plain(Service::Files),
+        DbName::PasswdCompat | DbName::GroupCompat => Step::plain(Service::Other),
+        _ => Step::plain(Service::Files),
     }
 }
 
@@ -44,7 +44,7 @@ fn spelled(alloc: Global, text: &[u8]) -> Result<Option<Vec<Step>>, NoMemory>
 {
     let mut list = Vec::new(alloc);
     let mut place = Place::First;
-    let mut step = plain(Service::Other);
+    let mut step = Step::plain(Service::Other);
     let mut left = text;
     while let Some((token, rest)) = next_token(left) {
         match move_at(place, token) {
@@ -52,16 +52,16 @@ fn spelled(alloc: Global, text: &[u8]) -> Result<Option<Vec<Step>>, NoMemory>
             Some(Move::To(to)) => place = to,
             Some(Move::First(service)) => {
                 place = Place::Between;
-                step = plain(service);
+                step = Step::plain(service);
             }
             Some(Move::Another(service)) => {
                 list.push(step)?;
                 place = Place::Between;
-                step = plain(service);
+                step = Step::plain(service);
             }
             Some(Move::Rule(rule)) => {
                 place = Place::Ruled;
-                step = with_rule(step, rule);
+                step = rule.applied_to(step);
             }
         }
         left = rest;

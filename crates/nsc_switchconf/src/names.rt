@@ -4,7 +4,7 @@ ghost use Rattle.nsc_model.specs.Switches.{action_named, service_named, status_n
 ghost use Rattle.nsc_switchconf.specs.Steps.{action_of, service_of};
 ghost use Rattle.nsc_switchconf.specs.Places.{status_of};
 
-use crate::place::Status;
+use crate::rule::Status;
 use crate::step::{Action, Service};
 use nsc_base::equal;
 

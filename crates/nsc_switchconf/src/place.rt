@@ -1,41 +1,16 @@
 ghost use Rattle.std.specs.Prelude.{◌≡◌};
-ghost use Rattle.nsc_model.specs.Switches as switches;
 ghost use Rattle.nsc_model.specs.Switches.{Rest, at_begin, at_between, at_equated, at_first, at_named, at_negated, at_next, at_place, at_ruled};
-ghost use Rattle.nsc_model.specs.Services.{SwitchStep, plain_step};
-ghost use Rattle.nsc_switchconf.specs.Places.{moved, place_of, rule_of, status_of};
-ghost use Rattle.nsc_switchconf.specs.Steps.{service_of, step_of};
+ghost use Rattle.nsc_model.specs.Services.{SwitchStep};
+ghost use Rattle.nsc_switchconf.specs.Places.{moved, place_of, status_of};
 ghost use Rattle.nsc_switchconf.specs.Tokens.{token_of};
 
 use crate::names;
-use crate::step::{Action, Service, Step};
+use crate::rule::{Rule, Status};
+use crate::step::Service;
 use crate::token::Token;
 
-/// What a service may answer.
-#[derive(Clone, Copy, Debug, PartialEq, Eq)]
-pub enum Status {
-    /// It found an entry.
-    Success,
-    /// It has no such entry.
-    NotFound,
-    /// It cannot be asked.
-    Unavail,
-    /// It may answer later.
-    TryAgain,
-}
-
-/// A rule in brackets: an action at a status, or at every other one.
-#[derive(Clone, Copy, Debug, PartialEq, Eq)]
-pub struct Rule {
-    /// Whether a `!` stands before the status.
-    pub negated: bool,
-    /// The status.
-    pub status: Status,
-    /// The action.
-    pub action: Action,
-}
-
 /// Where the reading of a list stands.
-#[derive(Clone, Copy, Debug, PartialEq, Eq)]
+#[derive(Clone, Copy, Debug)]
 pub enum Place {
     /// Before the first service.
     First,
@@ -45,10 +20,20 @@ pub enum Place {
     Begin,
     /// Behind a `!`.
     Negated,
-    /// Behind a status, with or without a `!`.
-    Named(bool, Status),
+    /// Behind a status.
+    Named {
+        /// Whether a `!` stands before it.
+        negated: bool,
+        /// The status.
+        status: Status,
+    },
     /// Behind the `=` of a status.
-    Equated(bool, Status),
+    Equated {
+        /// Whether a `!` stands before it.
+        negated: bool,
+        /// The status.
+        status: Status,
+    },
     /// Behind a rule.
     Ruled,
     /// Behind a rule and white space.
@@ -56,7 +41,7 @@ pub enum Place {
 }
 
 /// What a token does.
-#[derive(Clone, Copy, Debug, PartialEq, Eq)]
+#[derive(Clone, Copy, Debug)]
 pub enum Move {
     /// The reading goes on at this place.
     To(Place),
@@ -77,13 +62,14 @@ pub fn move_at(place: Place, token: Token<'_>) -> Option<Move>
         Place::Between => between(token),
         Place::Begin => begin(token),
         Place::Negated => negated(token),
-        Place::Named(negated, status) => named(negated, status, token),
-        Place::Equated(negated, status) => equated(negated, status, token),
+        Place::Named { negated, status } => named(negated, status, token),
+        Place::Equated { negated, status } => equated(negated, status, token),
         Place::Ruled => ruled(token),
         Place::Next => next(token),
     }
 }
 
+// A list begins with a service.
 fn first(token: Token<'_>) -> Option<Move>
     ensures { (step : SwitchStep) (rest : Rest) → at_first (token_of token.entry) step rest ≡ moved step rest result }
 {
@@ -94,6 +80,7 @@ fn first(token: Token<'_>) -> Option<Move>
     }
 }
 
+// Behind an item: a service, or rules on the one before.
 fn between(token: Token<'_>) -> Option<Move>
     ensures { (step : SwitchStep) (rest : Rest) → at_between (token_of token.entry) step rest ≡ moved step rest result }
 {
@@ -105,36 +92,46 @@ fn between(token: Token<'_>) -> Option<Move>
     }
 }
 
+// In brackets, before the first rule.
 fn begin(token: Token<'_>) -> Option<Move>
     ensures { (step : SwitchStep) (rest : Rest) → at_begin (token_of token.entry) step rest ≡ moved step rest result }
 {
     match token {
-        Token::Word(word) => Some(Move::To(Place::Named(false, names::status(word)?))),
+        Token::Word(word) => Some(Move::To(Place::Named {
+            negated: false,
+            status: names::status(word)?,
+        })),
         Token::Not => Some(Move::To(Place::Negated)),
         Token::Gap => Some(Move::To(Place::Begin)),
         _ => None,
     }
 }
 
+// Behind a `!`, where no white space may stand.
 fn negated(token: Token<'_>) -> Option<Move>
     ensures { (step : SwitchStep) (rest : Rest) → at_negated (token_of token.entry) step rest ≡ moved step rest result }
 {
     match token {
-        Token::Word(word) => Some(Move::To(Place::Named(true, names::status(word)?))),
+        Token::Word(word) => Some(Move::To(Place::Named {
+            negated: true,
+            status: names::status(word)?,
+        })),
         _ => None,
     }
 }
 
+// Behind a status.
 fn named(negated: bool, status: Status, token: Token<'_>) -> Option<Move>
     ensures { (step : SwitchStep) (rest : Rest) → at_named negated (status_of status) (token_of token.entry) step rest ≡ moved step rest result }
 {
     match token {
-        Token::Equals => Some(Move::To(Place::Equated(negated, status))),
-        Token::Gap => Some(Move::To(Place::Named(negated, status))),
+        Token::Equals => Some(Move::To(Place::Equated { negated, status })),
+        Token::Gap => Some(Move::To(Place::Named { negated, status })),
         _ => None,
     }
 }
 
+// Behind the `=` of a status.
 fn equated(negated: bool, status: Status, token: Token<'_>) -> Option<Move>
     ensures { (step : SwitchStep) (rest : Rest) → at_equated negated (status_of status) (token_of token.entry) step rest ≡ moved step rest result }
 {
@@ -144,11 +141,12 @@ fn equated(negated: bool, status: Status, token: Token<'_>) -> Option<Move>
             status,
             action: names::action(word)?,
         })),
-        Token::Gap => Some(Move::To(Place::Equated(negated, status))),
+        Token::Gap => Some(Move::To(Place::Equated { negated, status })),
         _ => None,
     }
 }
 
+// Behind a rule.
 fn ruled(token: Token<'_>) -> Option<Move>
     ensures { (step : SwitchStep) (rest : Rest) → at_ruled (token_of token.entry) step rest ≡ moved step rest result }
 {
@@ -159,47 +157,18 @@ fn ruled(token: Token<'_>) -> Option<Move>
     }
 }
 
+// Behind a rule and white space.
 fn next(token: Token<'_>) -> Option<Move>
     ensures { (step : SwitchStep) (rest : Rest) → at_next (token_of token.entry) step rest ≡ moved step rest result }
 {
     match token {
-        Token::Word(word) => Some(Move::To(Place::Named(false, names::status(word)?))),
+        Token::Word(word) => Some(Move::To(Place::Named {
+            negated: false,
+            status: names::status(word)?,
+        })),
         Token::Not => Some(Move::To(Place::Negated)),
         Token::Gap => Some(Move::To(Place::Next)),
         Token::Close => Some(Move::To(Place::Between)),
         _ => None,
-    }
-}
-
-/// A service with no rules.
-pub fn plain(service: Service) -> Step
-    ensures { step_of result ≡ plain_step (service_of service) }
-{
-    Step {
-        service,
-        success: Action::Return,
-        notfound: Action::Continue,
-        unavail: Action::Continue,
-        tryagain: Action::Continue,
-    }
-}
-
-/// A step with a rule more: the rule replaces what was said of its statuses before.
-pub fn with_rule(step: Step, rule: Rule) -> Step
-    ensures { step_of result ≡ switches.ruled (rule_of rule) (step_of step) }
-{
-    let at = |status| {
-        if (status == rule.status) != rule.negated {
-            Some(rule.action)
-        } else {
-            None
-        }
-    };
-    Step {
-        service: step.service,
-        success: at(Status::Success).unwrap_or(step.success),
-        notfound: at(Status::NotFound).unwrap_or(step.notfound),
-        unavail: at(Status::Unavail).unwrap_or(step.unavail),
-        tryagain: at(Status::TryAgain).unwrap_or(step.tryagain),
     }
 }

@@ -1,9 +1,9 @@
-use Rattle.std.proofs.Common.{◌≡◌, List, [], ◌∷◌, ◌++◌, Some, None, sym, ap, ◌∙◌}
+use Rattle.std.proofs.Common.{◌≡◌, [], ◌∷◌, ◌++◌, Some, None, sym, ap, ◌∙◌}
 use Rattle.std.proofs.lemmas.List.{map-append}
 use Rattle.nsc_model.specs.Services.{plain_step}
 use Rattle.nsc_model.specs.Switches as switches
 use Rattle.nsc_model.specs.Switches.{at_end, list_from, spelled_list, tokens_of}
-use Rattle.nsc_switchconf.specs.Places.{moved, place_of, rule_of}
+use Rattle.nsc_switchconf.specs.Places.{moved, place_of}
 use Rattle.nsc_switchconf.specs.Steps.{service_of, step_of, steps_of}
 use Rattle.nsc_switchconf.specs.Tokens.{token_of}
 use Rattle.nsc_switchconf.proofs.Readings.{ahead, ahead-none, ahead-onto, ending, ends-between, moving}
@@ -56,7 +56,7 @@ loop-token-preserved c =
     let rest = tokens_of c.in-Some.rest.now in
     moving (spelled_list c.args.text.now) front (place_of c.loop-token.place) (token_of c.in-Some.token) step c.loop-token.left.now c.in-Some.rest.now (Some c.in-Some-Rule.field-0) c.in-Some-Rule.ensures c.in-Some.ensures.token c.loop-token.invariant
     ∙ ap (λ moves. ahead front (moved step (λ next now. list_from next now rest) (Some moves))) c.in-Some-Rule.field-0-is
-    ∙ ap (λ now. ahead front (list_from switches.Ruled now rest)) (sym c.with_rule-step.ensures)
+    ∙ ap (λ now. ahead front (list_from switches.Ruled now rest)) (sym c.applied_to-step.ensures)
 
 pub returns-in_ok-push-in-Between-clause-list : goal.returns-in_ok-push-in-Between-clause-list
 returns-in_ok-push-in-Between-clause-list c =
@@ -73,6 +73,6 @@ returns-in_default-place c =
     let step = step_of c.loop-token.step in
     record {
       list = sym (ending (spelled_list c.args.text.now) front (place_of c.loop-token.place) step c.loop-token.left.now c.in_default.ensures.token c.loop-token.invariant
-      ∙ ap (ahead front) (ends-between c.loop-token.place step c.in_default-place.not-Between));
+          ∙ ap (ahead front) (ends-between c.loop-token.place step c.in_default-place.not-Between));
       some = tt;
     }
