@@ -1,8 +1,16 @@
 //! The service lists of nsswitch.conf(5).
 #![tactic(auto)]
 
+mod line;
 mod list;
+mod names;
+mod place;
+mod rule;
 mod step;
+mod token;
 
 pub use list::service_list;
 pub use step::{Action, DbName, Service, Step};
+
+#[cfg(test)]
+mod tests;

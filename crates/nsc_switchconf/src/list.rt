@@ -1,8 +1,12 @@
-ghost use Rattle.std.specs.Prelude.{◌≡◌, ◌≤◌, length, IfOk};
-ghost use Rattle.nsc_model.specs.Switches.{list_of};
+ghost use Rattle.std.specs.Prelude.{◌≡◌, ◌≤◌, ◌∷◌, [], length, IfOk, IfSome};
+ghost use Rattle.std.specs.Option.{option_map};
+ghost use Rattle.nsc_model.specs.Switches.{default_list, list_of, spelled_list};
 ghost use Rattle.nsc_switchconf.specs.Steps.{name_of, steps_of};
 
-use crate::step::{DbName, Step};
+use crate::line::first_part;
+use crate::place::{Move, Place, move_at};
+use crate::step::{DbName, Service, Step};
+use crate::token::next_token;
 use nsc_base::NoMemory;
 use std::alloc::Global;
 
@@ -13,5 +17,60 @@ pub fn service_list(alloc: Global, text: &[u8], name: DbName) -> Result<Vec<Step
     ensures list { IfOk result (λ list. steps_of list.items ≡ list_of text.now (name_of name)) }
     ensures some { IfOk result (λ list. 1 ≤ length list.items) }
 {
-    Err(NoMemory)
+    if let Some(part) = first_part(text, name)
+        && let Some(list) = spelled(alloc, part)?
+    {
+        return Ok(list);
+    }
+    let mut list = Vec::new(alloc);
+    list.push(default_step(name))?;
+    Ok(list)
+}
+
+// The one step of the list of a name where no line spells it.
+fn default_step(name: DbName) -> Step
+    ensures { steps_of (result ∷ []) ≡ default_list (name_of name) }
+{
+    match name {
+        DbName::PasswdCompat | DbName::GroupCompat => Step::plain(Service::Other),
+        _ => Step::plain(Service::Files),
+    }
+}
+
+// The list that a text spells. `None` where it breaks the grammar.
+fn spelled(alloc: Global, text: &[u8]) -> Result<Option<Vec<Step>>, NoMemory>
+    ensures list { IfOk result (λ list. option_map (λ v. steps_of v.items) list ≡ spelled_list text.now) }
+    ensures some { IfOk result (λ list. IfSome list (λ v. 1 ≤ length v.items)) }
+{
+    let mut list = Vec::new(alloc);
+    let mut place = Place::First;
+    let mut step = Step::plain(Service::Other);
+    let mut left = text;
+    while let Some((token, rest)) = next_token(left) {
+        match move_at(place, token) {
+            None => return Ok(None),
+            Some(Move::To(to)) => place = to,
+            Some(Move::First(service)) => {
+                place = Place::Between;
+                step = Step::plain(service);
+            }
+            Some(Move::Another(service)) => {
+                list.push(step)?;
+                place = Place::Between;
+                step = Step::plain(service);
+            }
+            Some(Move::Rule(rule)) => {
+                place = Place::Ruled;
+                step = rule.applied_to(step);
+            }
+        }
+        left = rest;
+    }
+    match place {
+        Place::Between => {
+            list.push(step)?;
+            Ok(Some(list))
+        }
+        _ => Ok(None),
+    }
 }

@@ -1,3 +1,7 @@
+ghost use Rattle.std.specs.Prelude.{◌≡◌};
+ghost use Rattle.nsc_model.specs.Services.{plain_step};
+ghost use Rattle.nsc_switchconf.specs.Steps.{service_of, step_of};
+
 /// The lists of nsswitch.conf(5): of each database, and those that the compat lines of passwd and group ask.
 #[derive(Clone, Copy, Debug, PartialEq, Eq)]
 pub enum DbName {
@@ -52,4 +56,19 @@ pub struct Step {
     pub unavail: Action,
     /// What is done where it may answer later.
     pub tryagain: Action,
+}
+
+impl Step {
+    /// A service with no rules.
+    pub(crate) fn plain(service: Service) -> Step
+        ensures { step_of result ≡ plain_step (service_of service) }
+    {
+        Step {
+            service,
+            success: Action::Return,
+            notfound: Action::Continue,
+            unavail: Action::Continue,
+            tryagain: Action::Continue,
+        }
+    }
 }

@@ -1,0 +1,56 @@
+ghost use Rattle.std.specs.Prelude.{◌≡◌};
+ghost use Rattle.std.specs.Option.{option_map};
+ghost use Rattle.nsc_model.specs.Switches.{action_named, service_named, status_named};
+ghost use Rattle.nsc_switchconf.specs.Steps.{action_of, service_of};
+ghost use Rattle.nsc_switchconf.specs.Places.{status_of};
+
+use crate::rule::Status;
+use crate::step::{Action, Service};
+use nsc_base::equal;
+
+/// The service of this name.
+pub fn service(word: &[u8]) -> Service
+    ensures { service_of result ≡ service_named word.now }
+{
+    if equal(word, b"files") {
+        Service::Files
+    } else if equal(word, b"compat") {
+        Service::Compat
+    } else if equal(word, b"extrausers") {
+        Service::Extrausers
+    } else {
+        Service::Other
+    }
+}
+
+/// The status of this name, in letters of either case.
+pub fn status(word: &[u8]) -> Option<Status>
+    ensures { option_map status_of result ≡ status_named word.now }
+{
+    if word.eq_ignore_ascii_case(b"success") {
+        Some(Status::Success)
+    } else if word.eq_ignore_ascii_case(b"notfound") {
+        Some(Status::NotFound)
+    } else if word.eq_ignore_ascii_case(b"unavail") {
+        Some(Status::Unavail)
+    } else if word.eq_ignore_ascii_case(b"tryagain") {
+        Some(Status::TryAgain)
+    } else {
+        None
+    }
+}
+
+/// The action of this name, in letters of either case.
+pub fn action(word: &[u8]) -> Option<Action>
+    ensures { option_map action_of result ≡ action_named word.now }
+{
+    if word.eq_ignore_ascii_case(b"return") {
+        Some(Action::Return)
+    } else if word.eq_ignore_ascii_case(b"continue") {
+        Some(Action::Continue)
+    } else if word.eq_ignore_ascii_case(b"merge") {
+        Some(Action::Merge)
+    } else {
+        None
+    }
+}
