@@ -1,5 +1,6 @@
 mod machines;
 mod seeded;
+mod switches;
 
 use crate::{Exit, run};
 use nsc_outside::{MemSink, MemSource};
@@ -196,7 +197,7 @@ const HALTED: [Halted; 22] = [
         &[],
     ),
     // Whole frames that are not built.
-    (&[FILE, ASK_ROOT, b"F\x00\0", b"Z"], Exit::NotBuilt, &[ROOT]),
+    (&[FILE, ASK_ROOT, b"F\x03\0", b"Z"], Exit::NotBuilt, &[ROOT]),
     (&[b"F\x02\x01\x04\0\0\0abcd", END], Exit::NotBuilt, &[]),
     (
         &[b"Q\x0e\0\0\0\x02\0\0\0\x01\0\0\0\x02\0\0\x000\0", END],
