@@ -6,3 +6,4 @@ pub mod Histories
 pub mod CoreLawRecords
 pub mod CoreLaw
 pub mod CoreLawLive
+pub mod Grammar

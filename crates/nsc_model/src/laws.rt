@@ -8,6 +8,9 @@ ghost use Rattle.nsc_model.specs.declared.row.Reply.{Reply};
 ghost use Rattle.nsc_model.specs.Files.{Files};
 ghost use Rattle.nsc_model.specs.History.{Legal, version_in};
 ghost use Rattle.nsc_model.specs.Core.{Core, Move, Empty, Moves, Runs, RepliesAnswer, opening};
+ghost use Rattle.nsc_model.specs.Services.{SwitchStep};
+ghost use Rattle.nsc_model.specs.Switches as switches;
+ghost use Rattle.nsc_model.specs.Switches.{spelled_list};
 ghost use Rattle.nsc_model.specs.Wire.{Spells};
 
 /// In every run of moves from an opening, whatever its callers do and in whatever order, the history is legal, and each
@@ -33,6 +36,12 @@ pub fn core_can_be_emptied()
 /// What a legal history was at any earlier moment, from its first record on, was a legal history.
 pub fn prefixes_are_legal()
     ensures { (more seen : List Record) → seen ≢ [] → Legal (more ++ seen) → Legal seen }
+{}
+
+/// A text spells exactly the service list that reading it token by token gives.
+pub fn texts_spell_lists()
+    ensures read { (text : List ℕ) (steps : List SwitchStep) → switches.Spells text steps → spelled_list text ≡ Some steps }
+    ensures spelled { (text : List ℕ) (steps : List SwitchStep) → spelled_list text ≡ Some steps → switches.Spells text steps }
 {}
 
 /// No bytes spell two replies of one kind: a client that reads the bytes of a reply learns which one was sent.
