@@ -13,3 +13,4 @@ pub mod MachineLawParts
 pub mod MachineLaw
 pub mod MachineLawRuns
 pub mod MachineLawReplays
+pub mod Grammar

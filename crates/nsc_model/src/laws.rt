@@ -13,6 +13,9 @@ ghost use Rattle.nsc_model.specs.History.{Legal, version_in};
 ghost use Rattle.nsc_model.specs.Core.{Core, Move, Empty, Moves, Runs, RepliesAnswer, opening};
 ghost use Rattle.nsc_model.specs.Machine.{Cache, new_cache, look_up, tick, invalidated};
 ghost use Rattle.nsc_model.specs.Calls.{Drives, TurnsBy, PassesBy, Event, EachAnswered};
+ghost use Rattle.nsc_model.specs.Services.{SwitchStep};
+ghost use Rattle.nsc_model.specs.Switches as switches;
+ghost use Rattle.nsc_model.specs.Switches.{spelled_list};
 ghost use Rattle.nsc_model.specs.Wire.{Spells};
 ghost use Rattle.nsc_model.specs.Frames.{Frame};
 ghost use Rattle.nsc_model.specs.Replay.{first_state};
@@ -68,6 +71,12 @@ pub fn replays_are_answered()
 /// What a legal history was at any earlier moment, from its first record on, was a legal history.
 pub fn prefixes_are_legal()
     ensures { (more seen : List Record) → seen ≢ [] → Legal (more ++ seen) → Legal seen }
+{}
+
+/// A text spells exactly the service list that reading it token by token gives.
+pub fn texts_spell_lists()
+    ensures read { (text : List ℕ) (steps : List SwitchStep) → switches.Spells text steps → spelled_list text ≡ Some steps }
+    ensures spelled { (text : List ℕ) (steps : List SwitchStep) → spelled_list text ≡ Some steps → switches.Spells text steps }
 {}
 
 /// No bytes spell two replies of one kind: a client that reads the bytes of a reply learns which one was sent.
