@@ -12,7 +12,7 @@ use Rattle.nsc_base.specs.Decimal.{decimal_of}
 use Rattle.nsc_base.proofs.Pieces.{pieces-some}
 use Rattle.nsc_model.specs.declared.row.Passwd.{Passwd}
 use Rattle.nsc_model.specs.Users.{has_zero, is_name, trimmed, user_of_fields, user_of_line}
-use Rattle.nsc_accounts.specs.First.{first_named, first_of, if_named}
+use Rattle.nsc_model.specs.Entries.{first_named, first_of, if_named}
 
 -- one line more at the front
 pub first_step : {A : Type 0} (names : A → Bool) (o : Option A) (others : List A) → first_of (filter names (cons_option o others)) ≡ option_or (if_named names o) (first_of (filter names others))

@@ -1,5 +1,4 @@
 pub mod Parsers
-pub mod Spellings
 pub mod Rounds
 pub mod Requests
 pub mod Histories

@@ -19,7 +19,7 @@ use Rattle.nsc_model.specs.Core.{Caller, Core, Note, opening}
 use Rattle.nsc_model.specs.Machine.{Cache, Passed, Stopped, Turn, look_up, tick, invalidated}
 use Rattle.nsc_model.specs.Calls.{IsOwn, IsBy, MovesOver, Drives, IsMoved, IsTurned, PassesBy, TurnsBy}
 use Rattle.nsc_model.specs.Frames.{Frame, Ask, Become, Reach, Clear, Stop, Finish}
-use Rattle.nsc_model.specs.Replay.{State, first_state, cache_of, with_cache, Went, framed, last_moment, looked_at, look_frame, unanswered, ask_frame, silent, become_frame, then_on, ticked_in, ticks, turn_of}
+use Rattle.nsc_model.specs.Replay.{State, first_state, cache_of, with_cache, Went, framed, last_moment, looked_at, look_in, look_frame, unanswered, ask_frame, silent, become_frame, then_on, ticked_in, ticks, turn_of}
 use Rattle.nsc_model.specs.Replies.{AllDrive, AllMove, IsGiven, IsReplied, RepliesTo, left_on, left_looked, left_ticked, left_ticks, left_look, left_asked, left_by, stopped_in, PlayedThen, EachReplied}
 use Rattle.nsc_model.proofs.CoreLaw.{changed, noting}
 use Rattle.nsc_model.proofs.MachineLaw.{opening_drives, files_drive, look_up_turns, tick_passes, invalidation_passes}
@@ -216,11 +216,11 @@ set_played others s cores id held d next =
 become_played : (others : State → (Db → Core) → Type 0) (s : State) (cores : Db → Core) (id : FileId) (held : Option (List ℕ)) → AllDrive s cores → Next others → PlayedThen others cores (Become id held) (stopped_in s s) (become_frame s id held)
 become_played others s cores file.Switch held d next = set_played others s cores file.Switch held d next
 become_played others s cores file.Passwd held d next = set_played others s cores file.Passwd held d next
-become_played others s cores file.Group held d next = (cores, begun_part s cores d)
+become_played others s cores file.Group held d next = set_played others s cores file.Group held d next
 become_played others s cores file.Hosts held d next = (cores, begun_part s cores d)
 become_played others s cores file.Services held d next = (cores, begun_part s cores d)
 become_played others s cores file.ExtraPasswd held d next = set_played others s cores file.ExtraPasswd held d next
-become_played others s cores file.ExtraGroup held d next = (cores, begun_part s cores d)
+become_played others s cores file.ExtraGroup held d next = set_played others s cores file.ExtraGroup held d next
 
 -- ---- the input of a connection
 
@@ -254,32 +254,51 @@ given_on db old new request adds reply after t =
       answered = t.answered;
     }
 
-user_asked : (others : State → (Db → Core) → Type 0) (s : State) (cores : Db → Core) (key : List ℕ) (r : Result Turn Stopped) → AllDrive s cores → TurnsBy Passwd 0 (cores Passwd) (request PwName key) r → Next others
-    → AskedThen others cores (Look (request PwName key)) (stopped_in s (left_looked s Passwd r)) (looked_at s Passwd r)
-user_asked others s cores key (Ok turn) d w next =
-    let g = one_moves cores s cores Passwd w.0 turn.adds turn.cache (begun_part s cores d) w.1.moved in (
-      with_core cores Passwd (settled w.0),
+with_core_at : (cores : Db → Core) (db : Db) (core : Core) → with_core cores db core db ≡ core
+with_core_at cores Passwd core = refl
+with_core_at cores Group core = refl
+with_core_at cores Hosts core = refl
+with_core_at cores Services core = refl
+
+given_at : (kind : Kind) (key : List ℕ) (cores : Db → Core) (new : Core) (adds : List Record) (reply : List ℕ) (after : Cache) → IsTurned (database_of kind) 0 (cores (database_of kind)) (request kind key) adds reply after new
+    → IsGiven (cores (database_of kind)) (with_core cores (database_of kind) (settled new) (database_of kind)) (request kind key) reply
+given_at kind key cores new adds reply after t =
+    let db = database_of kind in
+    subst (λ (core : Core). IsGiven (cores db) core (request kind key) reply) (sym (with_core_at cores db (settled new))) (given_on db (cores db) new (request kind key) adds reply after t)
+
+kind_asked : (others : State → (Db → Core) → Type 0) (s : State) (cores : Db → Core) (kind : Kind) (key : List ℕ) (r : Result Turn Stopped) → AllDrive s cores → TurnsBy (database_of kind) 0 (cores (database_of kind)) (request kind key) r → Next others
+    → AskedThen others cores (Look (request kind key)) (stopped_in s (left_looked s (database_of kind) r)) (looked_at s (database_of kind) r)
+kind_asked others s cores kind key (Ok turn) d w next =
+    let db = database_of kind in
+    let g = one_moves cores s cores db w.0 turn.adds turn.cache (begun_part s cores d) w.1.moved in (
+      with_core cores db (settled w.0),
       g,
-      (turn.reply, refl, given_on Passwd (cores Passwd) w.0 (request PwName key) turn.adds turn.reply turn.cache w.1),
-      next (with_cache s Passwd turn.cache) (with_core cores Passwd (settled w.0)) g.drive,
+      (turn.reply, refl, given_at kind key cores w.0 turn.adds turn.reply turn.cache w.1),
+      next (with_cache s db turn.cache) (with_core cores db (settled w.0)) g.drive,
     )
-user_asked others s cores key (Err stop) d w next = (with_core cores Passwd (settled w.0), one_moves cores s cores Passwd w.0 stop.adds stop.cache (begun_part s cores d) w.1)
+kind_asked others s cores kind key (Err stop) d w next = (with_core cores (database_of kind) (settled w.0), one_moves cores s cores (database_of kind) w.0 stop.adds stop.cache (begun_part s cores d) w.1)
+
+-- a look-up of a kind that is built
+built_asked : (others : State → (Db → Core) → Type 0) (settings : Settings) (s : State) (cores : Db → Core) (kind : Kind) (key : List ℕ) → AllDrive s cores → Next others
+    → AskedThen others cores (Look (request kind key)) (stopped_in s (left_look settings s (database_of kind) (request kind key))) (look_in (database_of kind) settings s (request kind key))
+built_asked others settings s cores kind key d next =
+    let db = database_of kind in
+    kind_asked others s cores kind key (look_up (settings_of settings db) s.moment (part_of db s.files) (request kind key) (cache_of s db)) d
+    (subst (λ (f : Files). TurnsBy db 0 (cores db) (request kind key) (look_up (settings_of settings db) s.moment (part_of db f) (request kind key) (cache_of s db))) (d.sources_are db)
+    (look_up_turns db 0 (settings_of settings db) s.moment (request kind key) (cores db) (cache_of s db) (d.drives db))) next
 
 look_asked : (others : State → (Db → Core) → Type 0) (settings : Settings) (s : State) (cores : Db → Core) (kind : Kind) (key : List ℕ) → AllDrive s cores → Next others
     → AskedThen others cores (Look (request kind key)) (stopped_in s (left_look settings s (database_of kind) (request kind key))) (look_frame kind settings s (request kind key))
-look_asked others settings s cores PwName key d next =
-    user_asked others s cores key (look_up settings.passwd s.moment (part_of Passwd s.files) (request PwName key) s.users) d
-    (subst (λ (f : Files). TurnsBy Passwd 0 (cores Passwd) (request PwName key) (look_up settings.passwd s.moment (part_of Passwd f) (request PwName key) s.users)) (d.sources_are Passwd)
-    (look_up_turns Passwd 0 settings.passwd s.moment (request PwName key) (cores Passwd) s.users (d.drives Passwd))) next
-look_asked others settings s cores PwUid key d next = (cores, begun_part s cores d)
-look_asked others settings s cores GrName key d next = (cores, begun_part s cores d)
-look_asked others settings s cores GrGid key d next = (cores, begun_part s cores d)
+look_asked others settings s cores PwName key d next = built_asked others settings s cores PwName key d next
+look_asked others settings s cores PwUid key d next = built_asked others settings s cores PwUid key d next
+look_asked others settings s cores GrName key d next = built_asked others settings s cores GrName key d next
+look_asked others settings s cores GrGid key d next = built_asked others settings s cores GrGid key d next
+look_asked others settings s cores InitGroups key d next = built_asked others settings s cores InitGroups key d next
 look_asked others settings s cores HostName key d next = (cores, begun_part s cores d)
 look_asked others settings s cores HostName6 key d next = (cores, begun_part s cores d)
 look_asked others settings s cores HostAddr key d next = (cores, begun_part s cores d)
 look_asked others settings s cores HostAddr6 key d next = (cores, begun_part s cores d)
 look_asked others settings s cores Ai key d next = (cores, begun_part s cores d)
-look_asked others settings s cores InitGroups key d next = (cores, begun_part s cores d)
 look_asked others settings s cores ServName key d next = (cores, begun_part s cores d)
 look_asked others settings s cores ServPort key d next = (cores, begun_part s cores d)
 

@@ -1,10 +1,13 @@
 -- What is answered over a content: the outcome of each service, the switch over a service list (nsswitch.conf(5)), and the reply's bytes.
-use Rattle.std.specs.Prelude.{ℕ, Bool, true, false, if◌then◌else◌, List, [], ◌∷◌, filter, Option, Some, None}
+use Rattle.std.specs.Prelude.{ℕ, ◌==◌, Bool, true, false, not, if◌then◌else◌, List, [], ◌∷◌, map, filter, Option, Some, None}
 use Rattle.std.specs.Str.{bytes_eq}
 use Rattle.nsc_model.specs.declared.kind.Kind.{Kind}
 use Rattle.nsc_model.specs.declared.kind.Kind.TheVariants.{PwName, PwUid, GrName, GrGid, HostName, HostName6, HostAddr, HostAddr6, Ai, InitGroups, ServName, ServPort}
 use Rattle.nsc_model.specs.declared.answer.Request.{Request}
+use Rattle.nsc_base.specs.Decimal.{decimal_of}
 use Rattle.nsc_model.specs.declared.row.Passwd.{Passwd}
+use Rattle.nsc_model.specs.declared.row.Group.{Group}
+use Rattle.nsc_model.specs.declared.row.Row.{Row}
 use Rattle.nsc_model.specs.declared.row.Row.TheVariants as row
 use Rattle.nsc_model.specs.declared.row.Looked.{Looked}
 use Rattle.nsc_model.specs.declared.row.Looked.TheVariants.{Found, NotFound, Unavail}
@@ -15,41 +18,77 @@ use Rattle.nsc_model.specs.Kinds.{database_of}
 use Rattle.nsc_model.specs.Files.{Files}
 use Rattle.nsc_model.specs.Marked.{Marked}
 use Rattle.nsc_model.specs.Wire.{spelled}
-use Rattle.nsc_model.specs.Users.{users_of}
+use Rattle.nsc_model.specs.Entries.{named_in, first_named}
+use Rattle.nsc_model.specs.Users.{user_of_line}
+use Rattle.nsc_model.specs.Groups.{group_of_line, has_member}
 use Rattle.nsc_model.specs.Services.{SwitchService, Local, Compat, Extrausers, Other, SwitchStep, action_at, ends}
 use Rattle.nsc_model.specs.Switches.{service_list}
 
--- whether a request of a user's entry names this one
-abbrev pub names_user : Request → Passwd → Bool
-names_user request p = bytes_eq p.name request.key
+-- ---- four ways to name an entry: by name, by id, and by a member
 
--- the first of the entries that are named is found
-abbrev pub first_user : List Passwd → Looked
-first_user [] = NotFound
-first_user (p ∷ others) = Found (row.Passwd p)
+abbrev pub is_id : Option ℕ → ℕ → Bool
+is_id None id = false
+is_id (Some n) id = n == id
 
--- over a passwd file: the first entry that the request names
-abbrev pub user_answer : Option (List ℕ) → Request → Looked
-user_answer None request = Unavail
-user_answer (Some file) request = first_user (filter (names_user request) (users_of file))
+abbrev pub user_named : List ℕ → Passwd → Bool
+user_named key p = bytes_eq p.name key
+
+-- a key that is no number in decimal names nothing
+abbrev pub user_numbered : List ℕ → Passwd → Bool
+user_numbered key p = is_id (decimal_of key) p.uid
+
+abbrev pub group_named : List ℕ → Group → Bool
+group_named key g = bytes_eq g.name key
+
+abbrev pub group_numbered : List ℕ → Group → Bool
+group_numbered key g = is_id (decimal_of key) g.gid
+
+-- ---- the answer of a file
+
+-- the first entry that is named is found
+abbrev pub found_first : {A : Type 0} → (A → Row) → Option A → Looked
+found_first row_of None = NotFound
+found_first row_of (Some entry) = Found (row_of entry)
+
+-- over a file: the first entry that the request names
+abbrev pub file_entry : {A : Type 0} → (A → Row) → (List ℕ → Option A) → (A → Bool) → Option (List ℕ) → Looked
+file_entry row_of entry_of names None = Unavail
+file_entry row_of entry_of names (Some file) = found_first row_of (first_named entry_of names file)
+
+-- numbers, each once, at its first place
+abbrev pub each_once : List ℕ → List ℕ
+each_once [] = []
+each_once (n ∷ numbers) = n ∷ filter (λ m. not (m == n)) (each_once numbers)
+
+abbrev pub found_ids : List ℕ → Looked
+found_ids [] = NotFound
+found_ids (id ∷ ids) = Found (row.Groups (id ∷ ids))
+
+-- the ids of the groups that have the user as a member, in the order of the file
+abbrev pub ids_of : List ℕ → List ℕ → List ℕ
+ids_of user file = each_once (map (λ g. g.gid) (named_in group_of_line (has_member user) file))
+
+abbrev pub file_ids : List ℕ → Option (List ℕ) → Looked
+file_ids user None = Unavail
+file_ids user (Some file) = found_ids (ids_of user file)
 
 -- a request over the bytes of one file, by the request's kind; the other kinds are not built yet
-abbrev pub answer_by : Kind → Option (List ℕ) → Request → Looked
-answer_by PwName file request = user_answer file request
-answer_by PwUid file request = Unavail
-answer_by GrName file request = Unavail
-answer_by GrGid file request = Unavail
-answer_by HostName file request = Unavail
-answer_by HostName6 file request = Unavail
-answer_by HostAddr file request = Unavail
-answer_by HostAddr6 file request = Unavail
-answer_by Ai file request = Unavail
-answer_by InitGroups file request = Unavail
-answer_by ServName file request = Unavail
-answer_by ServPort file request = Unavail
+abbrev pub answer_by : Kind → Option (List ℕ) → List ℕ → Looked
+answer_by PwName file key = file_entry row.Passwd user_of_line (user_named key) file
+answer_by PwUid file key = file_entry row.Passwd user_of_line (user_numbered key) file
+answer_by GrName file key = file_entry row.Group group_of_line (group_named key) file
+answer_by GrGid file key = file_entry row.Group group_of_line (group_numbered key) file
+answer_by InitGroups file key = file_ids key file
+answer_by HostName file key = Unavail
+answer_by HostName6 file key = Unavail
+answer_by HostAddr file key = Unavail
+answer_by HostAddr6 file key = Unavail
+answer_by Ai file key = Unavail
+answer_by ServName file key = Unavail
+answer_by ServPort file key = Unavail
 
 abbrev pub file_answer : Option (List ℕ) → Request → Looked
-file_answer file request = answer_by request.kind file request
+file_answer file request = answer_by request.kind file request.key
 
 -- the file that the service `files` reads for a database
 abbrev pub own_file : Db → Files → Option (List ℕ)

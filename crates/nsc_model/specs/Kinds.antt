@@ -90,14 +90,14 @@ is_request a b = type_number a.kind == type_number b.kind && bytes_eq a.key b.ke
 -- the kinds that are built so far
 abbrev pub IsBuilt : Kind → Type 0
 IsBuilt PwName = Unit {0}
-IsBuilt PwUid = ⊥
-IsBuilt GrName = ⊥
-IsBuilt GrGid = ⊥
+IsBuilt PwUid = Unit {0}
+IsBuilt GrName = Unit {0}
+IsBuilt GrGid = Unit {0}
 IsBuilt HostName = ⊥
 IsBuilt HostName6 = ⊥
 IsBuilt HostAddr = ⊥
 IsBuilt HostAddr6 = ⊥
 IsBuilt Ai = ⊥
-IsBuilt InitGroups = ⊥
+IsBuilt InitGroups = Unit {0}
 IsBuilt ServName = ⊥
 IsBuilt ServPort = ⊥

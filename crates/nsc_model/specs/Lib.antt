@@ -4,7 +4,9 @@ pub mod Files
 pub mod Marked
 pub mod Fixed
 pub mod Wire
+pub mod Entries
 pub mod Users
+pub mod Groups
 pub mod Services
 pub mod Switches
 pub mod Answers

@@ -57,18 +57,22 @@ abbrev pub looked_at : State → Db → Result Turn Stopped → Result Went Fini
 looked_at s db (Ok turn) = Ok (record { state = with_cache s db turn.cache; writes = framed turn.reply })
 looked_at s db (Err stop) = Err (Spent stop.count)
 
+-- a look-up in a database
+abbrev pub look_in : Db → Settings → State → Request → Result Went Finish
+look_in db settings s request = looked_at s db (look_up (settings_of settings db) s.moment (part_of db s.files) request (cache_of s db))
+
 -- a look-up, of the kinds that are built
 abbrev pub look_frame : Kind → Settings → State → Request → Result Went Finish
-look_frame PwName settings s request = looked_at s db.Passwd (look_up settings.passwd s.moment (part_of db.Passwd s.files) request s.users)
-look_frame PwUid settings s request = Err NotBuilt
-look_frame GrName settings s request = Err NotBuilt
-look_frame GrGid settings s request = Err NotBuilt
+look_frame PwName settings s request = look_in db.Passwd settings s request
+look_frame PwUid settings s request = look_in db.Passwd settings s request
+look_frame GrName settings s request = look_in db.Group settings s request
+look_frame GrGid settings s request = look_in db.Group settings s request
 look_frame HostName settings s request = Err NotBuilt
 look_frame HostName6 settings s request = Err NotBuilt
 look_frame HostAddr settings s request = Err NotBuilt
 look_frame HostAddr6 settings s request = Err NotBuilt
 look_frame Ai settings s request = Err NotBuilt
-look_frame InitGroups settings s request = Err NotBuilt
+look_frame InitGroups settings s request = look_in db.Group settings s request
 look_frame ServName settings s request = Err NotBuilt
 look_frame ServPort settings s request = Err NotBuilt
 
@@ -93,15 +97,15 @@ ask_frame settings s (BadLength length) = unanswered s
 abbrev pub silent : State → Result Went Finish
 silent s = Ok (record { state = s; writes = [] })
 
--- a file becomes this; the files that users read are built
+-- a file becomes this; the files that users and groups read are built
 abbrev pub become_frame : State → FileId → Option (List ℕ) → Result Went Finish
 become_frame s file.Switch held = silent (record s { files = with_file s.files file.Switch held })
 become_frame s file.Passwd held = silent (record s { files = with_file s.files file.Passwd held })
-become_frame s file.Group held = Err NotBuilt
+become_frame s file.Group held = silent (record s { files = with_file s.files file.Group held })
 become_frame s file.Hosts held = Err NotBuilt
 become_frame s file.Services held = Err NotBuilt
 become_frame s file.ExtraPasswd held = silent (record s { files = with_file s.files file.ExtraPasswd held })
-become_frame s file.ExtraGroup held = Err NotBuilt
+become_frame s file.ExtraGroup held = silent (record s { files = with_file s.files file.ExtraGroup held })
 
 -- one database did this, and the next part goes on behind it
 abbrev pub then_on : State → Db → Result Passed Stopped → (State → Result Went Finish) → Result Went Finish

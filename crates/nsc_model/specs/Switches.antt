@@ -7,6 +7,7 @@ use Rattle.nsc_base.specs.Text.{lines_of, is_white}
 use Rattle.nsc_model.specs.declared.kind.Db.{Db}
 use Rattle.nsc_model.specs.declared.kind.Db.TheVariants as db
 use Rattle.nsc_model.specs.Files.{Files}
+use Rattle.nsc_model.specs.Entries.{first_of}
 use Rattle.nsc_model.specs.Users.{◌>>=◌, trimmed}
 use Rattle.nsc_model.specs.Services.{SwitchService, Local, Compat, Extrausers, Other, SwitchAction, Return, Continue, Merge, SwitchStep, plain_step}
 
@@ -46,10 +47,6 @@ behind_colon (b ∷ bytes) = if b == 58 then Some bytes else None
 -- what stands behind the name and the colon of a line of this list, white space around the name aside
 abbrev pub own_part : ListName → List ℕ → Option (List ℕ)
 own_part name line = behind_text (name_text name) (trimmed (before_remark line)) >>= λ rest. behind_colon (trimmed rest)
-
-abbrev pub first_of : {A : Type 0} → List A → Option A
-first_of [] = None
-first_of (x ∷ xs) = Some x
 
 -- the first line of a list counts alone
 abbrev pub first_line : ListName → List ℕ → Option (List ℕ)

@@ -1,7 +1,7 @@
 -- The entries of a passwd file, passwd(5).
 use Rattle.std.specs.Prelude.{ℕ, Bool, false, not, ◌==◌, ◌||◌, if◌then◌else◌, List, [], ◌∷◌, Option, Some, None, option_and_then}
-use Rattle.std.specs.List.{list_any, filter_map}
-use Rattle.nsc_base.specs.Text.{fields_of, lines_of, is_white}
+use Rattle.std.specs.List.{list_any}
+use Rattle.nsc_base.specs.Text.{fields_of, is_white}
 use Rattle.nsc_base.specs.Decimal.{decimal_of}
 use Rattle.nsc_model.specs.declared.row.Passwd.{Passwd}
 
@@ -33,7 +33,3 @@ user_of_fields _ = None
 -- the entry of a line, where the line has the form
 abbrev pub user_of_line : List ℕ → Option Passwd
 user_of_line line = if has_zero line then None else user_of_fields (fields_of 58 (trimmed line))
-
--- the entries of a file, in its order
-abbrev pub users_of : List ℕ → List Passwd
-users_of file = filter_map user_of_line (lines_of file)

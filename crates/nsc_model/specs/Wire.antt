@@ -1,11 +1,12 @@
 -- Requests and replies as bytes: protocol version 2 of glibc's nscd-client.h, in little-endian fields of four bytes.
-use Rattle.std.specs.Prelude.{◌≡◌, ◌≢◌, ℕ, ◌+◌, ◌≤◌, ◌<◌, ◌^◌, ℤ, ◌==◌, nat_lt, if◌then◌else◌, List, [], ◌∷◌, ◌++◌, length, take, drop, All, Option, Some, None}
+use Rattle.std.specs.Prelude.{◌≡◌, ◌≢◌, ℕ, ◌+◌, ◌≤◌, ◌<◌, ◌^◌, ℤ, ◌==◌, nat_lt, if◌then◌else◌, List, [], ◌∷◌, ◌++◌, length, take, drop, flat_map, All, Option, Some, None}
 use Rattle.std.specs.List.{before_first}
 use Rattle.byteorder.specs.Endian.{little_number, little_bytes, twos_complement}
 use Rattle.nsc_model.specs.declared.kind.Kind.{Kind}
 use Rattle.nsc_model.specs.declared.kind.Kind.TheVariants.{PwName, PwUid, GrName, GrGid, HostName, HostName6, HostAddr, HostAddr6, Ai, InitGroups, ServName, ServPort}
 use Rattle.nsc_model.specs.declared.answer.Request.{Request}
 use Rattle.nsc_model.specs.declared.row.Passwd.{Passwd}
+use Rattle.nsc_model.specs.declared.row.Group.{Group}
 use Rattle.nsc_model.specs.declared.row.Row.TheVariants as row
 use Rattle.nsc_model.specs.declared.row.Reply.{Reply}
 use Rattle.nsc_model.specs.declared.row.Reply.TheVariants.{Found, Absent, Disabled}
@@ -119,18 +120,55 @@ user_reply (Found (row.Groups ids)) = []
 user_reply Absent = passwd_lacking 0
 user_reply Disabled = passwd_lacking minus_one
 
+-- version, found, name length, passwd length, gid, member count, a length for each member, name, passwd and the members
+abbrev pub group_found : Group → List ℕ
+group_found g =
+    field 2 ++ field 1 ++ text_len g.name ++ text_len g.passwd ++ field g.gid ++ field (length g.members) ++ flat_map text_len g.members
+    ++ text g.name ++ text g.passwd ++ flat_map text g.members
+
+-- the same fields without an entry: the id is -1, the lengths and the count 0
+abbrev pub group_lacking : ℕ → List ℕ
+group_lacking found = field 2 ++ field found ++ field 0 ++ field 0 ++ field minus_one ++ field 0
+
+abbrev pub group_reply : Reply → List ℕ
+group_reply (Found (row.Passwd p)) = []
+group_reply (Found (row.Group g)) = group_found g
+group_reply (Found (row.Host h)) = []
+group_reply (Found (row.Service s)) = []
+group_reply (Found (row.Ai a)) = []
+group_reply (Found (row.Groups ids)) = []
+group_reply Absent = group_lacking 0
+group_reply Disabled = group_lacking minus_one
+
+-- version, found, group count, and each id
+abbrev pub ids_found : List ℕ → List ℕ
+ids_found ids = field 2 ++ field 1 ++ field (length ids) ++ flat_map field ids
+
+abbrev pub ids_lacking : ℕ → List ℕ
+ids_lacking found = field 2 ++ field found ++ field 0
+
+abbrev pub ids_reply : Reply → List ℕ
+ids_reply (Found (row.Passwd p)) = []
+ids_reply (Found (row.Group g)) = []
+ids_reply (Found (row.Host h)) = []
+ids_reply (Found (row.Service s)) = []
+ids_reply (Found (row.Ai a)) = []
+ids_reply (Found (row.Groups ids)) = ids_found ids
+ids_reply Absent = ids_lacking 0
+ids_reply Disabled = ids_lacking minus_one
+
 -- the bytes of a reply of a kind; the other kinds are not built yet
 abbrev pub spelled : Kind → Reply → List ℕ
 spelled PwName reply = user_reply reply
 spelled PwUid reply = user_reply reply
-spelled GrName reply = []
-spelled GrGid reply = []
+spelled GrName reply = group_reply reply
+spelled GrGid reply = group_reply reply
 spelled HostName reply = []
 spelled HostName6 reply = []
 spelled HostAddr reply = []
 spelled HostAddr6 reply = []
 spelled Ai reply = []
-spelled InitGroups reply = []
+spelled InitGroups reply = ids_reply reply
 spelled ServName reply = []
 spelled ServPort reply = []
 
@@ -154,18 +192,46 @@ IsUserReply (Found (row.Groups ids)) = ⊥
 IsUserReply Absent = Unit {0}
 IsUserReply Disabled = Unit {0}
 
+-- the texts can be sent, and the id is a number of four bytes
+pub record IsGroup (g : Group) : Type 0 where
+  pub name_is : IsText g.name
+  pub passwd_is : IsText g.passwd
+  pub gid_fits : g.gid < 2 ^ 32
+  pub members_are : All IsText g.members
+
+abbrev pub IsGroupReply : Reply → Type 0
+IsGroupReply (Found (row.Passwd p)) = ⊥
+IsGroupReply (Found (row.Group g)) = IsGroup g
+IsGroupReply (Found (row.Host h)) = ⊥
+IsGroupReply (Found (row.Service s)) = ⊥
+IsGroupReply (Found (row.Ai a)) = ⊥
+IsGroupReply (Found (row.Groups ids)) = ⊥
+IsGroupReply Absent = Unit {0}
+IsGroupReply Disabled = Unit {0}
+
+-- ids are numbers of four bytes
+abbrev pub IsIdsReply : Reply → Type 0
+IsIdsReply (Found (row.Passwd p)) = ⊥
+IsIdsReply (Found (row.Group g)) = ⊥
+IsIdsReply (Found (row.Host h)) = ⊥
+IsIdsReply (Found (row.Service s)) = ⊥
+IsIdsReply (Found (row.Ai a)) = ⊥
+IsIdsReply (Found (row.Groups ids)) = All (λ id. id < 2 ^ 32) ids
+IsIdsReply Absent = Unit {0}
+IsIdsReply Disabled = Unit {0}
+
 -- a reply is of a kind: a row has the kind's shape and no zero byte in its texts
 abbrev pub IsReplyOf : Kind → Reply → Type 0
 IsReplyOf PwName reply = IsUserReply reply
 IsReplyOf PwUid reply = IsUserReply reply
-IsReplyOf GrName reply = ⊥
-IsReplyOf GrGid reply = ⊥
+IsReplyOf GrName reply = IsGroupReply reply
+IsReplyOf GrGid reply = IsGroupReply reply
 IsReplyOf HostName reply = ⊥
 IsReplyOf HostName6 reply = ⊥
 IsReplyOf HostAddr reply = ⊥
 IsReplyOf HostAddr6 reply = ⊥
 IsReplyOf Ai reply = ⊥
-IsReplyOf InitGroups reply = ⊥
+IsReplyOf InitGroups reply = IsIdsReply reply
 IsReplyOf ServName reply = ⊥
 IsReplyOf ServPort reply = ⊥
 

@@ -1,7 +1,7 @@
 use Rattle.std.proofs.Common.{◌≡◌, ◌≤◌, ◌-◌, length, drop}
 use Rattle.std.specs.Str.{bytes_eq}
 use Rattle.nsc_model.specs.Users.{user_of_line}
-use Rattle.nsc_accounts.specs.First.{first_named}
+use Rattle.nsc_model.specs.Entries.{first_named}
 use Rattle.nsc_accounts.proofs.find.find_passwd_by_name.Given as goal
 
 abbrev pub invariant-loop-line : goal.invariant-loop-line
