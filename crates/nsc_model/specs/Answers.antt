@@ -28,7 +28,7 @@ use Rattle.nsc_model.specs.Switches.{service_list}
 
 abbrev pub is_id : Option ℕ → ℕ → Bool
 is_id None id = false
-is_id (Some n) id = n == id
+is_id (Some n) id = id == n
 
 abbrev pub user_named : List ℕ → Passwd → Bool
 user_named key p = bytes_eq p.name key
