@@ -40,6 +40,16 @@ IsOfUsers file.Services = ⊥
 IsOfUsers file.ExtraPasswd = Unit {0}
 IsOfUsers file.ExtraGroup = ⊥
 
+-- groups read the file, and no other database does
+abbrev pub IsOfGroups : FileId → Type 0
+IsOfGroups file.Switch = ⊥
+IsOfGroups file.Passwd = ⊥
+IsOfGroups file.Group = Unit {0}
+IsOfGroups file.Hosts = ⊥
+IsOfGroups file.Services = ⊥
+IsOfGroups file.ExtraPasswd = ⊥
+IsOfGroups file.ExtraGroup = Unit {0}
+
 -- a database has its settings, and reads its part of the files
 pub record HasOwn (which : Db) (settings : Settings) (files : Files) (database : Database) : Type 0 where
   pub own : database.shelf.settings ≡ settings_of settings which

@@ -6,7 +6,7 @@ ghost use Rattle.nsc_model.specs.Wire.{request_of};
 ghost use Rattle.nsc_model.specs.Replay.{ask_frame, become_frame, clear_frame, first_state, look_frame, reach_frame, turn_of};
 ghost use Rattle.nsc_daemonconf.specs.Conf.{settings};
 ghost use Rattle.nsc_run.specs.Commands.{SizesFit};
-ghost use Rattle.nsc_run.specs.Desks.{IsOfUsers};
+ghost use Rattle.nsc_run.specs.Desks.{IsOfGroups, IsOfUsers};
 ghost use Rattle.nsc_run.specs.Reading.{FrameFits, seen};
 ghost use Rattle.nsc_run.specs.Turns.{TurnsTo, TurnFaults};
 
@@ -131,7 +131,7 @@ impl Machine {
         }
     }
 
-    // A look-up: only those of users by name are built.
+    // A look-up: those of users and groups are built.
     fn look<A: Answerer>(
         &mut self,
         alloc: Global,
@@ -145,28 +145,25 @@ impl Machine {
         ensures turn { IfOk result (λ reply. TurnsTo (look_frame kind self.old.settings self.old.state (record { kind = kind; key = key.now })) self.new.state reply) }
         ensures fault { IfErr result (TurnFaults (look_frame kind self.old.settings self.old.state (record { kind = kind; key = key.now }))) }
     {
-        match kind {
-            Kind::PwName => {
-                let reply = self
-                    .users
-                    .look_up(alloc, answers, Kind::PwName, key, self.moment)?;
-                Ok(Some(reply))
+        let reply = match kind {
+            Kind::PwName | Kind::PwUid => {
+                self.users.look_up(alloc, answers, kind, key, self.moment)?
             }
-            Kind::PwUid
-            | Kind::GrName
-            | Kind::GrGid
-            | Kind::HostName
+            Kind::GrName | Kind::GrGid | Kind::InitGroups => {
+                self.groups.look_up(alloc, answers, kind, key, self.moment)?
+            }
+            Kind::HostName
             | Kind::HostName6
             | Kind::HostAddr
             | Kind::HostAddr6
             | Kind::Ai
-            | Kind::InitGroups
             | Kind::ServName
-            | Kind::ServPort => Err(Exit::NotBuilt),
-        }
+            | Kind::ServPort => return Err(Exit::NotBuilt),
+        };
+        Ok(Some(reply))
     }
 
-    // What a file becomes: the files that users read are built. All memory is taken before anything changes.
+    // What a file becomes: the files that users and groups read are built. All memory is taken before anything changes.
     fn become_file(&mut self, alloc: Global, file: FileId, bytes: Option<Bytes>) -> Result<(), Exit>
         requires { FileFits bytes }
         ensures settings { self.new.settings ≡ self.old.settings }
@@ -174,21 +171,25 @@ impl Machine {
         ensures fault { IfErr result (TurnFaults (become_frame self.old.state file bytes)) }
     {
         match file {
-            FileId::Switch => self.switch_becomes(Shared::new(alloc, bytes)?, alloc)?,
-            FileId::Passwd | FileId::ExtraPasswd => self.users_become(
-                file,
-                Shared::new(alloc, bytes)?,
-                alloc,
-            )?,
-            FileId::Group | FileId::Hosts | FileId::Services | FileId::ExtraGroup => return Err(
-                Exit::NotBuilt,
-            ),
+            FileId::Switch => {
+                let held = Shared::new(alloc, bytes)?;
+                self.switch_becomes(alloc, held)?;
+            }
+            FileId::Passwd | FileId::ExtraPasswd => {
+                let held = Shared::new(alloc, bytes)?;
+                self.users_become(alloc, file, held)?;
+            }
+            FileId::Group | FileId::ExtraGroup => {
+                let held = Shared::new(alloc, bytes)?;
+                self.groups_become(alloc, file, held)?;
+            }
+            FileId::Hosts | FileId::Services => return Err(Exit::NotBuilt),
         }
         Ok(())
     }
 
     // The file of the service lists, which every database reads, becomes this.
-    fn switch_becomes(&mut self, held: Shared, alloc: Global) -> Result<(), NoMemory>
+    fn switch_becomes(&mut self, alloc: Global, held: Shared) -> Result<(), NoMemory>
         requires { FileFits held }
         ensures settings { self.new.settings ≡ self.old.settings }
         ensures set { OnOk result (self.new.state ≡ record self.old.state { files = with_file self.old.state.files FileId.Switch held }) }
@@ -214,7 +215,7 @@ impl Machine {
     }
 
     // A file that users read alone becomes this.
-    fn users_become(&mut self, file: FileId, held: Shared, alloc: Global) -> Result<(), NoMemory>
+    fn users_become(&mut self, alloc: Global, file: FileId, held: Shared) -> Result<(), NoMemory>
         requires fits { FileFits held }
         requires own { IsOfUsers file }
         ensures settings { self.new.settings ≡ self.old.settings }
@@ -222,6 +223,19 @@ impl Machine {
     {
         let users = self.sources.part_with(alloc, Db::Passwd, file, &held)?;
         self.users.set(users);
+        self.sources.set(file, held);
+        Ok(())
+    }
+
+    // A file that groups read alone becomes this.
+    fn groups_become(&mut self, alloc: Global, file: FileId, held: Shared) -> Result<(), NoMemory>
+        requires fits { FileFits held }
+        requires own { IsOfGroups file }
+        ensures settings { self.new.settings ≡ self.old.settings }
+        ensures set { OnOk result (self.new.state ≡ record self.old.state { files = with_file self.old.state.files file held }) }
+    {
+        let groups = self.sources.part_with(alloc, Db::Group, file, &held)?;
+        self.groups.set(groups);
         self.sources.set(file, held);
         Ok(())
     }

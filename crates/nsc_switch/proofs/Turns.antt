@@ -28,15 +28,15 @@ is_switch look (step ∷ steps) = from_step look Unavail step steps
 -- that nothing answers can be told for every kind that is built
 pub unavail_told : (kind : Kind) → IsBuilt kind → Sendable kind Unavail
 unavail_told PwName built = record { of_kind = tt; fits = search rules }
-unavail_told PwUid built = absurd built
-unavail_told GrName built = absurd built
-unavail_told GrGid built = absurd built
+unavail_told PwUid built = record { of_kind = tt; fits = search rules }
+unavail_told GrName built = record { of_kind = tt; fits = search rules }
+unavail_told GrGid built = record { of_kind = tt; fits = search rules }
 unavail_told HostName built = absurd built
 unavail_told HostName6 built = absurd built
 unavail_told HostAddr built = absurd built
 unavail_told HostAddr6 built = absurd built
 unavail_told Ai built = absurd built
-unavail_told InitGroups built = absurd built
+unavail_told InitGroups built = record { of_kind = tt; fits = search rules }
 unavail_told ServName built = absurd built
 unavail_told ServPort built = absurd built
 
