@@ -131,5 +131,5 @@ abbrev pub looked_up : Files → Request → Looked
 looked_up files request = switched (service_answer files request) (service_list files (database_of request.kind))
 
 -- the answer to a request over a content
-abbrev pub answer_of : Files → Request → Marked
+unfoldable pub answer_of : Files → Request → Marked
 answer_of files request = marked request.kind (looked_up files request)
