@@ -1,2 +1,4 @@
 pub mod Fields
 pub mod Passwd
+pub mod Group
+pub mod Found
