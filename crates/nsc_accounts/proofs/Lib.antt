@@ -4,3 +4,5 @@ pub mod Counts
 pub mod Entries
 pub mod Named
 pub mod Firsts
+pub mod Pieces
+pub mod Collected

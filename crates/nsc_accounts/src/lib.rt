@@ -5,10 +5,13 @@
 mod fields;
 mod find;
 mod group;
+mod members;
+mod once;
 mod passwd;
 
 pub use find::{find_group_by_gid, find_group_by_name, find_passwd_by_name, find_passwd_by_uid};
 pub use group::{GroupAt, group_line};
+pub use members::{groups_of, has_member};
 pub use passwd::{PasswdAt, passwd_line};
 
 #[cfg(test)]
