@@ -4,9 +4,9 @@ use Rattle.std.proofs.lemmas.List.{drop-drop, drop-take}
 use Rattle.nsc_base.specs.declared.span.Span.{Span}
 use Rattle.nsc_base.specs.Text.{fields_of, part}
 use Rattle.nsc_model.specs.Users.{has_zero, trimmed, user_of_fields, user_of_line}
-use Rattle.nsc_accounts.specs.Fields.{exactly}
-use Rattle.nsc_accounts.specs.Passwd.{LiesIn, UserLiesIn}
-use Rattle.nsc_accounts.specs.declared.passwd.PasswdAt.{PasswdAt}
+use Rattle.nsc_model.specs.Groups.{group_of_fields, group_of_line}
+use Rattle.nsc_accounts.specs.Fields.{exactly, fields_of_line}
+use Rattle.nsc_accounts.specs.Passwd.{LiesIn}
 
 -- a part without its first bytes
 part-drop : (text : List ℕ) (line : Span) (w : ℕ) → w ≤ length (part text line) → drop w (part text line) ≡ part text (record { from = line.from + w; to = line.to })
@@ -17,13 +17,41 @@ part-drop text line w l =
     let whole : line.to - line.from ≡ w + m = omega arith in
     ap (λ (n : ℕ). drop w (take n all)) whole ∙ drop-take w m all ∙ ap (λ (xs : List ℕ). take m xs) (drop-drop w line.from text)
 
--- the entry of a line is that of its fields behind the white space
-pub line_fields : (text : List ℕ) (line : Span) (w : ℕ) → w ≤ length (part text line) → has_zero (part text line) ≡ false → drop w (part text line) ≡ trimmed (part text line) → user_of_line (part text line) ≡ user_of_fields (fields_of 58 (part text (record { from = line.from + w; to = line.to })))
-line_fields text line w l clean rest =
-    rw clean (ap (λ (bytes : List ℕ). user_of_fields (fields_of 58 bytes)) (sym rest ∙ part-drop text line w l))
+-- the fields of a line are those behind the white space
+pub fields_behind : (n : ℕ) (text : List ℕ) (line : Span) (w : ℕ) → w ≤ length (part text line) → has_zero (part text line) ≡ false → drop w (part text line) ≡ trimmed (part text line) → fields_of_line n (part text line) ≡ exactly n (fields_of 58 (part text (record { from = line.from + w; to = line.to })))
+fields_behind n text line w l clean rest =
+    rw clean (ap (λ (bytes : List ℕ). exactly n (fields_of 58 bytes)) (sym rest ∙ part-drop text line w l))
+
+-- exactly so many
+exactly_is : {A : Type 0} (n : ℕ) (items found : List A) → Some found ≡ exactly n items → items ≡ found
+exactly_is n items found h =
+    elim (nat_eq (length items) n) as (λ v. nat_eq (length items) n ≡ v → Some found ≡ (if v then Some items else None) → items ≡ found) [
+      | true ↦ λ is e. cc
+      | false ↦ λ is e. cc
+    ] refl h
+
+-- the entry of a line, where it has the fields
+abbrev pub entry_by : {A : Type 0} → (List (List ℕ) → Option A) → List ℕ → Option A
+entry_by entry_of line = if has_zero line then None else entry_of (fields_of 58 (trimmed line))
+
+-- a line that lacks the fields makes no entry
+unformed_line : {A : Type 0} (n : ℕ) (entry_of : List (List ℕ) → Option A) → ((fields : List (List ℕ)) → None ≡ exactly n fields → entry_of fields ≡ None) → (line : List ℕ) → None ≡ fields_of_line n line → entry_by entry_of line ≡ None
+unformed_line n entry_of none line h =
+    elim (has_zero line) as (λ v. None ≡ (if v then None else exactly n (fields_of 58 (trimmed line))) → (if v then None else entry_of (fields_of 58 (trimmed line))) ≡ None) [
+      | true ↦ λ e. refl
+      | false ↦ λ e. none (fields_of 58 (trimmed line)) e
+    ] h
+
+-- and another line that of its fields
+formed_line : {A : Type 0} (n : ℕ) (entry_of : List (List ℕ) → Option A) (line : List ℕ) (fields : List (List ℕ)) → Some fields ≡ fields_of_line n line → entry_of fields ≡ entry_by entry_of line
+formed_line n entry_of line fields h =
+    elim (has_zero line) as (λ v. Some fields ≡ (if v then None else exactly n (fields_of 58 (trimmed line))) → entry_of fields ≡ (if v then None else entry_of (fields_of 58 (trimmed line)))) [
+      | true ↦ λ e. cc
+      | false ↦ λ e. ap entry_of (sym (exactly_is n (fields_of 58 (trimmed line)) fields e))
+    ] h
 
 -- another count of fields makes no entry
-pub unformed : (fields : List (List ℕ)) → None ≡ exactly 7 fields → user_of_fields fields ≡ None
+unformed : (fields : List (List ℕ)) → None ≡ exactly 7 fields → user_of_fields fields ≡ None
 unformed [] h = refl
 unformed (a ∷ []) h = refl
 unformed (a ∷ b ∷ []) h = refl
@@ -34,13 +62,25 @@ unformed (a ∷ b ∷ c ∷ d ∷ e ∷ f ∷ []) h = refl
 unformed (a ∷ b ∷ c ∷ d ∷ e ∷ f ∷ g ∷ []) h = cc
 unformed (a ∷ b ∷ c ∷ d ∷ e ∷ f ∷ g ∷ i ∷ more) h = refl
 
--- exactly so many
-pub exactly_is : {A : Type 0} (n : ℕ) (items found : List A) → Some found ≡ exactly n items → items ≡ found
-exactly_is n items found h =
-    elim (nat_eq (length items) n) as (λ v. nat_eq (length items) n ≡ v → Some found ≡ (if v then Some items else None) → items ≡ found) [
-      | true ↦ λ is e. cc
-      | false ↦ λ is e. cc
-    ] refl h
+pub no_user : (line : List ℕ) → None ≡ fields_of_line 7 line → None ≡ user_of_line line
+no_user line h = sym (unformed_line 7 user_of_fields unformed line h)
+
+pub user_is : (line : List ℕ) (fields : List (List ℕ)) → Some fields ≡ fields_of_line 7 line → user_of_fields fields ≡ user_of_line line
+user_is line fields h = formed_line 7 user_of_fields line fields h
+
+unformed_group : (fields : List (List ℕ)) → None ≡ exactly 4 fields → group_of_fields fields ≡ None
+unformed_group [] h = refl
+unformed_group (a ∷ []) h = refl
+unformed_group (a ∷ b ∷ []) h = refl
+unformed_group (a ∷ b ∷ c ∷ []) h = refl
+unformed_group (a ∷ b ∷ c ∷ d ∷ []) h = cc
+unformed_group (a ∷ b ∷ c ∷ d ∷ e ∷ more) h = refl
+
+pub no_group : (line : List ℕ) → None ≡ fields_of_line 4 line → None ≡ group_of_line line
+no_group line h = sym (unformed_line 4 group_of_fields unformed_group line h)
+
+pub group_is : (line : List ℕ) (fields : List (List ℕ)) → Some fields ≡ fields_of_line 4 line → group_of_fields fields ≡ group_of_line line
+group_is line fields h = formed_line 4 group_of_fields line fields h
 
 -- what lies behind the white space lies in the line
 pub lies_in_line : (line : Span) (w : ℕ) (spans : List Span) → All (LiesIn (record { from = line.from + w; to = line.to })) spans → All (LiesIn line) spans
@@ -54,6 +94,7 @@ lies_in_text text line spans inside lie = λ k d l.
     let there = lie k d l in
     record { begins = omega arith; ordered = there.ordered; ends = omega (arith, there.ends) }
 
-pub entry_lies : (line : Span) (spans : List Span) (r : Option PasswdAt) → All (LiesIn line) spans → IfSome r (λ at. (within : Span) → All (LiesIn within) spans → UserLiesIn within at) → IfSome r (UserLiesIn line)
-entry_lies line spans None lie h = tt
-entry_lies line spans (Some at) lie h = h line lie
+-- an entry lies in the line that its fields lie in
+pub entry_lies : {E : Type 0} (EntryIn : Span → E → Type 0) (line : Span) (spans : List Span) (r : Option E) → All (LiesIn line) spans → IfSome r (λ at. (within : Span) → All (LiesIn within) spans → EntryIn within at) → IfSome r (EntryIn line)
+entry_lies EntryIn line spans None lie h = tt
+entry_lies EntryIn line spans (Some at) lie h = h line lie

@@ -1,5 +1,8 @@
 pub mod Zeros
 pub mod Begins
 pub mod Counts
-pub mod Named
 pub mod Entries
+pub mod Named
+pub mod Firsts
+pub mod Pieces
+pub mod Collected

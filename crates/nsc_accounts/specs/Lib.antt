@@ -1,2 +1,5 @@
 pub mod Fields
 pub mod Passwd
+pub mod Group
+pub mod Found
+pub mod Once

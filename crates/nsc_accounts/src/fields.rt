@@ -2,7 +2,7 @@ ghost use Rattle.std.specs.Prelude.{◌≡◌, ◌≤◌, All, IfSome, drop, len
 ghost use Rattle.std.specs.Option.{option_map};
 ghost use Rattle.nsc_base.specs.Text.{fields_of, part};
 ghost use Rattle.nsc_model.specs.Users.{has_zero, is_name, trimmed};
-ghost use Rattle.nsc_accounts.specs.Fields.{exactly};
+ghost use Rattle.nsc_accounts.specs.Fields.{exactly, fields_of_line};
 ghost use Rattle.nsc_accounts.specs.Passwd.{LiesIn};
 
 use memchr::memchr;
@@ -56,4 +56,22 @@ pub fn fields<const N: usize>(text: &[u8], within: Span) -> Option<[Span; N]>
         return None;
     }
     Some(spans)
+}
+
+/// The fields of a line behind the white space at its front, where there are exactly `N` and no byte of the line is 0.
+pub fn line_fields<const N: usize>(text: &[u8], line: Span) -> Option<[Span; N]>
+    requires ordered { line.from ≤ line.to }
+    requires inside { line.to ≤ length text.now }
+    ensures fields { option_map (map (part text.now)) result ≡ fields_of_line N (part text.now line) }
+    ensures inside { IfSome result (All (LiesIn line)) }
+{
+    let bytes = &text[line.from..line.to];
+    if has_zero_byte(bytes) {
+        return None;
+    }
+    let black = Span {
+        from: line.from + white_front(bytes),
+        to: line.to,
+    };
+    fields::<N>(text, black)
 }

@@ -1,24 +1,64 @@
-ghost use Rattle.std.specs.Prelude.{◌≡◌, ◌≤◌, ◌↔◌, ◌++◌, ◌∷◌, ℕ, List, IfSome, IsTrue, length};
+ghost use Rattle.std.specs.Prelude.{◌≡◌, ◌≤◌, ◌↔◌, ◌++◌, ◌∷◌, ◌==◌, ℕ, List, IfSome, IsTrue, length};
 ghost use Rattle.std.specs.Option.{option_map};
 ghost use Rattle.std.specs.Str.{bytes_eq};
 ghost use Rattle.nsc_base.specs.Text.{part};
-ghost use Rattle.nsc_model.specs.Users.{user_of_line};
+ghost use Rattle.nsc_base.specs.declared.span.Span.{Span};
+ghost use Rattle.nsc_model.specs.Users.{trimmed, user_of_line};
+ghost use Rattle.nsc_model.specs.Groups.{group_of_line};
 ghost use Rattle.nsc_model.specs.Entries.{first_named, if_named};
+ghost use Rattle.nsc_accounts.specs.Found.{FirstFrom};
+ghost use Rattle.nsc_accounts.specs.Group.{GroupLiesIn, group_at};
 ghost use Rattle.nsc_accounts.specs.Passwd.{UserLiesIn, user_at};
 
 use crate::fields::white_front;
+use crate::group::{GroupAt, group_line};
 use crate::passwd::{PasswdAt, passwd_line};
 use nsc_base::{Span, equal, line_at};
 
-/// The first line of a passwd file that has the form of an entry and this name, as places in the file. `None` where
-/// there is none. Takes no memory.
+/// The first line of a passwd file, passwd(5), that has the form of an entry and this name, as places in the file.
+/// `None` where there is none. Takes no memory.
 pub fn find_passwd_by_name(text: &[u8], name: &[u8]) -> Option<PasswdAt>
     ensures entry { option_map (user_at text.now) result ≡ first_named user_of_line (λ p. bytes_eq p.name name.now) text.now }
     ensures inside { IfSome result (UserLiesIn (record { from = 0; to = length text.now })) }
 {
+    first_line(text, |line| user_named(text, line, name))
+}
+
+/// The first line of a passwd file, passwd(5), that has the form of an entry and this user id, as places in the file.
+/// `None` where there is none. Takes no memory.
+pub fn find_passwd_by_uid(text: &[u8], uid: u32) -> Option<PasswdAt>
+    ensures entry { option_map (user_at text.now) result ≡ first_named user_of_line (λ p. p.uid == uid) text.now }
+    ensures inside { IfSome result (UserLiesIn (record { from = 0; to = length text.now })) }
+{
+    first_line(text, |line| user_numbered(text, line, uid))
+}
+
+/// The first line of a group file, group(5), that has the form of an entry and this name, as places in the file. `None`
+/// where there is none. Takes no memory.
+pub fn find_group_by_name(text: &[u8], name: &[u8]) -> Option<GroupAt>
+    ensures entry { option_map (group_at text.now) result ≡ first_named group_of_line (λ g. bytes_eq g.name name.now) text.now }
+    ensures inside { IfSome result (GroupLiesIn (record { from = 0; to = length text.now })) }
+{
+    first_line(text, |line| group_named(text, line, name))
+}
+
+/// The first line of a group file, group(5), that has the form of an entry and this group id, as places in the file.
+/// `None` where there is none. Takes no memory.
+pub fn find_group_by_gid(text: &[u8], gid: u32) -> Option<GroupAt>
+    ensures entry { option_map (group_at text.now) result ≡ first_named group_of_line (λ g. g.gid == gid) text.now }
+    ensures inside { IfSome result (GroupLiesIn (record { from = 0; to = length text.now })) }
+{
+    first_line(text, |line| group_numbered(text, line, gid))
+}
+
+// What the first line of the text gives that gives something. No later line is looked at.
+fn first_line<E, F: Fn(Span) -> Option<E>>(text: &[u8], entry_of: F) -> Option<E>
+    requires { (line : Span) → line.from ≤ line.to → line.to ≤ length text.now → F.pre entry_of line }
+    ensures { FirstFrom (F.post entry_of) text.now 0 result }
+{
     let mut from = 0;
     while let Some(line) = line_at(text, from) {
-        if let Some(entry) = named_line(text, line.span, name) {
+        if let Some(entry) = entry_of(line.span) {
             return Some(entry);
         }
         from = line.next;
@@ -26,16 +66,15 @@ pub fn find_passwd_by_name(text: &[u8], name: &[u8]) -> Option<PasswdAt>
     None
 }
 
-// The entry of a line that has the form and this name. A line that does not begin with the name and a colon is given up
-// before its fields are read.
-fn named_line(text: &[u8], line: Span, name: &[u8]) -> Option<PasswdAt>
+// The entry of a line of a passwd file that has the form and this name. A line that does not begin with the name and a
+// colon is given up before its fields are read.
+fn user_named(text: &[u8], line: Span, name: &[u8]) -> Option<PasswdAt>
     requires ordered { line.from ≤ line.to }
     requires inside { line.to ≤ length text.now }
     ensures entry { option_map (user_at text.now) result ≡ if_named (λ p. bytes_eq p.name name.now) (user_of_line (part text.now line)) }
     ensures inside { IfSome result (UserLiesIn line) }
 {
-    let bytes = &text[line.from..line.to];
-    if !begins_with_field(&bytes[white_front(bytes)..], name) {
+    if !begins_with_name(&text[line.from..line.to], name) {
         return None;
     }
     let entry = passwd_line(text, line)?;
@@ -44,6 +83,54 @@ fn named_line(text: &[u8], line: Span, name: &[u8]) -> Option<PasswdAt>
     } else {
         None
     }
+}
+
+// The entry of a line of a group file that has the form and this name. A line that does not begin with the name and a
+// colon is given up before its fields are read.
+fn group_named(text: &[u8], line: Span, name: &[u8]) -> Option<GroupAt>
+    requires ordered { line.from ≤ line.to }
+    requires inside { line.to ≤ length text.now }
+    ensures entry { option_map (group_at text.now) result ≡ if_named (λ g. bytes_eq g.name name.now) (group_of_line (part text.now line)) }
+    ensures inside { IfSome result (GroupLiesIn line) }
+{
+    if !begins_with_name(&text[line.from..line.to], name) {
+        return None;
+    }
+    let group = group_line(text, line)?;
+    if equal(&text[group.name.from..group.name.to], name) {
+        Some(group)
+    } else {
+        None
+    }
+}
+
+// The entry of a line of a passwd file that has the form and this user id.
+fn user_numbered(text: &[u8], line: Span, uid: u32) -> Option<PasswdAt>
+    requires ordered { line.from ≤ line.to }
+    requires inside { line.to ≤ length text.now }
+    ensures entry { option_map (user_at text.now) result ≡ if_named (λ p. p.uid == uid) (user_of_line (part text.now line)) }
+    ensures inside { IfSome result (UserLiesIn line) }
+{
+    let entry = passwd_line(text, line)?;
+    if entry.uid == uid { Some(entry) } else { None }
+}
+
+// The entry of a line of a group file that has the form and this group id.
+fn group_numbered(text: &[u8], line: Span, gid: u32) -> Option<GroupAt>
+    requires ordered { line.from ≤ line.to }
+    requires inside { line.to ≤ length text.now }
+    ensures entry { option_map (group_at text.now) result ≡ if_named (λ g. g.gid == gid) (group_of_line (part text.now line)) }
+    ensures inside { IfSome result (GroupLiesIn line) }
+{
+    let group = group_line(text, line)?;
+    if group.gid == gid { Some(group) } else { None }
+}
+
+// Whether a line begins with the name and a colon, behind white space.
+fn begins_with_name(line: &[u8], name: &[u8]) -> bool
+    ensures { IsTrue result ↔ ((rest : List ℕ) × (trimmed line.now ≡ name.now ++ 58 ∷ rest)) }
+{
+    begins_with_field(&line[white_front(line)..], name)
 }
 
 // Whether the bytes begin with this field and a colon.

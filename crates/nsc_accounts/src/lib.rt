@@ -1,11 +1,17 @@
-//! The entries of account files: lines of passwd(5) read, and the line that a request names found.
+//! The entries of account files: lines of passwd(5) and group(5) read, the line that a request names found, and the
+//! groups of a user.
 #![tactic(auto)]
 
 mod fields;
 mod find;
+mod group;
+mod members;
+mod once;
 mod passwd;
 
-pub use find::find_passwd_by_name;
+pub use find::{find_group_by_gid, find_group_by_name, find_passwd_by_name, find_passwd_by_uid};
+pub use group::{GroupAt, group_line};
+pub use members::{groups_of, has_member};
 pub use passwd::{PasswdAt, passwd_line};
 
 #[cfg(test)]

@@ -5,7 +5,7 @@ ghost use Rattle.nsc_base.specs.Text.{part};
 ghost use Rattle.nsc_model.specs.Users.{user_of_fields, user_of_line};
 ghost use Rattle.nsc_accounts.specs.Passwd.{LiesIn, UserLiesIn, user_at};
 
-use crate::fields::{fields, has_zero_byte, may_be_name, white_front};
+use crate::fields::{line_fields, may_be_name};
 use nsc_base::{Span, decimal};
 
 /// Where the texts of a user's entry stand in a text, and its ids.
@@ -37,15 +37,7 @@ pub fn passwd_line(text: &[u8], line: Span) -> Option<PasswdAt>
     ensures entry { option_map (user_at text.now) result ≡ user_of_line (part text.now line) }
     ensures inside { IfSome result (UserLiesIn line) }
 {
-    let bytes = &text[line.from..line.to];
-    if has_zero_byte(bytes) {
-        return None;
-    }
-    let black = Span {
-        from: line.from + white_front(bytes),
-        to: line.to,
-    };
-    entry_of(text, fields::<7>(text, black)?)
+    entry_of(text, line_fields::<7>(text, line)?)
 }
 
 // The entry of seven fields, where the first may be a name and the ids are numbers. What the fields lie in, the entry

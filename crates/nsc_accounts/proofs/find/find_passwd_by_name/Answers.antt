@@ -1,10 +1,12 @@
+use Rattle.std.proofs.Common.{rules}
+use Rattle.std.specs.Str.{bytes_eq}
 use Rattle.nsc_model.specs.Users.{user_of_line}
-use Rattle.nsc_accounts.proofs.Named.{next_line}
+use Rattle.nsc_accounts.specs.Passwd.{user_at}
+use Rattle.nsc_accounts.proofs.Firsts.{first_has, first_is}
 use Rattle.nsc_accounts.proofs.find.find_passwd_by_name.Goals as goal
 
-pub loop-line-preserved : goal.loop-line-preserved
-loop-line-preserved c =
-    record {
-      inside = c.in-Some.ensures.line.next_ends;
-      left = next_line user_of_line _ c.args.text.now c.loop-line.from c.in-Some.line _ c.in-Some.ensures.line c.in_default-named_line.ensures.entry c.loop-line.invariant.left;
-    }
+pub returns-clause-entry : goal.returns-clause-entry
+returns-clause-entry c = first_is _ c.args.text.now (user_at c.args.text.now) user_of_line (λ p. bytes_eq p.name c.args.name.now) (λ span r ordered ends gives. search rules) 0 c.first_line.result c.first_line.ensures
+
+pub returns-clause-inside : goal.returns-clause-inside
+returns-clause-inside c = first_has _ c.args.text.now _ (λ span r ordered ends gives. search rules) 0 c.first_line.result c.first_line.ensures

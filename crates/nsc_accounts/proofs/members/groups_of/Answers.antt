@@ -1,0 +1,24 @@
+use Rattle.std.proofs.Common.{refl, ap, ◌∙◌, arith}
+use Rattle.nsc_accounts.proofs.Collected.{all_ids, ids_behind, ids_end, ids_more, ids_start, member_ids}
+use Rattle.nsc_accounts.proofs.members.groups_of.Goals as goal
+
+pub loop-line-init : goal.loop-line-init
+loop-line-init c = record {
+  inside = omega arith;
+  left = ap (λ ids. all_ids ids (member_ids c.args.user.now c.args.text.now)) c.new-ids.ensures ∙ ids_start c.args.user.now c.args.text.now;
+}
+
+pub loop-line-preserved : goal.loop-line-preserved
+loop-line-preserved c = record {
+  inside = c.in-Some.ensures.line.next_ends;
+  left = ids_behind c.args.user.now c.args.text.now c.loop-line.from c.in-Some.line c.loop-line.ids _ c.in-Some.ensures.line c.in_default-gid_of_member.ensures c.loop-line.invariant.left;
+}
+
+pub returns : goal.returns
+returns c = c.into_ids.ensures ∙ ids_end c.args.user.now c.args.text.now c.loop-line.from c.loop-line.ids _ (c.in_default.ensures.none.0 refl) c.loop-line.invariant.left
+
+pub loop-line-preserved-in_ok-add : goal.loop-line-preserved-in_ok-add
+loop-line-preserved-in_ok-add c = record {
+  inside = c.in-Some.ensures.line.next_ends;
+  left = ids_more c.args.user.now c.args.text.now c.loop-line.from c.in-Some.line c.loop-line.ids _ c.in-Some-gid_of_member.gid _ c.in-Some.ensures.line c.in-Some-gid_of_member.ensures c.in_ok-add.ensures c.loop-line.invariant.left;
+}
