@@ -1,2 +1,5 @@
 pub mod Texts
-pub mod Senders
+pub mod Keeps
+pub mod UsersSent
+pub mod GroupsSent
+pub mod IdsSent

@@ -1,7 +1,9 @@
 //! The services `files` and `extrausers`: what a database's own file, or the extra one, answers.
 #![tactic(auto)]
 
+mod groups;
 mod lookup;
+mod members;
 mod users;
 
 pub use lookup::{extra_lookup, files_lookup};

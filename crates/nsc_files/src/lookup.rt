@@ -1,12 +1,14 @@
 ghost use Rattle.std.specs.Prelude.{◌≡◌, IfOk};
 ghost use Rattle.nsc_model.specs.Services.{Local, Extrausers};
-ghost use Rattle.nsc_model.specs.Answers.{service_answer};
+ghost use Rattle.nsc_model.specs.Answers.{answer_by, service_answer};
+ghost use Rattle.nsc_model.specs.Files.{file_of};
 ghost use Rattle.nsc_model.specs.Kinds.{IsBuilt};
 ghost use Rattle.nsc_model.specs.Sendable.{Sendable};
 
-use crate::users::user_in;
+use crate::groups::{group_by_id, group_by_name, groups_of_user};
+use crate::users::{user_by_id, user_by_name};
 use nsc_base::NoMemory;
-use nsc_model::{Content, FileId, Kind, Looked};
+use nsc_model::{Content, Db, FileId, Kind, Looked};
 use std::alloc::Global;
 
 /// The outcome of the service `files` for the request of this kind and key: unavailable where the database's file is
@@ -21,20 +23,13 @@ pub fn files_lookup(
     ensures outcome { IfOk result (λ looked. looked ≡ service_answer content.now (record { kind = kind; key = key.now }) Local) }
     ensures sendable { IfOk result (λ looked. Sendable kind looked) }
 {
-    match kind {
-        Kind::PwName => user_in(alloc, content, FileId::Passwd, key),
-        Kind::PwUid
-        | Kind::GrName
-        | Kind::GrGid
-        | Kind::HostName
-        | Kind::HostName6
-        | Kind::HostAddr
-        | Kind::HostAddr6
-        | Kind::Ai
-        | Kind::InitGroups
-        | Kind::ServName
-        | Kind::ServPort => Ok(Looked::Unavail),
-    }
+    let file = match Db::of(kind) {
+        Db::Passwd => FileId::Passwd,
+        Db::Group => FileId::Group,
+        Db::Hosts => FileId::Hosts,
+        Db::Services => FileId::Services,
+    };
+    look_in(alloc, content, file, kind, key)
 }
 
 /// The outcome of the service `extrausers` for the request of this kind and key, over the extra files of users and
@@ -49,17 +44,39 @@ pub fn extra_lookup(
     ensures outcome { IfOk result (λ looked. looked ≡ service_answer content.now (record { kind = kind; key = key.now }) Extrausers) }
     ensures sendable { IfOk result (λ looked. Sendable kind looked) }
 {
+    match Db::of(kind) {
+        Db::Passwd => look_in(alloc, content, FileId::ExtraPasswd, kind, key),
+        Db::Group => look_in(alloc, content, FileId::ExtraGroup, kind, key),
+        Db::Hosts | Db::Services => Ok(Looked::Unavail),
+    }
+}
+
+// The outcome of a request over one of the files.
+fn look_in(
+    alloc: Global,
+    content: &Content,
+    file: FileId,
+    kind: Kind,
+    key: &[u8],
+) -> Result<Looked, NoMemory>
+    requires { IsBuilt kind }
+    ensures outcome { IfOk result (λ looked. looked ≡ answer_by kind (file_of content.now file) key.now) }
+    ensures sendable { IfOk result (λ looked. Sendable kind looked) }
+{
+    let Some(text) = content.file(file) else {
+        return Ok(Looked::Unavail);
+    };
     match kind {
-        Kind::PwName => user_in(alloc, content, FileId::ExtraPasswd, key),
-        Kind::PwUid
-        | Kind::GrName
-        | Kind::GrGid
-        | Kind::HostName
+        Kind::PwName => user_by_name(alloc, text, key),
+        Kind::PwUid => user_by_id(alloc, text, key),
+        Kind::GrName => group_by_name(alloc, text, key),
+        Kind::GrGid => group_by_id(alloc, text, key),
+        Kind::InitGroups => groups_of_user(alloc, text, key),
+        Kind::HostName
         | Kind::HostName6
         | Kind::HostAddr
         | Kind::HostAddr6
         | Kind::Ai
-        | Kind::InitGroups
         | Kind::ServName
         | Kind::ServPort => Ok(Looked::Unavail),
     }

@@ -6,7 +6,7 @@ use Rattle.nsc_model.specs.declared.row.Row.TheVariants as row
 use Rattle.nsc_model.specs.declared.row.Looked.TheVariants.{Found}
 use Rattle.nsc_accounts.specs.Passwd.{user_at}
 use Rattle.nsc_model.specs.Sendable.{Sendable}
-use Rattle.nsc_files.proofs.Senders.{found_is_user, reply_fits}
+use Rattle.nsc_files.proofs.UsersSent.{found_is_user, reply_fits}
 use Rattle.nsc_files.proofs.users.user_by_name.Goals as goal
 
 pub returns-in_ok-user_row-in-Some-clause-sendable : goal.returns-in_ok-user_row-in-Some-clause-sendable
