@@ -10,7 +10,7 @@ use Rattle.nsc_model.specs.Entries.{first_named, first_of, if_named}
 use Rattle.nsc_accounts.specs.Found.{FirstFrom, at_end, here, behind}
 
 -- one line more at the front
-first_step : {A : Type 0} (names : A → Bool) (o : Option A) (others : List A) → first_of (filter names (cons_option o others)) ≡ option_or (if_named names o) (first_of (filter names others))
+pub first_step : {A : Type 0} (names : A → Bool) (o : Option A) (others : List A) → first_of (filter names (cons_option o others)) ≡ option_or (if_named names o) (first_of (filter names others))
 first_step names None others = refl
 first_step names (Some x) others =
     elim (names x) as (λ v. first_of (cond v (x ∷ filter names others) (filter names others)) ≡ option_or (cond v (Some x) None) (first_of (filter names others))) [

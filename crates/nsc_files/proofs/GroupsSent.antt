@@ -86,10 +86,10 @@ pieces_sizes cuts (b ∷ bytes) =
     let some = pieces-some cuts bytes in
     let same : all_sizes (some.0 ∷ some.1.0) ≡ length bytes + 1 = sym (ap all_sizes some.1.1) ∙ later in
     let each : all_sizes (if cuts b then [] ∷ pieces cuts bytes else onto_first b (pieces cuts bytes)) ≡ length bytes + 1 + 1 =
-        elim (cuts b) as (λ v. all_sizes (if v then [] ∷ pieces cuts bytes else onto_first b (pieces cuts bytes)) ≡ length bytes + 1 + 1) [
-          | true ↦ (let e : 0 + 1 + all_sizes (pieces cuts bytes) ≡ length bytes + 1 + 1 = omega (arith, later) in e)
-          | false ↦ ap (λ ps. all_sizes (onto_first b ps)) some.1.1 ∙ (sizes_first b some.0 some.1.0 ∙ (let e : suc (all_sizes (some.0 ∷ some.1.0)) ≡ length bytes + 1 + 1 = omega (arith, same) in e))
-        ] in
+    elim (cuts b) as (λ v. all_sizes (if v then [] ∷ pieces cuts bytes else onto_first b (pieces cuts bytes)) ≡ length bytes + 1 + 1) [
+      | true ↦ (let e : 0 + 1 + all_sizes (pieces cuts bytes) ≡ length bytes + 1 + 1 = omega (arith, later) in e)
+      | false ↦ ap (λ ps. all_sizes (onto_first b ps)) some.1.1 ∙ (sizes_first b some.0 some.1.0 ∙ (let e : suc (all_sizes (some.0 ∷ some.1.0)) ≡ length bytes + 1 + 1 = omega (arith, same) in e))
+    ] in
     let size : length (b ∷ bytes) ≡ length bytes + 1 = omega arith in
     each ∙ ap (λ n. n + 1) (sym size)
 

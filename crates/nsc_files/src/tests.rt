@@ -4,48 +4,76 @@ use nsc_model::{Content, FileId, Kind, Looked, Row};
 use std::alloc::Global;
 use std::test::Fail;
 
-// Two files that each have a user of their own, and one of the same name.
+// Files that each have an entry of their own, and one of the same name.
 const PASSWD: &[u8] = b"root:x:0:0:root:/root:/bin/bash\nann:x:1:2:::\n";
 
-const EXTRA: &[u8] = b"ann:x:5000:100::/home/ann:/bin/sh\nbob:x:3:4:::\n";
+const EXTRA_PASSWD: &[u8] = b"ann:x:5000:100::/home/ann:/bin/sh\nbob:x:3:4:::\n";
+
+const GROUP: &[u8] = b"adm:x:4:syslog,ann\nstaff:x:50:\nusers:x:100:,ann,\nmore:x:4:ann";
+
+const EXTRA_GROUP: &[u8] = b"adm:x:7:bob\nusers:x:8:anna";
 
 fn content(alloc: Global) -> Result<Content, NoMemory> {
     let mut content = Content::none();
     content.set(FileId::Passwd, Some(Bytes::copy(alloc, PASSWD)?));
-    content.set(FileId::ExtraPasswd, Some(Bytes::copy(alloc, EXTRA)?));
+    content.set(FileId::ExtraPasswd, Some(Bytes::copy(alloc, EXTRA_PASSWD)?));
+    content.set(FileId::Group, Some(Bytes::copy(alloc, GROUP)?));
+    content.set(FileId::ExtraGroup, Some(Bytes::copy(alloc, EXTRA_GROUP)?));
     Ok(content)
 }
 
-// The user's id, where one was found.
-fn uid(looked: &Looked) -> Option<u32> {
+// What stands for an outcome here: the id of a user or a group, and the last of the ids of a user's groups.
+fn told(looked: &Looked) -> Option<u32> {
     match looked {
         Looked::Found(Row::Passwd(user)) => Some(user.uid),
+        Looked::Found(Row::Group(group)) => Some(group.gid),
+        Looked::Found(Row::Groups(ids)) => ids.as_slice().last().copied(),
         _ => None,
     }
 }
 
-// A name, its id in either file, and whether that is what each service gives.
-const NAMES: [(&[u8], Option<u32>, Option<u32>); 4] = [
-    (b"root", Some(0), None),
-    (b"ann", Some(1), Some(5000)),
-    (b"bob", None, Some(3)),
-    (b"cid", None, None),
+// A kind, a key, and what each service gives.
+const REQUESTS: [(Kind, &[u8], Option<u32>, Option<u32>); 16] = [
+    (Kind::PwName, b"root", Some(0), None),
+    (Kind::PwName, b"ann", Some(1), Some(5000)),
+    (Kind::PwName, b"bob", None, Some(3)),
+    (Kind::PwName, b"cid", None, None),
+    (Kind::PwUid, b"0", Some(0), None),
+    (Kind::PwUid, b"0003", None, Some(3)),
+    (Kind::PwUid, b"4294967296", None, None),
+    (Kind::PwUid, b"x", None, None),
+    (Kind::PwUid, b"+0", None, None),
+    (Kind::PwUid, b"", None, None),
+    (Kind::GrName, b"adm", Some(4), Some(7)),
+    (Kind::GrGid, b"50", Some(50), None),
+    (Kind::GrGid, b" 50", None, None),
+    (Kind::InitGroups, b"ann", Some(100), None),
+    (Kind::InitGroups, b"bob", None, Some(7)),
+    (Kind::InitGroups, b"zed", None, None),
 ];
 
 #[test]
 fn services(rt: HostRuntime) -> Result<(), Fail> {
     let alloc = rt.alloc();
     let content = content(alloc)?;
-    for (name, own, extra) in &NAMES {
-        let found = files_lookup(alloc, &content, Kind::PwName, name)?;
-        assert_eq!(rt; uid(&found), *own, "of {name:?}");
-        let found = extra_lookup(alloc, &content, Kind::PwName, name)?;
-        assert_eq!(rt; uid(&found), *extra, "of {name:?}");
+    for (kind, key, own, extra) in &REQUESTS {
+        let found = files_lookup(alloc, &content, *kind, key)?;
+        assert_eq!(rt; told(&found), *own, "of {kind:?} {key:?}");
+        let found = extra_lookup(alloc, &content, *kind, key)?;
+        assert_eq!(rt; told(&found), *extra, "of {kind:?} {key:?}");
     }
     let none = Content::none();
-    let looked = files_lookup(alloc, &none, Kind::PwName, b"root")?;
-    assert!(rt; matches!(looked, Looked::Unavail));
-    let looked = extra_lookup(alloc, &none, Kind::PwName, b"root")?;
-    assert!(rt; matches!(looked, Looked::Unavail));
+    for kind in [
+        Kind::PwName,
+        Kind::PwUid,
+        Kind::GrName,
+        Kind::GrGid,
+        Kind::InitGroups,
+    ] {
+        let looked = files_lookup(alloc, &none, kind, b"0")?;
+        assert!(rt; matches!(looked, Looked::Unavail));
+        let looked = extra_lookup(alloc, &none, kind, b"0")?;
+        assert!(rt; matches!(looked, Looked::Unavail));
+    }
     Ok(())
 }
