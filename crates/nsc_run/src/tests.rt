@@ -1,3 +1,4 @@
+mod groups;
 mod machines;
 mod seeded;
 mod switches;
@@ -190,17 +191,17 @@ const HALTED: [Halted; 22] = [
         &[],
     ),
     // The grammar comes before what is not built.
-    (&[b"F\x02\x02", END], Exit::BadFrame { offset: 0 }, &[]),
+    (&[b"F\x03\x02", END], Exit::BadFrame { offset: 0 }, &[]),
     (
-        &[b"F\x02\x01\x04\0\0\0abc"],
+        &[b"F\x03\x01\x04\0\0\0abc"],
         Exit::BadFrame { offset: 0 },
         &[],
     ),
     // Whole frames that are not built.
     (&[FILE, ASK_ROOT, b"F\x03\0", b"Z"], Exit::NotBuilt, &[ROOT]),
-    (&[b"F\x02\x01\x04\0\0\0abcd", END], Exit::NotBuilt, &[]),
+    (&[b"F\x03\x01\x04\0\0\0abcd", END], Exit::NotBuilt, &[]),
     (
-        &[b"Q\x0e\0\0\0\x02\0\0\0\x01\0\0\0\x02\0\0\x000\0", END],
+        &[b"Q\x0e\0\0\0\x02\0\0\0\x04\0\0\0\x02\0\0\0h\0", END],
         Exit::NotBuilt,
         &[],
     ),
