@@ -1,0 +1,167 @@
+-- No bytes spell two replies on users: each field and each text of a reply is read back from its bytes.
+use Rattle.std.proofs.Common.{◌≡◌, ℕ, ◌+◌, ◌<◌, ◌≤◌, ◌^◌, List, [], ◌∷◌, ◌++◌, length, drop, refl, sym, ap, subst, ◌∙◌, append_assoc, arith}
+use Rattle.std.proofs.lemmas.List.{length-append, append_cancel_right}
+use Rattle.byteorder.specs.Endian.{little_from}
+use Rattle.byteorder.specs.Numbers.{little_number-reads_back}
+use Rattle.nsc_model.specs.declared.row.Passwd.{Passwd}
+use Rattle.nsc_model.specs.declared.row.Row.TheVariants as row
+use Rattle.nsc_model.specs.declared.row.Reply.{Reply}
+use Rattle.nsc_model.specs.declared.row.Reply.TheVariants.{Found, Absent, Disabled}
+use Rattle.nsc_model.specs.Marked.{reply_limit}
+use Rattle.nsc_model.specs.Wire.{field, minus_one, text, passwd_found, user_reply, IsUser, IsUserReply}
+
+pub tail_is : (x y : ℕ) (r s : List ℕ) → x ∷ r ≡ y ∷ s → r ≡ s
+tail_is x y r s e = ap (drop 1) e
+
+pub head_is : (x y : ℕ) (r s : List ℕ) → x ∷ r ≡ y ∷ s → x ≡ y
+head_is x y r s e = cc
+
+-- a field and what stands behind it
+pub same_field : (x y : ℕ) (r s : List ℕ) → x < 2 ^ 32 → y < 2 ^ 32 → field x ++ r ≡ field y ++ s → (x ≡ y) × (r ≡ s)
+same_field x y r s x_fits y_fits e = (sym (little_number-reads_back 4 x r x_fits) ∙ (ap (little_from 0 4) e ∙ little_number-reads_back 4 y s y_fits), ap (drop 4) e)
+
+-- a text and what stands behind it, where the lengths are known
+pub same_text : (a b r s : List ℕ) → length a + 1 ≡ length b + 1 → text a ++ r ≡ text b ++ s → (a ≡ b) × (r ≡ s)
+same_text [] [] r s l e = (refl, ap (drop 1) e)
+same_text [] (y ∷ b) r s l e = absurd (omega arith)
+same_text (x ∷ a) [] r s l e = absurd (omega arith)
+same_text (x ∷ a) (y ∷ b) r s l e =
+    let h : x ≡ y = head_is x y (text a ++ r) (text b ++ s) e in
+    let more = same_text a b r s (omega arith) (tail_is x y (text a ++ r) (text b ++ s) e) in
+    (subst (λ z. x ∷ a ≡ z ∷ b) h (ap (λ c. x ∷ c) more.0), more.1)
+
+pub same_last : (a b : List ℕ) → text a ≡ text b → a ≡ b
+same_last a b e = append_cancel_right a b (0 ∷ []) e
+
+-- ---- the entry of a user
+
+-- the texts from each on
+abbrev from_dir : Passwd → List ℕ
+from_dir p = text p.dir ++ text p.shell
+
+abbrev from_gecos : Passwd → List ℕ
+from_gecos p = text p.gecos ++ (text p.dir ++ text p.shell)
+
+abbrev from_passwd : Passwd → List ℕ
+from_passwd p = text p.passwd ++ (text p.gecos ++ (text p.dir ++ text p.shell))
+
+abbrev texts : Passwd → List ℕ
+texts p = text p.name ++ (text p.passwd ++ (text p.gecos ++ (text p.dir ++ text p.shell)))
+
+abbrev texts_as_sent : Passwd → List ℕ
+texts_as_sent p = text p.name ++ text p.passwd ++ text p.gecos ++ text p.dir ++ text p.shell
+
+pub to_the_right : (a b c d e : List ℕ) → a ++ b ++ c ++ d ++ e ≡ a ++ (b ++ (c ++ (d ++ e)))
+to_the_right a b c d e = append_assoc (a ++ b ++ c) d e ∙ (append_assoc (a ++ b) c (d ++ e) ∙ append_assoc a b (c ++ (d ++ e)))
+
+regrouped : (p : Passwd) → texts_as_sent p ≡ texts p
+regrouped p = to_the_right (text p.name) (text p.passwd) (text p.gecos) (text p.dir) (text p.shell)
+
+-- the lengths of the texts, with their zero bytes, fit their fields
+record Fits (p : Passwd) : Type 0 where
+  name_fits : length p.name + 1 < 2 ^ 32
+  passwd_fits : length p.passwd + 1 < 2 ^ 32
+  gecos_fits : length p.gecos + 1 < 2 ^ 32
+  dir_fits : length p.dir + 1 < 2 ^ 32
+  shell_fits : length p.shell + 1 < 2 ^ 32
+
+pub length_text : (a r : List ℕ) → length (text a ++ r) ≡ length a + 1 + length r
+length_text a r = omega (arith, length-append (text a) r, length-append a (0 ∷ []))
+
+texts_within : (p : Passwd) → length (passwd_found p) ≡ 36 + length (texts p)
+texts_within p = let e : length (texts_as_sent p) ≡ length (texts p) = ap (λ (l : List ℕ). length l) (regrouped p) in omega (arith, e)
+
+abbrev all_lengths : Passwd → ℕ
+all_lengths p = length p.name + 1 + (length p.passwd + 1 + (length p.gecos + 1 + (length p.dir + 1 + (length p.shell + 1))))
+
+texts_length : (p : Passwd) → length (texts p) ≡ all_lengths p
+texts_length p =
+    length_text p.name (from_passwd p) ∙ ap (λ n. length p.name + 1 + n) (
+    length_text p.passwd (from_gecos p) ∙ ap (λ n. length p.passwd + 1 + n) (
+    length_text p.gecos (from_dir p) ∙ ap (λ n. length p.gecos + 1 + n) (
+    length_text p.dir (text p.shell) ∙ ap (λ n. length p.dir + 1 + n) (length-append p.shell (0 ∷ [])))))
+
+lengths : (p : Passwd) → length (passwd_found p) ≤ reply_limit → Fits p
+lengths p bound =
+    let within : 36 + all_lengths p ≤ reply_limit = subst (λ n. n ≤ reply_limit) (texts_within p ∙ ap (λ n. 36 + n) (texts_length p)) bound in
+    record {
+      name_fits = omega (arith, within);
+      passwd_fits = omega (arith, within);
+      gecos_fits = omega (arith, within);
+      dir_fits = omega (arith, within);
+      shell_fits = omega (arith, within);
+    }
+
+abbrev made : List ℕ → List ℕ → ℕ → ℕ → List ℕ → List ℕ → List ℕ → Passwd
+made name passwd uid gid gecos dir shell = record { name = name; passwd = passwd; uid = uid; gid = gid; gecos = gecos; dir = dir; shell = shell }
+
+user_from : (p q : Passwd) → p.name ≡ q.name → p.passwd ≡ q.passwd → p.uid ≡ q.uid → p.gid ≡ q.gid → p.gecos ≡ q.gecos → p.dir ≡ q.dir → p.shell ≡ q.shell → p ≡ q
+user_from p q h0 h1 h2 h3 h4 h5 h6 =
+    ap (λ x. made x p.passwd p.uid p.gid p.gecos p.dir p.shell) h0
+    ∙ (ap (λ x. made q.name x p.uid p.gid p.gecos p.dir p.shell) h1
+    ∙ (ap (λ x. made q.name q.passwd x p.gid p.gecos p.dir p.shell) h2
+    ∙ (ap (λ x. made q.name q.passwd q.uid x p.gecos p.dir p.shell) h3
+    ∙ (ap (λ x. made q.name q.passwd q.uid q.gid x p.dir p.shell) h4
+    ∙ (ap (λ x. made q.name q.passwd q.uid q.gid q.gecos x p.shell) h5
+    ∙ ap (λ x. made q.name q.passwd q.uid q.gid q.gecos q.dir x) h6)))))
+
+same_user : (p q : Passwd) → IsUser p → IsUser q → Fits p → Fits q → passwd_found p ≡ passwd_found q → p ≡ q
+same_user p q p_is q_is f g e =
+    let version = same_field 2 2 _ _ (omega arith) (omega arith) e in
+    let found = same_field 1 1 _ _ (omega arith) (omega arith) version.1 in
+    let name_len = same_field (length p.name + 1) (length q.name + 1) _ _ f.name_fits g.name_fits found.1 in
+    let passwd_len = same_field (length p.passwd + 1) (length q.passwd + 1) _ _ f.passwd_fits g.passwd_fits name_len.1 in
+    let uid = same_field p.uid q.uid _ _ p_is.uid_fits q_is.uid_fits passwd_len.1 in
+    let gid = same_field p.gid q.gid _ _ p_is.gid_fits q_is.gid_fits uid.1 in
+    let gecos_len = same_field (length p.gecos + 1) (length q.gecos + 1) _ _ f.gecos_fits g.gecos_fits gid.1 in
+    let dir_len = same_field (length p.dir + 1) (length q.dir + 1) _ _ f.dir_fits g.dir_fits gecos_len.1 in
+    let shell_len = same_field (length p.shell + 1) (length q.shell + 1) _ _ f.shell_fits g.shell_fits dir_len.1 in
+    let name = same_text p.name q.name (from_passwd p) (from_passwd q) name_len.0 (sym (regrouped p) ∙ (shell_len.1 ∙ regrouped q)) in
+    let passwd = same_text p.passwd q.passwd (from_gecos p) (from_gecos q) passwd_len.0 name.1 in
+    let gecos = same_text p.gecos q.gecos (from_dir p) (from_dir q) gecos_len.0 passwd.1 in
+    let dir = same_text p.dir q.dir (text p.shell) (text q.shell) dir_len.0 gecos.1 in
+    user_from p q name.0 passwd.0 uid.0 gid.0 gecos.0 dir.0 (same_last p.shell q.shell dir.1)
+
+-- the second field tells the three replies apart
+second_field : (x y : ℕ) (r s : List ℕ) → x < 2 ^ 32 → y < 2 ^ 32 → field 2 ++ field x ++ r ≡ field 2 ++ field y ++ s → x ≡ y
+second_field x y r s x_fits y_fits e = (same_field x y r s x_fits y_fits (same_field 2 2 (field x ++ r) (field y ++ s) (omega arith) (omega arith) e).1).0
+
+pub one_not_other : (x y : ℕ) (r s : List ℕ) → x < y → y < 2 ^ 32 → field 2 ++ field x ++ r ≡ field 2 ++ field y ++ s → ⊥
+one_not_other x y r s below fits e = let same : x ≡ y = second_field x y r s (omega arith) fits e in absurd (omega arith)
+
+-- ---- the three replies
+
+same_reply : (a b : Reply) → IsUserReply a → IsUserReply b → length (user_reply a) ≤ reply_limit → length (user_reply b) ≤ reply_limit → user_reply a ≡ user_reply b → a ≡ b
+same_reply (Found (row.Passwd p)) (Found (row.Passwd q)) a_is b_is a_fits b_fits e = ap (λ x. Found (row.Passwd x)) (same_user p q a_is b_is (lengths p a_fits) (lengths q b_fits) e)
+same_reply (Found (row.Passwd p)) (Found (row.Group g)) a_is b_is a_fits b_fits e = absurd b_is
+same_reply (Found (row.Passwd p)) (Found (row.Host h)) a_is b_is a_fits b_fits e = absurd b_is
+same_reply (Found (row.Passwd p)) (Found (row.Service s)) a_is b_is a_fits b_fits e = absurd b_is
+same_reply (Found (row.Passwd p)) (Found (row.Ai a)) a_is b_is a_fits b_fits e = absurd b_is
+same_reply (Found (row.Passwd p)) (Found (row.Groups ids)) a_is b_is a_fits b_fits e = absurd b_is
+same_reply (Found (row.Passwd p)) Absent a_is b_is a_fits b_fits e = absurd (one_not_other 0 1 _ _ (omega arith) (omega arith) (sym e))
+same_reply (Found (row.Passwd p)) Disabled a_is b_is a_fits b_fits e = absurd (one_not_other 1 minus_one _ _ (omega arith) (omega arith) e)
+same_reply (Found (row.Group g)) b a_is b_is a_fits b_fits e = absurd a_is
+same_reply (Found (row.Host h)) b a_is b_is a_fits b_fits e = absurd a_is
+same_reply (Found (row.Service s)) b a_is b_is a_fits b_fits e = absurd a_is
+same_reply (Found (row.Ai a)) b a_is b_is a_fits b_fits e = absurd a_is
+same_reply (Found (row.Groups ids)) b a_is b_is a_fits b_fits e = absurd a_is
+same_reply Absent (Found (row.Passwd q)) a_is b_is a_fits b_fits e = absurd (one_not_other 0 1 _ _ (omega arith) (omega arith) e)
+same_reply Absent (Found (row.Group g)) a_is b_is a_fits b_fits e = absurd b_is
+same_reply Absent (Found (row.Host h)) a_is b_is a_fits b_fits e = absurd b_is
+same_reply Absent (Found (row.Service s)) a_is b_is a_fits b_fits e = absurd b_is
+same_reply Absent (Found (row.Ai a)) a_is b_is a_fits b_fits e = absurd b_is
+same_reply Absent (Found (row.Groups ids)) a_is b_is a_fits b_fits e = absurd b_is
+same_reply Absent Absent a_is b_is a_fits b_fits e = refl
+same_reply Absent Disabled a_is b_is a_fits b_fits e = absurd (one_not_other 0 minus_one _ _ (omega arith) (omega arith) e)
+same_reply Disabled (Found (row.Passwd q)) a_is b_is a_fits b_fits e = absurd (one_not_other 1 minus_one _ _ (omega arith) (omega arith) (sym e))
+same_reply Disabled (Found (row.Group g)) a_is b_is a_fits b_fits e = absurd b_is
+same_reply Disabled (Found (row.Host h)) a_is b_is a_fits b_fits e = absurd b_is
+same_reply Disabled (Found (row.Service s)) a_is b_is a_fits b_fits e = absurd b_is
+same_reply Disabled (Found (row.Ai a)) a_is b_is a_fits b_fits e = absurd b_is
+same_reply Disabled (Found (row.Groups ids)) a_is b_is a_fits b_fits e = absurd b_is
+same_reply Disabled Absent a_is b_is a_fits b_fits e = absurd (one_not_other 0 minus_one _ _ (omega arith) (omega arith) (sym e))
+same_reply Disabled Disabled a_is b_is a_fits b_fits e = refl
+
+pub users_reply : (a b : Reply) (bytes : List ℕ) → IsUserReply a → IsUserReply b → bytes ≡ user_reply a → bytes ≡ user_reply b → length bytes ≤ reply_limit → a ≡ b
+users_reply a b bytes a_is b_is a_spelled b_spelled bound =
+    same_reply a b a_is b_is (subst (λ s. length s ≤ reply_limit) a_spelled bound) (subst (λ s. length s ≤ reply_limit) b_spelled bound) (sym a_spelled ∙ b_spelled)
