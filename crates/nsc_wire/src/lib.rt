@@ -3,6 +3,7 @@
 //! A reader takes no memory and looks at each byte once; a reply is written into memory that is taken once.
 #![tactic(auto)]
 
+mod groups;
 mod reply;
 mod request;
 mod users;

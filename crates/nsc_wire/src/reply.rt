@@ -1,8 +1,9 @@
-ghost use Rattle.std.specs.Prelude.{◌≡◌, ◌≤◌, ◌++◌, length, IfOk, OnOk};
+ghost use Rattle.std.specs.Prelude.{◌≡◌, ◌+◌, ◌<◌, ◌≤◌, ◌++◌, length, IfOk, OnOk};
 ghost use Rattle.nsc_model.specs.Marked.{reply_limit};
 ghost use Rattle.nsc_model.specs.Wire.{IsReplyOf, Spells, field, spelled, text};
 ghost use Rattle.nsc_wire.specs.Fields.{fields};
 
+use crate::groups::{encode_group, encode_ids};
 use crate::users::encode_user;
 use byteorder::{ByteOrder, LittleEndian};
 use nsc_base::{Bytes, NoMemory};
@@ -11,6 +12,9 @@ use std::alloc::Global;
 
 // The version of the protocol, in the first field of each request and each reply.
 pub(crate) const VERSION: u32 = 2;
+
+// A number that is not there, or a database that is not cached.
+pub(crate) const MINUS_ONE: u32 = u32::MAX;
 
 /// The bytes of a reply of this kind. A row is of the kind's shape and has no zero byte in its texts, and the bytes are
 /// at most 2^30. Memory is taken once; fails only for want of it.
@@ -22,17 +26,24 @@ pub fn encode(alloc: Global, kind: Kind, reply: &Reply) -> Result<Bytes, NoMemor
     match kind {
         Kind::PwName => encode_user(alloc, reply),
         Kind::PwUid => encode_user(alloc, reply),
-        Kind::GrName
-        | Kind::GrGid
-        | Kind::HostName
+        Kind::GrName | Kind::GrGid => encode_group(alloc, reply),
+        Kind::InitGroups => encode_ids(alloc, reply),
+        Kind::HostName
         | Kind::HostName6
         | Kind::HostAddr
         | Kind::HostAddr6
         | Kind::Ai
-        | Kind::InitGroups
         | Kind::ServName
         | Kind::ServPort => unreachable!(),
     }
+}
+
+// How many bytes a text has with its zero byte.
+pub(crate) fn text_len(text: &Bytes) -> u32
+    requires { length text.now < reply_limit }
+    ensures { result ≡ length text.now + 1 }
+{
+    (text.len() + 1) as u32
 }
 
 // Puts fields behind the bytes that are there.
@@ -46,7 +57,7 @@ pub(crate) fn put_fields(out: &mut Vec<u8>, numbers: &[u32]) -> Result<(), NoMem
 }
 
 // Puts a field of four bytes behind the bytes that are there.
-fn put_field(out: &mut Vec<u8>, number: u32) -> Result<(), NoMemory>
+pub(crate) fn put_field(out: &mut Vec<u8>, number: u32) -> Result<(), NoMemory>
     ensures { OnOk result (out.new.items ≡ out.old.items ++ field number) }
 {
     let mut bytes = [0; 4];

@@ -1,10 +1,10 @@
-ghost use Rattle.std.specs.Prelude.{◌≤◌, length, IfOk};
+ghost use Rattle.std.specs.Prelude.{◌+◌, ◌≤◌, length, flat_map, All, IfOk};
 ghost use Rattle.nsc_model.specs.Marked.{reply_limit};
-ghost use Rattle.nsc_model.specs.Wire.{IsUserReply, user_reply};
+ghost use Rattle.nsc_model.specs.Wire.{IsGroupReply, IsIdsReply, IsText, IsUserReply, group_reply, ids_reply, text, text_len, user_reply};
 
 use crate::{Reply, Wire, encode, read_request};
-use nsc_base::{Bytes, NoMemory, Span};
-use nsc_model::{Kind, Passwd, Row};
+use nsc_base::{Bytes, Ids, NoMemory, Span, Texts};
+use nsc_model::{Group, Kind, Passwd, Row};
 use std::alloc::Global;
 use std::test::Fail;
 
@@ -44,6 +44,108 @@ fn replies(rt: HostRuntime) -> Result<(), Fail> {
     assert_eq!(rt; bytes.as_slice(), ABSENT);
     let bytes = encode(rt.alloc(), Kind::PwUid, &Reply::Disabled)?;
     assert_eq!(rt; bytes.as_slice(), DISABLED);
+    Ok(())
+}
+
+// The group adm with the members syslog and ann.
+const ADM: &[u8] =
+    b"\x02\0\0\0\x01\0\0\0\x04\0\0\0\x02\0\0\0\x04\0\0\0\x02\0\0\0\x07\0\0\0\x04\0\0\0adm\0x\0syslog\0ann\0";
+
+// The group adm without members.
+const ALONE: &[u8] = b"\x02\0\0\0\x01\0\0\0\x04\0\0\0\x02\0\0\0\x04\0\0\0\0\0\0\0adm\0x\0";
+
+const NO_GROUP: &[u8] = b"\x02\0\0\0\0\0\0\0\0\0\0\0\0\0\0\0\xff\xff\xff\xff\0\0\0\0";
+
+const DISABLED_GROUP: &[u8] = b"\x02\0\0\0\xff\xff\xff\xff\0\0\0\0\0\0\0\0\xff\xff\xff\xff\0\0\0\0";
+
+// The names syslog and ann.
+fn names(alloc: Global) -> Result<Texts, NoMemory>
+    ensures texts { IfOk result (λ names. All IsText names) }
+    ensures fits { IfOk result (λ names. length (flat_map text_len names) + length (flat_map text names) ≤ 100) }
+{
+    let mut names = Vec::with_capacity(alloc, 2)?;
+    names.push(Bytes::copy(alloc, b"syslog")?)?;
+    names.push(Bytes::copy(alloc, b"ann")?)?;
+    Ok(Texts::from_vec(names))
+}
+
+// The group adm with these members.
+fn adm(alloc: Global, members: Texts) -> Result<Reply, NoMemory>
+    requires texts { All IsText members }
+    requires fits { length (flat_map text_len members) + length (flat_map text members) ≤ 100 }
+    ensures group { IfOk result IsGroupReply }
+    ensures fits { IfOk result (λ reply. length (group_reply reply) ≤ reply_limit) }
+{
+    Ok(Reply::Found(Row::Group(Group {
+        name: Bytes::copy(alloc, b"adm")?,
+        passwd: Bytes::copy(alloc, b"x")?,
+        gid: 4,
+        members,
+    })))
+}
+
+fn of_two(alloc: Global) -> Result<Reply, NoMemory>
+    ensures group { IfOk result IsGroupReply }
+    ensures fits { IfOk result (λ reply. length (group_reply reply) ≤ reply_limit) }
+{
+    let members = names(alloc)?;
+    adm(alloc, members)
+}
+
+fn of_none(alloc: Global) -> Result<Reply, NoMemory>
+    ensures group { IfOk result IsGroupReply }
+    ensures fits { IfOk result (λ reply. length (group_reply reply) ≤ reply_limit) }
+{
+    let members = Texts::from_vec(Vec::new(alloc));
+    adm(alloc, members)
+}
+
+#[test]
+fn groups(rt: HostRuntime) -> Result<(), Fail> {
+    let found = of_two(rt.alloc())?;
+    let bytes = encode(rt.alloc(), Kind::GrName, &found)?;
+    assert_eq!(rt; bytes.as_slice(), ADM);
+    let bytes = encode(rt.alloc(), Kind::GrGid, &found)?;
+    assert_eq!(rt; bytes.as_slice(), ADM);
+    let bytes = encode(rt.alloc(), Kind::GrName, &Reply::Absent)?;
+    assert_eq!(rt; bytes.as_slice(), NO_GROUP);
+    let bytes = encode(rt.alloc(), Kind::GrGid, &Reply::Disabled)?;
+    assert_eq!(rt; bytes.as_slice(), DISABLED_GROUP);
+    Ok(())
+}
+
+#[test]
+fn group_without_members(rt: HostRuntime) -> Result<(), Fail> {
+    let found = of_none(rt.alloc())?;
+    let bytes = encode(rt.alloc(), Kind::GrName, &found)?;
+    assert_eq!(rt; bytes.as_slice(), ALONE);
+    Ok(())
+}
+
+const IDS: &[u8] = b"\x02\0\0\0\x01\0\0\0\x02\0\0\0\x04\0\0\0\x64\0\0\0";
+
+const NO_IDS: &[u8] = b"\x02\0\0\0\0\0\0\0\0\0\0\0";
+
+const DISABLED_IDS: &[u8] = b"\x02\0\0\0\xff\xff\xff\xff\0\0\0\0";
+
+// The groups 4 and 100.
+fn ids(alloc: Global) -> Result<Reply, NoMemory>
+    ensures ids { IfOk result IsIdsReply }
+    ensures fits { IfOk result (λ reply. length (ids_reply reply) ≤ reply_limit) }
+{
+    let ids = Vec::from_slice(alloc, &[4, 100])?;
+    Ok(Reply::Found(Row::Groups(Ids::from_vec(ids))))
+}
+
+#[test]
+fn groups_of_a_user(rt: HostRuntime) -> Result<(), Fail> {
+    let found = ids(rt.alloc())?;
+    let bytes = encode(rt.alloc(), Kind::InitGroups, &found)?;
+    assert_eq!(rt; bytes.as_slice(), IDS);
+    let bytes = encode(rt.alloc(), Kind::InitGroups, &Reply::Absent)?;
+    assert_eq!(rt; bytes.as_slice(), NO_IDS);
+    let bytes = encode(rt.alloc(), Kind::InitGroups, &Reply::Disabled)?;
+    assert_eq!(rt; bytes.as_slice(), DISABLED_IDS);
     Ok(())
 }
 

@@ -1,17 +1,14 @@
-ghost use Rattle.std.specs.Prelude.{◌≡◌, ◌+◌, ◌<◌, ◌≤◌, length, IfOk};
+ghost use Rattle.std.specs.Prelude.{◌≡◌, ◌≤◌, length, IfOk};
 ghost use Rattle.nsc_model.specs.Marked.{reply_limit};
 ghost use Rattle.nsc_model.specs.Wire.{IsUserReply, passwd_found, passwd_lacking, user_reply};
 
-use crate::reply::{VERSION, put_fields, put_text};
+use crate::reply::{MINUS_ONE, VERSION, put_fields, put_text, text_len};
 use nsc_base::{Bytes, NoMemory};
 use nsc_model::{Passwd, Reply, Row};
 use std::alloc::Global;
 
 // The nine fields of a user's reply, in bytes.
 const FIELDS: usize = 36;
-
-// A number that is not there, or a database that is not cached.
-const MINUS_ONE: u32 = u32::MAX;
 
 // The bytes of a reply to a look-up of a user.
 pub(crate) fn encode_user(alloc: Global, reply: &Reply) -> Result<Bytes, NoMemory>
@@ -49,14 +46,6 @@ fn encode_found(alloc: Global, user: &Passwd) -> Result<Bytes, NoMemory>
     put_text(&mut out, user.dir.as_slice())?;
     put_text(&mut out, user.shell.as_slice())?;
     Ok(Bytes::from_vec(out))
-}
-
-// How many bytes a text has with its zero byte.
-fn text_len(text: &Bytes) -> u32
-    requires { length text.now < reply_limit }
-    ensures { result ≡ length text.now + 1 }
-{
-    (text.len() + 1) as u32
 }
 
 // The fields of a reply without a user.
