@@ -27,6 +27,7 @@ impl Answerer for Plain {
         ready
     }
 
+    #[tactic(auto, unfolding(nsc_model::specs::Answers::answer_of))]
     fn answer(
         &self,
         alloc: Global,
