@@ -1,5 +1,5 @@
 -- How many bytes the parts of a reply take that stand once for each element of a list.
-use Rattle.std.proofs.Common.{◌≡◌, ℕ, ◌+◌, ◌*◌, ◌<◌, ◌≤◌, zero, suc, List, [], ◌∷◌, ◌++◌, length, get_or, take, sym, ap, subst, arith, length-append}
+use Rattle.std.proofs.Common.{◌≡◌, ℕ, ◌+◌, ◌*◌, ◌<◌, ◌≤◌, zero, suc, List, [], ◌∷◌, ◌++◌, length, get_or, take, sym, subst, arith, length-append}
 use Rattle.std.specs.List.{flat_map}
 use Rattle.nsc_model.specs.declared.row.Group.{Group}
 use Rattle.nsc_model.specs.Marked.{reply_limit}

@@ -4,8 +4,7 @@ use nsc_outside::{MemSink, MemSource};
 use std::test::Fail;
 
 // A group file: adm:x:4:syslog,ann, staff:x:50: and users:x:100:ann.
-const GROUPS: &[u8] =
-    b"F\x02\x01\x2f\0\0\0adm:x:4:syslog,ann\nstaff:x:50:\nusers:x:100:ann\n";
+const GROUPS: &[u8] = b"F\x02\x01\x2f\0\0\0adm:x:4:syslog,ann\nstaff:x:50:\nusers:x:100:ann\n";
 
 // An extra group, staff:x:51:ann, and lists that ask the extra groups where the file has none.
 const EXTRA_GROUP: &[u8] = b"F\x06\x01\x0e\0\0\0staff:x:51:ann";
@@ -37,11 +36,9 @@ const ADM: &[u8] =
 const STAFF: &[u8] =
     b"\x28\0\0\0\x02\0\0\0\x01\0\0\0\x06\0\0\0\x02\0\0\0\x33\0\0\0\x01\0\0\0\x04\0\0\0staff\0x\0ann\0";
 
-const NO_GROUP: &[u8] =
-    b"\x18\0\0\0\x02\0\0\0\0\0\0\0\0\0\0\0\0\0\0\0\xff\xff\xff\xff\0\0\0\0";
+const NO_GROUP: &[u8] = b"\x18\0\0\0\x02\0\0\0\0\0\0\0\0\0\0\0\0\0\0\0\xff\xff\xff\xff\0\0\0\0";
 
-const TWO_IDS: &[u8] =
-    b"\x14\0\0\0\x02\0\0\0\x01\0\0\0\x02\0\0\0\x04\0\0\0\x64\0\0\0";
+const TWO_IDS: &[u8] = b"\x14\0\0\0\x02\0\0\0\x01\0\0\0\x02\0\0\0\x04\0\0\0\x64\0\0\0";
 
 const ONE_ID: &[u8] = b"\x10\0\0\0\x02\0\0\0\x01\0\0\0\x01\0\0\0\x33\0\0\0";
 
@@ -54,11 +51,30 @@ const CASES: [Case; 7] = [
     (&[FILE, BY_UID_0, BY_UID_00], &[ROOT, ROOT]),
     (&[FILE, BY_UID_2_32, BY_UID_X], &[NO_USER, NO_USER]),
     (&[GROUPS, BY_NAME_ADM, BY_GID_4], &[ADM, ADM]),
-    (&[GROUPS, OF_ANN, OF_ZED, OF_ANN], &[TWO_IDS, NO_IDS, TWO_IDS]),
-    (&[BY_NAME_ADM, BY_GID_51, OF_ANN], &[NO_GROUP, NO_GROUP, NO_IDS]),
+    (
+        &[GROUPS, OF_ANN, OF_ZED, OF_ANN],
+        &[TWO_IDS, NO_IDS, TWO_IDS],
+    ),
+    (
+        &[BY_NAME_ADM, BY_GID_51, OF_ANN],
+        &[NO_GROUP, NO_GROUP, NO_IDS],
+    ),
     // Without a line the list is `files`, so the extra groups are not asked.
-    (&[GROUPS, EXTRA_GROUP, BY_GID_51, OF_ANN], &[NO_GROUP, TWO_IDS]),
-    (&[EXTRA_FIRST, GROUPS, EXTRA_GROUP, BY_GID_51, OF_ANN, BY_GID_4], &[STAFF, ONE_ID, ADM]),
+    (
+        &[GROUPS, EXTRA_GROUP, BY_GID_51, OF_ANN],
+        &[NO_GROUP, TWO_IDS],
+    ),
+    (
+        &[
+            EXTRA_FIRST,
+            GROUPS,
+            EXTRA_GROUP,
+            BY_GID_51,
+            OF_ANN,
+            BY_GID_4,
+        ],
+        &[STAFF, ONE_ID, ADM],
+    ),
 ];
 
 #[test]

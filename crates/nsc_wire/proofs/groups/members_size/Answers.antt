@@ -1,7 +1,4 @@
-use Rattle.std.proofs.Common.{◌+◌, ◌≤◌, length, take, arith}
-use Rattle.std.specs.List.{flat_map}
-use Rattle.nsc_model.specs.Marked.{reply_limit}
-use Rattle.nsc_model.specs.Wire.{text, text_len}
+use Rattle.std.proofs.Common.{arith}
 use Rattle.nsc_wire.proofs.Sizes.{members_within}
 use Rattle.nsc_wire.proofs.groups.members_size.Goals as goal
 
