@@ -5,6 +5,5 @@ mod plain;
 
 pub use plain::Plain;
 
-
 #[cfg(test)]
 mod tests;
