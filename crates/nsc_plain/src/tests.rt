@@ -80,6 +80,7 @@ fn user(alloc: Global, content: &Content, key: &[u8]) -> Result<Answer, NoMemory
 }
 
 // The answer to a user's name where no file is.
+#[tactic(auto, unfolding(nsc_model::specs::Answers::answer_of, nsc_model::specs::Switches::service_list))]
 fn no_user(alloc: Global, key: &[u8]) -> Result<Answer, NoMemory>
     ensures { IfOk result (λ answer. answer ≡ answer_of no_files (record { kind = PwName; key = key.now })) }
 {
@@ -88,6 +89,7 @@ fn no_user(alloc: Global, key: &[u8]) -> Result<Answer, NoMemory>
 }
 
 // The answer to `root` over the file.
+#[tactic(auto, unfolding(nsc_model::specs::Answers::answer_of, nsc_model::specs::Switches::service_list))]
 fn root_user(alloc: Global) -> Result<Answer, NoMemory>
     ensures { IfOk result (λ answer. answer ≡ answer_of (with_file no_files Passwd (Some FILE.now)) (record { kind = PwName; key = NAME.now })) }
 {
