@@ -1,3 +1,6 @@
+ghost use Rattle.std.specs.Bool.{OnTrue};
+ghost use Rattle.nsc_model.specs.Kinds.{IsBuilt};
+
 use crate::{extra_lookup, files_lookup};
 use nsc_base::{Bytes, NoMemory};
 use nsc_model::{Content, FileId, Kind, Looked, Row};
@@ -52,28 +55,56 @@ const REQUESTS: [(Kind, &[u8], Option<u32>, Option<u32>); 16] = [
     (Kind::InitGroups, b"zed", None, None),
 ];
 
+// What both services tell of a request; nothing of a kind that is not built.
+fn both(
+    alloc: Global,
+    content: &Content,
+    kind: Kind,
+    key: &[u8],
+) -> Result<(Option<u32>, Option<u32>), NoMemory> {
+    if !is_built(kind) {
+        return Ok((None, None));
+    }
+    let own = files_lookup(alloc, content, kind, key)?;
+    let extra = extra_lookup(alloc, content, kind, key)?;
+    Ok((told(&own), told(&extra)))
+}
+
+// Whether requests of this kind are built.
+fn is_built(kind: Kind) -> bool
+    ensures { OnTrue result (IsBuilt kind) }
+{
+    match kind {
+        Kind::PwName | Kind::PwUid | Kind::GrName | Kind::GrGid | Kind::InitGroups => true,
+        Kind::HostName
+        | Kind::HostName6
+        | Kind::HostAddr
+        | Kind::HostAddr6
+        | Kind::Ai
+        | Kind::ServName
+        | Kind::ServPort => false,
+    }
+}
+
 #[test]
 fn services(rt: HostRuntime) -> Result<(), Fail> {
     let alloc = rt.alloc();
     let content = content(alloc)?;
     for (kind, key, own, extra) in &REQUESTS {
-        let found = files_lookup(alloc, &content, *kind, key)?;
-        assert_eq!(rt; told(&found), *own, "of {kind:?} {key:?}");
-        let found = extra_lookup(alloc, &content, *kind, key)?;
-        assert_eq!(rt; told(&found), *extra, "of {kind:?} {key:?}");
+        let found = both(alloc, &content, *kind, key)?;
+        assert_eq!(rt; found, (*own, *extra), "of {kind:?}");
     }
+    Ok(())
+}
+
+// An absent file makes its service unavailable.
+#[test]
+fn absent_files(rt: HostRuntime) -> Result<(), Fail> {
+    let alloc = rt.alloc();
     let none = Content::none();
-    for kind in [
-        Kind::PwName,
-        Kind::PwUid,
-        Kind::GrName,
-        Kind::GrGid,
-        Kind::InitGroups,
-    ] {
-        let looked = files_lookup(alloc, &none, kind, b"0")?;
-        assert!(rt; matches!(looked, Looked::Unavail));
-        let looked = extra_lookup(alloc, &none, kind, b"0")?;
-        assert!(rt; matches!(looked, Looked::Unavail));
-    }
+    let looked = files_lookup(alloc, &none, Kind::PwName, b"root")?;
+    assert!(rt; matches!(looked, Looked::Unavail));
+    let looked = extra_lookup(alloc, &none, Kind::GrGid, b"x")?;
+    assert!(rt; matches!(looked, Looked::Unavail));
     Ok(())
 }
