@@ -1,8 +1,6 @@
-pub mod Zeros
 pub mod Begins
 pub mod Counts
 pub mod Entries
 pub mod Named
-pub mod Firsts
 pub mod Pieces
 pub mod Collected

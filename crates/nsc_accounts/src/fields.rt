@@ -1,19 +1,11 @@
 ghost use Rattle.std.specs.Prelude.{◌≡◌, ◌≤◌, All, IfSome, drop, length, map};
 ghost use Rattle.std.specs.Option.{option_map};
 ghost use Rattle.nsc_base.specs.Text.{fields_of, part};
-ghost use Rattle.nsc_model.specs.Users.{has_zero, is_name, trimmed};
+ghost use Rattle.nsc_model.specs.Users.{is_name, trimmed};
 ghost use Rattle.nsc_accounts.specs.Fields.{exactly, fields_of_line};
 ghost use Rattle.nsc_accounts.specs.Passwd.{LiesIn};
 
-use memchr::memchr;
-use nsc_base::{Span, field_at};
-
-/// Whether a byte is 0.
-pub fn has_zero_byte(bytes: &[u8]) -> bool
-    ensures { result ≡ has_zero bytes.now }
-{
-    memchr(0, bytes).is_some()
-}
+use nsc_base::{Span, field_at, has_zero_byte};
 
 /// How many bytes of white space stand at the front: blanks and tabs.
 pub fn white_front(bytes: &[u8]) -> usize

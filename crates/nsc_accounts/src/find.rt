@@ -6,14 +6,13 @@ ghost use Rattle.nsc_base.specs.declared.span.Span.{Span};
 ghost use Rattle.nsc_model.specs.Users.{trimmed, user_of_line};
 ghost use Rattle.nsc_model.specs.Groups.{group_of_line};
 ghost use Rattle.nsc_model.specs.Entries.{first_named, if_named};
-ghost use Rattle.nsc_accounts.specs.Found.{FirstFrom};
 ghost use Rattle.nsc_accounts.specs.Group.{GroupLiesIn, group_at};
 ghost use Rattle.nsc_accounts.specs.Passwd.{UserLiesIn, user_at};
 
 use crate::fields::white_front;
 use crate::group::{GroupAt, group_line};
 use crate::passwd::{PasswdAt, passwd_line};
-use nsc_base::{Span, equal, line_at};
+use nsc_base::{Span, equal, first_line};
 
 /// The first line of a passwd file, passwd(5), that has the form of an entry and this name, as places in the file.
 /// `None` where there is none. Takes no memory.
@@ -49,21 +48,6 @@ pub fn find_group_by_gid(text: &[u8], gid: u32) -> Option<GroupAt>
     ensures inside { IfSome result (GroupLiesIn (record { from = 0; to = length text.now })) }
 {
     first_line(text, |line| group_numbered(text, line, gid))
-}
-
-// What the first line of the text gives that gives something. No later line is looked at.
-fn first_line<E, F: Fn(Span) -> Option<E>>(text: &[u8], entry_of: F) -> Option<E>
-    requires { (line : Span) → line.from ≤ line.to → line.to ≤ length text.now → F.pre entry_of line }
-    ensures { FirstFrom (F.post entry_of) text.now 0 result }
-{
-    let mut from = 0;
-    while let Some(line) = line_at(text, from) {
-        if let Some(entry) = entry_of(line.span) {
-            return Some(entry);
-        }
-        from = line.next;
-    }
-    None
 }
 
 // The entry of a line of a passwd file that has the form and this name. A line that does not begin with the name and a

@@ -2,3 +2,4 @@ pub mod Compare
 pub mod Pieces
 pub mod Places
 pub mod Digits
+pub mod Zeros

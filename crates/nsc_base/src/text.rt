@@ -1,4 +1,6 @@
-ghost use Rattle.std.specs.Prelude.{◌≡◌, ◌≢◌, ◌<◌, ◌≤◌, ◌↔◌, ℕ, [], length, slice_index, slice_range, IfSome, IsNone};
+ghost use Rattle.std.specs.Prelude.{◌≡◌, ◌≢◌, ◌<◌, ◌≤◌, ◌↔◌, ◌==◌, ℕ, [], length, slice_index, slice_range, IfSome, IsNone};
+ghost use Rattle.std.specs.List.{list_any};
+ghost use Rattle.nsc_base.specs.Found.{FirstFrom};
 ghost use Rattle.nsc_base.specs.Text.{IsField, IsLine, IsWord, is_white, words_of};
 
 use crate::span::{Line, Span};
@@ -73,6 +75,29 @@ pub fn word_at(text: &[u8], within: Span, from: usize) -> Option<Line>
         },
         next: start + word,
     })
+}
+
+/// What `entry_of` gives for the first line of the text for which it gives something: no line behind it is looked at.
+/// `None` where it gives nothing for any line. Takes no memory of its own.
+pub fn first_line<E, F: Fn(Span) -> Option<E>>(text: &[u8], entry_of: F) -> Option<E>
+    requires { (line : Span) → line.from ≤ line.to → line.to ≤ length text.now → F.pre entry_of line }
+    ensures { FirstFrom (F.post entry_of) text.now 0 result }
+{
+    let mut from = 0;
+    while let Some(line) = line_at(text, from) {
+        if let Some(entry) = entry_of(line.span) {
+            return Some(entry);
+        }
+        from = line.next;
+    }
+    None
+}
+
+/// Whether a byte is 0.
+pub fn has_zero_byte(bytes: &[u8]) -> bool
+    ensures { result ≡ list_any (λ b. b == 0) bytes.now }
+{
+    memchr(0, bytes).is_some()
 }
 
 // A blank or a tab.

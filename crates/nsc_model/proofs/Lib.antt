@@ -16,3 +16,4 @@ pub mod MachineLaw
 pub mod MachineLawRuns
 pub mod MachineLawReplays
 pub mod Grammar
+pub mod Firsts

@@ -5,9 +5,7 @@ use Rattle.std.proofs.lemmas.List.Elements.{All-nil, All-cons, All-append, All-w
 use Rattle.nsc_model.specs.declared.kind.Db.{Db}
 use Rattle.nsc_model.specs.declared.kind.Db.TheVariants.{Passwd, Group, Hosts, Services}
 use Rattle.nsc_model.specs.declared.kind.FileId.{FileId}
-use Rattle.nsc_model.specs.declared.kind.FileId.TheVariants as file
 use Rattle.nsc_model.specs.declared.kind.Kind.{Kind}
-use Rattle.nsc_model.specs.declared.kind.Kind.TheVariants.{PwName, PwUid, GrName, GrGid, HostName, HostName6, HostAddr, HostAddr6, Ai, InitGroups, ServName, ServPort}
 use Rattle.nsc_model.specs.declared.answer.Request.{Request}
 use Rattle.nsc_model.specs.declared.record.Record.{Record}
 use Rattle.nsc_model.specs.Kinds.{database_of}
@@ -213,15 +211,6 @@ set_played others s cores id held d next =
       over = λ db. record { moves = []; own = All-nil (IsBy 0); runs = refl };
     })
 
-become_played : (others : State → (Db → Core) → Type 0) (s : State) (cores : Db → Core) (id : FileId) (held : Option (List ℕ)) → AllDrive s cores → Next others → PlayedThen others cores (Become id held) (stopped_in s s) (become_frame s id held)
-become_played others s cores file.Switch held d next = set_played others s cores file.Switch held d next
-become_played others s cores file.Passwd held d next = set_played others s cores file.Passwd held d next
-become_played others s cores file.Group held d next = set_played others s cores file.Group held d next
-become_played others s cores file.Hosts held d next = (cores, begun_part s cores d)
-become_played others s cores file.Services held d next = (cores, begun_part s cores d)
-become_played others s cores file.ExtraPasswd held d next = set_played others s cores file.ExtraPasswd held d next
-become_played others s cores file.ExtraGroup held d next = set_played others s cores file.ExtraGroup held d next
-
 -- ---- the input of a connection
 
 -- as PlayedThen, of what a connection asked
@@ -278,29 +267,13 @@ kind_asked others s cores kind key (Ok turn) d w next =
     )
 kind_asked others s cores kind key (Err stop) d w next = (with_core cores (database_of kind) (settled w.0), one_moves cores s cores (database_of kind) w.0 stop.adds stop.cache (begun_part s cores d) w.1)
 
--- a look-up of a kind that is built
-built_asked : (others : State → (Db → Core) → Type 0) (settings : Settings) (s : State) (cores : Db → Core) (kind : Kind) (key : List ℕ) → AllDrive s cores → Next others
-    → AskedThen others cores (Look (request kind key)) (stopped_in s (left_look settings s (database_of kind) (request kind key))) (look_in (database_of kind) settings s (request kind key))
-built_asked others settings s cores kind key d next =
+look_asked : (others : State → (Db → Core) → Type 0) (settings : Settings) (s : State) (cores : Db → Core) (kind : Kind) (key : List ℕ) → AllDrive s cores → Next others
+    → AskedThen others cores (Look (request kind key)) (stopped_in s (left_look settings s (database_of kind) (request kind key))) (look_frame settings s (request kind key))
+look_asked others settings s cores kind key d next =
     let db = database_of kind in
     kind_asked others s cores kind key (look_up (settings_of settings db) s.moment (part_of db s.files) (request kind key) (cache_of s db)) d
     (subst (λ (f : Files). TurnsBy db 0 (cores db) (request kind key) (look_up (settings_of settings db) s.moment (part_of db f) (request kind key) (cache_of s db))) (d.sources_are db)
     (look_up_turns db 0 (settings_of settings db) s.moment (request kind key) (cores db) (cache_of s db) (d.drives db))) next
-
-look_asked : (others : State → (Db → Core) → Type 0) (settings : Settings) (s : State) (cores : Db → Core) (kind : Kind) (key : List ℕ) → AllDrive s cores → Next others
-    → AskedThen others cores (Look (request kind key)) (stopped_in s (left_look settings s (database_of kind) (request kind key))) (look_frame kind settings s (request kind key))
-look_asked others settings s cores PwName key d next = built_asked others settings s cores PwName key d next
-look_asked others settings s cores PwUid key d next = built_asked others settings s cores PwUid key d next
-look_asked others settings s cores GrName key d next = built_asked others settings s cores GrName key d next
-look_asked others settings s cores GrGid key d next = built_asked others settings s cores GrGid key d next
-look_asked others settings s cores InitGroups key d next = built_asked others settings s cores InitGroups key d next
-look_asked others settings s cores HostName key d next = (cores, begun_part s cores d)
-look_asked others settings s cores HostName6 key d next = (cores, begun_part s cores d)
-look_asked others settings s cores HostAddr key d next = (cores, begun_part s cores d)
-look_asked others settings s cores HostAddr6 key d next = (cores, begun_part s cores d)
-look_asked others settings s cores Ai key d next = (cores, begun_part s cores d)
-look_asked others settings s cores ServName key d next = (cores, begun_part s cores d)
-look_asked others settings s cores ServPort key d next = (cores, begun_part s cores d)
 
 no_look : (others : State → (Db → Core) → Type 0) (s : State) (cores : Db → Core) (asked : Asked) (left : Finish → State) → IsReplied cores cores (framed []) asked → AllDrive s cores → Next others → AskedThen others cores asked left (unanswered s)
 no_look others s cores asked left is d next = (cores, begun_part s cores d, is, next s cores d)
@@ -322,7 +295,7 @@ ask_asked others settings s cores (BadLength length) d next = no_look others s c
 frame_played : (others : State → (Db → Core) → Type 0) (settings : Settings) (s : State) (cores : Db → Core) (frame : Frame) → AllDrive s cores → Next others → PlayedThen others cores frame (stopped_in s (left_by settings s frame)) (turn_of settings s frame)
 frame_played others settings s cores (Ask input) d next =
     asked_played others cores input (stopped_in s (left_asked settings s (request_of input))) (ask_frame settings s (request_of input)) (ask_asked others settings s cores (request_of input) d next)
-frame_played others settings s cores (Become id held) d next = become_played others s cores id held d next
+frame_played others settings s cores (Become id held) d next = set_played others s cores id held d next
 frame_played others settings s cores (Reach moment) d next =
     ticks_part others cores (Reach moment) s settings (λ new. refl) next (record s { moment = max s.moment (min moment last_moment) }) cores (begun_part _ cores (moment_drive s cores (max s.moment (min moment last_moment)) d))
 frame_played others settings s cores (Clear db) d next =

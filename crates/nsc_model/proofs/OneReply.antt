@@ -13,10 +13,10 @@ one_reply PwUid a b bytes s t = users_reply a b bytes s.of_kind t.of_kind s.spel
 one_reply GrName a b bytes s t = groups_reply a b bytes s.of_kind t.of_kind s.spelling t.spelling s.bound
 one_reply GrGid a b bytes s t = groups_reply a b bytes s.of_kind t.of_kind s.spelling t.spelling s.bound
 one_reply InitGroups a b bytes s t = id_lists_reply a b bytes s.of_kind t.of_kind s.spelling t.spelling s.bound
-one_reply HostName a b bytes s t = absurd s.of_kind
-one_reply HostName6 a b bytes s t = absurd s.of_kind
-one_reply HostAddr a b bytes s t = absurd s.of_kind
-one_reply HostAddr6 a b bytes s t = absurd s.of_kind
-one_reply Ai a b bytes s t = absurd s.of_kind
-one_reply ServName a b bytes s t = absurd s.of_kind
-one_reply ServPort a b bytes s t = absurd s.of_kind
+
+
+
+
+
+
+

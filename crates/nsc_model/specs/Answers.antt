@@ -2,11 +2,14 @@
 use Rattle.std.specs.Prelude.{ℕ, ◌==◌, Bool, true, false, not, if◌then◌else◌, List, [], ◌∷◌, map, filter, Option, Some, None}
 use Rattle.std.specs.Str.{bytes_eq}
 use Rattle.nsc_model.specs.declared.kind.Kind.{Kind}
-use Rattle.nsc_model.specs.declared.kind.Kind.TheVariants.{PwName, PwUid, GrName, GrGid, HostName, HostName6, HostAddr, HostAddr6, Ai, InitGroups, ServName, ServPort}
+use Rattle.nsc_model.specs.declared.kind.Kind.TheVariants as kind
 use Rattle.nsc_model.specs.declared.answer.Request.{Request}
 use Rattle.nsc_base.specs.Decimal.{decimal_of}
 use Rattle.nsc_model.specs.declared.row.Passwd.{Passwd}
 use Rattle.nsc_model.specs.declared.row.Group.{Group}
+use Rattle.nsc_model.specs.declared.row.Host.{Host}
+use Rattle.nsc_model.specs.declared.row.Ai.{Ai}
+use Rattle.nsc_model.specs.declared.row.Service.{Service}
 use Rattle.nsc_model.specs.declared.row.Row.{Row}
 use Rattle.nsc_model.specs.declared.row.Row.TheVariants as row
 use Rattle.nsc_model.specs.declared.row.Looked.{Looked}
@@ -21,10 +24,12 @@ use Rattle.nsc_model.specs.Wire.{spelled}
 use Rattle.nsc_model.specs.Entries.{named_in, first_named}
 use Rattle.nsc_model.specs.Users.{user_of_line}
 use Rattle.nsc_model.specs.Groups.{group_of_line, has_member}
+use Rattle.nsc_model.specs.Hosts.{family_once, host_addressed, host_has_name, host_named, host_of_line, ipv4, ipv6}
+use Rattle.nsc_model.specs.ServiceLines.{ServiceKey, exchanged, port_of, service_key, service_named, service_of_line, service_ported}
 use Rattle.nsc_model.specs.Services.{SwitchService, Local, Compat, Extrausers, Other, SwitchStep, action_at, ends}
 use Rattle.nsc_model.specs.Switches.{service_list}
 
--- ---- four ways to name an entry: by name, by id, and by a member
+-- ---- ways to name an entry
 
 abbrev pub is_id : Option ℕ → ℕ → Bool
 is_id None id = false
@@ -72,20 +77,44 @@ abbrev pub file_ids : List ℕ → Option (List ℕ) → Looked
 file_ids user None = Unavail
 file_ids user (Some file) = found_ids (ids_of user file)
 
--- a request over the bytes of one file, by the request's kind; the other kinds are not built yet
+-- the addresses of a host: those of its first entry of each family, with the name of the first of these
+abbrev pub all_addresses : List Host → Option Ai
+all_addresses [] = None
+all_addresses (h ∷ hosts) = Some (record { list = map (λ host. record { family = host.family; address = host.address }) (h ∷ hosts); canon = h.name })
+
+abbrev pub addresses_of : List ℕ → List ℕ → Option Ai
+addresses_of name file = all_addresses (family_once (named_in host_of_line (host_has_name name) file))
+
+abbrev pub file_addresses : List ℕ → Option (List ℕ) → Looked
+file_addresses name None = Unavail
+file_addresses name (Some file) = found_first row.Ai (addresses_of name file)
+
+-- a service by the name or the port of a key, and by its protocol where it has one; a key that has no port in decimal,
+-- with its bytes exchanged, names nothing
+abbrev pub key_named : ServiceKey → Service → Bool
+key_named key s = service_named key.asked key.proto s
+
+abbrev pub is_port : Option ℕ → List ℕ → Service → Bool
+is_port None proto s = false
+is_port (Some port) proto s = service_ported (exchanged port) proto s
+
+abbrev pub key_ported : ServiceKey → Service → Bool
+key_ported key s = is_port (port_of key.asked) key.proto s
+
+-- a request over the bytes of one file, by the request's kind
 abbrev pub answer_by : Kind → Option (List ℕ) → List ℕ → Looked
-answer_by PwName file key = file_entry row.Passwd user_of_line (user_named key) file
-answer_by PwUid file key = file_entry row.Passwd user_of_line (user_numbered key) file
-answer_by GrName file key = file_entry row.Group group_of_line (group_named key) file
-answer_by GrGid file key = file_entry row.Group group_of_line (group_numbered key) file
-answer_by InitGroups file key = file_ids key file
-answer_by HostName file key = Unavail
-answer_by HostName6 file key = Unavail
-answer_by HostAddr file key = Unavail
-answer_by HostAddr6 file key = Unavail
-answer_by Ai file key = Unavail
-answer_by ServName file key = Unavail
-answer_by ServPort file key = Unavail
+answer_by kind.PwName file key = file_entry row.Passwd user_of_line (user_named key) file
+answer_by kind.PwUid file key = file_entry row.Passwd user_of_line (user_numbered key) file
+answer_by kind.GrName file key = file_entry row.Group group_of_line (group_named key) file
+answer_by kind.GrGid file key = file_entry row.Group group_of_line (group_numbered key) file
+answer_by kind.InitGroups file key = file_ids key file
+answer_by kind.HostName file key = file_entry row.Host host_of_line (host_named ipv4 key) file
+answer_by kind.HostName6 file key = file_entry row.Host host_of_line (host_named ipv6 key) file
+answer_by kind.HostAddr file key = file_entry row.Host host_of_line (host_addressed key) file
+answer_by kind.HostAddr6 file key = file_entry row.Host host_of_line (host_addressed key) file
+answer_by kind.Ai file key = file_addresses key file
+answer_by kind.ServName file key = file_entry row.Service service_of_line (key_named (service_key key)) file
+answer_by kind.ServPort file key = file_entry row.Service service_of_line (key_ported (service_key key)) file
 
 abbrev pub file_answer : Option (List ℕ) → Request → Looked
 file_answer file request = answer_by request.kind file request.key

@@ -106,13 +106,12 @@ frame_size (Clear db) = 2
 frame_size Stop = 1
 
 -- how a replay ends: behind its first E; at the place where bytes are no frame or end inside one; at a file that is too
--- long; at a count that stands at its end; at a frame that is not built yet
+-- long; at a count that stands at its end
 pub data Finish : Type 0 where
   Done : (place : ℕ) → Finish
   Bad : (place : ℕ) → Finish
   Long : (length : ℕ) → Finish
   Spent : (count : ℕ) → Finish
-  NotBuilt : Finish
 
 -- a frame begins below this place
 abbrev pub place_limit : ℕ

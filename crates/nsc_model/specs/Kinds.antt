@@ -86,18 +86,3 @@ file_numbered n =
 -- two requests are one: the same kind, and the same bytes of the key
 abbrev pub is_request : Request → Request → Bool
 is_request a b = type_number a.kind == type_number b.kind && bytes_eq a.key b.key
-
--- the kinds that are built so far
-abbrev pub IsBuilt : Kind → Type 0
-IsBuilt PwName = Unit {0}
-IsBuilt PwUid = Unit {0}
-IsBuilt GrName = Unit {0}
-IsBuilt GrGid = Unit {0}
-IsBuilt HostName = ⊥
-IsBuilt HostName6 = ⊥
-IsBuilt HostAddr = ⊥
-IsBuilt HostAddr6 = ⊥
-IsBuilt Ai = ⊥
-IsBuilt InitGroups = Unit {0}
-IsBuilt ServName = ⊥
-IsBuilt ServPort = ⊥

@@ -7,6 +7,8 @@ pub mod Wire
 pub mod Entries
 pub mod Users
 pub mod Groups
+pub mod Hosts
+pub mod ServiceLines
 pub mod Services
 pub mod Switches
 pub mod Answers

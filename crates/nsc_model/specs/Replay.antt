@@ -1,17 +1,15 @@
 -- A replay: frames through the machines of the four databases, from every file absent at moment 0 to the first E.
 use Rattle.std.specs.Prelude.{ℕ, ◌-◌, min, max, List, [], ◌∷◌, ◌++◌, length, Option, Result, Ok, Err}
-use Rattle.nsc_model.specs.declared.kind.Kind.{Kind}
-use Rattle.nsc_model.specs.declared.kind.Kind.TheVariants.{PwName, PwUid, GrName, GrGid, HostName, HostName6, HostAddr, HostAddr6, Ai, InitGroups, ServName, ServPort}
 use Rattle.nsc_model.specs.declared.kind.Db.{Db}
 use Rattle.nsc_model.specs.declared.kind.Db.TheVariants as db
 use Rattle.nsc_model.specs.declared.kind.FileId.{FileId}
-use Rattle.nsc_model.specs.declared.kind.FileId.TheVariants as file
 use Rattle.nsc_model.specs.declared.answer.Request.{Request}
+use Rattle.nsc_model.specs.Kinds.{database_of}
 use Rattle.nsc_model.specs.Files.{Files, no_files, with_file, part_of}
 use Rattle.nsc_model.specs.Settings.{Settings, settings_of}
 use Rattle.nsc_model.specs.Wire.{Asked, Look, Shutdown, Stat, Invalidate, Descriptor, Netgroup, Short, BadVersion, BadType, BadLength, request_of, field}
 use Rattle.nsc_model.specs.Machine.{Cache, new_cache, Passed, Stopped, Turn, last_count, look_up, tick, invalidated}
-use Rattle.nsc_model.specs.Frames.{Frame, Ask, Become, Reach, Clear, Stop, Finish, Spent, NotBuilt, cut_at}
+use Rattle.nsc_model.specs.Frames.{Frame, Ask, Become, Reach, Clear, Stop, Finish, Spent, cut_at}
 
 -- the files as they are, the moment in seconds, and the cache of each database
 pub record State : Type 0 where
@@ -57,24 +55,12 @@ abbrev pub looked_at : State → Db → Result Turn Stopped → Result Went Fini
 looked_at s db (Ok turn) = Ok (record { state = with_cache s db turn.cache; writes = framed turn.reply })
 looked_at s db (Err stop) = Err (Spent stop.count)
 
--- a look-up in a database
+-- a look-up, in the database of its kind
 abbrev pub look_in : Db → Settings → State → Request → Result Went Finish
 look_in db settings s request = looked_at s db (look_up (settings_of settings db) s.moment (part_of db s.files) request (cache_of s db))
 
--- a look-up, of the kinds that are built
-abbrev pub look_frame : Kind → Settings → State → Request → Result Went Finish
-look_frame PwName settings s request = look_in db.Passwd settings s request
-look_frame PwUid settings s request = look_in db.Passwd settings s request
-look_frame GrName settings s request = look_in db.Group settings s request
-look_frame GrGid settings s request = look_in db.Group settings s request
-look_frame HostName settings s request = Err NotBuilt
-look_frame HostName6 settings s request = Err NotBuilt
-look_frame HostAddr settings s request = Err NotBuilt
-look_frame HostAddr6 settings s request = Err NotBuilt
-look_frame Ai settings s request = Err NotBuilt
-look_frame InitGroups settings s request = look_in db.Group settings s request
-look_frame ServName settings s request = Err NotBuilt
-look_frame ServPort settings s request = Err NotBuilt
+abbrev pub look_frame : Settings → State → Request → Result Went Finish
+look_frame settings s request = look_in (database_of request.kind) settings s request
 
 -- an input that asks for no look-up gets no reply: an empty one is written
 abbrev pub unanswered : State → Result Went Finish
@@ -82,7 +68,7 @@ unanswered s = Ok (record { state = s; writes = framed [] })
 
 -- the input of a connection
 abbrev pub ask_frame : Settings → State → Asked → Result Went Finish
-ask_frame settings s (Look request) = look_frame request.kind settings s request
+ask_frame settings s (Look request) = look_frame settings s request
 ask_frame settings s Shutdown = unanswered s
 ask_frame settings s Stat = unanswered s
 ask_frame settings s (Invalidate name) = unanswered s
@@ -97,15 +83,9 @@ ask_frame settings s (BadLength length) = unanswered s
 abbrev pub silent : State → Result Went Finish
 silent s = Ok (record { state = s; writes = [] })
 
--- a file becomes this; the files that users and groups read are built
+-- a file becomes this
 abbrev pub become_frame : State → FileId → Option (List ℕ) → Result Went Finish
-become_frame s file.Switch held = silent (record s { files = with_file s.files file.Switch held })
-become_frame s file.Passwd held = silent (record s { files = with_file s.files file.Passwd held })
-become_frame s file.Group held = silent (record s { files = with_file s.files file.Group held })
-become_frame s file.Hosts held = Err NotBuilt
-become_frame s file.Services held = Err NotBuilt
-become_frame s file.ExtraPasswd held = silent (record s { files = with_file s.files file.ExtraPasswd held })
-become_frame s file.ExtraGroup held = silent (record s { files = with_file s.files file.ExtraGroup held })
+become_frame s file held = silent (record s { files = with_file s.files file held })
 
 -- one database did this, and the next part goes on behind it
 abbrev pub then_on : State → Db → Result Passed Stopped → (State → Result Went Finish) → Result Went Finish

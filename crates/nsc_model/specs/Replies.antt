@@ -12,7 +12,7 @@ use Rattle.nsc_model.specs.History.{IsPrefix, IsLive, Answered}
 use Rattle.nsc_model.specs.Core.{Core, Replies}
 use Rattle.nsc_model.specs.Machine.{Passed, Stopped, Turn, look_up, tick, invalidated}
 use Rattle.nsc_model.specs.Calls.{Drives, MovesOver}
-use Rattle.nsc_model.specs.Frames.{Frame, Ask, Become, Reach, Clear, Stop, Finish, Done, Bad, Long, Spent, NotBuilt}
+use Rattle.nsc_model.specs.Frames.{Frame, Ask, Become, Reach, Clear, Stop, Finish, Done, Bad, Long, Spent}
 use Rattle.nsc_model.specs.Replay.{State, cache_of, with_cache, Went, framed, last_moment, turn_of}
 
 -- the cores of the four databases, over the files as they are, with the caches that tell their histories; the caller holds
@@ -104,7 +104,6 @@ stopped_in s left (Done place) = s
 stopped_in s left (Bad place) = s
 stopped_in s left (Long length) = s
 stopped_in s left (Spent count) = left
-stopped_in s left NotBuilt = s
 
 -- ---- whole replays
 

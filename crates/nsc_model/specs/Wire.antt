@@ -1,16 +1,21 @@
 -- Requests and replies as bytes: protocol version 2 of glibc's nscd-client.h, in little-endian fields of four bytes.
-use Rattle.std.specs.Prelude.{◌≡◌, ◌≢◌, ℕ, ◌+◌, ◌≤◌, ◌<◌, ◌^◌, ℤ, ◌==◌, nat_lt, if◌then◌else◌, List, [], ◌∷◌, ◌++◌, length, take, drop, flat_map, All, Option, Some, None}
+use Rattle.std.specs.Prelude.{◌≡◌, ◌≢◌, ◌⊎◌, ℕ, ◌+◌, ◌≤◌, ◌<◌, ◌^◌, ℤ, ◌==◌, nat_lt, if◌then◌else◌, List, [], ◌∷◌, ◌++◌, length, map, take, drop, flat_map, All, Option, Some, None}
 use Rattle.std.specs.List.{before_first}
 use Rattle.byteorder.specs.Endian.{little_number, little_bytes, twos_complement}
 use Rattle.nsc_model.specs.declared.kind.Kind.{Kind}
-use Rattle.nsc_model.specs.declared.kind.Kind.TheVariants.{PwName, PwUid, GrName, GrGid, HostName, HostName6, HostAddr, HostAddr6, Ai, InitGroups, ServName, ServPort}
+use Rattle.nsc_model.specs.declared.kind.Kind.TheVariants as kind
 use Rattle.nsc_model.specs.declared.answer.Request.{Request}
 use Rattle.nsc_model.specs.declared.row.Passwd.{Passwd}
 use Rattle.nsc_model.specs.declared.row.Group.{Group}
+use Rattle.nsc_model.specs.declared.row.Host.{Host}
+use Rattle.nsc_model.specs.declared.row.Service.{Service}
+use Rattle.nsc_model.specs.declared.row.Ai.{Ai}
 use Rattle.nsc_model.specs.declared.row.Row.TheVariants as row
 use Rattle.nsc_model.specs.declared.row.Reply.{Reply}
 use Rattle.nsc_model.specs.declared.row.Reply.TheVariants.{Found, Absent, Disabled}
 use Rattle.nsc_model.specs.Kinds.{kind_numbered}
+use Rattle.nsc_model.specs.Hosts.{ipv4, ipv6}
+use Rattle.nsc_model.specs.ServiceLines.{exchanged}
 use Rattle.nsc_model.specs.Marked.{reply_limit}
 use Rattle.nsc_model.specs.Fixed.{key_limit}
 
@@ -42,18 +47,18 @@ text_key key = before_first (λ b. b == 0) key
 
 -- the key that is stored: an address as its raw bytes, every other key as a text
 abbrev pub stored_key : Kind → List ℕ → List ℕ
-stored_key PwName key = text_key key
-stored_key PwUid key = text_key key
-stored_key GrName key = text_key key
-stored_key GrGid key = text_key key
-stored_key HostName key = text_key key
-stored_key HostName6 key = text_key key
-stored_key HostAddr key = key
-stored_key HostAddr6 key = key
-stored_key Ai key = text_key key
-stored_key InitGroups key = text_key key
-stored_key ServName key = text_key key
-stored_key ServPort key = text_key key
+stored_key kind.PwName key = text_key key
+stored_key kind.PwUid key = text_key key
+stored_key kind.GrName key = text_key key
+stored_key kind.GrGid key = text_key key
+stored_key kind.HostName key = text_key key
+stored_key kind.HostName6 key = text_key key
+stored_key kind.HostAddr key = key
+stored_key kind.HostAddr6 key = key
+stored_key kind.Ai key = text_key key
+stored_key kind.InitGroups key = text_key key
+stored_key kind.ServName key = text_key key
+stored_key kind.ServPort key = text_key key
 
 -- a type up to 21 that is no look-up
 abbrev pub asked_otherwise : ℕ → List ℕ → Asked
@@ -65,7 +70,7 @@ asked_otherwise type key =
     if type == 20 then Netgroup else Descriptor))))
 
 abbrev pub asked_look : Option Kind → ℕ → List ℕ → Asked
-asked_look (Some kind) type key = Look (record { kind = kind; key = stored_key kind key })
+asked_look (Some k) type key = Look (record { kind = k; key = stored_key k key })
 asked_look None type key = asked_otherwise type key
 
 -- the three fields version, type and key length, and then the key; what stands behind the key is not looked at.
@@ -157,20 +162,84 @@ ids_reply (Found (row.Groups ids)) = ids_found ids
 ids_reply Absent = ids_lacking 0
 ids_reply Disabled = ids_lacking minus_one
 
--- the bytes of a reply of a kind; the other kinds are not built yet
+-- version, found, name length, alias count, address type, address length, address count, error; the name, a length for each
+-- alias, the address and the aliases. A reply has one address.
+abbrev pub host_found : Host → List ℕ
+host_found h =
+    field 2 ++ field 1 ++ text_len h.name ++ field (length h.aliases) ++ field h.family ++ field (length h.address) ++ field 1 ++ field 0
+    ++ text h.name ++ flat_map text_len h.aliases ++ h.address ++ flat_map text h.aliases
+
+-- the same fields without an entry: type and length are -1, the error is 1, or -1 where the database is not cached
+abbrev pub host_lacking : ℕ → ℕ → List ℕ
+host_lacking found error = field 2 ++ field found ++ field 0 ++ field 0 ++ field minus_one ++ field minus_one ++ field 0 ++ field error
+
+abbrev pub host_reply : Reply → List ℕ
+host_reply (Found (row.Passwd p)) = []
+host_reply (Found (row.Group g)) = []
+host_reply (Found (row.Host h)) = host_found h
+host_reply (Found (row.Service s)) = []
+host_reply (Found (row.Ai a)) = []
+host_reply (Found (row.Groups ids)) = []
+host_reply Absent = host_lacking 0 1
+host_reply Disabled = host_lacking minus_one minus_one
+
+-- version, found, address count, address bytes, canonical name length, error; all addresses, a byte for the family of each,
+-- and the canonical name
+abbrev pub addresses_found : Ai → List ℕ
+addresses_found a =
+    let addresses = flat_map (λ f. f.address) a.list in
+    field 2 ++ field 1 ++ field (length a.list) ++ field (length addresses) ++ text_len a.canon ++ field 0
+    ++ addresses ++ map (λ f. f.family) a.list ++ text a.canon
+
+-- the same fields without an entry: the error is 1, or -1 where the database is not cached
+abbrev pub addresses_lacking : ℕ → ℕ → List ℕ
+addresses_lacking found error = field 2 ++ field found ++ field 0 ++ field 0 ++ field 0 ++ field error
+
+abbrev pub addresses_reply : Reply → List ℕ
+addresses_reply (Found (row.Passwd p)) = []
+addresses_reply (Found (row.Group g)) = []
+addresses_reply (Found (row.Host h)) = []
+addresses_reply (Found (row.Service s)) = []
+addresses_reply (Found (row.Ai a)) = addresses_found a
+addresses_reply (Found (row.Groups ids)) = []
+addresses_reply Absent = addresses_lacking 0 1
+addresses_reply Disabled = addresses_lacking minus_one minus_one
+
+-- version, found, name length, protocol length, alias count and port, whose two bytes are exchanged; the name, the protocol, a
+-- length for each alias and the aliases
+abbrev pub service_found : Service → List ℕ
+service_found s =
+    field 2 ++ field 1 ++ text_len s.name ++ text_len s.proto ++ field (length s.aliases) ++ field (exchanged s.port)
+    ++ text s.name ++ text s.proto ++ flat_map text_len s.aliases ++ flat_map text s.aliases
+
+-- the same fields without an entry: the port is -1
+abbrev pub service_lacking : ℕ → List ℕ
+service_lacking found = field 2 ++ field found ++ field 0 ++ field 0 ++ field 0 ++ field minus_one
+
+abbrev pub service_reply : Reply → List ℕ
+service_reply (Found (row.Passwd p)) = []
+service_reply (Found (row.Group g)) = []
+service_reply (Found (row.Host h)) = []
+service_reply (Found (row.Service s)) = service_found s
+service_reply (Found (row.Ai a)) = []
+service_reply (Found (row.Groups ids)) = []
+service_reply Absent = service_lacking 0
+service_reply Disabled = service_lacking minus_one
+
+-- the bytes of a reply of a kind
 abbrev pub spelled : Kind → Reply → List ℕ
-spelled PwName reply = user_reply reply
-spelled PwUid reply = user_reply reply
-spelled GrName reply = group_reply reply
-spelled GrGid reply = group_reply reply
-spelled HostName reply = []
-spelled HostName6 reply = []
-spelled HostAddr reply = []
-spelled HostAddr6 reply = []
-spelled Ai reply = []
-spelled InitGroups reply = ids_reply reply
-spelled ServName reply = []
-spelled ServPort reply = []
+spelled kind.PwName reply = user_reply reply
+spelled kind.PwUid reply = user_reply reply
+spelled kind.GrName reply = group_reply reply
+spelled kind.GrGid reply = group_reply reply
+spelled kind.HostName reply = host_reply reply
+spelled kind.HostName6 reply = host_reply reply
+spelled kind.HostAddr reply = host_reply reply
+spelled kind.HostAddr6 reply = host_reply reply
+spelled kind.Ai reply = addresses_reply reply
+spelled kind.InitGroups reply = ids_reply reply
+spelled kind.ServName reply = service_reply reply
+spelled kind.ServPort reply = service_reply reply
 
 -- the texts can be sent, and the ids are numbers of four bytes
 pub record IsUser (p : Passwd) : Type 0 where
@@ -220,20 +289,72 @@ IsIdsReply (Found (row.Groups ids)) = All (λ id. id < 2 ^ 32) ids
 IsIdsReply Absent = Unit {0}
 IsIdsReply Disabled = Unit {0}
 
+-- four bytes of IPv4 or sixteen of IPv6, by the family
+abbrev pub IsAddress : ℕ → List ℕ → Type 0
+IsAddress family address = ((family ≡ ipv4) × (length address ≡ 4)) ⊎ ((family ≡ ipv6) × (length address ≡ 16))
+
+-- the texts can be sent, and the address is of its family
+pub record IsHost (h : Host) : Type 0 where
+  pub name_is : IsText h.name
+  pub aliases_are : All IsText h.aliases
+  pub address_is : IsAddress h.family h.address
+
+abbrev pub IsHostReply : Reply → Type 0
+IsHostReply (Found (row.Passwd p)) = ⊥
+IsHostReply (Found (row.Group g)) = ⊥
+IsHostReply (Found (row.Host h)) = IsHost h
+IsHostReply (Found (row.Service s)) = ⊥
+IsHostReply (Found (row.Ai a)) = ⊥
+IsHostReply (Found (row.Groups ids)) = ⊥
+IsHostReply Absent = Unit {0}
+IsHostReply Disabled = Unit {0}
+
+-- each address is of its family, and the name can be sent
+pub record AreAddresses (a : Ai) : Type 0 where
+  pub addresses_are : All (λ f. IsAddress f.family f.address) a.list
+  pub canon_is : IsText a.canon
+
+abbrev pub IsAddressesReply : Reply → Type 0
+IsAddressesReply (Found (row.Passwd p)) = ⊥
+IsAddressesReply (Found (row.Group g)) = ⊥
+IsAddressesReply (Found (row.Host h)) = ⊥
+IsAddressesReply (Found (row.Service s)) = ⊥
+IsAddressesReply (Found (row.Ai a)) = AreAddresses a
+IsAddressesReply (Found (row.Groups ids)) = ⊥
+IsAddressesReply Absent = Unit {0}
+IsAddressesReply Disabled = Unit {0}
+
+-- the texts can be sent, and the port is a number of two bytes
+pub record IsService (s : Service) : Type 0 where
+  pub name_is : IsText s.name
+  pub proto_is : IsText s.proto
+  pub aliases_are : All IsText s.aliases
+  pub port_fits : s.port < 2 ^ 16
+
+abbrev pub IsServiceReply : Reply → Type 0
+IsServiceReply (Found (row.Passwd p)) = ⊥
+IsServiceReply (Found (row.Group g)) = ⊥
+IsServiceReply (Found (row.Host h)) = ⊥
+IsServiceReply (Found (row.Service s)) = IsService s
+IsServiceReply (Found (row.Ai a)) = ⊥
+IsServiceReply (Found (row.Groups ids)) = ⊥
+IsServiceReply Absent = Unit {0}
+IsServiceReply Disabled = Unit {0}
+
 -- a reply is of a kind: a row has the kind's shape and no zero byte in its texts
 abbrev pub IsReplyOf : Kind → Reply → Type 0
-IsReplyOf PwName reply = IsUserReply reply
-IsReplyOf PwUid reply = IsUserReply reply
-IsReplyOf GrName reply = IsGroupReply reply
-IsReplyOf GrGid reply = IsGroupReply reply
-IsReplyOf HostName reply = ⊥
-IsReplyOf HostName6 reply = ⊥
-IsReplyOf HostAddr reply = ⊥
-IsReplyOf HostAddr6 reply = ⊥
-IsReplyOf Ai reply = ⊥
-IsReplyOf InitGroups reply = IsIdsReply reply
-IsReplyOf ServName reply = ⊥
-IsReplyOf ServPort reply = ⊥
+IsReplyOf kind.PwName reply = IsUserReply reply
+IsReplyOf kind.PwUid reply = IsUserReply reply
+IsReplyOf kind.GrName reply = IsGroupReply reply
+IsReplyOf kind.GrGid reply = IsGroupReply reply
+IsReplyOf kind.HostName reply = IsHostReply reply
+IsReplyOf kind.HostName6 reply = IsHostReply reply
+IsReplyOf kind.HostAddr reply = IsHostReply reply
+IsReplyOf kind.HostAddr6 reply = IsHostReply reply
+IsReplyOf kind.Ai reply = IsAddressesReply reply
+IsReplyOf kind.InitGroups reply = IsIdsReply reply
+IsReplyOf kind.ServName reply = IsServiceReply reply
+IsReplyOf kind.ServPort reply = IsServiceReply reply
 
 -- the bytes spell the reply of the kind; a reply has at most 2 ^ 30 bytes, so that its lengths fit their fields
 pub record Spells (kind : Kind) (reply : Reply) (bytes : List ℕ) : Type 0 where

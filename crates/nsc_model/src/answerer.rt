@@ -1,7 +1,6 @@
 ghost use Rattle.std.specs.Prelude.{◌≡◌, ◌≤◌, IfOk, length};
 ghost use Rattle.std.specs.Arc.{arc_value};
 ghost use Rattle.nsc_model.specs.Files.{Files};
-ghost use Rattle.nsc_model.specs.Kinds.{IsBuilt};
 ghost use Rattle.nsc_model.specs.Answers.{answer_of};
 
 use crate::answer::Answer;
@@ -36,6 +35,5 @@ pub trait Answerer {
         kind: Kind,
         key: &[u8],
     ) -> Result<Answer, NoMemory>
-        requires { IsBuilt kind }
         ensures { IfOk result (λ answer. answer ≡ answer_of (prepared_from ready.now) (record { kind = kind; key = key.now })) };
 }

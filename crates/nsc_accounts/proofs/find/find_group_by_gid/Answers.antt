@@ -1,7 +1,7 @@
 use Rattle.std.proofs.Common.{◌==◌, rules}
 use Rattle.nsc_model.specs.Groups.{group_of_line}
 use Rattle.nsc_accounts.specs.Group.{group_at}
-use Rattle.nsc_accounts.proofs.Firsts.{first_has, first_is}
+use Rattle.nsc_model.proofs.Firsts.{first_has, first_is}
 use Rattle.nsc_accounts.proofs.find.find_group_by_gid.Goals as goal
 
 pub returns-clause-entry : goal.returns-clause-entry

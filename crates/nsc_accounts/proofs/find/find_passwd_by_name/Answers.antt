@@ -2,7 +2,7 @@ use Rattle.std.proofs.Common.{rules}
 use Rattle.std.specs.Str.{bytes_eq}
 use Rattle.nsc_model.specs.Users.{user_of_line}
 use Rattle.nsc_accounts.specs.Passwd.{user_at}
-use Rattle.nsc_accounts.proofs.Firsts.{first_has, first_is}
+use Rattle.nsc_model.proofs.Firsts.{first_has, first_is}
 use Rattle.nsc_accounts.proofs.find.find_passwd_by_name.Goals as goal
 
 pub returns-clause-entry : goal.returns-clause-entry

@@ -1,7 +1,7 @@
 use Rattle.std.proofs.Common.{◌==◌, rules}
 use Rattle.nsc_model.specs.Users.{user_of_line}
 use Rattle.nsc_accounts.specs.Passwd.{user_at}
-use Rattle.nsc_accounts.proofs.Firsts.{first_has, first_is}
+use Rattle.nsc_model.proofs.Firsts.{first_has, first_is}
 use Rattle.nsc_accounts.proofs.find.find_passwd_by_uid.Goals as goal
 
 pub returns-clause-entry : goal.returns-clause-entry

@@ -1,6 +1,6 @@
 use Rattle.std.proofs.Common.{ℕ, None, refl, sym, subst}
-use Rattle.nsc_accounts.specs.Found.{FirstFrom, at_end, here, behind}
-use Rattle.nsc_accounts.proofs.find.first_line.Goals as goal
+use Rattle.nsc_base.specs.Found.{FirstFrom, at_end, here, behind}
+use Rattle.nsc_base.proofs.text.first_line.Goals as goal
 
 pub returns-in-Some-entry_of : goal.returns-in-Some-entry_of
 returns-in-Some-entry_of g c = c.loop-line.invariant.left _ (here c.loop-line.from c.in-Some.line _ c.in-Some.ensures.line c.in-Some-entry_of.ensures)

@@ -1,6 +1,6 @@
 use Rattle.std.proofs.Common.{◌≤◌, ◌-◌, length}
-use Rattle.nsc_accounts.specs.Found.{FirstFrom}
-use Rattle.nsc_accounts.proofs.find.first_line.Given as goal
+use Rattle.nsc_base.specs.Found.{FirstFrom}
+use Rattle.nsc_base.proofs.text.first_line.Given as goal
 
 abbrev pub invariant-loop-line : goal.invariant-loop-line
 invariant-loop-line g l = record {

@@ -7,7 +7,7 @@ use Rattle.nsc_base.specs.declared.span.Line.{Line}
 use Rattle.nsc_base.specs.declared.span.Span.{Span}
 use Rattle.nsc_base.specs.Text.{IsLine, lines_of, part}
 use Rattle.nsc_model.specs.Entries.{first_named, first_of, if_named}
-use Rattle.nsc_accounts.specs.Found.{FirstFrom, at_end, here, behind}
+use Rattle.nsc_base.specs.Found.{FirstFrom, at_end, here, behind}
 
 -- one line more at the front
 pub first_step : {A : Type 0} (names : A → Bool) (o : Option A) (others : List A) → first_of (filter names (cons_option o others)) ≡ option_or (if_named names o) (first_of (filter names others))
