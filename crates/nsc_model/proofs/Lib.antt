@@ -1,7 +1,6 @@
 pub mod Parsers
 pub mod Spellings
 pub mod GroupSpellings
-pub mod OneReply
 pub mod Rounds
 pub mod Requests
 pub mod Histories
