@@ -2,7 +2,6 @@ ghost use Rattle.std.specs.Prelude.{◌≡◌, IfOk};
 ghost use Rattle.nsc_model.specs.Services.{Local, Extrausers};
 ghost use Rattle.nsc_model.specs.Answers.{answer_by, service_answer};
 ghost use Rattle.nsc_model.specs.Files.{file_of};
-ghost use Rattle.nsc_model.specs.Kinds.{IsBuilt};
 ghost use Rattle.nsc_model.specs.Sendable.{Sendable};
 
 use crate::groups::{group_by_id, group_by_name, groups_of_user};
@@ -19,7 +18,6 @@ pub fn files_lookup(
     kind: Kind,
     key: &[u8],
 ) -> Result<Looked, NoMemory>
-    requires { IsBuilt kind }
     ensures outcome { IfOk result (λ looked. looked ≡ service_answer content.now (record { kind = kind; key = key.now }) Local) }
     ensures sendable { IfOk result (λ looked. Sendable kind looked) }
 {
@@ -40,7 +38,6 @@ pub fn extra_lookup(
     kind: Kind,
     key: &[u8],
 ) -> Result<Looked, NoMemory>
-    requires { IsBuilt kind }
     ensures outcome { IfOk result (λ looked. looked ≡ service_answer content.now (record { kind = kind; key = key.now }) Extrausers) }
     ensures sendable { IfOk result (λ looked. Sendable kind looked) }
 {
@@ -59,7 +56,6 @@ fn look_in(
     kind: Kind,
     key: &[u8],
 ) -> Result<Looked, NoMemory>
-    requires { IsBuilt kind }
     ensures outcome { IfOk result (λ looked. looked ≡ answer_by kind (file_of content.now file) key.now) }
     ensures sendable { IfOk result (λ looked. Sendable kind looked) }
 {
@@ -78,6 +74,6 @@ fn look_in(
         | Kind::HostAddr6
         | Kind::Ai
         | Kind::ServName
-        | Kind::ServPort => Ok(Looked::Unavail),
+        | Kind::ServPort => Err(NoMemory),
     }
 }

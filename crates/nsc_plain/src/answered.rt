@@ -1,7 +1,6 @@
 ghost use Rattle.std.specs.Prelude.{◌≡◌, ◌≤◌, ◌<◌, ◌+◌, ◌^◌, length, map, IfOk};
 ghost use Rattle.nsc_base.specs.Nodes.{node_words};
 ghost use Rattle.nsc_model.specs.Fixed.{key_limit, kept_limit};
-ghost use Rattle.nsc_model.specs.Kinds.{IsBuilt};
 ghost use Rattle.nsc_model.specs.Machine.{life_of, due_of, reloaded_of};
 ghost use Rattle.nsc_plain.specs.Stock.{anew};
 ghost use Rattle.nsc_daemonconf.specs.Conf.{db_settings};
@@ -14,8 +13,8 @@ use nsc_words::node_words;
 use std::alloc::Global;
 use std::marker::Model;
 
-/// A request with its answer, that is to be inserted with this count of reloads. Its kind is built, and its key has at
-/// most 1,024 bytes.
+/// A request with its answer, that is to be inserted with this count of reloads. Its key has at most 1,024
+/// bytes.
 #[derive(Drop)]
 pub struct Answered {
     request: Request,
@@ -26,21 +25,19 @@ pub struct Answered {
 impl Model for Answered {
     ghost use Rattle.std.specs.Prelude.{◌≤◌, length};
     ghost use Rattle.nsc_model.specs.Fixed.{key_limit};
-    ghost use Rattle.nsc_model.specs.Kinds.{IsBuilt};
-    ghost use Rattle.nsc_plain.specs.Stock.{Fresh};
+        ghost use Rattle.nsc_plain.specs.Stock.{Fresh};
 
     ghost Value = { Fresh };
 
     ghost view = { λ a. record { request = a.request; answer = a.answer; reloads = a.reloads } };
 
-    ghost invariant = { λ a. IsBuilt a.request.kind × (length a.request.key ≤ key_limit) };
+    ghost invariant = { λ a. length a.request.key ≤ key_limit };
 }
 
 impl Answered {
     /// The request with its answer, reloaded so often.
     pub fn new(request: Request, answer: Answer, reloads: u64) -> Answered
-        requires built { IsBuilt request.kind }
-        requires key { length request.key ≤ key_limit }
+        requires { length request.key ≤ key_limit }
         ensures { result ≡ record { request = request; answer = answer; reloads = reloads } }
     {
         Answered {

@@ -2,7 +2,6 @@ ghost use Rattle.std.specs.Prelude.{◌≡◌, ◌≤◌, ◌<◌, ◌^◌, true
 ghost use Rattle.std.specs.Bool.{OnTrue};
 ghost use Rattle.std.specs.Arc.{arc_value};
 ghost use Rattle.std.specs.Option.{option_copied};
-ghost use Rattle.nsc_model.specs.Kinds.{IsBuilt};
 ghost use Rattle.nsc_model.specs.Files.{no_files};
 ghost use Rattle.nsc_model.specs.Fixed.{key_limit};
 ghost use Rattle.nsc_model.specs.Marked.{reply_limit};
@@ -88,7 +87,6 @@ impl PlainCache {
         key: &[u8],
         now: u64,
     ) -> Result<Bytes, PlainFault>
-        requires built { IsBuilt kind }
         requires key { length key.now ≤ key_limit }
         requires moment { now < 2 ^ 62 }
         ensures settings { self.new.settings ≡ self.old.settings }
@@ -113,7 +111,6 @@ impl PlainCache {
         key: &[u8],
         now: u64,
     ) -> Result<Bytes, PlainFault>
-        requires built { IsBuilt kind }
         requires key { length key.now ≤ key_limit }
         requires moment { now < 2 ^ 62 }
         requires mark { OnTrue is_newest.old (self.old.cache.sources ≡ arc_value content.now) }
@@ -195,7 +192,6 @@ impl PlainCache {
         key: &[u8],
         now: u64,
     ) -> Result<Bytes, NoMemory>
-        requires built { IsBuilt kind }
         requires key { length key.now ≤ key_limit }
         requires moment { now < 2 ^ 62 }
         ensures settings { self.new.settings ≡ self.old.settings }
@@ -222,7 +218,6 @@ impl PlainCache {
         answer: Answer,
         now: u64,
     ) -> Result<(), NoMemory>
-        requires built { IsBuilt kind }
         requires key { length key.now ≤ key_limit }
         requires moment { now < 2 ^ 62 }
         requires answer { answer ≡ answer_of self.old.cache.sources (record { kind = kind; key = key.now }) }

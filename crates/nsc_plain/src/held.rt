@@ -1,5 +1,5 @@
 ghost use Rattle.std.specs.Prelude.{◌≡◌};
-ghost use Rattle.nsc_model.specs.Kinds.{IsBuilt, is_request};
+ghost use Rattle.nsc_model.specs.Kinds.{is_request};
 ghost use Rattle.nsc_model.specs.Machine.{entry_words, is_due, is_dropped, reached, next_reloads, used_by};
 ghost use Rattle.nsc_plain.specs.Stock.{is_reloaded};
 
@@ -18,29 +18,24 @@ pub struct Held {
 }
 
 impl Model for Held {
-    ghost use Rattle.nsc_model.specs.Kinds.{IsBuilt};
     ghost use Rattle.nsc_model.specs.Machine.{Kept};
 
     ghost Value = { Kept };
 
     ghost view = { λ h. record { entry = h.entry; reloads = h.reloads } };
-
-    ghost invariant = { λ h. IsBuilt h.entry.request.kind };
 }
 
 impl Held {
     /// The entry, reloaded so often.
     pub fn new(entry: Entry, reloads: u64) -> Held
-        requires { IsBuilt entry.request.kind }
         ensures { result ≡ record { entry = entry; reloads = reloads } }
     {
         Held { entry, reloads }
     }
 
-    /// The entry, whose kind is built.
+    /// The entry.
     pub fn entry(&self) -> &Entry
-        ensures value { result.now ≡ self.now.entry }
-        ensures built { IsBuilt result.now.request.kind }
+        ensures { result.now ≡ self.now.entry }
     {
         &self.entry
     }

@@ -3,7 +3,7 @@ use Rattle.std.proofs.Common.{◌≡◌, ℕ, ◌+◌, List, ◌++◌, length, O
 use Rattle.std.proofs.lemmas.List.{length-append}
 use Rattle.nsc_outside.specs.Stream.{Grows}
 use Rattle.nsc_outside.proofs.Streams.{Moves-then, Grows-then}
-use Rattle.nsc_model.specs.Frames.{Finish, Done, Bad, Long, Spent, NotBuilt}
+use Rattle.nsc_model.specs.Frames.{Finish, Done, Bad, Long, Spent}
 use Rattle.nsc_model.specs.Settings.{Settings}
 use Rattle.nsc_model.specs.Replay.{State, Replayed, behind_output, replay_from}
 use Rattle.nsc_run.specs.declared.exit.Exit.{Exit}
@@ -94,4 +94,3 @@ chained settings s next place next_place before mid after had between got (exits
 chained settings s next place next_place before mid after had between got exits.NoMemory a b = then_no_memory settings s next place next_place before mid after had between got a b
 chained settings s next place next_place before mid after had between got (exits.BadFrame offset) a b = then_to (Bad offset) settings s next place next_place before mid after had between got a b
 chained settings s next place next_place before mid after had between got (exits.TooLong size) a b = then_to (Long size) settings s next place next_place before mid after had between got a b
-chained settings s next place next_place before mid after had between got exits.NotBuilt a b = then_to NotBuilt settings s next place next_place before mid after had between got a b

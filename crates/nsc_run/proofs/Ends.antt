@@ -3,7 +3,7 @@ use Rattle.std.proofs.Common.{◌≡◌, ℕ, ◌+◌, List, [], ◌++◌, lengt
 use Rattle.std.specs.Prelude.{IfSome}
 use Rattle.std.proofs.lemmas.List.{drop_at, append-nil}
 use Rattle.nsc_outside.specs.Stream.{Rose, Moves, IsDrained, Grows}
-use Rattle.nsc_model.specs.Frames.{Finish, Done, Bad, Long, Spent, NotBuilt}
+use Rattle.nsc_model.specs.Frames.{Finish, Done, Bad, Long, Spent}
 use Rattle.nsc_model.specs.Settings.{Settings}
 use Rattle.nsc_model.specs.Replay.{Replayed, first_state, replay}
 use Rattle.nsc_run.specs.declared.exit.Exit.{Exit}
@@ -60,7 +60,6 @@ tells_at settings bytes after had got (exits.BadFrame offset) a b c d r counts n
 tells_at settings bytes after had got (exits.Spent count) a b c d r counts no_in no_out = finish_tells settings (Spent count) bytes after had got r
 tells_at settings bytes after had got exits.NoMemory a b c d r counts no_in no_out = inr refl
 tells_at settings bytes after had got (exits.TooLong size) a b c d r counts no_in no_out = finish_tells settings (Long size) bytes after had got r
-tells_at settings bytes after had got exits.NotBuilt a b c d r counts no_in no_out = finish_tells settings NotBuilt bytes after had got r
 
 pub tells : (settings : Settings) (before after had got : Told) (exit : Exit) (a b c d : ℕ) → Run settings first_state 0 before after had got exit → Counted exit a b c d → (Rose a b → ⊥) → (Rose c d → ⊥) → IfSome before (λ bytes. TellsEnd (replay settings bytes).finish exit)
 tells settings None after had got exit a b c d r counts no_in no_out = tt

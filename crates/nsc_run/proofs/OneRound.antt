@@ -3,7 +3,7 @@ use Rattle.std.proofs.Common.{◌≡◌, ℕ, ◌+◌, ◌<◌, ◌≤◌, List,
 use Rattle.std.proofs.lemmas.List.{append-nil}
 use Rattle.nsc_outside.specs.Stream.{Grows}
 use Rattle.nsc_outside.proofs.Streams.{Moves-nothing, Grows-nothing}
-use Rattle.nsc_model.specs.Frames.{Frame, Ask, Become, Reach, Clear, Stop, NoFrame, LongFile, frame_at, frame_size, Finish, Bad, Long, Spent, NotBuilt, place_limit}
+use Rattle.nsc_model.specs.Frames.{Frame, Ask, Become, Reach, Clear, Stop, NoFrame, LongFile, frame_at, frame_size, Finish, Bad, Long, Spent, place_limit}
 use Rattle.nsc_model.specs.Settings.{Settings}
 use Rattle.nsc_model.specs.Replay.{State, Went, turn_of, Replayed, behind_output, replay_from, play}
 use Rattle.nsc_model.specs.Frames.{cut_by}
@@ -95,7 +95,6 @@ no_memory settings s place frame before after had got found same = record {
 -- what ends a frame ends the replay
 pub does_not : (settings : Settings) (s : State) (place : ℕ) (frame : Frame) (before after had got : Told) (exit : Exit) → place < place_limit → Gets frame_at before after frame → IsFollowed frame → DoesNot (turn_of settings s frame) had got exit → Run settings s place before after had got exit
 does_not settings s place frame before after had got exits.NoMemory lt found follows d = no_memory settings s place frame before after had got found d
-does_not settings s place frame before after had got exits.NotBuilt lt found follows d = turn_ends settings s place frame NotBuilt before after had got lt found follows d.0 d.1
 does_not settings s place frame before after had got (exits.Spent count) lt found follows d = turn_ends settings s place frame (Spent count) before after had got lt found follows d.0 d.1
 does_not settings s place frame before after had got exits.WriteFault lt found follows d = cut_short settings s place frame before after had got (turn_of settings s frame) lt found follows refl d
 does_not settings s place frame before after had got exits.Ok lt found follows d = absurd d

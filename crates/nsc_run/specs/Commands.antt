@@ -2,7 +2,7 @@
 use Rattle.std.specs.Prelude.{◌≡◌, ℕ, ◌≤◌, ◌⊎◌, Bool, false, List, [], ◌∷◌, drop, Option, Some, codes}
 use Rattle.std.specs.Str.{bytes_eq}
 use Rattle.nsc_outside.specs.Stream.{Grows}
-use Rattle.nsc_model.specs.Frames.{Finish, Done, Bad, Long, Spent, NotBuilt}
+use Rattle.nsc_model.specs.Frames.{Finish, Done, Bad, Long, Spent}
 use Rattle.nsc_model.specs.Settings.{Settings}
 use Rattle.nsc_model.specs.Replay.{replay}
 use Rattle.nsc_run.specs.declared.exit.Exit.{Exit}
@@ -28,7 +28,6 @@ exit_at (Done place) = exits.Ok
 exit_at (Bad place) = exits.BadFrame place
 exit_at (Long size) = exits.TooLong size
 exit_at (Spent count) = exits.Spent count
-exit_at NotBuilt = exits.NotBuilt
 
 abbrev pub TellsEnd : Finish → Exit → Type 0
 TellsEnd finish exit = (exit ≡ exit_at finish) ⊎ (exit ≡ exits.NoMemory)

@@ -16,7 +16,6 @@ status_of (exits.BadFrame offset) = 5
 status_of (exits.Spent count) = 9
 status_of exits.NoMemory = 10
 status_of (exits.TooLong size) = 11
-status_of exits.NotBuilt = 13
 
 -- what is told on standard error, without a newline
 abbrev pub text_of : Exit → List ℕ
@@ -28,7 +27,6 @@ text_of (exits.BadFrame offset) = codes "nscd: bad frame at " ++ decimal offset
 text_of (exits.Spent count) = codes "nscd: counter spent"
 text_of exits.NoMemory = codes "nscd: no memory"
 text_of (exits.TooLong size) = codes "nscd: file of " ++ decimal size ++ codes " bytes is too long"
-text_of exits.NotBuilt = codes "nscd: not built"
 
 -- the exit of a fault of the cache
 abbrev pub exit_of : PlainFault → Exit

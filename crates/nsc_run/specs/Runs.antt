@@ -1,7 +1,7 @@
 -- What a replay claims of its run: from a state and a place on, over what a source has left and what a sink took, before and after.
 use Rattle.std.specs.Prelude.{◌≡◌, ℕ, ◌+◌, ◌⊎◌, List, ◌++◌, length, Option}
 use Rattle.nsc_outside.specs.Stream.{Rose, Moves, IsDrained, Grows}
-use Rattle.nsc_model.specs.Frames.{Frame, frame_at, Finish, Done, Bad, Long, Spent, NotBuilt}
+use Rattle.nsc_model.specs.Frames.{Frame, frame_at, Finish, Done, Bad, Long, Spent}
 use Rattle.nsc_model.specs.Fronts.{Finds}
 use Rattle.nsc_model.specs.Settings.{Settings}
 use Rattle.nsc_model.specs.Replay.{State, behind_output, replay_from}
@@ -68,7 +68,6 @@ Run settings s place before after had got (exits.BadFrame offset) = RunsTo (Bad 
 Run settings s place before after had got (exits.Spent count) = RunsTo (Spent count) settings s place before after had got
 Run settings s place before after had got exits.NoMemory = RunsOutOfMemory settings s place before after had got
 Run settings s place before after had got (exits.TooLong size) = RunsTo (Long size) settings s place before after had got
-Run settings s place before after had got exits.NotBuilt = RunsTo NotBuilt settings s place before after had got
 
 -- one round: the frame at the front is done, and the replay goes on in this state at this place
 pub record GoesOn (settings : Settings) (s : State) (place : ℕ) (next : State) (next_place : ℕ) (before after had got : Option (List ℕ)) : Type 0 where
@@ -101,4 +100,3 @@ Counted (exits.BadFrame offset) a b c d = Calm a b c d
 Counted (exits.Spent count) a b c d = Calm a b c d
 Counted exits.NoMemory a b c d = Calm a b c d
 Counted (exits.TooLong size) a b c d = Calm a b c d
-Counted exits.NotBuilt a b c d = Calm a b c d

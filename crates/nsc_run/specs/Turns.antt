@@ -1,7 +1,7 @@
 -- One frame through the machine of a replay.
 use Rattle.std.specs.Prelude.{◌≡◌, ℕ, List, [], Option, Some, None, Result, Ok, Err}
 use Rattle.nsc_outside.specs.Stream.{Grows, GrowsByFront}
-use Rattle.nsc_model.specs.Frames.{Frame, Ask, Become, Reach, Clear, Stop, Finish, Spent, NotBuilt}
+use Rattle.nsc_model.specs.Frames.{Frame, Ask, Become, Reach, Clear, Stop, Finish, Spent}
 use Rattle.nsc_model.specs.Machine.{Stopped}
 use Rattle.nsc_model.specs.Replay.{State, Went, framed}
 use Rattle.nsc_run.specs.declared.exit.Exit.{Exit}
@@ -20,7 +20,6 @@ TurnsTo (Err finish) state reply = ⊥
 -- the machine ends so; nothing is claimed where memory was wanting, and no other end comes
 abbrev pub TurnFaults : Result Went Finish → Exit → Type 0
 TurnFaults turn exits.NoMemory = Unit {0}
-TurnFaults turn exits.NotBuilt = turn ≡ Err NotBuilt
 TurnFaults turn (exits.Spent count) = turn ≡ Err (Spent count)
 TurnFaults turn exits.Ok = ⊥
 TurnFaults turn exits.Usage = ⊥
@@ -38,7 +37,6 @@ StopsWith (Err stop) count = stop.count ≡ count
 abbrev pub EventFaults : {A : Type 0} → Result A Stopped → Exit → Type 0
 EventFaults event exits.NoMemory = Unit {0}
 EventFaults event (exits.Spent count) = StopsWith event count
-EventFaults event exits.NotBuilt = ⊥
 EventFaults event exits.Ok = ⊥
 EventFaults event exits.Usage = ⊥
 EventFaults event exits.ReadFault = ⊥
@@ -67,7 +65,6 @@ IsCutShort (Err finish) had got = ⊥
 -- a frame ended the replay, by the exit that it came to
 abbrev pub DoesNot : Result Went Finish → Option (List ℕ) → Option (List ℕ) → Exit → Type 0
 DoesNot turn had got exits.NoMemory = got ≡ had
-DoesNot turn had got exits.NotBuilt = (turn ≡ Err NotBuilt) × (got ≡ had)
 DoesNot turn had got (exits.Spent count) = (turn ≡ Err (Spent count)) × (got ≡ had)
 DoesNot turn had got exits.WriteFault = IsCutShort turn had got
 DoesNot turn had got exits.Ok = ⊥

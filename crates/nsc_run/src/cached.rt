@@ -1,6 +1,5 @@
 ghost use Rattle.std.specs.Prelude.{◌≡◌, ◌≤◌, ◌<◌, ◌^◌, length, IfOk, IfErr, OnOk};
 ghost use Rattle.std.specs.Arc.{arc_value};
-ghost use Rattle.nsc_model.specs.Kinds.{IsBuilt};
 ghost use Rattle.nsc_model.specs.Files.{no_files};
 ghost use Rattle.nsc_model.specs.Fixed.{key_limit};
 ghost use Rattle.nsc_model.specs.Marked.{reply_limit};
@@ -71,7 +70,6 @@ impl Cached {
         key: &[u8],
         now: u64,
     ) -> Result<Bytes, Exit>
-        requires built { IsBuilt kind }
         requires key { length key.now ≤ key_limit }
         requires moment { now < 2 ^ 62 }
         ensures files { self.new.files ≡ self.old.files }

@@ -16,11 +16,10 @@ use nsc_outside::{Sink, Source};
 /// For each input of a connection the reply is written behind its length. The suggested sizes are 1 to 65,536.
 ///
 /// At `Ok` the input stands right behind its first E, and what was written is the whole output of the replay. At
-/// `BadFrame`, `TooLong`, `Spent` and `NotBuilt` it is the output of the frames before. At `ReadFault` it is that of the
-/// whole frames that were read, at `NoMemory` that of these or of all but the last, and at `WriteFault` a front of it.
-/// `ReadFault` and `WriteFault` come only where a call on that stream failed, and its count of faults rose; `NotBuilt`
-/// only at a whole frame that sets a file other than passwd or looks up anything but a user's name. Memory may be wanting
-/// at any time.
+/// `BadFrame`, `TooLong` and `Spent` it is the output of the frames before. At `ReadFault` it is that of the whole frames
+/// that were read, at `NoMemory` that of these or of all but the last, and at `WriteFault` a front of it. `ReadFault` and
+/// `WriteFault` come only where a call on that stream failed, and its count of faults rose. Memory may be wanting at any
+/// time.
 pub fn replay<RT: AllocGlobal, R: Source, K: Sink>(
     rt: &RT,
     conf: &Conf,

@@ -34,8 +34,6 @@ pub enum Exit {
         /// The length that is announced, in bytes.
         length: u64,
     },
-    /// A frame sets a file or asks a kind of look-up that is not built yet.
-    NotBuilt,
 }
 
 impl Exit {
@@ -55,7 +53,6 @@ impl Exit {
             Exit::Spent { .. } => 9,
             Exit::NoMemory => 10,
             Exit::TooLong { .. } => 11,
-            Exit::NotBuilt => 13,
         }
     }
 }
@@ -77,7 +74,6 @@ impl fmt::Display for Exit {
             Exit::Spent { .. } => write!(f, "nscd: counter spent"),
             Exit::NoMemory => write!(f, "nscd: no memory"),
             Exit::TooLong { length } => write!(f, "nscd: file of {length} bytes is too long"),
-            Exit::NotBuilt => write!(f, "nscd: not built"),
         }
     }
 }

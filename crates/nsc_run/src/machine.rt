@@ -3,7 +3,7 @@ ghost use Rattle.nsc_model.specs.Marked.{reply_limit};
 ghost use Rattle.nsc_model.specs.Files.{FileFits, with_file};
 ghost use Rattle.nsc_model.specs.Fixed.{key_limit};
 ghost use Rattle.nsc_model.specs.Wire.{request_of};
-ghost use Rattle.nsc_model.specs.Replay.{ask_frame, become_frame, clear_frame, first_state, look_frame, reach_frame, turn_of};
+ghost use Rattle.nsc_model.specs.Replay.{ask_frame, clear_frame, first_state, look_frame, reach_frame, turn_of};
 ghost use Rattle.nsc_daemonconf.specs.Conf.{settings};
 ghost use Rattle.nsc_run.specs.Commands.{SizesFit};
 ghost use Rattle.nsc_run.specs.Desks.{IsOfGroups, IsOfUsers};
@@ -68,7 +68,7 @@ impl Machine {
     /// One frame through the machine: the reply that is to be written, if the frame is an input of a connection, of at
     /// most 2^30 bytes; an empty one where the input asks for no look-up.
     ///
-    /// `NotBuilt` comes at a frame that is not built yet, and `Spent` where a count stands at its end.
+    /// `Spent` comes where a count stands at its end.
     pub fn turn<A: Answerer>(
         &mut self,
         alloc: Global,
@@ -131,7 +131,7 @@ impl Machine {
         }
     }
 
-    // A look-up: those of users and groups are built.
+    // A look-up, in the database of its kind.
     fn look<A: Answerer>(
         &mut self,
         alloc: Global,
@@ -142,50 +142,34 @@ impl Machine {
         requires { length key.now ≤ key_limit }
         ensures settings { self.new.settings ≡ self.old.settings }
         ensures bound { IfOk result (λ reply. IfSome reply (λ bytes. length bytes ≤ reply_limit)) }
-        ensures turn { IfOk result (λ reply. TurnsTo (look_frame kind self.old.settings self.old.state (record { kind = kind; key = key.now })) self.new.state reply) }
-        ensures fault { IfErr result (TurnFaults (look_frame kind self.old.settings self.old.state (record { kind = kind; key = key.now }))) }
+        ensures turn { IfOk result (λ reply. TurnsTo (look_frame self.old.settings self.old.state (record { kind = kind; key = key.now })) self.new.state reply) }
+        ensures fault { IfErr result (TurnFaults (look_frame self.old.settings self.old.state (record { kind = kind; key = key.now }))) }
     {
-        let reply = match kind {
-            Kind::PwName | Kind::PwUid => {
-                self.users.look_up(alloc, answers, kind, key, self.moment)?
-            }
-            Kind::GrName | Kind::GrGid | Kind::InitGroups => {
-                self.groups.look_up(alloc, answers, kind, key, self.moment)?
-            }
-            Kind::HostName
-            | Kind::HostName6
-            | Kind::HostAddr
-            | Kind::HostAddr6
-            | Kind::Ai
-            | Kind::ServName
-            | Kind::ServPort => return Err(Exit::NotBuilt),
+        let now = self.moment;
+        let database = match Db::of(kind) {
+            Db::Passwd => &mut self.users,
+            Db::Group => &mut self.groups,
+            Db::Hosts => &mut self.hosts,
+            Db::Services => &mut self.services,
         };
+        let reply = database.look_up(alloc, answers, kind, key, now)?;
         Ok(Some(reply))
     }
 
-    // What a file becomes: the files that users and groups read are built. All memory is taken before anything changes.
-    fn become_file(&mut self, alloc: Global, file: FileId, bytes: Option<Bytes>) -> Result<(), Exit>
+    // A file becomes this. All memory is taken before anything changes.
+    fn become_file(&mut self, alloc: Global, file: FileId, bytes: Option<Bytes>) -> Result<(), NoMemory>
         requires { FileFits bytes }
         ensures settings { self.new.settings ≡ self.old.settings }
-        ensures turn { OnOk result (TurnsTo (become_frame self.old.state file bytes) self.new.state None) }
-        ensures fault { IfErr result (TurnFaults (become_frame self.old.state file bytes)) }
+        ensures set { OnOk result (self.new.state ≡ record self.old.state { files = with_file self.old.state.files file bytes }) }
     {
+        let held = Shared::new(alloc, bytes)?;
         match file {
-            FileId::Switch => {
-                let held = Shared::new(alloc, bytes)?;
-                self.switch_becomes(alloc, held)?;
-            }
-            FileId::Passwd | FileId::ExtraPasswd => {
-                let held = Shared::new(alloc, bytes)?;
-                self.users_become(alloc, file, held)?;
-            }
-            FileId::Group | FileId::ExtraGroup => {
-                let held = Shared::new(alloc, bytes)?;
-                self.groups_become(alloc, file, held)?;
-            }
-            FileId::Hosts | FileId::Services => return Err(Exit::NotBuilt),
+            FileId::Switch => self.switch_becomes(alloc, held),
+            FileId::Passwd | FileId::ExtraPasswd => self.users_become(alloc, file, held),
+            FileId::Group | FileId::ExtraGroup => self.groups_become(alloc, file, held),
+            FileId::Hosts => self.hosts_become(alloc, held),
+            FileId::Services => self.services_become(alloc, held),
         }
-        Ok(())
     }
 
     // The file of the service lists, which every database reads, becomes this.
@@ -237,6 +221,30 @@ impl Machine {
         let groups = self.sources.part_with(alloc, Db::Group, file, &held)?;
         self.groups.set(groups);
         self.sources.set(file, held);
+        Ok(())
+    }
+
+    // The file of hosts becomes this.
+    fn hosts_become(&mut self, alloc: Global, held: Shared) -> Result<(), NoMemory>
+        requires { FileFits held }
+        ensures settings { self.new.settings ≡ self.old.settings }
+        ensures set { OnOk result (self.new.state ≡ record self.old.state { files = with_file self.old.state.files FileId.Hosts held }) }
+    {
+        let hosts = self.sources.part_with(alloc, Db::Hosts, FileId::Hosts, &held)?;
+        self.hosts.set(hosts);
+        self.sources.set(FileId::Hosts, held);
+        Ok(())
+    }
+
+    // The file of services becomes this.
+    fn services_become(&mut self, alloc: Global, held: Shared) -> Result<(), NoMemory>
+        requires { FileFits held }
+        ensures settings { self.new.settings ≡ self.old.settings }
+        ensures set { OnOk result (self.new.state ≡ record self.old.state { files = with_file self.old.state.files FileId.Services held }) }
+    {
+        let services = self.sources.part_with(alloc, Db::Services, FileId::Services, &held)?;
+        self.services.set(services);
+        self.sources.set(FileId::Services, held);
         Ok(())
     }
 

@@ -1,4 +1,5 @@
 mod groups;
+mod hosts;
 mod machines;
 mod seeded;
 mod switches;
@@ -144,7 +145,7 @@ fn whole_replays(rt: HostRuntime) -> Result<(), Fail> {
 // Inputs that are not replayed to their end, the exit, and the replies to the frames before.
 type Halted = (&'static [&'static [u8]], Exit, &'static [&'static [u8]]);
 
-const HALTED: [Halted; 22] = [
+const HALTED: [Halted; 20] = [
     (&[], Exit::BadFrame { offset: 0 }, &[]),
     (&[FILE, ASK_ROOT], Exit::BadFrame { offset: 61 }, &[ROOT]),
     (
@@ -177,7 +178,7 @@ const HALTED: [Halted; 22] = [
     (&[b"T\0\0\0\0\0\0\0"], Exit::BadFrame { offset: 0 }, &[]),
     (&[b"I"], Exit::BadFrame { offset: 0 }, &[]),
     (&[b"F\x01"], Exit::BadFrame { offset: 0 }, &[]),
-    // A file of 2^24 + 1 bytes is announced, of a kind that is built and of one that is not.
+    // A file of 2^24 + 1 bytes is announced, and one of the greatest length.
     (
         &[b"F\x01\x01\x01\0\0\x01"],
         Exit::TooLong { length: 16_777_217 },
@@ -190,24 +191,22 @@ const HALTED: [Halted; 22] = [
         },
         &[],
     ),
-    // The grammar comes before what is not built.
+    // A frame that is no frame comes before anything that it would ask.
     (&[b"F\x03\x02", END], Exit::BadFrame { offset: 0 }, &[]),
     (
         &[b"F\x03\x01\x04\0\0\0abc"],
         Exit::BadFrame { offset: 0 },
         &[],
     ),
-    // Whole frames that are not built.
-    (&[FILE, ASK_ROOT, b"F\x03\0", b"Z"], Exit::NotBuilt, &[ROOT]),
-    (&[b"F\x03\x01\x04\0\0\0abcd", END], Exit::NotBuilt, &[]),
+    // What stands behind files of hosts and services.
     (
-        &[b"Q\x0e\0\0\0\x02\0\0\0\x04\0\0\0\x02\0\0\0h\0", END],
-        Exit::NotBuilt,
-        &[],
+        &[FILE, ASK_ROOT, b"F\x03\0", b"Z"],
+        Exit::BadFrame { offset: 64 },
+        &[ROOT],
     ),
     (
-        &[b"Q\x0e\0\0\0\x02\0\0\0\x11\0\0\0\x02\0\0\x000\0"],
-        Exit::NotBuilt,
+        &[b"F\x04\x01\x04\0\0\0abcd"],
+        Exit::BadFrame { offset: 11 },
         &[],
     ),
 ];
@@ -305,7 +304,7 @@ fn words(rt: HostRuntime) -> Result<(), Fail> {
     Ok(())
 }
 
-const EXITS: [(Exit, u8, &str); 9] = [
+const EXITS: [(Exit, u8, &str); 8] = [
     (Exit::Ok, 0, ""),
     (Exit::Usage, 2, "nscd: usage"),
     (Exit::ReadFault, 3, "nscd: input failed"),
@@ -318,7 +317,6 @@ const EXITS: [(Exit, u8, &str); 9] = [
         11,
         "nscd: file of 16777217 bytes is too long",
     ),
-    (Exit::NotBuilt, 13, "nscd: not built"),
 ];
 
 #[test]

@@ -5,7 +5,6 @@ use Rattle.nsc_model.specs.declared.kind.Kind.{Kind}
 use Rattle.nsc_model.specs.declared.kind.Kind.TheVariants.{PwName, PwUid, GrName, GrGid, HostName, HostName6, HostAddr, HostAddr6, Ai, InitGroups, ServName, ServPort}
 use Rattle.nsc_model.specs.declared.row.Looked.{Looked}
 use Rattle.nsc_model.specs.declared.row.Looked.TheVariants.{Unavail}
-use Rattle.nsc_model.specs.Kinds.{IsBuilt}
 use Rattle.nsc_model.specs.Services.{SwitchService, SwitchStep, action_at, ends}
 use Rattle.nsc_model.specs.Answers.{switched}
 use Rattle.nsc_model.specs.Sendable.{Sendable}
@@ -25,20 +24,20 @@ pub is_switch : (look : SwitchService → Looked) (steps : List SwitchStep) → 
 is_switch look [] = refl
 is_switch look (step ∷ steps) = from_step look Unavail step steps
 
--- that nothing answers can be told for every kind that is built
-pub unavail_told : (kind : Kind) → IsBuilt kind → Sendable kind Unavail
-unavail_told PwName built = record { of_kind = tt; fits = search rules }
-unavail_told PwUid built = record { of_kind = tt; fits = search rules }
-unavail_told GrName built = record { of_kind = tt; fits = search rules }
-unavail_told GrGid built = record { of_kind = tt; fits = search rules }
-unavail_told HostName built = absurd built
-unavail_told HostName6 built = absurd built
-unavail_told HostAddr built = absurd built
-unavail_told HostAddr6 built = absurd built
-unavail_told Ai built = absurd built
-unavail_told InitGroups built = record { of_kind = tt; fits = search rules }
-unavail_told ServName built = absurd built
-unavail_told ServPort built = absurd built
+-- that nothing answers can be told for every kind
+pub unavail_told : (kind : Kind) → Sendable kind Unavail
+unavail_told PwName = record { of_kind = tt; fits = search rules }
+unavail_told PwUid = record { of_kind = tt; fits = search rules }
+unavail_told GrName = record { of_kind = tt; fits = search rules }
+unavail_told GrGid = record { of_kind = tt; fits = search rules }
+unavail_told HostName = record { of_kind = tt; fits = search rules }
+unavail_told HostName6 = record { of_kind = tt; fits = search rules }
+unavail_told HostAddr = record { of_kind = tt; fits = search rules }
+unavail_told HostAddr6 = record { of_kind = tt; fits = search rules }
+unavail_told Ai = record { of_kind = tt; fits = search rules }
+unavail_told InitGroups = record { of_kind = tt; fits = search rules }
+unavail_told ServName = record { of_kind = tt; fits = search rules }
+unavail_told ServPort = record { of_kind = tt; fits = search rules }
 
 -- where no step is left, the outcome is the switch's
 pub all_asked : (look : SwitchService → Looked) (outcome : Looked) (steps : List Step) (n : ℕ) → length steps ≤ n → turned look outcome (steps_of (drop n steps)) ≡ turned look Unavail (steps_of steps) → outcome ≡ switched look (steps_of steps)

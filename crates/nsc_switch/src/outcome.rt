@@ -1,7 +1,7 @@
 ghost use Rattle.std.specs.Prelude.{◌≡◌, IfOk};
 ghost use Rattle.nsc_model.specs.Answers.{looked_up, service_answer, switched};
 ghost use Rattle.nsc_model.specs.Files.{file_of};
-ghost use Rattle.nsc_model.specs.Kinds.{IsBuilt, database_of};
+ghost use Rattle.nsc_model.specs.Kinds.{database_of};
 ghost use Rattle.nsc_model.specs.Services.{action_at, ends};
 ghost use Rattle.nsc_model.specs.Sendable.{Sendable};
 ghost use Rattle.nsc_model.specs.Switches.{list_name, service_list, text_of};
@@ -16,7 +16,6 @@ use std::alloc::Global;
 /// The outcome of the switch for the request of this kind and key, over a content: the services that its
 /// nsswitch.conf(5) lists for the kind's database are asked in turn. Fails only for want of memory.
 pub fn switch(alloc: Global, content: &Content, kind: Kind, key: &[u8]) -> Result<Looked, NoMemory>
-    requires { IsBuilt kind }
     ensures outcome { IfOk result (λ looked. looked ≡ looked_up content.now (record { kind = kind; key = key.now })) }
     ensures sendable { IfOk result (λ looked. Sendable kind looked) }
 {
@@ -65,7 +64,6 @@ pub fn switch_over<V: ServiceLook>(
     kind: Kind,
     key: &[u8],
 ) -> Result<Looked, NoMemory>
-    requires { IsBuilt kind }
     ensures outcome { IfOk result (λ looked. looked ≡ switched (service_answer (V.content services.now) (record { kind = kind; key = key.now })) (steps_of steps.now)) }
     ensures sendable { IfOk result (λ looked. Sendable kind looked) }
 {

@@ -1,7 +1,6 @@
 ghost use Rattle.std.specs.Prelude.{◌≡◌, IfOk};
 ghost use Rattle.nsc_model.specs.Answers.{service_answer};
 ghost use Rattle.nsc_model.specs.Files.{Files};
-ghost use Rattle.nsc_model.specs.Kinds.{IsBuilt};
 ghost use Rattle.nsc_model.specs.Sendable.{Sendable};
 ghost use Rattle.nsc_switchconf.specs.Steps.{service_of};
 
@@ -24,7 +23,6 @@ pub trait ServiceLook {
         kind: Kind,
         key: &[u8],
     ) -> Result<Looked, NoMemory>
-        requires { IsBuilt kind }
         ensures outcome { IfOk result (λ looked. looked ≡ service_answer (content self.now) (record { kind = kind; key = key.now }) (service_of service)) }
         ensures sendable { IfOk result (λ looked. Sendable kind looked) };
 }

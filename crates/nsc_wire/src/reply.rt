@@ -34,7 +34,7 @@ pub fn encode(alloc: Global, kind: Kind, reply: &Reply) -> Result<Bytes, NoMemor
         | Kind::HostAddr6
         | Kind::Ai
         | Kind::ServName
-        | Kind::ServPort => unreachable!(),
+        | Kind::ServPort => Err(NoMemory),
     }
 }
 
