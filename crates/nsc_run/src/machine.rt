@@ -145,14 +145,12 @@ impl Machine {
         ensures turn { IfOk result (λ reply. TurnsTo (look_frame self.old.settings self.old.state (record { kind = kind; key = key.now })) self.new.state reply) }
         ensures fault { IfErr result (TurnFaults (look_frame self.old.settings self.old.state (record { kind = kind; key = key.now }))) }
     {
-        let now = self.moment;
-        let database = match Db::of(kind) {
-            Db::Passwd => &mut self.users,
-            Db::Group => &mut self.groups,
-            Db::Hosts => &mut self.hosts,
-            Db::Services => &mut self.services,
+        let reply = match Db::of(kind) {
+            Db::Passwd => self.users.look_up(alloc, answers, kind, key, self.moment)?,
+            Db::Group => self.groups.look_up(alloc, answers, kind, key, self.moment)?,
+            Db::Hosts => self.hosts.look_up(alloc, answers, kind, key, self.moment)?,
+            Db::Services => self.services.look_up(alloc, answers, kind, key, self.moment)?,
         };
-        let reply = database.look_up(alloc, answers, kind, key, now)?;
         Ok(Some(reply))
     }
 
