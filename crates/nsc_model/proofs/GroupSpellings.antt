@@ -37,7 +37,7 @@ same_ids xs ys a b f g e =
 -- ---- the entry of a group
 
 -- the lengths of texts, with their zero bytes, and what stands behind them
-same_lengths : (xs ys : List (List ℕ)) (r s : List ℕ) → length xs ≡ length ys → length (flat_map text xs) ≤ reply_limit → length (flat_map text ys) ≤ reply_limit → flat_map text_len xs ++ r ≡ flat_map text_len ys ++ s
+pub same_lengths : (xs ys : List (List ℕ)) (r s : List ℕ) → length xs ≡ length ys → length (flat_map text xs) ≤ reply_limit → length (flat_map text ys) ≤ reply_limit → flat_map text_len xs ++ r ≡ flat_map text_len ys ++ s
     → (map (λ x. length x + 1) xs ≡ map (λ x. length x + 1) ys) × (r ≡ s)
 same_lengths [] [] r s l f g e = (refl, e)
 same_lengths [] (y ∷ ys) r s l f g e = absurd (omega arith)
@@ -50,7 +50,7 @@ same_lengths (x ∷ xs) (y ∷ ys) r s l f g e =
     (subst (λ n. (length x + 1) ∷ map (λ z. length z + 1) xs ≡ n ∷ map (λ z. length z + 1) ys) first.0 (ap (λ more. (length x + 1) ∷ more) later.0), later.1)
 
 -- texts whose lengths are known
-same_texts : (xs ys : List (List ℕ)) → map (λ x. length x + 1) xs ≡ map (λ x. length x + 1) ys → flat_map text xs ≡ flat_map text ys → xs ≡ ys
+pub same_texts : (xs ys : List (List ℕ)) → map (λ x. length x + 1) xs ≡ map (λ x. length x + 1) ys → flat_map text xs ≡ flat_map text ys → xs ≡ ys
 same_texts [] [] l e = refl
 same_texts [] (y ∷ ys) l e = absurd cc
 same_texts (x ∷ xs) [] l e = absurd cc
@@ -70,7 +70,7 @@ regrouped g =
     append_assoc (flat_map text_len g.members ++ text g.name) (text g.passwd) (flat_map text g.members)
     ∙ append_assoc (flat_map text_len g.members) (text g.name) (text g.passwd ++ flat_map text g.members)
 
-lengths_size : (members : List (List ℕ)) → length (flat_map text_len members) ≡ 4 * length members
+pub lengths_size : (members : List (List ℕ)) → length (flat_map text_len members) ≡ 4 * length members
 lengths_size [] = refl
 lengths_size (m ∷ members) = omega (arith, length-append (text_len m) (flat_map text_len members), lengths_size members)
 

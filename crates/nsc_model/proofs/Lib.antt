@@ -1,6 +1,9 @@
 pub mod Parsers
 pub mod Spellings
 pub mod GroupSpellings
+pub mod HostSpellings
+pub mod ServiceSpellings
+pub mod OneReply
 pub mod Rounds
 pub mod Requests
 pub mod Histories

@@ -3,8 +3,10 @@
 ghost use Rattle.std.specs.Prelude.{◌≡◌, ◌≢◌, ℕ, List, [], ◌∷◌, ◌++◌, Option, Some};
 ghost use Rattle.nsc_model.specs.declared.answer.Request.{Request};
 ghost use Rattle.nsc_model.specs.declared.kind.Db.{Db};
+ghost use Rattle.nsc_model.specs.declared.kind.Kind.{Kind};
 ghost use Rattle.nsc_model.specs.declared.record.Record.{Record};
 ghost use Rattle.nsc_model.specs.declared.record.Record.TheVariants.{Change};
+ghost use Rattle.nsc_model.specs.declared.row.Reply.{Reply};
 ghost use Rattle.nsc_model.specs.Files.{Files, no_files, part_of};
 ghost use Rattle.nsc_model.specs.Settings.{DbSettings, Settings};
 ghost use Rattle.nsc_model.specs.History.{Legal, version_in};
@@ -14,6 +16,7 @@ ghost use Rattle.nsc_model.specs.Calls.{Drives, TurnsBy, PassesBy, Event, EachAn
 ghost use Rattle.nsc_model.specs.Services.{SwitchStep};
 ghost use Rattle.nsc_model.specs.Switches as switches;
 ghost use Rattle.nsc_model.specs.Switches.{spelled_list};
+ghost use Rattle.nsc_model.specs.Wire.{Spells};
 ghost use Rattle.nsc_model.specs.Frames.{Frame};
 ghost use Rattle.nsc_model.specs.Replay.{first_state};
 ghost use Rattle.nsc_model.specs.Replies.{EachReplied};
@@ -74,4 +77,9 @@ pub fn prefixes_are_legal()
 pub fn texts_spell_lists()
     ensures read { (text : List ℕ) (steps : List SwitchStep) → switches.Spells text steps → spelled_list text ≡ Some steps }
     ensures spelled { (text : List ℕ) (steps : List SwitchStep) → spelled_list text ≡ Some steps → switches.Spells text steps }
+{}
+
+/// No bytes spell two replies of one kind: a client that reads the bytes of a reply learns which one was sent.
+pub fn bytes_spell_one_reply()
+    ensures { (kind : Kind) (a b : Reply) (bytes : List ℕ) → Spells kind a bytes → Spells kind b bytes → a ≡ b }
 {}
