@@ -21,13 +21,15 @@ use Rattle.nsc_model.specs.Kinds.{database_of}
 use Rattle.nsc_model.specs.Files.{Files}
 use Rattle.nsc_model.specs.Marked.{Marked}
 use Rattle.nsc_model.specs.Wire.{spelled}
+use Rattle.nsc_base.specs.Text.{lines_of}
 use Rattle.nsc_model.specs.Entries.{named_in, first_named}
 use Rattle.nsc_model.specs.Users.{user_of_line}
 use Rattle.nsc_model.specs.Groups.{group_of_line, has_member}
 use Rattle.nsc_model.specs.Hosts.{family_once, host_addressed, host_has_name, host_named, host_of_line, ipv4, ipv6}
 use Rattle.nsc_model.specs.ServiceLines.{ServiceKey, exchanged, port_of, service_key, service_named, service_of_line, service_ported}
 use Rattle.nsc_model.specs.Services.{SwitchService, Local, Compat, Extrausers, Other, SwitchStep, action_at, ends}
-use Rattle.nsc_model.specs.Switches.{service_list}
+use Rattle.nsc_model.specs.Switches.{compat_list, service_list}
+use Rattle.nsc_model.specs.Compat.{IdScan, Scan, gathered, replaced_user, scanned_file}
 
 -- ---- ways to name an entry
 
@@ -133,12 +135,12 @@ extra_file db.Group files = files.extra_group
 extra_file db.Hosts files = None
 extra_file db.Services files = None
 
--- the outcome of a service; `compat` is not built yet
-abbrev pub service_answer : Files → Request → SwitchService → Looked
-service_answer files request Local = file_answer (own_file (database_of request.kind) files) request
-service_answer files request Compat = Unavail
-service_answer files request Extrausers = file_answer (extra_file (database_of request.kind) files) request
-service_answer files request Other = Unavail
+-- the outcome of a service of a compat list: `compat` within it is unavailable, as is what is not built in
+abbrev pub sub_answer : Files → Request → SwitchService → Looked
+sub_answer files request Local = file_answer (own_file (database_of request.kind) files) request
+sub_answer files request Compat = Unavail
+sub_answer files request Extrausers = file_answer (extra_file (database_of request.kind) files) request
+sub_answer files request Other = Unavail
 
 -- the services in turn, each with its outcome: the first one whose action at its status is to return ends the switch, and
 -- so does the last one
@@ -148,6 +150,121 @@ switched look (step ∷ []) = look step.service
 switched look (step ∷ next ∷ steps) =
     let outcome = look step.service in
     if ends (action_at step outcome) then outcome else switched look (next ∷ steps)
+
+-- ---- compat lines
+
+-- a request over the services of the compat list
+abbrev pub sub_looked : Files → Db → Kind → List ℕ → Looked
+sub_looked files database kind key = switched (sub_answer files (record { kind = kind; key = key })) (compat_list files database)
+
+abbrev pub user_in : Looked → Option Passwd
+user_in (Found (row.Passwd p)) = Some p
+user_in (Found (row.Group g)) = None
+user_in (Found (row.Host h)) = None
+user_in (Found (row.Service s)) = None
+user_in (Found (row.Ai a)) = None
+user_in (Found (row.Groups ids)) = None
+user_in NotFound = None
+user_in Unavail = None
+
+abbrev pub group_in : Looked → Option Group
+group_in (Found (row.Passwd p)) = None
+group_in (Found (row.Group g)) = Some g
+group_in (Found (row.Host h)) = None
+group_in (Found (row.Service s)) = None
+group_in (Found (row.Ai a)) = None
+group_in (Found (row.Groups ids)) = None
+group_in NotFound = None
+group_in Unavail = None
+
+-- users, and groups, of a request of this kind and key that names entries so
+abbrev pub user_scan : Files → Kind → List ℕ → (Passwd → Bool) → Scan Passwd
+user_scan files by key names = record {
+  entry_of = user_of_line;
+  name_of = λ p. p.name;
+  names = names;
+  by_name = λ name. user_in (sub_looked files db.Passwd kind.PwName name);
+  asked = user_in (sub_looked files db.Passwd by key);
+  replaced = replaced_user;
+  found = λ p. Found (row.Passwd p);
+}
+
+abbrev pub group_scan : Files → Kind → List ℕ → (Group → Bool) → Scan Group
+group_scan files by key names = record {
+  entry_of = group_of_line;
+  name_of = λ g. g.name;
+  names = names;
+  by_name = λ name. group_in (sub_looked files db.Group kind.GrName name);
+  asked = group_in (sub_looked files db.Group by key);
+  replaced = λ fields g. g;
+  found = λ g. Found (row.Group g);
+}
+
+-- the service whose outcome a switch takes
+abbrev pub deciding : (SwitchService → Looked) → List SwitchStep → SwitchService
+deciding look [] = Other
+deciding look (step ∷ []) = step.service
+deciding look (step ∷ next ∷ steps) = if ends (action_at step (look step.service)) then step.service else deciding look (next ∷ steps)
+
+-- the names and ids of the groups of a file that have the user as a member, in its order, none dropped
+abbrev pub pairs_of : List ℕ → Option (List ℕ) → List (List ℕ × ℕ)
+pairs_of user None = []
+pairs_of user (Some file) = map (λ g. (g.name, g.gid)) (named_in group_of_line (has_member user) file)
+
+abbrev pub service_pairs : Files → List ℕ → SwitchService → List (List ℕ × ℕ)
+service_pairs files user Local = pairs_of user files.group
+service_pairs files user Compat = []
+service_pairs files user Extrausers = pairs_of user files.extra_group
+service_pairs files user Other = []
+
+-- those of the service whose outcome the compat list takes; where that found none, there are none
+abbrev pub named_groups : Files → List ℕ → List (List ℕ × ℕ)
+named_groups files user =
+    service_pairs files user (deciding (sub_answer files (record { kind = kind.InitGroups; key = user })) (compat_list files db.Group))
+
+abbrev pub id_scan : Files → List ℕ → IdScan
+id_scan files user = record {
+  group_of = group_of_line;
+  has_user = has_member user;
+  by_name = λ name. group_in (sub_looked files db.Group kind.GrName name);
+  pairs = named_groups files user;
+}
+
+-- each id once; a netgroup is unavailable
+abbrev pub found_or_unavail : Option (List ℕ) → Looked
+found_or_unavail None = Unavail
+found_or_unavail (Some ids) = found_ids (each_once ids)
+
+abbrev pub gathered_file : IdScan → Option (List ℕ) → Looked
+gathered_file scan None = Unavail
+gathered_file scan (Some file) = found_or_unavail (gathered scan (lines_of file) [])
+
+-- the outcome of compat: users and groups have it
+abbrev pub compat_by : Kind → Files → List ℕ → Looked
+compat_by kind.PwName files key = scanned_file (user_scan files kind.PwName key (user_named key)) files.passwd
+compat_by kind.PwUid files key = scanned_file (user_scan files kind.PwUid key (user_numbered key)) files.passwd
+compat_by kind.GrName files key = scanned_file (group_scan files kind.GrName key (group_named key)) files.group
+compat_by kind.GrGid files key = scanned_file (group_scan files kind.GrGid key (group_numbered key)) files.group
+compat_by kind.InitGroups files key = gathered_file (id_scan files key) files.group
+compat_by kind.HostName files key = Unavail
+compat_by kind.HostName6 files key = Unavail
+compat_by kind.HostAddr files key = Unavail
+compat_by kind.HostAddr6 files key = Unavail
+compat_by kind.Ai files key = Unavail
+compat_by kind.ServName files key = Unavail
+compat_by kind.ServPort files key = Unavail
+
+unfoldable pub compat_answer : Files → Request → Looked
+compat_answer files request = compat_by request.kind files request.key
+
+-- ---- the switch
+
+-- the outcome of a service
+abbrev pub service_answer : Files → Request → SwitchService → Looked
+service_answer files request Local = sub_answer files request Local
+service_answer files request Compat = compat_answer files request
+service_answer files request Extrausers = sub_answer files request Extrausers
+service_answer files request Other = Unavail
 
 -- what an outcome is on the wire: the found reply, or else the not-found header with its mark
 abbrev pub marked : Kind → Looked → Marked

@@ -11,6 +11,7 @@ pub mod Hosts
 pub mod ServiceLines
 pub mod Services
 pub mod Switches
+pub mod Compat
 pub mod Answers
 pub mod Sendable
 pub mod History

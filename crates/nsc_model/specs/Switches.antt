@@ -373,3 +373,13 @@ list_name db.Services = Services
 -- the service list of a database over a content
 unfoldable pub service_list : Files → Db → List SwitchStep
 service_list files db = list_of (text_of files.switch) (list_name db)
+
+-- the list that compat lines ask: hosts and services have none, and so the one of a database that lists nis
+abbrev pub compat_name : Db → ListName
+compat_name db.Passwd = UsersCompat
+compat_name db.Group = GroupsCompat
+compat_name db.Hosts = UsersCompat
+compat_name db.Services = UsersCompat
+
+unfoldable pub compat_list : Files → Db → List SwitchStep
+compat_list files db = list_of (text_of files.switch) (compat_name db)

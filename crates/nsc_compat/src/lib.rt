@@ -1,0 +1,8 @@
+//! The service compat of nsswitch.conf(5): the plus and minus lines of passwd and group files.
+#![tactic(auto)]
+
+mod lookup;
+mod sub;
+
+pub use lookup::compat_lookup;
+pub use sub::{NamedId, SubLookup};

@@ -1,0 +1,43 @@
+ghost use Rattle.std.specs.Prelude.{◌≡◌, IfOk, map};
+ghost use Rattle.nsc_model.specs.Answers.{named_groups, sub_looked};
+ghost use Rattle.nsc_model.specs.Kinds.{database_of};
+ghost use Rattle.nsc_model.specs.Sendable.{Sendable};
+ghost use Rattle.nsc_compat.specs.Pairs.{pair_of};
+
+use nsc_base::{Bytes, NoMemory};
+use nsc_model::{Content, Kind, Looked};
+use std::alloc::Global;
+
+/// A group of a user: its name and its id.
+#[derive(Debug, Drop)]
+pub struct NamedId {
+    /// The group's name.
+    pub name: Bytes,
+    /// The group's id.
+    pub gid: u32,
+}
+
+/// The services that compat lines ask: those of the list `passwd_compat` or `group_compat` of a content's
+/// nsswitch.conf(5), within which compat itself is unavailable.
+pub trait SubLookup {
+    /// The outcome of these services for the request of this kind and key. Fails only for want of memory.
+    fn look(
+        &self,
+        alloc: Global,
+        content: &Content,
+        kind: Kind,
+        key: &[u8],
+    ) -> Result<Looked, NoMemory>
+        ensures outcome { IfOk result (λ looked. looked ≡ sub_looked content.now (database_of kind) kind key.now) }
+        ensures sendable { IfOk result (λ looked. Sendable kind looked) };
+
+    /// The names and ids of all groups that have the user as a member, in the order of the file, none dropped: those of
+    /// the service whose outcome the list takes, and so none where that is not SUCCESS. Fails only for want of memory.
+    fn named_groups(
+        &self,
+        alloc: Global,
+        content: &Content,
+        user: &[u8],
+    ) -> Result<Vec<NamedId>, NoMemory>
+        ensures { IfOk result (λ groups. map pair_of groups.items ≡ named_groups content.now user.now) };
+}

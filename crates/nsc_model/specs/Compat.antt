@@ -1,0 +1,139 @@
+-- The service compat of nsswitch.conf(5): lines of passwd and group that exclude names, or ask further services for entries.
+use Rattle.std.specs.Prelude.{ℕ, Bool, true, not, ◌==◌, ◌&&◌, if◌then◌else◌, List, [], ◌∷◌, ◌++◌, map, filter, Option, Some, None}
+use Rattle.std.specs.List.{before_first, list_any}
+use Rattle.std.specs.Option.{option_map}
+use Rattle.std.specs.Str.{bytes_eq}
+use Rattle.nsc_base.specs.Text.{fields_of, is_filled, lines_of}
+use Rattle.nsc_model.specs.declared.row.Passwd.{Passwd}
+use Rattle.nsc_model.specs.declared.row.Group.{Group}
+use Rattle.nsc_model.specs.declared.row.Looked.{Looked}
+use Rattle.nsc_model.specs.declared.row.Looked.TheVariants.{Found, NotFound, Unavail}
+use Rattle.nsc_model.specs.Users.{has_zero, trimmed}
+
+-- ---- lines
+
+-- what a line says: an entry; that a name is excluded; that the entry of a name is asked of further services, or that the
+-- request itself is; or a netgroup, whose names are not known. The fields are those of the line.
+pub data Says (A : Type 0) : Type 0 where
+  Entry : (entry : A) → Says A
+  Excludes : (name : List ℕ) → Says A
+  Asks : (name : List ℕ) (fields : List (List ℕ)) → Says A
+  AsksAll : (fields : List (List ℕ)) → Says A
+  Netgroup : Says A
+  Nothing : Says A
+
+abbrev pub says_entry : {A : Type 0} → Option A → Says A
+says_entry None = Nothing
+says_entry (Some entry) = Entry entry
+
+-- behind a minus: the name up to the first colon
+abbrev pub says_minus : {A : Type 0} → List ℕ → Says A
+says_minus [] = Nothing
+says_minus (b ∷ name) = if b == 64 then Netgroup else Excludes (b ∷ name)
+
+-- behind a plus
+abbrev pub says_plus : {A : Type 0} → List (List ℕ) → List ℕ → Says A
+says_plus fields [] = AsksAll fields
+says_plus fields (b ∷ name) = if b == 64 then Netgroup else Asks (b ∷ name) fields
+
+-- what stands before the first colon
+abbrev pub first_field : List ℕ → List ℕ
+first_field bytes = before_first (λ b. b == 58) bytes
+
+-- by the first byte behind the white space at the front: a plus, a minus, or an entry
+abbrev pub says_by : {A : Type 0} → Option A → List ℕ → Says A
+says_by entry [] = Nothing
+says_by entry (b ∷ bytes) =
+    if b == 43 then says_plus (fields_of 58 (b ∷ bytes)) (first_field bytes) else (
+    if b == 45 then says_minus (first_field bytes) else says_entry entry)
+
+-- a line with a zero byte says nothing
+abbrev pub says : {A : Type 0} → (List ℕ → Option A) → List ℕ → Says A
+says entry_of line = if has_zero line then Nothing else says_by (entry_of line) (trimmed line)
+
+-- ---- fields of a plus line
+
+abbrev pub own_or : List ℕ → List ℕ → List ℕ
+own_or own other = if is_filled own then own else other
+
+-- the fields of a plus line of passwd that are not empty stand in the place of the entry's; its ids are never replaced
+abbrev pub replaced_user : List (List ℕ) → Passwd → Passwd
+replaced_user (name ∷ passwd ∷ uid ∷ gid ∷ gecos ∷ dir ∷ shell ∷ []) p =
+    record p { passwd = own_or passwd p.passwd; gecos = own_or gecos p.gecos; dir = own_or dir p.dir; shell = own_or shell p.shell }
+replaced_user _ p = p
+
+-- ---- a request for one entry
+
+abbrev pub is_excluded : List (List ℕ) → List ℕ → Bool
+is_excluded excluded name = list_any (λ other. bytes_eq other name) excluded
+
+-- what a scan is about: the entry of a line, its name, whether the request names it, what the services of the compat list give
+-- for a name and for the request itself, what the fields of a plus line make of an entry, and the outcome of an entry
+pub record Scan (A : Type 0) : Type 0 where
+  pub entry_of : List ℕ → Option A
+  pub name_of : A → List ℕ
+  pub names : A → Bool
+  pub by_name : List ℕ → Option A
+  pub asked : Option A
+  pub replaced : List (List ℕ) → A → A
+  pub found : A → Looked
+
+-- an entry that may answer, where its name is not excluded
+abbrev pub answers_or : {A : Type 0} → Scan A → (A → Bool) → List (List ℕ) → Option A → (A → A) → Looked → Looked
+answers_or scan names excluded None replaced next = next
+answers_or scan names excluded (Some entry) replaced next =
+    if names entry && not (is_excluded excluded (scan.name_of entry)) then scan.found (replaced entry) else next
+
+-- what a line comes to, where `next` is what the lines behind it come to with these names excluded
+abbrev pub scan_line : {A : Type 0} → Scan A → List (List ℕ) → Says A → (List (List ℕ) → Looked) → Looked
+scan_line scan excluded (Entry entry) next = answers_or scan scan.names excluded (Some entry) (λ e. e) (next excluded)
+scan_line scan excluded (Excludes name) next = next (name ∷ excluded)
+scan_line scan excluded (Asks name fields) next = answers_or scan scan.names excluded (scan.by_name name) (scan.replaced fields) (next excluded)
+scan_line scan excluded (AsksAll fields) next = answers_or scan (λ e. true) excluded scan.asked (scan.replaced fields) (next excluded)
+scan_line scan excluded Netgroup next = Unavail
+scan_line scan excluded Nothing next = next excluded
+
+-- the lines from the first on, where these names are excluded so far: the first that answers decides
+abbrev pub scanned : {A : Type 0} → Scan A → List (List ℕ) → List (List ℕ) → Looked
+scanned scan [] excluded = NotFound
+scanned scan (line ∷ lines) excluded = scan_line scan excluded (says scan.entry_of line) (scanned scan lines)
+
+-- over a file; an absent one is unavailable
+abbrev pub scanned_file : {A : Type 0} → Scan A → Option (List ℕ) → Looked
+scanned_file scan None = Unavail
+scanned_file scan (Some file) = scanned scan (lines_of file) []
+
+-- ---- the groups of a user
+
+-- what the scan for a user's groups is about: whether a group has the user as a member, what the services of the compat list
+-- give for a group's name, and the names and ids of all groups of the user that they give
+pub record IdScan : Type 0 where
+  pub group_of : List ℕ → Option Group
+  pub has_user : Group → Bool
+  pub by_name : List ℕ → Option Group
+  pub pairs : List (List ℕ × ℕ)
+
+-- the id of a group that has the user as a member and whose name is not excluded
+abbrev pub id_of_group : IdScan → List (List ℕ) → Option Group → List ℕ
+id_of_group scan excluded None = []
+id_of_group scan excluded (Some g) = if scan.has_user g && not (is_excluded excluded g.name) then g.gid ∷ [] else []
+
+-- the ids of the pairs whose names are not excluded
+abbrev pub ids_of_pairs : List (List ℕ) → List (List ℕ × ℕ) → List ℕ
+ids_of_pairs excluded pairs = map (λ p. p.1) (filter (λ p. not (is_excluded excluded p.0)) pairs)
+
+abbrev pub before_ids : List ℕ → Option (List ℕ) → Option (List ℕ)
+before_ids ids others = option_map (λ more. ids ++ more) others
+
+-- the ids that a line adds to those of the lines behind it; none where a netgroup is reached
+abbrev pub gather_line : IdScan → List (List ℕ) → Says Group → (List (List ℕ) → Option (List ℕ)) → Option (List ℕ)
+gather_line scan excluded (Entry g) next = before_ids (id_of_group scan excluded (Some g)) (next excluded)
+gather_line scan excluded (Excludes name) next = next (name ∷ excluded)
+gather_line scan excluded (Asks name fields) next = before_ids (id_of_group scan excluded (scan.by_name name)) (next excluded)
+gather_line scan excluded (AsksAll fields) next = before_ids (ids_of_pairs excluded scan.pairs) (next excluded)
+gather_line scan excluded Netgroup next = None
+gather_line scan excluded Nothing next = next excluded
+
+abbrev pub gathered : IdScan → List (List ℕ) → List (List ℕ) → Option (List ℕ)
+gathered scan [] excluded = Some []
+gathered scan (line ∷ lines) excluded = gather_line scan excluded (says scan.group_of line) (gathered scan lines)
