@@ -1,28 +1,46 @@
--- A switch, step after step, with the outcome so far.
+-- A switch, step after step, with what stands for the last step so far.
 use Rattle.std.proofs.Common.{◌≡◌, ℕ, ◌+◌, ◌<◌, ◌≤◌, Bool, true, false, if◌then◌else◌, List, [], ◌∷◌, length, drop, get_or, refl, sym, ap, subst, ◌∙◌, rules}
 use Rattle.std.proofs.lemmas.List.{at_drop_all, at_drop_more}
 use Rattle.nsc_model.specs.declared.kind.Kind.{Kind}
 use Rattle.nsc_model.specs.declared.kind.Kind.TheVariants.{PwName, PwUid, GrName, GrGid, HostName, HostName6, HostAddr, HostAddr6, Ai, InitGroups, ServName, ServPort}
 use Rattle.nsc_model.specs.declared.row.Looked.{Looked}
 use Rattle.nsc_model.specs.declared.row.Looked.TheVariants.{Unavail}
-use Rattle.nsc_model.specs.Services.{SwitchService, SwitchStep, action_at, ends}
-use Rattle.nsc_model.specs.Answers.{switched}
+use Rattle.nsc_model.specs.Services.{SwitchService, Other, SwitchStep, action_at, ends}
+use Rattle.nsc_model.specs.Answers.{deciding, switched}
 use Rattle.nsc_model.specs.Sendable.{Sendable}
 use Rattle.nsc_switchconf.specs.declared.step.Step.{Step}
 use Rattle.nsc_switchconf.specs.Steps.{service_of, step_of, steps_of}
 
-abbrev pub turned : (SwitchService → Looked) → Looked → List SwitchStep → Looked
-turned look outcome [] = outcome
-turned look outcome (step ∷ steps) = if ends (action_at step (look step.service)) then look step.service else turned look (look step.service) steps
+-- steps up to the first at which the switch ends, with what stands for the last step that was asked
+abbrev pub picked : {X : Type 0} → (SwitchStep → Bool) → (SwitchStep → X) → X → List SwitchStep → X
+picked last value so_far [] = so_far
+picked last value so_far (step ∷ steps) = if last step then value step else picked last value (value step) steps
 
-from_step : (look : SwitchService → Looked) (outcome : Looked) (step : SwitchStep) (steps : List SwitchStep) → turned look outcome (step ∷ steps) ≡ switched look (step ∷ steps)
-from_step look outcome step [] = elim (ends (action_at step (look step.service))) as (λ b. (if b then look step.service else look step.service) ≡ look step.service) [ true ↦ refl | false ↦ refl ]
-from_step look outcome step (next ∷ steps) = ap (λ rest. if ends (action_at step (look step.service)) then look step.service else rest) (from_step look (look step.service) next steps)
+-- whether the switch ends at a step
+abbrev pub ends_at : (SwitchService → Looked) → SwitchStep → Bool
+ends_at look step = ends (action_at step (look step.service))
 
--- it is the switch
-pub is_switch : (look : SwitchService → Looked) (steps : List SwitchStep) → turned look Unavail steps ≡ switched look steps
-is_switch look [] = refl
-is_switch look (step ∷ steps) = from_step look Unavail step steps
+same_either : {X : Type 0} (b : Bool) (x : X) → (if b then x else x) ≡ x
+same_either true x = refl
+same_either false x = refl
+
+-- so is the outcome of a switch
+from_step : (look : SwitchService → Looked) (outcome : Looked) (step : SwitchStep) (steps : List SwitchStep) → picked (ends_at look) (λ s. look s.service) outcome (step ∷ steps) ≡ switched look (step ∷ steps)
+from_step look outcome step [] = same_either (ends_at look step) (look step.service)
+from_step look outcome step (next ∷ steps) = ap (λ rest. if ends_at look step then look step.service else rest) (from_step look (look step.service) next steps)
+
+pub switch_picks : (look : SwitchService → Looked) (steps : List SwitchStep) → picked (ends_at look) (λ s. look s.service) Unavail steps ≡ switched look steps
+switch_picks look [] = refl
+switch_picks look (step ∷ steps) = from_step look Unavail step steps
+
+-- and so is the service that decides
+service_from : (look : SwitchService → Looked) (service : SwitchService) (step : SwitchStep) (steps : List SwitchStep) → picked (ends_at look) (λ s. s.service) service (step ∷ steps) ≡ deciding look (step ∷ steps)
+service_from look service step [] = same_either (ends_at look step) step.service
+service_from look service step (next ∷ steps) = ap (λ rest. if ends_at look step then step.service else rest) (service_from look step.service next steps)
+
+pub deciding_picks : (look : SwitchService → Looked) (steps : List SwitchStep) → picked (ends_at look) (λ s. s.service) Other steps ≡ deciding look steps
+deciding_picks look [] = refl
+deciding_picks look (step ∷ steps) = service_from look Other step steps
 
 -- that nothing answers can be told for every kind
 pub unavail_told : (kind : Kind) → Sendable kind Unavail
@@ -39,17 +57,31 @@ unavail_told InitGroups = record { of_kind = tt; fits = search rules }
 unavail_told ServName = record { of_kind = tt; fits = search rules }
 unavail_told ServPort = record { of_kind = tt; fits = search rules }
 
--- where no step is left, the outcome is the switch's
-pub all_asked : (look : SwitchService → Looked) (outcome : Looked) (steps : List Step) (n : ℕ) → length steps ≤ n → turned look outcome (steps_of (drop n steps)) ≡ turned look Unavail (steps_of steps) → outcome ≡ switched look (steps_of steps)
-all_asked look outcome steps n le e = sym (at_drop_all (λ left. turned look outcome (steps_of left)) steps n le) ∙ (e ∙ is_switch look (steps_of steps))
+-- where no step is left, what stands for the last is what is picked
+pub all_asked : {X : Type 0} (last : SwitchStep → Bool) (value : SwitchStep → X) (first now all : X) (steps : List Step) (n : ℕ) → length steps ≤ n → picked last value now (steps_of (drop n steps)) ≡ picked last value first (steps_of steps) → picked last value first (steps_of steps) ≡ all → now ≡ all
+all_asked last value first now all steps n le e is = sym (at_drop_all (λ left. picked last value now (steps_of left)) steps n le) ∙ (e ∙ is)
 
--- an outcome at which the switch ends is the switch's
-ends_first : (look : SwitchService → Looked) (outcome : Looked) (step : SwitchStep) (steps : List SwitchStep) → ends (action_at step (look step.service)) ≡ true → turned look outcome (step ∷ steps) ≡ look step.service
-ends_first look outcome step steps e = rw e refl
+-- at a step at which the switch ends, it is that step's
+ends_here : {X : Type 0} (last : SwitchStep → Bool) (value : SwitchStep → X) (first now all : X) (steps : List Step) (n : ℕ) (none : Step) → n < length steps → picked last value now (steps_of (drop n steps)) ≡ picked last value first (steps_of steps)
+    → last (step_of (get_or steps n none)) ≡ true → picked last value first (steps_of steps) ≡ all → value (step_of (get_or steps n none)) ≡ all
+ends_here last value first now all steps n none lt e end is =
+    let step = step_of (get_or steps n none) in
+    let rest = steps_of (drop (n + 1) steps) in
+    let here : (if last step then value step else picked last value (value step) rest) ≡ value step = rw end refl in
+    sym here ∙ (sym (at_drop_more (λ left. picked last value now (steps_of left)) steps n none lt) ∙ (e ∙ is))
 
-pub ends_here : (look : SwitchService → Looked) (outcome found : Looked) (steps : List Step) (n : ℕ) (none : Step) → n < length steps → turned look outcome (steps_of (drop n steps)) ≡ turned look Unavail (steps_of steps)
-    → found ≡ look (service_of (get_or steps n none).service) → ends (action_at (step_of (get_or steps n none)) found) ≡ true → found ≡ switched look (steps_of steps)
-ends_here look outcome found steps n none lt e is end =
-    let step = get_or steps n none in
-    let ends' : ends (action_at (step_of step) (look (service_of step.service))) ≡ true = subst (λ (f : Looked). ends (action_at (step_of step) f) ≡ true) is end in
-    is ∙ (sym (ends_first look outcome (step_of step) (steps_of (drop (n + 1) steps)) ends') ∙ (sym (at_drop_more (λ left. turned look outcome (steps_of left)) steps n none lt) ∙ (e ∙ is_switch look (steps_of steps))))
+-- and at another one the switch goes on
+pub goes_on : {X : Type 0} (last : SwitchStep → Bool) (value : SwitchStep → X) (first now : X) (steps : List Step) (n : ℕ) (none : Step) → n < length steps → picked last value now (steps_of (drop n steps)) ≡ picked last value first (steps_of steps)
+    → last (step_of (get_or steps n none)) ≡ false → picked last value (value (step_of (get_or steps n none))) (steps_of (drop (n + 1) steps)) ≡ picked last value first (steps_of steps)
+goes_on last value first now steps n none lt e end =
+    let step = step_of (get_or steps n none) in
+    let rest = steps_of (drop (n + 1) steps) in
+    let here : (if last step then value step else picked last value (value step) rest) ≡ picked last value (value step) rest = rw end refl in
+    sym here ∙ (sym (at_drop_more (λ left. picked last value now (steps_of left)) steps n none lt) ∙ e)
+
+-- a switch ends at the outcome that was found
+pub looked_ends : {X : Type 0} (look : SwitchService → Looked) (value : SwitchStep → X) (first now all : X) (found : Looked) (steps : List Step) (n : ℕ) (none : Step) → n < length steps
+    → picked (ends_at look) value now (steps_of (drop n steps)) ≡ picked (ends_at look) value first (steps_of steps) → found ≡ look (service_of (get_or steps n none).service) → ends (action_at (step_of (get_or steps n none)) found) ≡ true
+    → picked (ends_at look) value first (steps_of steps) ≡ all → value (step_of (get_or steps n none)) ≡ all
+looked_ends look value first now all found steps n none lt e is end whole =
+    ends_here (ends_at look) value first now all steps n none lt e (subst (λ (f : Looked). ends (action_at (step_of (get_or steps n none)) f) ≡ true) is end) whole

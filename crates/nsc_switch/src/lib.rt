@@ -1,6 +1,8 @@
 //! The service switch of nsswitch.conf(5): the services of a list are asked one after the other.
 #![tactic(auto)]
 
+mod compat;
+mod decided;
 mod outcome;
 mod services;
 

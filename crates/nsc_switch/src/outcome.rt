@@ -2,15 +2,15 @@ ghost use Rattle.std.specs.Prelude.{◌≡◌, IfOk};
 ghost use Rattle.nsc_model.specs.Answers.{looked_up, service_answer, switched};
 ghost use Rattle.nsc_model.specs.Files.{file_of};
 ghost use Rattle.nsc_model.specs.Kinds.{database_of};
-ghost use Rattle.nsc_model.specs.Services.{action_at, ends};
 ghost use Rattle.nsc_model.specs.Sendable.{Sendable};
 ghost use Rattle.nsc_model.specs.Switches.{list_name, service_list, text_of};
-ghost use Rattle.nsc_switchconf.specs.Steps.{action_of, name_of, step_of, steps_of};
+ghost use Rattle.nsc_switchconf.specs.Steps.{name_of, steps_of};
 
-use crate::services::{PlainServices, ServiceLook};
+use crate::decided::decide;
+use crate::services::{PlainServices, ServiceLook, Whole};
 use nsc_base::NoMemory;
 use nsc_model::{Content, Db, FileId, Kind, Looked};
-use nsc_switchconf::{Action, DbName, Step, service_list};
+use nsc_switchconf::{DbName, Step, service_list};
 use std::alloc::Global;
 
 /// The outcome of the switch for the request of this kind and key, over a content: the services that its
@@ -31,8 +31,8 @@ fn steps_for(alloc: Global, content: &Content, db: Db) -> Result<Vec<Step>, NoMe
     service_list(alloc, switch_text(content), name_of(db))
 }
 
-// The text of nsswitch.conf(5); an absent file is like an empty one.
-fn switch_text(content: &Content) -> &[u8]
+/// The text of nsswitch.conf(5); an absent file is like an empty one.
+pub(crate) fn switch_text(content: &Content) -> &[u8]
     ensures { result.now ≡ text_of (file_of content.now FileId.Switch) }
 {
     match content.file(FileId::Switch) {
@@ -56,7 +56,6 @@ fn name_of(db: Db) -> DbName
 /// The outcome of the switch over these steps and these services, for the request of this kind and key: that of the
 /// first step whose action at its outcome's status is not to continue, or else that of the last step. Over no step it is
 /// unavailable. Fails only for want of memory.
-#[tactic(auto, using(crate::proofs::Turns::is_switch, crate::proofs::Turns::unavail_told))]
 pub fn switch_over<V: ServiceLook>(
     alloc: Global,
     services: &V,
@@ -67,33 +66,6 @@ pub fn switch_over<V: ServiceLook>(
     ensures outcome { IfOk result (λ looked. looked ≡ switched (service_answer (V.content services.now) (record { kind = kind; key = key.now })) (steps_of steps.now)) }
     ensures sendable { IfOk result (λ looked. Sendable kind looked) }
 {
-    let mut outcome = Looked::Unavail;
-    for step in steps {
-        outcome = services.look(alloc, step.service, kind, key)?;
-        if is_end(action_of(step, &outcome)) {
-            return Ok(outcome);
-        }
-    }
-    Ok(outcome)
-}
-
-// What a step does at the status of an outcome. No service answers that it may be tried again.
-fn action_of(step: &Step, outcome: &Looked) -> Action
-    ensures { action_of result ≡ action_at (step_of step.now) outcome.now }
-{
-    match outcome {
-        Looked::Found(_) => step.success,
-        Looked::NotFound => step.notfound,
-        Looked::Unavail => step.unavail,
-    }
-}
-
-// Whether the switch ends at this action; to merge is to return as long as no outcomes are joined.
-fn is_end(action: Action) -> bool
-    ensures { result ≡ ends (action_of action) }
-{
-    match action {
-        Action::Return | Action::Merge => true,
-        Action::Continue => false,
-    }
+    let decided = decide(alloc, &Whole { services }, steps, kind, key)?;
+    Ok(decided.outcome)
 }

@@ -4,7 +4,10 @@ ghost use Rattle.nsc_model.specs.Files.{Files};
 ghost use Rattle.nsc_model.specs.Sendable.{Sendable};
 ghost use Rattle.nsc_switchconf.specs.Steps.{service_of};
 
+use crate::compat::CompatServices;
+use crate::decided::Outcomes;
 use nsc_base::NoMemory;
+use nsc_compat::compat_lookup;
 use nsc_files::{extra_lookup, files_lookup};
 use nsc_model::{Content, Kind, Looked};
 use nsc_switchconf::Service;
@@ -47,7 +50,28 @@ impl<'a> ServiceLook for PlainServices<'a> {
         match service {
             Service::Files => files_lookup(alloc, self.content, kind, key),
             Service::Extrausers => extra_lookup(alloc, self.content, kind, key),
-            Service::Compat | Service::Other => Ok(Looked::Unavail),
+            Service::Compat => compat_lookup(alloc, self.content, kind, key, &CompatServices),
+            Service::Other => Ok(Looked::Unavail),
         }
+    }
+}
+
+/// The services of a database's own list.
+#[derive(Drop)]
+pub(crate) struct Whole<'a, V> {
+    pub services: &'a V,
+}
+
+impl<'a, V: ServiceLook> Outcomes for Whole<'a, V> {
+    ghost outcome = { λ whole. service_answer (V.content whole.services.now) };
+
+    fn outcome(
+        &self,
+        alloc: Global,
+        service: Service,
+        kind: Kind,
+        key: &[u8],
+    ) -> Result<Looked, NoMemory> {
+        self.services.look(alloc, service, kind, key)
     }
 }
