@@ -1,0 +1,6 @@
+pub mod Fields
+pub mod Options
+pub mod Dotted
+pub mod Groups
+pub mod Pairs
+pub mod ColonHex
