@@ -1,5 +1,5 @@
 -- A text cut into fields, and the fields joined to a text.
-use Rattle.std.proofs.Common.{◌≡◌, ℕ, ◌==◌, Bool, true, false, if◌then◌else◌, List, [], ◌∷◌, ◌++◌, refl, sym, ◌∙◌, ap}
+use Rattle.std.proofs.Common.{◌≡◌, ℕ, ◌==◌, Bool, true, false, if◌then◌else◌, List, [], ◌∷◌, ◌++◌, append_assoc, refl, sym, ◌∙◌, ap}
 use Rattle.std.specs.List.{list_any, join_with_byte}
 use Rattle.std.proofs.lemmas.Bool.{eqb-true, eq-eqb}
 use Rattle.std.proofs.lemmas.List.Folds.{list_any-append}
@@ -48,3 +48,9 @@ join-fields cut (b ∷ bytes) =
         → join_with_byte cut (if test then [] ∷ fields_of cut bytes else onto_first b (fields_of cut bytes)) ≡ b ∷ bytes
     by true e first later is rest = let same : b ≡ cut = eqb-true b cut e in rw is (join-cut cut first later ∙ (λ i. sym same i ∷ rest i))
     by false e first later is rest = rw is (join-onto_first cut b first later ∙ ap (λ ys. b ∷ ys) rest)
+
+-- one field more
+pub join-push : (cut : ℕ) (field : List ℕ) (fields : List (List ℕ)) (more : List ℕ) → join_with_byte cut ((field ∷ fields) ++ more ∷ []) ≡ join_with_byte cut (field ∷ fields) ++ cut ∷ more
+join-push cut field [] more = refl
+join-push cut field (next ∷ fields) more =
+    ap (λ ys. field ++ cut ∷ ys) (join-push cut next fields more) ∙ sym (append_assoc field (cut ∷ join_with_byte cut (next ∷ fields)) (cut ∷ more))

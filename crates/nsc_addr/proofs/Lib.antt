@@ -4,3 +4,5 @@ pub mod Dotted
 pub mod Groups
 pub mod Pairs
 pub mod ColonHex
+pub mod Printed
+pub mod Numerals

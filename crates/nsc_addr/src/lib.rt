@@ -2,6 +2,8 @@
 //! memory.
 #![tactic(auto)]
 
+mod print;
 mod read;
 
+pub use print::{print_v4, print_v6};
 pub use read::{read_v4, read_v6};
