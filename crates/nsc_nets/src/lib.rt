@@ -2,9 +2,13 @@
 //! addresses of a host.
 #![tactic(auto)]
 
+mod addresses;
 mod find;
+mod hosts;
 mod services;
 mod words;
 
-pub use find::{find_service, find_service_by_port};
+pub use addresses::ai_of;
+pub use find::{find_host, find_host_by_addr, find_service, find_service_by_port};
+pub use hosts::{HostAt, host_line};
 pub use services::{ServiceAt, service_line};
