@@ -14,7 +14,7 @@ use nsc_model::{Ai, Found6, Founds};
 use std::alloc::Global;
 
 /// The addresses of the host of this name in a hosts file, hosts(5): the first of each family, in the order of the file,
-/// and the canonical name of the first of these. Names differ by more than the case of ASCII letters. `None` where no line
+/// and the canonical name of the first of these. The case of ASCII letters in names does not count. `None` where no line
 /// has the name. Fails only for want of memory.
 pub fn ai_of(alloc: Global, text: &[u8], name: &[u8]) -> Result<Option<Ai>, NoMemory>
     ensures { IfOk result (λ ai. ai ≡ addresses_of name.now text.now) }

@@ -15,7 +15,7 @@ use crate::words::{Case, has_name, line_words};
 use nsc_base::{Span, equal, first_line};
 
 /// The first line of a hosts file, hosts(5), that has the form of an entry, this name or alias, and an address of this
-/// family, 2 for IPv4 and 10 for IPv6, as places in the file. Names differ by more than the case of ASCII letters. `None`
+/// family, 2 for IPv4 and 10 for IPv6, as places in the file. The case of ASCII letters in names does not count. `None`
 /// where there is none. Takes no memory.
 pub fn find_host(text: &[u8], name: &[u8], family: u8) -> Option<HostAt>
     ensures entry { option_map (host_at text.now) result ≡ first_named host_of_line (host_named family name.now) text.now }

@@ -6,8 +6,8 @@ ghost use Rattle.nsc_model.specs.Hosts.{addressed_of, host_of_line};
 ghost use Rattle.nsc_nets.specs.Hosts.{HostLiesIn, addressed_at, host_at, host_of_formed, own_bytes};
 ghost use Rattle.nsc_nets.specs.Words.{WordsLieIn, words_at};
 
-use nsc_addr::{read_v4, read_v6};
 use crate::words::{WordsAt, line_words};
+use nsc_addr::{read_v4, read_v6};
 use nsc_base::{Span, has_zero_byte};
 
 // The address families of the protocol.
@@ -42,7 +42,7 @@ impl HostAt {
 }
 
 // An address with its family. One of IPv4 is in the first four bytes, and the others are 0.
-#[derive(Clone, Copy, Debug, PartialEq, Eq)]
+#[derive(Clone, Copy, Debug)]
 struct Address {
     family: u8,
     bytes: [u8; 16],
@@ -81,17 +81,19 @@ pub fn formed_host(text: &[u8], line: Span, words: WordsAt) -> Option<HostAt>
     })
 }
 
-/// Whether a text spells this address, of four bytes or of sixteen. An address of four bytes is looked for in its own
-/// form alone.
+/// Whether a text spells this address, of four bytes or of sixteen. A text is read in the form of IPv6 only where sixteen
+/// are wanted.
 pub fn spells(text: &[u8], address: &[u8]) -> bool
     ensures { result ≡ option_map_or (λ a. bytes_eq a.address address.now) (addressed_of text.now) false }
 {
-    match read_v4(text) {
-        Some(v4) => v4.as_slice() == address,
-        None if address.len() == 16 => match read_v6(text) {
-            Some(v6) => v6.as_slice() == address,
-            None => false,
-        },
+    if let Some(v4) = read_v4(text) {
+        return v4.as_slice() == address;
+    }
+    if address.len() != 16 {
+        return false;
+    }
+    match read_v6(text) {
+        Some(v6) => v6.as_slice() == address,
         None => false,
     }
 }

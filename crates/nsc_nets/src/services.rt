@@ -23,7 +23,7 @@ pub struct ServiceAt {
 }
 
 /// A port, and where the protocol behind it stands.
-#[derive(Clone, Copy, Debug, PartialEq, Eq)]
+#[derive(Clone, Copy, Debug)]
 pub struct PortAt {
     /// The port, as a number.
     pub port: u16,
@@ -78,12 +78,12 @@ pub fn port_and_proto(text: &[u8], word: Span) -> Option<PortAt>
     if proto.from == proto.to {
         return None;
     }
-    let port = port(&text[word.from..slash])?;
+    let port = port_number(&text[word.from..slash])?;
     Some(PortAt { port, proto })
 }
 
 // The port that a text spells in decimal.
-fn port(text: &[u8]) -> Option<u16>
+fn port_number(text: &[u8]) -> Option<u16>
     ensures { result ≡ port_of text.now }
 {
     u16::try_from(decimal(text)?).ok()

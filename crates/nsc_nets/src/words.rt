@@ -9,7 +9,7 @@ use memchr::memchr;
 use nsc_base::{Span, equal, word_at};
 
 /// Whether the case of ASCII letters counts where names are compared.
-#[derive(Clone, Copy, Debug, PartialEq, Eq)]
+#[derive(Clone, Copy, Debug)]
 pub enum Case {
     /// `a` and `A` differ.
     Counts,
@@ -18,7 +18,7 @@ pub enum Case {
 }
 
 /// Where the first two words of a line stand, and the text behind them, up to the remark.
-#[derive(Clone, Copy, Debug, PartialEq, Eq)]
+#[derive(Clone, Copy, Debug)]
 pub struct WordsAt {
     /// The first word.
     pub first: Span,
