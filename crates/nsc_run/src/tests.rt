@@ -1,3 +1,4 @@
+mod compat;
 mod groups;
 mod hosts;
 mod machines;

@@ -17,7 +17,7 @@ const NIS_FIRST: &[u8] = b"F\x00\x01\x1a\0\0\0passwd: nis\npasswd: files\n";
 
 const NIS: &[u8] = b"F\x00\x01\x0b\0\0\0passwd: nis";
 
-const COMPAT_FIRST: &[u8] = b"F\x00\x01\x25\0\0\0passwd: compat [UNAVAIL=return] files";
+const NIS_RETURNS: &[u8] = b"F\x00\x01\x22\0\0\0passwd: nis [UNAVAIL=return] files";
 
 const EXTRA_ALONE: &[u8] = b"F\x00\x01\x12\0\0\0passwd: extrausers";
 
@@ -53,7 +53,7 @@ const CASES: [Case; 14] = [
     (&[BROKEN, FILE, ASK_ROOT], &[ROOT]),
     (&[NIS_FIRST, FILE, ASK_ROOT], &[NO_USER]),
     // Services that are not built in are unavailable.
-    (&[COMPAT_FIRST, FILE, ASK_ROOT], &[NO_USER]),
+    (&[NIS_RETURNS, FILE, ASK_ROOT], &[NO_USER]),
     // The extra users have a file of their own.
     (
         &[EXTRA_ALONE, FILE, ASK_ROOT, EXTRA, ASK_ANN],
