@@ -374,7 +374,7 @@ list_name db.Services = Services
 unfoldable pub service_list : Files → Db → List SwitchStep
 service_list files db = list_of (text_of files.switch) (list_name db)
 
--- the list that compat lines ask: hosts and services have none, and so the one of a database that lists nis
+-- the list that compat lines ask; hosts and services have no compat, so any will do for them
 abbrev pub compat_name : Db → ListName
 compat_name db.Passwd = UsersCompat
 compat_name db.Group = GroupsCompat
