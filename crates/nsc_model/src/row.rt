@@ -1,3 +1,5 @@
+ghost use Rattle.std.specs.Prelude.{◌≡◌, ◌==◌, length};
+
 use nsc_base::{Bytes, Ids, Texts};
 use std::marker::Model;
 
@@ -81,6 +83,36 @@ impl Model for Founds {
     ghost Value = { List Found6 };
 
     ghost view = { λ f. f.items.items };
+}
+
+impl Founds {
+    /// The addresses of a `Vec`, with no copy and no new memory.
+    pub fn from_vec(founds: Vec<Found6>) -> Founds
+        ensures { result ≡ founds.items }
+    {
+        Founds { items: founds }
+    }
+
+    /// The addresses, lent.
+    pub fn as_slice(&self) -> &[Found6]
+        ensures { result.now ≡ self.now }
+    {
+        self.items.as_slice()
+    }
+
+    /// How many addresses there are.
+    pub fn len(&self) -> usize
+        ensures { result ≡ length self.now }
+    {
+        self.items.len()
+    }
+
+    /// Whether there is no address.
+    pub fn is_empty(&self) -> bool
+        ensures { result ≡ (length self.now == 0) }
+    {
+        self.items.is_empty()
+    }
 }
 
 /// The addresses of a host and its canonical name.
