@@ -40,9 +40,9 @@ fn encode_found(alloc: Global, host: &Host) -> Result<Bytes, NoMemory>
     let name = text_len(&host.name);
     let rest = name as usize + address.len() + texts_size(aliases);
     let mut out = Vec::with_capacity(alloc, FIELDS + rest)?;
-    let fields = [
-        VERSION, 1, name, texts_count(aliases), host.family, address.len() as u32, 1, 0,
-    ];
+    let count = texts_count(aliases);
+    let size = address.len() as u32;
+    let fields = [VERSION, 1, name, count, host.family, size, 1, 0];
     put_fields(&mut out, &fields)?;
     put_text(&mut out, host.name.as_slice())?;
     put_lengths(&mut out, aliases)?;

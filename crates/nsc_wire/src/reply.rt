@@ -34,8 +34,8 @@ pub fn encode(alloc: Global, kind: Kind, reply: &Reply) -> Result<Bytes, NoMemor
         Kind::PwUid => encode_user(alloc, reply),
         Kind::GrName | Kind::GrGid => encode_group(alloc, reply),
         Kind::InitGroups => encode_ids(alloc, reply),
-        Kind::HostName | Kind::HostName6 | Kind::HostAddr | Kind::HostAddr6 =>
-            encode_host(alloc, reply),
+        Kind::HostName | Kind::HostName6 => encode_host(alloc, reply),
+        Kind::HostAddr | Kind::HostAddr6 => encode_host(alloc, reply),
         Kind::Ai => encode_addresses(alloc, reply),
         Kind::ServName | Kind::ServPort => encode_service(alloc, reply),
     }
