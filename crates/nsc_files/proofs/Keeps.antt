@@ -5,7 +5,7 @@ use Rattle.std.specs.Option.{option_or}
 use Rattle.std.proofs.lemmas.List.Elements.{All-cons, All-nil}
 use Rattle.nsc_base.specs.Text.{lines_of}
 use Rattle.nsc_model.specs.Entries.{first_of, if_named, named_in, first_named}
-use Rattle.nsc_accounts.proofs.Firsts.{first_step}
+use Rattle.nsc_model.proofs.Firsts.{first_step}
 
 -- the first of some lines that is named
 first_keeps : {A : Type 0} (P : A → Type 0) (entry_of : List ℕ → Option A) (names : A → Bool) (lines : List (List ℕ)) (x : A) → ((line : List ℕ) (y : A) → entry_of line ≡ Some y → P y) → first_of (filter names (filter_map entry_of lines)) ≡ Some x → P x

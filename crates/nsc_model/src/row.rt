@@ -87,10 +87,10 @@ impl Model for Founds {
 
 impl Founds {
     /// The addresses of a `Vec`, with no copy and no new memory.
-    pub fn from_vec(founds: Vec<Found6>) -> Founds
-        ensures { result ≡ founds.items }
+    pub fn from_vec(items: Vec<Found6>) -> Founds
+        ensures { result ≡ items.items }
     {
-        Founds { items: founds }
+        Founds { items }
     }
 
     /// The addresses, lent.
