@@ -1,0 +1,8 @@
+pub mod Cuts
+pub mod Wanted
+pub mod Ports
+pub mod Formed
+pub mod Lengths
+pub mod Called
+pub mod Remaining
+pub mod Families

@@ -1,0 +1,17 @@
+use Rattle.std.proofs.Common.{Some, refl, sym, ◌∙◌, ap}
+use Rattle.nsc_model.specs.declared.row.Ai.{Ai}
+use Rattle.nsc_model.specs.Hosts.{host_has_name, host_of_line}
+use Rattle.nsc_nets.proofs.Families.{addresses_are, no_addresses}
+use Rattle.nsc_nets.proofs.Remaining.{named_behind}
+use Rattle.nsc_nets.proofs.addresses.ai_of.Goals as goal
+
+pub returns-in-Some-called_host : goal.returns-in-Some-called_host
+returns-in-Some-called_host c =
+    ap (λ (ai : Ai). Some ai) c.in_ok-addresses.ensures
+    ∙ addresses_are c.args.name.now c.args.text.now c.loop-line.from c.in-Some.line c.in-Some-called_host.first c.other_from-other.result c.in-Some.ensures.line c.in-Some-called_host.ensures.entry c.other_from-other.ensures c.loop-line.invariant.left
+
+pub loop-line-preserved : goal.loop-line-preserved
+loop-line-preserved c = record {
+  inside = c.in-Some.ensures.line.next_ends;
+  left = named_behind host_of_line (host_has_name c.args.name.now) c.args.text.now c.loop-line.from c.in-Some.line c.in-Some.ensures.line c.in_default-called_host.ensures.entry ∙ c.loop-line.invariant.left;
+}

@@ -1,0 +1,4 @@
+pub mod Words
+pub mod Services
+pub mod Hosts
+pub mod Addresses

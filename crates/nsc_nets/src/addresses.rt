@@ -1,0 +1,99 @@
+ghost use Rattle.std.specs.Prelude.{◌≡◌, ◌≤◌, ◌∷◌, drop, length, IfOk};
+ghost use Rattle.std.specs.Option.{option_map};
+ghost use Rattle.nsc_base.specs.Text.{part};
+ghost use Rattle.nsc_model.specs.Answers.{addresses_of};
+ghost use Rattle.nsc_model.specs.Entries.{first_named, if_named};
+ghost use Rattle.nsc_model.specs.Hosts.{host_of_line};
+ghost use Rattle.nsc_nets.specs.Addresses.{found_at, founds_at, of_other_family};
+ghost use Rattle.nsc_nets.specs.Hosts.{host_at};
+
+use crate::find::called_host;
+use crate::hosts::HostAt;
+use nsc_base::{Bytes, NoMemory, Span, line_at};
+use nsc_model::{Ai, Found6, Founds};
+use std::alloc::Global;
+
+/// The addresses of the host of this name in a hosts file, hosts(5): the first of each family, in the order of the file,
+/// and the canonical name of the first of these. Names differ by more than the case of ASCII letters. `None` where no line
+/// has the name. Fails only for want of memory.
+pub fn ai_of(alloc: Global, text: &[u8], name: &[u8]) -> Result<Option<Ai>, NoMemory>
+    ensures { IfOk result (λ ai. ai ≡ addresses_of name.now text.now) }
+{
+    let mut from = 0;
+    while let Some(line) = line_at(text, from) {
+        if let Some(first) = called_host(text, line.span, name) {
+            let other = other_from(text, line.next, name, first.family);
+            return Ok(Some(addresses(alloc, text, first, other)?));
+        }
+        from = line.next;
+    }
+    Ok(None)
+}
+
+// The first host of this name, from a place on, with an address of another family than this one.
+fn other_from(text: &[u8], start: usize, name: &[u8], family: u8) -> Option<HostAt>
+    requires { start ≤ length text.now }
+    ensures { option_map (host_at text.now) result ≡ first_named host_of_line (of_other_family family name.now) (drop start text.now) }
+{
+    let mut from = start;
+    while let Some(line) = line_at(text, from) {
+        if let Some(other) = other_host(text, line.span, name, family) {
+            return Some(other);
+        }
+        from = line.next;
+    }
+    None
+}
+
+// The entry of a line of a hosts file that has the form, this name and an address of another family than this one.
+fn other_host(text: &[u8], line: Span, name: &[u8], family: u8) -> Option<HostAt>
+    requires ordered { line.from ≤ line.to }
+    requires inside { line.to ≤ length text.now }
+    ensures { option_map (host_at text.now) result ≡ if_named (of_other_family family name.now) (host_of_line (part text.now line)) }
+{
+    let host = called_host(text, line, name)?;
+    if host.family == family {
+        None
+    } else {
+        Some(host)
+    }
+}
+
+// The addresses of a host, with the name of the first.
+fn addresses(
+    alloc: Global,
+    text: &[u8],
+    first: HostAt,
+    other: Option<HostAt>,
+) -> Result<Ai, NoMemory>
+    requires ordered { first.name.from ≤ first.name.to }
+    requires inside { first.name.to ≤ length text.now }
+    ensures { IfOk result (λ ai. ai ≡ record { list = found_at first ∷ founds_at other; canon = part text.now first.name }) }
+{
+    let list = listed(alloc, first, other)?;
+    let canon = Bytes::copy(alloc, &text[first.name.from..first.name.to])?;
+    Ok(Ai { list, canon })
+}
+
+// One address or two.
+fn listed(alloc: Global, first: HostAt, other: Option<HostAt>) -> Result<Founds, NoMemory>
+    ensures { IfOk result (λ list. list ≡ found_at first ∷ founds_at other) }
+{
+    let mut list = Vec::new(alloc);
+    list.push(address(alloc, first)?)?;
+    if let Some(other) = other {
+        list.push(address(alloc, other)?)?;
+    }
+    Ok(Founds::from_vec(list))
+}
+
+// The address of a host with its family.
+fn address(alloc: Global, host: HostAt) -> Result<Found6, NoMemory>
+    ensures { IfOk result (λ found. found ≡ found_at host) }
+{
+    let address = Bytes::copy(alloc, host.address_bytes())?;
+    Ok(Found6 {
+        family: host.family,
+        address,
+    })
+}

@@ -1,0 +1,138 @@
+ghost use Rattle.std.specs.Prelude.{◌≡◌, ◌≤◌, ◌||◌, length, not, IfSome};
+ghost use Rattle.std.specs.Option.{option_map};
+ghost use Rattle.std.specs.Str.{bytes_eq};
+ghost use Rattle.nsc_base.specs.declared.span.Span.{Span};
+ghost use Rattle.nsc_base.specs.Text.{is_filled, part};
+ghost use Rattle.nsc_model.specs.Entries.{first_named, if_named};
+ghost use Rattle.nsc_model.specs.ServiceLines.{service_named, service_of_line, service_ported};
+ghost use Rattle.nsc_model.specs.Hosts.{host_addressed, host_has_name, host_named, host_of_line};
+ghost use Rattle.nsc_nets.specs.Hosts.{HostLiesIn, host_at};
+ghost use Rattle.nsc_nets.specs.Services.{ServiceLiesIn, service_at};
+
+use crate::hosts::{HostAt, formed_host, spells};
+use crate::services::{ServiceAt, formed_service, service_line};
+use crate::words::{Case, has_name, line_words};
+use nsc_base::{Span, equal, first_line};
+
+/// The first line of a hosts file, hosts(5), that has the form of an entry, this name or alias, and an address of this
+/// family, 2 for IPv4 and 10 for IPv6, as places in the file. Names differ by more than the case of ASCII letters. `None`
+/// where there is none. Takes no memory.
+pub fn find_host(text: &[u8], name: &[u8], family: u8) -> Option<HostAt>
+    ensures entry { option_map (host_at text.now) result ≡ first_named host_of_line (host_named family name.now) text.now }
+    ensures inside { IfSome result (HostLiesIn (record { from = 0; to = length text.now })) }
+{
+    first_line(text, |line| named_host(text, line, name, family))
+}
+
+/// The first line of a hosts file, hosts(5), that has the form of an entry and this address, of four bytes or of sixteen,
+/// as places in the file. `None` where there is none, and for an address of another length. Takes no memory.
+pub fn find_host_by_addr(text: &[u8], address: &[u8]) -> Option<HostAt>
+    ensures entry { option_map (host_at text.now) result ≡ first_named host_of_line (host_addressed address.now) text.now }
+    ensures inside { IfSome result (HostLiesIn (record { from = 0; to = length text.now })) }
+{
+    first_line(text, |line| addressed_host(text, line, address))
+}
+
+/// The first line of a services file, services(5), that has the form of an entry, this name or alias, and this protocol,
+/// as places in the file. With an empty protocol any will do. `None` where there is none. Takes no memory.
+pub fn find_service(text: &[u8], name: &[u8], proto: &[u8]) -> Option<ServiceAt>
+    ensures entry { option_map (service_at text.now) result ≡ first_named service_of_line (service_named name.now proto.now) text.now }
+    ensures inside { IfSome result (ServiceLiesIn (record { from = 0; to = length text.now })) }
+{
+    first_line(text, |line| named_service(text, line, name, proto))
+}
+
+/// The first line of a services file, services(5), that has the form of an entry, this port and this protocol, as places
+/// in the file. With an empty protocol any will do. `None` where there is none. Takes no memory.
+pub fn find_service_by_port(text: &[u8], port: u16, proto: &[u8]) -> Option<ServiceAt>
+    ensures entry { option_map (service_at text.now) result ≡ first_named service_of_line (service_ported port proto.now) text.now }
+    ensures inside { IfSome result (ServiceLiesIn (record { from = 0; to = length text.now })) }
+{
+    first_line(text, |line| ported_service(text, line, port, proto))
+}
+
+/// The entry of a line of a hosts file that has the form and this name or alias. A line without the name is given up
+/// before its address is read.
+pub fn called_host(text: &[u8], line: Span, name: &[u8]) -> Option<HostAt>
+    requires ordered { line.from ≤ line.to }
+    requires inside { line.to ≤ length text.now }
+    ensures entry { option_map (host_at text.now) result ≡ if_named (host_has_name name.now) (host_of_line (part text.now line)) }
+    ensures inside { IfSome result (HostLiesIn line) }
+{
+    let words = line_words(text, line)?;
+    if !has_name(text, words.second, words.others, name, Case::Ignored) {
+        return None;
+    }
+    formed_host(text, line, words)
+}
+
+// The entry of a line of a hosts file that has the form, this name and an address of this family.
+fn named_host(text: &[u8], line: Span, name: &[u8], family: u8) -> Option<HostAt>
+    requires ordered { line.from ≤ line.to }
+    requires inside { line.to ≤ length text.now }
+    ensures entry { option_map (host_at text.now) result ≡ if_named (host_named family name.now) (host_of_line (part text.now line)) }
+    ensures inside { IfSome result (HostLiesIn line) }
+{
+    let host = called_host(text, line, name)?;
+    if host.family == family {
+        Some(host)
+    } else {
+        None
+    }
+}
+
+// The entry of a line of a hosts file that has the form and this address.
+fn addressed_host(text: &[u8], line: Span, address: &[u8]) -> Option<HostAt>
+    requires ordered { line.from ≤ line.to }
+    requires inside { line.to ≤ length text.now }
+    ensures entry { option_map (host_at text.now) result ≡ if_named (host_addressed address.now) (host_of_line (part text.now line)) }
+    ensures inside { IfSome result (HostLiesIn line) }
+{
+    let words = line_words(text, line)?;
+    if !spells(&text[words.first.from..words.first.to], address) {
+        return None;
+    }
+    formed_host(text, line, words)
+}
+
+// The entry of a line of a services file that has the form, this name and this protocol. A line without the name is given
+// up before its port is read.
+fn named_service(text: &[u8], line: Span, name: &[u8], proto: &[u8]) -> Option<ServiceAt>
+    requires ordered { line.from ≤ line.to }
+    requires inside { line.to ≤ length text.now }
+    ensures entry { option_map (service_at text.now) result ≡ if_named (service_named name.now proto.now) (service_of_line (part text.now line)) }
+    ensures inside { IfSome result (ServiceLiesIn line) }
+{
+    let words = line_words(text, line)?;
+    if !has_name(text, words.first, words.others, name, Case::Counts) {
+        return None;
+    }
+    let service = formed_service(text, line, words)?;
+    if has_proto(&text[service.proto.from..service.proto.to], proto) {
+        Some(service)
+    } else {
+        None
+    }
+}
+
+// The entry of a line of a services file that has the form, this port and this protocol.
+fn ported_service(text: &[u8], line: Span, port: u16, proto: &[u8]) -> Option<ServiceAt>
+    requires ordered { line.from ≤ line.to }
+    requires inside { line.to ≤ length text.now }
+    ensures entry { option_map (service_at text.now) result ≡ if_named (service_ported port proto.now) (service_of_line (part text.now line)) }
+    ensures inside { IfSome result (ServiceLiesIn line) }
+{
+    let service = service_line(text, line)?;
+    if service.port == port && has_proto(&text[service.proto.from..service.proto.to], proto) {
+        Some(service)
+    } else {
+        None
+    }
+}
+
+// Whether a protocol is the one that is asked for. Any will do where none is asked for.
+fn has_proto(proto: &[u8], asked: &[u8]) -> bool
+    ensures { result ≡ (not (is_filled asked.now) || bytes_eq proto.now asked.now) }
+{
+    asked.is_empty() || equal(proto, asked)
+}
