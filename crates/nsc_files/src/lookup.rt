@@ -2,14 +2,20 @@ ghost use Rattle.std.specs.Prelude.{◌≡◌, IfOk};
 ghost use Rattle.nsc_model.specs.Services.{Local, Extrausers};
 ghost use Rattle.nsc_model.specs.Answers.{answer_by, service_answer};
 ghost use Rattle.nsc_model.specs.Files.{file_of};
-ghost use Rattle.nsc_model.specs.Kinds.{IsBuilt};
 ghost use Rattle.nsc_model.specs.Sendable.{Sendable};
 
 use crate::groups::{group_by_id, group_by_name, groups_of_user};
+use crate::hosts::{addresses_by_name, host_by_address, host_by_name};
+use crate::services::{service_by_name, service_by_port};
 use crate::users::{user_by_id, user_by_name};
 use nsc_base::NoMemory;
 use nsc_model::{Content, Db, FileId, Kind, Looked};
 use std::alloc::Global;
+
+// The address families of the protocol.
+const IPV4: u8 = 2;
+
+const IPV6: u8 = 10;
 
 /// The outcome of the service `files` for the request of this kind and key: unavailable where the database's file is
 /// absent, else the first entry of the file that the request names. Fails only for want of memory.
@@ -19,7 +25,6 @@ pub fn files_lookup(
     kind: Kind,
     key: &[u8],
 ) -> Result<Looked, NoMemory>
-    requires { IsBuilt kind }
     ensures outcome { IfOk result (λ looked. looked ≡ service_answer content.now (record { kind = kind; key = key.now }) Local) }
     ensures sendable { IfOk result (λ looked. Sendable kind looked) }
 {
@@ -40,7 +45,6 @@ pub fn extra_lookup(
     kind: Kind,
     key: &[u8],
 ) -> Result<Looked, NoMemory>
-    requires { IsBuilt kind }
     ensures outcome { IfOk result (λ looked. looked ≡ service_answer content.now (record { kind = kind; key = key.now }) Extrausers) }
     ensures sendable { IfOk result (λ looked. Sendable kind looked) }
 {
@@ -59,7 +63,6 @@ fn look_in(
     kind: Kind,
     key: &[u8],
 ) -> Result<Looked, NoMemory>
-    requires { IsBuilt kind }
     ensures outcome { IfOk result (λ looked. looked ≡ answer_by kind (file_of content.now file) key.now) }
     ensures sendable { IfOk result (λ looked. Sendable kind looked) }
 {
@@ -72,12 +75,11 @@ fn look_in(
         Kind::GrName => group_by_name(alloc, text, key),
         Kind::GrGid => group_by_id(alloc, text, key),
         Kind::InitGroups => groups_of_user(alloc, text, key),
-        Kind::HostName
-        | Kind::HostName6
-        | Kind::HostAddr
-        | Kind::HostAddr6
-        | Kind::Ai
-        | Kind::ServName
-        | Kind::ServPort => Ok(Looked::Unavail),
+        Kind::HostName => host_by_name(alloc, text, key, IPV4),
+        Kind::HostName6 => host_by_name(alloc, text, key, IPV6),
+        Kind::HostAddr | Kind::HostAddr6 => host_by_address(alloc, text, key),
+        Kind::Ai => addresses_by_name(alloc, text, key),
+        Kind::ServName => service_by_name(alloc, text, key),
+        Kind::ServPort => service_by_port(alloc, text, key),
     }
 }

@@ -1,6 +1,3 @@
-ghost use Rattle.std.specs.Bool.{OnTrue};
-ghost use Rattle.nsc_model.specs.Kinds.{IsBuilt};
-
 use crate::{extra_lookup, files_lookup};
 use nsc_base::{Bytes, NoMemory};
 use nsc_model::{Content, FileId, Kind, Looked, Row};
@@ -55,35 +52,16 @@ const REQUESTS: [(Kind, &[u8], Option<u32>, Option<u32>); 16] = [
     (Kind::InitGroups, b"zed", None, None),
 ];
 
-// What both services tell of a request; nothing of a kind that is not built.
+// What both services tell of a request.
 fn both(
     alloc: Global,
     content: &Content,
     kind: Kind,
     key: &[u8],
 ) -> Result<(Option<u32>, Option<u32>), NoMemory> {
-    if !is_built(kind) {
-        return Ok((None, None));
-    }
     let own = files_lookup(alloc, content, kind, key)?;
     let extra = extra_lookup(alloc, content, kind, key)?;
     Ok((told(&own), told(&extra)))
-}
-
-// Whether requests of this kind are built.
-fn is_built(kind: Kind) -> bool
-    ensures { OnTrue result (IsBuilt kind) }
-{
-    match kind {
-        Kind::PwName | Kind::PwUid | Kind::GrName | Kind::GrGid | Kind::InitGroups => true,
-        Kind::HostName
-        | Kind::HostName6
-        | Kind::HostAddr
-        | Kind::HostAddr6
-        | Kind::Ai
-        | Kind::ServName
-        | Kind::ServPort => false,
-    }
 }
 
 #[test]
