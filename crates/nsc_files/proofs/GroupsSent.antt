@@ -1,18 +1,16 @@
 -- The entries of a group file can be sent.
-use Rattle.std.proofs.Common.{◌≡◌, ◌≢◌, ℕ, ◌+◌, ◌*◌, ◌^◌, ◌<◌, ◌≤◌, suc, Bool, true, false, cond, ◌==◌, ◌||◌, if◌then◌else◌, List, [], ◌∷◌, filter, flat_map, All, Option, Some, None, IfSome, length, refl, sym, ◌∙◌, ap, subst, arith, length-append}
+use Rattle.std.proofs.Common.{◌≡◌, ℕ, ◌+◌, ◌^◌, ◌<◌, ◌≤◌, Bool, true, false, ◌==◌, if◌then◌else◌, List, [], ◌∷◌, flat_map, All, Option, Some, None, IfSome, length, refl, subst, arith, length-append}
 use Rattle.std.specs.List.{list_any}
 use Rattle.std.specs.Option.{option_and_then}
-use Rattle.std.proofs.lemmas.List.Elements.{All-cons, All-nil}
-use Rattle.nsc_base.specs.Text.{fields_of, is_filled, onto_first, part, pieces}
+use Rattle.nsc_base.specs.Text.{fields_of, part}
 use Rattle.nsc_base.specs.Decimal.{decimal_of}
-use Rattle.nsc_base.proofs.Pieces.{pieces-some}
 use Rattle.nsc_model.specs.declared.row.Group.{Group}
 use Rattle.nsc_model.specs.Entries.{first_named}
 use Rattle.nsc_model.specs.Files.{file_limit}
 use Rattle.nsc_model.specs.Marked.{reply_limit}
 use Rattle.nsc_model.specs.Users.{has_zero, is_name, trimmed}
 use Rattle.nsc_model.specs.Groups.{group_of_fields, group_of_line, members_of}
-use Rattle.nsc_model.specs.Wire.{IsText, IsGroup, field, text, text_len, group_found}
+use Rattle.nsc_model.specs.Wire.{IsText, IsGroup, text, text_len, group_found}
 use Rattle.nsc_accounts.specs.declared.group.GroupAt.{GroupAt}
 use Rattle.nsc_accounts.specs.Group.{GroupLiesIn, group_at}
 use Rattle.nsc_files.proofs.Keeps.{named_keeps}

@@ -7,4 +7,7 @@ pub mod UsersSent
 pub mod GroupsSent
 pub mod IdsSent
 pub mod HostsSent
+pub mod AddressesSent
+pub mod ServicesSent
 pub mod Sent
+pub mod LastSlash

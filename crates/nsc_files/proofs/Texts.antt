@@ -2,7 +2,7 @@
 use Rattle.std.proofs.Common.{◌≡◌, ◌≢◌, ℕ, ◌^◌, ◌<◌, Bool, true, false, nat_lt, ◌==◌, ◌||◌, ◌&&◌, if◌then◌else◌, List, [], ◌∷◌, All, cond, filter, take, drop, zero, suc, Some, None, IfSome, refl, sym, ◌∙◌, ap, arith}
 use Rattle.std.specs.List.{list_any}
 use Rattle.std.proofs.lemmas.Bool.Decides.{Decides-ltb, nat_tests}
-use Rattle.std.proofs.lemmas.List.Elements.{All-cons, All-nil}
+use Rattle.std.proofs.lemmas.List.Elements.{All-cons, All-nil, All-tail}
 use Rattle.nsc_base.specs.Text.{is_filled, is_white, onto_first, pieces, words_of}
 use Rattle.nsc_base.specs.Decimal.{decimal_of, is_decimal, value_of}
 use Rattle.nsc_base.proofs.Pieces.{pieces-some}
@@ -60,7 +60,7 @@ all_texts (piece ∷ pieces) clean =
 pub words_are_texts : (bytes : List ℕ) → has_zero bytes ≡ false → All IsText (words_of bytes)
 words_are_texts bytes clean = all_texts (pieces is_white bytes) (has_zero-pieces is_white bytes clean)
 
--- a part from the front, and a part from a place on
+-- a part from the front, and a part up to the end
 pub has_zero-take : (n : ℕ) (bytes : List ℕ) → has_zero bytes ≡ false → has_zero (take n bytes) ≡ false
 has_zero-take zero bytes h = refl
 has_zero-take (suc n) [] h = refl
@@ -68,10 +68,10 @@ has_zero-take (suc n) (b ∷ bytes) h =
     let parts = or_false (b == 0) (has_zero bytes) h in
     rw (parts.0, has_zero-take n bytes parts.1) refl
 
-pub has_zero-drop : (n : ℕ) (bytes : List ℕ) → has_zero bytes ≡ false → has_zero (drop n bytes) ≡ false
-has_zero-drop zero bytes h = h
-has_zero-drop (suc n) [] h = refl
-has_zero-drop (suc n) (b ∷ bytes) h = has_zero-drop n bytes (or_false (b == 0) (has_zero bytes) h).1
+pub text-drop : (n : ℕ) (bytes : List ℕ) → IsText bytes → IsText (drop n bytes)
+text-drop zero bytes is = is
+text-drop (suc n) [] is = is
+text-drop (suc n) (b ∷ bytes) is = text-drop n bytes (All-tail (λ b. b ≢ 0) b bytes is)
 
 pub decimal_fits : (text : List ℕ) → IfSome (decimal_of text) (λ n. n < 2 ^ 32)
 decimal_fits text =
