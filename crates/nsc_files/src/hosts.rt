@@ -13,12 +13,7 @@ use std::alloc::Global;
 
 /// The outcome of a look-up of a host's name and a family of addresses, 2 for IPv4 and 10 for IPv6, over the text of a
 /// hosts file. Fails only for want of memory.
-pub fn host_by_name(
-    alloc: Global,
-    text: &[u8],
-    name: &[u8],
-    family: u8,
-) -> Result<Looked, NoMemory>
+pub fn host_by_name(alloc: Global, text: &[u8], name: &[u8], family: u8) -> Result<Looked, NoMemory>
     ensures { IfOk result (λ looked. looked ≡ file_entry Row.Host host_of_line (host_named family name.now) (Some text.now)) }
 {
     host_found(alloc, text, find_host(text, name, family))
