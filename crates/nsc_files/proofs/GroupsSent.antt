@@ -1,34 +1,22 @@
 -- The entries of a group file can be sent.
-use Rattle.std.proofs.Common.{◌≡◌, ◌≢◌, ℕ, ◌+◌, ◌*◌, ◌^◌, ◌<◌, ◌≤◌, suc, Bool, true, false, cond, ◌==◌, ◌||◌, if◌then◌else◌, List, [], ◌∷◌, filter, flat_map, All, Option, Some, None, IfSome, length, refl, sym, ◌∙◌, ap, subst, arith, length-append}
+use Rattle.std.proofs.Common.{◌≡◌, ℕ, ◌+◌, ◌^◌, ◌<◌, ◌≤◌, Bool, true, false, ◌==◌, if◌then◌else◌, List, [], ◌∷◌, flat_map, All, Option, Some, None, IfSome, length, refl, subst, arith, length-append}
 use Rattle.std.specs.List.{list_any}
 use Rattle.std.specs.Option.{option_and_then}
-use Rattle.std.proofs.lemmas.List.Elements.{All-cons, All-nil}
-use Rattle.nsc_base.specs.Text.{fields_of, is_filled, onto_first, part, pieces}
+use Rattle.nsc_base.specs.Text.{fields_of, part}
 use Rattle.nsc_base.specs.Decimal.{decimal_of}
-use Rattle.nsc_base.proofs.Pieces.{pieces-some}
 use Rattle.nsc_model.specs.declared.row.Group.{Group}
 use Rattle.nsc_model.specs.Entries.{first_named}
 use Rattle.nsc_model.specs.Files.{file_limit}
 use Rattle.nsc_model.specs.Marked.{reply_limit}
 use Rattle.nsc_model.specs.Users.{has_zero, is_name, trimmed}
 use Rattle.nsc_model.specs.Groups.{group_of_fields, group_of_line, members_of}
-use Rattle.nsc_model.specs.Wire.{IsText, IsGroup, field, text, text_len, group_found}
+use Rattle.nsc_model.specs.Wire.{IsText, IsGroup, text, text_len, group_found}
 use Rattle.nsc_accounts.specs.declared.group.GroupAt.{GroupAt}
 use Rattle.nsc_accounts.specs.Group.{GroupLiesIn, group_at}
 use Rattle.nsc_files.proofs.Keeps.{named_keeps}
-use Rattle.nsc_files.proofs.Texts.{decimal_fits, has_zero-pieces, has_zero-trimmed, is_text, or_false}
+use Rattle.nsc_files.proofs.Texts.{all_texts, decimal_fits, has_zero-pieces, has_zero-trimmed, is_text, or_false}
+use Rattle.nsc_files.proofs.Sizes.{all_sizes, filled_sizes, lengths_size, pieces_sizes, texts_size}
 use Rattle.nsc_files.proofs.UsersSent.{part_length}
-
--- pieces without a zero byte are texts
-all_texts : (pieces : List (List ℕ)) → list_any has_zero pieces ≡ false → All IsText (filter is_filled pieces)
-all_texts [] clean = All-nil IsText
-all_texts (piece ∷ pieces) clean =
-    let parts = or_false (has_zero piece) (list_any has_zero pieces) clean in
-    let later = all_texts pieces parts.1 in
-    elim (is_filled piece) as (λ v. All IsText (cond v (piece ∷ filter is_filled pieces) (filter is_filled pieces))) [
-      | true ↦ All-cons IsText piece (filter is_filled pieces) (is_text piece parts.0) later
-      | false ↦ later
-    ]
 
 members_are_texts : (members : List ℕ) → has_zero members ≡ false → All IsText (members_of members)
 members_are_texts members clean = all_texts (fields_of 44 members) (has_zero-pieces (λ b. b == 44) members clean)
@@ -69,53 +57,8 @@ found_is_group names bytes g h = named_keeps IsGroup group_of_line names bytes g
 
 -- ---- how long a group's reply is
 
--- pieces take their bytes and a separator each
-all_sizes : List (List ℕ) → ℕ
-all_sizes [] = 0
-all_sizes (piece ∷ pieces) = length piece + 1 + all_sizes pieces
-
-sizes_first : (b : ℕ) (first : List ℕ) (others : List (List ℕ)) → all_sizes (onto_first b (first ∷ others)) ≡ suc (all_sizes (first ∷ others))
-unfolding all_sizes
-sizes_first b first others = omega arith
-
-pieces_sizes : (cuts : ℕ → Bool) (bytes : List ℕ) → all_sizes (pieces cuts bytes) ≡ length bytes + 1
-unfolding all_sizes
-pieces_sizes cuts [] = refl
-pieces_sizes cuts (b ∷ bytes) =
-    let later = pieces_sizes cuts bytes in
-    let some = pieces-some cuts bytes in
-    let same : all_sizes (some.0 ∷ some.1.0) ≡ length bytes + 1 = sym (ap all_sizes some.1.1) ∙ later in
-    let each : all_sizes (if cuts b then [] ∷ pieces cuts bytes else onto_first b (pieces cuts bytes)) ≡ length bytes + 1 + 1 =
-    elim (cuts b) as (λ v. all_sizes (if v then [] ∷ pieces cuts bytes else onto_first b (pieces cuts bytes)) ≡ length bytes + 1 + 1) [
-      | true ↦ (let e : 0 + 1 + all_sizes (pieces cuts bytes) ≡ length bytes + 1 + 1 = omega (arith, later) in e)
-      | false ↦ ap (λ ps. all_sizes (onto_first b ps)) some.1.1 ∙ (sizes_first b some.0 some.1.0 ∙ (let e : suc (all_sizes (some.0 ∷ some.1.0)) ≡ length bytes + 1 + 1 = omega (arith, same) in e))
-    ] in
-    let size : length (b ∷ bytes) ≡ length bytes + 1 = omega arith in
-    each ∙ ap (λ n. n + 1) (sym size)
-
-filled_sizes : (pieces : List (List ℕ)) → all_sizes (filter is_filled pieces) ≤ all_sizes pieces
-unfolding all_sizes
-filled_sizes [] = omega arith
-filled_sizes (piece ∷ pieces) =
-    let later = filled_sizes pieces in
-    elim (is_filled piece) as (λ v. all_sizes (cond v (piece ∷ filter is_filled pieces) (filter is_filled pieces)) ≤ length piece + 1 + all_sizes pieces) [
-      | true ↦ omega (arith, later)
-      | false ↦ omega (arith, later)
-    ]
-
 members_sizes : (members : List ℕ) → all_sizes (members_of members) ≤ length members + 1
 members_sizes members = omega (arith, filled_sizes (fields_of 44 members), pieces_sizes (λ b. b == 44) members)
-
--- the lengths and the texts of members
-lengths_size : (members : List (List ℕ)) → length (flat_map text_len members) ≤ 4 * all_sizes members
-unfolding all_sizes
-lengths_size [] = omega arith
-lengths_size (m ∷ members) = omega (arith, length-append (text_len m) (flat_map text_len members), lengths_size members)
-
-texts_size : (members : List (List ℕ)) → length (flat_map text members) ≡ all_sizes members
-unfolding all_sizes
-texts_size [] = refl
-texts_size (m ∷ members) = omega (arith, length-append (text m) (flat_map text members), length-append m (0 ∷ []), texts_size members)
 
 group_length : (g : Group) → length (group_found g) ≡ 26 + length g.name + length g.passwd + length (flat_map text_len g.members) + length (flat_map text g.members)
 group_length g = simp length-append (omega arith)

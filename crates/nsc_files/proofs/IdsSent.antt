@@ -1,8 +1,8 @@
 -- The groups of a user can be sent.
-use Rattle.std.proofs.Common.{◌≡◌, ℕ, ◌+◌, ◌*◌, ◌^◌, ◌<◌, ◌≤◌, Bool, true, false, cond, not, ◌==◌, List, [], ◌∷◌, filter, flat_map, map, All, Option, Some, None, length, refl, sym, ◌∙◌, ap, arith, length-append, rules}
-use Rattle.std.specs.List.{cons_option, filter_map}
+use Rattle.std.proofs.Common.{◌≡◌, ℕ, ◌+◌, ◌*◌, ◌^◌, ◌<◌, ◌≤◌, not, ◌==◌, List, [], ◌∷◌, filter, flat_map, map, All, length, refl, arith, length-append, rules}
+use Rattle.std.specs.List.{filter_map}
 use Rattle.std.proofs.lemmas.List.Elements.{All-cons, All-nil, All-head, All-tail, All-map, All-filter}
-use Rattle.nsc_base.specs.Text.{lines_of, onto_first}
+use Rattle.nsc_base.specs.Text.{lines_of}
 use Rattle.nsc_model.specs.declared.kind.Kind.TheVariants.{InitGroups}
 use Rattle.nsc_model.specs.declared.row.Group.{Group}
 use Rattle.nsc_model.specs.Entries.{named_in}
@@ -13,6 +13,7 @@ use Rattle.nsc_model.specs.Marked.{reply_limit}
 use Rattle.nsc_model.specs.Groups.{group_of_line, has_member}
 use Rattle.nsc_model.specs.Wire.{field, ids_found}
 use Rattle.nsc_files.proofs.Keeps.{named_all_keep}
+use Rattle.nsc_files.proofs.Sizes.{entries_fewer, filter_fewer, lines_fewer}
 use Rattle.nsc_files.proofs.GroupsSent.{line_is_group}
 
 once_all : (P : ℕ → Type 0) (numbers : List ℕ) → All P numbers → All P (each_once numbers)
@@ -26,42 +27,9 @@ ids_fit user file =
 
 -- ---- how many there are
 
-filter_fewer : {A : Type 0} (p : A → Bool) (xs : List A) → length (filter p xs) ≤ length xs
-filter_fewer p [] = omega arith
-filter_fewer p (x ∷ xs) =
-    let later = filter_fewer p xs in
-    elim (p x) as (λ v. length (cond v (x ∷ filter p xs) (filter p xs)) ≤ length (x ∷ xs)) [
-      | true ↦ omega (arith, later)
-      | false ↦ omega (arith, later)
-    ]
-
 once_fewer : (numbers : List ℕ) → length (each_once numbers) ≤ length numbers
 once_fewer [] = omega arith
 once_fewer (n ∷ numbers) = omega (arith, filter_fewer (λ m. not (m == n)) (each_once numbers), once_fewer numbers)
-
-entries_fewer : {A : Type 0} (entry_of : List ℕ → Option A) (lines : List (List ℕ)) → length (filter_map entry_of lines) ≤ length lines
-entries_fewer entry_of [] = omega arith
-entries_fewer entry_of (line ∷ lines) =
-    let later = entries_fewer entry_of lines in
-    elim (entry_of line) as (λ o. length (cons_option o (filter_map entry_of lines)) ≤ length (line ∷ lines)) [
-      | None ↦ omega (arith, later)
-      | Some x ↦ omega (arith, later)
-    ]
-
--- a line takes a byte at least
-first_more : (b : ℕ) (lines : List (List ℕ)) → length (onto_first b lines) ≤ length lines + 1
-first_more b [] = omega arith
-first_more b (line ∷ lines) = omega arith
-
-lines_fewer : (text : List ℕ) → length (lines_of text) ≤ length text
-lines_fewer [] = omega arith
-lines_fewer (b ∷ bytes) =
-    let later = lines_fewer bytes in
-    let more = first_more b (lines_of bytes) in
-    elim (b == 10) as (λ v. length (cond v ([] ∷ lines_of bytes) (onto_first b (lines_of bytes))) ≤ length (b ∷ bytes)) [
-      | true ↦ omega (arith, later)
-      | false ↦ omega (arith, later, more)
-    ]
 
 gids_many : (groups : List Group) → length (map (λ (g : Group). g.gid) groups) ≡ length groups
 gids_many [] = refl

@@ -1,3 +1,4 @@
+pub mod Sizes
 pub mod Texts
 pub mod Keeps
 pub mod Numbers
@@ -5,3 +6,8 @@ pub mod Gathered
 pub mod UsersSent
 pub mod GroupsSent
 pub mod IdsSent
+pub mod HostsSent
+pub mod AddressesSent
+pub mod ServicesSent
+pub mod Sent
+pub mod LastSlash

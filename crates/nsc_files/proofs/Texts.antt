@@ -1,9 +1,9 @@
 -- A text without a zero byte has none in its parts, and an id in decimal is a number of four bytes.
-use Rattle.std.proofs.Common.{◌≡◌, ◌≢◌, ℕ, ◌^◌, ◌<◌, Bool, true, false, nat_lt, ◌==◌, ◌||◌, ◌&&◌, if◌then◌else◌, List, [], ◌∷◌, Some, None, IfSome, refl, sym, ◌∙◌, ap, arith}
+use Rattle.std.proofs.Common.{◌≡◌, ◌≢◌, ℕ, ◌^◌, ◌<◌, Bool, true, false, nat_lt, ◌==◌, ◌||◌, ◌&&◌, if◌then◌else◌, List, [], ◌∷◌, All, cond, filter, take, drop, zero, suc, Some, None, IfSome, refl, sym, ◌∙◌, ap, arith}
 use Rattle.std.specs.List.{list_any}
 use Rattle.std.proofs.lemmas.Bool.Decides.{Decides-ltb, nat_tests}
-use Rattle.std.proofs.lemmas.List.Elements.{All-cons, All-nil}
-use Rattle.nsc_base.specs.Text.{is_white, onto_first, pieces}
+use Rattle.std.proofs.lemmas.List.Elements.{All-cons, All-nil, All-tail}
+use Rattle.nsc_base.specs.Text.{is_filled, is_white, onto_first, pieces, words_of}
 use Rattle.nsc_base.specs.Decimal.{decimal_of, is_decimal, value_of}
 use Rattle.nsc_base.proofs.Pieces.{pieces-some}
 use Rattle.nsc_model.specs.Users.{has_zero, trimmed}
@@ -45,6 +45,33 @@ has_zero-pieces cuts (b ∷ bytes) h =
           let first : ((b == 0) || has_zero some.0 || list_any has_zero some.1.0) ≡ false = rw parts.0 (sym (ap (list_any has_zero) some.1.1) ∙ later) in
           ap (λ ps. list_any has_zero (onto_first b ps)) some.1.1 ∙ first
     ]
+
+-- pieces without a zero byte are texts
+pub all_texts : (pieces : List (List ℕ)) → list_any has_zero pieces ≡ false → All IsText (filter is_filled pieces)
+all_texts [] clean = All-nil IsText
+all_texts (piece ∷ pieces) clean =
+    let parts = or_false (has_zero piece) (list_any has_zero pieces) clean in
+    let later = all_texts pieces parts.1 in
+    elim (is_filled piece) as (λ v. All IsText (cond v (piece ∷ filter is_filled pieces) (filter is_filled pieces))) [
+      | true ↦ All-cons IsText piece (filter is_filled pieces) (is_text piece parts.0) later
+      | false ↦ later
+    ]
+
+pub words_are_texts : (bytes : List ℕ) → has_zero bytes ≡ false → All IsText (words_of bytes)
+words_are_texts bytes clean = all_texts (pieces is_white bytes) (has_zero-pieces is_white bytes clean)
+
+-- a part from the front, and a part up to the end
+pub has_zero-take : (n : ℕ) (bytes : List ℕ) → has_zero bytes ≡ false → has_zero (take n bytes) ≡ false
+has_zero-take zero bytes h = refl
+has_zero-take (suc n) [] h = refl
+has_zero-take (suc n) (b ∷ bytes) h =
+    let parts = or_false (b == 0) (has_zero bytes) h in
+    rw (parts.0, has_zero-take n bytes parts.1) refl
+
+pub text-drop : (n : ℕ) (bytes : List ℕ) → IsText bytes → IsText (drop n bytes)
+text-drop zero bytes is = is
+text-drop (suc n) [] is = is
+text-drop (suc n) (b ∷ bytes) is = text-drop n bytes (All-tail (λ b. b ≢ 0) b bytes is)
 
 pub decimal_fits : (text : List ℕ) → IfSome (decimal_of text) (λ n. n < 2 ^ 32)
 decimal_fits text =

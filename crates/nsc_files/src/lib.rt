@@ -2,9 +2,12 @@
 #![tactic(auto)]
 
 mod groups;
+mod hosts;
 mod lookup;
 mod members;
+mod services;
 mod users;
+mod words;
 
 pub use lookup::{extra_lookup, files_lookup};
 

@@ -5,10 +5,17 @@ ghost use Rattle.nsc_model.specs.Files.{file_of};
 ghost use Rattle.nsc_model.specs.Sendable.{Sendable};
 
 use crate::groups::{group_by_id, group_by_name, groups_of_user};
+use crate::hosts::{addresses_by_name, host_by_address, host_by_name};
+use crate::services::{service_by_name, service_by_port};
 use crate::users::{user_by_id, user_by_name};
 use nsc_base::NoMemory;
 use nsc_model::{Content, Db, FileId, Kind, Looked};
 use std::alloc::Global;
+
+// The address families of the protocol.
+const IPV4: u8 = 2;
+
+const IPV6: u8 = 10;
 
 /// The outcome of the service `files` for the request of this kind and key: unavailable where the database's file is
 /// absent, else the first entry of the file that the request names. Fails only for want of memory.
@@ -68,6 +75,7 @@ fn look_in(
         Kind::GrName => group_by_name(alloc, text, key),
         Kind::GrGid => group_by_id(alloc, text, key),
         Kind::InitGroups => groups_of_user(alloc, text, key),
+<<<<<<< HEAD
         Kind::HostName
         | Kind::HostName6
         | Kind::HostAddr
@@ -75,5 +83,14 @@ fn look_in(
         | Kind::Ai
         | Kind::ServName
         | Kind::ServPort => Err(NoMemory),
+=======
+        Kind::HostName => host_by_name(alloc, text, key, IPV4),
+        Kind::HostName6 => host_by_name(alloc, text, key, IPV6),
+        Kind::HostAddr => host_by_address(alloc, text, key),
+        Kind::HostAddr6 => host_by_address(alloc, text, key),
+        Kind::Ai => addresses_by_name(alloc, text, key),
+        Kind::ServName => service_by_name(alloc, text, key),
+        Kind::ServPort => service_by_port(alloc, text, key),
+>>>>>>> 5b26f6afc556291e2e38532a22fcf2cc8b6ab01c
     }
 }

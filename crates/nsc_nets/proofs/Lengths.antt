@@ -14,7 +14,7 @@ use Rattle.nsc_model.specs.Hosts.{Addressed, addressed_of}
 abbrev HasGroups : ℕ → Option (List ℕ) → Type 0
 HasGroups n o = (groups : List ℕ) → o ≡ Some groups → length groups ≡ n
 
-exactly-length : (n : ℕ) (o : Option (List ℕ)) → HasGroups n (exactly n o)
+pub exactly-length : (n : ℕ) (o : Option (List ℕ)) → HasGroups n (exactly n o)
 exactly-length n None groups h = cc
 exactly-length n (Some found) groups h =
     elim (nat_eq (length found) n) as (λ v. nat_eq (length found) n ≡ v → (if v then Some found else None) ≡ Some groups → length groups ≡ n) [
@@ -57,7 +57,7 @@ octets_made (Some groups) address eight h =
     let same : octets_of groups ≡ address = cc in
     ap length (sym same) ∙ omega (arith, octets-length groups, eight groups refl)
 
-v6-length : (text address : List ℕ) → v6_of text ≡ Some address → length address ≡ 16
+pub v6-length : (text address : List ℕ) → v6_of text ≡ Some address → length address ≡ 16
 v6-length text address h = octets_made (v6_groups text (around_pair text)) address (groups-length text (around_pair text)) h
 
 -- an address of another length is not spelled in the form of IPv6

@@ -1,16 +1,14 @@
 //! The replies to look-ups of a group, and of the groups of a user.
 
-ghost use Rattle.std.specs.Prelude.{◌≡◌, ◌+◌, ◌≤◌, ◌++◌, length, flat_map, IfOk, OnOk};
+ghost use Rattle.std.specs.Prelude.{◌≡◌, ◌≤◌, length, IfOk};
 ghost use Rattle.nsc_model.specs.Marked.{reply_limit};
-ghost use Rattle.nsc_model.specs.Wire.{IsGroupReply, IsIdsReply, group_found, group_lacking, group_reply, ids_found, ids_lacking, ids_reply, text, text_len};
+ghost use Rattle.nsc_model.specs.Wire.{IsGroupReply, IsIdsReply, group_found, group_lacking, group_reply, ids_found, ids_lacking, ids_reply};
 
-use crate::reply::{MINUS_ONE, VERSION, put_field, put_fields, put_text, text_len};
+use crate::reply::{FIELD, MINUS_ONE, VERSION, put_fields, put_text, text_len};
+use crate::texts::{put_lengths, put_texts, texts_count, texts_size};
 use nsc_base::{Bytes, NoMemory};
 use nsc_model::{Group, Reply, Row};
 use std::alloc::Global;
-
-// A field, in bytes.
-const FIELD: usize = 4;
 
 // The six fields of a group's reply before the lengths of its members, in bytes.
 const GROUP_FIELDS: usize = 24;
@@ -40,48 +38,15 @@ fn encode_found(alloc: Global, group: &Group) -> Result<Bytes, NoMemory>
     let members = group.members.as_slice();
     let name = text_len(&group.name);
     let passwd = text_len(&group.passwd);
-    let texts = (name + passwd) as usize + members_size(members);
+    let texts = (name + passwd) as usize + texts_size(members);
     let mut out = Vec::with_capacity(alloc, GROUP_FIELDS + texts)?;
-    let fields = [VERSION, 1, name, passwd, group.gid, members.len() as u32];
+    let fields = [VERSION, 1, name, passwd, group.gid, texts_count(members)];
     put_fields(&mut out, &fields)?;
     put_lengths(&mut out, members)?;
     put_text(&mut out, group.name.as_slice())?;
     put_text(&mut out, group.passwd.as_slice())?;
     put_texts(&mut out, members)?;
     Ok(Bytes::from_vec(out))
-}
-
-// How many bytes the members have, each a field for its length and its text with the zero byte.
-fn members_size(members: &[Bytes]) -> usize
-    requires { length (flat_map text_len members.now) + length (flat_map text members.now) ≤ reply_limit }
-    ensures { result ≡ length (flat_map text_len members.now) + length (flat_map text members.now) }
-{
-    let mut size = 0;
-    for member in members {
-        size += FIELD + member.len() + 1;
-    }
-    size
-}
-
-// Puts the length of each text behind the bytes that are there.
-fn put_lengths(out: &mut Vec<u8>, texts: &[Bytes]) -> Result<(), NoMemory>
-    requires { length (flat_map text texts.now) ≤ reply_limit }
-    ensures { OnOk result (out.new.items ≡ out.old.items ++ flat_map text_len texts.now) }
-{
-    for text in texts {
-        put_field(out, text_len(text))?;
-    }
-    Ok(())
-}
-
-// Puts texts behind the bytes that are there, each with its zero byte.
-fn put_texts(out: &mut Vec<u8>, texts: &[Bytes]) -> Result<(), NoMemory>
-    ensures { OnOk result (out.new.items ≡ out.old.items ++ flat_map text texts.now) }
-{
-    for text in texts {
-        put_text(out, text.as_slice())?;
-    }
-    Ok(())
 }
 
 // The fields of a reply without a group.

@@ -3,9 +3,13 @@
 //! A reader takes no memory and looks at each byte once; a reply is written into memory that is taken once.
 #![tactic(auto)]
 
+mod addresses;
 mod groups;
+mod hosts;
 mod reply;
 mod request;
+mod services;
+mod texts;
 mod users;
 
 pub use nsc_model::Reply;

@@ -3,7 +3,10 @@ ghost use Rattle.nsc_model.specs.Marked.{reply_limit};
 ghost use Rattle.nsc_model.specs.Wire.{IsReplyOf, Spells, field, spelled, text};
 ghost use Rattle.nsc_wire.specs.Fields.{fields};
 
+use crate::addresses::encode_addresses;
 use crate::groups::{encode_group, encode_ids};
+use crate::hosts::encode_host;
+use crate::services::encode_service;
 use crate::users::encode_user;
 use byteorder::{ByteOrder, LittleEndian};
 use nsc_base::{Bytes, NoMemory};
@@ -12,6 +15,9 @@ use std::alloc::Global;
 
 // The version of the protocol, in the first field of each request and each reply.
 pub(crate) const VERSION: u32 = 2;
+
+// A field, in bytes.
+pub(crate) const FIELD: usize = 4;
 
 // A number that is not there, or a database that is not cached.
 pub(crate) const MINUS_ONE: u32 = u32::MAX;
@@ -28,13 +34,10 @@ pub fn encode(alloc: Global, kind: Kind, reply: &Reply) -> Result<Bytes, NoMemor
         Kind::PwUid => encode_user(alloc, reply),
         Kind::GrName | Kind::GrGid => encode_group(alloc, reply),
         Kind::InitGroups => encode_ids(alloc, reply),
-        Kind::HostName
-        | Kind::HostName6
-        | Kind::HostAddr
-        | Kind::HostAddr6
-        | Kind::Ai
-        | Kind::ServName
-        | Kind::ServPort => Err(NoMemory),
+        Kind::HostName | Kind::HostName6 => encode_host(alloc, reply),
+        Kind::HostAddr | Kind::HostAddr6 => encode_host(alloc, reply),
+        Kind::Ai => encode_addresses(alloc, reply),
+        Kind::ServName | Kind::ServPort => encode_service(alloc, reply),
     }
 }
 

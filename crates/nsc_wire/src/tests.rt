@@ -1,10 +1,10 @@
 ghost use Rattle.std.specs.Prelude.{◌+◌, ◌≤◌, length, flat_map, All, IfOk};
 ghost use Rattle.nsc_model.specs.Marked.{reply_limit};
-ghost use Rattle.nsc_model.specs.Wire.{IsGroupReply, IsIdsReply, IsText, IsUserReply, group_reply, ids_reply, text, text_len, user_reply};
+ghost use Rattle.nsc_model.specs.Wire.{IsAddressesReply, IsGroupReply, IsHostReply, IsIdsReply, IsServiceReply, IsText, IsUserReply, addresses_reply, group_reply, host_reply, ids_reply, service_reply, text, text_len, user_reply};
 
 use crate::{Reply, Wire, encode, read_request};
 use nsc_base::{Bytes, Ids, NoMemory, Span, Texts};
-use nsc_model::{Group, Kind, Passwd, Row};
+use nsc_model::{Ai, Found6, Founds, Group, Host, Kind, Passwd, Row, Service};
 use std::alloc::Global;
 use std::test::Fail;
 
@@ -151,6 +151,159 @@ fn groups_of_a_user(rt: HostRuntime) -> Result<(), Fail> {
     assert_eq!(rt; bytes.as_slice(), NO_IDS);
     let bytes = encode(rt.alloc(), Kind::InitGroups, &Reply::Disabled)?;
     assert_eq!(rt; bytes.as_slice(), DISABLED_IDS);
+    Ok(())
+}
+
+// The host localhost at 127.0.0.1, without aliases.
+const LOCALHOST: &[u8] =
+    b"\x02\0\0\0\x01\0\0\0\x0a\0\0\0\0\0\0\0\x02\0\0\0\x04\0\0\0\x01\0\0\0\0\0\0\0localhost\0\x7f\0\0\x01";
+
+// The host alpha at 10.0.0.1, with the alias a1.
+const ALPHA: &[u8] =
+    b"\x02\0\0\0\x01\0\0\0\x06\0\0\0\x01\0\0\0\x02\0\0\0\x04\0\0\0\x01\0\0\0\0\0\0\0alpha\0\x03\0\0\0\x0a\0\0\x01a1\0";
+
+const NO_HOST: &[u8] =
+    b"\x02\0\0\0\0\0\0\0\0\0\0\0\0\0\0\0\xff\xff\xff\xff\xff\xff\xff\xff\0\0\0\0\x01\0\0\0";
+
+const DISABLED_HOST: &[u8] =
+    b"\x02\0\0\0\xff\xff\xff\xff\0\0\0\0\0\0\0\0\xff\xff\xff\xff\xff\xff\xff\xff\0\0\0\0\xff\xff\xff\xff";
+
+// The host localhost at 127.0.0.1, without aliases.
+fn localhost(alloc: Global) -> Result<Reply, NoMemory>
+    ensures host { IfOk result IsHostReply }
+    ensures fits { IfOk result (λ reply. length (host_reply reply) ≤ reply_limit) }
+{
+    Ok(Reply::Found(Row::Host(Host {
+        name: Bytes::copy(alloc, b"localhost")?,
+        aliases: Texts::from_vec(Vec::new(alloc)),
+        family: 2,
+        address: Bytes::copy(alloc, &[127, 0, 0, 1])?,
+    })))
+}
+
+// The host alpha at 10.0.0.1, with the alias a1.
+fn alpha(alloc: Global) -> Result<Reply, NoMemory>
+    ensures host { IfOk result IsHostReply }
+    ensures fits { IfOk result (λ reply. length (host_reply reply) ≤ reply_limit) }
+{
+    let mut aliases = Vec::with_capacity(alloc, 1)?;
+    aliases.push(Bytes::copy(alloc, b"a1")?)?;
+    Ok(Reply::Found(Row::Host(Host {
+        name: Bytes::copy(alloc, b"alpha")?,
+        aliases: Texts::from_vec(aliases),
+        family: 2,
+        address: Bytes::copy(alloc, &[10, 0, 0, 1])?,
+    })))
+}
+
+#[test]
+fn host_without_aliases(rt: HostRuntime) -> Result<(), Fail> {
+    let found = localhost(rt.alloc())?;
+    let bytes = encode(rt.alloc(), Kind::HostName, &found)?;
+    assert_eq!(rt; bytes.as_slice(), LOCALHOST);
+    Ok(())
+}
+
+#[test]
+fn host_with_an_alias(rt: HostRuntime) -> Result<(), Fail> {
+    let found = alpha(rt.alloc())?;
+    let bytes = encode(rt.alloc(), Kind::HostAddr, &found)?;
+    assert_eq!(rt; bytes.as_slice(), ALPHA);
+    Ok(())
+}
+
+#[test]
+fn no_host(rt: HostRuntime) -> Result<(), Fail> {
+    let bytes = encode(rt.alloc(), Kind::HostName6, &Reply::Absent)?;
+    assert_eq!(rt; bytes.as_slice(), NO_HOST);
+    let bytes = encode(rt.alloc(), Kind::HostAddr6, &Reply::Disabled)?;
+    assert_eq!(rt; bytes.as_slice(), DISABLED_HOST);
+    Ok(())
+}
+
+// The addresses 10.0.0.1 and fd00::1 of alpha.
+const ADDRESSES: &[u8] =
+    b"\x02\0\0\0\x01\0\0\0\x02\0\0\0\x14\0\0\0\x06\0\0\0\0\0\0\0\x0a\0\0\x01\xfd\0\0\0\0\0\0\0\0\0\0\0\0\0\0\x01\x02\x0aalpha\0";
+
+const NO_ADDRESSES: &[u8] = b"\x02\0\0\0\0\0\0\0\0\0\0\0\0\0\0\0\0\0\0\0\x01\0\0\0";
+
+const DISABLED_ADDRESSES: &[u8] =
+    b"\x02\0\0\0\xff\xff\xff\xff\0\0\0\0\0\0\0\0\0\0\0\0\xff\xff\xff\xff";
+
+const FD00_1: &[u8] = b"\xfd\0\0\0\0\0\0\0\0\0\0\0\0\0\0\x01";
+
+// The addresses 10.0.0.1 and fd00::1 of alpha.
+fn addresses(alloc: Global) -> Result<Reply, NoMemory>
+    ensures addresses { IfOk result IsAddressesReply }
+    ensures fits { IfOk result (λ reply. length (addresses_reply reply) ≤ reply_limit) }
+{
+    let mut list = Vec::with_capacity(alloc, 2)?;
+    list.push(Found6 {
+        family: 2,
+        address: Bytes::copy(alloc, &[10, 0, 0, 1])?,
+    })?;
+    list.push(Found6 {
+        family: 10,
+        address: Bytes::copy(alloc, FD00_1)?,
+    })?;
+    Ok(Reply::Found(Row::Ai(Ai {
+        list: Founds::from_vec(list),
+        canon: Bytes::copy(alloc, b"alpha")?,
+    })))
+}
+
+#[test]
+fn addresses_of_a_host(rt: HostRuntime) -> Result<(), Fail> {
+    let found = addresses(rt.alloc())?;
+    let bytes = encode(rt.alloc(), Kind::Ai, &found)?;
+    assert_eq!(rt; bytes.as_slice(), ADDRESSES);
+    Ok(())
+}
+
+#[test]
+fn no_addresses(rt: HostRuntime) -> Result<(), Fail> {
+    let bytes = encode(rt.alloc(), Kind::Ai, &Reply::Absent)?;
+    assert_eq!(rt; bytes.as_slice(), NO_ADDRESSES);
+    let bytes = encode(rt.alloc(), Kind::Ai, &Reply::Disabled)?;
+    assert_eq!(rt; bytes.as_slice(), DISABLED_ADDRESSES);
+    Ok(())
+}
+
+// The service ssh at port 22 of tcp.
+const SSH: &[u8] = b"\x02\0\0\0\x01\0\0\0\x04\0\0\0\x04\0\0\0\0\0\0\0\0\x16\0\0ssh\0tcp\0";
+
+const NO_SERVICE: &[u8] = b"\x02\0\0\0\0\0\0\0\0\0\0\0\0\0\0\0\0\0\0\0\xff\xff\xff\xff";
+
+const DISABLED_SERVICE: &[u8] =
+    b"\x02\0\0\0\xff\xff\xff\xff\0\0\0\0\0\0\0\0\0\0\0\0\xff\xff\xff\xff";
+
+// The service ssh at port 22 of tcp.
+fn ssh(alloc: Global) -> Result<Reply, NoMemory>
+    ensures service { IfOk result IsServiceReply }
+    ensures fits { IfOk result (λ reply. length (service_reply reply) ≤ reply_limit) }
+{
+    Ok(Reply::Found(Row::Service(Service {
+        name: Bytes::copy(alloc, b"ssh")?,
+        proto: Bytes::copy(alloc, b"tcp")?,
+        aliases: Texts::from_vec(Vec::new(alloc)),
+        port: 22,
+    })))
+}
+
+#[test]
+fn services(rt: HostRuntime) -> Result<(), Fail> {
+    let found = ssh(rt.alloc())?;
+    let bytes = encode(rt.alloc(), Kind::ServName, &found)?;
+    assert_eq!(rt; bytes.as_slice(), SSH);
+    Ok(())
+}
+
+#[test]
+fn no_service(rt: HostRuntime) -> Result<(), Fail> {
+    let bytes = encode(rt.alloc(), Kind::ServName, &Reply::Absent)?;
+    assert_eq!(rt; bytes.as_slice(), NO_SERVICE);
+    let bytes = encode(rt.alloc(), Kind::ServPort, &Reply::Disabled)?;
+    assert_eq!(rt; bytes.as_slice(), DISABLED_SERVICE);
     Ok(())
 }
 

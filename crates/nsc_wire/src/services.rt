@@ -1,0 +1,66 @@
+//! The replies to look-ups of a service by name or by port.
+
+ghost use Rattle.std.specs.Prelude.{◌≡◌, ◌≤◌, length, IfOk};
+ghost use Rattle.nsc_model.specs.Marked.{reply_limit};
+ghost use Rattle.nsc_model.specs.ServiceLines.{exchanged};
+ghost use Rattle.nsc_model.specs.Wire.{IsServiceReply, service_found, service_lacking, service_reply};
+
+use crate::reply::{MINUS_ONE, VERSION, put_fields, put_text, text_len};
+use crate::texts::{put_lengths, put_texts, texts_count, texts_size};
+use nsc_base::{Bytes, NoMemory};
+use nsc_model::{Reply, Row, Service};
+use std::alloc::Global;
+
+// The six fields of a service's reply, in bytes.
+const FIELDS: usize = 24;
+
+// The bytes of a reply to a look-up of a service.
+pub(crate) fn encode_service(alloc: Global, reply: &Reply) -> Result<Bytes, NoMemory>
+    requires of_kind { IsServiceReply reply.now }
+    requires fits { length (service_reply reply.now) ≤ reply_limit }
+    ensures { IfOk result (λ bytes. bytes ≡ service_reply reply.now) }
+{
+    match reply {
+        Reply::Found(Row::Service(service)) => encode_found(alloc, service),
+        Reply::Found(_) => unreachable!(),
+        Reply::Absent => encode_lacking(alloc, 0),
+        Reply::Disabled => encode_lacking(alloc, MINUS_ONE),
+    }
+}
+
+// The fields and the texts of a service.
+fn encode_found(alloc: Global, service: &Service) -> Result<Bytes, NoMemory>
+    requires { length (service_found service.now) ≤ reply_limit }
+    ensures { IfOk result (λ bytes. bytes ≡ service_found service.now) }
+{
+    let aliases = service.aliases.as_slice();
+    let name = text_len(&service.name);
+    let proto = text_len(&service.proto);
+    let texts = (name + proto) as usize + texts_size(aliases);
+    let mut out = Vec::with_capacity(alloc, FIELDS + texts)?;
+    let port = port_field(service.port);
+    let fields = [VERSION, 1, name, proto, texts_count(aliases), port];
+    put_fields(&mut out, &fields)?;
+    put_text(&mut out, service.name.as_slice())?;
+    put_text(&mut out, service.proto.as_slice())?;
+    put_lengths(&mut out, aliases)?;
+    put_texts(&mut out, aliases)?;
+    Ok(Bytes::from_vec(out))
+}
+
+// The port as its field has it: its two bytes are in network order, and so exchanged.
+fn port_field(port: u16) -> u32
+    ensures { result ≡ exchanged port }
+{
+    u32::from(port.swap_bytes())
+}
+
+// The fields of a reply without a service.
+fn encode_lacking(alloc: Global, found: u32) -> Result<Bytes, NoMemory>
+    ensures { IfOk result (λ bytes. bytes ≡ service_lacking found) }
+{
+    let fields = [VERSION, found, 0, 0, 0, MINUS_ONE];
+    let mut out = Vec::with_capacity(alloc, FIELDS)?;
+    put_fields(&mut out, &fields)?;
+    Ok(Bytes::from_vec(out))
+}

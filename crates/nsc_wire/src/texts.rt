@@ -1,0 +1,49 @@
+//! Lists of texts in a reply: a field for the length of each, and the texts.
+
+ghost use Rattle.std.specs.Prelude.{◌≡◌, ◌+◌, ◌≤◌, ◌++◌, length, flat_map, OnOk};
+ghost use Rattle.nsc_model.specs.Marked.{reply_limit};
+ghost use Rattle.nsc_model.specs.Wire.{text, text_len};
+
+use crate::reply::{FIELD, put_field, put_text, text_len};
+use nsc_base::{Bytes, NoMemory};
+
+// How many bytes texts take, each a field for its length and its bytes with the zero byte.
+pub(crate) fn texts_size(texts: &[Bytes]) -> usize
+    requires { length (flat_map text_len texts.now) + length (flat_map text texts.now) ≤ reply_limit }
+    ensures { result ≡ length (flat_map text_len texts.now) + length (flat_map text texts.now) }
+{
+    let mut size = 0;
+    for text in texts {
+        size += FIELD + text.len() + 1;
+    }
+    size
+}
+
+// How many texts there are.
+pub(crate) fn texts_count(texts: &[Bytes]) -> u32
+    requires { length (flat_map text_len texts.now) + length (flat_map text texts.now) ≤ reply_limit }
+    ensures { result ≡ length texts.now }
+{
+    texts.len() as u32
+}
+
+// Puts the length of each text behind the bytes that are there.
+pub(crate) fn put_lengths(out: &mut Vec<u8>, texts: &[Bytes]) -> Result<(), NoMemory>
+    requires { length (flat_map text texts.now) ≤ reply_limit }
+    ensures { OnOk result (out.new.items ≡ out.old.items ++ flat_map text_len texts.now) }
+{
+    for text in texts {
+        put_field(out, text_len(text))?;
+    }
+    Ok(())
+}
+
+// Puts texts behind the bytes that are there, each with its zero byte.
+pub(crate) fn put_texts(out: &mut Vec<u8>, texts: &[Bytes]) -> Result<(), NoMemory>
+    ensures { OnOk result (out.new.items ≡ out.old.items ++ flat_map text texts.now) }
+{
+    for text in texts {
+        put_text(out, text.as_slice())?;
+    }
+    Ok(())
+}
