@@ -6,10 +6,7 @@ use Rattle.std.proofs.lemmas.List.Elements.{All-cons, All-head, All-nil, All-tai
 use Rattle.nsc_base.specs.Text.{lines_of}
 use Rattle.nsc_model.specs.Entries.{first_of, if_named, named_in, first_named}
 use Rattle.nsc_model.proofs.Firsts.{first_step}
-<<<<<<< HEAD
-=======
 use Rattle.nsc_files.proofs.Sizes.{lines_short}
->>>>>>> 5b26f6afc556291e2e38532a22fcf2cc8b6ab01c
 
 -- the first of some lines that is named
 first_keeps : {A : Type 0} (P : A → Type 0) (Q : List ℕ → Type 0) (entry_of : List ℕ → Option A) (names : A → Bool) (lines : List (List ℕ)) (x : A) → ((line : List ℕ) (y : A) → Q line → entry_of line ≡ Some y → P y) → All Q lines → first_of (filter names (filter_map entry_of lines)) ≡ Some x → P x

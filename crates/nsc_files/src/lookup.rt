@@ -75,15 +75,6 @@ fn look_in(
         Kind::GrName => group_by_name(alloc, text, key),
         Kind::GrGid => group_by_id(alloc, text, key),
         Kind::InitGroups => groups_of_user(alloc, text, key),
-<<<<<<< HEAD
-        Kind::HostName
-        | Kind::HostName6
-        | Kind::HostAddr
-        | Kind::HostAddr6
-        | Kind::Ai
-        | Kind::ServName
-        | Kind::ServPort => Err(NoMemory),
-=======
         Kind::HostName => host_by_name(alloc, text, key, IPV4),
         Kind::HostName6 => host_by_name(alloc, text, key, IPV6),
         Kind::HostAddr => host_by_address(alloc, text, key),
@@ -91,6 +82,5 @@ fn look_in(
         Kind::Ai => addresses_by_name(alloc, text, key),
         Kind::ServName => service_by_name(alloc, text, key),
         Kind::ServPort => service_by_port(alloc, text, key),
->>>>>>> 5b26f6afc556291e2e38532a22fcf2cc8b6ab01c
     }
 }
