@@ -6,3 +6,5 @@ pub mod Pairs
 pub mod ColonHex
 pub mod Printed
 pub mod Numerals
+pub mod Runs
+pub mod Printing

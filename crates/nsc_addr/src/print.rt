@@ -37,7 +37,7 @@ pub fn print_v6(address: [u8; 16], out: &mut Buf)
     }
 }
 
-/// A byte in decimal.
+/// Puts a byte in decimal, with no zero before other digits: at most three bytes.
 fn push_octet(octet: u8, out: &mut Buf)
     requires { length out.old.content + 3 ≤ out.old.limit }
     ensures text { out.new ≡ record { content = out.old.content ++ decimal octet; limit = out.old.limit } }
@@ -56,7 +56,7 @@ fn push_octet(octet: u8, out: &mut Buf)
     out.push(&digits[zeros..]);
 }
 
-/// Groups of 16 bits, with colons between them.
+/// Puts groups of 16 bits, with colons between them: at most five bytes for each, but for the first at most four.
 fn push_groups(groups: &[u16], out: &mut Buf)
     requires { length out.old.content + 5 * length groups.now ≤ out.old.limit + 1 }
     ensures text { out.new ≡ record { content = out.old.content ++ colon_text groups.now; limit = out.old.limit } }
@@ -72,7 +72,7 @@ fn push_groups(groups: &[u16], out: &mut Buf)
     }
 }
 
-/// A group in hexadecimal, in lower case and with no zero at its front.
+/// Puts a group in hexadecimal, in lower case and with no zero before other digits: at most four bytes.
 fn push_group(group: u16, out: &mut Buf)
     requires { length out.old.content + 4 ≤ out.old.limit }
     ensures text { out.new ≡ record { content = out.old.content ++ digits 16 false group; limit = out.old.limit } }
@@ -105,14 +105,15 @@ fn hex_digit(n: u16) -> u8
     }
 }
 
-/// A run of groups that are 0.
+/// A run of groups that are 0: how many groups stand before it, and how many it has.
 #[derive(Clone, Copy)]
 struct Zeros {
     before: usize,
     count: usize,
 }
 
-/// The longest run of zeros; of runs that are as long the first.
+/// The longest run of zeros; of runs that are as long the first. Where no group is 0, an empty run. It looks from the last
+/// group on, so that a run further in front takes the place of one that is as long.
 fn longest_zeros(groups: &[u16]) -> Zeros
     ensures before { result.before ≡ (longest_run groups.now).before }
     ensures count { result.count ≡ (longest_run groups.now).count }

@@ -3,8 +3,8 @@ ghost use Rattle.nsc_base.specs.Addresses.{v4_of, v6_of};
 
 use std::net::{Ipv4Addr, Ipv6Addr};
 
-/// The IPv4 address that a text spells: four decimal numbers below 256, none with a zero at its front, and dots between
-/// them. `None` where the text is anything else, also where a byte stands before or behind.
+/// The IPv4 address that a text spells: four decimal numbers below 256, none with a zero before other digits, and dots
+/// between them. `None` where the text is anything else, also where a byte stands before or behind.
 pub fn read_v4(text: &[u8]) -> Option<[u8; 4]>
     ensures { result ≡ v4_of text.now }
 {
