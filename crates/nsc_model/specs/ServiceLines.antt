@@ -1,5 +1,5 @@
 -- The entries of a services file, services(5).
-use Rattle.std.specs.Prelude.{ℕ, ◌+◌, ◌*◌, ◌/◌, ◌%◌, Bool, not, ◌==◌, ◌&&◌, nat_lt, if◌then◌else◌, List, [], ◌∷◌, Option, Some, None}
+use Rattle.std.specs.Prelude.{ℕ, ◌+◌, ◌*◌, ◌/◌, ◌%◌, Bool, not, ◌==◌, ◌||◌, ◌&&◌, nat_lt, if◌then◌else◌, List, [], ◌∷◌, Option, Some, None}
 use Rattle.std.specs.List.{after_first, after_last, before_first, before_last, list_any}
 use Rattle.std.specs.Str.{bytes_eq}
 use Rattle.nsc_base.specs.Text.{before_remark, is_filled, words_of}

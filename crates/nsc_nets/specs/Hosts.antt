@@ -1,5 +1,5 @@
 -- The address of a host's entry, and where its names stand in its text.
-use Rattle.std.specs.Prelude.{ℕ, ◌==◌, List, Option, Some, None, if◌then◌else◌, take}
+use Rattle.std.specs.Prelude.{ℕ, ◌==◌, List, Option, None, if◌then◌else◌, take}
 use Rattle.std.specs.Option.{option_map}
 use Rattle.nsc_base.specs.declared.span.Span.{Span}
 use Rattle.nsc_base.specs.Text.{LiesIn, part, words_of}
