@@ -6,11 +6,10 @@ use Rattle.std.specs.List.{AllWithin}
 use Rattle.std.proofs.lemmas.List.Elements.{AllWithin-more_set}
 use Rattle.nsc_base.specs.declared.span.Span.{Span}
 use Rattle.nsc_base.specs.declared.span.Line.{Line}
-use Rattle.nsc_base.specs.Text.{IsField, fields_between, fields_of, part}
+use Rattle.nsc_base.specs.Text.{IsField, LiesIn, fields_between, fields_of, part}
 use Rattle.nsc_base.proofs.Pieces.{pieces-some}
 use Rattle.nsc_base.proofs.Compare.{is_below, not_below}
 use Rattle.nsc_accounts.specs.Fields.{exactly}
-use Rattle.nsc_accounts.specs.Passwd.{LiesIn}
 
 -- before the first field all fields are left
 pub fields_left : (text : List ℕ) (within : Span) → within.from ≤ within.to → fields_of 58 (part text within) ≡ fields_between 58 text within.from within.to

@@ -1,10 +1,9 @@
 -- Where an entry of a group file stands in its text.
 use Rattle.std.specs.Prelude.{ℕ, List}
 use Rattle.nsc_base.specs.declared.span.Span.{Span}
-use Rattle.nsc_base.specs.Text.{part}
+use Rattle.nsc_base.specs.Text.{LiesIn, part}
 use Rattle.nsc_model.specs.declared.row.Group.{Group}
 use Rattle.nsc_model.specs.Groups.{members_of}
-use Rattle.nsc_accounts.specs.Passwd.{LiesIn}
 use Rattle.nsc_accounts.specs.declared.group.GroupAt.{GroupAt}
 
 -- the entry whose texts stand in these places

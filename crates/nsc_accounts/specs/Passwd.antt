@@ -1,7 +1,7 @@
 -- Where an entry of a passwd file stands in its text.
-use Rattle.std.specs.Prelude.{ℕ, ◌≤◌, List}
+use Rattle.std.specs.Prelude.{ℕ, List}
 use Rattle.nsc_base.specs.declared.span.Span.{Span}
-use Rattle.nsc_base.specs.Text.{part}
+use Rattle.nsc_base.specs.Text.{LiesIn, part}
 use Rattle.nsc_model.specs.declared.row.Passwd.{Passwd}
 use Rattle.nsc_accounts.specs.declared.passwd.PasswdAt.{PasswdAt}
 
@@ -16,12 +16,6 @@ user_at text at = record {
   dir = part text at.dir;
   shell = part text at.shell;
 }
-
--- a span lies within another
-pub record LiesIn (within span : Span) : Type 0 where
-  pub begins : within.from ≤ span.from
-  pub ordered : span.from ≤ span.to
-  pub ends : span.to ≤ within.to
 
 -- each text of the entry lies within this part of the file
 pub record UserLiesIn (within : Span) (at : PasswdAt) : Type 0 where

@@ -1,10 +1,9 @@
 ghost use Rattle.std.specs.Prelude.{◌≡◌, ◌≤◌, All, IfSome, length, map};
 ghost use Rattle.std.specs.Option.{option_map};
 ghost use Rattle.nsc_base.specs.declared.span.Span.{Span};
-ghost use Rattle.nsc_base.specs.Text.{part};
+ghost use Rattle.nsc_base.specs.Text.{LiesIn, part};
 ghost use Rattle.nsc_model.specs.Groups.{group_of_fields, group_of_line};
 ghost use Rattle.nsc_accounts.specs.Group.{GroupLiesIn, group_at};
-ghost use Rattle.nsc_accounts.specs.Passwd.{LiesIn};
 
 use crate::fields::{line_fields, may_be_name};
 use nsc_base::{Span, decimal};

@@ -1,9 +1,9 @@
 ghost use Rattle.std.specs.Prelude.{◌≡◌, ◌≤◌, All, IfSome, length, map};
 ghost use Rattle.std.specs.Option.{option_map};
 ghost use Rattle.nsc_base.specs.declared.span.Span.{Span};
-ghost use Rattle.nsc_base.specs.Text.{part};
+ghost use Rattle.nsc_base.specs.Text.{LiesIn, part};
 ghost use Rattle.nsc_model.specs.Users.{user_of_fields, user_of_line};
-ghost use Rattle.nsc_accounts.specs.Passwd.{LiesIn, UserLiesIn, user_at};
+ghost use Rattle.nsc_accounts.specs.Passwd.{UserLiesIn, user_at};
 
 use crate::fields::{line_fields, may_be_name};
 use nsc_base::{Span, decimal};

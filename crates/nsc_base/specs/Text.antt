@@ -1,5 +1,6 @@
 -- Texts cut into lines, fields and words. A text is a list of bytes, and nothing is decoded.
 use Rattle.std.specs.Prelude.{◌≡◌, ℕ, ◌+◌, ◌<◌, ◌≤◌, Bool, ◌==◌, ◌||◌, nat_lt, if◌then◌else◌, List, [], ◌∷◌, length, drop, filter, slice_range, true, false}
+use Rattle.std.specs.List.{before_first}
 use Rattle.nsc_base.specs.declared.span.Line.{Line}
 use Rattle.nsc_base.specs.declared.span.Span.{Span}
 
@@ -34,9 +35,19 @@ is_filled (b ∷ bytes) = true
 abbrev pub words_of : List ℕ → List (List ℕ)
 words_of bytes = filter is_filled (pieces is_white bytes)
 
+-- a remark begins with a `#` and goes to the end of its line
+abbrev pub before_remark : List ℕ → List ℕ
+before_remark line = before_first (λ b. b == 35) line
+
 -- the bytes from one place up to another
 abbrev pub part : List ℕ → Span → List ℕ
 part text span = slice_range text span.from span.to
+
+-- a span lies within another
+pub record LiesIn (within span : Span) : Type 0 where
+  pub begins : within.from ≤ span.from
+  pub ordered : span.from ≤ span.to
+  pub ends : span.to ≤ within.to
 
 -- the line that begins at this place, and the place of the next one
 pub record IsLine (text : List ℕ) (from : ℕ) (line : Line) : Type 0 where

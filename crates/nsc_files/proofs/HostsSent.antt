@@ -3,7 +3,7 @@ use Rattle.std.proofs.Common.{◌≡◌, ℕ, ◌+◌, ◌≤◌, Bool, true, fa
 use Rattle.std.specs.List.{position_or_len}
 use Rattle.std.specs.Option.{option_map, option_or}
 use Rattle.std.proofs.lemmas.List.Elements.{All-head, All-tail}
-use Rattle.nsc_base.specs.Text.{fields_of, words_of}
+use Rattle.nsc_base.specs.Text.{before_remark, fields_of, words_of}
 use Rattle.nsc_base.specs.Addresses.{each_spelled, octet_of, v4_of, v6_of}
 use Rattle.nsc_model.specs.declared.kind.Kind.TheVariants.{HostName, HostName6, HostAddr, HostAddr6}
 use Rattle.nsc_model.specs.declared.row.Host.{Host}
@@ -11,7 +11,7 @@ use Rattle.nsc_model.specs.declared.row.Row.TheVariants as row
 use Rattle.nsc_model.specs.Answers.{answer_by, found_first}
 use Rattle.nsc_model.specs.Entries.{first_named}
 use Rattle.nsc_model.specs.Files.{file_limit}
-use Rattle.nsc_model.specs.Hosts.{Addressed, addressed_of, before_remark, host_addressed, host_named, host_of_line, host_of_words}
+use Rattle.nsc_model.specs.Hosts.{Addressed, addressed_of, host_addressed, host_named, host_of_line, host_of_words}
 use Rattle.nsc_model.specs.Marked.{reply_limit}
 use Rattle.nsc_model.specs.Sendable.{Sendable, reply_to}
 use Rattle.nsc_model.specs.Users.{has_zero}

@@ -4,7 +4,7 @@ use Rattle.std.specs.List.{after_first, before_first, position_or_len}
 use Rattle.std.specs.Option.{option_and_then}
 use Rattle.std.proofs.lemmas.Bool.Decides.{Decides-ltb}
 use Rattle.std.proofs.lemmas.List.Elements.{All-head, All-tail}
-use Rattle.nsc_base.specs.Text.{is_filled, words_of}
+use Rattle.nsc_base.specs.Text.{before_remark, is_filled, words_of}
 use Rattle.nsc_base.specs.Decimal.{decimal_of}
 use Rattle.nsc_model.specs.declared.kind.Kind.TheVariants.{ServName, ServPort}
 use Rattle.nsc_model.specs.declared.row.Service.{Service}
@@ -12,7 +12,6 @@ use Rattle.nsc_model.specs.declared.row.Row.TheVariants as row
 use Rattle.nsc_model.specs.Answers.{answer_by, found_first, key_named, key_ported}
 use Rattle.nsc_model.specs.Entries.{first_named}
 use Rattle.nsc_model.specs.Files.{file_limit}
-use Rattle.nsc_model.specs.Hosts.{before_remark}
 use Rattle.nsc_model.specs.Marked.{reply_limit}
 use Rattle.nsc_model.specs.Sendable.{Sendable, reply_to}
 use Rattle.nsc_model.specs.ServiceLines.{is_slash, port_of, service_key, service_of_line, service_of_words}

@@ -3,7 +3,7 @@ use Rattle.std.proofs.Common.{◌≡◌, ℕ, ◌+◌, ◌-◌, ◌^◌, ◌<◌
 use Rattle.std.specs.List.{list_any}
 use Rattle.std.specs.Option.{option_and_then}
 use Rattle.nsc_base.specs.declared.span.Span.{Span}
-use Rattle.nsc_base.specs.Text.{fields_of, part}
+use Rattle.nsc_base.specs.Text.{LiesIn, fields_of, part}
 use Rattle.nsc_base.specs.Decimal.{decimal_of}
 use Rattle.nsc_model.specs.declared.row.Passwd.{Passwd}
 use Rattle.nsc_model.specs.Files.{file_limit}
@@ -12,7 +12,7 @@ use Rattle.nsc_model.specs.Entries.{first_named}
 use Rattle.nsc_model.specs.Users.{has_zero, is_name, trimmed, user_of_fields, user_of_line}
 use Rattle.nsc_model.specs.Wire.{IsUser, passwd_found}
 use Rattle.nsc_accounts.specs.declared.passwd.PasswdAt.{PasswdAt}
-use Rattle.nsc_accounts.specs.Passwd.{LiesIn, UserLiesIn, user_at}
+use Rattle.nsc_accounts.specs.Passwd.{UserLiesIn, user_at}
 use Rattle.nsc_files.proofs.Keeps.{named_keeps}
 use Rattle.nsc_files.proofs.Texts.{decimal_fits, has_zero-pieces, has_zero-trimmed, is_text, or_false}
 

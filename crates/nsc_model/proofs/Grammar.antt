@@ -1,7 +1,7 @@
 -- The two readings of a service list agree: what its items write is read token by token, and what is read so is written by items.
 use Rattle.std.proofs.Common.{◌≡◌, ℕ, Bool, true, false, List, [], ◌∷◌, ◌++◌, Option, Some, None, refl, sym, ◌∙◌, ap, subst, append_assoc}
 use Rattle.nsc_model.specs.Services.{SwitchAction, SwitchStep, Other, plain_step}
-use Rattle.nsc_model.specs.Switches.{AllGaps, Begin, Between, Close, Equals, Equated, First, Gap, Group, Item, Named, Negated, Next, Not, Open, Place, Rest, Rule, Ruled, Service, Spells, Status, Token, Word, Writes, WritesGroup, WritesRule, WritesRules, action_named, at_begin, at_between, at_equated, at_first, at_named, at_negated, at_next, at_place, at_ruled, behind_action, behind_status, list_from, negation, onto_steps, ruled, ruled_by, service_named, spelled_list, status_named, steps_behind, steps_of, tokens_of}
+use Rattle.nsc_model.specs.Switches.{AllGaps, Begin, Between, Close, Equals, Equated, First, Gap, Group, Item, Named, Negated, Next, Not, Open, Place, Rest, Rule, Ruled, Service, Spells, Status, Token, Word, Writes, WritesGroup, WritesRule, WritesRules, action_named, at_begin, at_between, at_equated, at_first, at_named, at_negated, at_next, at_place, at_ruled, behind_action, behind_status, list_from, negation, onto_steps, ruled, ruled_by, service_of_word, spelled_list, status_named, steps_behind, steps_of, tokens_of}
 
 -- ---- lists end to end
 
@@ -123,7 +123,7 @@ items-read (Service word ∷ items) tokens step (gaps, rest, are, is, later) =
     ap (list_from Between step) is
     ∙ gaps-read Between (λ now other. refl) step gaps (Word word ∷ rest) are
     ∙ reads Between step (Word word) rest
-    ∙ ap (onto_steps step) (items-read items rest (plain_step (service_named word)) later)
+    ∙ ap (onto_steps step) (items-read items rest (plain_step (service_of_word word)) later)
 items-read (Group rules ∷ items) tokens step (gaps, group, rest, are, writes, is, later) =
     ap (list_from Between step) (is ∙ append_assoc gaps group rest)
     ∙ gaps-read Between (λ now other. refl) step gaps (group ++ rest) are
@@ -137,7 +137,7 @@ list-read (Service word ∷ items) tokens step steps (gaps, rest, are, falls, la
     ap (list_from First step) falls
     ∙ gaps-read First (λ now other. refl) step gaps (Word word ∷ rest) are
     ∙ reads First step (Word word) rest
-    ∙ items-read items rest (plain_step (service_named word)) later
+    ∙ items-read items rest (plain_step (service_of_word word)) later
     ∙ is
 
 pub written_is_read : (text : List ℕ) (steps : List SwitchStep) → Spells text steps → spelled_list text ≡ Some steps
@@ -350,7 +350,7 @@ onto-some step (Some more) steps is = (more, refl, cc)
 -- one token more, at each place
 first-more : (token : Token) (tokens : List Token) (step : SwitchStep) (steps : List SwitchStep) → Later tokens → at_first token step (reading tokens) ≡ Some steps → ClaimAt First step (token ∷ tokens) steps
 first-more (Word bytes) tokens step steps later is =
-    let claim = later Between (plain_step (service_named bytes)) steps is in
+    let claim = later Between (plain_step (service_of_word bytes)) steps is in
     (Service bytes ∷ claim.0, ([], tokens, tt, refl, claim.1), ap Some (sym claim.2))
 first-more Gap tokens step steps later is =
     let claim = later First step steps is in
@@ -362,8 +362,8 @@ first-more Equals tokens step steps later is = cc
 
 between-more : (token : Token) (tokens : List Token) (step : SwitchStep) (steps : List SwitchStep) → Later tokens → at_between token step (reading tokens) ≡ Some steps → ClaimAt Between step (token ∷ tokens) steps
 between-more (Word bytes) tokens step steps later is =
-    let (more, found, are) = onto-some step (list_from Between (plain_step (service_named bytes)) tokens) steps is in
-    let claim = later Between (plain_step (service_named bytes)) more found in
+    let (more, found, are) = onto-some step (list_from Between (plain_step (service_of_word bytes)) tokens) steps is in
+    let claim = later Between (plain_step (service_of_word bytes)) more found in
     (Service bytes ∷ claim.0, ([], tokens, tt, refl, claim.1), are ∙ ap (λ later. step ∷ later) claim.2)
 between-more Gap tokens step steps later is =
     let claim = later Between step steps is in

@@ -1,9 +1,9 @@
 -- The entries of a hosts file, hosts(5).
 use Rattle.std.specs.Prelude.{ℕ, Bool, not, ◌==◌, ◌&&◌, if◌then◌else◌, List, [], ◌∷◌, filter, Option, Some, None}
 use Rattle.std.specs.Option.{option_map, option_or}
-use Rattle.std.specs.List.{before_first, list_any}
+use Rattle.std.specs.List.{list_any}
 use Rattle.std.specs.Str.{bytes_eq, str_eq_ignore_ascii_case}
-use Rattle.nsc_base.specs.Text.{words_of}
+use Rattle.nsc_base.specs.Text.{before_remark, words_of}
 use Rattle.nsc_base.specs.Addresses.{v4_of, v6_of}
 use Rattle.nsc_model.specs.declared.row.Host.{Host}
 use Rattle.nsc_model.specs.Users.{has_zero}
@@ -14,10 +14,6 @@ ipv4 = 2
 
 abbrev pub ipv6 : ℕ
 ipv6 = 10
-
--- a remark begins with a `#` and reaches to the end of the line
-abbrev pub before_remark : List ℕ → List ℕ
-before_remark line = before_first (λ b. b == 35) line
 
 -- an address with its family
 pub record Addressed : Type 0 where

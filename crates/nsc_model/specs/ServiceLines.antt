@@ -1,12 +1,11 @@
 -- The entries of a services file, services(5).
-use Rattle.std.specs.Prelude.{ℕ, ◌+◌, ◌*◌, ◌/◌, ◌%◌, ◌-◌, Bool, not, ◌==◌, ◌||◌, ◌&&◌, nat_lt, if◌then◌else◌, List, [], ◌∷◌, drop, length, Option, Some, None}
-use Rattle.std.specs.List.{after_first, before_first, before_last, list_any, suffix_len}
+use Rattle.std.specs.Prelude.{ℕ, ◌+◌, ◌*◌, ◌/◌, ◌%◌, Bool, not, ◌==◌, ◌||◌, ◌&&◌, nat_lt, if◌then◌else◌, List, [], ◌∷◌, Option, Some, None}
+use Rattle.std.specs.List.{after_first, after_last, before_first, before_last, list_any}
 use Rattle.std.specs.Str.{bytes_eq}
-use Rattle.nsc_base.specs.Text.{is_filled, words_of}
+use Rattle.nsc_base.specs.Text.{before_remark, is_filled, words_of}
 use Rattle.nsc_base.specs.Decimal.{decimal_of}
 use Rattle.nsc_model.specs.declared.row.Service.{Service}
 use Rattle.nsc_model.specs.Users.{◌>>=◌, has_zero}
-use Rattle.nsc_model.specs.Hosts.{before_remark}
 
 abbrev pub is_slash : ℕ → Bool
 is_slash b = b == 47
@@ -34,14 +33,10 @@ pub record ServiceKey : Type 0 where
   pub asked : List ℕ
   pub proto : List ℕ
 
--- what stands behind the last slash
-abbrev pub after_last_slash : List ℕ → List ℕ
-after_last_slash key = drop (length key - suffix_len (λ b. not (is_slash b)) key) key
-
 -- a key is cut at its last slash; with no slash the protocol is empty
 abbrev pub service_key : List ℕ → ServiceKey
 service_key key =
-    if list_any is_slash key then record { asked = before_last is_slash key; proto = after_last_slash key }
+    if list_any is_slash key then record { asked = before_last is_slash key; proto = after_last is_slash key }
     else record { asked = key; proto = [] }
 
 -- any protocol will do where the key names none

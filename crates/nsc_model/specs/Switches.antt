@@ -1,9 +1,9 @@
 -- The service lists that lines spell, nsswitch.conf(5).
-use Rattle.std.specs.Prelude.{◌≡◌, ℕ, ◌==◌, Bool, true, false, not, if◌then◌else◌, List, [], ◌∷◌, ◌++◌, take_while, codes, Option, Some, None}
+use Rattle.std.specs.Prelude.{◌≡◌, ℕ, ◌==◌, Bool, true, false, if◌then◌else◌, List, [], ◌∷◌, ◌++◌, codes, Option, Some, None}
 use Rattle.std.specs.List.{filter_map}
 use Rattle.std.specs.Option.{option_map}
 use Rattle.std.specs.Str.{bytes_eq, str_to_ascii_lowercase}
-use Rattle.nsc_base.specs.Text.{lines_of, is_white}
+use Rattle.nsc_base.specs.Text.{before_remark, is_white, lines_of}
 use Rattle.nsc_model.specs.declared.kind.Db.{Db}
 use Rattle.nsc_model.specs.declared.kind.Db.TheVariants as db
 use Rattle.nsc_model.specs.Files.{Files}
@@ -29,10 +29,6 @@ name_text Hosts = codes "hosts"
 name_text Services = codes "services"
 name_text UsersCompat = codes "passwd_compat"
 name_text GroupsCompat = codes "group_compat"
-
--- a remark begins with a `#` and goes to the end of its line
-abbrev pub before_remark : List ℕ → List ℕ
-before_remark line = take_while (λ b. not (b == 35)) line
 
 -- what stands behind a text that bytes begin with
 abbrev pub behind_text : List ℕ → List ℕ → Option (List ℕ)
@@ -91,8 +87,8 @@ tokens_of (b ∷ bytes) = put_token (mark_of b) b (tokens_of bytes)
 
 -- ---- services, statuses and actions by their names
 
-abbrev pub service_named : List ℕ → SwitchService
-service_named word =
+abbrev pub service_of_word : List ℕ → SwitchService
+service_of_word word =
     if bytes_eq word (codes "files") then Local else (
     if bytes_eq word (codes "compat") then Compat else (
     if bytes_eq word (codes "extrausers") then Extrausers else Other))
@@ -205,13 +201,13 @@ Writes (Group rules ∷ items) tokens =
 -- the steps of a list from a service on, to which the groups behind it apply
 abbrev pub steps_behind : SwitchStep → List Item → List SwitchStep
 steps_behind step [] = step ∷ []
-steps_behind step (Service word ∷ items) = step ∷ steps_behind (plain_step (service_named word)) items
+steps_behind step (Service word ∷ items) = step ∷ steps_behind (plain_step (service_of_word word)) items
 steps_behind step (Group rules ∷ items) = steps_behind (ruled_by rules step) items
 
 -- a list has a service at least, and begins with one
 abbrev pub steps_of : List Item → Option (List SwitchStep)
 steps_of [] = None
-steps_of (Service word ∷ items) = Some (steps_behind (plain_step (service_named word)) items)
+steps_of (Service word ∷ items) = Some (steps_behind (plain_step (service_of_word word)) items)
 steps_of (Group rules ∷ items) = None
 
 -- the text spells these steps
@@ -248,7 +244,7 @@ behind_action negated status None step rest = None
 behind_action negated status (Some action) step rest = rest Ruled (ruled (record { negated = negated; status = status; action = action }) step)
 
 abbrev pub at_first : Token → SwitchStep → Rest → Option (List SwitchStep)
-at_first (Word bytes) step rest = rest Between (plain_step (service_named bytes))
+at_first (Word bytes) step rest = rest Between (plain_step (service_of_word bytes))
 at_first Gap step rest = rest First step
 at_first Open step rest = None
 at_first Close step rest = None
@@ -256,7 +252,7 @@ at_first Not step rest = None
 at_first Equals step rest = None
 
 abbrev pub at_between : Token → SwitchStep → Rest → Option (List SwitchStep)
-at_between (Word bytes) step rest = onto_steps step (rest Between (plain_step (service_named bytes)))
+at_between (Word bytes) step rest = onto_steps step (rest Between (plain_step (service_of_word bytes)))
 at_between Gap step rest = rest Between step
 at_between Open step rest = rest Begin step
 at_between Close step rest = None

@@ -1,12 +1,12 @@
 -- Hosts of a name or an address, from the words of their lines.
-use Rattle.std.proofs.Common.{◌≡◌, ℕ, Bool, true, false, not, ◌&&◌, ◌||◌, ◌==◌, if◌then◌else◌, List, [], ◌∷◌, Option, Some, None, refl, sym, ◌∙◌, ap}
+use Rattle.std.proofs.Common.{◌≡◌, ℕ, Bool, true, false, ◌&&◌, if◌then◌else◌, List, ◌∷◌, Option, Some, None, refl, sym, ◌∙◌, ap}
 use Rattle.std.specs.List.{list_any}
 use Rattle.std.specs.Option.{option_map, option_map_or}
 use Rattle.std.specs.Str.{bytes_eq}
-use Rattle.nsc_base.specs.Text.{words_of}
+use Rattle.nsc_base.specs.Text.{before_remark, words_of}
 use Rattle.nsc_model.specs.declared.row.Host.{Host}
 use Rattle.nsc_model.specs.Entries.{if_named}
-use Rattle.nsc_model.specs.Hosts.{Addressed, addressed_of, before_remark, host_addressed, host_has_name, host_of_line}
+use Rattle.nsc_model.specs.Hosts.{Addressed, addressed_of, host_addressed, host_has_name, host_of_line}
 use Rattle.nsc_model.specs.Users.{has_zero}
 use Rattle.nsc_nets.specs.declared.words.Case.TheVariants.{Ignored}
 use Rattle.nsc_nets.specs.Hosts.{host_of_formed, host_with}

@@ -1,5 +1,5 @@
 -- A text cut at the first byte of a kind.
-use Rattle.std.proofs.Common.{◌≡◌, ℕ, ◌+◌, ◌-◌, ◌<◌, ◌≤◌, Bool, true, false, List, [], length, get_or, take, drop, slice_range, Some, None, refl, sym, ◌∙◌, ap, arith, length-drop}
+use Rattle.std.proofs.Common.{◌≡◌, ℕ, ◌+◌, ◌-◌, ◌≤◌, Bool, true, false, List, [], length, take, drop, slice_range, Some, None, refl, sym, ◌∙◌, ap, arith, length-drop}
 use Rattle.std.specs.List.{after_first, before_first, position_or_len}
 use Rattle.std.proofs.lemmas.List.{drop-drop, drop-take, length-take, take-take, take_all, drop_all}
 use Rattle.std.proofs.lemmas.List.Sums.{position_or_len_is}

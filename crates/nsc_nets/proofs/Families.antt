@@ -1,16 +1,15 @@
 -- The first host of each family: of two families, the first host and the first of the other family.
-use Rattle.std.proofs.Common.{◌≡◌, ℕ, Bool, true, false, not, cond, ◌&&◌, ◌==◌, ◌⊎◌, inl, inr, if◌then◌else◌, List, [], ◌∷◌, drop, filter, map, Option, Some, None, refl, sym, ◌∙◌, ap, subst, arith}
+use Rattle.std.proofs.Common.{◌≡◌, ℕ, Bool, true, false, not, cond, ◌&&◌, ◌==◌, ◌⊎◌, inl, inr, if◌then◌else◌, List, [], ◌∷◌, drop, filter, Option, Some, None, refl, sym, ◌∙◌, ap, subst, arith}
 use Rattle.std.specs.List.{cons_option, filter_map}
 use Rattle.std.specs.Option.{option_map, option_or}
 use Rattle.std.proofs.lemmas.Bool.Decides.{Decides-eqb, nat_tests}
 use Rattle.nsc_base.specs.declared.span.Line.{Line}
 use Rattle.nsc_base.specs.Addresses.{v4_of, v6_of}
-use Rattle.nsc_base.specs.Text.{IsLine, lines_of, part, words_of}
-use Rattle.nsc_model.specs.declared.row.Ai.{Ai}
+use Rattle.nsc_base.specs.Text.{IsLine, before_remark, lines_of, part, words_of}
 use Rattle.nsc_model.specs.declared.row.Host.{Host}
 use Rattle.nsc_model.specs.Answers.{addresses_of, all_addresses}
 use Rattle.nsc_model.specs.Entries.{first_named, first_of, if_named, named_in}
-use Rattle.nsc_model.specs.Hosts.{Addressed, addressed_of, before_remark, family_once, host_has_name, host_of_line, host_of_words}
+use Rattle.nsc_model.specs.Hosts.{Addressed, addressed_of, family_once, host_has_name, host_of_line, host_of_words}
 use Rattle.nsc_model.specs.Users.{has_zero}
 use Rattle.nsc_nets.specs.declared.hosts.HostAt.{HostAt}
 use Rattle.nsc_nets.specs.Addresses.{found_at, founds_at, of_other_family}

@@ -1,8 +1,7 @@
 -- The entry of a line, from its first two words and those behind them.
-use Rattle.std.proofs.Common.{◌≡◌, ℕ, true, false, if◌then◌else◌, List, [], ◌∷◌, Option, Some, None, refl, sym, ◌∙◌, ap}
-use Rattle.nsc_base.specs.Text.{words_of}
-use Rattle.nsc_model.specs.declared.row.Host.{Host}
-use Rattle.nsc_model.specs.Hosts.{before_remark, host_of_line, host_of_words}
+use Rattle.std.proofs.Common.{◌≡◌, ℕ, true, false, if◌then◌else◌, List, [], ◌∷◌, Some, None, refl, sym, ap}
+use Rattle.nsc_base.specs.Text.{before_remark, words_of}
+use Rattle.nsc_model.specs.Hosts.{host_of_line, host_of_words}
 use Rattle.nsc_model.specs.Users.{has_zero}
 use Rattle.nsc_nets.specs.Hosts.{host_of_formed, host_of_two}
 use Rattle.nsc_nets.specs.Words.{TwoWords, two_of}

@@ -1,5 +1,5 @@
 -- The words of a part of a text, looked at one after another.
-use Rattle.std.proofs.Common.{◌≡◌, ℕ, Bool, true, false, ◌||◌, List, [], ◌∷◌, slice_range, refl, sym, ◌∙◌, ap}
+use Rattle.std.proofs.Common.{◌≡◌, ℕ, Bool, true, false, ◌||◌, List, [], slice_range, sym, ◌∙◌, ap}
 use Rattle.std.specs.List.{list_any}
 use Rattle.nsc_base.specs.declared.span.Line.{Line}
 use Rattle.nsc_base.specs.declared.span.Span.{Span}

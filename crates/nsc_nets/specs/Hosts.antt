@@ -1,14 +1,14 @@
 -- The address of a host's entry, and where its names stand in its text.
-use Rattle.std.specs.Prelude.{ℕ, ◌==◌, List, Option, Some, None, if◌then◌else◌, take}
+use Rattle.std.specs.Prelude.{ℕ, ◌==◌, List, Option, None, if◌then◌else◌, take}
 use Rattle.std.specs.Option.{option_map}
 use Rattle.nsc_base.specs.declared.span.Span.{Span}
-use Rattle.nsc_base.specs.Text.{part, words_of}
+use Rattle.nsc_base.specs.Text.{LiesIn, part, words_of}
 use Rattle.nsc_model.specs.declared.row.Host.{Host}
 use Rattle.nsc_model.specs.Hosts.{Addressed, addressed_of, ipv4}
 use Rattle.nsc_model.specs.Users.{has_zero}
 use Rattle.nsc_nets.specs.declared.hosts.Address.{Address}
 use Rattle.nsc_nets.specs.declared.hosts.HostAt.{HostAt}
-use Rattle.nsc_nets.specs.Words.{LiesIn, TwoWords}
+use Rattle.nsc_nets.specs.Words.{TwoWords}
 
 -- an address of IPv4 is in the first four bytes
 abbrev pub own_bytes : ℕ → List ℕ → List ℕ

@@ -1,14 +1,14 @@
 -- Where an entry of a services file stands in its text.
-use Rattle.std.specs.Prelude.{ℕ, ◌&&◌, ◌==◌, Bool, List, Option, Some, None, if◌then◌else◌, option_and_then}
+use Rattle.std.specs.Prelude.{ℕ, List, Option, Some, None, if◌then◌else◌}
 use Rattle.std.specs.List.{after_first, before_first}
 use Rattle.nsc_base.specs.declared.span.Span.{Span}
-use Rattle.nsc_base.specs.Text.{is_filled, part, words_of}
+use Rattle.nsc_base.specs.Text.{LiesIn, is_filled, part, words_of}
 use Rattle.nsc_model.specs.declared.row.Service.{Service}
 use Rattle.nsc_model.specs.ServiceLines.{is_slash, port_of}
 use Rattle.nsc_model.specs.Users.{◌>>=◌, has_zero}
 use Rattle.nsc_nets.specs.declared.services.PortAt.{PortAt}
 use Rattle.nsc_nets.specs.declared.services.ServiceAt.{ServiceAt}
-use Rattle.nsc_nets.specs.Words.{LiesIn, TwoWords}
+use Rattle.nsc_nets.specs.Words.{TwoWords}
 
 -- the entry whose texts stand in these places
 abbrev pub service_at : List ℕ → ServiceAt → Service

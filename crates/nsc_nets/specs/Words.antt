@@ -1,17 +1,11 @@
 -- The words of a line.
-use Rattle.std.specs.Prelude.{ℕ, ◌≤◌, Bool, List, [], ◌∷◌, Option, Some, None}
+use Rattle.std.specs.Prelude.{ℕ, Bool, List, ◌∷◌, Option, Some, None}
 use Rattle.std.specs.Str.{bytes_eq, str_eq_ignore_ascii_case}
 use Rattle.nsc_base.specs.declared.span.Span.{Span}
-use Rattle.nsc_base.specs.Text.{part, words_of}
+use Rattle.nsc_base.specs.Text.{LiesIn, part, words_of}
 use Rattle.nsc_nets.specs.declared.words.Case.{Case}
 use Rattle.nsc_nets.specs.declared.words.Case.TheVariants.{Counts, Ignored}
 use Rattle.nsc_nets.specs.declared.words.WordsAt.{WordsAt}
-
--- a span lies within another
-pub record LiesIn (within span : Span) : Type 0 where
-  pub begins : within.from ≤ span.from
-  pub ordered : span.from ≤ span.to
-  pub ends : span.to ≤ within.to
 
 -- two words, and the words behind them
 pub record TwoWords : Type 0 where

@@ -4,8 +4,8 @@ ghost use Rattle.std.specs.Str.{bytes_eq};
 ghost use Rattle.nsc_base.specs.declared.span.Span.{Span};
 ghost use Rattle.nsc_base.specs.Text.{is_filled, part};
 ghost use Rattle.nsc_model.specs.Entries.{first_named, if_named};
-ghost use Rattle.nsc_model.specs.ServiceLines.{service_named, service_of_line, service_ported};
 ghost use Rattle.nsc_model.specs.Hosts.{host_addressed, host_has_name, host_named, host_of_line};
+ghost use Rattle.nsc_model.specs.ServiceLines.{service_named, service_of_line, service_ported};
 ghost use Rattle.nsc_nets.specs.Hosts.{HostLiesIn, host_at};
 ghost use Rattle.nsc_nets.specs.Services.{ServiceLiesIn, service_at};
 

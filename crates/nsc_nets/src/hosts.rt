@@ -1,4 +1,4 @@
-ghost use Rattle.std.specs.Prelude.{◌≡◌, ◌≤◌, false, length, take, IfSome};
+ghost use Rattle.std.specs.Prelude.{◌≡◌, ◌≤◌, false, drop, length, replicate, take, IfSome};
 ghost use Rattle.std.specs.Option.{option_map, option_map_or};
 ghost use Rattle.std.specs.Str.{bytes_eq};
 ghost use Rattle.nsc_base.specs.Text.{part};
@@ -10,9 +10,10 @@ use crate::words::{WordsAt, line_words};
 use nsc_addr::{read_v4, read_v6};
 use nsc_base::{Span, has_zero_byte};
 
-// The address families of the protocol.
+// The address family of IPv4.
 const IPV4: u8 = 2;
 
+// The address family of IPv6.
 const IPV6: u8 = 10;
 
 /// The family of a host's entry and its address, and where its names stand in a text.
@@ -118,7 +119,8 @@ fn read_address(text: &[u8]) -> Option<Address>
 
 // The bytes of an IPv4 address, and zeros behind them.
 fn widened(v4: [u8; 4]) -> [u8; 16]
-    ensures { take 4 result ≡ v4 }
+    ensures address { take 4 result ≡ v4 }
+    ensures zeros { drop 4 result ≡ replicate 12 0 }
 {
     let [a, b, c, d] = v4;
     [a, b, c, d, 0, 0, 0, 0, 0, 0, 0, 0, 0, 0, 0, 0]

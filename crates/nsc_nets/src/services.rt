@@ -1,9 +1,9 @@
 ghost use Rattle.std.specs.Prelude.{◌≡◌, ◌≤◌, length, IfSome};
 ghost use Rattle.std.specs.Option.{option_map};
-ghost use Rattle.nsc_base.specs.Text.{part};
+ghost use Rattle.nsc_base.specs.Text.{LiesIn, part};
 ghost use Rattle.nsc_model.specs.ServiceLines.{port_of, service_of_line};
 ghost use Rattle.nsc_nets.specs.Services.{ServiceLiesIn, port_at, port_of_word, service_at, service_of_formed, service_of_two};
-ghost use Rattle.nsc_nets.specs.Words.{LiesIn, WordsLieIn, words_at};
+ghost use Rattle.nsc_nets.specs.Words.{WordsLieIn, words_at};
 
 use crate::words::{WordsAt, line_words};
 use memchr::memchr;

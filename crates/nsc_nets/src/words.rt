@@ -1,9 +1,8 @@
 ghost use Rattle.std.specs.Prelude.{◌≡◌, ◌≤◌, ◌∷◌, length, IfSome};
 ghost use Rattle.std.specs.List.{list_any};
 ghost use Rattle.std.specs.Option.{option_map};
-ghost use Rattle.nsc_base.specs.Text.{part, words_of};
-ghost use Rattle.nsc_model.specs.Hosts.{before_remark};
-ghost use Rattle.nsc_nets.specs.Words.{LiesIn, WordsLieIn, same_by, two_of, words_at};
+ghost use Rattle.nsc_base.specs.Text.{LiesIn, before_remark, part, words_of};
+ghost use Rattle.nsc_nets.specs.Words.{WordsLieIn, same_by, two_of, words_at};
 
 use memchr::memchr;
 use nsc_base::{Span, equal, word_at};

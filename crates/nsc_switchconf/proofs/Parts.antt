@@ -9,9 +9,9 @@ use Rattle.std.proofs.lemmas.List.{take_all}
 use Rattle.std.proofs.lemmas.List.Sums.{prefix_len_is, take_while-cons}
 use Rattle.std.proofs.lemmas.Slice.Eq.{strip_prefix_is}
 use Rattle.memchr.specs.Find.{IsFirstByte, is_byte}
-use Rattle.nsc_base.specs.Text.{is_white}
+use Rattle.nsc_base.specs.Text.{before_remark, is_white}
 use Rattle.nsc_model.specs.Users.{◌>>=◌, trimmed}
-use Rattle.nsc_model.specs.Switches.{ListName, Users, Groups, Hosts, Services, UsersCompat, GroupsCompat, before_remark, behind_colon, behind_text, name_text, own_part}
+use Rattle.nsc_model.specs.Switches.{ListName, Users, Groups, Hosts, Services, UsersCompat, GroupsCompat, behind_colon, behind_text, name_text, own_part}
 
 -- ---- remarks
 

@@ -1,7 +1,8 @@
 ghost use Rattle.std.specs.Prelude.{◌≡◌, length};
 ghost use Rattle.std.specs.Option.{option_copied};
 ghost use Rattle.nsc_model.specs.Users.{trimmed};
-ghost use Rattle.nsc_model.specs.Switches.{before_remark, first_line, name_text, own_part};
+ghost use Rattle.nsc_base.specs.Text.{before_remark};
+ghost use Rattle.nsc_model.specs.Switches.{first_line, name_text, own_part};
 ghost use Rattle.nsc_switchconf.specs.Steps.{name_of};
 
 use crate::step::DbName;

@@ -1,6 +1,6 @@
 ghost use Rattle.std.specs.Prelude.{◌≡◌};
 ghost use Rattle.std.specs.Option.{option_map};
-ghost use Rattle.nsc_model.specs.Switches.{action_named, service_named, status_named};
+ghost use Rattle.nsc_model.specs.Switches.{action_named, service_of_word, status_named};
 ghost use Rattle.nsc_switchconf.specs.Steps.{action_of, service_of};
 ghost use Rattle.nsc_switchconf.specs.Places.{status_of};
 
@@ -10,7 +10,7 @@ use nsc_base::equal;
 
 /// The service of this name.
 pub fn service(word: &[u8]) -> Service
-    ensures { service_of result ≡ service_named word.now }
+    ensures { service_of result ≡ service_of_word word.now }
 {
     if equal(word, b"files") {
         Service::Files

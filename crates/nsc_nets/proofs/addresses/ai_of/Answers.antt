@@ -1,7 +1,7 @@
-use Rattle.std.proofs.Common.{Some, refl, sym, ◌∙◌, ap}
+use Rattle.std.proofs.Common.{Some, ◌∙◌, ap}
 use Rattle.nsc_model.specs.declared.row.Ai.{Ai}
 use Rattle.nsc_model.specs.Hosts.{host_has_name, host_of_line}
-use Rattle.nsc_nets.proofs.Families.{addresses_are, no_addresses}
+use Rattle.nsc_nets.proofs.Families.{addresses_are}
 use Rattle.nsc_nets.proofs.Remaining.{named_behind}
 use Rattle.nsc_nets.proofs.addresses.ai_of.Goals as goal
 

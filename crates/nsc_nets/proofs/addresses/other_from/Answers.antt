@@ -1,4 +1,4 @@
-use Rattle.std.proofs.Common.{refl, sym, ◌∙◌}
+use Rattle.std.proofs.Common.{◌∙◌}
 use Rattle.nsc_model.specs.Hosts.{host_of_line}
 use Rattle.nsc_nets.specs.Addresses.{of_other_family}
 use Rattle.nsc_nets.specs.Hosts.{host_at}
