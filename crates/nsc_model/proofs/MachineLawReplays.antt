@@ -17,7 +17,7 @@ use Rattle.nsc_model.specs.Core.{Caller, Core, Note, opening}
 use Rattle.nsc_model.specs.Machine.{Cache, Passed, Stopped, Turn, look_up, tick, invalidated}
 use Rattle.nsc_model.specs.Calls.{IsOwn, IsBy, MovesOver, Drives, IsMoved, IsTurned, PassesBy, TurnsBy}
 use Rattle.nsc_model.specs.Frames.{Frame, Ask, Become, Reach, Clear, Stop, Finish}
-use Rattle.nsc_model.specs.Replay.{State, first_state, cache_of, with_cache, Went, framed, last_moment, looked_at, look_in, look_frame, unanswered, ask_frame, silent, become_frame, then_on, ticked_in, ticks, turn_of}
+use Rattle.nsc_model.specs.Replay.{State, first_state, cache_of, with_cache, Went, framed, last_moment, looked_at, look_frame, unanswered, ask_frame, silent, then_on, ticked_in, ticks, turn_of}
 use Rattle.nsc_model.specs.Replies.{AllDrive, AllMove, IsGiven, IsReplied, RepliesTo, left_on, left_looked, left_ticked, left_ticks, left_look, left_asked, left_by, stopped_in, PlayedThen, EachReplied}
 use Rattle.nsc_model.proofs.CoreLaw.{changed, noting}
 use Rattle.nsc_model.proofs.MachineLaw.{opening_drives, files_drive, look_up_turns, tick_passes, invalidation_passes}

@@ -7,7 +7,7 @@ use Rattle.nsc_base.specs.Text.{fields_of, is_filled, lines_of}
 use Rattle.nsc_model.specs.declared.row.Passwd.{Passwd}
 use Rattle.nsc_model.specs.declared.row.Group.{Group}
 use Rattle.nsc_model.specs.declared.row.Looked.{Looked}
-use Rattle.nsc_model.specs.declared.row.Looked.TheVariants.{Found, NotFound, Unavail}
+use Rattle.nsc_model.specs.declared.row.Looked.TheVariants.{NotFound, Unavail}
 use Rattle.nsc_model.specs.Users.{has_zero, trimmed}
 
 -- ---- lines
