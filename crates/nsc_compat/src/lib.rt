@@ -1,6 +1,7 @@
 //! The service compat of nsswitch.conf(5): the plus and minus lines of passwd and group files.
 #![tactic(auto)]
 
+mod excluded;
 mod lookup;
 mod sub;
 
