@@ -3,7 +3,6 @@
 
 mod groups;
 mod lookup;
-mod members;
 mod users;
 
 pub use lookup::{extra_lookup, files_lookup};

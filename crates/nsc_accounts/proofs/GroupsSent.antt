@@ -15,9 +15,9 @@ use Rattle.nsc_model.specs.Groups.{group_of_fields, group_of_line, members_of}
 use Rattle.nsc_model.specs.Wire.{IsText, IsGroup, field, text, text_len, group_found}
 use Rattle.nsc_accounts.specs.declared.group.GroupAt.{GroupAt}
 use Rattle.nsc_accounts.specs.Group.{GroupLiesIn, group_at}
-use Rattle.nsc_files.proofs.Keeps.{named_keeps}
-use Rattle.nsc_files.proofs.Texts.{decimal_fits, has_zero-pieces, has_zero-trimmed, is_text, or_false}
-use Rattle.nsc_files.proofs.UsersSent.{part_length}
+use Rattle.nsc_accounts.proofs.Keeps.{named_keeps}
+use Rattle.nsc_accounts.proofs.Texts.{decimal_fits, has_zero-pieces, has_zero-trimmed, is_text, or_false}
+use Rattle.nsc_accounts.proofs.UsersSent.{part_length}
 
 -- pieces without a zero byte are texts
 all_texts : (pieces : List (List ℕ)) → list_any has_zero pieces ≡ false → All IsText (filter is_filled pieces)

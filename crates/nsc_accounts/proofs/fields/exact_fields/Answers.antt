@@ -1,7 +1,7 @@
 use Rattle.std.proofs.Common.{◌≤◌, ◌<◌, length, length-set, arith, ◌∙◌}
 use Rattle.nsc_base.specs.Text.{fields_of, fields_between, part}
 use Rattle.nsc_accounts.proofs.Counts.{all_found, count_is, cut_more, just_enough, lie_more, too_many}
-use Rattle.nsc_accounts.proofs.fields.fields.Goals as goal
+use Rattle.nsc_accounts.proofs.fields.exact_fields.Goals as goal
 
 pub loop-span-preserved : goal.loop-span-preserved
 loop-span-preserved g c =

@@ -1,8 +1,8 @@
 use Rattle.std.proofs.Common.{◌≡◌, ◌+◌, ◌-◌, ◌≤◌, ◌++◌}
 use Rattle.nsc_base.specs.Text.{part}
 use Rattle.nsc_model.specs.Groups.{members_of}
-use Rattle.nsc_files.proofs.Gathered.{members_from}
-use Rattle.nsc_files.proofs.members.members.Given as goal
+use Rattle.nsc_accounts.proofs.Gathered.{members_from}
+use Rattle.nsc_accounts.proofs.rows.members.Given as goal
 
 -- those that were gathered, and those from this place on
 abbrev pub invariant-loop-piece : goal.invariant-loop-piece

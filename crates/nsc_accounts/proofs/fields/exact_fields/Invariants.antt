@@ -2,7 +2,7 @@ use Rattle.std.proofs.Common.{◌≡◌, ◌≤◌, ◌++◌, map, take, length}
 use Rattle.std.specs.List.{AllWithin}
 use Rattle.nsc_base.specs.Text.{fields_between, fields_of, part}
 use Rattle.nsc_accounts.specs.Passwd.{LiesIn}
-use Rattle.nsc_accounts.proofs.fields.fields.Given as goal
+use Rattle.nsc_accounts.proofs.fields.exact_fields.Given as goal
 
 abbrev pub invariant-loop-span : goal.invariant-loop-span
 invariant-loop-span g l = record {

@@ -12,8 +12,8 @@ use Rattle.nsc_model.specs.Files.{file_limit}
 use Rattle.nsc_model.specs.Marked.{reply_limit}
 use Rattle.nsc_model.specs.Groups.{group_of_line, has_member}
 use Rattle.nsc_model.specs.Wire.{field, ids_found}
-use Rattle.nsc_files.proofs.Keeps.{named_all_keep}
-use Rattle.nsc_files.proofs.GroupsSent.{line_is_group}
+use Rattle.nsc_accounts.proofs.Keeps.{named_all_keep}
+use Rattle.nsc_accounts.proofs.GroupsSent.{line_is_group}
 
 once_all : (P : ℕ → Type 0) (numbers : List ℕ) → All P numbers → All P (each_once numbers)
 once_all P [] all = All-nil P

@@ -13,8 +13,8 @@ use Rattle.nsc_model.specs.Users.{has_zero, is_name, trimmed, user_of_fields, us
 use Rattle.nsc_model.specs.Wire.{IsUser, passwd_found}
 use Rattle.nsc_accounts.specs.declared.passwd.PasswdAt.{PasswdAt}
 use Rattle.nsc_accounts.specs.Passwd.{LiesIn, UserLiesIn, user_at}
-use Rattle.nsc_files.proofs.Keeps.{named_keeps}
-use Rattle.nsc_files.proofs.Texts.{decimal_fits, has_zero-pieces, has_zero-trimmed, is_text, or_false}
+use Rattle.nsc_accounts.proofs.Keeps.{named_keeps}
+use Rattle.nsc_accounts.proofs.Texts.{decimal_fits, has_zero-pieces, has_zero-trimmed, is_text, or_false}
 
 -- an entry made of fields without a zero byte
 made : (name passwd : List ℕ) (uid gid : Option ℕ) (gecos dir shell : List ℕ) (is : Bool) (p : Passwd) → has_zero name ≡ false → has_zero passwd ≡ false → IfSome uid (λ n. n < 2 ^ 32) → IfSome gid (λ n. n < 2 ^ 32) → has_zero gecos ≡ false → has_zero dir ≡ false → has_zero shell ≡ false → option_and_then (λ user. option_and_then (λ group. if is then Some (record { name = name; passwd = passwd; uid = user; gid = group; gecos = gecos; dir = dir; shell = shell }) else None) gid) uid ≡ Some p → IsUser p
