@@ -3,6 +3,7 @@
 
 mod excluded;
 mod lookup;
+mod mark;
 mod sub;
 
 pub use lookup::compat_lookup;
