@@ -1,10 +1,12 @@
 //! The service compat of nsswitch.conf(5): the plus and minus lines of passwd and group files.
 #![tactic(auto)]
 
+mod asking;
 mod excluded;
 mod lookup;
 mod mark;
 mod sub;
+mod users;
 
 pub use lookup::compat_lookup;
 pub use sub::{NamedId, SubLookup};

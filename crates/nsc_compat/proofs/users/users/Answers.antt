@@ -1,0 +1,17 @@
+use Rattle.std.proofs.Common.{◌∙◌, ap, rules}
+use Rattle.nsc_model.specs.Compat.{scanned_file}
+use Rattle.nsc_compat.specs.Wanted.{users_asked}
+use Rattle.nsc_compat.proofs.Scans.{line_answers, line_passed}
+use Rattle.nsc_compat.proofs.users.users.Goals as goal
+
+pub returns-in-Some-2 : goal.returns-in-Some-2
+returns-in-Some-2 g c =
+    line_answers (users_asked c.args.asking.now) c.in-Some.text.now c.loop-line.from c.in-Some-line_at.line c.loop-line.excluded c.user_line.new.excluded c.in_ok-outcome.field-0 c.in-Some-2.outcome
+    c.in-Some-line_at.ensures.line c.in_ok-outcome.ensures c.in-Some-2.is c.loop-line.invariant.left
+    ∙ ap (scanned_file (users_asked c.args.asking.now)) c.in-Some.ensures.value
+
+pub loop-line-preserved : goal.loop-line-preserved
+loop-line-preserved g c = record {
+  inside = c.in-Some-line_at.ensures.line.next_ends;
+  left = line_passed (users_asked c.args.asking.now) c.in-Some.text.now c.loop-line.from c.in-Some-line_at.line c.loop-line.excluded c.user_line.new.excluded c.in_ok-outcome.field-0 c.in-Some-line_at.ensures.line c.in_ok-outcome.ensures (search rules) c.loop-line.invariant.left;
+}
