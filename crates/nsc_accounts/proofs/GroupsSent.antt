@@ -70,7 +70,7 @@ found_is_group names bytes g h = named_keeps IsGroup group_of_line names bytes g
 -- ---- how long a group's reply is
 
 -- pieces take their bytes and a separator each
-all_sizes : List (List ℕ) → ℕ
+pub all_sizes : List (List ℕ) → ℕ
 all_sizes [] = 0
 all_sizes (piece ∷ pieces) = length piece + 1 + all_sizes pieces
 
@@ -103,21 +103,21 @@ filled_sizes (piece ∷ pieces) =
       | false ↦ omega (arith, later)
     ]
 
-members_sizes : (members : List ℕ) → all_sizes (members_of members) ≤ length members + 1
+pub members_sizes : (members : List ℕ) → all_sizes (members_of members) ≤ length members + 1
 members_sizes members = omega (arith, filled_sizes (fields_of 44 members), pieces_sizes (λ b. b == 44) members)
 
 -- the lengths and the texts of members
-lengths_size : (members : List (List ℕ)) → length (flat_map text_len members) ≤ 4 * all_sizes members
+pub lengths_size : (members : List (List ℕ)) → length (flat_map text_len members) ≤ 4 * all_sizes members
 unfolding all_sizes
 lengths_size [] = omega arith
 lengths_size (m ∷ members) = omega (arith, length-append (text_len m) (flat_map text_len members), lengths_size members)
 
-texts_size : (members : List (List ℕ)) → length (flat_map text members) ≡ all_sizes members
+pub texts_size : (members : List (List ℕ)) → length (flat_map text members) ≡ all_sizes members
 unfolding all_sizes
 texts_size [] = refl
 texts_size (m ∷ members) = omega (arith, length-append (text m) (flat_map text members), length-append m (0 ∷ []), texts_size members)
 
-group_length : (g : Group) → length (group_found g) ≡ 26 + length g.name + length g.passwd + length (flat_map text_len g.members) + length (flat_map text g.members)
+pub group_length : (g : Group) → length (group_found g) ≡ 26 + length g.name + length g.passwd + length (flat_map text_len g.members) + length (flat_map text g.members)
 group_length g = simp length-append (omega arith)
 
 -- a reply of a line of a file

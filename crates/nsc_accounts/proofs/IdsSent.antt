@@ -15,7 +15,7 @@ use Rattle.nsc_model.specs.Wire.{field, ids_found}
 use Rattle.nsc_accounts.proofs.Keeps.{named_all_keep}
 use Rattle.nsc_accounts.proofs.GroupsSent.{line_is_group}
 
-once_all : (P : ℕ → Type 0) (numbers : List ℕ) → All P numbers → All P (each_once numbers)
+pub once_all : (P : ℕ → Type 0) (numbers : List ℕ) → All P numbers → All P (each_once numbers)
 once_all P [] all = All-nil P
 once_all P (n ∷ numbers) all = All-cons P n (filter (λ m. not (m == n)) (each_once numbers)) (All-head P n numbers all) (All-filter (λ m. not (m == n)) P (each_once numbers) (once_all P numbers (All-tail P n numbers all)))
 
@@ -26,7 +26,7 @@ ids_fit user file =
 
 -- ---- how many there are
 
-filter_fewer : {A : Type 0} (p : A → Bool) (xs : List A) → length (filter p xs) ≤ length xs
+pub filter_fewer : {A : Type 0} (p : A → Bool) (xs : List A) → length (filter p xs) ≤ length xs
 filter_fewer p [] = omega arith
 filter_fewer p (x ∷ xs) =
     let later = filter_fewer p xs in
@@ -39,7 +39,7 @@ once_fewer : (numbers : List ℕ) → length (each_once numbers) ≤ length numb
 once_fewer [] = omega arith
 once_fewer (n ∷ numbers) = omega (arith, filter_fewer (λ m. not (m == n)) (each_once numbers), once_fewer numbers)
 
-entries_fewer : {A : Type 0} (entry_of : List ℕ → Option A) (lines : List (List ℕ)) → length (filter_map entry_of lines) ≤ length lines
+pub entries_fewer : {A : Type 0} (entry_of : List ℕ → Option A) (lines : List (List ℕ)) → length (filter_map entry_of lines) ≤ length lines
 entries_fewer entry_of [] = omega arith
 entries_fewer entry_of (line ∷ lines) =
     let later = entries_fewer entry_of lines in
@@ -53,7 +53,7 @@ first_more : (b : ℕ) (lines : List (List ℕ)) → length (onto_first b lines)
 first_more b [] = omega arith
 first_more b (line ∷ lines) = omega arith
 
-lines_fewer : (text : List ℕ) → length (lines_of text) ≤ length text
+pub lines_fewer : (text : List ℕ) → length (lines_of text) ≤ length text
 lines_fewer [] = omega arith
 lines_fewer (b ∷ bytes) =
     let later = lines_fewer bytes in
@@ -71,7 +71,7 @@ ids_count : (user file : List ℕ) → length (ids_of user file) ≤ length file
 ids_count user file =
     omega (arith, once_fewer (map (λ (g : Group). g.gid) (named_in group_of_line (has_member user) file)), gids_many (named_in group_of_line (has_member user) file), filter_fewer (has_member user) (filter_map group_of_line (lines_of file)), entries_fewer group_of_line (lines_of file), lines_fewer file)
 
-ids_size : (ids : List ℕ) → length (flat_map field ids) ≡ 4 * length ids
+pub ids_size : (ids : List ℕ) → length (flat_map field ids) ≡ 4 * length ids
 ids_size [] = refl
 ids_size (id ∷ ids) = omega (arith, length-append (field id) (flat_map field ids), ids_size ids)
 
@@ -81,7 +81,7 @@ ids_reply_fits user file small =
     let e : length (ids_found ids) ≡ 12 + length (flat_map field ids) = simp length-append (omega arith) in
     omega (arith, e, ids_size ids, ids_count user file)
 
-some_sent : (ids : List ℕ) → All (λ id. id < 2 ^ 32) ids → length (ids_found ids) ≤ reply_limit → Sendable InitGroups (found_ids ids)
+pub some_sent : (ids : List ℕ) → All (λ id. id < 2 ^ 32) ids → length (ids_found ids) ≤ reply_limit → Sendable InitGroups (found_ids ids)
 some_sent [] all fits = record { of_kind = tt; fits = search rules }
 some_sent (id ∷ ids) all fits = record { of_kind = all; fits = fits }
 

@@ -46,7 +46,7 @@ user_of_clean (a ∷ b ∷ c ∷ d ∷ e ∷ f ∷ g ∷ []) p clean h =
 user_of_clean (a ∷ b ∷ c ∷ d ∷ e ∷ f ∷ g ∷ i ∷ more) p clean h = cc
 
 -- the entry of a line
-line_is_user : (line : List ℕ) (p : Passwd) → user_of_line line ≡ Some p → IsUser p
+pub line_is_user : (line : List ℕ) (p : Passwd) → user_of_line line ≡ Some p → IsUser p
 line_is_user line p h =
     elim (has_zero line) as (λ v. has_zero line ≡ v → (if v then None else user_of_fields (fields_of 58 (trimmed line))) ≡ Some p → IsUser p) [
       | true ↦ λ is e. cc
@@ -60,7 +60,7 @@ found_is_user names bytes p h = named_keeps IsUser user_of_line names bytes p li
 pub part_length : (bytes : List ℕ) (span : Span) → LiesIn (record { from = 0; to = length bytes }) span → length (part bytes span) ≤ length bytes
 part_length bytes span lies = omega (arith, length-take (span.to - span.from) (drop span.from bytes), lies.ends)
 
-reply_length : (p : Passwd) → length (passwd_found p) ≡ 41 + length p.name + length p.passwd + length p.gecos + length p.dir + length p.shell
+pub reply_length : (p : Passwd) → length (passwd_found p) ≡ 41 + length p.name + length p.passwd + length p.gecos + length p.dir + length p.shell
 reply_length p = simp length-append (omega arith)
 
 -- a reply of five texts of a file

@@ -14,12 +14,18 @@ abbrev pub names_entry : Wanted → List ℕ → ℕ → Bool
 names_entry (Name key) name id = bytes_eq name key.now
 names_entry (Id wanted) name id = is_id wanted id
 
+abbrev pub wanted_user : Wanted → Passwd → Bool
+wanted_user wanted p = names_entry wanted p.name p.uid
+
+abbrev pub wanted_group : Wanted → Group → Bool
+wanted_group wanted g = names_entry wanted g.name g.gid
+
 -- the scans of a request for a user, and for a group
 abbrev pub users_asked : Asking → Scan Passwd
-users_asked asking = user_scan asking.content.now asking.kind asking.key.now (λ p. names_entry asking.wanted p.name p.uid)
+users_asked asking = user_scan asking.content.now asking.kind asking.key.now (wanted_user asking.wanted)
 
 abbrev pub groups_asked : Asking → Scan Group
-groups_asked asking = group_scan asking.content.now asking.kind asking.key.now (λ g. names_entry asking.wanted g.name g.gid)
+groups_asked asking = group_scan asking.content.now asking.kind asking.key.now (wanted_group asking.wanted)
 
 -- an outcome that a line has, or else that of the lines behind it
 abbrev pub looked_or : Option Looked → Looked → Looked

@@ -15,15 +15,15 @@ pub enum Wanted<'a> {
 
 /// A request for one entry, and the content that it is asked over.
 #[derive(Clone, Copy)]
-pub struct Asking<'a> {
+pub struct Asking<'c, 'k> {
     /// The content.
-    pub content: &'a Content,
+    pub content: &'c Content,
     /// The kind of the request.
     pub kind: Kind,
     /// The key of the request.
-    pub key: &'a [u8],
+    pub key: &'k [u8],
     /// What the request names.
-    pub wanted: Wanted<'a>,
+    pub wanted: Wanted<'k>,
 }
 
 /// Whether the request names the entry of this name and id.

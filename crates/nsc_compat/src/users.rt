@@ -1,31 +1,59 @@
 ghost use Rattle.std.specs.Prelude.{◌≡◌, ◌≤◌, ◌∷◌, ℕ, List, [], All, IfOk, length, map, if◌then◌else◌, true, Some};
 ghost use Rattle.nsc_base.specs.Text.{fields_of, lines_of, part};
 ghost use Rattle.nsc_model.specs.declared.kind.Db.TheVariants as db;
-ghost use Rattle.nsc_model.specs.Answers.{sub_looked, user_in};
+ghost use Rattle.nsc_model.specs.Answers.{sub_looked, user_in, user_scan};
 ghost use Rattle.nsc_model.specs.Compat.{answers_or, is_excluded, own_or, replaced_user, scanned, scanned_file};
 ghost use Rattle.nsc_model.specs.Kinds.{database_of};
+ghost use Rattle.nsc_model.specs.Sendable.{Sendable};
 ghost use Rattle.nsc_model.specs.Users.{user_of_line};
 ghost use Rattle.nsc_accounts.specs.Passwd.{LiesIn};
-ghost use Rattle.nsc_compat.specs.Wanted.{looked_or, users_asked};
+ghost use Rattle.nsc_compat.specs.Wanted.{looked_or, users_asked, wanted_user};
 
-use crate::asking::{Asking, names_entry};
+use crate::asking::{Asking, Wanted, names_entry};
 use crate::excluded::Excluded;
 use crate::mark::{Mark, mark_of};
 use crate::sub::SubLookup;
 use nsc_accounts::{exact_fields, passwd_line, user_row};
 use nsc_base::{Bytes, NoMemory, Span, line_at};
-use nsc_model::{FileId, Kind, Looked, Passwd, Row};
+use nsc_model::{Content, FileId, Kind, Looked, Passwd, Row};
 use std::alloc::Global;
 
 /// The outcome of compat for a request for a user: the lines of the passwd file in turn, with the names that are excluded
 /// so far, up to the first one that answers. Unavailable where the file is absent. Fails only for want of memory.
-pub fn users<S: SubLookup>(alloc: Global, asking: &Asking, sub: &S) -> Result<Looked, NoMemory>
-    requires { database_of asking.now.kind ≡ db.Passwd }
-    ensures { IfOk result (λ looked. looked ≡ scanned_file (users_asked asking.now) asking.now.content.now.passwd) }
+pub fn users<S: SubLookup>(
+    alloc: Global,
+    content: &Content,
+    kind: Kind,
+    key: &[u8],
+    wanted: Wanted,
+    sub: &S,
+) -> Result<Looked, NoMemory>
+    requires { database_of kind ≡ db.Passwd }
+    ensures outcome { IfOk result (λ looked. looked ≡ scanned_file (user_scan content.now kind key.now (wanted_user wanted.entry)) content.now.passwd) }
+    ensures sendable { IfOk result (λ looked. Sendable kind looked) }
 {
-    let Some(text) = asking.content.file(FileId::Passwd) else {
-        return Ok(Looked::Unavail);
+    let asking = Asking {
+        content,
+        kind,
+        key,
+        wanted,
     };
+    match content.file(FileId::Passwd) {
+        Some(text) => scan_users(alloc, &asking, sub, text),
+        None => Ok(Looked::Unavail),
+    }
+}
+
+// The outcome over the text of a passwd file.
+fn scan_users<S: SubLookup>(
+    alloc: Global,
+    asking: &Asking,
+    sub: &S,
+    text: &[u8],
+) -> Result<Looked, NoMemory>
+    requires { database_of asking.now.kind ≡ db.Passwd }
+    ensures { IfOk result (λ looked. looked ≡ scanned (users_asked asking.now) (lines_of text.now) []) }
+{
     let mut excluded = Excluded::new(alloc);
     let mut from = 0;
     while let Some(line) = line_at(text, from) {

@@ -2,7 +2,7 @@ use Rattle.std.proofs.Common.{◌≡◌, ◌≤◌, ◌-◌, [], drop, length}
 use Rattle.nsc_base.specs.Text.{lines_of}
 use Rattle.nsc_model.specs.Compat.{scanned}
 use Rattle.nsc_compat.specs.Wanted.{users_asked}
-use Rattle.nsc_compat.proofs.users.users.Given as goal
+use Rattle.nsc_compat.proofs.users.scan_users.Given as goal
 
 -- the lines that are left decide, with the names that are excluded so far
 abbrev pub invariant-loop-line : goal.invariant-loop-line
