@@ -3,6 +3,7 @@
 
 mod asking;
 mod excluded;
+mod groups;
 mod lookup;
 mod mark;
 mod sub;
