@@ -30,7 +30,7 @@ all_texts (piece ∷ pieces) clean =
       | false ↦ later
     ]
 
-members_are_texts : (members : List ℕ) → has_zero members ≡ false → All IsText (members_of members)
+pub members_are_texts : (members : List ℕ) → has_zero members ≡ false → All IsText (members_of members)
 members_are_texts members clean = all_texts (fields_of 44 members) (has_zero-pieces (λ b. b == 44) members clean)
 
 -- an entry made of fields without a zero byte

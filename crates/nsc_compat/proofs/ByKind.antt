@@ -19,3 +19,13 @@ unfolding compat_answer
 user_by_id files by key id is number =
     ap (λ (n : Option ℕ). scanned_file (user_scan files by key (λ (p : Passwd). is_id n p.uid)) files.passwd) number
     ∙ ap (λ k. scanned_file (user_scan files k key (user_numbered key)) files.passwd) is ∙ sym (ap (λ k. compat_by k files key) is)
+
+pub group_by_name : (files : Files) (by : Kind) (key : List ℕ) → by ≡ kind.GrName → scanned_file (group_scan files by key (group_named key)) files.group ≡ compat_answer files (record { kind = by; key = key })
+unfolding compat_answer
+group_by_name files by key is = ap (λ k. scanned_file (group_scan files k key (group_named key)) files.group) is ∙ sym (ap (λ k. compat_by k files key) is)
+
+pub group_by_id : (files : Files) (by : Kind) (key : List ℕ) (id : Option ℕ) → by ≡ kind.GrGid → id ≡ decimal_of key → scanned_file (group_scan files by key (λ g. is_id id g.gid)) files.group ≡ compat_answer files (record { kind = by; key = key })
+unfolding compat_answer
+group_by_id files by key id is number =
+    ap (λ (n : Option ℕ). scanned_file (group_scan files by key (λ (g : Group). is_id n g.gid)) files.group) number
+    ∙ ap (λ k. scanned_file (group_scan files k key (group_numbered key)) files.group) is ∙ sym (ap (λ k. compat_by k files key) is)

@@ -7,3 +7,4 @@ pub mod Keeping
 pub mod KeptTexts
 pub mod UsersKept
 pub mod ByKind
+pub mod GroupsKept

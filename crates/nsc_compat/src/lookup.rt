@@ -3,6 +3,7 @@ ghost use Rattle.nsc_model.specs.Answers.{compat_answer};
 ghost use Rattle.nsc_model.specs.Sendable.{Sendable};
 
 use crate::asking::Wanted;
+use crate::groups::groups;
 use crate::sub::SubLookup;
 use crate::users::users;
 use nsc_base::{NoMemory, decimal};
@@ -26,7 +27,9 @@ pub fn compat_lookup<S: SubLookup>(
     match kind {
         Kind::PwName => users(alloc, content, kind, key, Wanted::Name(key), sub),
         Kind::PwUid => users(alloc, content, kind, key, Wanted::Id(decimal(key)), sub),
-        Kind::GrName | Kind::GrGid | Kind::InitGroups => Err(NoMemory),
+        Kind::GrName => groups(alloc, content, kind, key, Wanted::Name(key), sub),
+        Kind::GrGid => groups(alloc, content, kind, key, Wanted::Id(decimal(key)), sub),
+        Kind::InitGroups => Err(NoMemory),
         Kind::HostName
         | Kind::HostName6
         | Kind::HostAddr
