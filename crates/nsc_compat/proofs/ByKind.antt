@@ -6,7 +6,7 @@ use Rattle.nsc_model.specs.declared.kind.Kind.{Kind}
 use Rattle.nsc_model.specs.declared.kind.Kind.TheVariants as kind
 use Rattle.nsc_model.specs.declared.row.Passwd.{Passwd}
 use Rattle.nsc_model.specs.declared.row.Group.{Group}
-use Rattle.nsc_model.specs.Answers.{compat_answer, compat_by, group_named, group_numbered, group_scan, is_id, user_named, user_numbered, user_scan}
+use Rattle.nsc_model.specs.Answers.{compat_answer, compat_by, gathered_file, group_named, group_numbered, group_scan, id_scan, is_id, user_named, user_numbered, user_scan}
 use Rattle.nsc_model.specs.Compat.{scanned_file}
 use Rattle.nsc_model.specs.Files.{Files}
 
@@ -29,3 +29,7 @@ unfolding compat_answer
 group_by_id files by key id is number =
     ap (λ (n : Option ℕ). scanned_file (group_scan files by key (λ (g : Group). is_id n g.gid)) files.group) number
     ∙ ap (λ k. scanned_file (group_scan files k key (group_numbered key)) files.group) is ∙ sym (ap (λ k. compat_by k files key) is)
+
+pub ids_of_user : (files : Files) (by : Kind) (user : List ℕ) → by ≡ kind.InitGroups → gathered_file (id_scan files user) files.group ≡ compat_answer files (record { kind = by; key = user })
+unfolding compat_answer
+ids_of_user files by user is = sym (ap (λ k. compat_by k files user) is)

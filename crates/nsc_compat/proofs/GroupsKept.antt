@@ -22,7 +22,7 @@ use Rattle.nsc_model.specs.Groups.{group_of_fields, group_of_line, members_of}
 use Rattle.nsc_model.specs.Wire.{IsText}
 use Rattle.nsc_accounts.proofs.Texts.{decimal_fits}
 use Rattle.nsc_accounts.proofs.GroupsSent.{all_sizes, group_length, lengths_size, members_are_texts, members_sizes, texts_size}
-use Rattle.nsc_compat.proofs.Keeping.{SaidKeeps, file_keeps, scan_keeps, switched_keeps}
+use Rattle.nsc_compat.proofs.Keeping.{SaidKeeps, file_keeps, scan_keeps, short_lines, switched_keeps}
 use Rattle.nsc_compat.proofs.KeptTexts.{KeptText, fields_kept}
 use Rattle.nsc_compat.proofs.SaidForms.{IsSaid, line_form}
 
@@ -71,10 +71,10 @@ abbrev FindsKept : Looked → Type 0
 FindsKept looked = IfSome (group_in looked) KeptGroup
 
 by_name_finds : (file : Option (List ℕ)) (key : List ℕ) → FileFits file → FindsKept (answer_by GrName file key)
-by_name_finds file key fits = file_keeps FindsKept KeptGroup row.Group group_of_line (group_named key) tt tt (λ g kept. kept) of_line file fits
+by_name_finds file key fits = file_keeps FindsKept KeptGroup (λ line. length line ≤ file_limit) row.Group group_of_line (group_named key) tt tt (λ g kept. kept) of_line file (short_lines file fits)
 
 by_id_finds : (file : Option (List ℕ)) (key : List ℕ) → FileFits file → FindsKept (answer_by GrGid file key)
-by_id_finds file key fits = file_keeps FindsKept KeptGroup row.Group group_of_line (group_numbered key) tt tt (λ g kept. kept) of_line file fits
+by_id_finds file key fits = file_keeps FindsKept KeptGroup (λ line. length line ≤ file_limit) row.Group group_of_line (group_numbered key) tt tt (λ g kept. kept) of_line file (short_lines file fits)
 
 service_finds_name : (files : Files) (key : List ℕ) → FilesFit files → (service : SwitchService) → FindsKept (sub_answer files (record { kind = GrName; key = key }) service)
 service_finds_name files key fit Local = by_name_finds files.group key fit.group_fits

@@ -2,7 +2,7 @@
 use Rattle.std.proofs.Common.{◌≡◌, ℕ, Bool, true, false, not, cond, ◌&&◌, if◌then◌else◌, List, [], ◌∷◌, filter, length, All, ◌≤◌, Option, Some, None, IfSome, Result, Ok, Err, IfOk, refl, sym, ◌∙◌, ap, subst}
 use Rattle.std.specs.List.{cons_option, filter_map}
 use Rattle.std.specs.Option.{option_or}
-use Rattle.std.proofs.lemmas.List.Elements.{All-head, All-tail}
+use Rattle.std.proofs.lemmas.List.Elements.{All-cons, All-head, All-nil, All-tail}
 use Rattle.nsc_base.specs.declared.memory.NoMemory.{NoMemory}
 use Rattle.nsc_base.specs.Text.{lines_of}
 use Rattle.nsc_model.specs.declared.kind.Kind.{Kind}
@@ -31,18 +31,18 @@ switched_keeps P look none each (step ∷ next ∷ steps) =
 
 -- ---- files
 
-first_keeps : {A : Type 0} (P : A → Type 0) (entry_of : List ℕ → Option A) (names : A → Bool) (n : ℕ) (lines : List (List ℕ)) → AllShort n lines → ((line : List ℕ) (x : A) → length line ≤ n → entry_of line ≡ Some x → P x)
+first_keeps : {A : Type 0} (P : A → Type 0) (L : List ℕ → Type 0) (entry_of : List ℕ → Option A) (names : A → Bool) (lines : List (List ℕ)) → All L lines → ((line : List ℕ) (x : A) → L line → entry_of line ≡ Some x → P x)
     → IfSome (first_of (filter names (filter_map entry_of lines))) P
-first_keeps P entry_of names n [] all each = tt
-first_keeps {A} P entry_of names n (line ∷ lines) all each =
+first_keeps P L entry_of names [] all each = tt
+first_keeps {A} P L entry_of names (line ∷ lines) all each =
     let others = filter_map entry_of lines in
-    let later : IfSome (first_of (filter names others)) P = first_keeps P entry_of names n lines (All-tail (λ l. length l ≤ n) line lines all) each in
+    let later : IfSome (first_of (filter names others)) P = first_keeps P L entry_of names lines (All-tail L line lines all) each in
     subst (λ (o : Option A). IfSome o P) (sym (first_step names (entry_of line) others))
     (elim (entry_of line) as (λ o. entry_of line ≡ o → IfSome (option_or (if_named names o) (first_of (filter names others))) P) [
       | None ↦ λ is. later
       | Some entry ↦ λ is.
           elim (names entry) as (λ v. IfSome (option_or (if v then Some entry else None) (first_of (filter names others))) P) [
-            | true ↦ each line entry (All-head (λ l. length l ≤ n) line lines all) is
+            | true ↦ each line entry (All-head L line lines all) is
             | false ↦ later
           ]
     ] refl)
@@ -51,11 +51,35 @@ found_keeps : {A : Type 0} (P : Looked → Type 0) (Q : A → Type 0) (row_of : 
 found_keeps P Q row_of none each None q = none
 found_keeps P Q row_of none each (Some x) q = each x q
 
-pub file_keeps : {A : Type 0} (P : Looked → Type 0) (Q : A → Type 0) (row_of : A → Row) (entry_of : List ℕ → Option A) (names : A → Bool) → P NotFound → P Unavail → ((x : A) → Q x → P (Found (row_of x)))
-    → ((line : List ℕ) (x : A) → length line ≤ file_limit → entry_of line ≡ Some x → Q x) → (file : Option (List ℕ)) → FileFits file → P (file_entry row_of entry_of names file)
-file_keeps P Q row_of entry_of names none lacking each form None fits = lacking
-file_keeps P Q row_of entry_of names none lacking each form (Some file) fits =
-    found_keeps P Q row_of none each (first_named entry_of names file) (first_keeps Q entry_of names file_limit (lines_of file) (file_lines_short file_limit file fits) form)
+-- what holds of every line of a file, where it is there
+abbrev pub EachLine : (List ℕ → Type 0) → Option (List ℕ) → Type 0
+EachLine L file = IfSome file (λ bytes. All L (lines_of bytes))
+
+pub short_lines : (file : Option (List ℕ)) → FileFits file → EachLine (λ line. length line ≤ file_limit) file
+short_lines None fits = tt
+short_lines (Some bytes) fits = file_lines_short file_limit bytes fits
+
+pub file_keeps : {A : Type 0} (P : Looked → Type 0) (Q : A → Type 0) (L : List ℕ → Type 0) (row_of : A → Row) (entry_of : List ℕ → Option A) (names : A → Bool) → P NotFound → P Unavail → ((x : A) → Q x → P (Found (row_of x)))
+    → ((line : List ℕ) (x : A) → L line → entry_of line ≡ Some x → Q x) → (file : Option (List ℕ)) → EachLine L file → P (file_entry row_of entry_of names file)
+file_keeps P Q L row_of entry_of names none lacking each form None all = lacking
+file_keeps P Q L row_of entry_of names none lacking each form (Some file) all =
+    found_keeps P Q row_of none each (first_named entry_of names file) (first_keeps Q L entry_of names (lines_of file) all form)
+
+-- all entries that are named
+pub all_keep : {A : Type 0} (P : A → Type 0) (L : List ℕ → Type 0) (entry_of : List ℕ → Option A) (names : A → Bool) (lines : List (List ℕ)) → All L lines → ((line : List ℕ) (x : A) → L line → entry_of line ≡ Some x → P x)
+    → All P (filter names (filter_map entry_of lines))
+all_keep P L entry_of names [] all each = All-nil P
+all_keep P L entry_of names (line ∷ lines) all each =
+    let others = filter_map entry_of lines in
+    let later = all_keep P L entry_of names lines (All-tail L line lines all) each in
+    elim (entry_of line) as (λ o. entry_of line ≡ o → All P (filter names (cons_option o others))) [
+      | None ↦ λ is. later
+      | Some x ↦ λ is.
+          elim (names x) as (λ v. All P (cond v (x ∷ filter names others) (filter names others))) [
+            | true ↦ All-cons P x (filter names others) (each line x (All-head L line lines all) is) later
+            | false ↦ later
+          ]
+    ] refl
 
 -- ---- scans
 

@@ -8,3 +8,5 @@ pub mod KeptTexts
 pub mod UsersKept
 pub mod ByKind
 pub mod GroupsKept
+pub mod Ids
+pub mod IdsKept

@@ -22,7 +22,7 @@ use Rattle.nsc_model.specs.Users.{has_zero, is_name, trimmed, user_of_fields, us
 use Rattle.nsc_model.specs.Wire.{IsUser, passwd_found}
 use Rattle.nsc_accounts.proofs.Texts.{decimal_fits}
 use Rattle.nsc_accounts.proofs.UsersSent.{reply_length}
-use Rattle.nsc_compat.proofs.Keeping.{SaidKeeps, file_keeps, scan_keeps, switched_keeps}
+use Rattle.nsc_compat.proofs.Keeping.{SaidKeeps, file_keeps, scan_keeps, short_lines, switched_keeps}
 use Rattle.nsc_compat.proofs.KeptTexts.{KeptText, fields_kept, own_kept}
 use Rattle.nsc_compat.proofs.SaidForms.{IsSaid, line_form}
 
@@ -106,10 +106,10 @@ abbrev FindsKept : Looked → Type 0
 FindsKept looked = IfSome (user_in looked) KeptUser
 
 by_name_finds : (file : Option (List ℕ)) (key : List ℕ) → FileFits file → FindsKept (answer_by PwName file key)
-by_name_finds file key fits = file_keeps FindsKept KeptUser row.Passwd user_of_line (user_named key) tt tt (λ p kept. kept) of_line file fits
+by_name_finds file key fits = file_keeps FindsKept KeptUser (λ line. length line ≤ file_limit) row.Passwd user_of_line (user_named key) tt tt (λ p kept. kept) of_line file (short_lines file fits)
 
 by_id_finds : (file : Option (List ℕ)) (key : List ℕ) → FileFits file → FindsKept (answer_by PwUid file key)
-by_id_finds file key fits = file_keeps FindsKept KeptUser row.Passwd user_of_line (user_numbered key) tt tt (λ p kept. kept) of_line file fits
+by_id_finds file key fits = file_keeps FindsKept KeptUser (λ line. length line ≤ file_limit) row.Passwd user_of_line (user_numbered key) tt tt (λ p kept. kept) of_line file (short_lines file fits)
 
 service_finds_name : (files : Files) (key : List ℕ) → FilesFit files → (service : SwitchService) → FindsKept (sub_answer files (record { kind = PwName; key = key }) service)
 service_finds_name files key fit Local = by_name_finds files.passwd key fit.passwd_fits

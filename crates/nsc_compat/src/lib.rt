@@ -6,6 +6,7 @@ mod excluded;
 mod groups;
 mod lookup;
 mod mark;
+mod member_ids;
 mod sub;
 mod users;
 

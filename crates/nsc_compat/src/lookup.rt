@@ -4,6 +4,7 @@ ghost use Rattle.nsc_model.specs.Sendable.{Sendable};
 
 use crate::asking::Wanted;
 use crate::groups::groups;
+use crate::member_ids::ids_of_user;
 use crate::sub::SubLookup;
 use crate::users::users;
 use nsc_base::{NoMemory, decimal};
@@ -29,7 +30,7 @@ pub fn compat_lookup<S: SubLookup>(
         Kind::PwUid => users(alloc, content, kind, key, Wanted::Id(decimal(key)), sub),
         Kind::GrName => groups(alloc, content, kind, key, Wanted::Name(key), sub),
         Kind::GrGid => groups(alloc, content, kind, key, Wanted::Id(decimal(key)), sub),
-        Kind::InitGroups => Err(NoMemory),
+        Kind::InitGroups => ids_of_user(alloc, content, key, sub),
         Kind::HostName
         | Kind::HostName6
         | Kind::HostAddr
