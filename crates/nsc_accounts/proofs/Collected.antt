@@ -12,16 +12,11 @@ use Rattle.nsc_model.specs.declared.row.Group.{Group}
 use Rattle.nsc_model.specs.Answers.{each_once, ids_of}
 use Rattle.nsc_model.specs.Entries.{if_named, named_in}
 use Rattle.nsc_model.specs.Groups.{group_of_line, has_member}
-use Rattle.nsc_accounts.specs.Once.{with_id}
+use Rattle.nsc_accounts.specs.Once.{all_ids, with_id}
 
 -- the ids of the groups that have the user as a member, with repeats
 abbrev pub member_ids : List ℕ → List ℕ → List ℕ
 member_ids user file = map (λ g. g.gid) (named_in group_of_line (has_member user) file)
-
--- more ids behind others, each where it is not there yet
-abbrev pub all_ids : List ℕ → List ℕ → List ℕ
-all_ids ids [] = ids
-all_ids ids (n ∷ more) = all_ids (with_id ids n) more
 
 -- whether ids lack a number
 abbrev lack : List ℕ → ℕ → Bool

@@ -8,7 +8,7 @@ use Rattle.nsc_model.specs.Groups.{group_of_fields, group_of_line}
 use Rattle.nsc_accounts.specs.Fields.{exactly, fields_of_line}
 
 -- a part without its first bytes
-part-drop : (text : List ℕ) (line : Span) (w : ℕ) → w ≤ length (part text line) → drop w (part text line) ≡ part text (record { from = line.from + w; to = line.to })
+pub part-drop : (text : List ℕ) (line : Span) (w : ℕ) → w ≤ length (part text line) → drop w (part text line) ≡ part text (record { from = line.from + w; to = line.to })
 part-drop text line w l =
     let all = drop line.from text in
     let m = line.to - (line.from + w) in

@@ -30,7 +30,7 @@ pub fn may_be_name(text: &[u8]) -> bool
 }
 
 /// The fields of a part of a text, between its colons, where there are exactly `N`.
-pub fn fields<const N: usize>(text: &[u8], within: Span) -> Option<[Span; N]>
+pub fn exact_fields<const N: usize>(text: &[u8], within: Span) -> Option<[Span; N]>
     requires ordered { within.from ≤ within.to }
     requires inside { within.to ≤ length text.now }
     ensures fields { option_map (map (part text.now)) result ≡ exactly N (fields_of 58 (part text.now within)) }
@@ -64,5 +64,5 @@ pub fn line_fields<const N: usize>(text: &[u8], line: Span) -> Option<[Span; N]>
         from: line.from + white_front(bytes),
         to: line.to,
     };
-    fields::<N>(text, black)
+    exact_fields::<N>(text, black)
 }

@@ -8,11 +8,15 @@ mod group;
 mod members;
 mod once;
 mod passwd;
+mod rows;
 
+pub use fields::{exact_fields, white_front};
 pub use find::{find_group_by_gid, find_group_by_name, find_passwd_by_name, find_passwd_by_uid};
 pub use group::{GroupAt, group_line};
 pub use members::{groups_of, has_member};
+pub use once::OnceIds;
 pub use passwd::{PasswdAt, passwd_line};
+pub use rows::{group_row, user_row};
 
 #[cfg(test)]
 mod tests;

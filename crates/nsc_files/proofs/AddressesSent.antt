@@ -16,8 +16,8 @@ use Rattle.nsc_model.specs.Marked.{reply_limit}
 use Rattle.nsc_model.specs.Sendable.{Sendable, reply_to}
 use Rattle.nsc_model.specs.Wire.{IsAddress, IsAddressesReply, addresses_found, addresses_reply}
 use Rattle.nsc_files.proofs.HostsSent.{IsHostIn, address_short, line_is_host}
-use Rattle.nsc_files.proofs.Keeps.{named_all_keep_short}
-use Rattle.nsc_files.proofs.Sizes.{all_sizes, entries_fewer, filter_fewer, lines_fewer}
+use Rattle.nsc_accounts.proofs.Keeps.{named_all_keep_short}
+use Rattle.nsc_accounts.proofs.Sizes.{all_sizes, entries_fewer, filter_fewer, lines_fewer}
 
 -- the hosts that give the addresses
 once_all : (P : Host → Type 0) (hosts : List Host) → All P hosts → All P (family_once hosts)

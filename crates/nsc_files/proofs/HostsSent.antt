@@ -17,9 +17,9 @@ use Rattle.nsc_model.specs.Sendable.{Sendable, reply_to}
 use Rattle.nsc_model.specs.Users.{has_zero}
 use Rattle.nsc_model.specs.Wire.{IsAddress, IsHost, IsHostReply, IsText, host_found, host_reply, text, text_len}
 use Rattle.nsc_nets.proofs.Lengths.{exactly-length, v6-length}
-use Rattle.nsc_files.proofs.Keeps.{named_keeps_short}
-use Rattle.nsc_files.proofs.Sizes.{all_sizes, lengths_size, texts_size, words_sizes}
-use Rattle.nsc_files.proofs.Texts.{has_zero-take, words_are_texts}
+use Rattle.nsc_accounts.proofs.Keeps.{named_keeps_short}
+use Rattle.nsc_accounts.proofs.Sizes.{all_sizes, lengths_size, texts_size, words_sizes}
+use Rattle.nsc_accounts.proofs.Texts.{has_zero-take, words_are_texts}
 
 -- an entry that can be sent, whose names have room in so many bytes
 pub record IsHostIn (size : ℕ) (h : Host) : Type 0 where

@@ -1,11 +1,4 @@
-pub mod Sizes
-pub mod Texts
-pub mod Keeps
 pub mod Numbers
-pub mod Gathered
-pub mod UsersSent
-pub mod GroupsSent
-pub mod IdsSent
 pub mod HostsSent
 pub mod AddressesSent
 pub mod ServicesSent

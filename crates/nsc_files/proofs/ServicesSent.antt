@@ -17,9 +17,9 @@ use Rattle.nsc_model.specs.Sendable.{Sendable, reply_to}
 use Rattle.nsc_model.specs.ServiceLines.{is_slash, port_of, service_key, service_of_line, service_of_words}
 use Rattle.nsc_model.specs.Users.{has_zero}
 use Rattle.nsc_model.specs.Wire.{IsService, IsServiceReply, IsText, service_found, service_reply, text, text_len}
-use Rattle.nsc_files.proofs.Keeps.{named_keeps_short}
-use Rattle.nsc_files.proofs.Sizes.{all_sizes, lengths_size, texts_size, words_sizes}
-use Rattle.nsc_files.proofs.Texts.{has_zero-take, text-drop, words_are_texts}
+use Rattle.nsc_accounts.proofs.Keeps.{named_keeps_short}
+use Rattle.nsc_accounts.proofs.Sizes.{all_sizes, lengths_size, texts_size, words_sizes}
+use Rattle.nsc_accounts.proofs.Texts.{has_zero-take, text-drop, words_are_texts}
 
 -- an entry that can be sent, whose texts have room in so many bytes
 pub record IsServiceIn (size : ℕ) (s : Service) : Type 0 where

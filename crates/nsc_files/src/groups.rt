@@ -4,12 +4,10 @@ ghost use Rattle.nsc_model.specs.Answers.{file_entry, file_ids, found_ids, group
 ghost use Rattle.nsc_model.specs.Groups.{group_of_line};
 ghost use Rattle.nsc_model.specs.Files.{file_limit};
 ghost use Rattle.nsc_model.specs.Sendable.{Sendable};
-ghost use Rattle.nsc_accounts.specs.Group.{GroupLiesIn, group_at};
 
-use crate::members::members;
-use nsc_accounts::{GroupAt, find_group_by_gid, find_group_by_name, groups_of};
-use nsc_base::{Bytes, Ids, NoMemory, decimal};
-use nsc_model::{Group, Looked, Row};
+use nsc_accounts::{find_group_by_gid, find_group_by_name, group_row, groups_of};
+use nsc_base::{Ids, NoMemory, decimal};
+use nsc_model::{Looked, Row};
 use std::alloc::Global;
 
 /// The outcome of a look-up of a group's name over the text of a group file. Fails only for want of memory.
@@ -19,7 +17,7 @@ pub fn group_by_name(alloc: Global, text: &[u8], name: &[u8]) -> Result<Looked, 
     ensures sendable { IfOk result (λ looked. Sendable GrName looked) }
 {
     match find_group_by_name(text, name) {
-        Some(at) => Ok(Looked::Found(group_row(alloc, text, &at)?)),
+        Some(at) => Ok(Looked::Found(Row::Group(group_row(alloc, text, &at)?))),
         None => Ok(Looked::NotFound),
     }
 }
@@ -35,7 +33,7 @@ pub fn group_by_id(alloc: Global, text: &[u8], key: &[u8]) -> Result<Looked, NoM
         return Ok(Looked::NotFound);
     };
     match find_group_by_gid(text, gid) {
-        Some(at) => Ok(Looked::Found(group_row(alloc, text, &at)?)),
+        Some(at) => Ok(Looked::Found(Row::Group(group_row(alloc, text, &at)?))),
         None => Ok(Looked::NotFound),
     }
 }
@@ -60,17 +58,4 @@ fn outcome_of(ids: Ids) -> Looked
     } else {
         Looked::Found(Row::Groups(ids))
     }
-}
-
-// The row of a group whose entry stands at these places of a text.
-fn group_row(alloc: Global, text: &[u8], at: &GroupAt) -> Result<Row, NoMemory>
-    requires { GroupLiesIn (record { from = 0; to = length text.now }) at.now }
-    ensures { IfOk result (λ row. row ≡ Row.Group (group_at text.now at.now)) }
-{
-    Ok(Row::Group(Group {
-        name: Bytes::copy(alloc, &text[at.name.from..at.name.to])?,
-        passwd: Bytes::copy(alloc, &text[at.passwd.from..at.passwd.to])?,
-        gid: at.gid,
-        members: members(alloc, text, at.members)?,
-    }))
 }

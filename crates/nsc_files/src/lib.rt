@@ -4,7 +4,6 @@
 mod groups;
 mod hosts;
 mod lookup;
-mod members;
 mod services;
 mod users;
 mod words;

@@ -1,7 +1,7 @@
 ghost use Rattle.std.specs.Prelude.{◌≡◌, ◌≤◌, ◌↔◌, IsTrue, IfSome, Option, length};
 ghost use Rattle.std.specs.Arc.{arc_value};
 ghost use Rattle.std.specs.Option.{option_copied, option_map};
-ghost use Rattle.nsc_model.specs.Files.{no_files, file_of, with_file, file_limit, same_file, same_files};
+ghost use Rattle.nsc_model.specs.Files.{FilesFit, no_files, file_of, with_file, file_limit, same_file, same_files};
 
 use crate::kind::FileId;
 use nsc_base::Bytes;
@@ -116,10 +116,11 @@ impl Content {
         self.files[file as usize] = bytes.map(Text::shared);
     }
 
-    /// The bytes of a file, at most 16,777,216; `None` where it is absent.
+    /// The bytes of a file, at most 16,777,216; `None` where it is absent. The other files have no more, either.
     pub fn file(&self, file: FileId) -> Option<&[u8]>
         ensures value { option_copied result ≡ file_of self.now file }
         ensures bound { IfSome result (λ b. length b.now ≤ file_limit) }
+        ensures all_fit { FilesFit self.now }
     {
         self.files[file as usize]
             .as_ref()

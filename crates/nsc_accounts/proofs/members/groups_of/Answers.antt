@@ -1,5 +1,6 @@
 use Rattle.std.proofs.Common.{refl, ap, ◌∙◌, arith}
-use Rattle.nsc_accounts.proofs.Collected.{all_ids, ids_behind, ids_end, ids_more, ids_start, member_ids}
+use Rattle.nsc_accounts.specs.Once.{all_ids}
+use Rattle.nsc_accounts.proofs.Collected.{ids_behind, ids_end, ids_more, ids_start, member_ids}
 use Rattle.nsc_accounts.proofs.members.groups_of.Goals as goal
 
 pub loop-line-init : goal.loop-line-init

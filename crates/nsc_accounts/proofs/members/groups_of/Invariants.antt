@@ -1,6 +1,7 @@
 use Rattle.std.proofs.Common.{◌≡◌, ◌≤◌, ◌-◌, length, drop}
 use Rattle.nsc_model.specs.Answers.{ids_of}
-use Rattle.nsc_accounts.proofs.Collected.{all_ids, member_ids}
+use Rattle.nsc_accounts.specs.Once.{all_ids}
+use Rattle.nsc_accounts.proofs.Collected.{member_ids}
 use Rattle.nsc_accounts.proofs.members.groups_of.Given as goal
 
 abbrev pub invariant-loop-line : goal.invariant-loop-line

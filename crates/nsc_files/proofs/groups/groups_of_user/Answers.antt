@@ -3,7 +3,7 @@ use Rattle.nsc_model.specs.declared.kind.Kind.TheVariants.{InitGroups}
 use Rattle.nsc_model.specs.declared.row.Looked.{Looked}
 use Rattle.nsc_model.specs.Answers.{found_ids}
 use Rattle.nsc_model.specs.Sendable.{Sendable}
-use Rattle.nsc_files.proofs.IdsSent.{ids_sent}
+use Rattle.nsc_accounts.proofs.IdsSent.{ids_sent}
 use Rattle.nsc_files.proofs.groups.groups_of_user.Goals as goal
 
 pub returns-clause-sendable : goal.returns-clause-sendable

@@ -1,0 +1,58 @@
+ghost use Rattle.std.specs.Prelude.{◌≡◌, ◌≤◌, length, IfOk};
+ghost use Rattle.nsc_base.specs.Text.{part};
+ghost use Rattle.nsc_model.specs.Groups.{members_of};
+ghost use Rattle.nsc_accounts.specs.Group.{GroupLiesIn, group_at};
+ghost use Rattle.nsc_accounts.specs.Passwd.{UserLiesIn, user_at};
+
+use crate::group::GroupAt;
+use crate::passwd::PasswdAt;
+use nsc_base::{Bytes, NoMemory, Span, Texts, field_at};
+use nsc_model::{Group, Passwd};
+use std::alloc::Global;
+
+/// The user whose entry stands at these places of a text, with copies of its texts. Fails only for want of memory.
+pub fn user_row(alloc: Global, text: &[u8], at: &PasswdAt) -> Result<Passwd, NoMemory>
+    requires { UserLiesIn (record { from = 0; to = length text.now }) at.now }
+    ensures { IfOk result (λ user. user ≡ user_at text.now at.now) }
+{
+    Ok(Passwd {
+        name: Bytes::copy(alloc, &text[at.name.from..at.name.to])?,
+        passwd: Bytes::copy(alloc, &text[at.passwd.from..at.passwd.to])?,
+        uid: at.uid,
+        gid: at.gid,
+        gecos: Bytes::copy(alloc, &text[at.gecos.from..at.gecos.to])?,
+        dir: Bytes::copy(alloc, &text[at.dir.from..at.dir.to])?,
+        shell: Bytes::copy(alloc, &text[at.shell.from..at.shell.to])?,
+    })
+}
+
+/// The group whose entry stands at these places of a text, with copies of its texts. Fails only for want of memory.
+pub fn group_row(alloc: Global, text: &[u8], at: &GroupAt) -> Result<Group, NoMemory>
+    requires { GroupLiesIn (record { from = 0; to = length text.now }) at.now }
+    ensures { IfOk result (λ group. group ≡ group_at text.now at.now) }
+{
+    Ok(Group {
+        name: Bytes::copy(alloc, &text[at.name.from..at.name.to])?,
+        passwd: Bytes::copy(alloc, &text[at.passwd.from..at.passwd.to])?,
+        gid: at.gid,
+        members: members(alloc, text, at.members)?,
+    })
+}
+
+// The members that a part of a text names: the pieces between commas that are not empty.
+fn members(alloc: Global, text: &[u8], within: Span) -> Result<Texts, NoMemory>
+    requires ordered { within.from ≤ within.to }
+    requires inside { within.to ≤ length text.now }
+    ensures { IfOk result (λ members. members ≡ members_of (part text.now within)) }
+{
+    let mut members = Vec::new(alloc);
+    let mut from = within.from;
+    while let Some(piece) = field_at(text, within, from, b',') {
+        let member = &text[piece.span.from..piece.span.to];
+        if !member.is_empty() {
+            members.push(Bytes::copy(alloc, member)?)?;
+        }
+        from = piece.next;
+    }
+    Ok(Texts::from_vec(members))
+}

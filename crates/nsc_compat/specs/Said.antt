@@ -1,0 +1,27 @@
+-- What a line says, by the places of its parts.
+use Rattle.std.specs.Prelude.{ℕ, List, Option}
+use Rattle.nsc_base.specs.declared.span.Span.{Span}
+use Rattle.nsc_base.specs.Text.{fields_of, part}
+use Rattle.nsc_model.specs.Compat as compat
+use Rattle.nsc_model.specs.Compat.{Says, says_entry}
+use Rattle.nsc_accounts.specs.Passwd.{LiesIn}
+use Rattle.nsc_compat.specs.declared.mark.Mark.{Mark}
+use Rattle.nsc_compat.specs.declared.mark.Mark.TheVariants.{Plain, Excludes, Asks, AsksAll, Netgroup, Nothing}
+
+-- where the line, as an entry, is this one
+abbrev pub said_as : {A : Type 0} → List ℕ → Option A → Mark → Says A
+said_as text entry Plain = says_entry entry
+said_as text entry (Excludes name) = compat.Excludes (part text name)
+said_as text entry (Asks name all) = compat.Asks (part text name) (fields_of 58 (part text all))
+said_as text entry (AsksAll all) = compat.AsksAll (fields_of 58 (part text all))
+said_as text entry Netgroup = compat.Netgroup
+said_as text entry Nothing = compat.Nothing
+
+-- the places lie within a span
+abbrev pub MarkIn : Span → Mark → Type 0
+MarkIn within Plain = Unit {0}
+MarkIn within (Excludes name) = LiesIn within name
+MarkIn within (Asks name all) = LiesIn within name × LiesIn within all
+MarkIn within (AsksAll all) = LiesIn within all
+MarkIn within Netgroup = Unit {0}
+MarkIn within Nothing = Unit {0}
