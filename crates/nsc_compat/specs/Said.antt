@@ -1,10 +1,9 @@
 -- What a line says, by the places of its parts.
 use Rattle.std.specs.Prelude.{ℕ, List, Option}
 use Rattle.nsc_base.specs.declared.span.Span.{Span}
-use Rattle.nsc_base.specs.Text.{fields_of, part}
+use Rattle.nsc_base.specs.Text.{LiesIn, fields_of, part}
 use Rattle.nsc_model.specs.Compat as compat
 use Rattle.nsc_model.specs.Compat.{Says, says_entry}
-use Rattle.nsc_accounts.specs.Passwd.{LiesIn}
 use Rattle.nsc_compat.specs.declared.mark.Mark.{Mark}
 use Rattle.nsc_compat.specs.declared.mark.Mark.TheVariants.{Plain, Excludes, Asks, AsksAll, Netgroup, Nothing}
 

@@ -1,11 +1,10 @@
 ghost use Rattle.std.specs.Prelude.{◌≡◌, ◌+◌, ◌<◌, ◌≤◌, Option, length};
-ghost use Rattle.nsc_base.specs.Text.{fields_of, part};
+ghost use Rattle.nsc_base.specs.Text.{LiesIn, fields_of, part};
 ghost use Rattle.nsc_model.specs.declared.row.Passwd.{Passwd};
 ghost use Rattle.nsc_model.specs.declared.row.Group.{Group};
 ghost use Rattle.nsc_model.specs.Compat.{first_field, says, says_by, says_minus, says_plus};
 ghost use Rattle.nsc_model.specs.Users.{user_of_line};
 ghost use Rattle.nsc_model.specs.Groups.{group_of_line};
-ghost use Rattle.nsc_accounts.specs.Passwd.{LiesIn};
 ghost use Rattle.nsc_compat.specs.Said.{MarkIn, said_as};
 
 use nsc_accounts::white_front;

@@ -1,12 +1,11 @@
 ghost use Rattle.std.specs.Prelude.{◌≡◌, ◌≤◌, ◌∷◌, ℕ, List, [], All, IfOk, length, map, if◌then◌else◌, true, Some};
-ghost use Rattle.nsc_base.specs.Text.{fields_of, lines_of, part};
+ghost use Rattle.nsc_base.specs.Text.{LiesIn, fields_of, lines_of, part};
 ghost use Rattle.nsc_model.specs.declared.kind.Db.TheVariants as db;
 ghost use Rattle.nsc_model.specs.Answers.{sub_looked, user_in, user_scan};
 ghost use Rattle.nsc_model.specs.Compat.{answers_or, is_excluded, own_or, replaced_user, scanned, scanned_file};
 ghost use Rattle.nsc_model.specs.Kinds.{database_of};
 ghost use Rattle.nsc_model.specs.Sendable.{Sendable};
 ghost use Rattle.nsc_model.specs.Users.{user_of_line};
-ghost use Rattle.nsc_accounts.specs.Passwd.{LiesIn};
 ghost use Rattle.nsc_compat.specs.Wanted.{looked_or, users_asked, wanted_user};
 
 use crate::asking::{Asking, Wanted, names_entry};
