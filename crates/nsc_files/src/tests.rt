@@ -1,6 +1,6 @@
 use crate::{extra_lookup, files_lookup};
 use nsc_base::{Bytes, NoMemory};
-use nsc_model::{Content, FileId, Host, Kind, Looked, Row, Service};
+use nsc_model::{Ai, Content, FileId, Kind, Looked, Row};
 use std::alloc::Global;
 use std::test::Fail;
 
@@ -100,115 +100,131 @@ fn nets(alloc: Global) -> Result<Content, NoMemory> {
     Ok(content)
 }
 
-// What stands for an outcome here: the name and the address of a host, the name and the protocol of a service, and the
-// canonical name and the last of the addresses of a host.
-fn named(looked: &Looked) -> Option<(&[u8], &[u8])> {
+// Whether the name and the address of a host are found, the name and the protocol of a service, or the canonical name of a
+// host and the last of its addresses; nothing where no name is given.
+fn is_told(looked: &Looked, name: &[u8], other: &[u8]) -> bool {
     match looked {
-        Looked::Found(Row::Host(host)) => Some((host.name.as_slice(), host.address.as_slice())),
-        Looked::Found(Row::Service(service)) => Some((
-            service.name.as_slice(),
-            service.proto.as_slice(),
-        )),
-        Looked::Found(Row::Ai(ai)) => {
-            let last = ai.list.as_slice().last()?;
-            Some((ai.canon.as_slice(), last.address.as_slice()))
-        }
-        _ => None,
+        Looked::Found(Row::Host(host)) => host.name.as_slice() == name
+            && host.address.as_slice() == other,
+        Looked::Found(Row::Service(service)) => service.name.as_slice() == name
+            && service.proto.as_slice() == other,
+        Looked::Found(Row::Ai(ai)) => ai.canon.as_slice() == name && last_address(ai) == other,
+        Looked::NotFound => name.is_empty(),
+        _ => false,
+    }
+}
+
+// The last address of a host.
+fn last_address(ai: &Ai) -> &[u8] {
+    match ai.list.as_slice() {
+        [.., last] => last.address.as_slice(),
+        [] => &[],
     }
 }
 
 const FD00_1: &[u8] = b"\xfd\0\0\0\0\0\0\0\0\0\0\0\0\0\0\x01";
 
-// A kind, a key, and what the service files gives. The port of a key has its bytes exchanged: 5632 for 22, 13568 for 53.
-const NETS: [(Kind, &[u8], Option<(&[u8], &[u8])>); 31] = [
-    (
-        Kind::HostName,
-        b"localhost",
-        Some((b"localhost", b"\x7f\0\0\x01")),
-    ),
-    (Kind::HostName, b"ALPHA", Some((b"alpha", b"\x0a\0\0\x01"))),
-    (Kind::HostName, b"a1", Some((b"alpha", b"\x0a\0\0\x01"))),
-    (Kind::HostName, b"six", None),
-    (Kind::HostName, b"v6", None),
-    (Kind::HostName, b"", None),
-    (Kind::HostName6, b"six", Some((b"alpha", FD00_1))),
-    (Kind::HostName6, b"alpha", Some((b"alpha", FD00_1))),
-    (Kind::HostName6, b"localhost", None),
-    (
-        Kind::HostAddr,
-        b"\x0a\0\0\x02",
-        Some((b"alpha", b"\x0a\0\0\x02")),
-    ),
-    (Kind::HostAddr, b"\x0a\0\0\x03", None),
-    (Kind::HostAddr, b"alpha", None),
-    (Kind::HostAddr6, FD00_1, Some((b"alpha", FD00_1))),
-    (Kind::Ai, b"alpha", Some((b"alpha", FD00_1))),
-    (
-        Kind::Ai,
-        b"localhost",
-        Some((b"localhost", b"\x7f\0\0\x01")),
-    ),
-    (Kind::Ai, b"beta", None),
-    (Kind::ServName, b"ssh/tcp", Some((b"ssh", b"tcp"))),
-    (Kind::ServName, b"ssh/udp", None),
-    (Kind::ServName, b"SSH/tcp", None),
-    (Kind::ServName, b"ssh", Some((b"ssh", b"tcp"))),
-    (Kind::ServName, b"ssh/", Some((b"ssh", b"tcp"))),
-    (Kind::ServName, b"nameserver/tcp", Some((b"domain", b"tcp"))),
-    (Kind::ServName, b"domain/udp", Some((b"domain", b"udp"))),
-    (Kind::ServName, b"and/or/tcp", Some((b"and/or", b"tcp"))),
-    (Kind::ServName, b"/tcp", None),
-    (Kind::ServPort, b"5632/tcp", Some((b"ssh", b"tcp"))),
-    (Kind::ServPort, b"005632", Some((b"ssh", b"tcp"))),
-    (Kind::ServPort, b"22/tcp", None),
-    (Kind::ServPort, b"13568/udp", Some((b"domain", b"udp"))),
-    (Kind::ServPort, b"71168/tcp", None),
-    (Kind::ServPort, b"ssh/tcp", None),
+// A kind, a key, and the name and the other text of what the service files finds.
+const HOST_REQUESTS: [(Kind, &[u8], &[u8], &[u8]); 16] = [
+    (Kind::HostName, b"localhost", b"localhost", b"\x7f\0\0\x01"),
+    (Kind::HostName, b"ALPHA", b"alpha", b"\x0a\0\0\x01"),
+    (Kind::HostName, b"a1", b"alpha", b"\x0a\0\0\x01"),
+    (Kind::HostName, b"six", b"", b""),
+    (Kind::HostName, b"v6", b"", b""),
+    (Kind::HostName, b"", b"", b""),
+    (Kind::HostName6, b"six", b"alpha", FD00_1),
+    (Kind::HostName6, b"alpha", b"alpha", FD00_1),
+    (Kind::HostName6, b"localhost", b"", b""),
+    (Kind::HostAddr, b"\x0a\0\0\x02", b"alpha", b"\x0a\0\0\x02"),
+    (Kind::HostAddr, b"\x0a\0\0\x03", b"", b""),
+    (Kind::HostAddr, b"alpha", b"", b""),
+    (Kind::HostAddr6, FD00_1, b"alpha", FD00_1),
+    (Kind::Ai, b"alpha", b"alpha", FD00_1),
+    (Kind::Ai, b"localhost", b"localhost", b"\x7f\0\0\x01"),
+    (Kind::Ai, b"beta", b"", b""),
+];
+
+// The port of a key has its two bytes exchanged: 5632 for 22, 13568 for 53.
+const SERVICE_REQUESTS: [(Kind, &[u8], &[u8], &[u8]); 15] = [
+    (Kind::ServName, b"ssh/tcp", b"ssh", b"tcp"),
+    (Kind::ServName, b"ssh/udp", b"", b""),
+    (Kind::ServName, b"SSH/tcp", b"", b""),
+    (Kind::ServName, b"ssh", b"ssh", b"tcp"),
+    (Kind::ServName, b"ssh/", b"ssh", b"tcp"),
+    (Kind::ServName, b"nameserver/tcp", b"domain", b"tcp"),
+    (Kind::ServName, b"domain/udp", b"domain", b"udp"),
+    (Kind::ServName, b"and/or/tcp", b"and/or", b"tcp"),
+    (Kind::ServName, b"/tcp", b"", b""),
+    (Kind::ServPort, b"5632/tcp", b"ssh", b"tcp"),
+    (Kind::ServPort, b"005632", b"ssh", b"tcp"),
+    (Kind::ServPort, b"22/tcp", b"", b""),
+    (Kind::ServPort, b"13568/udp", b"domain", b"udp"),
+    (Kind::ServPort, b"71168/tcp", b"", b""),
+    (Kind::ServPort, b"ssh/tcp", b"", b""),
 ];
 
 #[test]
-fn net_services(rt: HostRuntime) -> Result<(), Fail> {
+fn hosts(rt: HostRuntime) -> Result<(), Fail> {
     let alloc = rt.alloc();
     let content = nets(alloc)?;
-    for (kind, key, wanted) in &NETS {
+    for (kind, key, name, other) in &HOST_REQUESTS {
         let looked = files_lookup(alloc, &content, *kind, key)?;
-        assert_eq!(rt; named(&looked), *wanted, "of {kind:?} {key:?}");
-        let looked = extra_lookup(alloc, &content, *kind, key)?;
-        assert!(rt; matches!(looked, Looked::Unavail));
+        assert!(rt; is_told(&looked, name, other), "of {kind:?}");
     }
     Ok(())
 }
 
-// An entry has its aliases, and its family or its port as numbers.
 #[test]
-fn entries(rt: HostRuntime) -> Result<(), Fail> {
+fn services_of_the_net(rt: HostRuntime) -> Result<(), Fail> {
+    let alloc = rt.alloc();
+    let content = nets(alloc)?;
+    for (kind, key, name, other) in &SERVICE_REQUESTS {
+        let looked = files_lookup(alloc, &content, *kind, key)?;
+        assert!(rt; is_told(&looked, name, other), "of {kind:?}");
+    }
+    Ok(())
+}
+
+// The extra service has no hosts and no services.
+#[test]
+fn extra_nets(rt: HostRuntime) -> Result<(), Fail> {
+    let alloc = rt.alloc();
+    let content = nets(alloc)?;
+    let looked = extra_lookup(alloc, &content, Kind::HostName, b"localhost")?;
+    assert!(rt; matches!(looked, Looked::Unavail));
+    let looked = extra_lookup(alloc, &content, Kind::ServName, b"ssh")?;
+    assert!(rt; matches!(looked, Looked::Unavail));
+    Ok(())
+}
+
+// What a host or a service has besides its texts: the family or the port, and how many aliases.
+fn numbers(looked: &Looked) -> Option<(u32, usize)> {
+    match looked {
+        Looked::Found(Row::Host(host)) => Some((host.family, host.aliases.len())),
+        Looked::Found(Row::Service(service)) => Some((
+            u32::from(service.port),
+            service.aliases.len(),
+        )),
+        _ => None,
+    }
+}
+
+#[test]
+fn numbers_of_a_host(rt: HostRuntime) -> Result<(), Fail> {
     let alloc = rt.alloc();
     let content = nets(alloc)?;
     let looked = files_lookup(alloc, &content, Kind::HostName6, b"six")?;
-    let host = host(&looked).ok_or("host")?;
-    assert_eq!(rt; host.family, 10);
-    assert_eq!(rt; host.aliases.len(), 1);
-    let looked = files_lookup(alloc, &content, Kind::ServPort, b"13568")?;
-    let service = service(&looked).ok_or("service")?;
-    assert_eq!(rt; service.port, 53);
-    assert_eq!(rt; service.aliases.len(), 1);
+    assert_eq!(rt; numbers(&looked), Some((10, 1)));
     Ok(())
 }
 
-// The host that is found.
-fn host(looked: &Looked) -> Option<&Host> {
-    match looked {
-        Looked::Found(Row::Host(host)) => Some(host),
-        _ => None,
-    }
-}
-
-// The service that is found.
-fn service(looked: &Looked) -> Option<&Service> {
-    match looked {
-        Looked::Found(Row::Service(service)) => Some(service),
-        _ => None,
-    }
+#[test]
+fn numbers_of_a_service(rt: HostRuntime) -> Result<(), Fail> {
+    let alloc = rt.alloc();
+    let content = nets(alloc)?;
+    let looked = files_lookup(alloc, &content, Kind::ServPort, b"13568")?;
+    assert_eq!(rt; numbers(&looked), Some((53, 1)));
+    Ok(())
 }
 
 // The families of two addresses.
@@ -231,13 +247,16 @@ fn both_families(rt: HostRuntime) -> Result<(), Fail> {
     Ok(())
 }
 
+// The service files is unavailable where its file is absent.
 #[test]
 fn absent_nets(rt: HostRuntime) -> Result<(), Fail> {
     let alloc = rt.alloc();
     let none = Content::none();
-    for (kind, key, _) in &NETS {
-        let looked = files_lookup(alloc, &none, *kind, key)?;
-        assert!(rt; matches!(looked, Looked::Unavail), "of {kind:?}");
-    }
+    let looked = files_lookup(alloc, &none, Kind::HostAddr6, FD00_1)?;
+    assert!(rt; matches!(looked, Looked::Unavail));
+    let looked = files_lookup(alloc, &none, Kind::Ai, b"localhost")?;
+    assert!(rt; matches!(looked, Looked::Unavail));
+    let looked = files_lookup(alloc, &none, Kind::ServPort, b"5632")?;
+    assert!(rt; matches!(looked, Looked::Unavail));
     Ok(())
 }
