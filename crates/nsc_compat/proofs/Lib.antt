@@ -10,3 +10,4 @@ pub mod ByKind
 pub mod GroupsKept
 pub mod Ids
 pub mod IdsKept
+pub mod Absent

@@ -12,3 +12,6 @@ mod users;
 
 pub use lookup::compat_lookup;
 pub use sub::{NamedId, SubLookup};
+
+#[cfg(test)]
+mod tests;
