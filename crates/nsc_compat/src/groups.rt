@@ -87,7 +87,12 @@ fn line_outcome<'t, S: SubLookup>(
             Ok(None)
         }
         Mark::Asks { name, .. } => {
-            let found = sub.look(alloc, asking.content, Kind::GrName, &text[name.from..name.to])?;
+            let found = sub.look(
+                alloc,
+                asking.content,
+                Kind::GrName,
+                &text[name.from..name.to],
+            )?;
             Ok(named_group(asking, found, excluded))
         }
         Mark::AsksAll { .. } => {

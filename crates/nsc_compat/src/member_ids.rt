@@ -156,12 +156,7 @@ fn add_all(groups: &[NamedId], excluded: &Excluded, ids: &mut OnceIds) -> Result
 }
 
 // Adds the id of a group whose name is not excluded.
-fn add_id(
-    name: &[u8],
-    gid: u32,
-    excluded: &Excluded,
-    ids: &mut OnceIds,
-) -> Result<(), NoMemory>
+fn add_id(name: &[u8], gid: u32, excluded: &Excluded, ids: &mut OnceIds) -> Result<(), NoMemory>
     ensures { OnOk result (ids.new ≡ all_ids ids.old (unless_excluded excluded.now name.now gid)) }
 {
     if !excluded.has(name) {

@@ -69,7 +69,10 @@ const ANN: [(&[u8], Outcome); 26] = [
     (b"", Outcome::NotFound),
     (b"\n\n", Outcome::NotFound),
     (b"ann:x:1:2:::", Outcome::Found(2)),
-    (b"bob:x:1:1:::\nann:x:1:2:::\nann:x:1:3:::", Outcome::Found(2)),
+    (
+        b"bob:x:1:1:::\nann:x:1:2:::\nann:x:1:3:::",
+        Outcome::Found(2),
+    ),
     (b"ann:x:1\nann:x:1:3:::", Outcome::Found(3)),
     (b"-ann\nann:x:1:2:::", Outcome::NotFound),
     (b"-ann\nann:x:1:2:::\nann:x:1:3:::", Outcome::NotFound),
@@ -133,17 +136,45 @@ fn users_by_id(rt: HostRuntime) -> Result<(), Fail> {
 // Group files, and what each tells of the group adm, and of the group id 4.
 const ADM: [(&[u8], Outcome, Outcome); 12] = [
     (b"", Outcome::NotFound, Outcome::NotFound),
-    (b"adm:x:4:a,b\nold:x:4:a", Outcome::Found(2), Outcome::Found(2)),
-    (b"-adm\nadm:x:4:a,b\nold:x:4:a", Outcome::NotFound, Outcome::Found(1)),
-    (b"-old\nold:x:4:a\nadm:x:4:a,b", Outcome::Found(2), Outcome::Found(2)),
+    (
+        b"adm:x:4:a,b\nold:x:4:a",
+        Outcome::Found(2),
+        Outcome::Found(2),
+    ),
+    (
+        b"-adm\nadm:x:4:a,b\nold:x:4:a",
+        Outcome::NotFound,
+        Outcome::Found(1),
+    ),
+    (
+        b"-old\nold:x:4:a\nadm:x:4:a,b",
+        Outcome::Found(2),
+        Outcome::Found(2),
+    ),
     (b"-ad\n-\nadm:x:4:a,b", Outcome::Found(2), Outcome::Found(2)),
     (b"adm:x:4:a,b\n-adm", Outcome::Found(2), Outcome::Found(2)),
-    (b"adm:x:5:a,b\nold:x:4:a", Outcome::Found(2), Outcome::Found(1)),
-    (b"+adm:x:4:a,b\n+\nold:x:4:a", Outcome::NotFound, Outcome::Found(1)),
+    (
+        b"adm:x:5:a,b\nold:x:4:a",
+        Outcome::Found(2),
+        Outcome::Found(1),
+    ),
+    (
+        b"+adm:x:4:a,b\n+\nold:x:4:a",
+        Outcome::NotFound,
+        Outcome::Found(1),
+    ),
     (b"+:::a\nadm:x:4:a,b", Outcome::Found(2), Outcome::Found(2)),
-    (b"old:x:4:a\n-@x\nadm:x:4:a,b", Outcome::Unavail, Outcome::Found(1)),
+    (
+        b"old:x:4:a\n-@x\nadm:x:4:a,b",
+        Outcome::Unavail,
+        Outcome::Found(1),
+    ),
     (b"+@x\nadm:x:4:a,b", Outcome::Unavail, Outcome::Unavail),
-    (b"-adm:\n-old:x:4:a\nadm:x:4:\nold:x:4:", Outcome::NotFound, Outcome::NotFound),
+    (
+        b"-adm:\n-old:x:4:a\nadm:x:4:\nold:x:4:",
+        Outcome::NotFound,
+        Outcome::NotFound,
+    ),
 ];
 
 #[test]

@@ -85,7 +85,12 @@ fn user_line<'t, S: SubLookup>(
             Ok(None)
         }
         Mark::Asks { name, all } => {
-            let found = sub.look(alloc, asking.content, Kind::PwName, &text[name.from..name.to])?;
+            let found = sub.look(
+                alloc,
+                asking.content,
+                Kind::PwName,
+                &text[name.from..name.to],
+            )?;
             named_user(alloc, asking, found, text, all, excluded)
         }
         Mark::AsksAll { all } => {

@@ -25,7 +25,7 @@ pub struct Answered {
 impl Model for Answered {
     ghost use Rattle.std.specs.Prelude.{◌≤◌, length};
     ghost use Rattle.nsc_model.specs.Fixed.{key_limit};
-        ghost use Rattle.nsc_plain.specs.Stock.{Fresh};
+    ghost use Rattle.nsc_plain.specs.Stock.{Fresh};
 
     ghost Value = { Fresh };
 

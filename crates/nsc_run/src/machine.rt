@@ -149,13 +149,20 @@ impl Machine {
             Db::Passwd => self.users.look_up(alloc, answers, kind, key, self.moment)?,
             Db::Group => self.groups.look_up(alloc, answers, kind, key, self.moment)?,
             Db::Hosts => self.hosts.look_up(alloc, answers, kind, key, self.moment)?,
-            Db::Services => self.services.look_up(alloc, answers, kind, key, self.moment)?,
+            Db::Services => self
+                .services
+                .look_up(alloc, answers, kind, key, self.moment)?,
         };
         Ok(Some(reply))
     }
 
     // A file becomes this. All memory is taken before anything changes.
-    fn become_file(&mut self, alloc: Global, file: FileId, bytes: Option<Bytes>) -> Result<(), NoMemory>
+    fn become_file(
+        &mut self,
+        alloc: Global,
+        file: FileId,
+        bytes: Option<Bytes>,
+    ) -> Result<(), NoMemory>
         requires { FileFits bytes }
         ensures settings { self.new.settings ≡ self.old.settings }
         ensures set { OnOk result (self.new.state ≡ record self.old.state { files = with_file self.old.state.files file bytes }) }
@@ -228,7 +235,9 @@ impl Machine {
         ensures settings { self.new.settings ≡ self.old.settings }
         ensures set { OnOk result (self.new.state ≡ record self.old.state { files = with_file self.old.state.files FileId.Hosts held }) }
     {
-        let hosts = self.sources.part_with(alloc, Db::Hosts, FileId::Hosts, &held)?;
+        let hosts = self
+            .sources
+            .part_with(alloc, Db::Hosts, FileId::Hosts, &held)?;
         self.hosts.set(hosts);
         self.sources.set(FileId::Hosts, held);
         Ok(())
@@ -240,7 +249,9 @@ impl Machine {
         ensures settings { self.new.settings ≡ self.old.settings }
         ensures set { OnOk result (self.new.state ≡ record self.old.state { files = with_file self.old.state.files FileId.Services held }) }
     {
-        let services = self.sources.part_with(alloc, Db::Services, FileId::Services, &held)?;
+        let services = self
+            .sources
+            .part_with(alloc, Db::Services, FileId::Services, &held)?;
         self.services.set(services);
         self.sources.set(FileId::Services, held);
         Ok(())

@@ -68,7 +68,12 @@ const CASES: [Case; 6] = [
     ),
     // Without a list of its own a plus line asks a service that is not there.
     (
-        &[b"F\0\x01\x0e\0\0\0passwd: compat", USERS, EXTRA_USERS, ASK_CID],
+        &[
+            b"F\0\x01\x0e\0\0\0passwd: compat",
+            USERS,
+            EXTRA_USERS,
+            ASK_CID,
+        ],
         &[NO_USER],
     ),
     (
