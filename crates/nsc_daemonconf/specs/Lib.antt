@@ -1,1 +1,2 @@
 pub mod Conf
+pub mod Lines
