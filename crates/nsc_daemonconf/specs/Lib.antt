@@ -1,2 +1,4 @@
 pub mod Conf
 pub mod Lines
+pub mod Attributes
+pub mod Told

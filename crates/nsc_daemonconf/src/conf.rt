@@ -63,9 +63,10 @@ impl DbConf {
 }
 
 impl Conf {
-    ghost use Rattle.std.specs.Prelude.{◌≡◌};
+    ghost use Rattle.std.specs.Prelude.{◌≡◌, Some};
     ghost use Rattle.nsc_model.specs.Settings.{settings_of};
     ghost use Rattle.nsc_daemonconf.specs.Conf.{db_settings, settings, default_settings};
+    ghost use Rattle.nsc_daemonconf.specs.Lines.{with_database};
 
     /// The settings that hold where no line of nscd.conf(5) says otherwise.
     pub fn defaults() -> Conf
@@ -91,5 +92,19 @@ impl Conf {
             Db::Hosts => self.hosts,
             Db::Services => self.services,
         }
+    }
+
+    /// The settings with those of one database replaced.
+    pub(crate) fn with(self, db: Db, changed: DbConf) -> Conf
+        ensures { settings result ≡ with_database (Some db) (λ _. db_settings changed) (settings self) }
+    {
+        let mut conf = self;
+        match db {
+            Db::Passwd => conf.passwd = changed,
+            Db::Group => conf.group = changed,
+            Db::Hosts => conf.hosts = changed,
+            Db::Services => conf.services = changed,
+        }
+        conf
     }
 }

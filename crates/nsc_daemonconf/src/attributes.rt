@@ -1,0 +1,166 @@
+ghost use Rattle.std.specs.Prelude.{◌≡◌};
+ghost use Rattle.std.specs.Option.{option_map};
+ghost use Rattle.nsc_daemonconf.specs.Conf.{db_settings, settings};
+ghost use Rattle.nsc_daemonconf.specs.Lines.{attribute_named, service_named};
+ghost use Rattle.nsc_daemonconf.specs.Attributes.{attribute_of, daemon_sets, database_of, database_sets};
+
+use crate::conf::{Conf, DbConf};
+use crate::values::{reloads, size, yes_or_no};
+use nsc_base::decimal;
+use nsc_model::Db;
+
+/// An attribute of nscd.conf(5), by what it is about.
+#[derive(Clone, Copy, Debug)]
+pub enum Attribute {
+    /// One database, whose service stands before the value.
+    OfDatabase(DbAttribute),
+    /// All of the daemon.
+    OfDaemon(DaemonAttribute),
+}
+
+/// An attribute of one database.
+#[derive(Clone, Copy, Debug)]
+pub enum DbAttribute {
+    /// `enable-cache`, yes or no.
+    EnableCache,
+    /// `positive-time-to-live`, a decimal number.
+    PositiveTimeToLive,
+    /// `negative-time-to-live`, a decimal number.
+    NegativeTimeToLive,
+    /// `suggested-size`, a decimal number from 1 to 65,536.
+    SuggestedSize,
+    /// `check-files`, yes or no.
+    CheckFiles,
+    /// `persistent`, yes or no.
+    Persistent,
+    /// `shared`, yes or no.
+    Shared,
+    /// `max-db-size`, a decimal number.
+    MaxDbSize,
+    /// `auto-propagate`, yes or no.
+    AutoPropagate,
+}
+
+/// An attribute of the daemon. Those that change no setting are checked all the same.
+#[derive(Clone, Copy, Debug)]
+pub enum DaemonAttribute {
+    /// `threads`, a decimal number.
+    Threads,
+    /// `reload-count`, a limit of reloads.
+    ReloadCount,
+    /// `max-threads`, a decimal number. Changes nothing.
+    MaxThreads,
+    /// `debug-level`, a decimal number. Changes nothing.
+    DebugLevel,
+    /// `restart-interval`, a decimal number. Changes nothing.
+    RestartInterval,
+    /// `paranoia`, yes or no. Changes nothing.
+    Paranoia,
+    /// `logfile`, any word. Changes nothing.
+    Logfile,
+    /// `server-user`, any word. Changes nothing.
+    ServerUser,
+    /// `stat-user`, any word. Changes nothing.
+    StatUser,
+}
+
+/// The service that a line is about.
+#[derive(Clone, Copy, Debug)]
+pub enum Service {
+    /// One of the databases.
+    Database(Db),
+    /// Netgroups, which are not cached.
+    Netgroup,
+}
+
+impl Attribute {
+    /// The attribute of this name. `None` where there is none.
+    pub fn named(word: &[u8]) -> Option<Attribute>
+        ensures { option_map attribute_of result ≡ attribute_named word.now }
+    {
+        let attribute = match word {
+            b"enable-cache" => Attribute::OfDatabase(DbAttribute::EnableCache),
+            b"positive-time-to-live" => Attribute::OfDatabase(DbAttribute::PositiveTimeToLive),
+            b"negative-time-to-live" => Attribute::OfDatabase(DbAttribute::NegativeTimeToLive),
+            b"suggested-size" => Attribute::OfDatabase(DbAttribute::SuggestedSize),
+            b"check-files" => Attribute::OfDatabase(DbAttribute::CheckFiles),
+            b"persistent" => Attribute::OfDatabase(DbAttribute::Persistent),
+            b"shared" => Attribute::OfDatabase(DbAttribute::Shared),
+            b"max-db-size" => Attribute::OfDatabase(DbAttribute::MaxDbSize),
+            b"auto-propagate" => Attribute::OfDatabase(DbAttribute::AutoPropagate),
+            b"threads" => Attribute::OfDaemon(DaemonAttribute::Threads),
+            b"reload-count" => Attribute::OfDaemon(DaemonAttribute::ReloadCount),
+            b"max-threads" => Attribute::OfDaemon(DaemonAttribute::MaxThreads),
+            b"debug-level" => Attribute::OfDaemon(DaemonAttribute::DebugLevel),
+            b"restart-interval" => Attribute::OfDaemon(DaemonAttribute::RestartInterval),
+            b"paranoia" => Attribute::OfDaemon(DaemonAttribute::Paranoia),
+            b"logfile" => Attribute::OfDaemon(DaemonAttribute::Logfile),
+            b"server-user" => Attribute::OfDaemon(DaemonAttribute::ServerUser),
+            b"stat-user" => Attribute::OfDaemon(DaemonAttribute::StatUser),
+            _ => return None,
+        };
+        Some(attribute)
+    }
+}
+
+impl DbAttribute {
+    /// The settings of a database with this attribute at this value. `None` where the value is none of the attribute's.
+    pub fn set(self, conf: DbConf, value: &[u8]) -> Option<DbConf>
+        ensures { option_map db_settings result ≡ option_map (λ change. change (db_settings conf)) (database_sets self value.now) }
+    {
+        let mut conf = conf;
+        match self {
+            DbAttribute::EnableCache => conf.enabled = yes_or_no(value)?,
+            DbAttribute::PositiveTimeToLive => conf.positive = decimal(value)?,
+            DbAttribute::NegativeTimeToLive => conf.negative = decimal(value)?,
+            DbAttribute::SuggestedSize => conf.size = size(value)?,
+            DbAttribute::CheckFiles => conf.check_files = yes_or_no(value)?,
+            DbAttribute::Persistent => conf.persistent = yes_or_no(value)?,
+            DbAttribute::Shared => conf.shared = yes_or_no(value)?,
+            DbAttribute::MaxDbSize => conf.max_size = decimal(value)?,
+            DbAttribute::AutoPropagate => conf.propagate = yes_or_no(value)?,
+        }
+        Some(conf)
+    }
+}
+
+impl DaemonAttribute {
+    /// The settings of the daemon with this attribute at this value. `None` where the value is none of the attribute's.
+    pub fn set(self, conf: Conf, value: &[u8]) -> Option<Conf>
+        ensures { option_map settings result ≡ option_map (λ change. change (settings conf)) (daemon_sets self value.now) }
+    {
+        let mut conf = conf;
+        match self {
+            DaemonAttribute::Threads => conf.threads = decimal(value)?,
+            DaemonAttribute::ReloadCount => conf.reloads = reloads(value)?,
+            DaemonAttribute::MaxThreads
+            | DaemonAttribute::DebugLevel
+            | DaemonAttribute::RestartInterval => {
+                decimal(value)?;
+            }
+            DaemonAttribute::Paranoia => {
+                yes_or_no(value)?;
+            }
+            DaemonAttribute::Logfile
+            | DaemonAttribute::ServerUser
+            | DaemonAttribute::StatUser => (),
+        }
+        Some(conf)
+    }
+}
+
+impl Service {
+    /// The service of this name. `None` where there is none.
+    pub fn named(word: &[u8]) -> Option<Service>
+        ensures { option_map database_of result ≡ service_named word.now }
+    {
+        match word {
+            b"passwd" => Some(Service::Database(Db::Passwd)),
+            b"group" => Some(Service::Database(Db::Group)),
+            b"hosts" => Some(Service::Database(Db::Hosts)),
+            b"services" => Some(Service::Database(Db::Services)),
+            b"netgroup" => Some(Service::Netgroup),
+            _ => None,
+        }
+    }
+}
