@@ -1,6 +1,8 @@
 -- What the attributes and services of the code stand for.
-use Rattle.std.specs.Prelude.{ℕ, Bool, List, Option, Some, None}
+use Rattle.std.specs.Prelude.{ℕ, Bool, if◌then◌else◌, List, [], ◌∷◌, Option, Some, None}
+use Rattle.std.specs.Borrow.{Bor}
 use Rattle.std.specs.Option.{option_map}
+use Rattle.std.specs.Str.{bytes_eq}
 use Rattle.nsc_base.specs.Decimal.{decimal_of}
 use Rattle.nsc_model.specs.declared.kind.Db.{Db}
 use Rattle.nsc_model.specs.Settings.{DbSettings, Settings}
@@ -47,3 +49,8 @@ attribute_of (attributes.OfDaemon attribute) = lines.OfDaemon (daemon_sets attri
 abbrev pub database_of : Service → Option Db
 database_of (services.Database db) = Some db
 database_of services.Netgroup = None
+
+-- what stands beside the first name of a table that is this word
+unfoldable pub found : {A : Type 0} → List (Bor (List ℕ) × A) → List ℕ → Option A
+found [] word = None
+found (entry ∷ table) word = if bytes_eq word entry.0.now then Some entry.1 else found table word

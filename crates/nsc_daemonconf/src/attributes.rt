@@ -2,7 +2,7 @@ ghost use Rattle.std.specs.Prelude.{◌≡◌};
 ghost use Rattle.std.specs.Option.{option_map};
 ghost use Rattle.nsc_daemonconf.specs.Conf.{db_settings, settings};
 ghost use Rattle.nsc_daemonconf.specs.Lines.{attribute_named, service_named};
-ghost use Rattle.nsc_daemonconf.specs.Attributes.{attribute_of, daemon_sets, database_of, database_sets};
+ghost use Rattle.nsc_daemonconf.specs.Attributes.{attribute_of, daemon_sets, database_of, database_sets, found};
 
 use crate::conf::{Conf, DbConf};
 use crate::values::{reloads, size, yes_or_no};
@@ -73,33 +73,55 @@ pub enum Service {
     Netgroup,
 }
 
+// Each attribute by its name.
+static ATTRIBUTES: [(&[u8], Attribute); 18] = [
+    (b"enable-cache", Attribute::OfDatabase(DbAttribute::EnableCache)),
+    (b"positive-time-to-live", Attribute::OfDatabase(DbAttribute::PositiveTimeToLive)),
+    (b"negative-time-to-live", Attribute::OfDatabase(DbAttribute::NegativeTimeToLive)),
+    (b"suggested-size", Attribute::OfDatabase(DbAttribute::SuggestedSize)),
+    (b"check-files", Attribute::OfDatabase(DbAttribute::CheckFiles)),
+    (b"persistent", Attribute::OfDatabase(DbAttribute::Persistent)),
+    (b"shared", Attribute::OfDatabase(DbAttribute::Shared)),
+    (b"max-db-size", Attribute::OfDatabase(DbAttribute::MaxDbSize)),
+    (b"auto-propagate", Attribute::OfDatabase(DbAttribute::AutoPropagate)),
+    (b"threads", Attribute::OfDaemon(DaemonAttribute::Threads)),
+    (b"reload-count", Attribute::OfDaemon(DaemonAttribute::ReloadCount)),
+    (b"max-threads", Attribute::OfDaemon(DaemonAttribute::MaxThreads)),
+    (b"debug-level", Attribute::OfDaemon(DaemonAttribute::DebugLevel)),
+    (b"restart-interval", Attribute::OfDaemon(DaemonAttribute::RestartInterval)),
+    (b"paranoia", Attribute::OfDaemon(DaemonAttribute::Paranoia)),
+    (b"logfile", Attribute::OfDaemon(DaemonAttribute::Logfile)),
+    (b"server-user", Attribute::OfDaemon(DaemonAttribute::ServerUser)),
+    (b"stat-user", Attribute::OfDaemon(DaemonAttribute::StatUser)),
+];
+
+// Each service by its name.
+static SERVICES: [(&[u8], Service); 5] = [
+    (b"passwd", Service::Database(Db::Passwd)),
+    (b"group", Service::Database(Db::Group)),
+    (b"hosts", Service::Database(Db::Hosts)),
+    (b"services", Service::Database(Db::Services)),
+    (b"netgroup", Service::Netgroup),
+];
+
+// What stands beside a name in a table.
+fn named<T: Copy>(table: &[(&[u8], T)], word: &[u8]) -> Option<T>
+    ensures { result ≡ found table.now word.now }
+{
+    for (name, entry) in table {
+        if word == *name {
+            return Some(*entry);
+        }
+    }
+    None
+}
+
 impl Attribute {
     /// The attribute of this name. `None` where there is none.
     pub fn named(word: &[u8]) -> Option<Attribute>
         ensures { option_map attribute_of result ≡ attribute_named word.now }
     {
-        let attribute = match word {
-            b"enable-cache" => Attribute::OfDatabase(DbAttribute::EnableCache),
-            b"positive-time-to-live" => Attribute::OfDatabase(DbAttribute::PositiveTimeToLive),
-            b"negative-time-to-live" => Attribute::OfDatabase(DbAttribute::NegativeTimeToLive),
-            b"suggested-size" => Attribute::OfDatabase(DbAttribute::SuggestedSize),
-            b"check-files" => Attribute::OfDatabase(DbAttribute::CheckFiles),
-            b"persistent" => Attribute::OfDatabase(DbAttribute::Persistent),
-            b"shared" => Attribute::OfDatabase(DbAttribute::Shared),
-            b"max-db-size" => Attribute::OfDatabase(DbAttribute::MaxDbSize),
-            b"auto-propagate" => Attribute::OfDatabase(DbAttribute::AutoPropagate),
-            b"threads" => Attribute::OfDaemon(DaemonAttribute::Threads),
-            b"reload-count" => Attribute::OfDaemon(DaemonAttribute::ReloadCount),
-            b"max-threads" => Attribute::OfDaemon(DaemonAttribute::MaxThreads),
-            b"debug-level" => Attribute::OfDaemon(DaemonAttribute::DebugLevel),
-            b"restart-interval" => Attribute::OfDaemon(DaemonAttribute::RestartInterval),
-            b"paranoia" => Attribute::OfDaemon(DaemonAttribute::Paranoia),
-            b"logfile" => Attribute::OfDaemon(DaemonAttribute::Logfile),
-            b"server-user" => Attribute::OfDaemon(DaemonAttribute::ServerUser),
-            b"stat-user" => Attribute::OfDaemon(DaemonAttribute::StatUser),
-            _ => return None,
-        };
-        Some(attribute)
+        named(&ATTRIBUTES, word)
     }
 }
 
@@ -154,13 +176,6 @@ impl Service {
     pub fn named(word: &[u8]) -> Option<Service>
         ensures { option_map database_of result ≡ service_named word.now }
     {
-        match word {
-            b"passwd" => Some(Service::Database(Db::Passwd)),
-            b"group" => Some(Service::Database(Db::Group)),
-            b"hosts" => Some(Service::Database(Db::Hosts)),
-            b"services" => Some(Service::Database(Db::Services)),
-            b"netgroup" => Some(Service::Netgroup),
-            _ => None,
-        }
+        named(&SERVICES, word)
     }
 }
