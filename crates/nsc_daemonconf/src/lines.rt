@@ -103,8 +103,9 @@ fn of_daemon(
 ) -> Result<Conf, ConfFault>
     ensures { conf_told result ≡ then_lines number (settings conf) (attribute_does (OfDaemon (daemon_sets attribute)) (words_of rest.now)) (λ later. Ok later) }
 {
-    let value = only_word(rest).ok_or(ConfFault::BadLine { line: number })?;
-    attribute
-        .set(conf, value)
-        .ok_or(ConfFault::BadValue { line: number })
+    let bad_line = ConfFault::BadLine { line: number };
+    let bad_value = ConfFault::BadValue { line: number };
+    let value = only_word(rest).ok_or(bad_line)?;
+    let changed = attribute.set(conf, value).ok_or(bad_value)?;
+    Ok(changed)
 }
