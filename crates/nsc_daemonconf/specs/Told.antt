@@ -1,5 +1,5 @@
 -- What the reader of nscd.conf(5) tells.
-use Rattle.std.specs.Prelude.{ℕ, ◌≤◌, Result, Ok, Err}
+use Rattle.std.specs.Prelude.{Result, Ok, Err}
 use Rattle.nsc_model.specs.Settings.{Settings}
 use Rattle.nsc_daemonconf.specs.declared.conf.Conf.{Conf}
 use Rattle.nsc_daemonconf.specs.declared.lines.ConfFault.{ConfFault}
@@ -17,14 +17,3 @@ refused (faults.UnknownAttribute n) = record { fault = UnknownAttribute; line = 
 abbrev pub conf_told : Result Conf ConfFault → Result Settings Refused
 conf_told (Ok conf) = Ok (settings conf)
 conf_told (Err fault) = Err (refused fault)
-
--- each database has a size that a cache can have
-pub record SizesFit (settings : Settings) : Type 0 where
-  pub users_some : 1 ≤ settings.passwd.size
-  pub users_fit : settings.passwd.size ≤ 65536
-  pub groups_some : 1 ≤ settings.group.size
-  pub groups_fit : settings.group.size ≤ 65536
-  pub hosts_some : 1 ≤ settings.hosts.size
-  pub hosts_fit : settings.hosts.size ≤ 65536
-  pub services_some : 1 ≤ settings.services.size
-  pub services_fit : settings.services.size ≤ 65536

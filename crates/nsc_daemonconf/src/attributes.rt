@@ -1,8 +1,9 @@
-ghost use Rattle.std.specs.Prelude.{◌≡◌};
+ghost use Rattle.std.specs.Prelude.{◌≡◌, IfSome};
 ghost use Rattle.std.specs.Option.{option_map};
 ghost use Rattle.nsc_daemonconf.specs.Conf.{db_settings, settings};
 ghost use Rattle.nsc_daemonconf.specs.Lines.{attribute_named, service_named};
 ghost use Rattle.nsc_daemonconf.specs.Attributes.{attribute_of, daemon_sets, database_of, database_sets, found};
+ghost use Rattle.nsc_daemonconf.specs.Sizes.{SizeFits, SizesFit};
 
 use crate::conf::{Conf, DbConf};
 use crate::values::{reloads, size, yes_or_no};
@@ -128,7 +129,8 @@ impl Attribute {
 impl DbAttribute {
     /// The settings of a database with this attribute at this value. `None` where the value is none of the attribute's.
     pub fn set(self, conf: DbConf, value: &[u8]) -> Option<DbConf>
-        ensures { option_map db_settings result ≡ option_map (λ change. change (db_settings conf)) (database_sets self value.now) }
+        ensures set { option_map db_settings result ≡ option_map (λ change. change (db_settings conf)) (database_sets self value.now) }
+        ensures size { IfSome result (λ changed. SizeFits (db_settings conf) → SizeFits (db_settings changed)) }
     {
         let mut conf = conf;
         match self {
@@ -149,7 +151,8 @@ impl DbAttribute {
 impl DaemonAttribute {
     /// The settings of the daemon with this attribute at this value. `None` where the value is none of the attribute's.
     pub fn set(self, conf: Conf, value: &[u8]) -> Option<Conf>
-        ensures { option_map settings result ≡ option_map (λ change. change (settings conf)) (daemon_sets self value.now) }
+        ensures set { option_map settings result ≡ option_map (λ change. change (settings conf)) (daemon_sets self value.now) }
+        ensures sizes { IfSome result (λ changed. SizesFit (settings conf) → SizesFit (settings changed)) }
     {
         let mut conf = conf;
         match self {

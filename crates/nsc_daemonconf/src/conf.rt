@@ -67,6 +67,7 @@ impl Conf {
     ghost use Rattle.nsc_model.specs.Settings.{settings_of};
     ghost use Rattle.nsc_daemonconf.specs.Conf.{db_settings, settings, default_settings};
     ghost use Rattle.nsc_daemonconf.specs.Lines.{with_database};
+    ghost use Rattle.nsc_daemonconf.specs.Sizes.{SizeFits, SizesFit};
 
     /// The settings that hold where no line of nscd.conf(5) says otherwise.
     pub fn defaults() -> Conf
@@ -96,7 +97,8 @@ impl Conf {
 
     /// The settings with those of one database replaced.
     pub(crate) fn with(self, db: Db, changed: DbConf) -> Conf
-        ensures { settings result ≡ with_database (Some db) (λ _. db_settings changed) (settings self) }
+        ensures with { settings result ≡ with_database (Some db) (λ _. db_settings changed) (settings self) }
+        ensures sizes { SizesFit (settings self) → SizeFits (db_settings changed) → SizesFit (settings result) }
     {
         let mut conf = self;
         match db {

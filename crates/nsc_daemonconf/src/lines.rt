@@ -3,7 +3,8 @@ ghost use Rattle.nsc_base.specs.Text.{words_of};
 ghost use Rattle.nsc_daemonconf.specs.Conf.{settings};
 ghost use Rattle.nsc_daemonconf.specs.Lines.{OfDatabase, OfDaemon, attribute_does, conf_of, line_does, then_lines};
 ghost use Rattle.nsc_daemonconf.specs.Attributes.{daemon_sets, database_sets};
-ghost use Rattle.nsc_daemonconf.specs.Told.{SizesFit, conf_told};
+ghost use Rattle.nsc_daemonconf.specs.Sizes.{SizesFit};
+ghost use Rattle.nsc_daemonconf.specs.Told.{conf_told};
 
 use crate::attributes::{Attribute, DaemonAttribute, DbAttribute, Service};
 use crate::conf::Conf;
@@ -57,7 +58,8 @@ pub fn read_conf(text: &[u8]) -> Result<Conf, ConfFault>
 
 // The settings with what a line of this number says.
 fn with_line(conf: Conf, line: &[u8], number: u64) -> Result<Conf, ConfFault>
-    ensures { conf_told result ≡ then_lines number (settings conf) (line_does line.now) (λ later. Ok later) }
+    ensures told { conf_told result ≡ then_lines number (settings conf) (line_does line.now) (λ later. Ok later) }
+    ensures sizes { IfOk result (λ later. SizesFit (settings conf) → SizesFit (settings later)) }
 {
     let Some((word, rest)) = next_word(up_to_remark(line)) else {
         return Ok(conf);
@@ -76,7 +78,8 @@ fn of_database(
     rest: &[u8],
     number: u64,
 ) -> Result<Conf, ConfFault>
-    ensures { conf_told result ≡ then_lines number (settings conf) (attribute_does (OfDatabase (database_sets attribute)) (words_of rest.now)) (λ later. Ok later) }
+    ensures told { conf_told result ≡ then_lines number (settings conf) (attribute_does (OfDatabase (database_sets attribute)) (words_of rest.now)) (λ later. Ok later) }
+    ensures sizes { IfOk result (λ later. SizesFit (settings conf) → SizesFit (settings later)) }
 {
     let bad_line = ConfFault::BadLine { line: number };
     let bad_value = ConfFault::BadValue { line: number };
@@ -101,7 +104,8 @@ fn of_daemon(
     rest: &[u8],
     number: u64,
 ) -> Result<Conf, ConfFault>
-    ensures { conf_told result ≡ then_lines number (settings conf) (attribute_does (OfDaemon (daemon_sets attribute)) (words_of rest.now)) (λ later. Ok later) }
+    ensures told { conf_told result ≡ then_lines number (settings conf) (attribute_does (OfDaemon (daemon_sets attribute)) (words_of rest.now)) (λ later. Ok later) }
+    ensures sizes { IfOk result (λ later. SizesFit (settings conf) → SizesFit (settings later)) }
 {
     let bad_line = ConfFault::BadLine { line: number };
     let bad_value = ConfFault::BadValue { line: number };

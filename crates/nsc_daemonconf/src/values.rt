@@ -1,4 +1,4 @@
-ghost use Rattle.std.specs.Prelude.{◌≡◌};
+ghost use Rattle.std.specs.Prelude.{◌≡◌, ◌≤◌, IfSome};
 ghost use Rattle.nsc_daemonconf.specs.Lines.{hexadecimal_of, limit_in, reloads_of, size_in, size_of, yes_or_no as yes_or_no_of};
 
 use nsc_base::decimal;
@@ -16,7 +16,8 @@ pub fn yes_or_no(word: &[u8]) -> Option<bool>
 
 /// The suggested size that a word spells: a decimal number from 1 to 65,536.
 pub fn size(word: &[u8]) -> Option<u32>
-    ensures { result ≡ size_of word.now }
+    ensures size { result ≡ size_of word.now }
+    ensures within { IfSome result (λ n. (1 ≤ n) × (n ≤ 65536)) }
 {
     let number = decimal(word)?;
     if 1 <= number && number <= 65_536 {
