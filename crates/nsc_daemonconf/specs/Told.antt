@@ -1,11 +1,11 @@
 -- What the reader of nscd.conf(5) tells.
-use Rattle.std.specs.Prelude.{Result, Ok, Err}
+use Rattle.std.specs.Prelude.{ℕ, Result, Ok, Err}
 use Rattle.nsc_model.specs.Settings.{Settings}
 use Rattle.nsc_daemonconf.specs.declared.conf.Conf.{Conf}
 use Rattle.nsc_daemonconf.specs.declared.lines.ConfFault.{ConfFault}
 use Rattle.nsc_daemonconf.specs.declared.lines.ConfFault.TheVariants as faults
 use Rattle.nsc_daemonconf.specs.Conf.{settings}
-use Rattle.nsc_daemonconf.specs.Lines.{Refused, BadLine, BadValue, UnknownAttribute}
+use Rattle.nsc_daemonconf.specs.Lines.{LineFault, Refused, BadLine, BadValue, UnknownAttribute, then_lines}
 
 -- the line that is refused, and why
 abbrev pub refused : ConfFault → Refused
@@ -17,3 +17,7 @@ refused (faults.UnknownAttribute n) = record { fault = UnknownAttribute; line = 
 abbrev pub conf_told : Result Conf ConfFault → Result Settings Refused
 conf_told (Ok conf) = Ok (settings conf)
 conf_told (Err fault) = Err (refused fault)
+
+-- the settings with what one line does, or that line refused
+abbrev pub after_line : ℕ → Settings → Result (Settings → Settings) LineFault → Result Settings Refused
+after_line n s does = then_lines n s does (λ later. Ok later)

@@ -5,6 +5,9 @@ ghost use Rattle.nsc_daemonconf.specs.Lines.{attribute_named, service_named};
 ghost use Rattle.nsc_daemonconf.specs.Attributes.{attribute_of, daemon_sets, database_of, database_sets, found};
 ghost use Rattle.nsc_daemonconf.specs.Sizes.{SizeFits, SizesFit};
 
+use self::Attribute::{OfDaemon, OfDatabase};
+use self::DaemonAttribute::*;
+use self::DbAttribute::*;
 use crate::conf::{Conf, DbConf};
 use crate::values::{reloads, size, yes_or_no};
 use nsc_base::decimal;
@@ -76,24 +79,24 @@ pub enum Service {
 
 // Each attribute by its name.
 static ATTRIBUTES: [(&[u8], Attribute); 18] = [
-    (b"enable-cache", Attribute::OfDatabase(DbAttribute::EnableCache)),
-    (b"positive-time-to-live", Attribute::OfDatabase(DbAttribute::PositiveTimeToLive)),
-    (b"negative-time-to-live", Attribute::OfDatabase(DbAttribute::NegativeTimeToLive)),
-    (b"suggested-size", Attribute::OfDatabase(DbAttribute::SuggestedSize)),
-    (b"check-files", Attribute::OfDatabase(DbAttribute::CheckFiles)),
-    (b"persistent", Attribute::OfDatabase(DbAttribute::Persistent)),
-    (b"shared", Attribute::OfDatabase(DbAttribute::Shared)),
-    (b"max-db-size", Attribute::OfDatabase(DbAttribute::MaxDbSize)),
-    (b"auto-propagate", Attribute::OfDatabase(DbAttribute::AutoPropagate)),
-    (b"threads", Attribute::OfDaemon(DaemonAttribute::Threads)),
-    (b"reload-count", Attribute::OfDaemon(DaemonAttribute::ReloadCount)),
-    (b"max-threads", Attribute::OfDaemon(DaemonAttribute::MaxThreads)),
-    (b"debug-level", Attribute::OfDaemon(DaemonAttribute::DebugLevel)),
-    (b"restart-interval", Attribute::OfDaemon(DaemonAttribute::RestartInterval)),
-    (b"paranoia", Attribute::OfDaemon(DaemonAttribute::Paranoia)),
-    (b"logfile", Attribute::OfDaemon(DaemonAttribute::Logfile)),
-    (b"server-user", Attribute::OfDaemon(DaemonAttribute::ServerUser)),
-    (b"stat-user", Attribute::OfDaemon(DaemonAttribute::StatUser)),
+    (b"enable-cache", OfDatabase(EnableCache)),
+    (b"positive-time-to-live", OfDatabase(PositiveTimeToLive)),
+    (b"negative-time-to-live", OfDatabase(NegativeTimeToLive)),
+    (b"suggested-size", OfDatabase(SuggestedSize)),
+    (b"check-files", OfDatabase(CheckFiles)),
+    (b"persistent", OfDatabase(Persistent)),
+    (b"shared", OfDatabase(Shared)),
+    (b"max-db-size", OfDatabase(MaxDbSize)),
+    (b"auto-propagate", OfDatabase(AutoPropagate)),
+    (b"threads", OfDaemon(Threads)),
+    (b"reload-count", OfDaemon(ReloadCount)),
+    (b"max-threads", OfDaemon(MaxThreads)),
+    (b"debug-level", OfDaemon(DebugLevel)),
+    (b"restart-interval", OfDaemon(RestartInterval)),
+    (b"paranoia", OfDaemon(Paranoia)),
+    (b"logfile", OfDaemon(Logfile)),
+    (b"server-user", OfDaemon(ServerUser)),
+    (b"stat-user", OfDaemon(StatUser)),
 ];
 
 // Each service by its name.
@@ -128,11 +131,10 @@ impl Attribute {
 
 impl DbAttribute {
     /// The settings of a database with this attribute at this value. `None` where the value is none of the attribute's.
-    pub fn set(self, conf: DbConf, value: &[u8]) -> Option<DbConf>
-        ensures set { option_map db_settings result ≡ option_map (λ change. change (db_settings conf)) (database_sets self value.now) }
+    pub fn applied_to(self, mut conf: DbConf, value: &[u8]) -> Option<DbConf>
+        ensures applied { option_map db_settings result ≡ option_map (λ change. change (db_settings conf)) (database_sets self value.now) }
         ensures size { IfSome result (λ changed. SizeFits (db_settings conf) → SizeFits (db_settings changed)) }
     {
-        let mut conf = conf;
         match self {
             DbAttribute::EnableCache => conf.enabled = yes_or_no(value)?,
             DbAttribute::PositiveTimeToLive => conf.positive = decimal(value)?,
@@ -150,11 +152,10 @@ impl DbAttribute {
 
 impl DaemonAttribute {
     /// The settings of the daemon with this attribute at this value. `None` where the value is none of the attribute's.
-    pub fn set(self, conf: Conf, value: &[u8]) -> Option<Conf>
-        ensures set { option_map settings result ≡ option_map (λ change. change (settings conf)) (daemon_sets self value.now) }
+    pub fn applied_to(self, mut conf: Conf, value: &[u8]) -> Option<Conf>
+        ensures applied { option_map settings result ≡ option_map (λ change. change (settings conf)) (daemon_sets self value.now) }
         ensures sizes { IfSome result (λ changed. SizesFit (settings conf) → SizesFit (settings changed)) }
     {
-        let mut conf = conf;
         match self {
             DaemonAttribute::Threads => conf.threads = decimal(value)?,
             DaemonAttribute::ReloadCount => conf.reloads = reloads(value)?,
@@ -166,9 +167,7 @@ impl DaemonAttribute {
             DaemonAttribute::Paranoia => {
                 yes_or_no(value)?;
             }
-            DaemonAttribute::Logfile
-            | DaemonAttribute::ServerUser
-            | DaemonAttribute::StatUser => (),
+            DaemonAttribute::Logfile | DaemonAttribute::ServerUser | DaemonAttribute::StatUser => {}
         }
         Some(conf)
     }

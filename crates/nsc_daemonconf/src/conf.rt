@@ -96,17 +96,16 @@ impl Conf {
     }
 
     /// The settings with those of one database replaced.
-    pub(crate) fn with(self, db: Db, changed: DbConf) -> Conf
+    pub(crate) fn with(mut self, db: Db, changed: DbConf) -> Conf
         ensures with { settings result ≡ with_database (Some db) (λ _. db_settings changed) (settings self) }
         ensures sizes { SizesFit (settings self) → SizeFits (db_settings changed) → SizesFit (settings result) }
     {
-        let mut conf = self;
         match db {
-            Db::Passwd => conf.passwd = changed,
-            Db::Group => conf.group = changed,
-            Db::Hosts => conf.hosts = changed,
-            Db::Services => conf.services = changed,
+            Db::Passwd => self.passwd = changed,
+            Db::Group => self.group = changed,
+            Db::Hosts => self.hosts = changed,
+            Db::Services => self.services = changed,
         }
-        conf
+        self
     }
 }

@@ -1,10 +1,10 @@
-ghost use Rattle.std.specs.Prelude.{◌≡◌, Ok, IfOk};
+ghost use Rattle.std.specs.Prelude.{◌≡◌, IfOk};
 ghost use Rattle.nsc_base.specs.Text.{words_of};
 ghost use Rattle.nsc_daemonconf.specs.Conf.{settings};
-ghost use Rattle.nsc_daemonconf.specs.Lines.{OfDatabase, OfDaemon, attribute_does, conf_of, line_does, then_lines};
+ghost use Rattle.nsc_daemonconf.specs.Lines.{OfDatabase, OfDaemon, attribute_does, conf_of, line_does};
 ghost use Rattle.nsc_daemonconf.specs.Attributes.{daemon_sets, database_sets};
 ghost use Rattle.nsc_daemonconf.specs.Sizes.{SizesFit};
-ghost use Rattle.nsc_daemonconf.specs.Told.{conf_told};
+ghost use Rattle.nsc_daemonconf.specs.Told.{after_line, conf_told};
 
 use crate::attributes::{Attribute, DaemonAttribute, DbAttribute, Service};
 use crate::conf::Conf;
@@ -58,27 +58,27 @@ pub fn read_conf(text: &[u8]) -> Result<Conf, ConfFault>
 
 // The settings with what a line of this number says.
 fn with_line(conf: Conf, line: &[u8], number: u64) -> Result<Conf, ConfFault>
-    ensures told { conf_told result ≡ then_lines number (settings conf) (line_does line.now) (λ later. Ok later) }
+    ensures told { conf_told result ≡ after_line number (settings conf) (line_does line.now) }
     ensures sizes { IfOk result (λ later. SizesFit (settings conf) → SizesFit (settings later)) }
 {
     let Some((word, rest)) = next_word(up_to_remark(line)) else {
         return Ok(conf);
     };
-    match Attribute::named(word) {
-        Some(Attribute::OfDatabase(attribute)) => of_database(conf, attribute, rest, number),
-        Some(Attribute::OfDaemon(attribute)) => of_daemon(conf, attribute, rest, number),
-        None => Err(ConfFault::UnknownAttribute { line: number }),
+    let unknown = ConfFault::UnknownAttribute { line: number };
+    match Attribute::named(word).ok_or(unknown)? {
+        Attribute::OfDatabase(attribute) => with_database_line(conf, attribute, rest, number),
+        Attribute::OfDaemon(attribute) => with_daemon_line(conf, attribute, rest, number),
     }
 }
 
 // The settings with an attribute of one database, behind whose name a service and a value stand.
-fn of_database(
+fn with_database_line(
     conf: Conf,
     attribute: DbAttribute,
     rest: &[u8],
     number: u64,
 ) -> Result<Conf, ConfFault>
-    ensures told { conf_told result ≡ then_lines number (settings conf) (attribute_does (OfDatabase (database_sets attribute)) (words_of rest.now)) (λ later. Ok later) }
+    ensures told { conf_told result ≡ after_line number (settings conf) (attribute_does (OfDatabase (database_sets attribute)) (words_of rest.now)) }
     ensures sizes { IfOk result (λ later. SizesFit (settings conf) → SizesFit (settings later)) }
 {
     let bad_line = ConfFault::BadLine { line: number };
@@ -86,30 +86,30 @@ fn of_database(
     let (service, value) = two_words(rest).ok_or(bad_line)?;
     match Service::named(service).ok_or(bad_line)? {
         Service::Database(db) => {
-            let changed = attribute.set(conf.of(db), value).ok_or(bad_value)?;
+            let changed = attribute.applied_to(conf.of(db), value).ok_or(bad_value)?;
             Ok(conf.with(db, changed))
         }
         // The value is checked, at any settings, and then changes none.
         Service::Netgroup => {
-            attribute.set(conf.passwd, value).ok_or(bad_value)?;
+            attribute.applied_to(conf.passwd, value).ok_or(bad_value)?;
             Ok(conf)
         }
     }
 }
 
 // The settings with an attribute of the daemon, behind whose name a value stands.
-fn of_daemon(
+fn with_daemon_line(
     conf: Conf,
     attribute: DaemonAttribute,
     rest: &[u8],
     number: u64,
 ) -> Result<Conf, ConfFault>
-    ensures told { conf_told result ≡ then_lines number (settings conf) (attribute_does (OfDaemon (daemon_sets attribute)) (words_of rest.now)) (λ later. Ok later) }
+    ensures told { conf_told result ≡ after_line number (settings conf) (attribute_does (OfDaemon (daemon_sets attribute)) (words_of rest.now)) }
     ensures sizes { IfOk result (λ later. SizesFit (settings conf) → SizesFit (settings later)) }
 {
     let bad_line = ConfFault::BadLine { line: number };
     let bad_value = ConfFault::BadValue { line: number };
     let value = only_word(rest).ok_or(bad_line)?;
-    let changed = attribute.set(conf, value).ok_or(bad_value)?;
+    let changed = attribute.applied_to(conf, value).ok_or(bad_value)?;
     Ok(changed)
 }

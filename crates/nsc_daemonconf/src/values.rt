@@ -19,11 +19,9 @@ pub fn size(word: &[u8]) -> Option<u32>
     ensures size { result ≡ size_of word.now }
     ensures within { IfSome result (λ n. (1 ≤ n) × (n ≤ 65536)) }
 {
-    let number = decimal(word)?;
-    if 1 <= number && number <= 65_536 {
-        Some(number)
-    } else {
-        None
+    match decimal(word)? {
+        number @ 1..=65_536 => Some(number),
+        _ => None,
     }
 }
 
@@ -35,10 +33,7 @@ pub fn reloads(word: &[u8]) -> Option<Option<u32>>
     if word.eq_ignore_ascii_case(b"unlimited") {
         return Some(None);
     }
-    let number = match decimal(word) {
-        Some(number) => number,
-        None => hexadecimal(word)?,
-    };
+    let number = decimal(word).or_else(|| hexadecimal(word))?;
     Some(limit(number))
 }
 
