@@ -34,8 +34,25 @@ fn defaults(rt: HostRuntime) {
 }
 
 // The configuration as distributions ship it.
-const SHIPPED: &[u8] =
-    b"\tserver-user             nscd\n\tdebug-level             0\n#\treload-count            5\n\tparanoia                no\n#\trestart-interval        3600\n\n\tenable-cache            passwd          yes\n\tpositive-time-to-live   passwd          600\n\tnegative-time-to-live   passwd          20\n\tsuggested-size          passwd          211\n\tcheck-files             passwd          yes\n\tpersistent              passwd          yes\n\tshared                  passwd          yes\n\tmax-db-size             passwd          33554432\n\tauto-propagate          passwd          yes\n\n\tenable-cache            netgroup        yes\n\tpositive-time-to-live   netgroup        28800\n";
+const SHIPPED: &[u8] = b"\tserver-user             nscd
+\tdebug-level             0
+#\treload-count            5
+\tparanoia                no
+#\trestart-interval        3600
+
+\tenable-cache            passwd          yes
+\tpositive-time-to-live   passwd          600
+\tnegative-time-to-live   passwd          20
+\tsuggested-size          passwd          211
+\tcheck-files             passwd          yes
+\tpersistent              passwd          yes
+\tshared                  passwd          yes
+\tmax-db-size             passwd          33554432
+\tauto-propagate          passwd          yes
+
+\tenable-cache            netgroup        yes
+\tpositive-time-to-live   netgroup        28800
+";
 
 #[test]
 fn reads_what_distributions_ship(rt: HostRuntime) {
