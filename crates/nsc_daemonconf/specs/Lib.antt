@@ -1,1 +1,5 @@
 pub mod Conf
+pub mod Lines
+pub mod Attributes
+pub mod Sizes
+pub mod Told

@@ -63,9 +63,11 @@ impl DbConf {
 }
 
 impl Conf {
-    ghost use Rattle.std.specs.Prelude.{◌≡◌};
+    ghost use Rattle.std.specs.Prelude.{◌≡◌, Some};
     ghost use Rattle.nsc_model.specs.Settings.{settings_of};
     ghost use Rattle.nsc_daemonconf.specs.Conf.{db_settings, settings, default_settings};
+    ghost use Rattle.nsc_daemonconf.specs.Lines.{with_database};
+    ghost use Rattle.nsc_daemonconf.specs.Sizes.{SizeFits, SizesFit};
 
     /// The settings that hold where no line of nscd.conf(5) says otherwise.
     pub fn defaults() -> Conf
@@ -91,5 +93,19 @@ impl Conf {
             Db::Hosts => self.hosts,
             Db::Services => self.services,
         }
+    }
+
+    /// The settings with those of one database replaced.
+    pub(crate) fn with(mut self, db: Db, changed: DbConf) -> Conf
+        ensures with { settings result ≡ with_database (Some db) (λ _. db_settings changed) (settings self) }
+        ensures sizes { SizesFit (settings self) → SizeFits (db_settings changed) → SizesFit (settings result) }
+    {
+        match db {
+            Db::Passwd => self.passwd = changed,
+            Db::Group => self.group = changed,
+            Db::Hosts => self.hosts = changed,
+            Db::Services => self.services = changed,
+        }
+        self
     }
 }

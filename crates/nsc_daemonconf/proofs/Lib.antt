@@ -1,0 +1,3 @@
+pub mod Hexadecimals
+pub mod Tables
+pub mod Remarks

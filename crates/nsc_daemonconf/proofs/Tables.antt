@@ -1,0 +1,37 @@
+-- Tables that are gone through entry by entry.
+use Rattle.std.proofs.Common.{◌≡◌, ℕ, ◌+◌, ◌<◌, ◌≤◌, Bool, true, false, if◌then◌else◌, List, [], ◌∷◌, length, drop, get_or, Option, Some, None, Bor, refl, sym, ◌∙◌, ap, arith, add-one}
+use Rattle.std.specs.Option.{option_map}
+use Rattle.std.specs.Str.{bytes_eq}
+use Rattle.std.proofs.Math.Seq.{drop-cons}
+use Rattle.std.proofs.lemmas.List.{at_drop_all}
+use Rattle.nsc_daemonconf.specs.Attributes.{found}
+
+-- the entries from a place on
+from_entry : {A : Type 0} (table : List (Bor (List ℕ) × A)) (k : ℕ) (entry : Bor (List ℕ) × A) → k < length table → entry ≡ get_or table k entry → drop k table ≡ entry ∷ drop (k + 1) table
+from_entry table k entry inside is = rw add-one (drop-cons table k entry inside) ∙ ap (λ e. e ∷ drop (k + 1) table) (sym is)
+
+pub found_here : {A : Type 0} (table : List (Bor (List ℕ) × A)) (word : List ℕ) (k : ℕ) (entry : Bor (List ℕ) × A) → k < length table → entry ≡ get_or table k entry → bytes_eq word entry.0.now ≡ true → found (drop k table) word ≡ Some entry.1
+unfolding found
+found_here table word k entry inside is same = ap (λ entries. found entries word) (from_entry table k entry inside is) ∙ rw same refl
+
+pub found_later : {A : Type 0} (table : List (Bor (List ℕ) × A)) (word : List ℕ) (k : ℕ) (entry : Bor (List ℕ) × A) → k < length table → entry ≡ get_or table k entry → bytes_eq word entry.0.now ≡ false → found (drop k table) word ≡ found (drop (k + 1) table) word
+unfolding found
+found_later table word k entry inside is other = ap (λ entries. found entries word) (from_entry table k entry inside is) ∙ rw other refl
+
+pub found_none : {A : Type 0} (table : List (Bor (List ℕ) × A)) (word : List ℕ) (k : ℕ) → length table ≤ k → found (drop k table) word ≡ None
+unfolding found
+found_none table word k past = at_drop_all (λ entries. found entries word) table k past
+
+-- what the entry that is found stands for
+abbrev pub meaning : {A B : Type 0} → (A → B) → List (Bor (List ℕ) × A) → List ℕ → Option B
+meaning f [] word = None
+meaning f (entry ∷ table) word = if bytes_eq word entry.0.now then Some (f entry.1) else meaning f table word
+
+pub found-map : {A B : Type 0} (f : A → B) (table : List (Bor (List ℕ) × A)) (word : List ℕ) → option_map f (found table word) ≡ meaning f table word
+unfolding found
+found-map f [] word = refl
+found-map f (entry ∷ table) word =
+    elim (bytes_eq word entry.0.now) as (λ same. option_map f (if same then Some entry.1 else found table word) ≡ (if same then Some (f entry.1) else meaning f table word)) [
+      | true ↦ refl
+      | false ↦ found-map f table word
+    ]

@@ -1,0 +1,153 @@
+-- The lines of nscd.conf(5), and the settings that they give.
+use Rattle.std.specs.Prelude.{ℕ, ◌+◌, Bool, true, false, ◌&&◌, nat_lt, nat_le, ◌==◌, if◌then◌else◌, List, [], ◌∷◌, length, drop, codes, Option, Some, None, Result, Ok, Err, option_and_then}
+use Rattle.std.specs.List.{before_first, list_all}
+use Rattle.std.specs.Option.{option_map, option_or}
+use Rattle.std.specs.Char.{is_ascii_hexdigit}
+use Rattle.std.specs.Str.{bytes_eq, str_eq_ignore_ascii_case}
+use Rattle.std.specs.Str.Parse.{digits_value}
+use Rattle.nsc_base.specs.Text.{is_filled, lines_of, words_of}
+use Rattle.nsc_base.specs.Decimal.{decimal_of}
+use Rattle.nsc_model.specs.declared.kind.Db.{Db}
+use Rattle.nsc_model.specs.declared.kind.Db.TheVariants as db
+use Rattle.nsc_model.specs.Settings.{DbSettings, Settings}
+use Rattle.nsc_daemonconf.specs.Conf.{default_settings}
+
+-- ---- values
+
+abbrev pub yes_or_no : List ℕ → Option Bool
+yes_or_no word = if bytes_eq word (codes "yes") then Some true else (if bytes_eq word (codes "no") then Some false else None)
+
+-- a suggested size is 1 to 65,536
+abbrev pub size_in : ℕ → Option ℕ
+size_in n = if nat_lt 0 n && nat_le n 65536 then Some n else None
+
+abbrev pub size_of : List ℕ → Option ℕ
+size_of word = option_and_then size_in (decimal_of word)
+
+-- `0x` and one to eight hexadecimal digits, in either case
+abbrev pub is_hexadecimal : List ℕ → Bool
+is_hexadecimal (z ∷ x ∷ digits) = bytes_eq (z ∷ x ∷ []) (codes "0x") && is_filled digits && nat_lt (length digits) 9 && list_all is_ascii_hexdigit digits
+is_hexadecimal _ = false
+
+abbrev pub hexadecimal_of : List ℕ → Option ℕ
+hexadecimal_of word = if is_hexadecimal word then Some (digits_value 16 (drop 2 word)) else None
+
+-- 255 and more reloads are as many as one likes
+abbrev pub limit_in : ℕ → Option ℕ
+limit_in n = if nat_lt n 255 then Some n else None
+
+-- a limit of reloads, where the word gives one; it may be that there is none
+abbrev pub reloads_of : List ℕ → Option (Option ℕ)
+reloads_of word =
+    if str_eq_ignore_ascii_case word (codes "unlimited") then Some None else
+    option_map limit_in (option_or (decimal_of word) (hexadecimal_of word))
+
+-- ---- attributes
+
+-- what an attribute is about: one database, or all of the daemon; and what a value does, where it is one of the attribute's
+pub data Attribute : Type 0 where
+  OfDatabase : (sets : List ℕ → Option (DbSettings → DbSettings)) → Attribute
+  OfDaemon : (sets : List ℕ → Option (Settings → Settings)) → Attribute
+
+-- no setting changes
+abbrev pub no_effect : {A : Type 0} → Option A → Option (Settings → Settings)
+no_effect value = option_map (λ v s. s) value
+
+abbrev pub attribute_named : List ℕ → Option Attribute
+attribute_named word =
+    if bytes_eq word (codes "enable-cache") then Some (OfDatabase (λ w. option_map (λ b s. record s { enabled = b }) (yes_or_no w))) else (
+    if bytes_eq word (codes "positive-time-to-live") then Some (OfDatabase (λ w. option_map (λ n s. record s { positive = n }) (decimal_of w))) else (
+    if bytes_eq word (codes "negative-time-to-live") then Some (OfDatabase (λ w. option_map (λ n s. record s { negative = n }) (decimal_of w))) else (
+    if bytes_eq word (codes "suggested-size") then Some (OfDatabase (λ w. option_map (λ n s. record s { size = n }) (size_of w))) else (
+    if bytes_eq word (codes "check-files") then Some (OfDatabase (λ w. option_map (λ b s. record s { check_files = b }) (yes_or_no w))) else (
+    if bytes_eq word (codes "persistent") then Some (OfDatabase (λ w. option_map (λ b s. record s { persistent = b }) (yes_or_no w))) else (
+    if bytes_eq word (codes "shared") then Some (OfDatabase (λ w. option_map (λ b s. record s { shared = b }) (yes_or_no w))) else (
+    if bytes_eq word (codes "max-db-size") then Some (OfDatabase (λ w. option_map (λ n s. record s { max_size = n }) (decimal_of w))) else (
+    if bytes_eq word (codes "auto-propagate") then Some (OfDatabase (λ w. option_map (λ b s. record s { propagate = b }) (yes_or_no w))) else (
+    if bytes_eq word (codes "threads") then Some (OfDaemon (λ w. option_map (λ n s. record s { threads = n }) (decimal_of w))) else (
+    if bytes_eq word (codes "reload-count") then Some (OfDaemon (λ w. option_map (λ r s. record s { reloads = r }) (reloads_of w))) else (
+    if bytes_eq word (codes "max-threads") then Some (OfDaemon (λ w. no_effect (decimal_of w))) else (
+    if bytes_eq word (codes "debug-level") then Some (OfDaemon (λ w. no_effect (decimal_of w))) else (
+    if bytes_eq word (codes "restart-interval") then Some (OfDaemon (λ w. no_effect (decimal_of w))) else (
+    if bytes_eq word (codes "paranoia") then Some (OfDaemon (λ w. no_effect (yes_or_no w))) else (
+    if bytes_eq word (codes "logfile") then Some (OfDaemon (λ w. no_effect (Some w))) else (
+    if bytes_eq word (codes "server-user") then Some (OfDaemon (λ w. no_effect (Some w))) else (
+    if bytes_eq word (codes "stat-user") then Some (OfDaemon (λ w. no_effect (Some w))) else None)))))))))))))))))
+
+-- the service that a line is about: one of the databases, or netgroups, which are not cached
+abbrev pub service_named : List ℕ → Option (Option Db)
+service_named word =
+    if bytes_eq word (codes "passwd") then Some (Some db.Passwd) else (
+    if bytes_eq word (codes "group") then Some (Some db.Group) else (
+    if bytes_eq word (codes "hosts") then Some (Some db.Hosts) else (
+    if bytes_eq word (codes "services") then Some (Some db.Services) else (
+    if bytes_eq word (codes "netgroup") then Some None else None))))
+
+-- the settings with those of one database changed so; a line about netgroups changes nothing
+abbrev pub with_database : Option Db → (DbSettings → DbSettings) → Settings → Settings
+with_database None change s = s
+with_database (Some db.Passwd) change s = record s { passwd = change s.passwd }
+with_database (Some db.Group) change s = record s { group = change s.group }
+with_database (Some db.Hosts) change s = record s { hosts = change s.hosts }
+with_database (Some db.Services) change s = record s { services = change s.services }
+
+-- ---- lines
+
+-- why a line is refused: an attribute that is none; a number of words, or a service, that the attribute does not have; or a
+-- value that is none of the attribute's
+pub data LineFault : Type 0 where
+  UnknownAttribute : LineFault
+  BadLine : LineFault
+  BadValue : LineFault
+
+abbrev pub or_fault : {A : Type 0} → LineFault → Option A → Result A LineFault
+or_fault fault None = Err fault
+or_fault fault (Some x) = Ok x
+
+infixl 10 ◌>>=◌
+abbrev ◌>>=◌ : {A B E : Type 0} → Result A E → (A → Result B E) → Result B E
+(Err e) >>= f = Err e
+(Ok x) >>= f = f x
+
+-- what an attribute with these words behind it does
+abbrev pub attribute_does : Attribute → List (List ℕ) → Result (Settings → Settings) LineFault
+attribute_does (OfDatabase sets) (service ∷ value ∷ []) = do
+  which ← or_fault BadLine (service_named service)
+  change ← or_fault BadValue (sets value)
+  Ok (with_database which change)
+attribute_does (OfDaemon sets) (value ∷ []) = or_fault BadValue (sets value)
+attribute_does (OfDatabase sets) _ = Err BadLine
+attribute_does (OfDaemon sets) _ = Err BadLine
+
+-- what the words of a line do; with no word a line does nothing
+abbrev pub words_do : List (List ℕ) → Result (Settings → Settings) LineFault
+words_do [] = Ok (λ s. s)
+words_do (word ∷ words) = do
+  attribute ← or_fault UnknownAttribute (attribute_named word)
+  attribute_does attribute words
+
+-- a remark begins with a `#` and goes to the end of its line
+abbrev pub line_does : List ℕ → Result (Settings → Settings) LineFault
+line_does line = words_do (words_of (before_first (λ b. b == 35) line))
+
+-- ---- the whole text
+
+-- a line that is refused, by its number from 1
+pub record Refused : Type 0 where
+  pub fault : LineFault
+  pub line : ℕ
+
+-- one line behind settings, and then the lines behind it
+abbrev pub then_lines : ℕ → Settings → Result (Settings → Settings) LineFault → (Settings → Result Settings Refused) → Result Settings Refused
+then_lines n s (Err fault) next = Err (record { fault = fault; line = n })
+then_lines n s (Ok change) next = next (change s)
+
+-- each line in its order, the first of them with this number: a later one replaces an earlier one, and the first that is
+-- refused decides
+abbrev pub conf_from : ℕ → Settings → List (List ℕ) → Result Settings Refused
+conf_from n s [] = Ok s
+conf_from n s (line ∷ lines) = then_lines n s (line_does line) (λ later. conf_from (n + 1) later lines)
+
+-- the settings that a text gives
+abbrev pub conf_of : List ℕ → Result Settings Refused
+conf_of text = conf_from 1 default_settings (lines_of text)

@@ -1,0 +1,115 @@
+ghost use Rattle.std.specs.Prelude.{◌≡◌, IfOk};
+ghost use Rattle.nsc_base.specs.Text.{words_of};
+ghost use Rattle.nsc_daemonconf.specs.Conf.{settings};
+ghost use Rattle.nsc_daemonconf.specs.Lines.{OfDatabase, OfDaemon, attribute_does, conf_of, line_does};
+ghost use Rattle.nsc_daemonconf.specs.Attributes.{daemon_sets, database_sets};
+ghost use Rattle.nsc_daemonconf.specs.Sizes.{SizesFit};
+ghost use Rattle.nsc_daemonconf.specs.Told.{after_line, conf_told};
+
+use crate::attributes::{Attribute, DaemonAttribute, DbAttribute, Service};
+use crate::conf::Conf;
+use crate::words::{next_word, only_word, two_words, up_to_remark};
+use nsc_base::line_at;
+use thiserror::Error;
+
+/// Why a text is no nscd.conf(5). Each fault has the number of its line, from 1.
+#[derive(Clone, Copy, Debug, PartialEq, Eq, Error)]
+pub enum ConfFault {
+    /// The line has a number of words, or a service, that its attribute does not have.
+    #[error("configuration line {line}: bad line")]
+    BadLine {
+        /// The number of the line.
+        line: u64,
+    },
+    /// The value is none of the attribute's.
+    #[error("configuration line {line}: bad value")]
+    BadValue {
+        /// The number of the line.
+        line: u64,
+    },
+    /// The first word is no attribute.
+    #[error("configuration line {line}: unknown attribute")]
+    UnknownAttribute {
+        /// The number of the line.
+        line: u64,
+    },
+}
+
+/// The settings of a text of nscd.conf(5): those that hold by default, with what each line in its order says, so that a
+/// later line replaces an earlier one. Blanks and tabs part words, a `#` begins a remark, and a line with no word says
+/// nothing. Attributes, services and values are told by their exact bytes, but for `unlimited`. The first line at fault
+/// decides, and of its faults an unknown attribute before a bad line, and that before a bad value. Takes no memory.
+pub fn read_conf(text: &[u8]) -> Result<Conf, ConfFault>
+    ensures told { conf_told result ≡ conf_of text.now }
+
+    // Each database has a size that a cache can have.
+    ensures sizes { IfOk result (λ conf. SizesFit (settings conf)) }
+{
+    let mut conf = Conf::defaults();
+    let mut number = 1;
+    let mut from = 0;
+    while let Some(line) = line_at(text, from) {
+        conf = with_line(conf, &text[line.span.from..line.span.to], number)?;
+        number += 1;
+        from = line.next;
+    }
+    Ok(conf)
+}
+
+// The settings with what a line of this number says.
+fn with_line(conf: Conf, line: &[u8], number: u64) -> Result<Conf, ConfFault>
+    ensures told { conf_told result ≡ after_line number (settings conf) (line_does line.now) }
+    ensures sizes { IfOk result (λ later. SizesFit (settings conf) → SizesFit (settings later)) }
+{
+    let Some((word, rest)) = next_word(up_to_remark(line)) else {
+        return Ok(conf);
+    };
+    let unknown = ConfFault::UnknownAttribute { line: number };
+    match Attribute::named(word).ok_or(unknown)? {
+        Attribute::OfDatabase(attribute) => with_database_line(conf, attribute, rest, number),
+        Attribute::OfDaemon(attribute) => with_daemon_line(conf, attribute, rest, number),
+    }
+}
+
+// The settings with an attribute of one database, behind whose name a service and a value stand.
+fn with_database_line(
+    conf: Conf,
+    attribute: DbAttribute,
+    rest: &[u8],
+    number: u64,
+) -> Result<Conf, ConfFault>
+    ensures told { conf_told result ≡ after_line number (settings conf) (attribute_does (OfDatabase (database_sets attribute)) (words_of rest.now)) }
+    ensures sizes { IfOk result (λ later. SizesFit (settings conf) → SizesFit (settings later)) }
+{
+    let bad_line = ConfFault::BadLine { line: number };
+    let bad_value = ConfFault::BadValue { line: number };
+    let (service, value) = two_words(rest).ok_or(bad_line)?;
+    match Service::named(service).ok_or(bad_line)? {
+        Service::Database(db) => {
+            let changed = attribute.applied_to(conf.of(db), value).ok_or(bad_value)?;
+            Ok(conf.with(db, changed))
+        }
+        // The value is checked, at any settings, and then changes none.
+        Service::Netgroup => {
+            attribute.applied_to(conf.passwd, value).ok_or(bad_value)?;
+            Ok(conf)
+        }
+    }
+}
+
+// The settings with an attribute of the daemon, behind whose name a value stands.
+fn with_daemon_line(
+    conf: Conf,
+    attribute: DaemonAttribute,
+    rest: &[u8],
+    number: u64,
+) -> Result<Conf, ConfFault>
+    ensures told { conf_told result ≡ after_line number (settings conf) (attribute_does (OfDaemon (daemon_sets attribute)) (words_of rest.now)) }
+    ensures sizes { IfOk result (λ later. SizesFit (settings conf) → SizesFit (settings later)) }
+{
+    let bad_line = ConfFault::BadLine { line: number };
+    let bad_value = ConfFault::BadValue { line: number };
+    let value = only_word(rest).ok_or(bad_line)?;
+    let changed = attribute.applied_to(conf, value).ok_or(bad_value)?;
+    Ok(changed)
+}
