@@ -1,5 +1,5 @@
 -- Sets of files: what a read answers, and what a set counts.
-use Rattle.std.specs.Prelude.{◌≡◌, ◌≢◌, ℕ, ◌<◌, List, [], length, slice_index_or, replicate, Option, None, IfSome, IsSomeAnd, option_map, find, codes}
+use Rattle.std.specs.Prelude.{◌≡◌, ◌≢◌, ℕ, ◌<◌, List, [], ◌∷◌, ◌++◌, length, slice_index_or, replicate, Option, Some, None, IfSome, IsSomeAnd, option_map, find, codes}
 use Rattle.std.specs.Str.{bytes_eq}
 use Rattle.nsc_model.specs.Files.{Files, file_of, file_limit, no_files}
 use Rattle.nsc_model.specs.Kinds.{file_number}
@@ -96,3 +96,29 @@ folder_path file.Hosts = codes "hosts"
 folder_path file.Services = codes "services"
 folder_path file.ExtraPasswd = codes "extrausers/passwd"
 folder_path file.ExtraGroup = codes "extrausers/group"
+
+-- the path of a file: in this folder, or where the system keeps it
+abbrev pub path_of : Option (List ℕ) → FileId → List ℕ
+path_of None file = system_path file
+path_of (Some folder) file = folder ++ 47 ∷ [] ++ folder_path file
+
+-- a set over the file system: the folder whose files it takes, if it is no longer the system's own, and what it counts
+pub record HostSet : Type 0 where
+  pub folder : Option (List ℕ)
+  pub counts : Counts
+
+-- bytes are all that a reader had left, where it tells that
+abbrev pub IsAllOf : Option (List ℕ) → List ℕ → Type 0
+IsAllOf left bytes = IfSome left (λ all. bytes ≡ all)
+
+-- a cause tells no length
+abbrev pub TellsNoLength : ReadCause → Type 0
+TellsNoLength causes.NoMemory = Unit {0}
+TellsNoLength causes.Failed = Unit {0}
+TellsNoLength (causes.TooLong size) = ⊥
+
+-- of what was too long, a reader had more left than a file may have, where it tells that
+abbrev pub IsLong : Option (List ℕ) → ReadCause → Type 0
+IsLong left causes.NoMemory = Unit {0}
+IsLong left causes.Failed = Unit {0}
+IsLong left (causes.TooLong size) = IfSome left (λ all. file_limit < length all)

@@ -26,4 +26,6 @@ pub use stream::{Failed, Sink, Source};
 pub use whole::{fill, write_all};
 
 #[cfg(test)]
+mod file_tests;
+#[cfg(test)]
 mod tests;

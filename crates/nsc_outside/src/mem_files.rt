@@ -115,7 +115,8 @@ impl MemFiles {
         })
     }
 
-    /// The same set, in which one file is absent, or these bytes, however many. Fails only for want of memory.
+    /// The same set, in which one file is absent, or these bytes, however many. Fails only for want of memory, and
+    /// the set is lost then.
     pub fn with_file(
         mut self,
         alloc: Global,

@@ -1,12 +1,13 @@
-ghost use Rattle.std.specs.Prelude.{◌≡◌, ◌∷◌, ◌++◌, [], IfOk, string_bytes};
-ghost use Rattle.nsc_outside.specs.FileSets.{system_path, folder_path};
+ghost use Rattle.std.specs.Prelude.{◌≡◌, IfOk, string_bytes};
+ghost use Rattle.std.specs.Option.{option_copied};
+ghost use Rattle.nsc_outside.specs.FileSets.{system_path, folder_path, path_of};
 
 use nsc_base::NoMemory;
 use nsc_model::FileId;
 use std::alloc::Global;
 
 // Where a system keeps its files.
-pub(crate) fn system_path(file: FileId) -> &'static str
+fn system_path(file: FileId) -> &'static str
     ensures { result.now ≡ system_path file }
 {
     match file {
@@ -35,10 +36,13 @@ fn folder_path(file: FileId) -> &'static str
     }
 }
 
-// The path of a file in a folder.
-pub(crate) fn path_under(alloc: Global, folder: &str, file: FileId) -> Result<String, NoMemory>
-    ensures { IfOk result (λ path. string_bytes path ≡ folder.now ++ 47 ∷ [] ++ folder_path file) }
+// The path of a file: in this folder, or where the system keeps it.
+pub(crate) fn path_of(alloc: Global, folder: Option<&str>, file: FileId) -> Result<String, NoMemory>
+    ensures { IfOk result (λ path. string_bytes path ≡ path_of (option_copied folder.entry) file) }
 {
+    let Some(folder) = folder else {
+        return Ok(String::from_str(alloc, system_path(file))?);
+    };
     let mut path = String::from_str(alloc, folder)?;
     path.push_str("/")?;
     path.push_str(folder_path(file))?;
