@@ -1,18 +1,31 @@
-//! The outside world as traits: streams of bytes, each with a form in memory and one over the standard library's.
+//! The outside world as traits: streams of bytes and sets of files, each with a form in memory and one over the
+//! standard library's.
 #![tactic(auto)]
 
+mod files;
+mod host_files;
+mod mem_files;
 mod mem_sink;
 mod mem_source;
+mod paths;
 mod plan;
+mod read_plan;
+mod shared;
 mod standard;
 mod stream;
+mod tally;
 mod whole;
 
+pub use files::{FileSet, ReadCause};
+pub use host_files::HostFiles;
+pub use mem_files::MemFiles;
 pub use mem_sink::MemSink;
 pub use mem_source::MemSource;
 pub use standard::{StdSink, StdSource};
 pub use stream::{Failed, Sink, Source};
 pub use whole::{fill, write_all};
 
+#[cfg(test)]
+mod file_tests;
 #[cfg(test)]
 mod tests;

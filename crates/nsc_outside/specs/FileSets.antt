@@ -1,0 +1,124 @@
+-- Sets of files: what a read answers, and what a set counts.
+use Rattle.std.specs.Prelude.{◌≡◌, ◌≢◌, ℕ, ◌<◌, List, [], ◌∷◌, ◌++◌, length, slice_index_or, replicate, Option, Some, None, IfSome, IsSomeAnd, option_map, find, codes}
+use Rattle.std.specs.Str.{bytes_eq}
+use Rattle.nsc_model.specs.Files.{Files, file_of, file_limit, no_files}
+use Rattle.nsc_model.specs.Kinds.{file_number}
+use Rattle.nsc_model.specs.declared.kind.FileId.{FileId}
+use Rattle.nsc_model.specs.declared.kind.FileId.TheVariants as file
+use Rattle.nsc_outside.specs.Stream.{Rose}
+use Rattle.nsc_outside.specs.declared.files.ReadCause.{ReadCause}
+use Rattle.nsc_outside.specs.declared.files.ReadCause.TheVariants as causes
+
+-- one file of those that a set holds, where it tells them
+abbrev pub told_of : Option Files → FileId → Option (Option (List ℕ))
+told_of held file = option_map (λ files. file_of files file) held
+
+-- a file, absent or its bytes, is the one that is told, where one is told
+abbrev pub IsAsTold : Option (Option (List ℕ)) → Option (List ℕ) → Type 0
+IsAsTold told f = IfSome told (λ g. f ≡ g)
+
+-- a length is more than a file may have, and is that of the file that is told, where one is told
+pub record IsPastLimit (told : Option (Option (List ℕ))) (size : ℕ) : Type 0 where
+  pub past : file_limit < size
+  pub of_file : IfSome told (λ f. IsSomeAnd f (λ bytes. length bytes ≡ size))
+
+-- why a file gave no answer: only of one that is too long the cause tells something
+abbrev pub IsCause : Option (Option (List ℕ)) → ReadCause → Type 0
+IsCause told causes.NoMemory = Unit {0}
+IsCause told causes.Failed = Unit {0}
+IsCause told (causes.TooLong size) = IsPastLimit told size
+
+-- what a read with no answer does to a count of faults: that memory was wanting is no fault
+abbrev pub RoseBy : ReadCause → ℕ → ℕ → Type 0
+RoseBy causes.NoMemory before after = after ≡ before
+RoseBy causes.Failed before after = Rose before after
+RoseBy (causes.TooLong size) before after = Rose before after
+
+-- what is known of each file changed at this one at most
+abbrev pub ChangesOnly : {A : Type 0} → FileId → (FileId → A) → (FileId → A) → Type 0
+ChangesOnly file before after = (other : FileId) → other ≢ file → after other ≡ before other
+
+-- what a set counts: faults in all, and of each file, by its number, faults and reads
+pub record Counts : Type 0 where
+  pub faults : ℕ
+  pub file_faults : List ℕ
+  pub reads : List ℕ
+
+-- the count of a file among those by number
+abbrev pub count_of : List ℕ → FileId → ℕ
+count_of counts file = slice_index_or counts (file_number file) 0
+
+-- what the latest read of a file gave, among what those gave by number
+abbrev pub latest_of : List (Option (Option (List ℕ))) → FileId → Option (Option (List ℕ))
+latest_of latest file = slice_index_or latest (file_number file) None
+
+-- a configuration file: its path and its bytes
+pub record ConfFile : Type 0 where
+  pub path : List ℕ
+  pub bytes : List ℕ
+
+-- the bytes of the first configuration file with this path; absent where there is none
+abbrev pub conf_of : List ConfFile → List ℕ → Option (List ℕ)
+conf_of confs path = option_map (λ conf. conf.bytes) (find (λ conf. bytes_eq conf.path path) confs)
+
+-- a set in memory: what it holds, which reads fail, what the latest read of each file gave, by number, and what it counts
+pub record MemSet : Type 0 where
+  pub files : Files
+  pub confs : List ConfFile
+  pub failing : List ℕ
+  pub latest : List (Option (Option (List ℕ)))
+  pub counts : Counts
+
+-- no count has begun
+abbrev pub no_counts : Counts
+no_counts = record { faults = 0; file_faults = replicate 7 0; reads = replicate 7 0 }
+
+-- nothing is held, no read fails, and none was made
+abbrev pub empty_set : MemSet
+empty_set = record { files = no_files; confs = []; failing = []; latest = replicate 7 None; counts = no_counts }
+
+-- where a system keeps its files
+abbrev pub system_path : FileId → List ℕ
+system_path file.Switch = codes "/etc/nsswitch.conf"
+system_path file.Passwd = codes "/etc/passwd"
+system_path file.Group = codes "/etc/group"
+system_path file.Hosts = codes "/etc/hosts"
+system_path file.Services = codes "/etc/services"
+system_path file.ExtraPasswd = codes "/var/lib/extrausers/passwd"
+system_path file.ExtraGroup = codes "/var/lib/extrausers/group"
+
+-- where a folder keeps them, behind its own path and a slash
+abbrev pub folder_path : FileId → List ℕ
+folder_path file.Switch = codes "nsswitch.conf"
+folder_path file.Passwd = codes "passwd"
+folder_path file.Group = codes "group"
+folder_path file.Hosts = codes "hosts"
+folder_path file.Services = codes "services"
+folder_path file.ExtraPasswd = codes "extrausers/passwd"
+folder_path file.ExtraGroup = codes "extrausers/group"
+
+-- the path of a file: in this folder, or where the system keeps it
+abbrev pub path_of : Option (List ℕ) → FileId → List ℕ
+path_of None file = system_path file
+path_of (Some folder) file = folder ++ 47 ∷ [] ++ folder_path file
+
+-- a set over the file system: the folder whose files it takes, if it is no longer the system's own, and what it counts
+pub record HostSet : Type 0 where
+  pub folder : Option (List ℕ)
+  pub counts : Counts
+
+-- bytes are all that a reader had left, where it tells that
+abbrev pub IsAllOf : Option (List ℕ) → List ℕ → Type 0
+IsAllOf left bytes = IfSome left (λ all. bytes ≡ all)
+
+-- a cause tells no length
+abbrev pub TellsNoLength : ReadCause → Type 0
+TellsNoLength causes.NoMemory = Unit {0}
+TellsNoLength causes.Failed = Unit {0}
+TellsNoLength (causes.TooLong size) = ⊥
+
+-- of what was too long, a reader had more left than a file may have, where it tells that
+abbrev pub IsLong : Option (List ℕ) → ReadCause → Type 0
+IsLong left causes.NoMemory = Unit {0}
+IsLong left causes.Failed = Unit {0}
+IsLong left (causes.TooLong size) = IfSome left (λ all. file_limit < length all)

@@ -1,0 +1,250 @@
+ghost use Rattle.std.specs.Prelude.{◌≡◌, ◌↔◌, Some, None, IfOk, IfErr, OnOk, OnErr, IsOk, IsTrue};
+ghost use Rattle.std.specs.IoError.{error_kind};
+ghost use Rattle.std.specs.Fs.{file_type, IsFile};
+ghost use Rattle.nsc_model.specs.Files.{FileFits};
+ghost use Rattle.nsc_outside.specs.Stream.{Rose};
+ghost use Rattle.nsc_outside.specs.FileSets.{IsCause, RoseBy, ChangesOnly, IsAllOf, IsLong, TellsNoLength, count_of, no_counts};
+
+use crate::files::{FileSet, ReadCause};
+use crate::paths::path_of;
+use crate::tally::Tally;
+use nsc_base::{Bytes, NoMemory};
+use nsc_model::{Content, FileId};
+use std::alloc::Global;
+use std::fs;
+use std::fs::{File, Metadata};
+use std::io::{Error, ErrorKind, Read};
+use std::marker::Model;
+use std::os::unix::fs::{FileTypeExt, MetadataExt};
+use std::rt::Files;
+
+/// The files of a system, by default its own: `/etc/nsswitch.conf`, `/etc/passwd`, `/etc/group`, `/etc/hosts`,
+/// `/etc/services`, `/var/lib/extrausers/passwd` and `/var/lib/extrausers/group`. It tells nothing of what they hold;
+/// contracts see what it counts.
+///
+/// A file is absent where the system finds none at its path, so also where a folder is missing. Every other error is a
+/// failure, and so is a file that might keep a read waiting, as a FIFO or a terminal, or has no bytes, as a folder or a
+/// socket. The file's kind is looked at before it is opened; that no other kind takes its path in between is trusted.
+#[derive(Drop)]
+pub struct HostFiles<R: Files + Clone + Drop> {
+    system: R,
+    folder: Option<String>,
+    tally: Tally,
+}
+
+impl<R: Files + Clone + Drop> Model for HostFiles<R> {
+    ghost use Rattle.std.specs.Prelude.{string_bytes};
+    ghost use Rattle.std.specs.Option.{option_map};
+    ghost use Rattle.nsc_outside.specs.FileSets.{HostSet};
+
+    ghost Value = { HostSet };
+
+    ghost view = { λ s. record { folder = option_map string_bytes s.folder; counts = s.tally } };
+}
+
+impl<R: Files + Clone + Drop> HostFiles<R> {
+    /// The system's own files, of which none was read.
+    pub fn new(system: R) -> HostFiles<R>
+        ensures { result ≡ record { folder = None; counts = no_counts } }
+    {
+        HostFiles {
+            system,
+            folder: None,
+            tally: Tally::new(),
+        }
+    }
+
+    /// How many calls failed or met a file that is too long; the count stops at the greatest `u64`.
+    pub fn faults(&self) -> u64
+        ensures { result ≡ self.now.counts.faults }
+    {
+        self.tally.faults()
+    }
+
+    /// The same of one file.
+    pub fn file_faults(&self, file: FileId) -> u64
+        ensures { result ≡ count_of self.now.counts.file_faults file }
+    {
+        self.tally.file_faults(file)
+    }
+
+    /// How often a file was read with an answer; the count stops at the greatest `u64`.
+    pub fn reads(&self, file: FileId) -> u64
+        ensures { result ≡ count_of self.now.counts.reads file }
+    {
+        self.tally.reads(file)
+    }
+
+    // One read of a file.
+    fn fetch(&self, alloc: Global, file: FileId) -> Result<Option<Bytes>, ReadCause>
+        ensures fits { IfOk result (λ f. FileFits f) }
+        ensures cause { IfErr result (λ cause. IsCause None cause) }
+    {
+        let folder = self.folder.as_ref().map(|folder| folder.as_str());
+        let path = path_of(alloc, folder, file)?;
+        read_path(&self.system, alloc, path.as_str())
+    }
+}
+
+impl<R: Files + Clone + Drop> FileSet for HostFiles<R> {
+    ghost use Rattle.std.specs.Prelude.{None};
+    ghost use Rattle.nsc_outside.specs.FileSets.{count_of};
+
+    ghost faults = { λ s. s.counts.faults };
+
+    ghost file_faults = { λ s. count_of s.counts.file_faults };
+
+    ghost reads = { λ s. count_of s.counts.reads };
+
+    ghost latest = { λ _ _. None };
+
+    ghost held = { λ _. None };
+
+    ghost conf_held = { λ _ _. None };
+
+    fn under(&mut self, alloc: Global, dir: &str) -> Result<(), NoMemory>
+        ensures ok { OnOk result (self.new ≡ record self.old { folder = Some dir.now }) }
+        ensures err { OnErr result (self.new ≡ self.old) }
+    {
+        self.folder = Some(String::from_str(alloc, dir)?);
+        Ok(())
+    }
+
+    fn split(&self, alloc: Global) -> Result<HostFiles<R>, NoMemory>
+        ensures { IfOk result (λ set. set ≡ record self.now { counts = no_counts }) }
+    {
+        let folder = match &self.folder {
+            None => None,
+            Some(folder) => Some(String::from_str(alloc, folder.as_str())?),
+        };
+        Ok(HostFiles {
+            system: self.system.clone()?,
+            folder,
+            tally: Tally::new(),
+        })
+    }
+
+    /// Opens the file and reads it once. The length that `TooLong` gives is the one that the system told before, or that
+    /// of the 16,777,217 bytes that were read, whichever is more.
+    fn read(&mut self, alloc: Global, file: FileId) -> Result<Option<Bytes>, ReadCause>
+        ensures fits { IfOk result (λ f. FileFits f) }
+        ensures calm { OnOk result (self.new.counts.faults ≡ self.old.counts.faults) }
+        ensures faults { IfErr result (λ cause. RoseBy cause self.old.counts.faults self.new.counts.faults) }
+        ensures file_calm { OnOk result (self.new.counts.file_faults ≡ self.old.counts.file_faults) }
+        ensures file_faults { IfErr result (λ cause. RoseBy cause (count_of self.old.counts.file_faults file) (count_of self.new.counts.file_faults file)) }
+        ensures other_faults { ChangesOnly file (count_of self.old.counts.file_faults) (count_of self.new.counts.file_faults) }
+        ensures read { OnOk result (Rose (count_of self.old.counts.reads file) (count_of self.new.counts.reads file)) }
+        ensures unread { OnErr result (self.new.counts.reads ≡ self.old.counts.reads) }
+        ensures other_reads { ChangesOnly file (count_of self.old.counts.reads) (count_of self.new.counts.reads) }
+        ensures folder { self.new.folder ≡ self.old.folder }
+        ensures cause { IfErr result (λ cause. IsCause None cause) }
+    {
+        let outcome = self.fetch(alloc, file);
+        match &outcome {
+            Ok(_) => self.tally.count_read(file),
+            Err(cause) => self.tally.count_file_cause(file, *cause),
+        }
+        outcome
+    }
+
+    /// Opens the file at the path and reads it once. The length that `TooLong` gives is as for `read`.
+    fn read_conf(&mut self, alloc: Global, path: &str) -> Result<Option<Bytes>, ReadCause>
+        ensures fits { IfOk result (λ f. FileFits f) }
+        ensures cause { IfErr result (λ cause. IsCause None cause) }
+        ensures calm { OnOk result (self.new ≡ self.old) }
+        ensures faults { IfErr result (λ cause. RoseBy cause self.old.counts.faults self.new.counts.faults) }
+        ensures rest { self.new ≡ record self.old { counts = record self.old.counts { faults = self.new.counts.faults } } }
+    {
+        let outcome = read_path(&self.system, alloc, path);
+        if let Err(cause) = &outcome {
+            self.tally.count_cause(*cause);
+        }
+        outcome
+    }
+}
+
+// Reads the file at a path, if there is one.
+fn read_path<R: Files>(system: &R, alloc: Global, path: &str) -> Result<Option<Bytes>, ReadCause>
+    ensures fits { IfOk result (λ f. FileFits f) }
+    ensures cause { IfErr result (λ cause. IsCause None cause) }
+{
+    let metadata = match fs::metadata(system, path) {
+        Ok(metadata) => metadata,
+        Err(error) => return absent_or(&error),
+    };
+    if !reads_at_once(&metadata) {
+        return Err(ReadCause::Failed);
+    }
+    let file = match File::open(system, path) {
+        Ok(file) => file,
+        Err(error) => return absent_or(&error),
+    };
+    Ok(Some(read_whole(alloc, file, metadata.len())?))
+}
+
+// Only that nothing is found is absence.
+#[tactic(auto, using(crate::proofs::Wholes::no_length_no_cause))]
+fn absent_or(error: &Error) -> Result<Option<Bytes>, ReadCause>
+    ensures absent { IfOk result (λ f. f ≡ None) }
+    ensures found { IsOk result ↔ (error_kind error.now ≡ ErrorKind.NotFound) }
+    ensures cause { IfErr result (λ cause. IsCause None cause) }
+{
+    if error.kind() == ErrorKind::NotFound {
+        Ok(None)
+    } else {
+        Err(cause_of(error))
+    }
+}
+
+fn cause_of(error: &Error) -> ReadCause
+    ensures cause { TellsNoLength result }
+    ensures memory { (result ≡ ReadCause.NoMemory) ↔ (error_kind error.now ≡ ErrorKind.OutOfMemory) }
+{
+    if error.kind() == ErrorKind::OutOfMemory {
+        ReadCause::NoMemory
+    } else {
+        ReadCause::Failed
+    }
+}
+
+// The devices null, zero, full and urandom, by Linux's numbers.
+const PROMPT_DEVICES: [u64; 4] = [0x103, 0x105, 0x107, 0x109];
+
+// Whether a read of this file waits for nobody: a terminal, a FIFO and a socket may wait for ever.
+fn reads_at_once(metadata: &Metadata) -> bool
+    ensures { IsFile (file_type metadata.now) → IsTrue result }
+{
+    let kind = metadata.file_type();
+    kind.is_file()
+        || kind.is_block_device()
+        || kind.is_char_device() && PROMPT_DEVICES.contains(&metadata.rdev())
+}
+
+// Reads to the end of the file, whose length was told, but no further than one byte past the limit. The bytes stay where
+// they were read.
+#[tactic(auto, using(crate::proofs::Wholes::no_length_no_cause, crate::proofs::Wholes::no_length_left, crate::proofs::Wholes::long_read))]
+pub(crate) fn read_whole<F: Read + Drop>(
+    alloc: Global,
+    file: F,
+    told: u64,
+) -> Result<Bytes, ReadCause>
+    ensures fits { IfOk result (λ bytes. FileFits (Some bytes)) }
+    ensures cause { IfErr result (λ cause. IsCause None cause) }
+
+    // What the reader tells.
+    ensures whole { IfOk result (λ bytes. IsAllOf (F.remaining file) bytes) }
+    ensures long { IfErr result (λ cause. IsLong (F.remaining file) cause) }
+{
+    const MOST: usize = Content::LIMIT + 1;
+    let room = (told.min(Content::LIMIT as u64) as usize) + 1;
+    let mut bytes = Vec::with_capacity(alloc, room)?;
+    if let Err(error) = file.take(MOST as u64).read_to_end(&mut bytes) {
+        return Err(cause_of(&error));
+    }
+    if bytes.len() > Content::LIMIT {
+        return Err(ReadCause::TooLong {
+            length: told.max(bytes.len() as u64),
+        });
+    }
+    Ok(Bytes::from_vec(bytes))
+}

@@ -1,0 +1,103 @@
+ghost use Rattle.std.specs.Prelude.{◌≡◌};
+ghost use Rattle.nsc_outside.specs.Stream.{Rose};
+ghost use Rattle.nsc_outside.specs.FileSets.{RoseBy, ChangesOnly, count_of, no_counts};
+
+use crate::files::ReadCause;
+use nsc_model::FileId;
+use std::marker::Model;
+
+// What a set of files counts: faults in all, and of each file faults and reads. Each count stops at the greatest `u64`.
+#[derive(Debug, Drop)]
+pub(crate) struct Tally {
+    faults: u64,
+    file_faults: [u64; 7],
+    reads: [u64; 7],
+}
+
+impl Model for Tally {
+    ghost use Rattle.nsc_outside.specs.FileSets.{Counts};
+
+    ghost Value = { Counts };
+
+    ghost view = { λ t. record { faults = t.faults; file_faults = t.file_faults; reads = t.reads } };
+}
+
+impl Tally {
+    // No fault, and no read.
+    pub(crate) fn new() -> Tally
+        ensures { result ≡ no_counts }
+    {
+        Tally {
+            faults: 0,
+            file_faults: [0; 7],
+            reads: [0; 7],
+        }
+    }
+
+    pub(crate) fn faults(&self) -> u64
+        ensures { result ≡ self.now.faults }
+    {
+        self.faults
+    }
+
+    pub(crate) fn file_faults(&self, file: FileId) -> u64
+        ensures { result ≡ count_of self.now.file_faults file }
+    {
+        self.file_faults[file as usize]
+    }
+
+    pub(crate) fn reads(&self, file: FileId) -> u64
+        ensures { result ≡ count_of self.now.reads file }
+    {
+        self.reads[file as usize]
+    }
+
+    // Counts a read of this file that had an answer.
+    pub(crate) fn count_read(&mut self, file: FileId)
+        ensures faults { self.new.faults ≡ self.old.faults }
+        ensures file_faults { self.new.file_faults ≡ self.old.file_faults }
+        ensures read { Rose (count_of self.old.reads file) (count_of self.new.reads file) }
+        ensures others { ChangesOnly file (count_of self.old.reads) (count_of self.new.reads) }
+    {
+        let place = file as usize;
+        self.reads[place] = self.reads[place].saturating_add(1);
+    }
+
+    // Counts why a read had no answer. That memory was wanting is no fault.
+    pub(crate) fn count_cause(&mut self, cause: ReadCause)
+        ensures faults { RoseBy cause self.old.faults self.new.faults }
+        ensures file_faults { self.new.file_faults ≡ self.old.file_faults }
+        ensures reads { self.new.reads ≡ self.old.reads }
+    {
+        match cause {
+            ReadCause::NoMemory => {}
+            ReadCause::Failed | ReadCause::TooLong { .. } => self.faults = self
+                .faults
+                .saturating_add(1),
+        }
+    }
+
+    // The same of this file.
+    pub(crate) fn count_file_cause(&mut self, file: FileId, cause: ReadCause)
+        ensures faults { RoseBy cause self.old.faults self.new.faults }
+        ensures file_faults { RoseBy cause (count_of self.old.file_faults file) (count_of self.new.file_faults file) }
+        ensures others { ChangesOnly file (count_of self.old.file_faults) (count_of self.new.file_faults) }
+        ensures reads { self.new.reads ≡ self.old.reads }
+    {
+        match cause {
+            ReadCause::NoMemory => {}
+            ReadCause::Failed | ReadCause::TooLong { .. } => self.count_file_fault(file),
+        }
+    }
+
+    fn count_file_fault(&mut self, file: FileId)
+        ensures faults { Rose self.old.faults self.new.faults }
+        ensures file_faults { Rose (count_of self.old.file_faults file) (count_of self.new.file_faults file) }
+        ensures others { ChangesOnly file (count_of self.old.file_faults) (count_of self.new.file_faults) }
+        ensures reads { self.new.reads ≡ self.old.reads }
+    {
+        let place = file as usize;
+        self.faults = self.faults.saturating_add(1);
+        self.file_faults[place] = self.file_faults[place].saturating_add(1);
+    }
+}
