@@ -88,6 +88,8 @@ then_no_memory settings s next place next_place before mid after had between got
 pub chained : (settings : Settings) (s next : State) (place next_place : ℕ) (before mid after had between got : Told) (exit : Exit) → GoesOn settings s place next next_place before mid had between → Run settings next next_place mid after between got exit → Run settings s place before after had got exit
 chained settings s next place next_place before mid after had between got exits.Ok a b = then_end settings s next place next_place before mid after had between got a b
 chained settings s next place next_place before mid after had between got exits.Usage a b = b
+chained settings s next place next_place before mid after had between got exits.SourceFault a b = b
+chained settings s next place next_place before mid after had between got (exits.BadConf fault) a b = b
 chained settings s next place next_place before mid after had between got exits.ReadFault a b = then_read_fault settings s next place next_place before mid after had between got a b
 chained settings s next place next_place before mid after had between got exits.WriteFault a b = then_write_fault settings s next place next_place before mid after had between got a b
 chained settings s next place next_place before mid after had between got (exits.Spent count) a b = then_to (Spent count) settings s next place next_place before mid after had between got a b

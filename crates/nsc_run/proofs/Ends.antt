@@ -54,6 +54,8 @@ finish_tells settings finish bytes after had got r = subst (λ f. TellsEnd f (ex
 tells_at : (settings : Settings) (bytes : List ℕ) (after had got : Told) (exit : Exit) (a b c d : ℕ) → Run settings first_state 0 (Some bytes) after had got exit → Counted exit a b c d → (Rose a b → ⊥) → (Rose c d → ⊥) → TellsEnd (replay settings bytes).finish exit
 tells_at settings bytes after had got exits.Ok a b c d r counts no_in no_out = subst (λ f. TellsEnd f exits.Ok) (sym (replayed_at settings bytes after had got r).done) (inl refl)
 tells_at settings bytes after had got exits.Usage a b c d r counts no_in no_out = absurd r
+tells_at settings bytes after had got exits.SourceFault a b c d r counts no_in no_out = absurd r
+tells_at settings bytes after had got (exits.BadConf fault) a b c d r counts no_in no_out = absurd r
 tells_at settings bytes after had got exits.ReadFault a b c d r counts no_in no_out = absurd (no_in counts.input_rose)
 tells_at settings bytes after had got exits.WriteFault a b c d r counts no_in no_out = absurd (no_out counts.output_rose)
 tells_at settings bytes after had got (exits.BadFrame offset) a b c d r counts no_in no_out = finish_tells settings (Bad offset) bytes after had got r

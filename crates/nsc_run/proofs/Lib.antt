@@ -5,3 +5,5 @@ pub mod OneRound
 pub mod Chains
 pub mod Ends
 mod OwnFiles
+pub mod Matched
+pub mod Courses

@@ -3,7 +3,7 @@ use Rattle.std.proofs.Common.{◌≡◌, ℕ, ◌+◌, ◌<◌, ◌≤◌, List,
 use Rattle.std.proofs.lemmas.List.{append-nil}
 use Rattle.nsc_outside.specs.Stream.{Grows}
 use Rattle.nsc_outside.proofs.Streams.{Moves-nothing, Grows-nothing}
-use Rattle.nsc_model.specs.Frames.{Frame, Ask, Become, Reach, Clear, Stop, NoFrame, LongFile, frame_at, frame_size, Finish, Bad, Long, Spent, place_limit}
+use Rattle.nsc_model.specs.Frames.{Frame, Ask, Become, Reach, Clear, Stop, NoFrame, LongFile, frame_at, frame_size, Finish, Spent, place_limit}
 use Rattle.nsc_model.specs.Settings.{Settings}
 use Rattle.nsc_model.specs.Replay.{State, Went, turn_of, Replayed, behind_output, replay_from, play}
 use Rattle.nsc_model.specs.Frames.{cut_by}
@@ -99,6 +99,8 @@ does_not settings s place frame before after had got (exits.Spent count) lt foun
 does_not settings s place frame before after had got exits.WriteFault lt found follows d = cut_short settings s place frame before after had got (turn_of settings s frame) lt found follows refl d
 does_not settings s place frame before after had got exits.Ok lt found follows d = absurd d
 does_not settings s place frame before after had got exits.Usage lt found follows d = absurd d
+does_not settings s place frame before after had got exits.SourceFault lt found follows d = absurd d
+does_not settings s place frame before after had got (exits.BadConf fault) lt found follows d = absurd d
 does_not settings s place frame before after had got exits.ReadFault lt found follows d = absurd d
 does_not settings s place frame before after had got (exits.BadFrame offset) lt found follows d = absurd d
 does_not settings s place frame before after had got (exits.TooLong size) lt found follows d = absurd d

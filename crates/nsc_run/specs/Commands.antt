@@ -1,18 +1,93 @@
--- The command words, and what the program claims of a whole run.
-use Rattle.std.specs.Prelude.{◌≡◌, ℕ, ◌≤◌, ◌⊎◌, Bool, false, List, [], ◌∷◌, drop, Option, Some, codes}
+-- The command words, the configuration that they name, and what the program claims of a whole run.
+use Rattle.std.specs.Prelude.{◌≡◌, ℕ, ◌⊎◌, Bool, true, false, ◌&&◌, List, drop, Option, Some, None, IfSome, Result, Ok, Err, codes}
+use Rattle.std.specs.Option.{option_map_or}
 use Rattle.std.specs.Str.{bytes_eq}
-use Rattle.nsc_outside.specs.Stream.{Grows}
+use Rattle.clap.specs.Walk.{Rule, first_of, is_empty}
+use Rattle.clap.specs.Simple.{App, matches_of, new_app, new_rule, on_top, with_rule}
+use Rattle.clap.specs.Faults.{fault_of}
+use Rattle.clap.specs.declared.builder.action.ArgAction.TheVariants.{Set, SetTrue}
+use Rattle.clap.specs.declared.builder.value_parser.ValueParser.TheVariants.{NonEmptyString}
+use Rattle.nsc_outside.specs.Stream.{Rose, Grows}
+use Rattle.nsc_outside.specs.FileSets.{IsAsTold, IsPastLimit}
 use Rattle.nsc_model.specs.Frames.{Finish, Done, Bad, Long, Spent}
 use Rattle.nsc_model.specs.Settings.{Settings}
-use Rattle.nsc_model.specs.Replay.{replay}
+use Rattle.nsc_model.specs.Replay.{first_state, replay}
+use Rattle.nsc_daemonconf.specs.declared.lines.ConfFault.{ConfFault}
+use Rattle.nsc_daemonconf.specs.Conf.{default_settings}
+use Rattle.nsc_daemonconf.specs.Lines.{Refused, conf_of}
+use Rattle.nsc_daemonconf.specs.Sizes.{SizesFit}
+use Rattle.nsc_daemonconf.specs.Told.{refused}
+use Rattle.nsc_run.specs.Runs.{Run}
 use Rattle.nsc_run.specs.declared.exit.Exit.{Exit}
 use Rattle.nsc_run.specs.declared.exit.Exit.TheVariants as exits
 
--- the words of the replay: `--replay` alone
+-- ---- the words
+
+-- `--replay`
+abbrev pub replay_rule : Rule
+replay_rule = record (new_rule (codes "replay")) { long = Some (codes "replay"); action = Some SetTrue }
+
+-- `-f FILE` (102 is `f`) or `--config-file FILE`, a text that is not empty
+abbrev pub config_rule : Rule
+config_rule = record (new_rule (codes "config-file")) { short = Some 102; long = Some (codes "config-file"); action = Some Set; parser = Some NonEmptyString }
+
+-- the program's command, which has these two options, no option for help or the version, and words with no program's name
+abbrev pub command_app : App
+command_app = with_rule (with_rule (on_top (λ s. record s { no_binary_name = true; disable_help_flag = true; disable_version_flag = true }) (new_app (codes "nscd"))) replay_rule) config_rule
+
+-- clap refuses the words of the command for no reason, so it takes them, but for want of memory
+abbrev pub is_command : List (List ℕ) → Bool
+is_command words = is_empty (fault_of command_app words)
+
+-- `--replay` is among the words of a command
+abbrev pub has_replay : List (List ℕ) → Bool
+has_replay words = option_map_or (λ text. bytes_eq text (codes "true")) (first_of (codes "replay") (matches_of command_app words)) false
+
+-- the words of the replay
 abbrev pub is_replay : List (List ℕ) → Bool
-is_replay [] = false
-is_replay (word ∷ []) = bytes_eq word (codes "--replay")
-is_replay (word ∷ next ∷ words) = false
+is_replay words = is_command words && has_replay words
+
+-- the path of the configuration file that the words of a command name
+abbrev pub config_of : List (List ℕ) → Option (List ℕ)
+config_of words = first_of (codes "config-file") (matches_of command_app words)
+
+-- why words are refused, by the exit: memory was wanting, or they are not what they should be
+abbrev pub IsRefusal : Bool → Exit → Type 0
+IsRefusal good exit = (exit ≡ exits.NoMemory) ⊎ ((exit ≡ exits.Usage) × (good ≡ false))
+
+-- ---- the configuration
+
+-- what is told of the configuration at a path: absent, or its bytes; with no path, it is told to be absent
+abbrev pub config_told : (List ℕ → Option (Option (List ℕ))) → Option (List ℕ) → Option (Option (List ℕ))
+config_told held None = Some None
+config_told held (Some path) = held path
+
+-- the settings that a configuration gives, or the line that it is refused for; an absent one gives the defaults
+abbrev pub settings_by : Option (List ℕ) → Result Settings Refused
+settings_by None = Ok default_settings
+settings_by (Some text) = conf_of text
+
+-- a configuration was read, the one that is told where one is told, and this is what it gives
+pub record Gives (told : Option (Option (List ℕ))) (outcome : Result Settings Refused) : Type 0 where
+  pub config : Option (List ℕ)
+  pub as_told : IsAsTold told config
+  pub gives : settings_by config ≡ outcome
+
+-- Settings that were read, and the set's count of faults, which stays.
+pub record IsSet (told : Option (Option (List ℕ))) (before after : ℕ) (settings : Settings) : Type 0 where
+  pub of_config : Gives told (Ok settings)
+  pub sizes : SizesFit settings
+  pub calm : after ≡ before
+
+-- why no settings were read, by the exit, with the set's count of faults
+abbrev pub NotSet : Option (Option (List ℕ)) → ℕ → ℕ → Exit → Type 0
+NotSet told before after (exits.BadConf fault) = Gives told (Err (refused fault)) × (after ≡ before)
+NotSet told before after exits.SourceFault = Rose before after
+NotSet told before after (exits.TooLong size) = IsPastLimit told size × Rose before after
+NotSet told before after exits.NoMemory = after ≡ before
+NotSet told before after _ = ⊥
+
+-- ---- the whole run
 
 -- The replay of what the source had is done: the source stands right behind its first E, and the sink took exactly the
 -- output.
@@ -32,13 +107,41 @@ exit_at (Spent count) = exits.Spent count
 abbrev pub TellsEnd : Finish → Exit → Type 0
 TellsEnd finish exit = (exit ≡ exit_at finish) ⊎ (exit ≡ exits.NoMemory)
 
--- each database has a size that a cache can have
-pub record SizesFit (settings : Settings) : Type 0 where
-  pub users_some : 1 ≤ settings.passwd.size
-  pub users_fit : settings.passwd.size ≤ 65536
-  pub groups_some : 1 ≤ settings.group.size
-  pub groups_fit : settings.group.size ≤ 65536
-  pub hosts_some : 1 ≤ settings.hosts.size
-  pub hosts_fit : settings.hosts.size ≤ 65536
-  pub services_some : 1 ≤ settings.services.size
-  pub services_fit : settings.services.size ≤ 65536
+-- the exit tells that line, unless memory was wanting
+abbrev pub TellsRefused : Refused → Exit → Type 0
+TellsRefused line exit = ((fault : ConfFault) × (refused fault ≡ line) × (exit ≡ exits.BadConf fault)) ⊎ (exit ≡ exits.NoMemory)
+
+-- Nothing was read and nothing written.
+pub record Untouched (before after had got : Option (List ℕ)) : Type 0 where
+  pub left_stays : after ≡ before
+  pub taken_stays : got ≡ had
+
+-- the exits that come before a replay only
+abbrev pub ComesBefore : Exit → Type 0
+ComesBefore exits.Usage = Unit {0}
+ComesBefore exits.SourceFault = Unit {0}
+ComesBefore (exits.BadConf fault) = Unit {0}
+ComesBefore _ = ⊥
+
+-- the replay began, with settings that were read
+pub record Ran (told : Option (Option (List ℕ))) (faults_before faults_after : ℕ) (before after had got : Option (List ℕ)) (exit : Exit) : Type 0 where
+  pub settings : Settings
+  pub is_set : IsSet told faults_before faults_after settings
+  pub run : Run settings first_state 0 before after had got exit
+
+-- the replay ran, or no settings were read, and it did not begin
+abbrev pub Course : Option (Option (List ℕ)) → ℕ → ℕ → Option (List ℕ) → Option (List ℕ) → Option (List ℕ) → Option (List ℕ) → Exit → Type 0
+Course told faults_before faults_after before after had got exit =
+    Ran told faults_before faults_after before after had got exit
+    ⊎ (NotSet told faults_before faults_after exit × Untouched before after had got)
+
+-- the replay of what the source had is done, with settings that were read
+pub record IsReplayedBy (told : Option (Option (List ℕ))) (before after had got : Option (List ℕ)) : Type 0 where
+  pub settings : Settings
+  pub of_config : Gives told (Ok settings)
+  pub replayed : IfSome before (λ bytes. IsReplayed settings bytes after had got)
+
+-- the exit tells how the replay of the source ends with these settings, or the line that is refused
+abbrev pub TellsAll : Option (List ℕ) → Result Settings Refused → Exit → Type 0
+TellsAll before (Ok settings) exit = IfSome before (λ bytes. TellsEnd (replay settings bytes).finish exit)
+TellsAll before (Err line) exit = TellsRefused line exit

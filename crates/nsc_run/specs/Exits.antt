@@ -1,5 +1,11 @@
 -- How the program ends: its status, and what it tells.
-use Rattle.std.specs.Prelude.{ℕ, List, [], ◌++◌, codes, decimal}
+use Rattle.std.specs.Prelude.{ℕ, List, [], ◌∷◌, ◌++◌, codes, decimal}
+use Rattle.clap.specs.declared.error.kind.ErrorKind.{ErrorKind}
+use Rattle.clap.specs.declared.error.kind.ErrorKind.TheVariants as kinds
+use Rattle.nsc_outside.specs.declared.files.ReadCause.{ReadCause}
+use Rattle.nsc_outside.specs.declared.files.ReadCause.TheVariants as causes
+use Rattle.nsc_daemonconf.specs.declared.lines.ConfFault.{ConfFault}
+use Rattle.nsc_daemonconf.specs.declared.lines.ConfFault.TheVariants as lines
 use Rattle.nsc_plain.specs.declared.fault.PlainFault.{PlainFault}
 use Rattle.nsc_plain.specs.declared.fault.PlainFault.TheVariants as faults
 use Rattle.nsc_run.specs.declared.halt.Halt.{Halt}
@@ -13,9 +19,17 @@ status_of exits.Usage = 2
 status_of exits.ReadFault = 3
 status_of exits.WriteFault = 4
 status_of (exits.BadFrame offset) = 5
+status_of (exits.BadConf fault) = 6
+status_of exits.SourceFault = 7
 status_of (exits.Spent count) = 9
 status_of exits.NoMemory = 10
 status_of (exits.TooLong size) = 11
+
+-- the line of a configuration that is refused, and why
+abbrev pub conf_text : ConfFault → List ℕ
+conf_text (lines.BadLine n) = codes "nscd: configuration line " ++ decimal n ++ codes ": bad line"
+conf_text (lines.BadValue n) = codes "nscd: configuration line " ++ decimal n ++ codes ": bad value"
+conf_text (lines.UnknownAttribute n) = codes "nscd: configuration line " ++ decimal n ++ codes ": unknown attribute"
 
 -- what is told on standard error, without a newline
 abbrev pub text_of : Exit → List ℕ
@@ -24,9 +38,27 @@ text_of exits.Usage = codes "nscd: usage"
 text_of exits.ReadFault = codes "nscd: input failed"
 text_of exits.WriteFault = codes "nscd: output failed"
 text_of (exits.BadFrame offset) = codes "nscd: bad frame at " ++ decimal offset
+text_of (exits.BadConf fault) = conf_text fault
+text_of exits.SourceFault = codes "nscd: source file failed"
 text_of (exits.Spent count) = codes "nscd: counter spent"
 text_of exits.NoMemory = codes "nscd: no memory"
 text_of (exits.TooLong size) = codes "nscd: file of " ++ decimal size ++ codes " bytes is too long"
+
+-- the same with a newline, and nothing at all where the command was done
+abbrev pub line_of : Exit → List ℕ
+line_of exits.Ok = []
+line_of exit = text_of exit ++ 10 ∷ []
+
+-- the exit where a file of a set could not be read
+abbrev pub cause_exit : ReadCause → Exit
+cause_exit causes.NoMemory = exits.NoMemory
+cause_exit causes.Failed = exits.SourceFault
+cause_exit (causes.TooLong size) = exits.TooLong size
+
+-- the exit where clap refuses the words
+abbrev pub error_exit : ErrorKind → Exit
+error_exit kinds.OutOfMemory = exits.NoMemory
+error_exit kind = exits.Usage
 
 -- the exit of a fault of the cache
 abbrev pub exit_of : PlainFault → Exit

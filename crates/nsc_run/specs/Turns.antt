@@ -27,6 +27,8 @@ TurnFaults turn exits.ReadFault = ⊥
 TurnFaults turn exits.WriteFault = ⊥
 TurnFaults turn (exits.BadFrame offset) = ⊥
 TurnFaults turn (exits.TooLong size) = ⊥
+TurnFaults turn exits.SourceFault = ⊥
+TurnFaults turn (exits.BadConf fault) = ⊥
 
 -- an event of the machine stops at this count
 abbrev pub StopsWith : {A : Type 0} → Result A Stopped → ℕ → Type 0
@@ -43,6 +45,8 @@ EventFaults event exits.ReadFault = ⊥
 EventFaults event exits.WriteFault = ⊥
 EventFaults event (exits.BadFrame offset) = ⊥
 EventFaults event (exits.TooLong size) = ⊥
+EventFaults event exits.SourceFault = ⊥
+EventFaults event (exits.BadConf fault) = ⊥
 
 -- a frame that is followed by others: each but the first E
 abbrev pub IsFollowed : Frame → Type 0
@@ -72,3 +76,5 @@ DoesNot turn had got exits.Usage = ⊥
 DoesNot turn had got exits.ReadFault = ⊥
 DoesNot turn had got (exits.BadFrame offset) = ⊥
 DoesNot turn had got (exits.TooLong size) = ⊥
+DoesNot turn had got exits.SourceFault = ⊥
+DoesNot turn had got (exits.BadConf fault) = ⊥

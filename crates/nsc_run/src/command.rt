@@ -1,16 +1,21 @@
-ghost use Rattle.std.specs.Prelude.{◌≡◌, ◌↔◌, false, true, map, IfSome};
+ghost use Rattle.std.specs.Prelude.{◌≡◌, ◌⊎◌, Err, false, true, map, option_map, IfErr, IfSome};
 ghost use Rattle.std.specs.String.{string_bytes};
 ghost use Rattle.nsc_outside.specs.Stream.{Rose};
 ghost use Rattle.nsc_model.specs.Replay.{first_state, replay};
-ghost use Rattle.nsc_daemonconf.specs.Conf.{settings, default_settings};
+ghost use Rattle.nsc_daemonconf.specs.Conf.{settings};
+ghost use Rattle.nsc_daemonconf.specs.Sizes.{SizesFit};
+ghost use Rattle.nsc_daemonconf.specs.Told.{refused};
+ghost use Rattle.nsc_daemonconf.specs.declared.lines.ConfFault.{ConfFault};
 ghost use Rattle.nsc_run.specs.Runs.{Counted, Run};
-ghost use Rattle.nsc_run.specs.Commands.{IsReplayed, SizesFit, TellsEnd, is_replay};
+ghost use Rattle.nsc_run.specs.Commands.{ComesBefore, Course, Gives, IsReplayed, IsReplayedBy, TellsAll, TellsEnd, TellsRefused, Untouched, config_of, config_told, is_replay, settings_by};
 
+use crate::config::conf_at;
 use crate::exit::Exit;
 use crate::rounds::replay_over;
+use crate::words::read_words;
 use nsc_answer::Plain;
 use nsc_daemonconf::Conf;
-use nsc_outside::{Sink, Source};
+use nsc_outside::{FileSet, Sink, Source};
 
 /// Replays the frames of the input with these settings: from every file absent, at moment 0, up to and with the first E.
 /// For each input of a connection the reply is written behind its length. The suggested sizes are 1 to 65,536.
@@ -45,46 +50,64 @@ pub fn replay<RT: AllocGlobal, R: Source, K: Sink>(
 }
 
 /// Runs the command of these words, which leave out the program's own name. The one command so far is `--replay`: the
-/// frames of the input, with the replies to the output, with the settings that hold where no line of nscd.conf(5) says
-/// otherwise.
+/// frames of the input, with the replies to the output. With `-f FILE` or `--config-file FILE` it takes the settings of the
+/// nscd.conf(5) at that path, and without, or where there is no such file, those that hold by default.
 ///
-/// Other words are `Usage`, and then nothing is read or written. The other exits are those of `replay`.
-pub fn run<RT: AllocGlobal, R: Source, K: Sink>(
+/// Other words are `Usage`. Where the file could not be read, the exit is `SourceFault`, where it is longer than a file may
+/// be, `TooLong`, and where it is no nscd.conf(5), `BadConf`. Then nothing is read of the input and nothing written, and so
+/// where memory was wanting for the words or the file. The other exits are those of `replay`.
+pub fn run<RT: AllocGlobal, R: Source, K: Sink, F: FileSet>(
     rt: &RT,
     words: &[String],
     input: &mut R,
     output: &mut K,
+    files: &mut F,
 ) -> Exit
-    ensures usage { (result ≡ Exit.Usage) ↔ (is_replay (map (λ w. string_bytes w) words.now) ≡ false) }
-    ensures untouched { result ≡ Exit.Usage → (R.left input.new ≡ R.left input.old) × (K.taken output.new ≡ K.taken output.old) }
+    // Usage tells that the words are none of the replay, and these come to nothing else, unless memory was wanting.
+    ensures usage { result ≡ Exit.Usage → is_replay (map (λ w. string_bytes w) words.now) ≡ false }
+    ensures refused { is_replay (map (λ w. string_bytes w) words.now) ≡ false → (result ≡ Exit.Usage) ⊎ (result ≡ Exit.NoMemory) }
+    ensures untouched { ComesBefore result → Untouched (R.left input.old) (R.left input.new) (K.taken output.old) (K.taken output.new) }
+
+    // A line is told only where a configuration that is read is refused for it, and where one is told that is, so it is.
+    ensures bad_conf { (fault : ConfFault) → result ≡ Exit.BadConf fault → Gives (config_told (F.conf_held files.old) (config_of (map (λ w. string_bytes w) words.now))) (Err (refused fault)) }
+    ensures refused_conf { is_replay (map (λ w. string_bytes w) words.now) ≡ true → (Rose (F.faults files.old) (F.faults files.new) → ⊥) →
+        IfSome (config_told (F.conf_held files.old) (config_of (map (λ w. string_bytes w) words.now))) (λ config. IfErr (settings_by config) (λ line. TellsRefused line result)) }
+
+    // A fault of a stream or of the files is told only where one came.
+    ensures counts { Counted result (R.faults input.old) (R.faults input.new) (K.faults output.old) (K.faults output.new) }
+    ensures files { result ≡ Exit.SourceFault → Rose (F.faults files.old) (F.faults files.new) }
 
     // The input was read to the end of its first E, and the output is that of the replay.
-    ensures ok { result ≡ Exit.Ok → IfSome (R.left input.old) (λ bytes. IsReplayed default_settings bytes (R.left input.new) (K.taken output.old) (K.taken output.new)) }
+    ensures ok { result ≡ Exit.Ok → IsReplayedBy (config_told (F.conf_held files.old) (config_of (map (λ w. string_bytes w) words.now))) (R.left input.old) (R.left input.new) (K.taken output.old) (K.taken output.new) }
 
     // What was read and written, by the exit.
     ensures run { is_replay (map (λ w. string_bytes w) words.now) ≡ true →
-        Run default_settings first_state 0 (R.left input.old) (R.left input.new) (K.taken output.old) (K.taken output.new) result }
-
-    // A fault of a stream is told only where one came.
-    ensures counts { Counted result (R.faults input.old) (R.faults input.new) (K.faults output.old) (K.faults output.new) }
+        Course (config_told (F.conf_held files.old) (config_of (map (λ w. string_bytes w) words.now))) (F.faults files.old) (F.faults files.new) (R.left input.old) (R.left input.new) (K.taken output.old) (K.taken output.new) result }
 
     // Where no fault came, the exit tells how the replay of the input ends, unless memory was wanting.
     ensures complete { is_replay (map (λ w. string_bytes w) words.now) ≡ true →
-        (Rose (R.faults input.old) (R.faults input.new) → ⊥) → (Rose (K.faults output.old) (K.faults output.new) → ⊥) →
-        IfSome (R.left input.old) (λ bytes. TellsEnd (replay default_settings bytes).finish result) }
+        (Rose (F.faults files.old) (F.faults files.new) → ⊥) → (Rose (R.faults input.old) (R.faults input.new) → ⊥) → (Rose (K.faults output.old) (K.faults output.new) → ⊥) →
+        IfSome (config_told (F.conf_held files.old) (config_of (map (λ w. string_bytes w) words.now))) (λ config. TellsAll (R.left input.old) (settings_by config) result) }
 {
-    if !asks_replay(words) {
-        return Exit::Usage;
+    match read_words(rt.alloc(), words) {
+        Ok(asked) => configured(rt, asked.config, input, output, files),
+        Err(exit) => exit,
     }
-    replay(rt, &Conf::defaults(), input, output)
 }
 
-// Whether the words are those of the replay.
-fn asks_replay(words: &[String]) -> bool
-    ensures { result ≡ is_replay (map (λ w. string_bytes w) words.now) }
+// The replay with the settings of the configuration file at this path.
+fn configured<RT: AllocGlobal, R: Source, K: Sink, F: FileSet>(
+    rt: &RT,
+    config: Option<&str>,
+    input: &mut R,
+    output: &mut K,
+    files: &mut F,
+) -> Exit
+    ensures run { Course (config_told (F.conf_held files.old) (option_map (λ p. p.now) config.entry)) (F.faults files.old) (F.faults files.new) (R.left input.old) (R.left input.new) (K.taken output.old) (K.taken output.new) result }
+    ensures counts { Counted result (R.faults input.old) (R.faults input.new) (K.faults output.old) (K.faults output.new) }
 {
-    match words {
-        [word] => word.as_str() == "--replay",
-        _ => false,
+    match conf_at(rt.alloc(), config, files) {
+        Ok(conf) => replay(rt, &conf, input, output),
+        Err(exit) => exit,
     }
 }

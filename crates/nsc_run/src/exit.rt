@@ -1,9 +1,11 @@
 ghost use Rattle.std.specs.Prelude.{◌≡◌};
 ghost use Rattle.nsc_run.specs.declared.exit.Exit.TheVariants.{NoMemory as Memory};
 
-use nsc_base::NoMemory;
+use nsc_base::{Bytes, NoMemory};
+use nsc_daemonconf::ConfFault;
+use nsc_outside::ReadCause;
 use nsc_plain::PlainFault;
-use std::alloc::AllocFailed;
+use std::alloc::{AllocError, AllocFailed, Global};
 use std::fmt;
 
 /// How the program ends.
@@ -22,6 +24,13 @@ pub enum Exit {
         /// The place of the frame's first byte in the input.
         offset: u64,
     },
+    /// The configuration is refused.
+    BadConf {
+        /// Its first line at fault, and why.
+        fault: ConfFault,
+    },
+    /// A source file is there, or may be, and could not be read.
+    SourceFault,
     /// A count that the machine needed stands at its end.
     Spent {
         /// The count.
@@ -29,16 +38,16 @@ pub enum Exit {
     },
     /// Memory was wanting.
     NoMemory,
-    /// A file is announced that is longer than a file may be.
+    /// A file is announced, or was to be read, that is longer than a file may be.
     TooLong {
-        /// The length that is announced, in bytes.
+        /// The length in bytes: as it is announced, or as far as it is known.
         length: u64,
     },
 }
 
 impl Exit {
-    ghost use Rattle.std.specs.Prelude.{◌≡◌};
-    ghost use Rattle.nsc_run.specs.Exits.{status_of};
+    ghost use Rattle.std.specs.Prelude.{◌≡◌, IfOk};
+    ghost use Rattle.nsc_run.specs.Exits.{line_of, status_of};
 
     /// The status with which the program ends: 0 where the command was done.
     pub fn status(&self) -> u8
@@ -50,10 +59,24 @@ impl Exit {
             Exit::ReadFault => 3,
             Exit::WriteFault => 4,
             Exit::BadFrame { .. } => 5,
+            Exit::BadConf { .. } => 6,
+            Exit::SourceFault => 7,
             Exit::Spent { .. } => 9,
             Exit::NoMemory => 10,
             Exit::TooLong { .. } => 11,
         }
+    }
+
+    /// What is told on standard error: the text of the exit with a newline behind it, and nothing where the command was
+    /// done. Fails only for want of memory.
+    pub fn text(&self, alloc: Global) -> Result<Bytes, NoMemory>
+        ensures { IfOk result (λ text. text ≡ line_of self.now) }
+    {
+        if *self == Exit::Ok {
+            return Ok(Bytes::from_vec(Vec::new(alloc)));
+        }
+        let text = format!(in alloc; "{self}\n")?;
+        Ok(Bytes::from_vec(text.into_bytes()))
     }
 }
 
@@ -71,6 +94,16 @@ impl fmt::Display for Exit {
             Exit::ReadFault => write!(f, "nscd: input failed"),
             Exit::WriteFault => write!(f, "nscd: output failed"),
             Exit::BadFrame { offset } => write!(f, "nscd: bad frame at {offset}"),
+            Exit::BadConf {
+                fault: ConfFault::BadLine { line },
+            } => write!(f, "nscd: configuration line {line}: bad line"),
+            Exit::BadConf {
+                fault: ConfFault::BadValue { line },
+            } => write!(f, "nscd: configuration line {line}: bad value"),
+            Exit::BadConf {
+                fault: ConfFault::UnknownAttribute { line },
+            } => write!(f, "nscd: configuration line {line}: unknown attribute"),
+            Exit::SourceFault => write!(f, "nscd: source file failed"),
             Exit::Spent { .. } => write!(f, "nscd: counter spent"),
             Exit::NoMemory => write!(f, "nscd: no memory"),
             Exit::TooLong { length } => write!(f, "nscd: file of {length} bytes is too long"),
@@ -83,6 +116,38 @@ impl From<NoMemory> for Exit {
 
     fn from(_e: NoMemory) -> Exit {
         Exit::NoMemory
+    }
+}
+
+impl From<AllocError> for Exit {
+    ghost from_gives = { λ _ exit. exit ≡ Memory };
+
+    fn from(_e: AllocError) -> Exit {
+        Exit::NoMemory
+    }
+}
+
+impl From<ReadCause> for Exit {
+    ghost use Rattle.nsc_run.specs.Exits.{cause_exit};
+
+    ghost from_gives = { λ cause exit. exit ≡ cause_exit cause };
+
+    fn from(cause: ReadCause) -> Exit {
+        match cause {
+            ReadCause::NoMemory => Exit::NoMemory,
+            ReadCause::Failed => Exit::SourceFault,
+            ReadCause::TooLong { length } => Exit::TooLong { length },
+        }
+    }
+}
+
+impl From<ConfFault> for Exit {
+    ghost use Rattle.nsc_run.specs.declared.exit.Exit.TheVariants.{BadConf};
+
+    ghost from_gives = { λ fault exit. exit ≡ BadConf fault };
+
+    fn from(fault: ConfFault) -> Exit {
+        Exit::BadConf { fault }
     }
 }
 

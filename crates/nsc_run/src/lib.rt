@@ -3,6 +3,7 @@
 
 mod cached;
 mod command;
+mod config;
 mod exit;
 mod frame;
 mod halt;
@@ -12,6 +13,7 @@ mod reading;
 mod reply;
 mod rounds;
 mod sources;
+mod words;
 
 pub use command::{replay, run};
 pub use exit::Exit;

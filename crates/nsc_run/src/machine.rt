@@ -5,7 +5,7 @@ ghost use Rattle.nsc_model.specs.Fixed.{key_limit};
 ghost use Rattle.nsc_model.specs.Wire.{request_of};
 ghost use Rattle.nsc_model.specs.Replay.{ask_frame, clear_frame, first_state, look_frame, reach_frame, turn_of};
 ghost use Rattle.nsc_daemonconf.specs.Conf.{settings};
-ghost use Rattle.nsc_run.specs.Commands.{SizesFit};
+ghost use Rattle.nsc_daemonconf.specs.Sizes.{SizesFit};
 ghost use Rattle.nsc_run.specs.Desks.{IsOfGroups, IsOfUsers};
 ghost use Rattle.nsc_run.specs.Reading.{FrameFits, seen};
 ghost use Rattle.nsc_run.specs.Turns.{TurnsTo, TurnFaults};

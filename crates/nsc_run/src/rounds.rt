@@ -2,7 +2,7 @@ ghost use Rattle.std.specs.Prelude.{◌≡◌, ◌≤◌, ◌<◌, ◌+◌, leng
 ghost use Rattle.nsc_model.specs.Frames.{input_limit, place_limit};
 ghost use Rattle.nsc_model.specs.Replay.{first_state, turn_of};
 ghost use Rattle.nsc_daemonconf.specs.Conf.{settings};
-ghost use Rattle.nsc_run.specs.Commands.{SizesFit};
+ghost use Rattle.nsc_daemonconf.specs.Sizes.{SizesFit};
 ghost use Rattle.nsc_run.specs.Reading.{FrameFits, seen};
 ghost use Rattle.nsc_run.specs.Turns.{DoesNot, IsDone};
 ghost use Rattle.nsc_run.specs.Runs.{Calm, Counted, GoesOn, Run};

@@ -1,6 +1,6 @@
 ghost use Rattle.std.specs.Prelude.{◌≤◌};
 ghost use Rattle.nsc_daemonconf.specs.Conf.{settings};
-ghost use Rattle.nsc_run.specs.Commands.{SizesFit};
+ghost use Rattle.nsc_daemonconf.specs.Sizes.{SizesFit};
 
 use super::{ASK_NOBODY, ASK_ROOT, END, FILE, FILE_ABSENT, NO_USER, ROOT, joined, sink, source_of};
 use crate::{Exit, replay};
