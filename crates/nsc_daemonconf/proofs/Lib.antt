@@ -1,3 +1,4 @@
 pub mod Hexadecimals
 pub mod Tables
 pub mod Remarks
+pub mod Effects

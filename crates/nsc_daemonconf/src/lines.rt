@@ -110,6 +110,5 @@ fn with_daemon_line(
     let bad_line = ConfFault::BadLine { line: number };
     let bad_value = ConfFault::BadValue { line: number };
     let value = only_word(rest).ok_or(bad_line)?;
-    let changed = attribute.applied_to(conf, value).ok_or(bad_value)?;
-    Ok(changed)
+    attribute.applied_to(conf, value).ok_or(bad_value)
 }

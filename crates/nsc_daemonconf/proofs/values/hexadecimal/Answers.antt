@@ -1,4 +1,4 @@
-use Rattle.std.proofs.Common.{◌≡◌, ◌<◌, ◌≤◌, true, length, get_or, refl, ap, ◌∙◌, arith}
+use Rattle.std.proofs.Common.{◌≡◌, ◌<◌, length, get_or, refl, ap, ◌∙◌, arith}
 use Rattle.std.specs.Char.{is_ascii_hexdigit, digit_value}
 use Rattle.std.proofs.lemmas.Int.Digits.{digits_value_more}
 use Rattle.std.proofs.lemmas.List.Folds.{list_all_more}
