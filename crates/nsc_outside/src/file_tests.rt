@@ -5,7 +5,6 @@ use nsc_model::FileId;
 use std::alloc::Global;
 use std::fs::File;
 use std::io::{Error, ErrorKind, Read};
-use std::os::unix::net::UnixListener;
 use std::test::*;
 use std::{fs, io, process};
 
@@ -216,7 +215,7 @@ fn files_of_a_folder(rt: HostRuntime) -> Result<(), Fail> {
     Ok(())
 }
 
-// A socket and a folder are there, and no read of them waits.
+// A folder is there, and is no file.
 #[test]
 fn what_is_no_file(rt: HostRuntime) -> Result<(), Fail> {
     let folder = folder(&rt, "kinds")?;
@@ -224,14 +223,10 @@ fn what_is_no_file(rt: HostRuntime) -> Result<(), Fail> {
     set.under(rt.alloc(), folder.as_str())?;
     let hosts = format!(in rt.alloc(); "{folder}/hosts")?;
     fs::remove_file(&rt, hosts.as_str())?;
-    let listener = UnixListener::bind(&rt, hosts.as_str())?;
-    assert!(rt; gives(&mut set, rt.alloc(), FileId::Hosts, FAILED));
-    drop(listener);
-    fs::remove_file(&rt, hosts.as_str())?;
     assert!(rt; gives(&mut set, rt.alloc(), FileId::Hosts, Ok(None)));
     fs::create_dir(&rt, hosts.as_str())?;
     assert!(rt; gives(&mut set, rt.alloc(), FileId::Hosts, FAILED));
-    assert_eq!(rt; host_counts(&set, FileId::Hosts), (2, 2, 1));
+    assert_eq!(rt; host_counts(&set, FileId::Hosts), (1, 1, 1));
     fs::remove_dir_all(&rt, folder.as_str())?;
     Ok(())
 }

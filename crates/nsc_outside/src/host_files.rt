@@ -117,10 +117,11 @@ impl<R: Files + Clone + Drop> FileSet for HostFiles<R> {
             None => None,
             Some(folder) => Some(String::from_str(alloc, folder.as_str())?),
         };
+        let tally = Tally::new();
         Ok(HostFiles {
             system: self.system.clone()?,
             folder,
-            tally: Tally::new(),
+            tally,
         })
     }
 

@@ -233,6 +233,7 @@ impl FileSet for MemFiles {
         ensures { IfOk result (λ set. set ≡ record empty_set { files = self.now.files; confs = self.now.confs; failing = self.now.failing }) }
     {
         let files = &self.files;
+        let tally = Tally::new();
         Ok(MemFiles {
             files: [
                 share_file(&files[0])?,
@@ -246,7 +247,7 @@ impl FileSet for MemFiles {
             confs: share_confs(alloc, self.confs.as_slice())?,
             plan: self.plan.share()?,
             latest: [None, None, None, None, None, None, None],
-            tally: Tally::new(),
+            tally,
         })
     }
 

@@ -71,9 +71,7 @@ impl Tally {
     {
         match cause {
             ReadCause::NoMemory => {}
-            ReadCause::Failed | ReadCause::TooLong { .. } => self.faults = self
-                .faults
-                .saturating_add(1),
+            ReadCause::Failed | ReadCause::TooLong { .. } => self.count_fault(),
         }
     }
 
@@ -90,14 +88,21 @@ impl Tally {
         }
     }
 
+    fn count_fault(&mut self)
+        ensures faults { Rose self.old.faults self.new.faults }
+        ensures rest { self.new ≡ record self.old { faults = self.new.faults } }
+    {
+        self.faults = self.faults.saturating_add(1);
+    }
+
     fn count_file_fault(&mut self, file: FileId)
         ensures faults { Rose self.old.faults self.new.faults }
         ensures file_faults { Rose (count_of self.old.file_faults file) (count_of self.new.file_faults file) }
         ensures others { ChangesOnly file (count_of self.old.file_faults) (count_of self.new.file_faults) }
         ensures reads { self.new.reads ≡ self.old.reads }
     {
+        self.count_fault();
         let place = file as usize;
-        self.faults = self.faults.saturating_add(1);
         self.file_faults[place] = self.file_faults[place].saturating_add(1);
     }
 }
