@@ -1,4 +1,5 @@
 mod compat;
+mod configs;
 mod groups;
 mod hosts;
 mod machines;
@@ -6,7 +7,8 @@ mod seeded;
 mod switches;
 
 use crate::{Exit, run};
-use nsc_outside::{MemSink, MemSource};
+use nsc_daemonconf::ConfFault;
+use nsc_outside::{MemFiles, MemSink, MemSource};
 use std::alloc::Global;
 use std::process::Abort;
 use std::test::Fail;
@@ -61,18 +63,29 @@ fn sink(alloc: Global) -> Result<MemSink, Fail> {
     Ok(MemSink::new(alloc, 2048).ok().ok_or("no memory")?)
 }
 
-// The exit of the command of these words.
+// The exit of the command of these words, where no file is there.
 fn command<RT: AllocGlobal>(
     rt: &RT,
     words: &[&str],
     source: &mut MemSource,
     sink: &mut MemSink,
 ) -> Result<Exit, Fail> {
+    command_with(rt, words, source, sink, &mut MemFiles::new(rt.alloc())?)
+}
+
+// The same over these files.
+fn command_with<RT: AllocGlobal>(
+    rt: &RT,
+    words: &[&str],
+    source: &mut MemSource,
+    sink: &mut MemSink,
+    files: &mut MemFiles,
+) -> Result<Exit, Fail> {
     let mut owned = Vec::new(rt.alloc());
     for word in words {
         owned.push(String::from_str(rt.alloc(), word)?)?;
     }
-    Ok(run(rt, &owned, source, sink))
+    Ok(run(rt, &owned, source, sink, files))
 }
 
 // The command `--replay` over these streams exits so, and then the sink has this output.
@@ -280,7 +293,7 @@ fn longest_inputs(rt: HostRuntime) -> Result<(), Fail> {
     Ok(())
 }
 
-const NO_COMMANDS: [&[&str]; 8] = [
+const NO_COMMANDS: [&[&str]; 26] = [
     &[],
     &[""],
     &["--replay", "--replay"],
@@ -288,7 +301,27 @@ const NO_COMMANDS: [&[&str]; 8] = [
     &["-replay"],
     &["--replay "],
     &["--Replay"],
+    &["--repl"],
+    &["--replay=yes"],
+    &["--replay", "conf"],
     &["--help"],
+    &["-h"],
+    &["--version"],
+    &["help"],
+    &["-f", "conf"],
+    &["-f"],
+    &["--replay", "-f"],
+    &["--replay", "--config", "conf"],
+    // A value is not empty, and a separate one does not begin with a hyphen.
+    &["--replay", "-f", ""],
+    &["--replay", "-f="],
+    &["--replay", "--config-file="],
+    &["--replay", "-f", "-x"],
+    &["-f", "--replay"],
+    &["--replay", "-f", "--"],
+    // One file is named at most.
+    &["--replay", "-f", "a", "-f", "b"],
+    &["--replay", "-fa", "--config-file", "b"],
 ];
 
 #[test]
@@ -305,12 +338,34 @@ fn words(rt: HostRuntime) -> Result<(), Fail> {
     Ok(())
 }
 
-const EXITS: [(Exit, u8, &str); 8] = [
+const EXITS: [(Exit, u8, &str); 12] = [
     (Exit::Ok, 0, ""),
     (Exit::Usage, 2, "nscd: usage"),
     (Exit::ReadFault, 3, "nscd: input failed"),
     (Exit::WriteFault, 4, "nscd: output failed"),
     (Exit::BadFrame { offset: 61 }, 5, "nscd: bad frame at 61"),
+    (
+        Exit::BadConf {
+            fault: ConfFault::BadLine { line: 1 },
+        },
+        6,
+        "nscd: configuration line 1: bad line",
+    ),
+    (
+        Exit::BadConf {
+            fault: ConfFault::BadValue { line: 20 },
+        },
+        6,
+        "nscd: configuration line 20: bad value",
+    ),
+    (
+        Exit::BadConf {
+            fault: ConfFault::UnknownAttribute { line: 3 },
+        },
+        6,
+        "nscd: configuration line 3: unknown attribute",
+    ),
+    (Exit::SourceFault, 7, "nscd: source file failed"),
     (Exit::Spent { count: u64::MAX }, 9, "nscd: counter spent"),
     (Exit::NoMemory, 10, "nscd: no memory"),
     (
@@ -322,10 +377,21 @@ const EXITS: [(Exit, u8, &str); 8] = [
 
 #[test]
 fn exits(rt: HostRuntime) -> Result<(), Fail> {
+    let alloc = rt.alloc();
     for (exit, status, text) in &EXITS {
         assert_eq!(rt; exit.status(), *status, "of {exit:?}");
-        let told = format!(in rt.alloc(); "{exit}")?;
+        let told = format!(in alloc; "{exit}")?;
         assert_eq!(rt; told.as_str(), *text, "of {exit:?}");
+        let line = if *exit == Exit::Ok {
+            String::new(alloc)
+        } else {
+            format!(in alloc; "{text}\n")?
+        };
+        assert_eq!(rt;
+            exit.text(alloc)?.as_slice(),
+            line.as_bytes(),
+            "of {exit:?}"
+        );
     }
     Ok(())
 }

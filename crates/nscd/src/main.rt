@@ -2,23 +2,23 @@
 //! ends with its status.
 #![tactic(auto)]
 
-use nsc_outside::{StdSink, StdSource};
+use nsc_outside::{HostFiles, StdSink, StdSource};
 use nsc_run::{Exit, run};
 use std::alloc::AllocError;
-use std::io::{BufReader, ErrorKind};
+use std::io::{BufReader, ErrorKind, Write};
 use std::process::ExitCode;
 use std::{env, io};
 
 fn main(rt: HostRuntime) -> ExitCode {
     let exit = command(&rt);
-    if exit != Exit::Ok {
+    if let Ok(text) = exit.text(rt.alloc()) {
         // Where standard error fails there is nobody left to tell; the status still says why.
-        let _ = eprintln!(&rt; "{exit}");
+        let _ = rt.stderr().write_all(text.as_slice());
     }
     ExitCode::from(exit.status())
 }
 
-// Runs the command over the standard streams.
+// Runs the command over the standard streams and the system's files.
 fn command(rt: &HostRuntime) -> Exit {
     let words = match words(rt) {
         Ok(words) => words,
@@ -30,7 +30,8 @@ fn command(rt: &HostRuntime) -> Exit {
     };
     let mut input = StdSource::new(reader);
     let mut output = StdSink::new(io::writer(rt));
-    run(rt, &words, &mut input, &mut output)
+    let mut files = HostFiles::new(rt);
+    run(rt, &words, &mut input, &mut output, &mut files)
 }
 
 // The command words without the program's own name.

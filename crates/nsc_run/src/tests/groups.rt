@@ -1,5 +1,5 @@
-use super::{END, FILE, NO_USER, ROOT, expect, joined, sink, source_of};
-use crate::{Exit, run};
+use super::{END, FILE, NO_USER, ROOT, command, expect, joined, sink, source_of};
+use crate::Exit;
 use nsc_outside::{MemSink, MemSource};
 use std::test::Fail;
 
@@ -114,9 +114,7 @@ fn long_replies(rt: HostRuntime) -> Result<(), Fail> {
         }
         let mut source = MemSource::new(input);
         let mut taken = MemSink::new(alloc, 200_000).ok().ok_or("no memory")?;
-        let mut words = Vec::new(alloc);
-        words.push(String::from_str(alloc, "--replay")?)?;
-        let exit = run(&rt, &words, &mut source, &mut taken);
+        let exit = command(&rt, &["--replay"], &mut source, &mut taken)?;
         assert_eq!(rt; exit, Exit::Ok);
         let length = taken.taken().len();
         assert_eq!(rt; length, size.saturating_add(*again).saturating_add(8));

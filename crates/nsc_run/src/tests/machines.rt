@@ -9,9 +9,9 @@ use std::process::Abort;
 use std::test::Fail;
 
 // The same user with the shell /bin/sh, and the reply.
-const FILE_SH: &[u8] = b"F\x01\x01\x1e\0\0\0root:x:0:0:root:/root:/bin/sh\n";
+pub(super) const FILE_SH: &[u8] = b"F\x01\x01\x1e\0\0\0root:x:0:0:root:/root:/bin/sh\n";
 
-const ROOT_SH: &[u8] =
+pub(super) const ROOT_SH: &[u8] =
     b"\x3e\0\0\0\x02\0\0\0\x01\0\0\0\x05\0\0\0\x02\0\0\0\0\0\0\0\0\0\0\0\x05\0\0\0\x06\0\0\0\x08\0\0\0root\0x\0root\0/root\0/bin/sh\0";
 
 // What is written where there is no reply.
@@ -21,19 +21,19 @@ const AT_0: &[u8] = b"T\0\0\0\0\0\0\0\0";
 
 const AT_1: &[u8] = b"T\x01\0\0\0\0\0\0\0";
 
-const AT_11: &[u8] = b"T\x0b\0\0\0\0\0\0\0";
+pub(super) const AT_11: &[u8] = b"T\x0b\0\0\0\0\0\0\0";
 
 const AT_21: &[u8] = b"T\x15\0\0\0\0\0\0\0";
 
-const AT_22: &[u8] = b"T\x16\0\0\0\0\0\0\0";
+pub(super) const AT_22: &[u8] = b"T\x16\0\0\0\0\0\0\0";
 
-const AT_33: &[u8] = b"T\x21\0\0\0\0\0\0\0";
+pub(super) const AT_33: &[u8] = b"T\x21\0\0\0\0\0\0\0";
 
 const AT_100: &[u8] = b"T\x64\0\0\0\0\0\0\0";
 
-const AT_3600: &[u8] = b"T\x10\x0e\0\0\0\0\0\0";
+pub(super) const AT_3600: &[u8] = b"T\x10\x0e\0\0\0\0\0\0";
 
-const AT_3601: &[u8] = b"T\x11\x0e\0\0\0\0\0\0";
+pub(super) const AT_3601: &[u8] = b"T\x11\x0e\0\0\0\0\0\0";
 
 // 2^32 - 1 seconds, one more, and the greatest number of eight bytes.
 const AT_FAR: &[u8] = b"T\xff\xff\xff\xff\0\0\0\0";
@@ -43,29 +43,30 @@ const AT_FARTHER: &[u8] = b"T\0\0\0\0\x01\0\0\0";
 const AT_END: &[u8] = b"T\xff\xff\xff\xff\xff\xff\xff\xff";
 
 // Look-ups of users' names of 17 bytes.
-const ASK_0: &[u8] = b"Q\x1e\0\0\0\x02\0\0\0\0\0\0\0\x12\0\0\0absent-user-name0\0";
+pub(super) const ASK_0: &[u8] = b"Q\x1e\0\0\0\x02\0\0\0\0\0\0\0\x12\0\0\0absent-user-name0\0";
 
-const ASK_1: &[u8] = b"Q\x1e\0\0\0\x02\0\0\0\0\0\0\0\x12\0\0\0absent-user-name1\0";
+pub(super) const ASK_1: &[u8] = b"Q\x1e\0\0\0\x02\0\0\0\0\0\0\0\x12\0\0\0absent-user-name1\0";
 
-const ASK_2: &[u8] = b"Q\x1e\0\0\0\x02\0\0\0\0\0\0\0\x12\0\0\0absent-user-name2\0";
+pub(super) const ASK_2: &[u8] = b"Q\x1e\0\0\0\x02\0\0\0\0\0\0\0\x12\0\0\0absent-user-name2\0";
 
-const ASK_3: &[u8] = b"Q\x1e\0\0\0\x02\0\0\0\0\0\0\0\x12\0\0\0absent-user-name3\0";
+pub(super) const ASK_3: &[u8] = b"Q\x1e\0\0\0\x02\0\0\0\0\0\0\0\x12\0\0\0absent-user-name3\0";
 
-const ASK_4: &[u8] = b"Q\x1e\0\0\0\x02\0\0\0\0\0\0\0\x12\0\0\0absent-user-name4\0";
+pub(super) const ASK_4: &[u8] = b"Q\x1e\0\0\0\x02\0\0\0\0\0\0\0\x12\0\0\0absent-user-name4\0";
 
-const ASK_5: &[u8] = b"Q\x1e\0\0\0\x02\0\0\0\0\0\0\0\x12\0\0\0absent-user-name5\0";
+pub(super) const ASK_5: &[u8] = b"Q\x1e\0\0\0\x02\0\0\0\0\0\0\0\x12\0\0\0absent-user-name5\0";
 
-const ASK_6: &[u8] = b"Q\x1e\0\0\0\x02\0\0\0\0\0\0\0\x12\0\0\0absent-user-name6\0";
+pub(super) const ASK_6: &[u8] = b"Q\x1e\0\0\0\x02\0\0\0\0\0\0\0\x12\0\0\0absent-user-name6\0";
 
-const ASK_7: &[u8] = b"Q\x1e\0\0\0\x02\0\0\0\0\0\0\0\x12\0\0\0absent-user-name7\0";
+pub(super) const ASK_7: &[u8] = b"Q\x1e\0\0\0\x02\0\0\0\0\0\0\0\x12\0\0\0absent-user-name7\0";
 
 // A look-up of the name of 25 letters a, a file in which this one and the eighth absent one are users, and the reply.
-const ASK_LETTERS: &[u8] = b"Q\x26\0\0\0\x02\0\0\0\0\0\0\0\x1a\0\0\0aaaaaaaaaaaaaaaaaaaaaaaaa\0";
+pub(super) const ASK_LETTERS: &[u8] =
+    b"Q\x26\0\0\0\x02\0\0\0\0\0\0\0\x1a\0\0\0aaaaaaaaaaaaaaaaaaaaaaaaa\0";
 
-const FILE_LETTERS: &[u8] =
+pub(super) const FILE_LETTERS: &[u8] =
     b"F\x01\x01\x43\0\0\0aaaaaaaaaaaaaaaaaaaaaaaaa:x:1:2:::\nabsent-user-name7:x:3:4::/:/bin\n";
 
-const LETTERS: &[u8] =
+pub(super) const LETTERS: &[u8] =
     b"\x43\0\0\0\x02\0\0\0\x01\0\0\0\x1a\0\0\0\x02\0\0\0\x01\0\0\0\x02\0\0\0\x01\0\0\0\x01\0\0\0\x01\0\0\0aaaaaaaaaaaaaaaaaaaaaaaaa\0x\0\0\0\0";
 
 const CLEAR_USERS: &[u8] = b"I\0";

@@ -1,7 +1,7 @@
 ghost use Rattle.std.specs.Prelude.{◌<◌};
 
-use super::{ASK_ANN, ASK_NOBODY, ASK_ROOT, END, FILE, FILE_ABSENT, FILE_CHANGED, sink};
-use crate::{Exit, run};
+use super::{ASK_ANN, ASK_NOBODY, ASK_ROOT, END, FILE, FILE_ABSENT, FILE_CHANGED, command, sink};
+use crate::Exit;
 use nsc_outside::MemSource;
 use std::test::Fail;
 
@@ -57,11 +57,9 @@ fn stream(rt: &HostRuntime, seed: u64) -> Result<Vec<u8>, Fail> {
 fn outcome(rt: &HostRuntime, bytes: &[u8], step: usize) -> Result<(Exit, Vec<u8>), Fail>
     requires { 0 < step }
 {
-    let mut words = Vec::new(rt.alloc());
-    words.push(String::from_str(rt.alloc(), "--replay")?)?;
     let mut source = MemSource::new(Vec::from_slice(rt.alloc(), bytes)?).with_step(step);
     let mut taken = sink(rt.alloc())?;
-    let exit = run(rt, &words, &mut source, &mut taken);
+    let exit = command(rt, &["--replay"], &mut source, &mut taken)?;
     Ok((exit, Vec::from_slice(rt.alloc(), taken.taken())?))
 }
 
