@@ -14,6 +14,7 @@ changed_told n s None (Some change) is = cc
 changed_told n s (Some conf) None is = cc
 changed_told n s (Some conf) (Some change) is = cc
 
+-- the same, where the value is the only word
 pub daemon_told : (n : ℕ) (s : Settings) (words : List (List ℕ)) (value : List ℕ) (sets : List ℕ → Option (Settings → Settings)) (changed : Option Conf) → words ≡ value ∷ [] → option_map settings changed ≡ option_map (λ change. change s) (sets value) → conf_told (ok_or changed (faults.BadValue n)) ≡ after_line n s (attribute_does (OfDaemon sets) words)
 daemon_told n s words value sets changed only is =
     changed_told n s changed (sets value) is ∙ ap (λ ws. after_line n s (attribute_does (OfDaemon sets) ws)) (sym only)

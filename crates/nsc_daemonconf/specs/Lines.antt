@@ -1,11 +1,11 @@
 -- The lines of nscd.conf(5), and the settings that they give.
-use Rattle.std.specs.Prelude.{ℕ, ◌+◌, Bool, true, false, ◌&&◌, nat_lt, nat_le, ◌==◌, if◌then◌else◌, List, [], ◌∷◌, length, drop, codes, Option, Some, None, Result, Ok, Err, option_and_then}
-use Rattle.std.specs.List.{before_first, list_all}
+use Rattle.std.specs.Prelude.{ℕ, ◌+◌, Bool, true, false, ◌&&◌, nat_lt, nat_le, if◌then◌else◌, List, [], ◌∷◌, length, drop, codes, Option, Some, None, Result, Ok, Err, option_and_then}
+use Rattle.std.specs.List.{list_all}
 use Rattle.std.specs.Option.{option_map, option_or}
 use Rattle.std.specs.Char.{is_ascii_hexdigit}
 use Rattle.std.specs.Str.{bytes_eq, str_eq_ignore_ascii_case}
 use Rattle.std.specs.Str.Parse.{digits_value}
-use Rattle.nsc_base.specs.Text.{is_filled, lines_of, words_of}
+use Rattle.nsc_base.specs.Text.{before_remark, is_filled, lines_of, words_of}
 use Rattle.nsc_base.specs.Decimal.{decimal_of}
 use Rattle.nsc_model.specs.declared.kind.Db.{Db}
 use Rattle.nsc_model.specs.declared.kind.Db.TheVariants as db
@@ -126,9 +126,8 @@ words_do (word ∷ words) = do
   attribute ← or_fault UnknownAttribute (attribute_named word)
   attribute_does attribute words
 
--- a remark begins with a `#` and goes to the end of its line
 abbrev pub line_does : List ℕ → Result (Settings → Settings) LineFault
-line_does line = words_do (words_of (before_first (λ b. b == 35) line))
+line_does line = words_do (words_of (before_remark line))
 
 -- ---- the whole text
 
