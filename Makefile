@@ -1,4 +1,4 @@
-# What there is to do here. Only rt, make and a POSIX shell are needed; `bench` wants python3 besides.
+# What there is to do here. rt, make, python3 (which rt needs too) and a POSIX shell are needed.
 
 PROGRAM = crates/nscd/out/nscd
 EXAMPLE = crates/nscd/stdin
@@ -8,22 +8,27 @@ WORDS = $(shell cat crates/nscd/args)
 SOURCES := crates.txt HANDLES \
     $(shell find crates -name out -prune -o -type f \( -name '*.rt' -o -name '*.antt' \) -print)
 
-.PHONY: run test try build bench clean
+.PHONY: run test build bench clean
 
-# The first target, so plain `make` shows the program at work on the shipped example.
-run: build
-	@build/nscd $(WORDS) < $(EXAMPLE) > build/replies
-	@tools/show-replies build/replies
+# The first target, so plain `make` shows the program at work on the shipped example. The proved program runs where it is
+# there and no source is newer; else rt makes one from the sources as they stand, in less than a minute and a half.
+run: build/frames
+	@if [ -x build/nscd ] && [ -z "$$(find $(SOURCES) -newer build/nscd)" ]; then \
+	    build/nscd --replay < build/frames > build/replies; \
+	else \
+	    echo 'This runs the sources before any proof, and takes about a minute; make test proves them.'; \
+	    (cd crates/nscd && rt try -- --replay) < build/frames > build/replies 2> build/try.log || { cat build/try.log; exit 1; }; \
+	fi
+	@tools/show-replies build/frames build/replies
+
+build/frames: tools/make-frames examples/machine.txt $(wildcard examples/machine/*)
+	@mkdir -p build
+	@tools/make-frames examples/machine.txt > $@.new
+	@mv $@.new $@
 
 # The whole gate: every proof, every edit that must be refused, every test and program.
 test:
 	@.ci/run
-
-# The shipped example in seconds. Nothing is proved, so this says only what the code does on this one input.
-try:
-	@mkdir -p build
-	@cd crates/nscd && rt try -- $(WORDS) < stdin > ../../build/replies
-	@tools/show-replies build/replies
 
 build: build/nscd
 
