@@ -18,3 +18,4 @@ pub mod MachineLawReplays
 pub mod Grammar
 pub mod ZeroRuns
 pub mod AddressTexts
+pub mod LiveFronts

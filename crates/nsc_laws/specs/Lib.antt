@@ -1,3 +1,4 @@
 pub mod Core
 pub mod Calls
 pub mod Replies
+pub mod Moments
