@@ -19,3 +19,4 @@ pub mod Grammar
 pub mod ZeroRuns
 pub mod AddressTexts
 pub mod LiveFronts
+pub mod Deciding

@@ -2,3 +2,4 @@ pub mod Core
 pub mod Calls
 pub mod Replies
 pub mod Moments
+pub mod Turns

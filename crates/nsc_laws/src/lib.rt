@@ -9,6 +9,7 @@ mod lists;
 mod machines;
 mod replays;
 mod replies;
+mod switches;
 
 pub use addresses::{printed_v4_is_read, printed_v6_is_read};
 pub use callers::{core_can_be_emptied, core_runs_are_legal, polled_versions_are_held};
@@ -17,3 +18,4 @@ pub use lists::texts_spell_lists;
 pub use machines::{machine_events_are_moves, runs_are_answered};
 pub use replays::replays_are_answered;
 pub use replies::bytes_spell_one_reply;
+pub use switches::{outcomes_are_decided, switches_end_at_deciding_services};
