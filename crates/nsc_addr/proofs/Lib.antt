@@ -6,5 +6,3 @@ pub mod Pairs
 pub mod ColonHex
 pub mod Printed
 pub mod Numerals
-pub mod Runs
-pub mod Printing

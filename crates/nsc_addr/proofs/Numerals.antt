@@ -1,7 +1,7 @@
 -- Numerals of a fixed number of digits, without the zeros at their front.
-use Rattle.std.proofs.Common.{⊎_elim, length, ◌⊎◌, inl, inr, ◌≡◌, ℕ, suc, if◌then◌else◌, ◌==◌, ◌+◌, ◌/◌, ◌%◌, ◌<◌, ◌≤◌, Bool, true, false, List, [], ◌∷◌, ◌++◌, drop, decimal, refl, sym, ◌∙◌, ap, arith}
+use Rattle.std.proofs.Common.{◌≡◌, ℕ, suc, if◌then◌else◌, ◌==◌, ◌+◌, ◌/◌, ◌%◌, ◌<◌, ◌≤◌, Bool, true, false, List, [], ◌∷◌, ◌++◌, drop, decimal, refl, sym, ◌∙◌, ap, arith}
 use Rattle.std.specs.Fmt.{digits, digits_onto, digit_glyph}
-use Rattle.std.proofs.lemmas.Bool.{eq-eqb, ne_eqb, cases_order}
+use Rattle.std.proofs.lemmas.Bool.{eq-eqb, ne_eqb}
 use Rattle.std.proofs.lemmas.Fmt.{decimal_digit, decimal_step, hex_one_digit, hex_two_digits}
 
 decimal_one : (n : ℕ) → n < 10 → decimal n ≡ (48 + n % 10) ∷ []
@@ -84,16 +84,3 @@ below_0x1000 n front large small is = ap (λ z. drop z (four_digits n)) is ∙ s
 
 pub below_0x10000 : (n front : ℕ) → 0x1000 ≤ n → n < 0x10000 → front ≡ 0 → drop front (four_digits n) ≡ digits 16 false n
 below_0x10000 n front large small is = ap (λ z. drop z (four_digits n)) is ∙ sym (hex_four n large small)
-
-below_or_from : (a b : ℕ) → (a < b) ⊎ (b ≤ a)
-below_or_from a b = ⊎_elim {C = (a < b) ⊎ (b ≤ a)} (λ same. inr (omega arith)) (λ other. ⊎_elim {C = (a < b) ⊎ (b ≤ a)} (λ less. inl less) (λ more. inr (omega arith)) other) (cases_order a b)
-
--- a number of 16 bits has at most four hexadecimal digits
-pub length-hex : (n : ℕ) → n < 0x10000 → length (digits 16 false n) ≤ 4
-length-hex n small = by (below_or_from n 0x10) (below_or_from n 0x100) (below_or_from n 0x1000)
-  where
-    by : (n < 0x10) ⊎ (0x10 ≤ n) → (n < 0x100) ⊎ (0x100 ≤ n) → (n < 0x1000) ⊎ (0x1000 ≤ n) → length (digits 16 false n) ≤ 4
-    by (inl one) b c = omega (arith, ap length (hex_one n one))
-    by (inr a) (inl two) c = omega (arith, ap length (hex_two n a two))
-    by (inr a) (inr b) (inl three) = omega (arith, ap length (hex_three n b three))
-    by (inr a) (inr b) (inr c) = omega (arith, ap length (hex_four n c small))

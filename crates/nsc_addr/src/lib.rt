@@ -2,7 +2,6 @@
 //! memory.
 #![tactic(auto)]
 
-mod laws;
 mod print;
 mod read;
 

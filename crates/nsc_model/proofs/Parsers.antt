@@ -48,19 +48,11 @@ partial_first p q f a = record { lacks = rw a.lacks refl }
 pub finds_now : {A : Type 0} (x : A) → Finds (λ bytes. Ok (x, bytes)) [] x
 finds_now x = record { whatever = λ more. refl }
 
-pub number_finds : (n : ℕ) (front : List ℕ) → length front ≡ n → Finds (number_at n) front (little_number n front)
-unfolding number_at
-number_finds n front len = record { whatever = λ more. rw ((chunk_finds n front len).whatever more) refl }
-
-pub number_partial : (n : ℕ) (front : List ℕ) → length front < n → IsPartial (number_at n) front
-unfolding number_at
-number_partial n front lt = record { lacks = rw (chunk_partial n front lt).lacks refl }
-
 -- ---- how many bytes a piece takes
 
 -- what a parser finds takes so many bytes of those that it was given
-pub record Takes {A : Type 0} (p : Parser A) (size : A → ℕ) : Type 0 where
-  pub parts : (bytes : List ℕ) (x : A × List ℕ) → p bytes ≡ Ok x → length bytes ≡ size x.0 + length x.1
+record Takes {A : Type 0} (p : Parser A) (size : A → ℕ) : Type 0 where
+  parts : (bytes : List ℕ) (x : A × List ℕ) → p bytes ≡ Ok x → length bytes ≡ size x.0 + length x.1
 
 abbrev done : {A : Type 0} → A → Result A Fault
 done x = Ok x
@@ -221,7 +213,7 @@ frame_sum (Clear db) = refl
 frame_sum Stop = refl
 
 -- a frame takes so many bytes
-pub frame_takes : Takes frame_at frame_size
+frame_takes : Takes frame_at frame_size
 unfolding frame_at
 frame_takes = takes_then 1 (number_at 1) behind behind_size frame_size (number_takes 1) behind_takes frame_sum
 

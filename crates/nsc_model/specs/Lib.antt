@@ -16,10 +16,7 @@ pub mod Answers
 pub mod Sendable
 pub mod History
 pub mod Settings
-pub mod Core
 pub mod Machine
 pub mod Frames
 pub mod Replay
 pub mod Fronts
-pub mod Calls
-pub mod Replies

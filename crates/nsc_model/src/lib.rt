@@ -7,7 +7,6 @@ mod answer;
 mod answerer;
 mod content;
 mod kind;
-mod laws;
 mod record;
 mod row;
 

@@ -1,5 +1,5 @@
 use Rattle.std.proofs.Common.{sym, ◌∙◌, ap}
-use Rattle.nsc_model.proofs.Requests.{one_content}
+use Rattle.nsc_model.proofs.Contents.{one_content}
 use Rattle.nsc_plain.specs.Shelf.{Shelf}
 use Rattle.nsc_plain.proofs.cache.PlainCache.poll.Goals as goal
 

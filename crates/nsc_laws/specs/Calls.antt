@@ -1,0 +1,123 @@
+-- The machine over whole runs, with the history that it makes: its events are moves of the core, made by one caller.
+use Rattle.std.specs.Prelude.{◌≡◌, ℕ, ◌+◌, List, [], ◌∷◌, ◌++◌, map, All, Option, Some, Result, Ok, Err}
+use Rattle.nsc_model.specs.declared.kind.Db.{Db}
+use Rattle.nsc_model.specs.declared.answer.Request.{Request}
+use Rattle.nsc_model.specs.declared.record.Record.{Record}
+use Rattle.nsc_model.specs.Files as files
+use Rattle.nsc_model.specs.Files.{part_of}
+use Rattle.nsc_model.specs.Fixed.{Fixed}
+use Rattle.nsc_model.specs.Settings.{DbSettings}
+use Rattle.nsc_model.specs.History.{changes, loads, invalidations, newest, version_in, IsLive, Legal, IsPrefix, Answered}
+use Rattle.nsc_laws.specs.Core.{Core, Move, Files, Begin, Look, Note, Fetch, PollStep, Insert, Finish, Empty, Compact, Reply, AreLive, Runs, Replies, opening}
+use Rattle.nsc_model.specs.Machine.{Kept, Cache, Passed, Stopped, Turn, look_up, tick, invalidated}
+
+-- what never changes of the entries
+abbrev pub fixed_of : List Kept → List Fixed
+fixed_of entries = map (λ k. k.entry) entries
+
+-- the cache is what its history says: the newest version with its number, the live entries in rising number, and the counts
+pub record Tells (history : List Record) (cache : Cache) : Type 0 where
+  pub legal : Legal history
+  pub newest_is : newest history ≡ Some cache.sources
+  pub counted : changes history ≡ cache.newest_version + 1
+  pub held : version_in history cache.newest_version ≡ Some cache.sources
+  pub loads_are : loads history ≡ cache.inserted
+  pub epochs_are : invalidations history ≡ cache.epoch
+  pub entries_are : AreLive history (fixed_of cache.entries)
+
+-- a move of this caller, or of the entries, where the caller has seen this history at the start of its calls; the files stay
+abbrev pub IsOwn : ℕ → List Record → Move → Type 0
+IsOwn a history (Files content) = ⊥
+IsOwn a history (Begin caller request seen) = (caller ≡ a) × (seen ≡ history)
+IsOwn a history (Look caller found) = caller ≡ a
+IsOwn a history (Note caller) = caller ≡ a
+IsOwn a history (Fetch caller) = caller ≡ a
+IsOwn a history (PollStep caller) = caller ≡ a
+IsOwn a history (Insert caller timeout) = caller ≡ a
+IsOwn a history (Finish number cause) = Unit {0}
+IsOwn a history Empty = Unit {0}
+IsOwn a history Compact = Unit {0}
+IsOwn a history (Reply caller bytes) = caller ≡ a
+
+-- a move of this caller, or of the entries; the files stay
+abbrev pub IsBy : ℕ → Move → Type 0
+IsBy a (Files content) = ⊥
+IsBy a (Begin caller request seen) = caller ≡ a
+IsBy a (Look caller found) = caller ≡ a
+IsBy a (Note caller) = caller ≡ a
+IsBy a (Fetch caller) = caller ≡ a
+IsBy a (PollStep caller) = caller ≡ a
+IsBy a (Insert caller timeout) = caller ≡ a
+IsBy a (Finish number cause) = Unit {0}
+IsBy a Empty = Unit {0}
+IsBy a Compact = Unit {0}
+IsBy a (Reply caller bytes) = caller ≡ a
+
+-- the files become these, and then the core moves on by moves of this caller alone
+pub record MovesOver (db : Db) (a : ℕ) (sources : files.Files) (old new : Core) : Type 0 where
+  pub moves : List Move
+  pub own : All (IsBy a) moves
+  pub runs : Runs db moves (record old { sources = sources }) new
+
+-- a core that a run from an opening reaches, with a caller that has seen some front of its history, and the cache that tells
+-- the whole of it
+pub record Drives (db : Db) (a : ℕ) (core : Core) (cache : Cache) : Type 0 where
+  pub first : files.Files
+  pub moves : List Move
+  pub runs : Runs db moves (opening db first) core
+  pub seen_before : IsPrefix (core.callers a).seen core.history
+  pub tells : Tells core.history cache
+
+-- the core moves on by moves of this caller, who has seen the whole history before them, and gains exactly these records;
+-- the files stay
+pub record IsMoved (db : Db) (a : ℕ) (old : Core) (adds : List Record) (after : Cache) (new : Core) : Type 0 where
+  pub moves : List Move
+  pub own : All (IsOwn a old.history) moves
+  pub runs : Runs db moves old new
+  pub history_is : new.history ≡ adds ++ old.history
+  pub sources_stay : new.sources ≡ old.sources
+  pub drives : Drives db a new after
+
+-- and behind them the caller may get this reply to this request; an entry that the reply comes from is live at that moment
+pub record IsTurned (db : Db) (a : ℕ) (old : Core) (request : Request) (adds : List Record) (reply : List ℕ) (after : Cache) (new : Core) : Type 0 where
+  pub moved : IsMoved db a old adds after new
+  pub requested : (new.callers a).request ≡ Some request
+  pub replies : Replies new a reply
+  pub live : (e : Fixed) → (new.callers a).taken ≡ Some e → IsLive new.history e
+  pub answered : Answered old.history new.history request reply
+
+-- what an event comes to is moves of the core, also where it stops
+abbrev pub PassesBy : Db → ℕ → Core → Result Passed Stopped → Type 0
+PassesBy db a old (Ok passed) = (new : Core) × IsMoved db a old passed.adds passed.cache new
+PassesBy db a old (Err stop) = (new : Core) × IsMoved db a old stop.adds stop.cache new
+
+abbrev pub TurnsBy : Db → ℕ → Core → Request → Result Turn Stopped → Type 0
+TurnsBy db a old request (Ok turn) = (new : Core) × IsTurned db a old request turn.adds turn.reply turn.cache new
+TurnsBy db a old request (Err stop) = (new : Core) × IsMoved db a old stop.adds stop.cache new
+
+-- ---- whole runs
+
+-- an event of a database, with the files as they are at it, and its moment in seconds
+pub data Event : Type 0 where
+  LookUp : (content : files.Files) → (now : ℕ) → (request : Request) → Event
+  Tick : (content : files.Files) → (now : ℕ) → Event
+  Invalidation : Event
+
+-- in every run of events the history stays legal, and each reply is an answer to its request whose caller had seen the whole
+-- history before it; a run ends where an event stops
+abbrev pub AnsweredThen : (Cache → List Record → Type 0) → List Record → Request → Result Turn Stopped → Type 0
+AnsweredThen others history request (Ok turn) = Answered history (turn.adds ++ history) request turn.reply × others turn.cache (turn.adds ++ history)
+AnsweredThen others history request (Err stop) = Legal (stop.adds ++ history)
+
+abbrev pub LegalThen : (Cache → List Record → Type 0) → List Record → Result Passed Stopped → Type 0
+LegalThen others history (Ok passed) = others passed.cache (passed.adds ++ history)
+LegalThen others history (Err stop) = Legal (stop.adds ++ history)
+
+abbrev pub EachAnswered : Db → DbSettings → Option ℕ → List Event → Cache → List Record → Type 0
+EachAnswered db settings reloads [] cache history = Legal history
+EachAnswered db settings reloads (LookUp content now request ∷ events) cache history =
+    Legal history × AnsweredThen (EachAnswered db settings reloads events) history request (look_up settings now (part_of db content) request cache)
+EachAnswered db settings reloads (Tick content now ∷ events) cache history =
+    Legal history × LegalThen (EachAnswered db settings reloads events) history (tick settings reloads now (part_of db content) cache)
+EachAnswered db settings reloads (Invalidation ∷ events) cache history =
+    Legal history × LegalThen (EachAnswered db settings reloads events) history (invalidated cache)

@@ -1,0 +1,5 @@
+pub mod Core
+pub mod Calls
+pub mod Replies
+pub mod Moments
+pub mod Turns

@@ -1,0 +1,21 @@
+//! The laws of the definitions: theorems over whole histories, runs, replays, lists and texts, each the contract of a function with
+//! no body. No crate stands on this one.
+#![tactic(auto)]
+
+mod addresses;
+mod callers;
+mod histories;
+mod lists;
+mod machines;
+mod replays;
+mod replies;
+mod switches;
+
+pub use addresses::{printed_v4_is_read, printed_v6_is_read};
+pub use callers::{core_can_be_emptied, core_runs_are_legal, polled_versions_are_held};
+pub use histories::{prefixes_are_legal, replied_entries_were_live};
+pub use lists::texts_spell_lists;
+pub use machines::{machine_events_are_moves, runs_are_answered};
+pub use replays::replays_are_answered;
+pub use replies::bytes_spell_one_reply;
+pub use switches::{outcomes_are_decided, switches_end_at_deciding_services};

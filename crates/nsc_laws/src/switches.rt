@@ -1,0 +1,23 @@
+//! The switch over the services of a list, nsswitch.conf(5).
+
+ghost use Rattle.std.specs.Prelude.{◌≡◌, ◌≢◌, List, []};
+ghost use Rattle.nsc_model.specs.declared.answer.Request.{Request};
+ghost use Rattle.nsc_model.specs.declared.row.Looked.{Looked};
+ghost use Rattle.nsc_model.specs.declared.row.Looked.TheVariants.{Unavail};
+ghost use Rattle.nsc_model.specs.Files.{Files};
+ghost use Rattle.nsc_model.specs.Services.{SwitchService, Other, SwitchStep};
+ghost use Rattle.nsc_model.specs.Answers.{deciding, service_answer, switched};
+ghost use Rattle.nsc_laws.specs.Turns.{EndsAt};
+
+/// The outcome of a switch is what the deciding service said, whatever the services say, where one that is not built in is
+/// unavailable; so over the services of a content.
+pub fn outcomes_are_decided()
+    ensures any { (look : SwitchService → Looked) (steps : List SwitchStep) → look Other ≡ Unavail → switched look steps ≡ look (deciding look steps) }
+    ensures of_content { (files : Files) (request : Request) (steps : List SwitchStep) → switched (service_answer files request) steps ≡ service_answer files request (deciding (service_answer files request) steps) }
+{}
+
+/// A switch over one service or more ends at the deciding one: each step before it goes on at the outcome of its service, and
+/// its own action ends the switch, or it is the last.
+pub fn switches_end_at_deciding_services()
+    ensures { (look : SwitchService → Looked) (steps : List SwitchStep) → steps ≢ [] → EndsAt look steps (deciding look steps) }
+{}

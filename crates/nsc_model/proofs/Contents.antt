@@ -1,0 +1,47 @@
+-- A test on contents decides whether they are the same.
+use Rattle.std.proofs.Common.{◌≡◌, Bool, true, false, ◌&&◌, ℕ, List, Option, Some, None, refl, ap, ◌∙◌}
+use Rattle.std.proofs.lemmas.Slice.Eq.{bytes_eq-Decides}
+use Rattle.std.specs.Str.{bytes_eq}
+use Rattle.nsc_model.specs.Files.{Files, same_file, same_files}
+
+pub both_true : (a b : Bool) → (a && b) ≡ true → (a ≡ true) × (b ≡ true)
+both_true true true e = (refl, refl)
+both_true true false e = absurd cc
+both_true false b e = absurd cc
+
+pub same_bytes : (a b : List ℕ) → bytes_eq a b ≡ true → a ≡ b
+same_bytes a b e = (bytes_eq-Decides a b).0 e
+
+one_file : (a b : Option (List ℕ)) → same_file a b ≡ true → a ≡ b
+one_file None None e = refl
+one_file None (Some b) e = absurd cc
+one_file (Some a) None e = absurd cc
+one_file (Some a) (Some b) e = ap (λ (x : List ℕ). Some x) (same_bytes a b e)
+
+abbrev File : Type 0
+File = Option (List ℕ)
+
+abbrev all_of : File → File → File → File → File → File → File → Files
+all_of f0 f1 f2 f3 f4 f5 f6 = record { switch = f0; passwd = f1; group = f2; hosts = f3; services = f4; extra_passwd = f5; extra_group = f6 }
+
+files_from : (a b : Files) → a.switch ≡ b.switch → a.passwd ≡ b.passwd → a.group ≡ b.group → a.hosts ≡ b.hosts → a.services ≡ b.services → a.extra_passwd ≡ b.extra_passwd → a.extra_group ≡ b.extra_group → a ≡ b
+files_from a b h0 h1 h2 h3 h4 h5 h6 =
+    ap (λ f. all_of f a.passwd a.group a.hosts a.services a.extra_passwd a.extra_group) h0
+    ∙ (ap (λ f. all_of b.switch f a.group a.hosts a.services a.extra_passwd a.extra_group) h1
+    ∙ (ap (λ f. all_of b.switch b.passwd f a.hosts a.services a.extra_passwd a.extra_group) h2
+    ∙ (ap (λ f. all_of b.switch b.passwd b.group f a.services a.extra_passwd a.extra_group) h3
+    ∙ (ap (λ f. all_of b.switch b.passwd b.group b.hosts f a.extra_passwd a.extra_group) h4
+    ∙ (ap (λ f. all_of b.switch b.passwd b.group b.hosts b.services f a.extra_group) h5
+    ∙ ap (λ f. all_of b.switch b.passwd b.group b.hosts b.services b.extra_passwd f) h6)))))
+
+-- a test that answers true found one content
+pub one_content : (a b : Files) → same_files a b ≡ true → a ≡ b
+one_content a b e =
+    let p5 = both_true _ (same_file a.extra_group b.extra_group) e in
+    let p4 = both_true _ (same_file a.extra_passwd b.extra_passwd) p5.0 in
+    let p3 = both_true _ (same_file a.services b.services) p4.0 in
+    let p2 = both_true _ (same_file a.hosts b.hosts) p3.0 in
+    let p1 = both_true _ (same_file a.group b.group) p2.0 in
+    let p0 = both_true (same_file a.switch b.switch) (same_file a.passwd b.passwd) p1.0 in
+    files_from a b (one_file a.switch b.switch p0.0) (one_file a.passwd b.passwd p0.1) (one_file a.group b.group p1.1) (one_file a.hosts b.hosts p2.1)
+    (one_file a.services b.services p3.1) (one_file a.extra_passwd b.extra_passwd p4.1) (one_file a.extra_group b.extra_group p5.1)

@@ -1,8 +1,0 @@
-use Rattle.nsc_model.proofs.laws.polled_versions_are_held.Goals as goal
-use Rattle.nsc_model.proofs.CoreLaw.{polled_law, version_law}
-
-pub returns-clause-asked : goal.returns-clause-asked
-returns-clause-asked c = polled_law
-
-pub returns-clause-version : goal.returns-clause-version
-returns-clause-version c = version_law

@@ -1,8 +1,0 @@
-use Rattle.nsc_model.proofs.Grammar.{read_is_written, written_is_read}
-use Rattle.nsc_model.proofs.laws.texts_spell_lists.Goals as goal
-
-pub returns-clause-read : goal.returns-clause-read
-returns-clause-read c = written_is_read
-
-pub returns-clause-spelled : goal.returns-clause-spelled
-returns-clause-spelled c = read_is_written
