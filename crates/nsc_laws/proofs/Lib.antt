@@ -19,4 +19,5 @@ pub mod Grammar
 pub mod ZeroRuns
 pub mod AddressTexts
 pub mod LiveFronts
+pub mod GivenLists
 pub mod Deciding
