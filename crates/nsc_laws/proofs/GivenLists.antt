@@ -9,7 +9,8 @@ use Rattle.nsc_model.specs.Users.{◌>>=◌}
 use Rattle.nsc_model.specs.Services.{SwitchStep}
 use Rattle.nsc_model.specs.Switches.{Group, GroupsCompat, Groups, Hosts, Item, ListName, Service, Services, Spells, Users, UsersCompat, compat_list, compat_name, default_list, first_line, list_name, list_of, list_or, service_list, spelled_list, steps_behind, steps_of, text_of}
 use Rattle.nsc_laws.specs.ServiceLists.{Gives, LineGives, SpellsNone}
-use Rattle.nsc_laws.proofs.Grammar.{read_is_written, written_is_read}
+use Rattle.nsc_laws.proofs.Grammar.{written_is_read}
+use Rattle.nsc_laws.proofs.GrammarItems.{read_is_written}
 
 -- ---- the list is given
 

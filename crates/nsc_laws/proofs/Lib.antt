@@ -16,6 +16,7 @@ pub mod MachineLaw
 pub mod MachineLawRuns
 pub mod MachineLawReplays
 pub mod Grammar
+pub mod GrammarItems
 pub mod ZeroRuns
 pub mod AddressTexts
 pub mod LiveFronts
