@@ -14,6 +14,7 @@ pub mod MachineLawSteps
 pub mod MachineLawParts
 pub mod MachineLaw
 pub mod MachineLawRuns
+pub mod MachineLawCores
 pub mod MachineLawReplays
 pub mod Grammar
 pub mod GrammarItems
