@@ -6,8 +6,11 @@ use Rattle.nsc_model.specs.declared.row.Looked.{Looked}
 use Rattle.nsc_model.specs.declared.row.Looked.TheVariants.{Unavail}
 use Rattle.nsc_model.specs.Files.{Files}
 use Rattle.nsc_model.specs.Services.{SwitchService, Other, SwitchStep}
-use Rattle.nsc_model.specs.Answers.{switched, deciding, service_answer}
+use Rattle.nsc_model.specs.declared.kind.Db.{Db}
+use Rattle.nsc_model.specs.Switches.{compat_list, service_list}
+use Rattle.nsc_model.specs.Answers.{switched, deciding, service_answer, sub_answer}
 use Rattle.nsc_laws.specs.Turns.{ends_switch, GoesOn, EndsAt}
+use Rattle.nsc_laws.proofs.GivenLists.{some_asked, some_listed}
 
 -- where no service is left, the outcome is that of one which is not built in
 pub outcome_decided : (look : SwitchService → Looked) (steps : List SwitchStep) → look Other ≡ Unavail → switched look steps ≡ look (deciding look steps)
@@ -37,3 +40,9 @@ ends_at look (step ∷ next ∷ steps) some = by_test (ends_switch look step) re
     service_is = later.service_is;
     outcome = ap (λ b. cond b (look step.service) (switched look (next ∷ steps))) is ∙ later.outcome;
   }
+
+pub lists_end_at : (files : Files) (request : Request) (db : Db) → EndsAt (service_answer files request) (service_list files db) (deciding (service_answer files request) (service_list files db))
+lists_end_at files request db = ends_at (service_answer files request) (service_list files db) (some_listed files db)
+
+pub sub_lists_end_at : (files : Files) (request : Request) (db : Db) → EndsAt (sub_answer files request) (compat_list files db) (deciding (sub_answer files request) (compat_list files db))
+sub_lists_end_at files request db = ends_at (sub_answer files request) (compat_list files db) (some_asked files db)

@@ -14,9 +14,12 @@ pub mod MachineLawSteps
 pub mod MachineLawParts
 pub mod MachineLaw
 pub mod MachineLawRuns
+pub mod MachineLawCores
 pub mod MachineLawReplays
 pub mod Grammar
+pub mod GrammarItems
 pub mod ZeroRuns
 pub mod AddressTexts
 pub mod LiveFronts
+pub mod GivenLists
 pub mod Deciding

@@ -3,3 +3,4 @@ pub mod Calls
 pub mod Replies
 pub mod Moments
 pub mod Turns
+pub mod ServiceLists

@@ -1,19 +1,21 @@
--- Replays, and the histories that they make: each reply that a replay writes is an answer.
-use Rattle.std.specs.Prelude.{◌≡◌, ℕ, min, max, List, [], ◌∷◌, None, Some, Result, Ok, Err}
+-- Replays, and the histories that they make: each gains exactly the records of the frames, and each reply is an answer.
+use Rattle.std.specs.Prelude.{◌≡◌, ℕ, min, max, List, [], ◌∷◌, ◌++◌, None, Some, Result, Ok, Err}
+use Rattle.std.specs.List.{concat}
 use Rattle.nsc_model.specs.declared.kind.Db.{Db}
 use Rattle.nsc_model.specs.declared.kind.Db.TheVariants.{Passwd, Group, Hosts, Services}
 use Rattle.nsc_model.specs.declared.answer.Request.{Request}
+use Rattle.nsc_model.specs.declared.record.Record.{Record}
 use Rattle.nsc_model.specs.Kinds.{database_of}
-use Rattle.nsc_model.specs.Files.{part_of}
+use Rattle.nsc_model.specs.Files.{Files, with_file, part_of}
 use Rattle.nsc_model.specs.Fixed.{Fixed}
 use Rattle.nsc_model.specs.Settings.{Settings, settings_of}
 use Rattle.nsc_model.specs.Wire.{Asked, Look, Shutdown, Stat, Invalidate, Descriptor, Netgroup, Short, BadVersion, BadType, BadLength, request_of}
-use Rattle.nsc_model.specs.History.{IsPrefix, IsLive, Answered}
+use Rattle.nsc_model.specs.History.{IsLive, Answered}
 use Rattle.nsc_laws.specs.Core.{Core, Replies}
 use Rattle.nsc_model.specs.Machine.{Passed, Stopped, Turn, look_up, tick, invalidated}
 use Rattle.nsc_laws.specs.Calls.{Drives, MovesOver}
 use Rattle.nsc_model.specs.Frames.{Frame, Ask, Become, Reach, Clear, Stop, Finish, Done, Bad, Long, Spent}
-use Rattle.nsc_model.specs.Replay.{State, cache_of, with_cache, Went, framed, last_moment, turn_of}
+use Rattle.nsc_model.specs.Replay.{State, cache_of, with_cache, Went, framed, last_moment, turn_of, Replayed}
 
 -- the cores of the four databases, over the files as they are, with the caches that tell their histories; the caller holds
 -- no content that it fetched before
@@ -51,10 +53,86 @@ RepliesTo old new writes (Reach moment) = writes ≡ []
 RepliesTo old new writes (Clear db) = writes ≡ []
 RepliesTo old new writes Stop = writes ≡ []
 
--- the cores move on over the files of this state, and tell its caches
-pub record AllMove (old : Db → Core) (s : State) (new : Db → Core) : Type 0 where
+-- ---- the records of a frame
+
+-- one thing for each database
+abbrev pub each_of : {A : Type 0} → A → A → A → A → Db → A
+each_of users groups hosts services Passwd = users
+each_of users groups hosts services Group = groups
+each_of users groups hosts services Hosts = hosts
+each_of users groups hosts services Services = services
+
+-- another thing for this database
+abbrev pub with_at : {A : Type 0} → (Db → A) → Db → A → Db → A
+with_at all Passwd x = each_of x (all Group) (all Hosts) (all Services)
+with_at all Group x = each_of (all Passwd) x (all Hosts) (all Services)
+with_at all Hosts x = each_of (all Passwd) (all Group) x (all Services)
+with_at all Services x = each_of (all Passwd) (all Group) (all Hosts) x
+
+abbrev pub none_add : Db → List Record
+none_add db = []
+
+-- one database adds records, and the others none
+abbrev pub adds_alone : Db → List Record → Db → List Record
+adds_alone db adds = with_at none_add db adds
+
+-- the records of an event, also of one that stops
+abbrev pub adds_of : Result Passed Stopped → List Record
+adds_of (Ok passed) = passed.adds
+adds_of (Err stop) = stop.adds
+
+abbrev pub look_adds_of : Result Turn Stopped → List Record
+look_adds_of (Ok turn) = turn.adds
+look_adds_of (Err stop) = stop.adds
+
+abbrev pub look_adds : Settings → State → Db → Request → Db → List Record
+look_adds settings s db request = adds_alone db (look_adds_of (look_up (settings_of settings db) s.moment (part_of db s.files) request (cache_of s db)))
+
+abbrev pub asked_adds : Settings → State → Asked → Db → List Record
+asked_adds settings s (Look request) = look_adds settings s (database_of request.kind) request
+asked_adds settings s Shutdown = none_add
+asked_adds settings s Stat = none_add
+asked_adds settings s (Invalidate name) = none_add
+asked_adds settings s Descriptor = none_add
+asked_adds settings s Netgroup = none_add
+asked_adds settings s (Short have) = none_add
+asked_adds settings s (BadVersion version) = none_add
+asked_adds settings s (BadType type) = none_add
+asked_adds settings s (BadLength length) = none_add
+
+-- the tick of a database, at the moment as it is
+abbrev pub tick_of : Settings → State → Db → Result Passed Stopped
+tick_of settings s db = tick (settings_of settings db) settings.reloads s.moment (part_of db s.files) (cache_of s db)
+
+-- behind a tick that stops no other database is ticked
+abbrev pub unless_stopped : Result Passed Stopped → List Record → List Record
+unless_stopped (Ok passed) adds = adds
+unless_stopped (Err stop) adds = []
+
+abbrev pub tick_adds : Settings → State → Db → List Record
+tick_adds settings s =
+    let users = tick_of settings s Passwd in
+    let groups = tick_of settings s Group in
+    let hosts = tick_of settings s Hosts in
+    let services = tick_of settings s Services in
+    each_of (adds_of users) (unless_stopped users (adds_of groups)) (unless_stopped users (unless_stopped groups (adds_of hosts))) (unless_stopped users (unless_stopped groups (unless_stopped hosts (adds_of services))))
+
+-- the moment of a state once a frame said this one
+abbrev pub reached_moment : State → ℕ → ℕ
+reached_moment s moment = max s.moment (min moment last_moment)
+
+-- what a frame adds to the history of each database
+abbrev pub frame_adds : Settings → State → Frame → Db → List Record
+frame_adds settings s (Ask input) = asked_adds settings s (request_of input)
+frame_adds settings s (Become file held) = none_add
+frame_adds settings s (Reach moment) = tick_adds settings (record s { moment = reached_moment s moment })
+frame_adds settings s (Clear db) = adds_alone db (adds_of (invalidated (cache_of s db)))
+frame_adds settings s Stop = none_add
+
+-- the cores move on over the files of this state, gain exactly these records, and tell its caches
+pub record AllMove (old : Db → Core) (adds : Db → List Record) (s : State) (new : Db → Core) : Type 0 where
   pub drive : AllDrive s new
-  pub onward : (db : Db) → IsPrefix (old db).history (new db).history
+  pub gained : (db : Db) → (new db).history ≡ adds db ++ (old db).history
   pub over : (db : Db) → MovesOver db 0 s.files (old db) (new db)
 
 -- ---- stops
@@ -107,17 +185,45 @@ stopped_in s left (Spent count) = left
 
 -- ---- whole replays
 
--- a frame moves the cores on, over the files as they are behind it
-pub record IsPlayed (old : Db → Core) (frame : Frame) (went : Went) (new : Db → Core) : Type 0 where
-  pub moves : AllMove old went.state new
+-- the files and the moment behind a frame
+abbrev pub files_behind : Frame → Files → Files
+files_behind (Ask input) files = files
+files_behind (Become file held) files = with_file files file held
+files_behind (Reach moment) files = files
+files_behind (Clear db) files = files
+files_behind Stop files = files
+
+abbrev pub moment_behind : Frame → State → ℕ
+moment_behind (Ask input) s = s.moment
+moment_behind (Become file held) s = s.moment
+moment_behind (Reach moment) s = reached_moment s moment
+moment_behind (Clear db) s = s.moment
+moment_behind Stop s = s.moment
+
+-- a frame moves the cores on, over the files as they are behind it, and they gain exactly its records
+pub record IsPlayed (settings : Settings) (s : State) (old : Db → Core) (frame : Frame) (went : Went) (new : Db → Core) : Type 0 where
+  pub moves : AllMove old (frame_adds settings s frame) went.state new
   pub replied : RepliesTo old new went.writes frame
+  pub files_are : went.state.files ≡ files_behind frame s.files
+  pub moment_is : went.state.moment ≡ moment_behind frame s
 
--- and so do the frames behind it, up to one that ends the replay; there the cores moved on to the state at the stop, so their
--- histories are legal up to it
-abbrev pub PlayedThen : (State → (Db → Core) → Type 0) → (Db → Core) → Frame → (Finish → State) → Result Went Finish → Type 0
-PlayedThen others old frame left (Ok went) = (new : Db → Core) × IsPlayed old frame went new × others went.state new
-PlayedThen others old frame left (Err finish) = (new : Db → Core) × AllMove old (left finish) new
+-- a frame that ends the replay: there the cores moved on to the state at the stop, and gained exactly the records up to it
+pub record IsStopped (settings : Settings) (s : State) (old : Db → Core) (frame : Frame) (finish : Finish) (new : Db → Core) : Type 0 where
+  pub moves : AllMove old (frame_adds settings s frame) (stopped_in s (left_by settings s frame) finish) new
 
-abbrev pub EachReplied : Settings → List Frame → State → (Db → Core) → Type 0
-EachReplied settings [] s cores = AllDrive s cores
-EachReplied settings (frame ∷ frames) s cores = AllDrive s cores × PlayedThen (EachReplied settings frames) cores frame (stopped_in s (left_by settings s frame)) (turn_of settings s frame)
+-- frames write these pieces, one piece for each frame in turn, up to one that ends the replay, and the replay ends so
+abbrev pub PlayedThen : (State → (Db → Core) → List (List ℕ) → Type 0) → Settings → State → (Db → Core) → Frame → List (List ℕ) → Finish → Result Went Finish → Type 0
+PlayedThen others settings s old frame pieces finish (Ok went) = (new : Db → Core) × (later : List (List ℕ)) × IsPlayed settings s old frame went new × (pieces ≡ went.writes ∷ later) × others went.state new later
+PlayedThen others settings s old frame pieces finish (Err stop) = (new : Db → Core) × IsStopped settings s old frame stop new × (pieces ≡ []) × (finish ≡ stop)
+
+-- where no frame ends the replay, it ends like this one, as the bytes behind the frames say
+abbrev pub EachReplied : Settings → List Frame → Finish → State → (Db → Core) → List (List ℕ) → Finish → Type 0
+EachReplied settings [] last s cores pieces finish = AllDrive s cores × (pieces ≡ []) × (finish ≡ last)
+EachReplied settings (frame ∷ frames) last s cores pieces finish =
+    AllDrive s cores × PlayedThen (λ t new later. EachReplied settings frames last t new later finish) settings s cores frame pieces finish (turn_of settings s frame)
+
+-- what a replay of frames wrote, from a state and these cores on, is what its frames write in turn
+pub record IsReplayed (settings : Settings) (frames : List Frame) (last : Finish) (s : State) (cores : Db → Core) (replayed : Replayed) : Type 0 where
+  pub pieces : List (List ℕ)
+  pub each_replied : EachReplied settings frames last s cores pieces replayed.finish
+  pub output_is : replayed.output ≡ concat pieces

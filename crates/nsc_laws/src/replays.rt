@@ -1,16 +1,19 @@
 //! Replays, and the four histories that they make.
 
-ghost use Rattle.std.specs.Prelude.{List};
+ghost use Rattle.std.specs.Prelude.{ℕ, List};
 ghost use Rattle.nsc_model.specs.Files.{no_files};
 ghost use Rattle.nsc_model.specs.Settings.{Settings};
-ghost use Rattle.nsc_model.specs.Frames.{Frame};
-ghost use Rattle.nsc_model.specs.Replay.{first_state};
+ghost use Rattle.nsc_model.specs.Frames.{Finish, Frame, cut_at};
+ghost use Rattle.nsc_model.specs.Replay.{first_state, play, replay};
 ghost use Rattle.nsc_laws.specs.Core.{opening};
-ghost use Rattle.nsc_laws.specs.Replies.{EachReplied};
+ghost use Rattle.nsc_laws.specs.Replies.{IsReplayed};
 
-/// In every replay, with any settings and any frames, each reply that is written for a look-up is an answer to its
-/// request over the history of the request's database, whose caller had seen the whole of it before the look-up, and an entry
-/// that it comes from is live at that moment; and each of the four histories goes on from what it was, also up to a stop.
+/// In every replay, with any settings and any frames or bytes, the output is what the frames write, in order and one piece for
+/// each frame that is played; a piece of a look-up is a reply behind its length, which is an answer to its request over the
+/// history of the request's database, whose caller had seen the whole of it before the look-up, and an entry that it comes
+/// from is live at that moment. Behind each frame, and at a stop, the history of each database is exactly the records that
+/// the event of the frame names for it, in front of what it was.
 pub fn replays_are_answered()
-    ensures { (settings : Settings) (frames : List Frame) → EachReplied settings frames first_state (λ db. opening db no_files) }
+    ensures of_frames { (settings : Settings) (frames : List Frame) (last : Finish) → IsReplayed settings frames last first_state (λ db. opening db no_files) (play settings frames last first_state) }
+    ensures of_bytes { (settings : Settings) (bytes : List ℕ) → IsReplayed settings (cut_at 0 bytes).frames (cut_at 0 bytes).finish first_state (λ db. opening db no_files) (replay settings bytes) }
 {}

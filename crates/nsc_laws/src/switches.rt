@@ -2,11 +2,13 @@
 
 ghost use Rattle.std.specs.Prelude.{◌≡◌, ◌≢◌, List, []};
 ghost use Rattle.nsc_model.specs.declared.answer.Request.{Request};
+ghost use Rattle.nsc_model.specs.declared.kind.Db.{Db};
 ghost use Rattle.nsc_model.specs.declared.row.Looked.{Looked};
 ghost use Rattle.nsc_model.specs.declared.row.Looked.TheVariants.{Unavail};
 ghost use Rattle.nsc_model.specs.Files.{Files};
 ghost use Rattle.nsc_model.specs.Services.{SwitchService, Other, SwitchStep};
-ghost use Rattle.nsc_model.specs.Answers.{deciding, service_answer, switched};
+ghost use Rattle.nsc_model.specs.Switches.{compat_list, service_list};
+ghost use Rattle.nsc_model.specs.Answers.{deciding, service_answer, sub_answer, switched};
 ghost use Rattle.nsc_laws.specs.Turns.{EndsAt};
 
 /// The outcome of a switch is what the deciding service said, whatever the services say, where one that is not built in is
@@ -17,7 +19,9 @@ pub fn outcomes_are_decided()
 {}
 
 /// A switch over one service or more ends at the deciding one: each step before it goes on at the outcome of its service, and
-/// its own action ends the switch, or it is the last.
+/// its own action ends the switch, or it is the last. So does each list of a content, also one that compat lines ask.
 pub fn switches_end_at_deciding_services()
-    ensures { (look : SwitchService → Looked) (steps : List SwitchStep) → steps ≢ [] → EndsAt look steps (deciding look steps) }
+    ensures any { (look : SwitchService → Looked) (steps : List SwitchStep) → steps ≢ [] → EndsAt look steps (deciding look steps) }
+    ensures of_content { (files : Files) (request : Request) (db : Db) → EndsAt (service_answer files request) (service_list files db) (deciding (service_answer files request) (service_list files db)) }
+    ensures of_compat { (files : Files) (request : Request) (db : Db) → EndsAt (sub_answer files request) (compat_list files db) (deciding (sub_answer files request) (compat_list files db)) }
 {}

@@ -1,4 +1,5 @@
-use Rattle.nsc_laws.proofs.Grammar.{read_is_written, written_is_read}
+use Rattle.nsc_laws.proofs.Grammar.{written_is_read}
+use Rattle.nsc_laws.proofs.GrammarItems.{read_is_written}
 use Rattle.nsc_laws.proofs.lists.texts_spell_lists.Goals as goal
 
 pub returns-clause-read : goal.returns-clause-read

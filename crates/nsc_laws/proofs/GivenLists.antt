@@ -1,0 +1,77 @@
+-- The service list of a name is the one that a text gives.
+use Rattle.std.proofs.Common.{◌≡◌, ◌≢◌, ℕ, List, [], ◌∷◌, Option, Some, None, refl, sym, ap, ◌∙◌, inl, inr}
+use Rattle.std.specs.Prelude.{◌⊎◌}
+use Rattle.std.specs.Option.{option_map}
+use Rattle.std.proofs.lemmas.Option.{none-some, same_Some}
+use Rattle.nsc_model.specs.declared.kind.Db.{Db}
+use Rattle.nsc_model.specs.Files.{Files}
+use Rattle.nsc_model.specs.Users.{◌>>=◌}
+use Rattle.nsc_model.specs.Services.{SwitchStep}
+use Rattle.nsc_model.specs.Switches.{Group, GroupsCompat, Groups, Hosts, Item, ListName, Service, Services, Spells, Users, UsersCompat, compat_list, compat_name, default_list, first_line, list_name, list_of, list_or, service_list, spelled_list, steps_behind, steps_of, text_of}
+use Rattle.nsc_laws.specs.ServiceLists.{Gives, LineGives, SpellsNone}
+use Rattle.nsc_laws.proofs.Grammar.{written_is_read}
+use Rattle.nsc_laws.proofs.GrammarItems.{read_is_written}
+
+-- ---- the list is given
+
+line_gives : (name : ListName) (line : List ℕ) (read : Option (List SwitchStep)) → spelled_list line ≡ read → LineGives name (Some line) (list_or (default_list name) read)
+line_gives name line None is = inr (λ steps spells. none-some steps (sym is ∙ written_is_read line steps spells), refl)
+line_gives name line (Some steps) is = inl (read_is_written line steps is)
+
+from_line : (name : ListName) (line : Option (List ℕ)) → LineGives name line (list_or (default_list name) (line >>= spelled_list))
+from_line name None = refl
+from_line name (Some line) = line_gives name line (spelled_list line) refl
+
+pub list_given : (text : List ℕ) (name : ListName) → Gives text name (list_of text name)
+list_given text name = from_line name (first_line name text)
+
+-- ---- and no other
+
+other_line : (name : ListName) (line : List ℕ) (steps : List SwitchStep) (read : Option (List SwitchStep)) → spelled_list line ≡ read → LineGives name (Some line) steps → list_or (default_list name) read ≡ steps
+other_line name line steps None is (inl spells) = absurd (none-some steps (sym is ∙ written_is_read line steps spells))
+other_line name line steps None is (inr default) = sym default.1
+other_line name line steps (Some others) is (inl spells) = same_Some others steps (sym is ∙ written_is_read line steps spells)
+other_line name line steps (Some others) is (inr default) = absurd (default.0 others (read_is_written line others is))
+
+by_line : (name : ListName) (line : Option (List ℕ)) (steps : List SwitchStep) → LineGives name line steps → list_or (default_list name) (line >>= spelled_list) ≡ steps
+by_line name None steps given = sym given
+by_line name (Some line) steps given = other_line name line steps (spelled_list line) refl given
+
+pub given_is_list : (text : List ℕ) (name : ListName) (steps : List SwitchStep) → Gives text name steps → list_of text name ≡ steps
+given_is_list text name steps given = by_line name (first_line name text) steps given
+
+-- ---- a list has a service
+
+some_behind : (step : SwitchStep) (items : List Item) → steps_behind step items ≢ []
+some_behind step [] none = absurd cc
+some_behind step (Service word ∷ items) none = absurd cc
+some_behind step (Group rules ∷ items) none = some_behind _ items none
+
+some_steps : (items : List Item) (steps : List SwitchStep) → steps_of items ≡ Some steps → steps ≢ []
+some_steps [] steps is none = none-some steps is
+some_steps (Group rules ∷ items) steps is none = none-some steps is
+some_steps (Service word ∷ items) steps is none = some_behind _ items (same_Some _ steps is ∙ none)
+
+some_default : (name : ListName) → default_list name ≢ []
+some_default Users none = absurd cc
+some_default Groups none = absurd cc
+some_default Hosts none = absurd cc
+some_default Services none = absurd cc
+some_default UsersCompat none = absurd cc
+some_default GroupsCompat none = absurd cc
+
+some_given : (name : ListName) (line : Option (List ℕ)) (steps : List SwitchStep) → LineGives name line steps → steps ≢ []
+some_given name None steps given none = some_default name (sym given ∙ none)
+some_given name (Some line) steps (inl (items, writes, is)) none = some_steps items steps is none
+some_given name (Some line) steps (inr default) none = some_default name (sym default.1 ∙ none)
+
+pub some_service : (text : List ℕ) (name : ListName) → list_of text name ≢ []
+some_service text name none = some_given name (first_line name text) (list_of text name) (list_given text name) none
+
+pub some_listed : (files : Files) (db : Db) → service_list files db ≢ []
+unfolding service_list
+some_listed files db = some_service (text_of files.switch) (list_name db)
+
+pub some_asked : (files : Files) (db : Db) → compat_list files db ≢ []
+unfolding compat_list
+some_asked files db = some_service (text_of files.switch) (compat_name db)
