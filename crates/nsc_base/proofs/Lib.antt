@@ -3,3 +3,5 @@ pub mod Pieces
 pub mod Places
 pub mod Digits
 pub mod Zeros
+pub mod Options
+pub mod AddressLengths

@@ -13,6 +13,7 @@ pub mod Services
 pub mod Switches
 pub mod Compat
 pub mod Answers
+pub mod Outcomes
 pub mod Sendable
 pub mod History
 pub mod Settings

@@ -2,17 +2,9 @@
 use Rattle.std.specs.Prelude.{◌≤◌, length}
 use Rattle.nsc_model.specs.declared.kind.Kind.{Kind}
 use Rattle.nsc_model.specs.declared.row.Looked.{Looked}
-use Rattle.nsc_model.specs.declared.row.Looked.TheVariants.{Found, NotFound, Unavail}
-use Rattle.nsc_model.specs.declared.row.Reply.{Reply}
-use Rattle.nsc_model.specs.declared.row.Reply.TheVariants as reply
 use Rattle.nsc_model.specs.Marked.{reply_limit}
+use Rattle.nsc_model.specs.Outcomes.{reply_to}
 use Rattle.nsc_model.specs.Wire.{IsReplyOf, spelled}
-
--- what the reply to an outcome says
-abbrev pub reply_to : Looked → Reply
-reply_to (Found row) = reply.Found row
-reply_to NotFound = reply.Absent
-reply_to Unavail = reply.Absent
 
 -- the reply to an outcome is of the kind, and no longer than a reply may be
 pub record Sendable (kind : Kind) (looked : Looked) : Type 0 where

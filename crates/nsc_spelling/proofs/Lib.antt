@@ -1,0 +1,16 @@
+pub mod Lists
+pub mod Texts
+pub mod Sizes
+pub mod Sent
+pub mod Entries
+pub mod Accounts
+pub mod Nets
+pub mod Ids
+pub mod FileAnswers
+pub mod Says
+pub mod Scans
+pub mod Switched
+pub mod CompatEntries
+pub mod CompatIds
+pub mod Spelled
+pub mod Histories
