@@ -3,6 +3,7 @@
 A text has cases, and each is a whole replay from nothing. A line that is empty or begins with `#` is none; one that
 begins with a blank goes on with the line before it.
 
+  always             what stands below begins each of the next replays
   case NAME          the next replay begins
   conf TEXT          its settings, nscd.conf(5)
   file NAME TEXT     the file becomes this
@@ -93,6 +94,8 @@ class Reader:
         self.title = title
         self.names = {}
         self.cases = []
+        self.start = None  # what begins each case, where the text says that
+        self.is_starting = False
 
     def text(self, rest, below):
         """The text of a statement, which stands behind it or in the lines below it."""
@@ -108,8 +111,11 @@ class Reader:
         return self.text(rest, []) + b"\0"
 
     def statement(self, place, word, rest, below):
-        if word == "case":
-            self.cases.append(Case(f"{self.title}:{place}: {rest}"))
+        if word == "always":
+            self.start = Case("")
+            self.is_starting = True
+        elif word == "case":
+            self.begin(f"{self.title}:{place}: {rest}")
         elif word == "let":
             name, _, content = rest.partition(" ")
             self.names[name] = bytes_of(content, self.names)
@@ -122,10 +128,21 @@ class Reader:
             self.cases.append(
                 Case(f"{self.title}:{place}", conf=self.text(text, below), status=6, said=said)
             )
-        elif not self.cases:
-            raise Fault("no case was begun")
-        else:
+        elif self.is_starting:
+            self.part(self.start, place, word, rest, below)
+        elif self.cases:
             self.part(self.cases[-1], place, word, rest, below)
+        else:
+            raise Fault("no case was begun")
+
+    def begin(self, name):
+        """A case begins, with what each case begins with."""
+        case = Case(name)
+        if self.start:
+            case.conf = self.start.conf
+            case.frames = self.start.frames
+        self.cases.append(case)
+        self.is_starting = False
 
     def part(self, case, place, word, rest, below):
         """A statement within a case."""
