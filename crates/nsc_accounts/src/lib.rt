@@ -17,6 +17,3 @@ pub use members::{groups_of, has_member};
 pub use once::OnceIds;
 pub use passwd::{PasswdAt, passwd_line};
 pub use rows::{group_row, user_row};
-
-#[cfg(test)]
-mod tests;

@@ -7,6 +7,3 @@ mod read;
 
 pub use print::{print_v4, print_v6};
 pub use read::{read_v4, read_v6};
-
-#[cfg(test)]
-mod tests;

@@ -16,6 +16,3 @@ pub use memory::NoMemory;
 pub use number::{i32_at, u32_at, u64_at};
 pub use span::{Line, Span};
 pub use text::{field_at, first_line, has_zero_byte, line_at, word_at};
-
-#[cfg(test)]
-mod tests;

@@ -12,6 +12,3 @@ mod users;
 
 pub use lookup::compat_lookup;
 pub use sub::{NamedId, SubLookup};
-
-#[cfg(test)]
-mod tests;

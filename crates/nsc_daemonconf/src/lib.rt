@@ -9,6 +9,3 @@ mod words;
 
 pub use conf::{Conf, DbConf};
 pub use lines::{ConfFault, read_conf};
-
-#[cfg(test)]
-mod tests;

@@ -9,6 +9,3 @@ mod users;
 mod words;
 
 pub use lookup::{extra_lookup, files_lookup};
-
-#[cfg(test)]
-mod tests;

@@ -16,6 +16,3 @@ pub use content::Content;
 pub use kind::{Db, FileId, Kind};
 pub use record::{Ending, Entry, Record};
 pub use row::{Ai, Found6, Founds, Group, Host, Looked, Passwd, Reply, Row, Service};
-
-#[cfg(test)]
-mod tests;

@@ -12,6 +12,3 @@ pub use addresses::ai_of;
 pub use find::{find_host, find_host_by_addr, find_service, find_service_by_port};
 pub use hosts::{HostAt, host_line};
 pub use services::{ServiceAt, service_line};
-
-#[cfg(test)]
-mod tests;

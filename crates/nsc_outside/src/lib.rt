@@ -24,8 +24,3 @@ pub use mem_source::MemSource;
 pub use standard::{StdSink, StdSource};
 pub use stream::{Failed, Sink, Source};
 pub use whole::{fill, write_all};
-
-#[cfg(test)]
-mod file_tests;
-#[cfg(test)]
-mod tests;

@@ -10,6 +10,3 @@ mod table;
 
 pub use cache::PlainCache;
 pub use fault::PlainFault;
-
-#[cfg(test)]
-mod tests;

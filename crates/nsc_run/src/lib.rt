@@ -17,6 +17,3 @@ mod words;
 
 pub use command::{replay, run};
 pub use exit::Exit;
-
-#[cfg(test)]
-mod tests;

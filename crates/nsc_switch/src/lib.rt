@@ -8,6 +8,3 @@ mod services;
 
 pub use outcome::{switch, switch_over};
 pub use services::{PlainServices, ServiceLook};
-
-#[cfg(test)]
-mod tests;

@@ -11,6 +11,3 @@ mod token;
 
 pub use list::service_list;
 pub use step::{Action, DbName, Service, Step};
-
-#[cfg(test)]
-mod tests;

@@ -15,6 +15,3 @@ mod users;
 pub use nsc_model::Reply;
 pub use reply::encode;
 pub use request::{Wire, read_request};
-
-#[cfg(test)]
-mod tests;

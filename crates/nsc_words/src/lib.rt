@@ -6,6 +6,3 @@ mod node;
 
 pub use layout::Layout;
 pub use node::node_words;
-
-#[cfg(test)]
-mod tests;
