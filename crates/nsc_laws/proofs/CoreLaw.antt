@@ -1,5 +1,5 @@
 -- The law of the core: in every run the history is legal, and each reply that a caller may get is an answer.
-use Rattle.std.proofs.Common.{◌≡◌, ◌≢◌, ℕ, ◌+◌, ◌<◌, ◌≤◌, Bool, true, false, cond, eqb, List, [], ◌∷◌, length, Some, None, refl, sym, ap, subst, ◌∙◌, arith, inl, inr}
+use Rattle.std.proofs.Common.{◌≡◌, ◌≢◌, ℕ, ◌+◌, ◌<◌, ◌≤◌, Bool, true, false, cond, eqb, List, [], ◌∷◌, length, Option, Some, None, refl, sym, ap, subst, ◌∙◌, arith, inl, inr}
 use Rattle.std.specs.Prelude.{◌⊎◌}
 use Rattle.std.proofs.lemmas.List.{append-nil}
 use Rattle.std.proofs.lemmas.Option.{none-some, same_Some}
@@ -72,10 +72,10 @@ changed core a c = record core { callers = with_caller core.callers a c }
 becomes : (core : Core) (a : ℕ) (c : Caller) → Sound core → Told core.history c → Sound (changed core a c)
 becomes core a c s t = record { legal = s.legal; told = told_with core.history core.callers a c t s.told }
 
-abbrev pub begun : Caller → Request → List Record → Caller
-begun c request seen = record c { request = Some request; seen = seen; taken = None; asked = None }
+abbrev pub begun : Caller → Option Request → List Record → Caller
+begun c request seen = record c { request = request; seen = seen; taken = None; asked = None }
 
-begins : (h : List Record) (c : Caller) (request : Request) (seen : List Record) → IsPrefix seen h → Told h c → Told h (begun c request seen)
+begins : (h : List Record) (c : Caller) (request : Option Request) (seen : List Record) → IsPrefix seen h → Told h c → Told h (begun c request seen)
 begins h c request seen p t = record {
   seen_before = p;
   noted_before = t.noted_before;
