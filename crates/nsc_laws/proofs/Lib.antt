@@ -26,3 +26,4 @@ pub mod Deciding
 pub mod RunSteps
 pub mod RunRecords
 pub mod RunReplies
+pub mod CoreLawOrigins

@@ -9,11 +9,13 @@ ghost use Rattle.nsc_model.specs.History.{Answered, FromEntry, FromPoll, IsPrefi
 ghost use Rattle.nsc_laws.specs.Core.{Core, Move, Empty, Moves, Runs, RepliesAnswer, opening};
 ghost use Rattle.nsc_laws.specs.Origins.{IsReply, IsRun, IsSourced};
 
-/// In every run of moves from an opening, whatever its callers do and in whatever order, the history is legal, and each
-/// reply that a caller may get is an answer to its request, between what the caller had seen at the start of its call and
+/// In every run of moves from an opening, whatever its callers do and in whatever order, the history is legal, each of its
+/// contents is what the database reads of some files, and each of its entries is of a version that some caller looked at; and
+/// each reply that a caller may get is an answer to its request, between what the caller had seen at the start of its call and
 /// the history at the reply.
 pub fn core_runs_are_legal()
     ensures legal { (db : Db) (files : Files) (moves : List Move) (new : Core) → Runs db moves (opening db files) new → Legal new.history }
+    ensures sourced { (db : Db) (files : Files) (moves : List Move) (new : Core) → Runs db moves (opening db files) new → IsSourced db new.history }
     ensures answered { (db : Db) (files : Files) (moves : List Move) (new : Core) → Runs db moves (opening db files) new → RepliesAnswer new }
 {}
 
@@ -30,7 +32,8 @@ pub fn core_can_be_emptied()
 {}
 
 /// Every legal history is made by some run of moves from an opening, where each of its contents is what the database reads of
-/// some files, and each of its entries is of a version that some caller looked at.
+/// some files, and each of its entries is of a version that some caller looked at: so the runs make these histories and no
+/// others.
 pub fn legal_histories_are_run()
     ensures { (db : Db) (history : List Record) → Legal history → IsSourced db history → IsRun db history }
 {}
