@@ -27,3 +27,4 @@ pub mod RunSteps
 pub mod RunRecords
 pub mod RunReplies
 pub mod CoreLawOrigins
+pub mod RunAnswers

@@ -1,6 +1,6 @@
 -- A legal history whose records have their origins is made by moves of the core, record by record.
-use Rattle.std.proofs.Common.{◌≡◌, ◌≢◌, ℕ, ◌+◌, ◌<◌, ◌≤◌, Bool, true, false, eqb, List, [], ◌∷◌, ◌++◌, refl, sym, ap, subst, ◌∙◌, arith, inl, inr}
-use Rattle.std.specs.Prelude.{◌⊎◌, Option, Some, None}
+use Rattle.std.proofs.Common.{◌≡◌, ◌≢◌, ℕ, ◌+◌, ◌<◌, Bool, true, false, eqb, List, [], ◌∷◌, ◌++◌, refl, sym, ap, subst, ◌∙◌, arith, inl, inr}
+use Rattle.std.specs.Prelude.{Option, Some, None}
 use Rattle.std.proofs.lemmas.Bool.{eqb-true, eqb-false}
 use Rattle.std.proofs.lemmas.List.{append-nil}
 use Rattle.nsc_model.specs.declared.kind.Db.{Db}
@@ -13,7 +13,7 @@ use Rattle.nsc_model.specs.Files.{part_of}
 use Rattle.nsc_model.specs.Fixed.{Fixed}
 use Rattle.nsc_model.specs.History.{changes, invalidations, newest, Legal, IsPrefix, LooksAt}
 use Rattle.nsc_laws.specs.Core.{Caller, Core, opening, Move, Begin, Insert, Finish, Empty, Inserts, AreLive, Runs}
-use Rattle.nsc_laws.specs.Origins.{IsRead, WasAsked, IsSourced, IsRun}
+use Rattle.nsc_laws.specs.Origins.{WasAsked, IsSourced, IsRun}
 use Rattle.nsc_laws.proofs.Prefixes.{more_behind, prefix_legal}
 use Rattle.nsc_laws.proofs.CoreLaw.{begun}
 use Rattle.nsc_laws.proofs.CoreLawRecords.{prefix_more}

@@ -10,16 +10,16 @@ use Rattle.nsc_model.specs.Files.{Files}
 use Rattle.nsc_model.specs.Fixed.{Fixed}
 use Rattle.nsc_model.specs.Answers.{answer_of}
 use Rattle.nsc_model.specs.History.{changes, version_in, HasLoad, IsLive, Legal, IsPrefix, LooksAt, FromEntry, FromPoll, Answered}
-use Rattle.nsc_laws.specs.Core.{Caller, Core, new_caller, opening, Move, Begin, Look, Replies, Runs}
+use Rattle.nsc_laws.specs.Core.{Caller, Core, new_caller, opening, Begin, Look}
 use Rattle.nsc_laws.specs.Moments.{WasLive}
-use Rattle.nsc_laws.specs.Origins.{WasAsked, IsSourced, IsReply}
+use Rattle.nsc_laws.specs.Origins.{WasAsked, IsSourced, IsOfCallers, IsAnswer, IsReply}
 use Rattle.nsc_laws.proofs.Prefixes.{more_behind, prefix_legal}
 use Rattle.nsc_laws.proofs.CoreLaw.{changed, begun, taking}
 use Rattle.nsc_laws.proofs.CoreLawRecords.{changes_rise}
 use Rattle.nsc_laws.proofs.LiveFronts.{reply_was_live}
 use Rattle.nsc_laws.proofs.MachineLawSteps.{at_own, runs_append}
 use Rattle.nsc_laws.proofs.RunSteps.{Holder, Ready, other_callers, begins}
-use Rattle.nsc_laws.proofs.RunRecords.{Reaches, nothing_seen, change_differs, looks_at, sourced_before, reaches_on, Begins, begins_with}
+use Rattle.nsc_laws.proofs.RunRecords.{nothing_seen, change_differs, looks_at, sourced_before, reaches_on, begins_with}
 
 -- ---- prefixes
 
@@ -34,12 +34,12 @@ shorter (x ∷ m) a (y ∷ n) b e low = shorter m a n b (tails x y (m ++ a) (n +
 
 -- ---- versions
 
-changes_grow : (more h : List Record) → changes h ≤ changes (more ++ h)
+pub changes_grow : (more h : List Record) → changes h ≤ changes (more ++ h)
 changes_grow [] h = omega arith
 changes_grow (r ∷ more) h = let first : changes h ≤ changes (more ++ h) = changes_grow more h in let next : changes (more ++ h) ≤ changes (r ∷ (more ++ h)) = changes_rise r (more ++ h) in omega arith
 
 -- a version keeps its content
-version_stays : (more h : List Record) (n : ℕ) → h ≢ [] → Legal (more ++ h) → n < changes h → version_in (more ++ h) n ≡ version_in h n
+pub version_stays : (more h : List Record) (n : ℕ) → h ≢ [] → Legal (more ++ h) → n < changes h → version_in (more ++ h) n ≡ version_in h n
 version_stays [] h n some l low = refl
 version_stays (Change v c ∷ more) h n some l low =
     let holds = more_behind more h some in
@@ -52,7 +52,7 @@ version_stays (Load e ∷ more) h n some l low = version_stays more h n some l.0
 version_stays (End k cause ∷ more) h n some l low = version_stays more h n some l.0 low
 version_stays (Invalid k ∷ more) h n some l low = version_stays more h n some l.0 low
 
-looked_below : (r : Record) (h : List Record) (n : ℕ) → h ≢ [] → Legal (r ∷ h) → LooksAt (r ∷ h) n → n < changes (r ∷ h)
+pub looked_below : (r : Record) (h : List Record) (n : ℕ) → h ≢ [] → Legal (r ∷ h) → LooksAt (r ∷ h) n → n < changes (r ∷ h)
 looked_below (Change v c) h n some l at = let is : v ≡ changes h = (change_differs v c h some l).0 in let same : v ≡ n = at in omega arith
 looked_below (Poll v) h n some l at = let next : v + 1 ≡ changes h = l.1 in let same : v ≡ n = at in omega arith
 looked_below (Load e) h n some l at = absurd at
@@ -103,7 +103,7 @@ by_moment db seen history request bytes (r ∷ h) n content l s p q later second
       history_is = on.history_is ∙ (ap (λ (y : List Record). q.0 ++ y) front ∙ sym q.1);
     }
 
-pub reply_from_poll : (db : Db) (seen history : List Record) (request : Request) (bytes : List ℕ) → Legal history → IsSourced db history → IsPrefix seen history → (from : FromPoll seen history request bytes) → 1 < length from.moment → IsReply db seen history request bytes
+reply_from_poll : (db : Db) (seen history : List Record) (request : Request) (bytes : List ℕ) → Legal history → IsSourced db history → IsPrefix seen history → (from : FromPoll seen history request bytes) → 1 < length from.moment → IsReply db seen history request bytes
 reply_from_poll db seen history request bytes l s p from second =
     by_moment db seen history request bytes from.moment from.version_is from.files_are l s p from.is_moment from.later second from.looks from.holds from.said
 
@@ -174,18 +174,25 @@ by_front db seen history request bytes e l s live asks said =
       history_is = on.history_is ∙ (ap (λ (y : List Record). q.0 ++ y) (sym is) ∙ sym q.1);
     }
 
-pub reply_from_entry : (db : Db) (seen history : List Record) (request : Request) (bytes : List ℕ) → Legal history → IsSourced db history → IsPrefix seen history → FromEntry seen history request bytes → IsReply db seen history request bytes
+reply_from_entry : (db : Db) (seen history : List Record) (request : Request) (bytes : List ℕ) → Legal history → IsSourced db history → IsPrefix seen history → FromEntry seen history request bytes → IsReply db seen history request bytes
 reply_from_entry db seen history request bytes l s p from =
     by_front db seen history request bytes from.entry_is l s (reply_was_live seen history request bytes l p from) from.answers from.said
 
 -- ---- any answer
 
+pub answer_replied : (db : Db) (seen history : List Record) (request : Request) (bytes : List ℕ) → Legal history → IsSourced db history → IsAnswer seen history request bytes → IsReply db seen history request bytes
+answer_replied db seen history request bytes l s answer = by_source answer.answered.source answer.of_callers where
+  by_source : (source : FromEntry seen history request bytes ⊎ FromPoll seen history request bytes) → IsOfCallers source → IsReply db seen history request bytes
+  by_source (inl from) own = reply_from_entry db seen history request bytes l s answer.answered.seen_before from
+  by_source (inr from) own = reply_from_poll db seen history request bytes l s answer.answered.seen_before from own
+
 some_seen : (seen : List Record) → seen ≢ [] → 0 < length seen
 some_seen [] some = absurd (some refl)
 some_seen (r ∷ seen) some = omega arith
 
-pub answer_replied : (db : Db) (seen history : List Record) (request : Request) (bytes : List ℕ) → Legal history → IsSourced db history → seen ≢ [] → Answered seen history request bytes → IsReply db seen history request bytes
-answer_replied db seen history request bytes l s some answered = by_source answered.source where
-  by_source : FromEntry seen history request bytes ⊎ FromPoll seen history request bytes → IsReply db seen history request bytes
-  by_source (inl from) = reply_from_entry db seen history request bytes l s answered.seen_before from
-  by_source (inr from) = reply_from_poll db seen history request bytes l s answered.seen_before from (let first : 0 < length seen = some_seen seen some in let more : length seen < length from.moment = from.later in omega arith)
+-- a look behind something that the caller had seen is a caller's
+pub seen_answer : (seen history : List Record) (request : Request) (bytes : List ℕ) → seen ≢ [] → Answered seen history request bytes → IsAnswer seen history request bytes
+seen_answer seen history request bytes some answered = record { answered = answered; of_callers = by_source answered.source } where
+  by_source : (source : FromEntry seen history request bytes ⊎ FromPoll seen history request bytes) → IsOfCallers source
+  by_source (inl from) = tt
+  by_source (inr from) = let first : 0 < length seen = some_seen seen some in let more : length seen < length from.moment = from.later in omega arith

@@ -1,10 +1,12 @@
 -- Where the records of a history come from: contents from files, entries from callers who looked at their versions.
-use Rattle.std.specs.Prelude.{◌≡◌, ◌⊎◌, ℕ, List, [], ◌∷◌, Option, Some}
+use Rattle.std.specs.Prelude.{◌≡◌, ◌⊎◌, ◌<◌, ℕ, List, [], ◌∷◌, length, Some}
+use Rattle.std.proofs.Common.{inl, inr}
 use Rattle.nsc_model.specs.declared.kind.Db.{Db}
 use Rattle.nsc_model.specs.declared.answer.Request.{Request}
 use Rattle.nsc_model.specs.declared.record.Record.{Record}
 use Rattle.nsc_model.specs.declared.record.Record.TheVariants.{Change, Poll, Load, End, Invalid}
 use Rattle.nsc_model.specs.Files.{Files, part_of}
+use Rattle.nsc_model.specs.History.{Answered, FromEntry, FromPoll}
 use Rattle.nsc_laws.specs.Core.{Core, Move, Runs, Replies, opening}
 
 -- what the database reads of some files
@@ -29,6 +31,16 @@ IsSourced db (Poll version ∷ before) = IsSourced db before
 IsSourced db (Load entry ∷ before) = IsSourced db before × WasAsked before entry.version
 IsSourced db (End number cause ∷ before) = IsSourced db before
 IsSourced db (Invalid epoch ∷ before) = IsSourced db before
+
+-- an answer over a version is of a caller that looked at it, so not at the record that begins the history
+abbrev pub IsOfCallers : {seen history : List Record} {request : Request} {bytes : List ℕ} → FromEntry seen history request bytes ⊎ FromPoll seen history request bytes → Type 0
+IsOfCallers (inl from) = Unit {0}
+IsOfCallers (inr from) = 1 < length from.moment
+
+-- an answer that callers may get
+pub record IsAnswer (seen history : List Record) (request : Request) (bytes : List ℕ) : Type 0 where
+  pub answered : Answered seen history request bytes
+  pub of_callers : IsOfCallers answered.source
 
 -- some run from an opening makes this history
 pub record IsRun (db : Db) (history : List Record) : Type 0 where

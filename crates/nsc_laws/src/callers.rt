@@ -1,13 +1,13 @@
 //! The core of a database: what its callers do in any order, and the history that this makes.
 
-ghost use Rattle.std.specs.Prelude.{◌≡◌, ◌≢◌, ◌<◌, ℕ, List, [], length, Some};
+ghost use Rattle.std.specs.Prelude.{◌≡◌, ◌≢◌, ℕ, List, [], Some};
 ghost use Rattle.nsc_model.specs.declared.answer.Request.{Request};
 ghost use Rattle.nsc_model.specs.declared.kind.Db.{Db};
 ghost use Rattle.nsc_model.specs.declared.record.Record.{Record};
 ghost use Rattle.nsc_model.specs.Files.{Files};
-ghost use Rattle.nsc_model.specs.History.{Answered, FromEntry, FromPoll, IsPrefix, Legal, version_in};
+ghost use Rattle.nsc_model.specs.History.{Answered, Legal, version_in};
 ghost use Rattle.nsc_laws.specs.Core.{Core, Move, Empty, Moves, Runs, RepliesAnswer, opening};
-ghost use Rattle.nsc_laws.specs.Origins.{IsReply, IsRun, IsSourced};
+ghost use Rattle.nsc_laws.specs.Origins.{IsAnswer, IsReply, IsRun, IsSourced};
 
 /// In every run of moves from an opening, whatever its callers do and in whatever order, the history is legal, each of its
 /// contents is what the database reads of some files, and each of its entries is of a version that some caller looked at; and
@@ -39,13 +39,11 @@ pub fn legal_histories_are_run()
 {}
 
 /// Every answer over such a history is a reply that some caller may get in a run that makes the history, for a call at whose
-/// start it had seen just so much. The record that begins a history is no caller's look, so an answer over the first version
-/// alone, to a caller that had seen nothing, is left out.
+/// start it had seen just so much; and every such reply is an answer over the history. An answer over a version is of a caller
+/// that looked at it, so not at the record that begins the history: this is so wherever the caller had seen that record.
 pub fn answers_are_replied()
-    ensures entries { (db : Db) (seen history : List Record) (request : Request) (bytes : List ℕ) →
-        Legal history → IsSourced db history → IsPrefix seen history → FromEntry seen history request bytes → IsReply db seen history request bytes }
-    ensures polls { (db : Db) (seen history : List Record) (request : Request) (bytes : List ℕ) →
-        Legal history → IsSourced db history → IsPrefix seen history → (from : FromPoll seen history request bytes) → 1 < length from.moment → IsReply db seen history request bytes }
-    ensures answers { (db : Db) (seen history : List Record) (request : Request) (bytes : List ℕ) →
-        Legal history → IsSourced db history → seen ≢ [] → Answered seen history request bytes → IsReply db seen history request bytes }
+    ensures replied { (db : Db) (seen history : List Record) (request : Request) (bytes : List ℕ) →
+        Legal history → IsSourced db history → IsAnswer seen history request bytes → IsReply db seen history request bytes }
+    ensures answered { (db : Db) (seen history : List Record) (request : Request) (bytes : List ℕ) → IsReply db seen history request bytes → IsAnswer seen history request bytes }
+    ensures any { (seen history : List Record) (request : Request) (bytes : List ℕ) → seen ≢ [] → Answered seen history request bytes → IsAnswer seen history request bytes }
 {}
