@@ -1,5 +1,5 @@
 -- The law of the core: in every run the history is legal, and each reply that a caller may get is an answer.
-use Rattle.std.proofs.Common.{◌≡◌, ◌≢◌, ℕ, ◌+◌, ◌<◌, ◌≤◌, Bool, true, false, cond, eqb, List, [], ◌∷◌, length, Some, None, refl, sym, ap, subst, ◌∙◌, arith, inl, inr}
+use Rattle.std.proofs.Common.{◌≡◌, ◌≢◌, ℕ, ◌+◌, ◌<◌, ◌≤◌, Bool, true, false, cond, eqb, List, [], ◌∷◌, length, Option, Some, None, refl, sym, ap, subst, ◌∙◌, arith, inl, inr}
 use Rattle.std.specs.Prelude.{◌⊎◌}
 use Rattle.std.proofs.lemmas.List.{append-nil}
 use Rattle.std.proofs.lemmas.Option.{none-some, same_Some}
@@ -13,7 +13,8 @@ use Rattle.nsc_model.specs.Files.{part_of}
 use Rattle.nsc_model.specs.Fixed.{Fixed}
 use Rattle.nsc_model.specs.Answers.{answer_of}
 use Rattle.nsc_model.specs.History.{changes, invalidations, newest, version_in, HasLoad, HasEnd, IsLive, WasPolled, Legal, IsPrefix, FromEntry, FromPoll, LooksAt}
-use Rattle.nsc_laws.specs.Core.{Caller, Core, new_caller, opening, with_caller, Move, Files, Begin, Look, Note, Fetch, PollStep, Insert, Finish, Empty, Compact, Reply, IsPoll, Inserts, ended_all, AreLive, Moves, Runs, RepliesAnswer}
+use Rattle.nsc_laws.specs.Origins.{IsOfCallers, IsAnswer}
+use Rattle.nsc_laws.specs.Core.{Caller, Core, new_caller, opening, with_caller, Move, Files, Begin, Look, Note, Fetch, PollStep, Insert, Finish, Empty, Compact, Reply, IsPoll, Inserts, Replies, ended_all, AreLive, Moves, Runs, RepliesAnswer}
 use Rattle.nsc_laws.proofs.CoreLawRecords.{prefix_more, prefix_length, not_ended_before, load_more, invalidations_rise, changes_rise, poll_more, version_held, all_ended, none_left, same_invalidations}
 
 -- of the version that a caller polled in its call: a moment of the call at which it was looked at
@@ -21,6 +22,7 @@ record Asks (seen history : List Record) (n : ℕ) : Type 0 where
   moment : List Record
   is_moment : IsPrefix moment history
   later : length seen < length moment
+  behind_first : 1 < length moment
   looks : LooksAt moment n
 
 -- what a caller knows is true of the history
@@ -51,7 +53,7 @@ told_more r h c t = record {
   taken_was = λ e is. load_more r h e (t.taken_was e is);
   taken_is = t.taken_is;
   taken_lives = t.taken_lives;
-  asks = λ n is. let a = t.asks n is in record { moment = a.moment; is_moment = prefix_more r a.moment h a.is_moment; later = a.later; looks = a.looks };
+  asks = λ n is. let a = t.asks n is in record { moment = a.moment; is_moment = prefix_more r a.moment h a.is_moment; later = a.later; behind_first = a.behind_first; looks = a.looks };
 }
 
 told_ended : (entries : List Fixed) (h : List Record) (c : Caller) → Told h c → Told (ended_all entries h) c
@@ -72,10 +74,10 @@ changed core a c = record core { callers = with_caller core.callers a c }
 becomes : (core : Core) (a : ℕ) (c : Caller) → Sound core → Told core.history c → Sound (changed core a c)
 becomes core a c s t = record { legal = s.legal; told = told_with core.history core.callers a c t s.told }
 
-abbrev pub begun : Caller → Request → List Record → Caller
-begun c request seen = record c { request = Some request; seen = seen; taken = None; asked = None }
+abbrev pub begun : Caller → Option Request → List Record → Caller
+begun c request seen = record c { request = request; seen = seen; taken = None; asked = None }
 
-begins : (h : List Record) (c : Caller) (request : Request) (seen : List Record) → IsPrefix seen h → Told h c → Told h (begun c request seen)
+begins : (h : List Record) (c : Caller) (request : Option Request) (seen : List Record) → IsPrefix seen h → Told h c → Told h (begun c request seen)
 begins h c request seen p t = record {
   seen_before = p;
   noted_before = t.noted_before;
@@ -157,8 +159,8 @@ fetches h c content t = record {
 abbrev pub polling : Caller → ℕ → Caller
 polling c n = record c { version = Some n; asked = Some n }
 
-polls : (h : List Record) (c : Caller) (poll : Record) (n : ℕ) → n < changes (poll ∷ h) → WasPolled (poll ∷ h) n → LooksAt (poll ∷ h) n → Told h c → Told (poll ∷ h) (polling c n)
-polls h c poll n below was looks t = record {
+polls : (h : List Record) (c : Caller) (poll : Record) (n : ℕ) → 0 < length h → n < changes (poll ∷ h) → WasPolled (poll ∷ h) n → LooksAt (poll ∷ h) n → Told h c → Told (poll ∷ h) (polling c n)
+polls h c poll n some below was looks t = record {
   seen_before = more.seen_before;
   noted_before = more.noted_before;
   polled_since = λ k m e v same. subst (WasPolled (poll ∷ h)) (same_Some n m v) was;
@@ -173,7 +175,7 @@ polls h c poll n below was looks t = record {
   more = told_more poll h c t
 
   asked : Asks c.seen (poll ∷ h) n
-  asked = record { moment = poll ∷ h; is_moment = ([], refl); later = let low : length c.seen ≤ length h = prefix_length c.seen h t.seen_before in omega arith; looks = looks }
+  asked = record { moment = poll ∷ h; is_moment = ([], refl); later = let low : length c.seen ≤ length h = prefix_length c.seen h t.seen_before in omega arith; behind_first = omega arith; looks = looks }
 
 -- what is known behind a poll
 record IsLook (h : List Record) (poll : Record) (n : ℕ) : Type 0 where
@@ -190,6 +192,10 @@ is_look : (h : List Record) (content : files.Files) (poll : Record) (n : ℕ) �
 is_look h content poll n l (inl same) = subst (λ (r : Record). IsLook h r n) (sym same.2) (record { legal = (l, same.1); below = let next : n + 1 ≡ changes h = same.1 in omega arith; was = inl refl; looks = refl })
 is_look h content poll n l (inr other) = subst (λ (r : Record). IsLook h r n) (sym other.2) (record { legal = change_legal h n content l other.1 other.0; below = let new : n ≡ changes h = other.1 in omega arith; was = inl refl; looks = refl })
 
+some_record : (h : List Record) → Legal h → 0 < length h
+some_record [] l = absurd l
+some_record (r ∷ h) l = omega arith
+
 abbrev pub after_poll : Core → ℕ → Record → ℕ → Core
 after_poll core a poll n = record core { history = poll ∷ core.history; callers = with_caller core.callers a (polling (core.callers a) n) }
 
@@ -198,7 +204,7 @@ poll_sound core a content poll n s is =
     let look = is_look core.history content poll n s.legal is in
     record {
       legal = look.legal;
-      told = told_with (poll ∷ core.history) core.callers a (polling (core.callers a) n) (polls core.history (core.callers a) poll n look.below look.was look.looks (s.told a)) (λ b. told_more poll core.history (core.callers b) (s.told b));
+      told = told_with (poll ∷ core.history) core.callers a (polling (core.callers a) n) (polls core.history (core.callers a) poll n (some_record core.history s.legal) look.below look.was look.looks (s.told a)) (λ b. told_more poll core.history (core.callers b) (s.told b));
     }
 
 -- ---- loads and ends
@@ -267,37 +273,52 @@ opening_sound db sources = record { legal = refl; told = λ a. new_told (Change 
 
 -- ---- replies
 
+abbrev Source : Core → ℕ → Request → List ℕ → Type 0
+Source core a request bytes = FromEntry (core.callers a).seen core.history request bytes ⊎ FromPoll (core.callers a).seen core.history request bytes
+
 answers_by : (core : Core) (a : ℕ) (bytes : List ℕ) → Told core.history (core.callers a) → (request : Request) → (core.callers a).request ≡ Some request
     → ((e : Fixed) × ((core.callers a).taken ≡ Some e) × (e.answer.bytes ≡ bytes)) ⊎ ((n : ℕ) × (content : files.Files) × ((core.callers a).asked ≡ Some n) × (version_in core.history n ≡ Some content) × ((answer_of content request).bytes ≡ bytes))
-    → FromEntry (core.callers a).seen core.history request bytes ⊎ FromPoll (core.callers a).seen core.history request bytes
-answers_by core a bytes t request is (inl took) = inl (record {
-  entry_is = took.0;
-  inserted = t.taken_was took.0 took.1;
-  answers = same_Some took.0.request request (sym (t.taken_is took.0 took.1) ∙ is);
-  said = took.2;
-  not_seen_to_end = t.taken_lives took.0 took.1;
-})
-answers_by core a bytes t request is (inr asked) = let asks = t.asks asked.0 asked.2 in inr (record {
-  version_is = asked.0;
-  files_are = asked.1;
-  moment = asks.moment;
-  is_moment = asks.is_moment;
-  later = asks.later;
-  looks = asks.looks;
-  holds = asked.3;
-  said = asked.4;
-})
+    → (source : Source core a request bytes) × IsOfCallers source
+answers_by core a bytes t request is (inl took) = (
+  inl (record {
+    entry_is = took.0;
+    inserted = t.taken_was took.0 took.1;
+    answers = same_Some took.0.request request (sym (t.taken_is took.0 took.1) ∙ is);
+    said = took.2;
+    not_seen_to_end = t.taken_lives took.0 took.1;
+  }),
+  tt,
+)
+answers_by core a bytes t request is (inr asked) =
+    let asks = t.asks asked.0 asked.2 in (
+      inr (record {
+        version_is = asked.0;
+        files_are = asked.1;
+        moment = asks.moment;
+        is_moment = asks.is_moment;
+        later = asks.later;
+        looks = asks.looks;
+        holds = asked.3;
+        said = asked.4;
+      }),
+      asks.behind_first,
+    )
 
-replies_answer : (core : Core) → Sound core → RepliesAnswer core
-replies_answer core s a bytes reply = record { seen_before = (s.told a).seen_before; source = answers_by core a bytes (s.told a) reply.request reply.request_is reply.source }
+replies_answer : (core : Core) → Sound core → (a : ℕ) (bytes : List ℕ) (reply : Replies core a bytes) → IsAnswer (core.callers a).seen core.history reply.request bytes
+replies_answer core s a bytes reply =
+    let by = answers_by core a bytes (s.told a) reply.request reply.request_is reply.source in
+    record { answered = record { seen_before = (s.told a).seen_before; source = by.0 }; of_callers = by.1 }
 
 -- ---- the law
 
 pub legal_law : (db : Db) (sources : files.Files) (moves : List Move) (new : Core) → Runs db moves (opening db sources) new → Legal new.history
 legal_law db sources moves new r = (run_kept db moves (opening db sources) new (opening_sound db sources) r).legal
 
+pub replies_law : (db : Db) (sources : files.Files) (moves : List Move) (new : Core) → Runs db moves (opening db sources) new → (a : ℕ) (bytes : List ℕ) (reply : Replies new a bytes) → IsAnswer (new.callers a).seen new.history reply.request bytes
+replies_law db sources moves new r = replies_answer new (run_kept db moves (opening db sources) new (opening_sound db sources) r)
+
 pub answered_law : (db : Db) (sources : files.Files) (moves : List Move) (new : Core) → Runs db moves (opening db sources) new → RepliesAnswer new
-answered_law db sources moves new r = replies_answer new (run_kept db moves (opening db sources) new (opening_sound db sources) r)
+answered_law db sources moves new r a bytes reply = (replies_law db sources moves new r a bytes reply).answered
 
 pub polled_law : (db : Db) (sources : files.Files) (moves : List Move) (new : Core) → Runs db moves (opening db sources) new → (a n : ℕ) → (new.callers a).asked ≡ Some n → (content : files.Files) × (version_in new.history n ≡ Some content)
 polled_law db sources moves new r a n is =

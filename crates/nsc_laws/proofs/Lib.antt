@@ -23,3 +23,8 @@ pub mod AddressTexts
 pub mod LiveFronts
 pub mod GivenLists
 pub mod Deciding
+pub mod RunSteps
+pub mod RunRecords
+pub mod RunReplies
+pub mod CoreLawOrigins
+pub mod RunAnswers

@@ -43,7 +43,7 @@ reloads : (db : Db) (a : ℕ) (event : List Record) (settings : DbSettings) (now
 reloads db a event settings now [] core c cache s l free = stays db a event core c Nothing cache s tt
 reloads db a event settings now (k ∷ rest) core c cache s l free =
     let request = k.entry.request in
-    let c1 = begun c request event in
+    let c1 = begun c (Some request) event in
     let core1 = changed core a c1 in
     let first = tried settings now request (next_reloads k.reloads) cache in
     let t = tries db a event core1 c1 settings now request (next_reloads k.reloads) cache (begin_stands a event core c cache request s)
@@ -155,7 +155,7 @@ gets_turned db a old cache request adds reply after d g =
 hits : (db : Db) (a : ℕ) (old : Core) (request : Request) (cache : Cache) (k : Kept) → Stands a old.history old (old.callers a) cache → Among (fixed_of cache.entries) k.entry → request ≡ k.entry.request
     → Gets db a old request [] k.entry.answer.bytes (record cache { entries = used_now request cache.entries })
 hits db a old request cache k s among same =
-    let c1 = begun (old.callers a) request old.history in
+    let c1 = begun (old.callers a) (Some request) old.history in
     let core1 = changed old a c1 in
     let s1 = begin_stands a old.history old (old.callers a) cache request s in
     let c2 = taking c1 k.entry in
@@ -183,7 +183,7 @@ keeps db a event core c settings now request cache s l is others = by_test setti
   by_test false e = record { new = core; step = no_step db a event core; stands = s; looked = l; held = s.tells.held; among = λ x y. inl y }
 
 abbrev asks : Core → ℕ → Request → Core
-asks old a request = changed old a (begun (old.callers a) request old.history)
+asks old a request = changed old a (begun (old.callers a) (Some request) old.history)
 
 misses : (db : Db) (a : ℕ) (old : Core) (settings : DbSettings) (now : ℕ) (request : Request) (cache : Cache) → Drives db a old cache → (settings.enabled ≡ true → (e : Fixed) → Among (fixed_of cache.entries) e → e.request ≢ request)
     → TurnsBy db a old request (loaded settings now request (polled (part_of db old.sources) cache))
@@ -192,7 +192,7 @@ misses db a old settings now request cache d others = by_poll (polled (part_of d
   begins = begin_step db a old.history old (old.callers a) cache request (driven db a old cache d)
 
   looks : Comes db a old.history (asks old a request) (Polled (Some request) old.history None cache.entries) (polled (part_of db old.sources) cache)
-  looks = poll_comes db a old.history (asks old a request) (begun (old.callers a) request old.history) cache (begin_stands a old.history old (old.callers a) cache request (driven db a old cache d))
+  looks = poll_comes db a old.history (asks old a request) (begun (old.callers a) (Some request) old.history) cache (begin_stands a old.history old (old.callers a) cache request (driven db a old cache d))
 
   by_poll : (r : Result Passed Stopped) → Comes db a old.history (asks old a request) (Polled (Some request) old.history None cache.entries) r → TurnsBy db a old request (loaded settings now request r)
   by_poll (Ok poll) w =

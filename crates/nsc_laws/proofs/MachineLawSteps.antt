@@ -139,14 +139,14 @@ at_own callers a c = rw (eqb_same a) refl
 pub caller_on : (a : ℕ) (event : List Record) (core : Core) (c d : Caller) (cache : Cache) → IsPrefix d.seen event → Stands a event core c cache → Stands a event (changed core a d) d cache
 caller_on a event core c d cache p s = record { caller_is = at_own core.callers a d; seen_before = p; onward = s.onward; tells = s.tells }
 
-pub begin_step : (db : Db) (a : ℕ) (event : List Record) (core : Core) (c : Caller) (cache : Cache) (request : Request) → Stands a event core c cache → Step db a event core [] (changed core a (begun c request event))
+pub begin_step : (db : Db) (a : ℕ) (event : List Record) (core : Core) (c : Caller) (cache : Cache) (request : Request) → Stands a event core c cache → Step db a event core [] (changed core a (begun c (Some request) event))
 begin_step db a event core c cache request s =
-    one_step db a event (Begin a request event) core [] (changed core a (begun c request event)) (refl, refl)
-    (subst (λ (x : Caller). IsPrefix x.seen event) (sym s.caller_is) s.seen_before, s.onward, ap (λ (x : Caller). changed core a (begun x request event)) (sym s.caller_is))
+    one_step db a event (Begin a (Some request) event) core [] (changed core a (begun c (Some request) event)) (refl, refl)
+    (subst (λ (x : Caller). IsPrefix x.seen event) (sym s.caller_is) s.seen_before, s.onward, ap (λ (x : Caller). changed core a (begun x (Some request) event)) (sym s.caller_is))
     refl refl
 
-pub begin_stands : (a : ℕ) (event : List Record) (core : Core) (c : Caller) (cache : Cache) (request : Request) → Stands a event core c cache → Stands a event (changed core a (begun c request event)) (begun c request event) cache
-begin_stands a event core c cache request s = caller_on a event core c (begun c request event) cache (same_prefix event) s
+pub begin_stands : (a : ℕ) (event : List Record) (core : Core) (c : Caller) (cache : Cache) (request : Request) → Stands a event core c cache → Stands a event (changed core a (begun c (Some request) event)) (begun c (Some request) event) cache
+begin_stands a event core c cache request s = caller_on a event core c (begun c (Some request) event) cache (same_prefix event) s
 
 pub note_step : (db : Db) (a : ℕ) (event : List Record) (core : Core) (c : Caller) (cache : Cache) → Stands a event core c cache → Step db a event core [] (changed core a (noting c (invalidations core.history)))
 note_step db a event core c cache s =

@@ -17,7 +17,7 @@ behind : (r : Record) (before : List Record) → before ≢ [] → Legal (r ∷ 
 behind r [] more l = absurd (more refl)
 behind r (s ∷ before) more l = legal_tail r s before l
 
-more_behind : (more seen : List Record) → seen ≢ [] → more ++ seen ≢ []
+pub more_behind : (more seen : List Record) → seen ≢ [] → more ++ seen ≢ []
 more_behind [] seen holds e = holds e
 more_behind (r ∷ more) seen holds e = absurd cc
 

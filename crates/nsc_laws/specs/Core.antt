@@ -12,7 +12,7 @@ use Rattle.nsc_model.specs.Fixed.{Fixed}
 use Rattle.nsc_model.specs.Answers.{answer_of}
 use Rattle.nsc_model.specs.History.{changes, loads, invalidations, newest, version_in, IsLive, NoneLiveOf, Allows, IsPrefix, Answered}
 
--- A caller: its request, and what it had seen at the start of its call; the number of invalidations that it noted, the
+-- A caller: its request, or none where it only learns what happened, and what it had seen at the start of its call; the number of invalidations that it noted, the
 -- content that it fetched since, and the version that it polled since; and of this call the load that it took and the
 -- version that it polled
 pub record Caller : Type 0 where
@@ -44,7 +44,7 @@ with_caller callers a caller b = if a == b then caller else callers b
 
 pub data Move : Type 0 where
   Files : (content : files.Files) → Move
-  Begin : (caller : ℕ) → (request : Request) → (seen : List Record) → Move
+  Begin : (caller : ℕ) → (request : Option Request) → (seen : List Record) → Move
   Look : (caller : ℕ) → (found : Option Fixed) → Move
   Note : (caller : ℕ) → Move
   Fetch : (caller : ℕ) → Move
@@ -115,7 +115,7 @@ pub record Replies (core : Core) (a : ℕ) (bytes : List ℕ) : Type 0 where
 abbrev pub Moves : Db → Move → Core → Core → Type 0
 Moves db (Files content) old new = new ≡ record old { sources = content }
 Moves db (Begin a request seen) old new =
-    IsPrefix (old.callers a).seen seen × IsPrefix seen old.history × Becomes old a (record (old.callers a) { request = Some request; seen = seen; taken = None; asked = None }) new
+    IsPrefix (old.callers a).seen seen × IsPrefix seen old.history × Becomes old a (record (old.callers a) { request = request; seen = seen; taken = None; asked = None }) new
 Moves db (Look a None) old new = Becomes old a (record (old.callers a) { taken = None }) new
 Moves db (Look a (Some e)) old new = IsLive old.history e × ((old.callers a).request ≡ Some e.request) × Becomes old a (record (old.callers a) { taken = Some e }) new
 Moves db (Note a) old new = Becomes old a (record (old.callers a) { noted = Some (invalidations old.history); fetched = None; version = None }) new

@@ -4,3 +4,4 @@ pub mod Replies
 pub mod Moments
 pub mod Turns
 pub mod ServiceLists
+pub mod Origins

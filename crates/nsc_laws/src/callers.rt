@@ -1,16 +1,21 @@
 //! The core of a database: what its callers do in any order, and the history that this makes.
 
-ghost use Rattle.std.specs.Prelude.{◌≡◌, ℕ, List, Some};
+ghost use Rattle.std.specs.Prelude.{◌≡◌, ◌≢◌, ℕ, List, [], Some};
+ghost use Rattle.nsc_model.specs.declared.answer.Request.{Request};
 ghost use Rattle.nsc_model.specs.declared.kind.Db.{Db};
+ghost use Rattle.nsc_model.specs.declared.record.Record.{Record};
 ghost use Rattle.nsc_model.specs.Files.{Files};
-ghost use Rattle.nsc_model.specs.History.{Legal, version_in};
+ghost use Rattle.nsc_model.specs.History.{Answered, Legal, version_in};
 ghost use Rattle.nsc_laws.specs.Core.{Core, Move, Empty, Moves, Runs, RepliesAnswer, opening};
+ghost use Rattle.nsc_laws.specs.Origins.{IsAnswer, IsReply, IsRun, IsSourced};
 
-/// In every run of moves from an opening, whatever its callers do and in whatever order, the history is legal, and each
-/// reply that a caller may get is an answer to its request, between what the caller had seen at the start of its call and
+/// In every run of moves from an opening, whatever its callers do and in whatever order, the history is legal, each of its
+/// contents is what the database reads of some files, and each of its entries is of a version that some caller looked at; and
+/// each reply that a caller may get is an answer to its request, between what the caller had seen at the start of its call and
 /// the history at the reply.
 pub fn core_runs_are_legal()
     ensures legal { (db : Db) (files : Files) (moves : List Move) (new : Core) → Runs db moves (opening db files) new → Legal new.history }
+    ensures sourced { (db : Db) (files : Files) (moves : List Move) (new : Core) → Runs db moves (opening db files) new → IsSourced db new.history }
     ensures answered { (db : Db) (files : Files) (moves : List Move) (new : Core) → Runs db moves (opening db files) new → RepliesAnswer new }
 {}
 
@@ -24,4 +29,21 @@ pub fn polled_versions_are_held()
 /// After every run the database can be emptied: its live entries are a list, each once, in rising number.
 pub fn core_can_be_emptied()
     ensures { (db : Db) (files : Files) (moves : List Move) (new : Core) → Runs db moves (opening db files) new → (emptied : Core) × Moves db Empty new emptied }
+{}
+
+/// Every legal history is made by some run of moves from an opening, where each of its contents is what the database reads of
+/// some files, and each of its entries is of a version that some caller looked at: so the runs make these histories and no
+/// others.
+pub fn legal_histories_are_run()
+    ensures { (db : Db) (history : List Record) → Legal history → IsSourced db history → IsRun db history }
+{}
+
+/// Every answer over such a history is a reply that some caller may get in a run that makes the history, for a call at whose
+/// start it had seen just so much; and every such reply is an answer over the history. An answer over a version is of a caller
+/// that looked at it, so not at the record that begins the history: this is so wherever the caller had seen that record.
+pub fn answers_are_replied()
+    ensures replied { (db : Db) (seen history : List Record) (request : Request) (bytes : List ℕ) →
+        Legal history → IsSourced db history → IsAnswer seen history request bytes → IsReply db seen history request bytes }
+    ensures answered { (db : Db) (seen history : List Record) (request : Request) (bytes : List ℕ) → IsReply db seen history request bytes → IsAnswer seen history request bytes }
+    ensures any { (seen history : List Record) (request : Request) (bytes : List ℕ) → seen ≢ [] → Answered seen history request bytes → IsAnswer seen history request bytes }
 {}

@@ -12,7 +12,10 @@ mod replies;
 mod switches;
 
 pub use addresses::{printed_v4_is_read, printed_v6_is_read};
-pub use callers::{core_can_be_emptied, core_runs_are_legal, polled_versions_are_held};
+pub use callers::{
+    answers_are_replied, core_can_be_emptied, core_runs_are_legal, legal_histories_are_run,
+    polled_versions_are_held,
+};
 pub use histories::{prefixes_are_legal, replied_entries_were_live};
 pub use lists::{texts_give_lists, texts_spell_lists};
 pub use machines::{machine_events_are_moves, runs_are_answered};

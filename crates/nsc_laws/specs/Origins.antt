@@ -1,0 +1,66 @@
+-- Where the records of a history come from: contents from files, entries from callers who looked at their versions.
+use Rattle.std.specs.Prelude.{◌≡◌, ◌⊎◌, ◌<◌, ℕ, List, [], ◌∷◌, length, Some}
+use Rattle.std.proofs.Common.{inl, inr}
+use Rattle.nsc_model.specs.declared.kind.Db.{Db}
+use Rattle.nsc_model.specs.declared.answer.Request.{Request}
+use Rattle.nsc_model.specs.declared.record.Record.{Record}
+use Rattle.nsc_model.specs.declared.record.Record.TheVariants.{Change, Poll, Load, End, Invalid}
+use Rattle.nsc_model.specs.Files.{Files, part_of}
+use Rattle.nsc_model.specs.History.{Answered, FromEntry, FromPoll}
+use Rattle.nsc_laws.specs.Core.{Core, Move, Runs, Replies, opening}
+
+-- what the database reads of some files
+abbrev pub IsRead : Db → Files → Type 0
+IsRead db content = (sources : Files) × (content ≡ part_of db sources)
+
+-- some caller looked at the version since the last invalidation; the record that begins a history is no caller's
+abbrev pub WasAsked : List Record → ℕ → Type 0
+WasAsked [] n = ⊥
+WasAsked (Change version content ∷ []) n = ⊥
+WasAsked (Change version content ∷ record' ∷ before) n = (version ≡ n) ⊎ WasAsked (record' ∷ before) n
+WasAsked (Poll version ∷ before) n = (version ≡ n) ⊎ WasAsked before n
+WasAsked (Load entry ∷ before) n = WasAsked before n
+WasAsked (End number cause ∷ before) n = WasAsked before n
+WasAsked (Invalid epoch ∷ before) n = ⊥
+
+-- each content is what the database reads of some files, and each entry is of a version that some caller looked at
+abbrev pub IsSourced : Db → List Record → Type 0
+IsSourced db [] = Unit {0}
+IsSourced db (Change version content ∷ before) = IsSourced db before × IsRead db content
+IsSourced db (Poll version ∷ before) = IsSourced db before
+IsSourced db (Load entry ∷ before) = IsSourced db before × WasAsked before entry.version
+IsSourced db (End number cause ∷ before) = IsSourced db before
+IsSourced db (Invalid epoch ∷ before) = IsSourced db before
+
+-- an answer over a version is of a caller that looked at it, so not at the record that begins the history
+abbrev pub IsOfCallers : {seen history : List Record} {request : Request} {bytes : List ℕ} → FromEntry seen history request bytes ⊎ FromPoll seen history request bytes → Type 0
+IsOfCallers (inl from) = Unit {0}
+IsOfCallers (inr from) = 1 < length from.moment
+
+-- an answer that callers may get
+pub record IsAnswer (seen history : List Record) (request : Request) (bytes : List ℕ) : Type 0 where
+  pub answered : Answered seen history request bytes
+  pub of_callers : IsOfCallers answered.source
+
+-- some run from an opening makes this history
+pub record IsRun (db : Db) (history : List Record) : Type 0 where
+  pub first : Files
+  pub moves : List Move
+  pub core : Core
+  pub runs : Runs db moves (opening db first) core
+  pub history_is : core.history ≡ history
+
+-- in some run that makes this history a caller asks, has seen so much at the start of its call, and may get this reply
+pub record IsReply (db : Db) (seen history : List Record) (request : Request) (bytes : List ℕ) : Type 0 where
+  pub first : Files
+  pub moves : List Move
+  pub core : Core
+  pub runs : Runs db moves (opening db first) core
+  pub caller : ℕ
+  pub requested : (core.callers caller).request ≡ Some request
+  pub seen_is : (core.callers caller).seen ≡ seen
+  pub replies : Replies core caller bytes
+  pub later : List Move
+  pub new : Core
+  pub runs_on : Runs db later core new
+  pub history_is : new.history ≡ history
