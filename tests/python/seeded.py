@@ -1,0 +1,236 @@
+"""Makes replays at random, runs the program on them, and compares its replies with those of the rules, read plainly."""
+
+import random
+import sys
+from dataclasses import dataclass, field
+
+sys.dont_write_bytecode = True
+import frames
+import rules
+
+READ_BY = {
+    "passwd": ["switch", "passwd", "extra-passwd"],
+    "group": ["switch", "group", "extra-group"],
+    "hosts": ["switch", "hosts"],
+    "services": ["switch", "services"],
+}
+LIVES = {"passwd": (3600, 20), "group": (3600, 60), "hosts": (3600, 20), "services": (28800, 20)}
+
+# What files are made of: lines in form and out of it.
+NAMES = ["ann", "bob", "cid", "eve"]
+LISTS = [
+    *["files extrausers", "extrausers files", "compat", "compat [NOTFOUND=return] extrausers"] * 4,
+    "files",
+    "files [UNAVAIL=return] extrausers",
+    "extrausers [SUCCESS=continue] files",
+    "nis [!UNAVAIL=return] compat",
+    "files [!SUCCESS=return TRYAGAIN=continue] extrausers",
+    "files [!SUCCESS=return NOTFOUND=continue]\textrausers",
+    "files[notfound=MERGE]extrausers",
+    "db files",
+    "files [",
+    "files [NOTFOUND = return extrausers",
+    "[SUCCESS=return] extrausers",
+    "files ! extrausers",
+    "",
+]
+ACCOUNTS = ["NAME:x:ID:100:G NAME:/home/NAME:/bin/sh"] * 4 + ["  NAME::ID:ID:::", "NAME:x:ID", "#NAME:x:ID:1:::", "NAME:x:x:1:::", "NAME:x:ID:1::\0:"]
+GROUPS = ["NAME:x:ID:NAMES"] * 4 + [" NAME::ID:", "NAME:x:ID:NAMES:", "NAME:x:99999999999:NAMES", "NAME:x:ID:,NAMES,,OTHER"]
+COMPAT = ["+", "-NAME", "+NAME", "-", "+NAME:P:1:2:G:/d:/s", "+::::H::", "+NAME:x:1:OTHER", "-@x", "+@x", " \t-NAME", "-NAME:x", "-NAME\0"]
+HOSTS = ["10.0.0.ID NAME", "10.0.0.ID NAME OTHER # ann", "fd00::ID NAME", "::ffff:10.0.0.ID NAME", "10.0.0 NAME", "\tFD00::ID\tOTHER NAME", "10.0.0.ID # NAME", "fd00:::ID NAME"]
+SERVICES = ["NAME ID/tcp", "NAME ID/udp OTHER # x", "NAME\t65535/tcp", "NAME 65536/tcp", "NAME ID", "NAME ID/ OTHER", "NAME ID/tcp/x"]
+
+
+@dataclass
+class Entry:
+    kind: str
+    key: bytes
+    reply: bytes
+    is_not_found: bool
+    timeout: int
+    reloads: int
+
+    def words(self):
+        return 8 + -(-len(self.key) // 8) + -(-len(self.reply) // 8)
+
+
+@dataclass
+class Cache:
+    """The cache of one database."""
+
+    database: str
+    settings: dict
+    reloads: int
+    newest: dict = field(default_factory=dict)
+    version: int = 0
+    ticked: int = 0
+    entries: list = field(default_factory=list)
+
+    def poll(self, files):
+        part = {name: files[name] if name in READ_BY[self.database] else None for name in frames.FILES}
+        if part != (self.newest or dict.fromkeys(frames.FILES)):
+            self.newest = part
+            self.version += 1
+        self.newest = part
+
+    def insert(self, kind, key, now, reloads):
+        """The reply to a request over the newest files, which is kept where it fits."""
+        reply, is_not_found = rules.answer(self.newest, kind, key)
+        lives = self.settings["negative" if is_not_found else "positive"]
+        entry = Entry(kind, key, reply, is_not_found, now + lives, reloads)
+        free = 128 * self.settings["size"] - sum(other.words() for other in self.entries)
+        if self.settings["enabled"] and len(reply) <= 65536 and entry.words() <= free:
+            self.entries.append(entry)
+        return reply
+
+    def look_up(self, files, kind, key, now):
+        for entry in self.entries:
+            if (entry.kind, entry.key) == (kind, key):
+                entry.reloads = 0
+                return entry.reply
+        self.poll(files)
+        return self.insert(kind, key, now, 0)
+
+    def tick(self, files, now):
+        if not self.settings["enabled"]:
+            return
+        self.poll(files)
+        changed, self.ticked = self.version != self.ticked, self.version
+        if changed and self.settings["check"]:
+            self.entries = []
+            return
+        due = [entry for entry in self.entries if entry.timeout < now]
+        self.entries = [entry for entry in self.entries if entry.timeout >= now]
+        for entry in due:
+            if not entry.is_not_found and entry.reloads < self.reloads:
+                self.insert(entry.kind, entry.key, now, entry.reloads + 1)
+
+
+def spelled(value):
+    """A setting as a configuration has it."""
+    return {True: "yes", False: "no"}[value] if isinstance(value, bool) else value
+
+
+class Maker:
+    """A replay at random, and the replies that it must have."""
+
+    def __init__(self, seed):
+        self.dice = random.Random(seed)
+        self.database = self.dice.choice(frames.DATABASES)  # the one that is asked most
+        self.requests = [self.request() for _ in range(self.dice.choice([2, 4, 8]))]
+        self.files = dict.fromkeys(frames.FILES)
+        self.now = 0
+        self.frames = b""
+        self.wanted = []
+        self.conf, self.caches = self.settings()
+
+    def settings(self):
+        """The text of a configuration, and the caches that it makes."""
+        lines, caches = [], {}
+        reloads = self.dice.choice([5, 0, 1, 1, 2, None])
+        if reloads != 5:
+            lines.append(f"reload-count {'unlimited' if reloads is None else reloads}")
+        for database, (positive, negative) in LIVES.items():
+            own = {"enabled": True, "check": True, "size": 211, "positive": positive, "negative": negative}
+            for name, key, values in (
+                ("enable-cache", "enabled", [False]),
+                ("check-files", "check", [False, False, True]),
+                ("suggested-size", "size", [1, 2]),
+                ("positive-time-to-live", "positive", [0, 10, 10, 40]),
+                ("negative-time-to-live", "negative", [0, 10, 40]),
+            ):
+                if self.dice.random() < (0.1 if name == "enable-cache" else 0.7):
+                    own[key] = self.dice.choice(values)
+                    lines.append(f"{name} {database} {spelled(own[key])}")
+            caches[database] = Cache(database, own, float("inf") if reloads is None else reloads)
+        self.dice.shuffle(lines)
+        return "\n".join(lines).encode(), caches
+
+    def filled(self, line):
+        pick = self.dice.choice
+        line = line.replace("NAMES", ",".join(pick(NAMES) for _ in range(pick([1, 2, 3]))))
+        return line.replace("NAME", pick(NAMES)).replace("OTHER", pick(NAMES)).replace("ID", str(pick([1, 2, 3, 4])))
+
+    def file(self, name):
+        pick = self.dice.choice
+        if name == "switch":
+            lines = [f"{name}{pick(['', ' '])}: {pick(LISTS)}{pick(['', ' # x'])}" for name in ("passwd", "group")]
+            lines += [f"{name}: {pick(['files', 'files', 'db files', pick(LISTS)])}" for name in ("hosts", "services")]
+            lines += [f"{name}_compat: {pick(LISTS)}" for name in ("passwd", "group")]
+            lines += [pick(lines), "", "# passwd: nis"]
+            self.dice.shuffle(lines)
+            lines = lines[pick([0, 0, 2]) :]
+        else:
+            pool = {"passwd": ACCOUNTS + COMPAT, "group": GROUPS + COMPAT, "hosts": HOSTS, "services": SERVICES}
+            pool |= {"extra-passwd": ACCOUNTS, "extra-group": GROUPS}
+            lines = [self.filled(pick(pool[name])) for _ in range(pick([0, 4, 8, 12]))]
+        return ("\n".join(lines) + pick(["", "\n"])).encode()
+
+    def request(self):
+        pick = self.dice.choice
+        kind = pick([kind for kind in frames.TYPES if rules.DATABASE[kind] == self.database] * 3 + list(frames.TYPES))
+        name, number = pick(NAMES * 3 + ["zed", ""]), pick([1, 2, 3, 4])
+        if kind in ("uid", "gid"):
+            key = pick([f"{number}", f"0{number}", name, f" {number}", "4294967297"]).encode()
+        elif kind in ("address", "address6"):
+            key = pick([bytes([10, 0, 0, number]), b"\xfd" + bytes(14) + bytes([number]), b"\n\0\0"])
+        elif kind == "service":
+            key = (name + pick(["", "/", "/tcp", "/udp", "/tcp/x"])).encode()
+        elif kind == "port":
+            key = (pick([f"{number * 256}", f"{number}", "65535", "65536", name]) + pick(["", "/", "/tcp", "/udp"])).encode()
+        else:
+            key = pick([name, name.upper()]).encode()
+        return kind, key
+
+    def ask(self):
+        kind, key = self.dice.choice(self.requests)
+        reply = self.caches[rules.DATABASE[kind]].look_up(self.files, kind, key, self.now)
+        self.wanted.append(reply)
+        self.frames += frames.look_up(kind, key if kind.startswith("address") and kind != "addresses" else key + b"\0")
+
+    def set_file(self):
+        name = self.dice.choice(READ_BY[self.database] + frames.FILES)
+        self.files[name] = self.file(name) if self.dice.random() < 0.9 else None
+        self.frames += frames.set_file(name, self.files[name])
+
+    def pass_time(self):
+        moment = max(0, self.now + self.dice.choice([-5, 0, 1, 9, 10, 11, 12, 21, 61]))
+        self.now = max(self.now, moment)
+        self.frames += frames.pass_time(moment)
+        for cache in self.caches.values():
+            cache.tick(self.files, self.now)
+
+    def invalidate(self):
+        database = self.dice.choice(frames.DATABASES)
+        self.caches[database].entries = []
+        self.frames += frames.invalidate(database)
+
+    def make(self):
+        for name in frames.FILES:
+            if self.dice.random() < 0.8:
+                self.files[name] = self.file(name)
+                self.frames += frames.set_file(name, self.files[name])
+        for _ in range(60):
+            self.dice.choices([self.ask, self.set_file, self.pass_time, self.invalidate], [40, 8, 12, 1])[0]()
+        self.frames += frames.END
+
+
+def main():
+    program = frames.program()
+    count, start = [*map(int, sys.argv[1:]), *[200, 0][len(sys.argv) - 1 :]][:2]
+    found = broken = 0
+    for seed in range(start, start + count):
+        maker = Maker(seed)
+        maker.make()
+        status, output, said = frames.replay(program, maker.frames, maker.conf)
+        came, rest = frames.replies(output)
+        found += sum(reply[4:5] == b"\x01" for reply in maker.wanted)
+        if (status, came, rest) != (0, maker.wanted, b""):
+            broken += 1
+            wrong = [place for place, pair in enumerate(zip(came, maker.wanted)) if pair[0] != pair[1]]
+            print(f"seeded-replays: seed {seed}: status {status} {said}, other replies at {wrong[:5]}", file=sys.stderr)
+    print(f"seeded-replays: {count} replays, {found} entries found, {broken} faults")
+    sys.exit(bool(broken))
+
+
+main()
