@@ -2,7 +2,7 @@
 use Rattle.std.proofs.Common.{◌≡◌, ℕ, ◌+◌, ◌-◌, ◌≤◌, List, ◌++◌, length, take, drop, Some, refl, sym, ◌∙◌, ap, arith}
 use Rattle.std.proofs.lemmas.List.{places, take-append-drop, take_at, drop-drop}
 use Rattle.nsc_outside.specs.Stream.{greatest, Rose, Moves}
-use Rattle.nsc_outside.specs.Memory.{risen}
+use Rattle.nsc_outside.specs.Plan.{risen}
 
 -- a count that is counted up rose
 pub rose_risen : (count : ℕ) → count ≤ greatest → Rose count (risen count)

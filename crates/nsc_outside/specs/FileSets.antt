@@ -38,44 +38,9 @@ RoseBy (causes.TooLong size) before after = Rose before after
 abbrev pub ChangesOnly : {A : Type 0} → FileId → (FileId → A) → (FileId → A) → Type 0
 ChangesOnly file before after = (other : FileId) → other ≢ file → after other ≡ before other
 
--- what a set counts: faults in all, and of each file, by its number, faults and reads
-pub record Counts : Type 0 where
-  pub faults : ℕ
-  pub file_faults : List ℕ
-  pub reads : List ℕ
-
--- the count of a file among those by number
-abbrev pub count_of : List ℕ → FileId → ℕ
-count_of counts file = slice_index_or counts (file_number file) 0
-
 -- what the latest read of a file gave, among what those gave by number
 abbrev pub latest_of : List (Option (Option (List ℕ))) → FileId → Option (Option (List ℕ))
 latest_of latest file = slice_index_or latest (file_number file) None
-
--- a configuration file: its path and its bytes
-pub record ConfFile : Type 0 where
-  pub path : List ℕ
-  pub bytes : List ℕ
-
--- the bytes of the first configuration file with this path; absent where there is none
-abbrev pub conf_of : List ConfFile → List ℕ → Option (List ℕ)
-conf_of confs path = option_map (λ conf. conf.bytes) (find (λ conf. bytes_eq conf.path path) confs)
-
--- a set in memory: what it holds, which reads fail, what the latest read of each file gave, by number, and what it counts
-pub record MemSet : Type 0 where
-  pub files : Files
-  pub confs : List ConfFile
-  pub failing : List ℕ
-  pub latest : List (Option (Option (List ℕ)))
-  pub counts : Counts
-
--- no count has begun
-abbrev pub no_counts : Counts
-no_counts = record { faults = 0; file_faults = replicate 7 0; reads = replicate 7 0 }
-
--- nothing is held, no read fails, and none was made
-abbrev pub empty_set : MemSet
-empty_set = record { files = no_files; confs = []; failing = []; latest = replicate 7 None; counts = no_counts }
 
 -- where a system keeps its files
 abbrev pub system_path : FileId → List ℕ
@@ -101,11 +66,6 @@ folder_path file.ExtraGroup = codes "extrausers/group"
 abbrev pub path_of : Option (List ℕ) → FileId → List ℕ
 path_of None file = system_path file
 path_of (Some folder) file = folder ++ 47 ∷ [] ++ folder_path file
-
--- a set over the file system: the folder whose files it takes, if it is no longer the system's own, and what it counts
-pub record HostSet : Type 0 where
-  pub folder : Option (List ℕ)
-  pub counts : Counts
 
 -- bytes are all that a reader had left, where it tells that
 abbrev pub IsAllOf : Option (List ℕ) → List ℕ → Type 0

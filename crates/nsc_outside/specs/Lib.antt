@@ -1,3 +1,10 @@
 pub mod Stream
-pub mod Memory
+pub mod StdStream
+pub mod Plan
+pub mod MemSource
+pub mod MemSink
 pub mod FileSets
+pub mod Tally
+pub mod ConfFile
+pub mod MemFiles
+pub mod HostFiles

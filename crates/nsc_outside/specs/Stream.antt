@@ -30,8 +30,3 @@ Grows (Some had) after added = after ≡ Some (had ++ added)
 -- a sink took the bytes at the front, and perhaps not all
 abbrev pub GrowsByFront : Option (List ℕ) → Option (List ℕ) → List ℕ → Type 0
 GrowsByFront before after bytes = (front : List ℕ) × ((rest : List ℕ) × (bytes ≡ front ++ rest)) × Grows before after front
-
--- a stream of the standard library: what that tells of its bytes, and the count of faults
-pub record Told : Type 0 where
-  pub bytes : Option (List ℕ)
-  pub faults : ℕ

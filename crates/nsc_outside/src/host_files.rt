@@ -3,7 +3,8 @@ ghost use Rattle.std.specs.IoError.{error_kind};
 ghost use Rattle.std.specs.Fs.{file_type, IsFile};
 ghost use Rattle.nsc_model.specs.Files.{FileFits};
 ghost use Rattle.nsc_outside.specs.Stream.{Rose};
-ghost use Rattle.nsc_outside.specs.FileSets.{IsCause, RoseBy, ChangesOnly, IsAllOf, IsLong, TellsNoLength, count_of, no_counts};
+ghost use Rattle.nsc_outside.specs.FileSets.{IsCause, RoseBy, ChangesOnly, IsAllOf, IsLong, TellsNoLength};
+ghost use Rattle.nsc_outside.specs.Tally.{count_of, no_counts};
 
 use crate::files::{FileSet, ReadCause};
 use crate::paths::path_of;
@@ -35,9 +36,9 @@ pub struct HostFiles<R: Files + Clone + Drop> {
 impl<R: Files + Clone + Drop> Model for HostFiles<R> {
     ghost use Rattle.std.specs.Prelude.{string_bytes};
     ghost use Rattle.std.specs.Option.{option_map};
-    ghost use Rattle.nsc_outside.specs.FileSets.{HostSet};
+    ghost use Rattle.nsc_outside.specs.HostFiles.{HostFiles};
 
-    ghost Value = { HostSet };
+    ghost Value = { HostFiles };
 
     ghost view = { λ s. record { folder = option_map string_bytes s.folder; counts = s.tally } };
 }
@@ -88,7 +89,7 @@ impl<R: Files + Clone + Drop> HostFiles<R> {
 
 impl<R: Files + Clone + Drop> FileSet for HostFiles<R> {
     ghost use Rattle.std.specs.Prelude.{None};
-    ghost use Rattle.nsc_outside.specs.FileSets.{count_of};
+    ghost use Rattle.nsc_outside.specs.Tally.{count_of};
 
     ghost faults = { λ s. s.counts.faults };
 

@@ -4,7 +4,10 @@ ghost use Rattle.std.specs.Str.{bytes_eq};
 ghost use Rattle.nsc_model.specs.Files.{FileFits, file_of, with_file};
 ghost use Rattle.nsc_model.specs.declared.kind.FileId.{FileId};
 ghost use Rattle.nsc_outside.specs.Stream.{Rose};
-ghost use Rattle.nsc_outside.specs.FileSets.{IsAsTold, IsCause, RoseBy, ChangesOnly, conf_of, count_of, latest_of, empty_set};
+ghost use Rattle.nsc_outside.specs.FileSets.{IsAsTold, IsCause, RoseBy, ChangesOnly, latest_of};
+ghost use Rattle.nsc_outside.specs.ConfFile.{conf_of};
+ghost use Rattle.nsc_outside.specs.Tally.{count_of};
+ghost use Rattle.nsc_outside.specs.MemFiles.{empty_set};
 
 use crate::files::{FileSet, ReadCause};
 use crate::read_plan::ReadPlan;
@@ -17,33 +20,33 @@ use std::marker::Model;
 
 // A configuration file: its path and its bytes.
 #[derive(Debug, Drop)]
-struct Conf {
+struct ConfFile {
     path: Shared,
     bytes: Shared,
 }
 
-impl Model for Conf {
-    ghost use Rattle.nsc_outside.specs.FileSets.{ConfFile};
+impl Model for ConfFile {
+    ghost use Rattle.nsc_outside.specs.ConfFile.{ConfFile};
 
     ghost Value = { ConfFile };
 
     ghost view = { λ c. record { path = c.path; bytes = c.bytes } };
 }
 
-impl Conf {
-    fn new(alloc: Global, path: &str, bytes: Bytes) -> Result<Conf, NoMemory>
+impl ConfFile {
+    fn new(alloc: Global, path: &str, bytes: Bytes) -> Result<ConfFile, NoMemory>
         ensures { IfOk result (λ conf. conf ≡ record { path = path.now; bytes = bytes }) }
     {
-        Ok(Conf {
+        Ok(ConfFile {
             path: Shared::new(alloc, Bytes::copy(alloc, path.as_bytes())?)?,
             bytes: Shared::new(alloc, bytes)?,
         })
     }
 
-    fn share(&self) -> Result<Conf, NoMemory>
+    fn share(&self) -> Result<ConfFile, NoMemory>
         ensures { IfOk result (λ conf. conf ≡ self.now) }
     {
-        Ok(Conf {
+        Ok(ConfFile {
             path: self.path.share()?,
             bytes: self.bytes.share()?,
         })
@@ -63,7 +66,7 @@ impl Conf {
 }
 
 // Another holder of all of these.
-fn share_confs(alloc: Global, confs: &[Conf]) -> Result<Vec<Conf>, NoMemory>
+fn share_confs(alloc: Global, confs: &[ConfFile]) -> Result<Vec<ConfFile>, NoMemory>
     ensures { IfOk result (λ shared. shared.items ≡ confs.now) }
 {
     let mut shared = Vec::new(alloc);
@@ -74,7 +77,7 @@ fn share_confs(alloc: Global, confs: &[Conf]) -> Result<Vec<Conf>, NoMemory>
 }
 
 // The bytes of the first with this path; `None` where none has it.
-fn conf_bytes<'a>(confs: &'a [Conf], path: &str) -> Option<&'a [u8]>
+fn conf_bytes<'a>(confs: &'a [ConfFile], path: &str) -> Option<&'a [u8]>
     ensures { option_copied result ≡ conf_of confs.now path.now }
 {
     let conf = confs.iter().find(|conf| conf.is_at(path));
@@ -86,7 +89,7 @@ fn conf_bytes<'a>(confs: &'a [Conf], path: &str) -> Option<&'a [u8]>
 #[derive(Drop)]
 pub struct MemFiles {
     files: [Option<Shared>; 7],
-    confs: Vec<Conf>,
+    confs: Vec<ConfFile>,
     plan: ReadPlan,
     latest: [Option<Option<Shared>>; 7],
     tally: Tally,
@@ -94,9 +97,9 @@ pub struct MemFiles {
 
 impl Model for MemFiles {
     ghost use Rattle.nsc_model.specs.Files.{files_in};
-    ghost use Rattle.nsc_outside.specs.FileSets.{MemSet};
+    ghost use Rattle.nsc_outside.specs.MemFiles.{MemFiles};
 
-    ghost Value = { MemSet };
+    ghost Value = { MemFiles };
 
     ghost view = { λ s. record { files = files_in s.files; confs = s.confs.items; failing = s.plan; latest = s.latest; counts = s.tally } };
 }
@@ -141,7 +144,7 @@ impl MemFiles {
     ) -> Result<MemFiles, NoMemory>
         ensures { IfOk result (λ set. set ≡ record self { confs = record { path = path.now; bytes = bytes } ∷ self.confs }) }
     {
-        self.confs.insert(0, Conf::new(alloc, path, bytes)?)?;
+        self.confs.insert(0, ConfFile::new(alloc, path, bytes)?)?;
         Ok(self)
     }
 
@@ -207,7 +210,9 @@ impl MemFiles {
 
 impl FileSet for MemFiles {
     ghost use Rattle.std.specs.Prelude.{Some};
-    ghost use Rattle.nsc_outside.specs.FileSets.{conf_of, count_of, latest_of};
+    ghost use Rattle.nsc_outside.specs.ConfFile.{conf_of};
+    ghost use Rattle.nsc_outside.specs.Tally.{count_of};
+    ghost use Rattle.nsc_outside.specs.FileSets.{latest_of};
 
     ghost faults = { λ s. s.counts.faults };
 

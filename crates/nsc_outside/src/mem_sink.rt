@@ -1,6 +1,7 @@
 ghost use Rattle.std.specs.Prelude.{◌≡◌, ◌-◌, ◌<◌, ◌≤◌, [], length, min, nat_lt, take, ◌||◌, IfOk, OnOk, OnErr, is_err};
 ghost use Rattle.nsc_outside.specs.Stream.{Rose, Grows};
-ghost use Rattle.nsc_outside.specs.Memory.{Basin, after_call, after_fault, is_next_failing};
+ghost use Rattle.nsc_outside.specs.MemSink.{MemSink};
+ghost use Rattle.nsc_outside.specs.Plan.{after_call, after_fault, is_next_failing};
 
 use crate::plan::Plan;
 use crate::stream::{Failed, Sink};
@@ -19,11 +20,11 @@ pub struct MemSink {
 impl Model for MemSink {
     ghost use Rattle.std.specs.Prelude.{◌+◌, ◌≤◌, vec_len};
     ghost use Rattle.std.specs.Vec.{vec_capacity};
-    ghost use Rattle.nsc_outside.specs.Memory.{Basin};
+    ghost use Rattle.nsc_outside.specs.MemSink.{MemSink};
 
-    ghost Value = { Basin };
+    ghost Value = { MemSink };
 
-    ghost view = { λ s. record { taken = s.taken.items; room = s.room; course = s.plan } };
+    ghost view = { λ s. record { taken = s.taken.items; room = s.room; plan = s.plan } };
 
     ghost invariant = { λ s. vec_len s.taken + s.room ≤ vec_capacity s.taken };
 }
@@ -32,7 +33,7 @@ impl MemSink {
     /// A sink with room for this many bytes, for which the memory is taken here: a call takes all bytes, and fails only
     /// for want of room. Fails only for want of memory.
     pub fn new(alloc: Global, room: usize) -> Result<MemSink, NoMemory>
-        ensures { IfOk result (λ sink. sink ≡ record { taken = []; room = room; course = record { step = usize.MAX; failing = []; calls = 0; faults = 0 } }) }
+        ensures { IfOk result (λ sink. sink ≡ record { taken = []; room = room; plan = record { step = usize.MAX; failing = []; calls = 0; faults = 0 } }) }
     {
         Ok(MemSink {
             taken: Vec::with_capacity(alloc, room)?,
@@ -44,7 +45,7 @@ impl MemSink {
     /// The same sink, which takes `step` bytes a call at most.
     pub fn with_step(mut self, step: usize) -> MemSink
         requires { 0 < step }
-        ensures { result ≡ record self { course = record self.course { step = step } } }
+        ensures { result ≡ record self { plan = record self.plan { step = step } } }
     {
         self.plan.set_step(step);
         self
@@ -52,7 +53,7 @@ impl MemSink {
 
     /// The same sink, at which the calls with these numbers fail, the first being 1.
     pub fn failing_at(mut self, calls: Vec<u64>) -> MemSink
-        ensures { result ≡ record self { course = record self.course { failing = calls.items } } }
+        ensures { result ≡ record self { plan = record self.plan { failing = calls.items } } }
     {
         self.plan.set_failing(calls);
         self
@@ -67,7 +68,7 @@ impl MemSink {
 
     /// How many calls have failed; the count stops at the greatest `u64`.
     pub fn faults(&self) -> u64
-        ensures { result ≡ self.now.course.faults }
+        ensures { result ≡ self.now.plan.faults }
     {
         self.plan.faults()
     }
@@ -78,7 +79,7 @@ impl Sink for MemSink {
 
     ghost taken = { λ s. Some s.taken };
 
-    ghost faults = { λ s. s.course.faults };
+    ghost faults = { λ s. s.plan.faults };
 
     /// Takes as many bytes as a call may take. Fails where it is to fail, and where it lacks the room for that many.
     fn write(&mut self, bytes: &[u8]) -> Result<usize, Failed>
@@ -86,15 +87,15 @@ impl Sink for MemSink {
         ensures some { IfOk result (λ n. 0 < length bytes.now → 0 < n) }
         ensures grown { IfOk result (λ n. Grows (Some self.old.taken) (Some self.new.taken) (take n bytes.now)) }
         ensures stays { OnErr result (Some self.new.taken ≡ Some self.old.taken) }
-        ensures calm { OnOk result (self.new.course.faults ≡ self.old.course.faults) }
-        ensures failed { OnErr result (Rose self.old.course.faults self.new.course.faults) }
+        ensures calm { OnOk result (self.new.plan.faults ≡ self.old.plan.faults) }
+        ensures failed { OnErr result (Rose self.old.plan.faults self.new.plan.faults) }
 
-        ensures planned { is_err result ≡ (is_next_failing self.old.course || nat_lt self.old.room (min self.old.course.step (length bytes.now))) }
-        ensures amount { IfOk result (λ n. n ≡ min self.old.course.step (length bytes.now)) }
+        ensures planned { is_err result ≡ (is_next_failing self.old.plan || nat_lt self.old.room (min self.old.plan.step (length bytes.now))) }
+        ensures amount { IfOk result (λ n. n ≡ min self.old.plan.step (length bytes.now)) }
         ensures room { IfOk result (λ n. self.new.room ≡ self.old.room - n) }
         ensures room_stays { OnErr result (self.new.room ≡ self.old.room) }
-        ensures called { OnOk result (self.new.course ≡ after_call self.old.course) }
-        ensures counted { OnErr result (self.new.course ≡ after_fault (after_call self.old.course)) }
+        ensures called { OnOk result (self.new.plan ≡ after_call self.old.plan) }
+        ensures counted { OnErr result (self.new.plan ≡ after_fault (after_call self.old.plan)) }
     {
         self.plan.begin()?;
         let count = self.plan.step().min(bytes.len());

@@ -1,6 +1,7 @@
 ghost use Rattle.std.specs.Prelude.{◌≡◌, ◌<◌, ◌≤◌, [], length, min, take, IfOk, OnOk, OnErr, is_err};
 ghost use Rattle.nsc_outside.specs.Stream.{Rose, Moves, IsDrained};
-ghost use Rattle.nsc_outside.specs.Memory.{Supply, after_call, after_fault, is_next_failing};
+ghost use Rattle.nsc_outside.specs.MemSource.{MemSource};
+ghost use Rattle.nsc_outside.specs.Plan.{after_call, after_fault, is_next_failing};
 
 use crate::plan::Plan;
 use crate::stream::{Failed, Source};
@@ -16,11 +17,11 @@ pub struct MemSource {
 
 impl Model for MemSource {
     ghost use Rattle.std.specs.Prelude.{◌≤◌, drop, vec_len};
-    ghost use Rattle.nsc_outside.specs.Memory.{Supply};
+    ghost use Rattle.nsc_outside.specs.MemSource.{MemSource};
 
-    ghost Value = { Supply };
+    ghost Value = { MemSource };
 
-    ghost view = { λ s. record { left = drop s.next s.bytes.items; course = s.plan } };
+    ghost view = { λ s. record { left = drop s.next s.bytes.items; plan = s.plan } };
 
     ghost invariant = { λ s. s.next ≤ vec_len s.bytes };
 }
@@ -28,7 +29,7 @@ impl Model for MemSource {
 impl MemSource {
     /// A source of these bytes: a call gives as many as there is room for, and none fails.
     pub fn new(bytes: Vec<u8>) -> MemSource
-        ensures { result ≡ record { left = bytes.items; course = record { step = usize.MAX; failing = []; calls = 0; faults = 0 } } }
+        ensures { result ≡ record { left = bytes.items; plan = record { step = usize.MAX; failing = []; calls = 0; faults = 0 } } }
     {
         let plan = Plan::new(*bytes.allocator());
         MemSource {
@@ -41,7 +42,7 @@ impl MemSource {
     /// The same source, which gives `step` bytes a call at most.
     pub fn with_step(mut self, step: usize) -> MemSource
         requires { 0 < step }
-        ensures { result ≡ record self { course = record self.course { step = step } } }
+        ensures { result ≡ record self { plan = record self.plan { step = step } } }
     {
         self.plan.set_step(step);
         self
@@ -49,7 +50,7 @@ impl MemSource {
 
     /// The same source, at which the calls with these numbers fail, the first being 1.
     pub fn failing_at(mut self, calls: Vec<u64>) -> MemSource
-        ensures { result ≡ record self { course = record self.course { failing = calls.items } } }
+        ensures { result ≡ record self { plan = record self.plan { failing = calls.items } } }
     {
         self.plan.set_failing(calls);
         self
@@ -65,7 +66,7 @@ impl MemSource {
 
     /// How many calls have failed; the count stops at the greatest `u64`.
     pub fn faults(&self) -> u64
-        ensures { result ≡ self.now.course.faults }
+        ensures { result ≡ self.now.plan.faults }
     {
         self.plan.faults()
     }
@@ -76,7 +77,7 @@ impl Source for MemSource {
 
     ghost left = { λ s. Some s.left };
 
-    ghost faults = { λ s. s.course.faults };
+    ghost faults = { λ s. s.plan.faults };
 
     /// Gives as many bytes as there are, as `buf` has room for and as a call may give, and fails where it is to fail.
     fn read(&mut self, buf: &mut [u8]) -> Result<usize, Failed>
@@ -84,13 +85,13 @@ impl Source for MemSource {
         ensures moved { IfOk result (λ n. Moves (Some self.old.left) (Some self.new.left) (take n buf.new)) }
         ensures end { IfOk result (λ n. n ≡ 0 → 0 < length buf.old → IsDrained (Some self.new.left)) }
         ensures stays { OnErr result (Some self.new.left ≡ Some self.old.left) }
-        ensures calm { OnOk result (self.new.course.faults ≡ self.old.course.faults) }
-        ensures failed { OnErr result (Rose self.old.course.faults self.new.course.faults) }
+        ensures calm { OnOk result (self.new.plan.faults ≡ self.old.plan.faults) }
+        ensures failed { OnErr result (Rose self.old.plan.faults self.new.plan.faults) }
 
-        ensures planned { is_err result ≡ is_next_failing self.old.course }
-        ensures amount { IfOk result (λ n. n ≡ min (min self.old.course.step (length buf.old)) (length self.old.left)) }
-        ensures called { OnOk result (self.new.course ≡ after_call self.old.course) }
-        ensures counted { OnErr result (self.new.course ≡ after_fault (after_call self.old.course)) }
+        ensures planned { is_err result ≡ is_next_failing self.old.plan }
+        ensures amount { IfOk result (λ n. n ≡ min (min self.old.plan.step (length buf.old)) (length self.old.left)) }
+        ensures called { OnOk result (self.new.plan ≡ after_call self.old.plan) }
+        ensures counted { OnErr result (self.new.plan ≡ after_fault (after_call self.old.plan)) }
     {
         self.plan.begin()?;
         let bytes = self.bytes.as_slice();

@@ -1,6 +1,6 @@
 ghost use Rattle.std.specs.Prelude.{◌≡◌, ◌<◌, ◌≤◌, [], OnOk, OnErr, is_err};
 ghost use Rattle.nsc_outside.specs.Stream.{greatest, Rose};
-ghost use Rattle.nsc_outside.specs.Memory.{Course, is_next_failing, after_call, after_fault};
+ghost use Rattle.nsc_outside.specs.Plan.{Plan, is_next_failing, after_call, after_fault};
 
 use crate::stream::Failed;
 use std::alloc::Global;
@@ -17,9 +17,9 @@ pub(crate) struct Plan {
 
 impl Model for Plan {
     ghost use Rattle.std.specs.Prelude.{◌<◌};
-    ghost use Rattle.nsc_outside.specs.Memory.{Course};
+    ghost use Rattle.nsc_outside.specs.Plan.{Plan};
 
-    ghost Value = { Course };
+    ghost Value = { Plan };
 
     ghost view = { λ p. record { step = p.step; failing = p.failing.items; calls = p.calls; faults = p.faults } };
 

@@ -15,9 +15,9 @@ pub struct StdSource<R: Read> {
 }
 
 impl<R: Read> Model for StdSource<R> {
-    ghost use Rattle.nsc_outside.specs.Stream.{Told};
+    ghost use Rattle.nsc_outside.specs.StdStream.{StdStream};
 
-    ghost Value = { Told };
+    ghost Value = { StdStream };
 
     ghost view = { λ s. record { bytes = R.remaining s.reader; faults = s.faults } };
 }
@@ -74,9 +74,9 @@ pub struct StdSink<W: Write> {
 }
 
 impl<W: Write> Model for StdSink<W> {
-    ghost use Rattle.nsc_outside.specs.Stream.{Told};
+    ghost use Rattle.nsc_outside.specs.StdStream.{StdStream};
 
-    ghost Value = { Told };
+    ghost Value = { StdStream };
 
     ghost view = { λ s. record { bytes = W.contents s.writer; faults = s.faults } };
 }

@@ -1,6 +1,7 @@
 ghost use Rattle.std.specs.Prelude.{◌≡◌};
 ghost use Rattle.nsc_outside.specs.Stream.{Rose};
-ghost use Rattle.nsc_outside.specs.FileSets.{RoseBy, ChangesOnly, count_of, no_counts};
+ghost use Rattle.nsc_outside.specs.FileSets.{RoseBy, ChangesOnly};
+ghost use Rattle.nsc_outside.specs.Tally.{count_of, no_counts};
 
 use crate::files::ReadCause;
 use nsc_model::FileId;
@@ -15,9 +16,9 @@ pub(crate) struct Tally {
 }
 
 impl Model for Tally {
-    ghost use Rattle.nsc_outside.specs.FileSets.{Counts};
+    ghost use Rattle.nsc_outside.specs.Tally.{Tally};
 
-    ghost Value = { Counts };
+    ghost Value = { Tally };
 
     ghost view = { λ t. record { faults = t.faults; file_faults = t.file_faults; reads = t.reads } };
 }
