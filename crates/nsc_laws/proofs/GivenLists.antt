@@ -1,14 +1,12 @@
 -- The service list of a name is the one that a text gives.
-use Rattle.std.proofs.Common.{◌≡◌, ◌≢◌, ℕ, List, [], ◌∷◌, Option, Some, None, refl, sym, ap, ◌∙◌, inl, inr}
-use Rattle.std.specs.Prelude.{◌⊎◌}
-use Rattle.std.specs.Option.{option_map}
+use Rattle.std.proofs.Common.{◌≡◌, ◌≢◌, ℕ, List, [], ◌∷◌, Option, Some, None, refl, sym, ◌∙◌, inl, inr}
 use Rattle.std.proofs.lemmas.Option.{none-some, same_Some}
 use Rattle.nsc_model.specs.declared.kind.Db.{Db}
 use Rattle.nsc_model.specs.Files.{Files}
 use Rattle.nsc_model.specs.Users.{◌>>=◌}
 use Rattle.nsc_model.specs.Services.{SwitchStep}
-use Rattle.nsc_model.specs.Switches.{Group, GroupsCompat, Groups, Hosts, Item, ListName, Service, Services, Spells, Users, UsersCompat, compat_list, compat_name, default_list, first_line, list_name, list_of, list_or, service_list, spelled_list, steps_behind, steps_of, text_of}
-use Rattle.nsc_laws.specs.ServiceLists.{Gives, LineGives, SpellsNone}
+use Rattle.nsc_model.specs.Switches.{Group, GroupsCompat, Groups, Hosts, Item, ListName, Service, Services, Users, UsersCompat, compat_list, compat_name, default_list, first_line, list_name, list_of, list_or, service_list, spelled_list, steps_behind, steps_of, text_of}
+use Rattle.nsc_laws.specs.ServiceLists.{Gives, LineGives}
 use Rattle.nsc_laws.proofs.Grammar.{written_is_read}
 use Rattle.nsc_laws.proofs.GrammarItems.{read_is_written}
 

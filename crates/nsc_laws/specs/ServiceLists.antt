@@ -1,7 +1,5 @@
 -- The service lists of a text of nsswitch.conf(5), in the words of its grammar.
 use Rattle.std.specs.Prelude.{◌≡◌, ◌⊎◌, ℕ, List, Option, Some, None}
-use Rattle.nsc_model.specs.declared.kind.Db.{Db}
-use Rattle.nsc_model.specs.Files.{Files}
 use Rattle.nsc_model.specs.Services.{SwitchStep}
 use Rattle.nsc_model.specs.Switches.{ListName, Spells, default_list, first_line}
 

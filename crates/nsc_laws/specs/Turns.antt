@@ -1,15 +1,15 @@
 -- Where a switch over services ends, nsswitch.conf(5).
-use Rattle.std.specs.Prelude.{◌≡◌, ◌⊎◌, Bool, true, false, List, [], ◌∷◌, ◌++◌, All}
+use Rattle.std.specs.Prelude.{◌≡◌, ◌≢◌, ◌⊎◌, List, [], ◌∷◌, ◌++◌, All}
 use Rattle.nsc_model.specs.declared.row.Looked.{Looked}
-use Rattle.nsc_model.specs.Services.{SwitchService, SwitchStep, action_at, ends}
+use Rattle.nsc_model.specs.Services.{SwitchService, SwitchAction, Continue, SwitchStep, action_at}
 use Rattle.nsc_model.specs.Answers.{switched}
 
--- whether the action of a step at the status of its service ends the switch
-abbrev pub ends_switch : (SwitchService → Looked) → SwitchStep → Bool
-ends_switch look step = ends (action_at step (look step.service))
+-- what a step does at the status of its service
+abbrev pub action_of : (SwitchService → Looked) → SwitchStep → SwitchAction
+action_of look step = action_at step (look step.service)
 
 abbrev pub GoesOn : (SwitchService → Looked) → SwitchStep → Type 0
-GoesOn look step = ends_switch look step ≡ false
+GoesOn look step = action_of look step ≡ Continue
 
 -- the switch goes on behind each of some steps, and ends with the next one, whose action ends it or which is the last; the
 -- outcome is that of its service
@@ -19,6 +19,6 @@ pub record EndsAt (look : SwitchService → Looked) (steps : List SwitchStep) (s
   pub unasked : List SwitchStep
   pub is : steps ≡ before ++ step ∷ unasked
   pub each_goes_on : All (GoesOn look) before
-  pub ends_here : (ends_switch look step ≡ true) ⊎ (unasked ≡ [])
+  pub ends_here : (action_of look step ≢ Continue) ⊎ (unasked ≡ [])
   pub service_is : step.service ≡ service
   pub outcome : switched look steps ≡ look service
