@@ -4,10 +4,4 @@ pub mod Entries
 pub mod Named
 pub mod Pieces
 pub mod Collected
-pub mod Texts
-pub mod Keeps
-pub mod Sizes
 pub mod Gathered
-pub mod UsersSent
-pub mod GroupsSent
-pub mod IdsSent

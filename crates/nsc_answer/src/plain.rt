@@ -1,7 +1,9 @@
-ghost use Rattle.std.specs.Prelude.{◌≡◌, IfOk};
+ghost use Rattle.std.specs.Prelude.{◌≡◌, ◌≤◌, IfOk, length};
 ghost use Rattle.std.specs.Arc.{arc_value};
 ghost use Rattle.nsc_model.specs.Answers.{marked};
-ghost use Rattle.nsc_model.specs.Sendable.{Sendable};
+ghost use Rattle.nsc_model.specs.Marked.{reply_limit};
+ghost use Rattle.nsc_model.specs.Outcomes.{reply_to};
+ghost use Rattle.nsc_model.specs.Wire.{IsReplyOf, spelled};
 
 use nsc_base::NoMemory;
 use nsc_model::{Answer, Answerer, Content, Kind, Looked};
@@ -27,7 +29,6 @@ impl Answerer for Plain {
         ready
     }
 
-    #[tactic(auto, unfolding(nsc_model::specs::Answers::answer_of))]
     fn answer(
         &self,
         alloc: Global,
@@ -42,7 +43,8 @@ impl Answerer for Plain {
 
 // The answer that an outcome gives: a reply, and a mark where nothing was found.
 fn answer_with(alloc: Global, kind: Kind, looked: Looked) -> Result<Answer, NoMemory>
-    requires { Sendable kind looked }
+    requires of_kind { IsReplyOf kind (reply_to looked) }
+    requires fits { length (spelled kind (reply_to looked)) ≤ reply_limit }
     ensures { IfOk result (λ answer. answer ≡ marked kind looked) }
 {
     let (reply, not_found) = match looked {

@@ -1,5 +1,5 @@
 -- Where there is no nsswitch.conf(5), the services of compat lists are none that is built in.
-use Rattle.std.proofs.Common.{◌≡◌, ℕ, List, [], ◌∷◌, None, refl, sym, ◌∙◌, ap}
+use Rattle.std.proofs.Common.{◌≡◌, ℕ, List, [], ◌∷◌, None, sym, ap}
 use Rattle.nsc_model.specs.declared.kind.Db.{Db}
 use Rattle.nsc_model.specs.declared.kind.Db.TheVariants as db
 use Rattle.nsc_model.specs.declared.kind.Kind.{Kind}
@@ -7,7 +7,7 @@ use Rattle.nsc_model.specs.declared.kind.Kind.TheVariants as kind
 use Rattle.nsc_model.specs.declared.row.Looked.TheVariants.{Unavail}
 use Rattle.nsc_model.specs.Answers.{deciding, named_groups, service_pairs, sub_answer, sub_looked, switched}
 use Rattle.nsc_model.specs.Files.{Files}
-use Rattle.nsc_model.specs.Services.{Other, SwitchStep, plain_step}
+use Rattle.nsc_model.specs.Services.{Other, plain_step}
 use Rattle.nsc_model.specs.Switches.{GroupsCompat, UsersCompat, compat_list, list_of, text_of}
 
 default_list : (files : Files) (d : Db) → files.switch ≡ None → compat_list files d ≡ plain_step Other ∷ []

@@ -1,7 +1,6 @@
 -- What compat answers, by the kind of the request.
-use Rattle.std.proofs.Common.{◌≡◌, ℕ, List, Option, refl, sym, ◌∙◌, ap}
+use Rattle.std.proofs.Common.{◌≡◌, ℕ, List, Option, sym, ◌∙◌, ap}
 use Rattle.nsc_base.specs.Decimal.{decimal_of}
-use Rattle.nsc_model.specs.declared.answer.Request.{Request}
 use Rattle.nsc_model.specs.declared.kind.Kind.{Kind}
 use Rattle.nsc_model.specs.declared.kind.Kind.TheVariants as kind
 use Rattle.nsc_model.specs.declared.row.Passwd.{Passwd}

@@ -1,13 +1,6 @@
 pub mod Held
 pub mod Marks
 pub mod Scans
-pub mod Lengths
-pub mod SaidForms
-pub mod Keeping
-pub mod KeptTexts
-pub mod UsersKept
 pub mod ByKind
-pub mod GroupsKept
 pub mod Ids
-pub mod IdsKept
 pub mod Absent

@@ -1,15 +1,14 @@
 -- What a line says, by its first bytes.
-use Rattle.std.proofs.Common.{◌≡◌, ◌≢◌, ℕ, ◌+◌, ◌-◌, ◌<◌, ◌≤◌, suc, Bool, true, false, nat_eq, ◌==◌, if◌then◌else◌, List, [], ◌∷◌, length, get_or, take, drop, Option, None, refl, sym, ◌∙◌, ap, arith, add-one}
+use Rattle.std.proofs.Common.{◌≡◌, ◌≢◌, ℕ, ◌+◌, ◌-◌, ◌<◌, ◌≤◌, suc, Bool, true, false, nat_eq, ◌==◌, if◌then◌else◌, List, [], ◌∷◌, length, get_or, take, drop, Option, refl, sym, ◌∙◌, ap, arith, add-one}
 use Rattle.std.specs.List.{before_first, position_or_len}
 use Rattle.std.proofs.Math.Seq.{drop-cons}
-use Rattle.std.proofs.lemmas.List.{drop-drop, drop-take}
 use Rattle.std.proofs.lemmas.Bool.Decides.{nat_tests}
 use Rattle.nsc_base.specs.declared.span.Span.{Span}
 use Rattle.nsc_base.specs.declared.span.Line.{Line}
 use Rattle.nsc_base.specs.Text.{IsField, fields_between, fields_of, onto_first, part, pieces}
 use Rattle.nsc_base.proofs.Compare.{not_below}
 use Rattle.nsc_base.proofs.Pieces.{pieces-some}
-use Rattle.nsc_model.specs.Compat.{Says, Nothing, first_field, says, says_by, says_entry, says_minus, says_plus}
+use Rattle.nsc_model.specs.Compat.{first_field, says, says_by, says_entry, says_minus, says_plus}
 use Rattle.nsc_model.specs.Users.{has_zero, trimmed}
 use Rattle.nsc_accounts.proofs.Entries.{part-drop}
 

@@ -1,12 +1,10 @@
-ghost use Rattle.std.specs.Prelude.{◌≡◌, ◌≢◌, ◌≤◌, ◌∷◌, ℕ, List, [], IfOk, length, true, Some};
+ghost use Rattle.std.specs.Prelude.{◌≡◌, ◌≤◌, ◌∷◌, ℕ, List, [], IfOk, length, true, Some};
 ghost use Rattle.nsc_base.specs.Text.{lines_of, part};
 ghost use Rattle.nsc_model.specs.declared.kind.Db.TheVariants as db;
-ghost use Rattle.nsc_model.specs.declared.kind.Kind.TheVariants.{InitGroups};
 ghost use Rattle.nsc_model.specs.Answers.{group_in, group_scan, sub_looked};
 ghost use Rattle.nsc_model.specs.Compat.{answers_or, scanned, scanned_file};
 ghost use Rattle.nsc_model.specs.Groups.{group_of_line};
 ghost use Rattle.nsc_model.specs.Kinds.{database_of};
-ghost use Rattle.nsc_model.specs.Sendable.{Sendable};
 ghost use Rattle.nsc_compat.specs.Wanted.{groups_asked, looked_or, wanted_group};
 
 use crate::asking::{Asking, Wanted, names_entry};
@@ -28,10 +26,8 @@ pub fn groups<S: SubLookup>(
     wanted: Wanted,
     sub: &S,
 ) -> Result<Looked, NoMemory>
-    requires database { database_of kind ≡ db.Group }
-    requires one_entry { kind ≢ InitGroups }
-    ensures outcome { IfOk result (λ looked. looked ≡ scanned_file (group_scan content.now kind key.now (wanted_group wanted.entry)) content.now.group) }
-    ensures sendable { IfOk result (λ looked. Sendable kind looked) }
+    requires { database_of kind ≡ db.Group }
+    ensures { IfOk result (λ looked. looked ≡ scanned_file (group_scan content.now kind key.now (wanted_group wanted.entry)) content.now.group) }
 {
     let asking = Asking {
         content,

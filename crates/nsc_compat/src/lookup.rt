@@ -1,6 +1,5 @@
 ghost use Rattle.std.specs.Prelude.{◌≡◌, IfOk};
 ghost use Rattle.nsc_model.specs.Answers.{compat_answer};
-ghost use Rattle.nsc_model.specs.Sendable.{Sendable};
 
 use crate::asking::Wanted;
 use crate::groups::groups;
@@ -22,8 +21,7 @@ pub fn compat_lookup<S: SubLookup>(
     key: &[u8],
     sub: &S,
 ) -> Result<Looked, NoMemory>
-    ensures outcome { IfOk result (λ looked. looked ≡ compat_answer content.now (record { kind = kind; key = key.now })) }
-    ensures sendable { IfOk result (λ looked. Sendable kind looked) }
+    ensures { IfOk result (λ looked. looked ≡ compat_answer content.now (record { kind = kind; key = key.now })) }
 {
     match kind {
         Kind::PwName => users(alloc, content, kind, key, Wanted::Name(key), sub),

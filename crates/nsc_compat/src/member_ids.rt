@@ -1,11 +1,9 @@
 ghost use Rattle.std.specs.Prelude.{◌≡◌, ◌≤◌, ◌∷◌, ℕ, List, [], IfOk, OnOk, length, map};
 ghost use Rattle.std.specs.Option.{option_map};
 ghost use Rattle.nsc_base.specs.Text.{lines_of, part};
-ghost use Rattle.nsc_model.specs.declared.kind.Kind.TheVariants.{InitGroups};
 ghost use Rattle.nsc_model.specs.Answers.{found_ids, found_or_unavail, gathered_file, group_in as group_found, id_scan};
 ghost use Rattle.nsc_model.specs.Compat.{gathered, ids_of_pairs};
 ghost use Rattle.nsc_model.specs.Groups.{group_of_line, has_member as is_member};
-ghost use Rattle.nsc_model.specs.Sendable.{Sendable};
 ghost use Rattle.nsc_accounts.specs.Once.{all_ids};
 ghost use Rattle.nsc_compat.specs.Gathered.{member_id, unless_excluded, where_on};
 ghost use Rattle.nsc_compat.specs.Pairs.{pair_of};
@@ -36,8 +34,7 @@ pub fn ids_of_user<S: SubLookup>(
     user: &[u8],
     sub: &S,
 ) -> Result<Looked, NoMemory>
-    ensures outcome { IfOk result (λ looked. looked ≡ gathered_file (id_scan content.now user.now) content.now.group) }
-    ensures sendable { IfOk result (λ looked. Sendable InitGroups looked) }
+    ensures { IfOk result (λ looked. looked ≡ gathered_file (id_scan content.now user.now) content.now.group) }
 {
     let member = Member { content, user };
     match content.file(FileId::Group) {

@@ -1,7 +1,6 @@
 ghost use Rattle.std.specs.Prelude.{◌≡◌, IfOk, map};
 ghost use Rattle.nsc_model.specs.Answers.{named_groups, sub_looked};
 ghost use Rattle.nsc_model.specs.Kinds.{database_of};
-ghost use Rattle.nsc_model.specs.Sendable.{Sendable};
 ghost use Rattle.nsc_compat.specs.Pairs.{pair_of};
 
 use nsc_base::{Bytes, NoMemory};
@@ -28,8 +27,7 @@ pub trait SubLookup {
         kind: Kind,
         key: &[u8],
     ) -> Result<Looked, NoMemory>
-        ensures outcome { IfOk result (λ looked. looked ≡ sub_looked content.now (database_of kind) kind key.now) }
-        ensures sendable { IfOk result (λ looked. Sendable kind looked) };
+        ensures { IfOk result (λ looked. looked ≡ sub_looked content.now (database_of kind) kind key.now) };
 
     /// The names and ids of all groups that have the user as a member, in the order of the file, none dropped: those of
     /// the service whose outcome the list takes, and so none where that is not SUCCESS. Fails only for want of memory.

@@ -4,7 +4,6 @@ ghost use Rattle.nsc_model.specs.declared.kind.Db.TheVariants as db;
 ghost use Rattle.nsc_model.specs.Answers.{sub_looked, user_in, user_scan};
 ghost use Rattle.nsc_model.specs.Compat.{answers_or, is_excluded, own_or, replaced_user, scanned, scanned_file};
 ghost use Rattle.nsc_model.specs.Kinds.{database_of};
-ghost use Rattle.nsc_model.specs.Sendable.{Sendable};
 ghost use Rattle.nsc_model.specs.Users.{user_of_line};
 ghost use Rattle.nsc_compat.specs.Wanted.{looked_or, users_asked, wanted_user};
 
@@ -28,8 +27,7 @@ pub fn users<S: SubLookup>(
     sub: &S,
 ) -> Result<Looked, NoMemory>
     requires { database_of kind ≡ db.Passwd }
-    ensures outcome { IfOk result (λ looked. looked ≡ scanned_file (user_scan content.now kind key.now (wanted_user wanted.entry)) content.now.passwd) }
-    ensures sendable { IfOk result (λ looked. Sendable kind looked) }
+    ensures { IfOk result (λ looked. looked ≡ scanned_file (user_scan content.now kind key.now (wanted_user wanted.entry)) content.now.passwd) }
 {
     let asking = Asking {
         content,

@@ -1,9 +1,6 @@
-ghost use Rattle.std.specs.Prelude.{◌≡◌, ◌≤◌, length, IfOk, Some};
-ghost use Rattle.nsc_model.specs.declared.kind.Kind.TheVariants.{GrName, GrGid, InitGroups};
+ghost use Rattle.std.specs.Prelude.{◌≡◌, IfOk, Some};
 ghost use Rattle.nsc_model.specs.Answers.{file_entry, file_ids, found_ids, group_named, group_numbered};
 ghost use Rattle.nsc_model.specs.Groups.{group_of_line};
-ghost use Rattle.nsc_model.specs.Files.{file_limit};
-ghost use Rattle.nsc_model.specs.Sendable.{Sendable};
 
 use nsc_accounts::{find_group_by_gid, find_group_by_name, group_row, groups_of};
 use nsc_base::{Ids, NoMemory, decimal};
@@ -12,9 +9,7 @@ use std::alloc::Global;
 
 /// The outcome of a look-up of a group's name over the text of a group file. Fails only for want of memory.
 pub fn group_by_name(alloc: Global, text: &[u8], name: &[u8]) -> Result<Looked, NoMemory>
-    requires { length text.now ≤ file_limit }
-    ensures outcome { IfOk result (λ looked. looked ≡ file_entry Row.Group group_of_line (group_named name.now) (Some text.now)) }
-    ensures sendable { IfOk result (λ looked. Sendable GrName looked) }
+    ensures { IfOk result (λ looked. looked ≡ file_entry Row.Group group_of_line (group_named name.now) (Some text.now)) }
 {
     match find_group_by_name(text, name) {
         Some(at) => Ok(Looked::Found(Row::Group(group_row(alloc, text, &at)?))),
@@ -25,9 +20,7 @@ pub fn group_by_name(alloc: Global, text: &[u8], name: &[u8]) -> Result<Looked, 
 /// The outcome of a look-up of a group's id, as a key in decimal, over the text of a group file. A key that is no number
 /// names no group. Fails only for want of memory.
 pub fn group_by_id(alloc: Global, text: &[u8], key: &[u8]) -> Result<Looked, NoMemory>
-    requires { length text.now ≤ file_limit }
-    ensures outcome { IfOk result (λ looked. looked ≡ file_entry Row.Group group_of_line (group_numbered key.now) (Some text.now)) }
-    ensures sendable { IfOk result (λ looked. Sendable GrGid looked) }
+    ensures { IfOk result (λ looked. looked ≡ file_entry Row.Group group_of_line (group_numbered key.now) (Some text.now)) }
 {
     let Some(gid) = decimal(key) else {
         return Ok(Looked::NotFound);
@@ -41,9 +34,7 @@ pub fn group_by_id(alloc: Global, text: &[u8], key: &[u8]) -> Result<Looked, NoM
 /// The outcome of a look-up of the groups of a user over the text of a group file: their ids, and not found where there
 /// is none. Fails only for want of memory.
 pub fn groups_of_user(alloc: Global, text: &[u8], user: &[u8]) -> Result<Looked, NoMemory>
-    requires { length text.now ≤ file_limit }
-    ensures outcome { IfOk result (λ looked. looked ≡ file_ids user.now (Some text.now)) }
-    ensures sendable { IfOk result (λ looked. Sendable InitGroups looked) }
+    ensures { IfOk result (λ looked. looked ≡ file_ids user.now (Some text.now)) }
 {
     let ids = groups_of(alloc, text, user)?;
     Ok(outcome_of(ids))

@@ -2,7 +2,6 @@ ghost use Rattle.std.specs.Prelude.{◌≡◌, IfOk};
 ghost use Rattle.nsc_model.specs.Services.{Local, Extrausers};
 ghost use Rattle.nsc_model.specs.Answers.{answer_by, service_answer};
 ghost use Rattle.nsc_model.specs.Files.{file_of};
-ghost use Rattle.nsc_model.specs.Sendable.{Sendable};
 
 use crate::groups::{group_by_id, group_by_name, groups_of_user};
 use crate::hosts::{addresses_by_name, host_by_address, host_by_name};
@@ -25,8 +24,7 @@ pub fn files_lookup(
     kind: Kind,
     key: &[u8],
 ) -> Result<Looked, NoMemory>
-    ensures outcome { IfOk result (λ looked. looked ≡ service_answer content.now (record { kind = kind; key = key.now }) Local) }
-    ensures sendable { IfOk result (λ looked. Sendable kind looked) }
+    ensures { IfOk result (λ looked. looked ≡ service_answer content.now (record { kind = kind; key = key.now }) Local) }
 {
     let file = match Db::of(kind) {
         Db::Passwd => FileId::Passwd,
@@ -45,8 +43,7 @@ pub fn extra_lookup(
     kind: Kind,
     key: &[u8],
 ) -> Result<Looked, NoMemory>
-    ensures outcome { IfOk result (λ looked. looked ≡ service_answer content.now (record { kind = kind; key = key.now }) Extrausers) }
-    ensures sendable { IfOk result (λ looked. Sendable kind looked) }
+    ensures { IfOk result (λ looked. looked ≡ service_answer content.now (record { kind = kind; key = key.now }) Extrausers) }
 {
     match Db::of(kind) {
         Db::Passwd => look_in(alloc, content, FileId::ExtraPasswd, kind, key),
@@ -63,8 +60,7 @@ fn look_in(
     kind: Kind,
     key: &[u8],
 ) -> Result<Looked, NoMemory>
-    ensures outcome { IfOk result (λ looked. looked ≡ answer_by kind (file_of content.now file) key.now) }
-    ensures sendable { IfOk result (λ looked. Sendable kind looked) }
+    ensures { IfOk result (λ looked. looked ≡ answer_by kind (file_of content.now file) key.now) }
 {
     let Some(text) = content.file(file) else {
         return Ok(Looked::Unavail);

@@ -1,10 +1,6 @@
-ghost use Rattle.std.specs.Prelude.{◌≡◌, ◌≤◌, length, IfOk, IfSome, Some};
-ghost use Rattle.std.specs.Option.{option_map};
-ghost use Rattle.nsc_model.specs.declared.kind.Kind.TheVariants.{PwName, PwUid};
-ghost use Rattle.nsc_model.specs.Answers.{file_entry, found_first, user_named, user_numbered};
+ghost use Rattle.std.specs.Prelude.{◌≡◌, IfOk, Some};
+ghost use Rattle.nsc_model.specs.Answers.{file_entry, user_named, user_numbered};
 ghost use Rattle.nsc_model.specs.Users.{user_of_line};
-ghost use Rattle.nsc_model.specs.Files.{file_limit};
-ghost use Rattle.nsc_model.specs.Sendable.{Sendable};
 
 use nsc_accounts::{find_passwd_by_name, find_passwd_by_uid, user_row};
 use nsc_base::{NoMemory, decimal};
@@ -13,9 +9,7 @@ use std::alloc::Global;
 
 /// The outcome of a look-up of a user's name over the text of a passwd file. Fails only for want of memory.
 pub fn user_by_name(alloc: Global, text: &[u8], name: &[u8]) -> Result<Looked, NoMemory>
-    requires { length text.now ≤ file_limit }
-    ensures outcome { IfOk result (λ looked. looked ≡ file_entry Row.Passwd user_of_line (user_named name.now) (Some text.now)) }
-    ensures sendable { IfOk result (λ looked. Sendable PwName looked) }
+    ensures { IfOk result (λ looked. looked ≡ file_entry Row.Passwd user_of_line (user_named name.now) (Some text.now)) }
 {
     match find_passwd_by_name(text, name) {
         Some(at) => Ok(Looked::Found(Row::Passwd(user_row(alloc, text, &at)?))),
@@ -26,9 +20,7 @@ pub fn user_by_name(alloc: Global, text: &[u8], name: &[u8]) -> Result<Looked, N
 /// The outcome of a look-up of a user's id, as a key in decimal, over the text of a passwd file. A key that is no number
 /// names no user. Fails only for want of memory.
 pub fn user_by_id(alloc: Global, text: &[u8], key: &[u8]) -> Result<Looked, NoMemory>
-    requires { length text.now ≤ file_limit }
-    ensures outcome { IfOk result (λ looked. looked ≡ file_entry Row.Passwd user_of_line (user_numbered key.now) (Some text.now)) }
-    ensures sendable { IfOk result (λ looked. Sendable PwUid looked) }
+    ensures { IfOk result (λ looked. looked ≡ file_entry Row.Passwd user_of_line (user_numbered key.now) (Some text.now)) }
 {
     let Some(uid) = decimal(key) else {
         return Ok(Looked::NotFound);

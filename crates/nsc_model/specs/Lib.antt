@@ -14,7 +14,6 @@ pub mod Switches
 pub mod Compat
 pub mod Answers
 pub mod Outcomes
-pub mod Sendable
 pub mod History
 pub mod Settings
 pub mod Machine

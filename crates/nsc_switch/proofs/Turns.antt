@@ -1,13 +1,10 @@
 -- A switch, step after step, with what stands for the last step so far.
-use Rattle.std.proofs.Common.{◌≡◌, ℕ, ◌+◌, ◌<◌, ◌≤◌, Bool, true, false, if◌then◌else◌, List, [], ◌∷◌, length, drop, get_or, refl, sym, ap, subst, ◌∙◌, rules}
+use Rattle.std.proofs.Common.{◌≡◌, ℕ, ◌+◌, ◌<◌, ◌≤◌, Bool, true, false, if◌then◌else◌, List, [], ◌∷◌, length, drop, get_or, refl, sym, ap, subst, ◌∙◌}
 use Rattle.std.proofs.lemmas.List.{at_drop_all, at_drop_more}
-use Rattle.nsc_model.specs.declared.kind.Kind.{Kind}
-use Rattle.nsc_model.specs.declared.kind.Kind.TheVariants.{PwName, PwUid, GrName, GrGid, HostName, HostName6, HostAddr, HostAddr6, Ai, InitGroups, ServName, ServPort}
 use Rattle.nsc_model.specs.declared.row.Looked.{Looked}
 use Rattle.nsc_model.specs.declared.row.Looked.TheVariants.{Unavail}
 use Rattle.nsc_model.specs.Services.{SwitchService, Other, SwitchStep, action_at, ends}
 use Rattle.nsc_model.specs.Answers.{deciding, switched}
-use Rattle.nsc_model.specs.Sendable.{Sendable}
 use Rattle.nsc_switchconf.specs.declared.step.Step.{Step}
 use Rattle.nsc_switchconf.specs.Steps.{service_of, step_of, steps_of}
 
@@ -41,21 +38,6 @@ service_from look service step (next ∷ steps) = ap (λ rest. if ends_at look s
 pub deciding_picks : (look : SwitchService → Looked) (steps : List SwitchStep) → picked (ends_at look) (λ s. s.service) Other steps ≡ deciding look steps
 deciding_picks look [] = refl
 deciding_picks look (step ∷ steps) = service_from look Other step steps
-
--- that nothing answers can be told for every kind
-pub unavail_told : (kind : Kind) → Sendable kind Unavail
-unavail_told PwName = record { of_kind = tt; fits = search rules }
-unavail_told PwUid = record { of_kind = tt; fits = search rules }
-unavail_told GrName = record { of_kind = tt; fits = search rules }
-unavail_told GrGid = record { of_kind = tt; fits = search rules }
-unavail_told HostName = record { of_kind = tt; fits = search rules }
-unavail_told HostName6 = record { of_kind = tt; fits = search rules }
-unavail_told HostAddr = record { of_kind = tt; fits = search rules }
-unavail_told HostAddr6 = record { of_kind = tt; fits = search rules }
-unavail_told Ai = record { of_kind = tt; fits = search rules }
-unavail_told InitGroups = record { of_kind = tt; fits = search rules }
-unavail_told ServName = record { of_kind = tt; fits = search rules }
-unavail_told ServPort = record { of_kind = tt; fits = search rules }
 
 -- where no step is left, what stands for the last is what is picked
 pub all_asked : {X : Type 0} (last : SwitchStep → Bool) (value : SwitchStep → X) (first now all : X) (steps : List Step) (n : ℕ) → length steps ≤ n → picked last value now (steps_of (drop n steps)) ≡ picked last value first (steps_of steps) → picked last value first (steps_of steps) ≡ all → now ≡ all

@@ -3,7 +3,6 @@ ghost use Rattle.nsc_model.specs.declared.answer.Request.{Request};
 ghost use Rattle.nsc_model.specs.declared.row.Looked.{Looked};
 ghost use Rattle.nsc_model.specs.Answers.{deciding, switched};
 ghost use Rattle.nsc_model.specs.Services.{SwitchService, action_at, ends};
-ghost use Rattle.nsc_model.specs.Sendable.{Sendable};
 ghost use Rattle.nsc_switchconf.specs.Steps.{action_of, service_of, step_of, steps_of};
 
 use nsc_base::NoMemory;
@@ -24,8 +23,7 @@ pub(crate) trait Outcomes {
         kind: Kind,
         key: &[u8],
     ) -> Result<Looked, NoMemory>
-        ensures outcome { IfOk result (λ looked. looked ≡ outcome self.now (record { kind = kind; key = key.now }) (service_of service)) }
-        ensures sendable { IfOk result (λ looked. Sendable kind looked) };
+        ensures { IfOk result (λ looked. looked ≡ outcome self.now (record { kind = kind; key = key.now }) (service_of service)) };
 }
 
 /// Where a switch ended: the service, and its outcome.
@@ -37,7 +35,7 @@ pub(crate) struct Decided {
 
 /// The switch over these steps: it ends at the first one whose action at its outcome's status is not to continue, or else
 /// at the last. Over no step it is unavailable. Fails only for want of memory.
-#[tactic(auto, using(crate::proofs::Turns::switch_picks, crate::proofs::Turns::deciding_picks, crate::proofs::Turns::unavail_told))]
+#[tactic(auto, using(crate::proofs::Turns::switch_picks, crate::proofs::Turns::deciding_picks))]
 pub(crate) fn decide<O: Outcomes>(
     alloc: Global,
     outcomes: &O,
@@ -47,7 +45,6 @@ pub(crate) fn decide<O: Outcomes>(
 ) -> Result<Decided, NoMemory>
     ensures outcome { IfOk result (λ decided. decided.outcome ≡ switched (O.outcome outcomes.now (record { kind = kind; key = key.now })) (steps_of steps.now)) }
     ensures service { IfOk result (λ decided. service_of decided.service ≡ deciding (O.outcome outcomes.now (record { kind = kind; key = key.now })) (steps_of steps.now)) }
-    ensures sendable { IfOk result (λ decided. Sendable kind decided.outcome) }
 {
     let mut decided = Decided {
         service: Service::Other,

@@ -1,8 +1,7 @@
 ghost use Rattle.std.specs.Prelude.{◌≡◌, IfOk};
 ghost use Rattle.nsc_model.specs.Answers.{looked_up, service_answer, switched};
-ghost use Rattle.nsc_model.specs.Files.{file_of};
+ghost use Rattle.nsc_model.specs.Files.{FilesFit, file_of};
 ghost use Rattle.nsc_model.specs.Kinds.{database_of};
-ghost use Rattle.nsc_model.specs.Sendable.{Sendable};
 ghost use Rattle.nsc_model.specs.Switches.{list_name, service_list, text_of};
 ghost use Rattle.nsc_switchconf.specs.Steps.{name_of, steps_of};
 
@@ -14,10 +13,11 @@ use nsc_switchconf::{DbName, Step, service_list};
 use std::alloc::Global;
 
 /// The outcome of the switch for the request of this kind and key, over a content: the services that its
-/// nsswitch.conf(5) lists for the kind's database are asked in turn. Fails only for want of memory.
+/// nsswitch.conf(5) lists for the kind's database are asked in turn. No file of a content is longer than a file may be. Fails
+/// only for want of memory.
 pub fn switch(alloc: Global, content: &Content, kind: Kind, key: &[u8]) -> Result<Looked, NoMemory>
     ensures outcome { IfOk result (λ looked. looked ≡ looked_up content.now (record { kind = kind; key = key.now })) }
-    ensures sendable { IfOk result (λ looked. Sendable kind looked) }
+    ensures fits { FilesFit content.now }
 {
     let steps = steps_for(alloc, content, Db::of(kind))?;
     switch_over(alloc, &PlainServices { content }, &steps, kind, key)
@@ -26,14 +26,16 @@ pub fn switch(alloc: Global, content: &Content, kind: Kind, key: &[u8]) -> Resul
 // The service list of a database over a content.
 #[tactic(auto, unfolding(nsc_model::specs::Switches::service_list))]
 fn steps_for(alloc: Global, content: &Content, db: Db) -> Result<Vec<Step>, NoMemory>
-    ensures { IfOk result (λ list. steps_of list.items ≡ service_list content.now db) }
+    ensures list { IfOk result (λ list. steps_of list.items ≡ service_list content.now db) }
+    ensures fits { FilesFit content.now }
 {
     service_list(alloc, switch_text(content), name_of(db))
 }
 
 /// The text of nsswitch.conf(5); an absent file is like an empty one.
 pub(crate) fn switch_text(content: &Content) -> &[u8]
-    ensures { result.now ≡ text_of (file_of content.now FileId.Switch) }
+    ensures text { result.now ≡ text_of (file_of content.now FileId.Switch) }
+    ensures fits { FilesFit content.now }
 {
     match content.file(FileId::Switch) {
         Some(text) => text,
@@ -63,8 +65,7 @@ pub fn switch_over<V: ServiceLook>(
     kind: Kind,
     key: &[u8],
 ) -> Result<Looked, NoMemory>
-    ensures outcome { IfOk result (λ looked. looked ≡ switched (service_answer (V.content services.now) (record { kind = kind; key = key.now })) (steps_of steps.now)) }
-    ensures sendable { IfOk result (λ looked. Sendable kind looked) }
+    ensures { IfOk result (λ looked. looked ≡ switched (service_answer (V.content services.now) (record { kind = kind; key = key.now })) (steps_of steps.now)) }
 {
     let decided = decide(alloc, &Whole { services }, steps, kind, key)?;
     Ok(decided.outcome)

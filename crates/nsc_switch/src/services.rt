@@ -1,7 +1,6 @@
 ghost use Rattle.std.specs.Prelude.{◌≡◌, IfOk};
 ghost use Rattle.nsc_model.specs.Answers.{service_answer};
 ghost use Rattle.nsc_model.specs.Files.{Files};
-ghost use Rattle.nsc_model.specs.Sendable.{Sendable};
 ghost use Rattle.nsc_switchconf.specs.Steps.{service_of};
 
 use crate::compat::CompatServices;
@@ -26,8 +25,7 @@ pub trait ServiceLook {
         kind: Kind,
         key: &[u8],
     ) -> Result<Looked, NoMemory>
-        ensures outcome { IfOk result (λ looked. looked ≡ service_answer (content self.now) (record { kind = kind; key = key.now }) (service_of service)) }
-        ensures sendable { IfOk result (λ looked. Sendable kind looked) };
+        ensures { IfOk result (λ looked. looked ≡ service_answer (content self.now) (record { kind = kind; key = key.now }) (service_of service)) };
 }
 
 /// The services that read a content as it is: each request goes over its files anew.

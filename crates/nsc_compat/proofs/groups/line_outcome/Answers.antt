@@ -1,5 +1,5 @@
 use Rattle.std.proofs.Common.{true, ◌∙◌, ap}
-use Rattle.nsc_base.specs.Text.{fields_of, part}
+use Rattle.nsc_base.specs.Text.{part}
 use Rattle.nsc_model.specs.Answers.{group_in, sub_looked}
 use Rattle.nsc_model.specs.Compat.{answers_or, scanned}
 use Rattle.nsc_compat.specs.Wanted.{groups_asked}
@@ -14,7 +14,7 @@ pub returns-in_ok-found-in-AsksAll : goal.returns-in_ok-found-in-AsksAll
 returns-in_ok-found-in-AsksAll g c =
     let asking = c.args.asking.now in
     let scan = groups_asked asking in
-    let found = ap group_in (c.in_ok-found-in-AsksAll.ensures.outcome ∙ ap (λ database. sub_looked asking.content.now database asking.kind asking.key.now) c.requires.database) in
+    let found = ap group_in (c.in_ok-found-in-AsksAll.ensures ∙ ap (λ database. sub_looked asking.content.now database asking.kind asking.key.now) c.requires.database) in
     λ lines.
     c.asked_group.ensures asking (scanned scan lines c.args.excluded.now) ∙ ap (λ o. answers_or scan (λ p. true) c.args.excluded.now o (λ p. p) (scanned scan lines c.args.excluded.now)) found
     ∙ asked_line scan (part c.args.text.now c.args.line) _ c.args.excluded.now c.in-AsksAll.ensures.groups lines

@@ -1,4 +1,4 @@
-use Rattle.std.proofs.Common.{◌<◌, ◌∙◌, ap, arith, rules}
+use Rattle.std.proofs.Common.{◌∙◌, ap, arith, rules}
 use Rattle.nsc_base.specs.Text.{fields_of, part}
 use Rattle.nsc_model.specs.Compat.{says_minus, says_plus}
 use Rattle.nsc_compat.proofs.Marks.{entry_said, minus_said, plus_said}

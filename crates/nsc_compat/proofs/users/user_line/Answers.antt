@@ -1,6 +1,5 @@
-use Rattle.std.proofs.Common.{List, ℕ, true, ◌∙◌, ap}
+use Rattle.std.proofs.Common.{true, ◌∙◌, ap}
 use Rattle.nsc_base.specs.Text.{fields_of, part}
-use Rattle.nsc_model.specs.declared.row.Passwd.{Passwd}
 use Rattle.nsc_model.specs.Answers.{sub_looked, user_in}
 use Rattle.nsc_model.specs.Compat.{answers_or, replaced_user, scanned}
 use Rattle.nsc_compat.specs.Wanted.{users_asked}
@@ -16,7 +15,7 @@ returns-in_ok-found-in-AsksAll g c =
     let asking = c.args.asking.now in
     let scan = users_asked asking in
     let fields = fields_of 58 (part c.args.text.now c.in-AsksAll.all) in
-    let found = ap user_in (c.in_ok-found-in-AsksAll.ensures.outcome ∙ ap (λ database. sub_looked asking.content.now database asking.kind asking.key.now) c.requires.database) in
+    let found = ap user_in (c.in_ok-found-in-AsksAll.ensures ∙ ap (λ database. sub_looked asking.content.now database asking.kind asking.key.now) c.requires.database) in
     ok_weaker c.asked_user.result
     (λ outcome comes lines.
     comes asking (scanned scan lines c.args.excluded.now) ∙ ap (λ o. answers_or scan (λ p. true) c.args.excluded.now o (replaced_user fields) (scanned scan lines c.args.excluded.now)) found

@@ -1,7 +1,6 @@
 use Rattle.std.proofs.Common.{◌≡◌, drop}
 use Rattle.nsc_model.specs.declared.row.Looked.TheVariants.{Unavail}
 use Rattle.nsc_model.specs.Services.{Other}
-use Rattle.nsc_model.specs.Sendable.{Sendable}
 use Rattle.nsc_switchconf.specs.Steps.{service_of, steps_of}
 use Rattle.nsc_switch.proofs.Turns.{ends_at, picked}
 use Rattle.nsc_switch.proofs.decided.decide.Given as goal
@@ -13,5 +12,4 @@ invariant-loop-step g l =
     record {
       decide : picked (ends_at look) (λ s. look s.service) l.decided.outcome (steps_of (drop l.step-index l.steps)) ≡ picked (ends_at look) (λ s. look s.service) Unavail (steps_of l.steps);
       service : picked (ends_at look) (λ s. s.service) (service_of l.decided.service) (steps_of (drop l.step-index l.steps)) ≡ picked (ends_at look) (λ s. s.service) Other (steps_of l.steps);
-      sendable : Sendable l.kind l.decided.outcome;
     }
