@@ -34,11 +34,26 @@ LISTS = [
     "files ! extrausers",
     "",
 ]
-ACCOUNTS = ["NAME:x:ID:100:G NAME:/home/NAME:/bin/sh"] * 4 + ["  NAME::ID:ID:::", "NAME:x:ID", "#NAME:x:ID:1:::", "NAME:x:x:1:::", "NAME:x:ID:1::\0:"]
-GROUPS = ["NAME:x:ID:NAMES"] * 4 + [" NAME::ID:", "NAME:x:ID:NAMES:", "NAME:x:99999999999:NAMES", "NAME:x:ID:,NAMES,,OTHER"]
-COMPAT = ["+", "-NAME", "+NAME", "-", "+NAME:P:1:2:G:/d:/s", "+::::H::", "+NAME:x:1:OTHER", "-@x", "+@x", " \t-NAME", "-NAME:x", "-NAME\0"]
-HOSTS = ["10.0.0.ID NAME", "10.0.0.ID NAME OTHER # ann", "fd00::ID NAME", "::ffff:10.0.0.ID NAME", "10.0.0 NAME", "\tFD00::ID\tOTHER NAME", "10.0.0.ID # NAME", "fd00:::ID NAME"]
-SERVICES = ["NAME ID/tcp", "NAME ID/udp OTHER # x", "NAME\t65535/tcp", "NAME 65536/tcp", "NAME ID", "NAME ID/ OTHER", "NAME ID/tcp/x"]
+ACCOUNTS = [
+    *["NAME:x:ID:100:G NAME:/home/NAME:/bin/sh"] * 4,
+    *["  NAME::ID:ID:::", "NAME:x:ID", "#NAME:x:ID:1:::", "NAME:x:x:1:::", "NAME:x:ID:1::\0:"],
+]
+GROUPS = [
+    *["NAME:x:ID:NAMES"] * 4,
+    *[" NAME::ID:", "NAME:x:ID:NAMES:", "NAME:x:99999999999:NAMES", "NAME:x:ID:,NAMES,,OTHER"],
+]
+COMPAT = [
+    *["+", "-NAME", "+NAME", "-", "-@x", "+@x", " \t-NAME", "-NAME:x", "-NAME\0"],
+    *["+NAME:P:1:2:G:/d:/s", "+::::H::", "+NAME:x:1:OTHER"],
+]
+HOSTS = [
+    *["10.0.0.ID NAME", "10.0.0.ID NAME OTHER # ann", "fd00::ID NAME", "\tFD00::ID\tOTHER NAME"],
+    *["::ffff:10.0.0.ID NAME", "10.0.0 NAME", "10.0.0.ID # NAME", "fd00:::ID NAME"],
+]
+SERVICES = [
+    *["NAME ID/tcp", "NAME ID/udp OTHER # x", "NAME\t65535/tcp", "NAME ID/tcp/x"],
+    *["NAME 65536/tcp", "NAME ID", "NAME ID/ OTHER"],
+]
 
 
 @dataclass
