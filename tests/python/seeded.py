@@ -76,17 +76,16 @@ class Cache:
     database: str
     settings: dict
     reloads: int
-    newest: dict = field(default_factory=dict)
+    newest: dict = field(default_factory=lambda: dict.fromkeys(frames.FILES))
     version: int = 0
     ticked: int = 0
     entries: list = field(default_factory=list)
 
     def poll(self, files):
         part = {name: files[name] if name in READ_BY[self.database] else None for name in frames.FILES}
-        if part != (self.newest or dict.fromkeys(frames.FILES)):
+        if part != self.newest:
             self.newest = part
             self.version += 1
-        self.newest = part
 
     def insert(self, kind, key, now, reloads):
         """The reply to a request over the newest files, which is kept where it fits."""
@@ -230,9 +229,13 @@ class Maker:
         self.frames += frames.END
 
 
+def argument(place, otherwise):
+    return int(sys.argv[place]) if place < len(sys.argv) else otherwise
+
+
 def main():
     program = frames.program()
-    count, start = [*map(int, sys.argv[1:]), *[200, 0][len(sys.argv) - 1 :]][:2]
+    count, start = argument(1, 200), argument(2, 0)
     found = broken = 0
     for seed in range(start, start + count):
         maker = Maker(seed)

@@ -53,6 +53,42 @@ fn printed_addresses(rt: HostRuntime) -> Result<(), Fail> {
     Ok(())
 }
 
+// Runs of zeros at each place.
+#[test]
+fn runs_of_zeros(rt: HostRuntime) -> Result<(), Fail> {
+    let cases: [([u8; 16], &[u8]); 7] = [
+        ([0, 0, 0, 0, 0, 0, 0, 0, 0, 0, 0, 0, 0, 0, 0, 1], b"::1"),
+        (
+            [0, 0, 0, 1, 0, 2, 0, 3, 0, 4, 0, 5, 0, 6, 0, 7],
+            b"0:1:2:3:4:5:6:7",
+        ),
+        (
+            [0, 0, 0, 0, 0, 3, 0, 4, 0, 5, 0, 6, 0, 7, 0, 8],
+            b"::3:4:5:6:7:8",
+        ),
+        (
+            [0, 1, 0, 2, 0, 3, 0, 4, 0, 5, 0, 6, 0, 0, 0, 0],
+            b"1:2:3:4:5:6::",
+        ),
+        (
+            [0, 1, 0, 0, 0, 2, 0, 0, 0, 3, 0, 0, 0, 4, 0, 0],
+            b"1:0:2:0:3:0:4:0",
+        ),
+        (
+            [0, 0x0a, 0, 0xb0, 0x0c, 0, 0xd0, 0, 0, 0, 0, 0, 0, 0, 0, 0],
+            b"a:b0:c00:d000::",
+        ),
+        (
+            [0, 0, 0, 0, 0, 0, 0, 0, 0, 0, 0, 0, 13, 1, 68, 3],
+            b"::d01:4403",
+        ),
+    ];
+    for (address, text) in cases {
+        assert_eq!(rt; v6_text(rt.alloc(), address)?.bytes(), text);
+    }
+    Ok(())
+}
+
 // Texts that no word of a line can be.
 #[test]
 fn white_space_in_addresses(rt: HostRuntime) {
