@@ -1,13 +1,10 @@
--- No bytes spell two replies on groups, or on the groups of a user.
+-- No bytes spell two groups, or two lists of ids.
 use Rattle.std.proofs.Common.{◌≡◌, ℕ, ◌+◌, ◌*◌, ◌<◌, ◌≤◌, ◌^◌, List, [], ◌∷◌, ◌++◌, length, map, flat_map, All, refl, sym, ap, subst, ◌∙◌, append_assoc, arith, length-append}
 use Rattle.std.proofs.lemmas.List.Elements.{All-head, All-tail}
 use Rattle.nsc_model.specs.declared.row.Group.{Group}
-use Rattle.nsc_model.specs.declared.row.Row.TheVariants as row
-use Rattle.nsc_model.specs.declared.row.Reply.{Reply}
-use Rattle.nsc_model.specs.declared.row.Reply.TheVariants.{Found, Absent, Disabled}
 use Rattle.nsc_model.specs.Marked.{reply_limit}
-use Rattle.nsc_model.specs.Wire.{field, minus_one, text, text_len, group_found, group_reply, ids_found, ids_reply, IsGroup, IsGroupReply, IsIdsReply}
-use Rattle.nsc_laws.proofs.Spellings.{same_field, same_text, head_is, tail_is, length_text, one_not_other}
+use Rattle.nsc_model.specs.Wire.{field, text, text_len, group_found, ids_found, IsGroup}
+use Rattle.nsc_laws.proofs.Spellings.{same_field, same_text, head_is, tail_is, length_text}
 
 -- ---- ids
 
@@ -27,7 +24,7 @@ same_list (x ∷ xs) (y ∷ ys) a b l e =
 count_fits : (ids : List ℕ) → length (ids_found ids) ≤ reply_limit → length ids < 2 ^ 32
 count_fits ids bound = let e : length (ids_found ids) ≡ 12 + length (flat_map field ids) = simp length-append (omega arith) in omega (arith, e, ids_size ids)
 
-same_ids : (xs ys : List ℕ) → All (λ n. n < 2 ^ 32) xs → All (λ n. n < 2 ^ 32) ys → length (ids_found xs) ≤ reply_limit → length (ids_found ys) ≤ reply_limit → ids_found xs ≡ ids_found ys → xs ≡ ys
+pub same_ids : (xs ys : List ℕ) → All (λ n. n < 2 ^ 32) xs → All (λ n. n < 2 ^ 32) ys → length (ids_found xs) ≤ reply_limit → length (ids_found ys) ≤ reply_limit → ids_found xs ≡ ids_found ys → xs ≡ ys
 same_ids xs ys a b f g e =
     let version = same_field 2 2 _ _ (omega arith) (omega arith) e in
     let found = same_field 1 1 _ _ (omega arith) (omega arith) version.1 in
@@ -99,8 +96,10 @@ group_from : (p q : Group) → p.name ≡ q.name → p.passwd ≡ q.passwd → p
 group_from p q h0 h1 h2 h3 =
     ap (λ x. made x p.passwd p.gid p.members) h0 ∙ (ap (λ x. made q.name x p.gid p.members) h1 ∙ (ap (λ x. made q.name q.passwd x p.members) h2 ∙ ap (λ x. made q.name q.passwd q.gid x) h3))
 
-same_group : (p q : Group) → IsGroup p → IsGroup q → GroupFits p → GroupFits q → group_found p ≡ group_found q → p ≡ q
-same_group p q p_is q_is f g e =
+pub same_group : (p q : Group) → IsGroup p → IsGroup q → length (group_found p) ≤ reply_limit → length (group_found q) ≤ reply_limit → group_found p ≡ group_found q → p ≡ q
+same_group p q p_is q_is p_short q_short e =
+    let f = group_sizes p p_short in
+    let g = group_sizes q q_short in
     let version = same_field 2 2 _ _ (omega arith) (omega arith) e in
     let found = same_field 1 1 _ _ (omega arith) (omega arith) version.1 in
     let name_len = same_field (length p.name + 1) (length q.name + 1) _ _ f.name_fits g.name_fits found.1 in
@@ -111,75 +110,3 @@ same_group p q p_is q_is f g e =
     let name = same_text p.name q.name (text p.passwd ++ flat_map text p.members) (text q.passwd ++ flat_map text q.members) name_len.0 sizes.1 in
     let passwd = same_text p.passwd q.passwd (flat_map text p.members) (flat_map text q.members) passwd_len.0 name.1 in
     group_from p q name.0 passwd.0 gid.0 (same_texts p.members q.members sizes.0 passwd.1)
-
--- ---- the three replies of each kind
-
-same_group_reply : (a b : Reply) → IsGroupReply a → IsGroupReply b → length (group_reply a) ≤ reply_limit → length (group_reply b) ≤ reply_limit → group_reply a ≡ group_reply b → a ≡ b
-same_group_reply (Found (row.Group g)) (Found (row.Group g2)) a_is b_is a_fits b_fits e = ap (λ x. Found (row.Group x)) (same_group g g2 a_is b_is (group_sizes g a_fits) (group_sizes g2 b_fits) e)
-same_group_reply (Found (row.Group g1)) (Found (row.Passwd p)) a_is b_is a_fits b_fits e = absurd b_is
-same_group_reply (Found (row.Group g1)) (Found (row.Host h)) a_is b_is a_fits b_fits e = absurd b_is
-same_group_reply (Found (row.Group g1)) (Found (row.Service s)) a_is b_is a_fits b_fits e = absurd b_is
-same_group_reply (Found (row.Group g1)) (Found (row.Ai x)) a_is b_is a_fits b_fits e = absurd b_is
-same_group_reply (Found (row.Group g1)) (Found (row.Groups ids)) a_is b_is a_fits b_fits e = absurd b_is
-same_group_reply (Found (row.Group g)) Absent a_is b_is a_fits b_fits e = absurd (one_not_other 0 1 _ _ (omega arith) (omega arith) (sym e))
-same_group_reply (Found (row.Group g)) Disabled a_is b_is a_fits b_fits e = absurd (one_not_other 1 minus_one _ _ (omega arith) (omega arith) e)
-same_group_reply (Found (row.Passwd p)) b a_is b_is a_fits b_fits e = absurd a_is
-same_group_reply (Found (row.Host h)) b a_is b_is a_fits b_fits e = absurd a_is
-same_group_reply (Found (row.Service s)) b a_is b_is a_fits b_fits e = absurd a_is
-same_group_reply (Found (row.Ai x)) b a_is b_is a_fits b_fits e = absurd a_is
-same_group_reply (Found (row.Groups ids)) b a_is b_is a_fits b_fits e = absurd a_is
-same_group_reply Absent (Found (row.Group g)) a_is b_is a_fits b_fits e = absurd (one_not_other 0 1 _ _ (omega arith) (omega arith) e)
-same_group_reply Absent (Found (row.Passwd p)) a_is b_is a_fits b_fits e = absurd b_is
-same_group_reply Absent (Found (row.Host h)) a_is b_is a_fits b_fits e = absurd b_is
-same_group_reply Absent (Found (row.Service s)) a_is b_is a_fits b_fits e = absurd b_is
-same_group_reply Absent (Found (row.Ai x)) a_is b_is a_fits b_fits e = absurd b_is
-same_group_reply Absent (Found (row.Groups ids)) a_is b_is a_fits b_fits e = absurd b_is
-same_group_reply Absent Absent a_is b_is a_fits b_fits e = refl
-same_group_reply Absent Disabled a_is b_is a_fits b_fits e = absurd (one_not_other 0 minus_one _ _ (omega arith) (omega arith) e)
-same_group_reply Disabled (Found (row.Group g)) a_is b_is a_fits b_fits e = absurd (one_not_other 1 minus_one _ _ (omega arith) (omega arith) (sym e))
-same_group_reply Disabled (Found (row.Passwd p)) a_is b_is a_fits b_fits e = absurd b_is
-same_group_reply Disabled (Found (row.Host h)) a_is b_is a_fits b_fits e = absurd b_is
-same_group_reply Disabled (Found (row.Service s)) a_is b_is a_fits b_fits e = absurd b_is
-same_group_reply Disabled (Found (row.Ai x)) a_is b_is a_fits b_fits e = absurd b_is
-same_group_reply Disabled (Found (row.Groups ids)) a_is b_is a_fits b_fits e = absurd b_is
-same_group_reply Disabled Absent a_is b_is a_fits b_fits e = absurd (one_not_other 0 minus_one _ _ (omega arith) (omega arith) (sym e))
-same_group_reply Disabled Disabled a_is b_is a_fits b_fits e = refl
-
-same_ids_reply : (a b : Reply) → IsIdsReply a → IsIdsReply b → length (ids_reply a) ≤ reply_limit → length (ids_reply b) ≤ reply_limit → ids_reply a ≡ ids_reply b → a ≡ b
-same_ids_reply (Found (row.Groups ids)) (Found (row.Groups ids2)) a_is b_is a_fits b_fits e = ap (λ x. Found (row.Groups x)) (same_ids ids ids2 a_is b_is a_fits b_fits e)
-same_ids_reply (Found (row.Groups ids1)) (Found (row.Passwd p)) a_is b_is a_fits b_fits e = absurd b_is
-same_ids_reply (Found (row.Groups ids1)) (Found (row.Group g)) a_is b_is a_fits b_fits e = absurd b_is
-same_ids_reply (Found (row.Groups ids1)) (Found (row.Host h)) a_is b_is a_fits b_fits e = absurd b_is
-same_ids_reply (Found (row.Groups ids1)) (Found (row.Service s)) a_is b_is a_fits b_fits e = absurd b_is
-same_ids_reply (Found (row.Groups ids1)) (Found (row.Ai x)) a_is b_is a_fits b_fits e = absurd b_is
-same_ids_reply (Found (row.Groups ids)) Absent a_is b_is a_fits b_fits e = absurd (one_not_other 0 1 _ _ (omega arith) (omega arith) (sym e))
-same_ids_reply (Found (row.Groups ids)) Disabled a_is b_is a_fits b_fits e = absurd (one_not_other 1 minus_one _ _ (omega arith) (omega arith) e)
-same_ids_reply (Found (row.Passwd p)) b a_is b_is a_fits b_fits e = absurd a_is
-same_ids_reply (Found (row.Group g)) b a_is b_is a_fits b_fits e = absurd a_is
-same_ids_reply (Found (row.Host h)) b a_is b_is a_fits b_fits e = absurd a_is
-same_ids_reply (Found (row.Service s)) b a_is b_is a_fits b_fits e = absurd a_is
-same_ids_reply (Found (row.Ai x)) b a_is b_is a_fits b_fits e = absurd a_is
-same_ids_reply Absent (Found (row.Groups ids)) a_is b_is a_fits b_fits e = absurd (one_not_other 0 1 _ _ (omega arith) (omega arith) e)
-same_ids_reply Absent (Found (row.Passwd p)) a_is b_is a_fits b_fits e = absurd b_is
-same_ids_reply Absent (Found (row.Group g)) a_is b_is a_fits b_fits e = absurd b_is
-same_ids_reply Absent (Found (row.Host h)) a_is b_is a_fits b_fits e = absurd b_is
-same_ids_reply Absent (Found (row.Service s)) a_is b_is a_fits b_fits e = absurd b_is
-same_ids_reply Absent (Found (row.Ai x)) a_is b_is a_fits b_fits e = absurd b_is
-same_ids_reply Absent Absent a_is b_is a_fits b_fits e = refl
-same_ids_reply Absent Disabled a_is b_is a_fits b_fits e = absurd (one_not_other 0 minus_one _ _ (omega arith) (omega arith) e)
-same_ids_reply Disabled (Found (row.Groups ids)) a_is b_is a_fits b_fits e = absurd (one_not_other 1 minus_one _ _ (omega arith) (omega arith) (sym e))
-same_ids_reply Disabled (Found (row.Passwd p)) a_is b_is a_fits b_fits e = absurd b_is
-same_ids_reply Disabled (Found (row.Group g)) a_is b_is a_fits b_fits e = absurd b_is
-same_ids_reply Disabled (Found (row.Host h)) a_is b_is a_fits b_fits e = absurd b_is
-same_ids_reply Disabled (Found (row.Service s)) a_is b_is a_fits b_fits e = absurd b_is
-same_ids_reply Disabled (Found (row.Ai x)) a_is b_is a_fits b_fits e = absurd b_is
-same_ids_reply Disabled Absent a_is b_is a_fits b_fits e = absurd (one_not_other 0 minus_one _ _ (omega arith) (omega arith) (sym e))
-same_ids_reply Disabled Disabled a_is b_is a_fits b_fits e = refl
-
-pub groups_reply : (a b : Reply) (bytes : List ℕ) → IsGroupReply a → IsGroupReply b → bytes ≡ group_reply a → bytes ≡ group_reply b → length bytes ≤ reply_limit → a ≡ b
-groups_reply a b bytes a_is b_is a_spelled b_spelled bound =
-    same_group_reply a b a_is b_is (subst (λ s. length s ≤ reply_limit) a_spelled bound) (subst (λ s. length s ≤ reply_limit) b_spelled bound) (sym a_spelled ∙ b_spelled)
-
-pub id_lists_reply : (a b : Reply) (bytes : List ℕ) → IsIdsReply a → IsIdsReply b → bytes ≡ ids_reply a → bytes ≡ ids_reply b → length bytes ≤ reply_limit → a ≡ b
-id_lists_reply a b bytes a_is b_is a_spelled b_spelled bound =
-    same_ids_reply a b a_is b_is (subst (λ s. length s ≤ reply_limit) a_spelled bound) (subst (λ s. length s ≤ reply_limit) b_spelled bound) (sym a_spelled ∙ b_spelled)

@@ -1,4 +1,4 @@
--- No bytes spell two replies on hosts, or on the addresses of a host.
+-- No bytes spell two hosts, or the addresses of two.
 use Rattle.std.proofs.Common.{◌≡◌, inl, inr, ℕ, ◌+◌, ◌<◌, ◌≤◌, ◌^◌, List, [], ◌∷◌, ◌++◌, length, map, flat_map, take, drop, All, refl, sym, ap, subst, ◌∙◌, append_assoc, arith, length-append}
 use Rattle.std.proofs.Math.Seq.{take-append_seam, drop-append_seam}
 use Rattle.std.proofs.lemmas.List.{length-map}
@@ -6,12 +6,9 @@ use Rattle.std.proofs.lemmas.List.Elements.{All-head, All-tail}
 use Rattle.nsc_model.specs.declared.row.Host.{Host}
 use Rattle.nsc_model.specs.declared.row.Found6.{Found6}
 use Rattle.nsc_model.specs.declared.row.Ai.{Ai}
-use Rattle.nsc_model.specs.declared.row.Row.TheVariants as row
-use Rattle.nsc_model.specs.declared.row.Reply.{Reply}
-use Rattle.nsc_model.specs.declared.row.Reply.TheVariants.{Found, Absent, Disabled}
 use Rattle.nsc_model.specs.Marked.{reply_limit}
-use Rattle.nsc_model.specs.Wire.{minus_one, text, text_len, host_found, host_reply, addresses_found, addresses_reply, IsAddress, IsHost, IsHostReply, AreAddresses, IsAddressesReply}
-use Rattle.nsc_laws.proofs.Spellings.{same_field, same_text, same_last, head_is, tail_is, one_not_other}
+use Rattle.nsc_model.specs.Wire.{text, text_len, host_found, addresses_found, IsAddress, IsHost, AreAddresses}
+use Rattle.nsc_laws.proofs.Spellings.{same_field, same_text, same_last, head_is, tail_is}
 use Rattle.nsc_laws.proofs.GroupSpellings.{same_lengths, same_texts, lengths_size}
 
 -- ---- addresses
@@ -73,8 +70,10 @@ host_from : (h k : Host) → h.name ≡ k.name → h.aliases ≡ k.aliases → h
 host_from h k h0 h1 h2 h3 =
     ap (λ x. made x h.aliases h.family h.address) h0 ∙ (ap (λ x. made k.name x h.family h.address) h1 ∙ (ap (λ x. made k.name k.aliases x h.address) h2 ∙ ap (λ x. made k.name k.aliases k.family x) h3))
 
-same_host : (h k : Host) → IsHost h → IsHost k → HostFits h → HostFits k → host_found h ≡ host_found k → h ≡ k
-same_host h k h_is k_is f g e =
+pub same_host : (h k : Host) → IsHost h → IsHost k → length (host_found h) ≤ reply_limit → length (host_found k) ≤ reply_limit → host_found h ≡ host_found k → h ≡ k
+same_host h k h_is k_is h_short k_short e =
+    let f = host_sizes h h_short in
+    let g = host_sizes k k_short in
     let version = same_field 2 2 _ _ (omega arith) (omega arith) e in
     let found = same_field 1 1 _ _ (omega arith) (omega arith) version.1 in
     let name_len = same_field (length h.name + 1) (length k.name + 1) _ _ f.name_fits g.name_fits found.1 in
@@ -142,8 +141,10 @@ addresses_sizes a bound = record {
 abbrev made_of : List Found6 → List ℕ → Ai
 made_of founds canon = record { list = founds; canon = canon }
 
-same_addresses : (a b : Ai) → AreAddresses a → AreAddresses b → AddressesFit a → AddressesFit b → addresses_found a ≡ addresses_found b → a ≡ b
-same_addresses a b a_is b_is f g e =
+pub same_addresses : (a b : Ai) → AreAddresses a → AreAddresses b → length (addresses_found a) ≤ reply_limit → length (addresses_found b) ≤ reply_limit → addresses_found a ≡ addresses_found b → a ≡ b
+same_addresses a b a_is b_is a_short b_short e =
+    let f = addresses_sizes a a_short in
+    let g = addresses_sizes b b_short in
     let version = same_field 2 2 _ _ (omega arith) (omega arith) e in
     let found = same_field 1 1 _ _ (omega arith) (omega arith) version.1 in
     let count = same_field (length a.list) (length b.list) _ _ f.count_fits g.count_fits found.1 in
@@ -154,75 +155,3 @@ same_addresses a b a_is b_is f g e =
     let as_many : length (families_of a.list) ≡ length (families_of b.list) = length-map a.list (λ f. f.family) ∙ (count.0 ∙ sym (length-map b.list (λ f. f.family))) in
     let families = same_front (families_of a.list) (families_of b.list) (text a.canon) (text b.canon) as_many bytes.1 in
     ap (λ x. made_of x a.canon) (same_founds a.list b.list a_is.addresses_are b_is.addresses_are families.0 bytes.0) ∙ ap (λ x. made_of b.list x) (same_last a.canon b.canon families.1)
-
--- ---- the three replies of each kind
-
-same_host_reply : (a b : Reply) → IsHostReply a → IsHostReply b → length (host_reply a) ≤ reply_limit → length (host_reply b) ≤ reply_limit → host_reply a ≡ host_reply b → a ≡ b
-same_host_reply (Found (row.Host h)) (Found (row.Host h2)) a_is b_is a_fits b_fits e = ap (λ z. Found (row.Host z)) (same_host h h2 a_is b_is (host_sizes h a_fits) (host_sizes h2 b_fits) e)
-same_host_reply (Found (row.Host h1)) (Found (row.Passwd p)) a_is b_is a_fits b_fits e = absurd b_is
-same_host_reply (Found (row.Host h1)) (Found (row.Group g)) a_is b_is a_fits b_fits e = absurd b_is
-same_host_reply (Found (row.Host h1)) (Found (row.Service s)) a_is b_is a_fits b_fits e = absurd b_is
-same_host_reply (Found (row.Host h1)) (Found (row.Ai x)) a_is b_is a_fits b_fits e = absurd b_is
-same_host_reply (Found (row.Host h1)) (Found (row.Groups ids)) a_is b_is a_fits b_fits e = absurd b_is
-same_host_reply (Found (row.Host h)) Absent a_is b_is a_fits b_fits e = absurd (one_not_other 0 1 _ _ (omega arith) (omega arith) (sym e))
-same_host_reply (Found (row.Host h)) Disabled a_is b_is a_fits b_fits e = absurd (one_not_other 1 minus_one _ _ (omega arith) (omega arith) e)
-same_host_reply (Found (row.Passwd p)) b a_is b_is a_fits b_fits e = absurd a_is
-same_host_reply (Found (row.Group g)) b a_is b_is a_fits b_fits e = absurd a_is
-same_host_reply (Found (row.Service s)) b a_is b_is a_fits b_fits e = absurd a_is
-same_host_reply (Found (row.Ai x)) b a_is b_is a_fits b_fits e = absurd a_is
-same_host_reply (Found (row.Groups ids)) b a_is b_is a_fits b_fits e = absurd a_is
-same_host_reply Absent (Found (row.Host h)) a_is b_is a_fits b_fits e = absurd (one_not_other 0 1 _ _ (omega arith) (omega arith) e)
-same_host_reply Absent (Found (row.Passwd p)) a_is b_is a_fits b_fits e = absurd b_is
-same_host_reply Absent (Found (row.Group g)) a_is b_is a_fits b_fits e = absurd b_is
-same_host_reply Absent (Found (row.Service s)) a_is b_is a_fits b_fits e = absurd b_is
-same_host_reply Absent (Found (row.Ai x)) a_is b_is a_fits b_fits e = absurd b_is
-same_host_reply Absent (Found (row.Groups ids)) a_is b_is a_fits b_fits e = absurd b_is
-same_host_reply Absent Absent a_is b_is a_fits b_fits e = refl
-same_host_reply Absent Disabled a_is b_is a_fits b_fits e = absurd (one_not_other 0 minus_one _ _ (omega arith) (omega arith) e)
-same_host_reply Disabled (Found (row.Host h)) a_is b_is a_fits b_fits e = absurd (one_not_other 1 minus_one _ _ (omega arith) (omega arith) (sym e))
-same_host_reply Disabled (Found (row.Passwd p)) a_is b_is a_fits b_fits e = absurd b_is
-same_host_reply Disabled (Found (row.Group g)) a_is b_is a_fits b_fits e = absurd b_is
-same_host_reply Disabled (Found (row.Service s)) a_is b_is a_fits b_fits e = absurd b_is
-same_host_reply Disabled (Found (row.Ai x)) a_is b_is a_fits b_fits e = absurd b_is
-same_host_reply Disabled (Found (row.Groups ids)) a_is b_is a_fits b_fits e = absurd b_is
-same_host_reply Disabled Absent a_is b_is a_fits b_fits e = absurd (one_not_other 0 minus_one _ _ (omega arith) (omega arith) (sym e))
-same_host_reply Disabled Disabled a_is b_is a_fits b_fits e = refl
-
-same_addresses_reply : (a b : Reply) → IsAddressesReply a → IsAddressesReply b → length (addresses_reply a) ≤ reply_limit → length (addresses_reply b) ≤ reply_limit → addresses_reply a ≡ addresses_reply b → a ≡ b
-same_addresses_reply (Found (row.Ai x)) (Found (row.Ai x2)) a_is b_is a_fits b_fits e = ap (λ z. Found (row.Ai z)) (same_addresses x x2 a_is b_is (addresses_sizes x a_fits) (addresses_sizes x2 b_fits) e)
-same_addresses_reply (Found (row.Ai x1)) (Found (row.Passwd p)) a_is b_is a_fits b_fits e = absurd b_is
-same_addresses_reply (Found (row.Ai x1)) (Found (row.Group g)) a_is b_is a_fits b_fits e = absurd b_is
-same_addresses_reply (Found (row.Ai x1)) (Found (row.Host h)) a_is b_is a_fits b_fits e = absurd b_is
-same_addresses_reply (Found (row.Ai x1)) (Found (row.Service s)) a_is b_is a_fits b_fits e = absurd b_is
-same_addresses_reply (Found (row.Ai x1)) (Found (row.Groups ids)) a_is b_is a_fits b_fits e = absurd b_is
-same_addresses_reply (Found (row.Ai x)) Absent a_is b_is a_fits b_fits e = absurd (one_not_other 0 1 _ _ (omega arith) (omega arith) (sym e))
-same_addresses_reply (Found (row.Ai x)) Disabled a_is b_is a_fits b_fits e = absurd (one_not_other 1 minus_one _ _ (omega arith) (omega arith) e)
-same_addresses_reply (Found (row.Passwd p)) b a_is b_is a_fits b_fits e = absurd a_is
-same_addresses_reply (Found (row.Group g)) b a_is b_is a_fits b_fits e = absurd a_is
-same_addresses_reply (Found (row.Host h)) b a_is b_is a_fits b_fits e = absurd a_is
-same_addresses_reply (Found (row.Service s)) b a_is b_is a_fits b_fits e = absurd a_is
-same_addresses_reply (Found (row.Groups ids)) b a_is b_is a_fits b_fits e = absurd a_is
-same_addresses_reply Absent (Found (row.Ai x)) a_is b_is a_fits b_fits e = absurd (one_not_other 0 1 _ _ (omega arith) (omega arith) e)
-same_addresses_reply Absent (Found (row.Passwd p)) a_is b_is a_fits b_fits e = absurd b_is
-same_addresses_reply Absent (Found (row.Group g)) a_is b_is a_fits b_fits e = absurd b_is
-same_addresses_reply Absent (Found (row.Host h)) a_is b_is a_fits b_fits e = absurd b_is
-same_addresses_reply Absent (Found (row.Service s)) a_is b_is a_fits b_fits e = absurd b_is
-same_addresses_reply Absent (Found (row.Groups ids)) a_is b_is a_fits b_fits e = absurd b_is
-same_addresses_reply Absent Absent a_is b_is a_fits b_fits e = refl
-same_addresses_reply Absent Disabled a_is b_is a_fits b_fits e = absurd (one_not_other 0 minus_one _ _ (omega arith) (omega arith) e)
-same_addresses_reply Disabled (Found (row.Ai x)) a_is b_is a_fits b_fits e = absurd (one_not_other 1 minus_one _ _ (omega arith) (omega arith) (sym e))
-same_addresses_reply Disabled (Found (row.Passwd p)) a_is b_is a_fits b_fits e = absurd b_is
-same_addresses_reply Disabled (Found (row.Group g)) a_is b_is a_fits b_fits e = absurd b_is
-same_addresses_reply Disabled (Found (row.Host h)) a_is b_is a_fits b_fits e = absurd b_is
-same_addresses_reply Disabled (Found (row.Service s)) a_is b_is a_fits b_fits e = absurd b_is
-same_addresses_reply Disabled (Found (row.Groups ids)) a_is b_is a_fits b_fits e = absurd b_is
-same_addresses_reply Disabled Absent a_is b_is a_fits b_fits e = absurd (one_not_other 0 minus_one _ _ (omega arith) (omega arith) (sym e))
-same_addresses_reply Disabled Disabled a_is b_is a_fits b_fits e = refl
-
-pub hosts_reply : (a b : Reply) (bytes : List ℕ) → IsHostReply a → IsHostReply b → bytes ≡ host_reply a → bytes ≡ host_reply b → length bytes ≤ reply_limit → a ≡ b
-hosts_reply a b bytes a_is b_is a_spelled b_spelled bound =
-    same_host_reply a b a_is b_is (subst (λ s. length s ≤ reply_limit) a_spelled bound) (subst (λ s. length s ≤ reply_limit) b_spelled bound) (sym a_spelled ∙ b_spelled)
-
-pub address_lists_reply : (a b : Reply) (bytes : List ℕ) → IsAddressesReply a → IsAddressesReply b → bytes ≡ addresses_reply a → bytes ≡ addresses_reply b → length bytes ≤ reply_limit → a ≡ b
-address_lists_reply a b bytes a_is b_is a_spelled b_spelled bound =
-    same_addresses_reply a b a_is b_is (subst (λ s. length s ≤ reply_limit) a_spelled bound) (subst (λ s. length s ≤ reply_limit) b_spelled bound) (sym a_spelled ∙ b_spelled)

@@ -1,4 +1,5 @@
 pub mod Requests
+pub mod LoneInsertions
 pub mod Spellings
 pub mod GroupSpellings
 pub mod HostSpellings

@@ -109,7 +109,7 @@ prune_comes db a event settings options now core c cache s l =
     (λ mid d x sources t ready. reloads db a event settings now rest mid d x t ready.looked ready.free))
 
 check_comes : (db : Db) (a : ℕ) (event : List Record) (settings : DbSettings) (options : Option ℕ) (now : ℕ) (core : Core) (c : Caller) (cache : Cache) → Stands a event core c cache → Looked core.history c cache → Comes db a event core Nothing (checked settings options now cache)
-check_comes db a event settings options now core c cache s l = by_test (is_outdated settings cache) where
+check_comes db a event settings options now core c cache s l = by_test (is_outdated settings cache.newest_version cache.ticked_version) where
   by_test : (b : Bool) → Comes db a event core Nothing (cond b (invalidated cache >>= λ after. Ok (unchanged (ticked after))) (pruned settings options now (ticked cache)))
   by_test true = comes_then db a event core Nothing Nothing (invalidated cache) (λ after. Ok (unchanged (ticked after))) (invalid_comes db a event core c cache s)
       (λ mid d x sources t nothing. stays db a event mid d Nothing (ticked x) (retold a event mid d x x.entries x.used x.cycle x.newest_version x.add_failed refl t) tt)

@@ -12,7 +12,7 @@ use Rattle.nsc_model.specs.Fixed.{Fixed}
 use Rattle.nsc_model.specs.Settings.{DbSettings}
 use Rattle.nsc_model.specs.History.{loads, invalidations, newest, version_in, HasEnd, IsLive, NoneLiveOf, WasPolled, Legal}
 use Rattle.nsc_laws.specs.Core.{Caller, Core, Insert, Empty, IsPoll, Among, ended_all, AreLive}
-use Rattle.nsc_model.specs.Machine.{last_count, Kept, Cache, unchanged, stopped, behind, polled, new_entry, Refusal, TooLarge, Spent, Full, refusal, tried_by, tried, entry_words, all_words, compacted_behind, ends_of, by_invalidation, invalidated}
+use Rattle.nsc_model.specs.Machine.{last_count, Kept, Cache, unchanged, stopped, behind, polled, new_entry, Refusal, TooLarge, Discarded, Present, Spent, Full, own_refusal, room_of, tried_by, tried, entry_words, all_words, compacted_behind, emptied, ends_of, by_invalidation, invalidated}
 use Rattle.nsc_laws.specs.Calls.{fixed_of, Tells}
 use Rattle.nsc_model.proofs.Contents.{one_content}
 use Rattle.nsc_laws.proofs.Requests.{content_same}
@@ -236,10 +236,12 @@ inserts db a event core c settings now request reloads cache s l is others =
 pub tries : (db : Db) (a : ℕ) (event : List Record) (core : Core) (c : Caller) (settings : DbSettings) (now : ℕ) (request : Request) (reloads : ℕ) (cache : Cache) → Stands a event core c cache → Looked core.history c cache → c.request ≡ Some request
     → ((e : Fixed) → Among (fixed_of cache.entries) e → e.request ≢ request)
     → Tried db a event core c request cache (tried settings now request reloads cache).adds (tried settings now request reloads cache).cache
-tries db a event core c settings now request reloads cache s l is others = by_cause (refusal settings (new_entry settings now request reloads cache).entry cache) where
+tries db a event core c settings now request reloads cache s l is others = by_cause (own_refusal (room_of settings) (new_entry settings now request reloads cache).entry cache) where
   by_cause : (o : Option Refusal) → Tried db a event core c request cache (tried_by o (new_entry settings now request reloads cache) cache).adds (tried_by o (new_entry settings now request reloads cache) cache).cache
   by_cause None = inserts db a event core c settings now request reloads cache s l is others
   by_cause (Some (TooLarge size)) = refused db a event core c request cache cache.add_failed s l
+  by_cause (Some (Discarded loaded epoch)) = refused db a event core c request cache cache.add_failed s l
+  by_cause (Some (Present number)) = refused db a event core c request cache cache.add_failed s l
   by_cause (Some (Spent count)) = refused db a event core c request cache cache.add_failed s l
   by_cause (Some (Full need free)) = refused db a event core c request cache (min (cache.add_failed + 1) last_count) s l
 
@@ -254,10 +256,7 @@ compacts db a event core c also (k ∷ ks) cache s holds = by_test (ltb cache.cy
       (retold a event core c cache cache.entries (all_words cache.entries) (cache.cycle + 2) cache.ticked_version cache.add_failed refl s) (holds (cache.cycle + 2) (all_words cache.entries))
   by_test false = stays db a event core c Nothing cache s tt
 
-abbrev emptied : Cache → Cache
-emptied cache = record cache { entries = []; epoch = cache.epoch + 1 }
-
-invalid_tells : (h : List Record) (cache : Cache) → Tells h cache → Tells (Invalid (invalidations h + 1) ∷ ended_all (fixed_of cache.entries) h) (emptied cache)
+invalid_tells : (h : List Record) (cache : Cache) → Tells h cache → Tells (Invalid (invalidations h + 1) ∷ ended_all (fixed_of cache.entries) h) (emptied cache).cache
 invalid_tells h cache t =
     let es = fixed_of cache.entries in
     let same = ended_same cache.entries h in
@@ -275,17 +274,17 @@ invalid_tells h cache t =
 pub invalid_comes : (db : Db) (a : ℕ) (event : List Record) (core : Core) (c : Caller) (cache : Cache) → Stands a event core c cache → Comes db a event core Nothing (invalidated cache)
 unfolding invalidated
 invalid_comes db a event core c cache s = by_test (eqb cache.epoch last_count) where
-  history_is : Invalid (invalidations core.history + 1) ∷ ended_all (fixed_of cache.entries) core.history ≡ (Invalid (cache.epoch + 1) ∷ ends_of by_invalidation cache.entries []) ++ core.history
+  history_is : Invalid (invalidations core.history + 1) ∷ ended_all (fixed_of cache.entries) core.history ≡ (emptied cache).adds ++ core.history
   history_is =
       ap (λ (n : ℕ). Invalid (n + 1) ∷ ended_all (fixed_of cache.entries) core.history) s.tells.epochs_are
       ∙ ap (λ (h : List Record). Invalid (cache.epoch + 1) ∷ h) (ended_same cache.entries core.history ∙ sym (ends_behind by_invalidation cache.entries [] core.history))
 
-  by_test : (b : Bool) → Comes db a event core Nothing (cond b (Err (stopped cache)) (behind (Invalid (cache.epoch + 1) ∷ ends_of by_invalidation cache.entries []) (compacted_behind cache.entries (emptied cache))))
+  by_test : (b : Bool) → Comes db a event core Nothing (cond b (Err (stopped cache)) (behind (emptied cache).adds (compacted_behind cache.entries (emptied cache).cache)))
   by_test true = stays db a event core c Nothing cache s tt
   by_test false =
       let empty = record core { history = Invalid (invalidations core.history + 1) ∷ ended_all (fixed_of cache.entries) core.history } in
-      comes_behind db a event core empty Nothing (Invalid (cache.epoch + 1) ∷ ends_of by_invalidation cache.entries []) (compacted_behind cache.entries (emptied cache))
-      (one_step db a event Empty core (Invalid (cache.epoch + 1) ∷ ends_of by_invalidation cache.entries []) empty tt (fixed_of cache.entries, s.tells.entries_are, refl) history_is refl)
-      (compacts db a event empty c Nothing cache.entries (emptied cache)
-      (gains_on a event core (Invalid (invalidations core.history + 1) ∷ ended_all (fixed_of cache.entries) core.history) (Invalid (cache.epoch + 1) ∷ ends_of by_invalidation cache.entries []) c cache (emptied cache) history_is (invalid_tells core.history cache s.tells) s)
+      comes_behind db a event core empty Nothing (emptied cache).adds (compacted_behind cache.entries (emptied cache).cache)
+      (one_step db a event Empty core (emptied cache).adds empty tt (fixed_of cache.entries, s.tells.entries_are, refl) history_is refl)
+      (compacts db a event empty c Nothing cache.entries (emptied cache).cache
+      (gains_on a event core (Invalid (invalidations core.history + 1) ∷ ended_all (fixed_of cache.entries) core.history) (emptied cache).adds c cache (emptied cache).cache history_is (invalid_tells core.history cache s.tells) s)
       (λ cycle used. tt))

@@ -4,7 +4,7 @@ use Rattle.std.proofs.lemmas.Bool.{eqb-true}
 use Rattle.std.proofs.lemmas.Slice.Eq.{bytes_eq-Decides}
 use Rattle.std.specs.Str.{bytes_eq}
 use Rattle.nsc_model.specs.declared.kind.Kind.{Kind}
-use Rattle.nsc_model.specs.declared.kind.Kind.TheVariants.{PwName, PwUid, GrName, GrGid, HostName, HostName6, HostAddr, HostAddr6, Ai, InitGroups, ServName, ServPort}
+use Rattle.nsc_model.specs.declared.kind.Kind.TheVariants.{PwName}
 use Rattle.nsc_model.specs.declared.answer.Request.{Request}
 use Rattle.nsc_model.specs.Kinds.{type_number, kind_numbered, is_request}
 use Rattle.nsc_model.specs.Files.{Files, same_file, same_files}
@@ -13,17 +13,7 @@ use Rattle.nsc_model.proofs.Contents.{both_true, same_bytes}
 -- a kind is the kind of its number
 numbered_again : (k : Kind) → kind_numbered (type_number k) ≡ Some k
 numbered_again PwName = refl
-numbered_again PwUid = refl
-numbered_again GrName = refl
-numbered_again GrGid = refl
-numbered_again HostName = refl
-numbered_again HostName6 = refl
-numbered_again HostAddr = refl
-numbered_again HostAddr6 = refl
-numbered_again Ai = refl
-numbered_again InitGroups = refl
-numbered_again ServName = refl
-numbered_again ServPort = refl
+numbered_again _ = refl
 
 abbrev given : Kind → Option Kind
 given k = Some k

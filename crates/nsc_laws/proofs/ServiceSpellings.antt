@@ -1,13 +1,10 @@
--- No bytes spell two replies on services.
+-- No bytes spell two services.
 use Rattle.std.proofs.Common.{◌≡◌, ℕ, ◌+◌, ◌<◌, ◌≤◌, ◌^◌, List, ◌++◌, length, flat_map, refl, sym, ap, subst, ◌∙◌, append_assoc, arith, length-append}
 use Rattle.nsc_model.specs.declared.row.Service.{Service}
-use Rattle.nsc_model.specs.declared.row.Row.TheVariants as row
-use Rattle.nsc_model.specs.declared.row.Reply.{Reply}
-use Rattle.nsc_model.specs.declared.row.Reply.TheVariants.{Found, Absent, Disabled}
 use Rattle.nsc_model.specs.Marked.{reply_limit}
 use Rattle.nsc_model.specs.ServiceLines.{exchanged}
-use Rattle.nsc_model.specs.Wire.{minus_one, text, text_len, service_found, service_reply, IsService, IsServiceReply}
-use Rattle.nsc_laws.proofs.Spellings.{same_field, same_text, one_not_other}
+use Rattle.nsc_model.specs.Wire.{text, text_len, service_found, IsService}
+use Rattle.nsc_laws.proofs.Spellings.{same_field, same_text}
 use Rattle.nsc_laws.proofs.GroupSpellings.{same_lengths, same_texts, lengths_size}
 
 -- ---- ports
@@ -56,8 +53,10 @@ service_from : (s t : Service) → s.name ≡ t.name → s.proto ≡ t.proto →
 service_from s t h0 h1 h2 h3 =
     ap (λ x. made x s.proto s.aliases s.port) h0 ∙ (ap (λ x. made t.name x s.aliases s.port) h1 ∙ (ap (λ x. made t.name t.proto x s.port) h2 ∙ ap (λ x. made t.name t.proto t.aliases x) h3))
 
-same_service : (s t : Service) → IsService s → IsService t → ServiceFits s → ServiceFits t → service_found s ≡ service_found t → s ≡ t
-same_service s t s_is t_is f g e =
+pub same_service : (s t : Service) → IsService s → IsService t → length (service_found s) ≤ reply_limit → length (service_found t) ≤ reply_limit → service_found s ≡ service_found t → s ≡ t
+same_service s t s_is t_is s_short t_short e =
+    let f = service_sizes s s_short in
+    let g = service_sizes t t_short in
     let version = same_field 2 2 _ _ (omega arith) (omega arith) e in
     let found = same_field 1 1 _ _ (omega arith) (omega arith) version.1 in
     let name_len = same_field (length s.name + 1) (length t.name + 1) _ _ f.name_fits g.name_fits found.1 in
@@ -68,40 +67,3 @@ same_service s t s_is t_is f g e =
     let proto = same_text s.proto t.proto (flat_map text_len s.aliases ++ flat_map text s.aliases) (flat_map text_len t.aliases ++ flat_map text t.aliases) proto_len.0 name.1 in
     let sizes = same_lengths s.aliases t.aliases (flat_map text s.aliases) (flat_map text t.aliases) count.0 f.texts_fit g.texts_fit proto.1 in
     service_from s t name.0 proto.0 (same_texts s.aliases t.aliases sizes.0 sizes.1) (same_port s.port t.port s_is.port_fits t_is.port_fits port.0)
-
--- ---- the three replies
-
-same_service_reply : (a b : Reply) → IsServiceReply a → IsServiceReply b → length (service_reply a) ≤ reply_limit → length (service_reply b) ≤ reply_limit → service_reply a ≡ service_reply b → a ≡ b
-same_service_reply (Found (row.Service s)) (Found (row.Service s2)) a_is b_is a_fits b_fits e = ap (λ z. Found (row.Service z)) (same_service s s2 a_is b_is (service_sizes s a_fits) (service_sizes s2 b_fits) e)
-same_service_reply (Found (row.Service s1)) (Found (row.Passwd p)) a_is b_is a_fits b_fits e = absurd b_is
-same_service_reply (Found (row.Service s1)) (Found (row.Group g)) a_is b_is a_fits b_fits e = absurd b_is
-same_service_reply (Found (row.Service s1)) (Found (row.Host h)) a_is b_is a_fits b_fits e = absurd b_is
-same_service_reply (Found (row.Service s1)) (Found (row.Ai x)) a_is b_is a_fits b_fits e = absurd b_is
-same_service_reply (Found (row.Service s1)) (Found (row.Groups ids)) a_is b_is a_fits b_fits e = absurd b_is
-same_service_reply (Found (row.Service s)) Absent a_is b_is a_fits b_fits e = absurd (one_not_other 0 1 _ _ (omega arith) (omega arith) (sym e))
-same_service_reply (Found (row.Service s)) Disabled a_is b_is a_fits b_fits e = absurd (one_not_other 1 minus_one _ _ (omega arith) (omega arith) e)
-same_service_reply (Found (row.Passwd p)) b a_is b_is a_fits b_fits e = absurd a_is
-same_service_reply (Found (row.Group g)) b a_is b_is a_fits b_fits e = absurd a_is
-same_service_reply (Found (row.Host h)) b a_is b_is a_fits b_fits e = absurd a_is
-same_service_reply (Found (row.Ai x)) b a_is b_is a_fits b_fits e = absurd a_is
-same_service_reply (Found (row.Groups ids)) b a_is b_is a_fits b_fits e = absurd a_is
-same_service_reply Absent (Found (row.Service s)) a_is b_is a_fits b_fits e = absurd (one_not_other 0 1 _ _ (omega arith) (omega arith) e)
-same_service_reply Absent (Found (row.Passwd p)) a_is b_is a_fits b_fits e = absurd b_is
-same_service_reply Absent (Found (row.Group g)) a_is b_is a_fits b_fits e = absurd b_is
-same_service_reply Absent (Found (row.Host h)) a_is b_is a_fits b_fits e = absurd b_is
-same_service_reply Absent (Found (row.Ai x)) a_is b_is a_fits b_fits e = absurd b_is
-same_service_reply Absent (Found (row.Groups ids)) a_is b_is a_fits b_fits e = absurd b_is
-same_service_reply Absent Absent a_is b_is a_fits b_fits e = refl
-same_service_reply Absent Disabled a_is b_is a_fits b_fits e = absurd (one_not_other 0 minus_one _ _ (omega arith) (omega arith) e)
-same_service_reply Disabled (Found (row.Service s)) a_is b_is a_fits b_fits e = absurd (one_not_other 1 minus_one _ _ (omega arith) (omega arith) (sym e))
-same_service_reply Disabled (Found (row.Passwd p)) a_is b_is a_fits b_fits e = absurd b_is
-same_service_reply Disabled (Found (row.Group g)) a_is b_is a_fits b_fits e = absurd b_is
-same_service_reply Disabled (Found (row.Host h)) a_is b_is a_fits b_fits e = absurd b_is
-same_service_reply Disabled (Found (row.Ai x)) a_is b_is a_fits b_fits e = absurd b_is
-same_service_reply Disabled (Found (row.Groups ids)) a_is b_is a_fits b_fits e = absurd b_is
-same_service_reply Disabled Absent a_is b_is a_fits b_fits e = absurd (one_not_other 0 minus_one _ _ (omega arith) (omega arith) (sym e))
-same_service_reply Disabled Disabled a_is b_is a_fits b_fits e = refl
-
-pub services_reply : (a b : Reply) (bytes : List ℕ) → IsServiceReply a → IsServiceReply b → bytes ≡ service_reply a → bytes ≡ service_reply b → length bytes ≤ reply_limit → a ≡ b
-services_reply a b bytes a_is b_is a_spelled b_spelled bound =
-    same_service_reply a b a_is b_is (subst (λ s. length s ≤ reply_limit) a_spelled bound) (subst (λ s. length s ≤ reply_limit) b_spelled bound) (sym a_spelled ∙ b_spelled)

@@ -1,14 +1,11 @@
--- No bytes spell two replies on users: each field and each text of a reply is read back from its bytes.
+-- No bytes spell two users: each field and each text is read back from the bytes.
 use Rattle.std.proofs.Common.{◌≡◌, ℕ, ◌+◌, ◌<◌, ◌≤◌, ◌^◌, List, [], ◌∷◌, ◌++◌, length, drop, refl, sym, ap, subst, ◌∙◌, append_assoc, arith}
 use Rattle.std.proofs.lemmas.List.{length-append, append_cancel_right}
 use Rattle.byteorder.specs.Endian.{little_from}
 use Rattle.byteorder.specs.Numbers.{little_number-reads_back}
 use Rattle.nsc_model.specs.declared.row.Passwd.{Passwd}
-use Rattle.nsc_model.specs.declared.row.Row.TheVariants as row
-use Rattle.nsc_model.specs.declared.row.Reply.{Reply}
-use Rattle.nsc_model.specs.declared.row.Reply.TheVariants.{Found, Absent, Disabled}
 use Rattle.nsc_model.specs.Marked.{reply_limit}
-use Rattle.nsc_model.specs.Wire.{field, minus_one, text, passwd_found, user_reply, IsUser, IsUserReply}
+use Rattle.nsc_model.specs.Wire.{field, text, passwd_found, IsUser}
 
 pub tail_is : (x y : ℕ) (r s : List ℕ) → x ∷ r ≡ y ∷ s → r ≡ s
 tail_is x y r s e = ap (drop 1) e
@@ -105,8 +102,10 @@ user_from p q h0 h1 h2 h3 h4 h5 h6 =
     ∙ (ap (λ x. made q.name q.passwd q.uid q.gid q.gecos x p.shell) h5
     ∙ ap (λ x. made q.name q.passwd q.uid q.gid q.gecos q.dir x) h6)))))
 
-same_user : (p q : Passwd) → IsUser p → IsUser q → Fits p → Fits q → passwd_found p ≡ passwd_found q → p ≡ q
-same_user p q p_is q_is f g e =
+pub same_user : (p q : Passwd) → IsUser p → IsUser q → length (passwd_found p) ≤ reply_limit → length (passwd_found q) ≤ reply_limit → passwd_found p ≡ passwd_found q → p ≡ q
+same_user p q p_is q_is p_short q_short e =
+    let f = lengths p p_short in
+    let g = lengths q q_short in
     let version = same_field 2 2 _ _ (omega arith) (omega arith) e in
     let found = same_field 1 1 _ _ (omega arith) (omega arith) version.1 in
     let name_len = same_field (length p.name + 1) (length q.name + 1) _ _ f.name_fits g.name_fits found.1 in
@@ -121,47 +120,3 @@ same_user p q p_is q_is f g e =
     let gecos = same_text p.gecos q.gecos (from_dir p) (from_dir q) gecos_len.0 passwd.1 in
     let dir = same_text p.dir q.dir (text p.shell) (text q.shell) dir_len.0 gecos.1 in
     user_from p q name.0 passwd.0 uid.0 gid.0 gecos.0 dir.0 (same_last p.shell q.shell dir.1)
-
--- the second field tells the three replies apart
-second_field : (x y : ℕ) (r s : List ℕ) → x < 2 ^ 32 → y < 2 ^ 32 → field 2 ++ field x ++ r ≡ field 2 ++ field y ++ s → x ≡ y
-second_field x y r s x_fits y_fits e = (same_field x y r s x_fits y_fits (same_field 2 2 (field x ++ r) (field y ++ s) (omega arith) (omega arith) e).1).0
-
-pub one_not_other : (x y : ℕ) (r s : List ℕ) → x < y → y < 2 ^ 32 → field 2 ++ field x ++ r ≡ field 2 ++ field y ++ s → ⊥
-one_not_other x y r s below fits e = let same : x ≡ y = second_field x y r s (omega arith) fits e in absurd (omega arith)
-
--- ---- the three replies
-
-same_reply : (a b : Reply) → IsUserReply a → IsUserReply b → length (user_reply a) ≤ reply_limit → length (user_reply b) ≤ reply_limit → user_reply a ≡ user_reply b → a ≡ b
-same_reply (Found (row.Passwd p)) (Found (row.Passwd q)) a_is b_is a_fits b_fits e = ap (λ x. Found (row.Passwd x)) (same_user p q a_is b_is (lengths p a_fits) (lengths q b_fits) e)
-same_reply (Found (row.Passwd p)) (Found (row.Group g)) a_is b_is a_fits b_fits e = absurd b_is
-same_reply (Found (row.Passwd p)) (Found (row.Host h)) a_is b_is a_fits b_fits e = absurd b_is
-same_reply (Found (row.Passwd p)) (Found (row.Service s)) a_is b_is a_fits b_fits e = absurd b_is
-same_reply (Found (row.Passwd p)) (Found (row.Ai a)) a_is b_is a_fits b_fits e = absurd b_is
-same_reply (Found (row.Passwd p)) (Found (row.Groups ids)) a_is b_is a_fits b_fits e = absurd b_is
-same_reply (Found (row.Passwd p)) Absent a_is b_is a_fits b_fits e = absurd (one_not_other 0 1 _ _ (omega arith) (omega arith) (sym e))
-same_reply (Found (row.Passwd p)) Disabled a_is b_is a_fits b_fits e = absurd (one_not_other 1 minus_one _ _ (omega arith) (omega arith) e)
-same_reply (Found (row.Group g)) b a_is b_is a_fits b_fits e = absurd a_is
-same_reply (Found (row.Host h)) b a_is b_is a_fits b_fits e = absurd a_is
-same_reply (Found (row.Service s)) b a_is b_is a_fits b_fits e = absurd a_is
-same_reply (Found (row.Ai a)) b a_is b_is a_fits b_fits e = absurd a_is
-same_reply (Found (row.Groups ids)) b a_is b_is a_fits b_fits e = absurd a_is
-same_reply Absent (Found (row.Passwd q)) a_is b_is a_fits b_fits e = absurd (one_not_other 0 1 _ _ (omega arith) (omega arith) e)
-same_reply Absent (Found (row.Group g)) a_is b_is a_fits b_fits e = absurd b_is
-same_reply Absent (Found (row.Host h)) a_is b_is a_fits b_fits e = absurd b_is
-same_reply Absent (Found (row.Service s)) a_is b_is a_fits b_fits e = absurd b_is
-same_reply Absent (Found (row.Ai a)) a_is b_is a_fits b_fits e = absurd b_is
-same_reply Absent (Found (row.Groups ids)) a_is b_is a_fits b_fits e = absurd b_is
-same_reply Absent Absent a_is b_is a_fits b_fits e = refl
-same_reply Absent Disabled a_is b_is a_fits b_fits e = absurd (one_not_other 0 minus_one _ _ (omega arith) (omega arith) e)
-same_reply Disabled (Found (row.Passwd q)) a_is b_is a_fits b_fits e = absurd (one_not_other 1 minus_one _ _ (omega arith) (omega arith) (sym e))
-same_reply Disabled (Found (row.Group g)) a_is b_is a_fits b_fits e = absurd b_is
-same_reply Disabled (Found (row.Host h)) a_is b_is a_fits b_fits e = absurd b_is
-same_reply Disabled (Found (row.Service s)) a_is b_is a_fits b_fits e = absurd b_is
-same_reply Disabled (Found (row.Ai a)) a_is b_is a_fits b_fits e = absurd b_is
-same_reply Disabled (Found (row.Groups ids)) a_is b_is a_fits b_fits e = absurd b_is
-same_reply Disabled Absent a_is b_is a_fits b_fits e = absurd (one_not_other 0 minus_one _ _ (omega arith) (omega arith) (sym e))
-same_reply Disabled Disabled a_is b_is a_fits b_fits e = refl
-
-pub users_reply : (a b : Reply) (bytes : List ℕ) → IsUserReply a → IsUserReply b → bytes ≡ user_reply a → bytes ≡ user_reply b → length bytes ≤ reply_limit → a ≡ b
-users_reply a b bytes a_is b_is a_spelled b_spelled bound =
-    same_reply a b a_is b_is (subst (λ s. length s ≤ reply_limit) a_spelled bound) (subst (λ s. length s ≤ reply_limit) b_spelled bound) (sym a_spelled ∙ b_spelled)

@@ -1,12 +1,13 @@
 //! The machine that a cache is, and the core of its database.
 
-ghost use Rattle.std.specs.Prelude.{ℕ, List, [], ◌∷◌, Option};
+ghost use Rattle.std.specs.Prelude.{◌≡◌, ℕ, List, [], ◌∷◌, Option, None};
 ghost use Rattle.nsc_model.specs.declared.answer.Request.{Request};
 ghost use Rattle.nsc_model.specs.declared.kind.Db.{Db};
 ghost use Rattle.nsc_model.specs.declared.record.Record.TheVariants.{Change};
 ghost use Rattle.nsc_model.specs.Files.{Files, part_of};
+ghost use Rattle.nsc_model.specs.Fixed.{Fixed};
 ghost use Rattle.nsc_model.specs.Settings.{DbSettings};
-ghost use Rattle.nsc_model.specs.Machine.{Cache, new_cache, look_up, tick, invalidated};
+ghost use Rattle.nsc_model.specs.Machine.{Cache, new_cache, live_entry, refusal, own_refusal, look_up, tick, invalidated};
 ghost use Rattle.nsc_laws.specs.Core.{Core, opening};
 ghost use Rattle.nsc_laws.specs.Calls.{Drives, TurnsBy, PassesBy, Event, EachAnswered};
 
@@ -28,4 +29,10 @@ pub fn machine_events_are_moves()
 pub fn runs_are_answered()
     ensures { (db : Db) (settings : DbSettings) (reloads : Option ℕ) (files : Files) (events : List Event) →
         EachAnswered db settings reloads events (new_cache (part_of db files)) (Change 0 (part_of db files) ∷ []) }
+{}
+
+/// No other caller overtakes an insertion that notes the present epoch and whose request has no live entry: it is refused as
+/// with one caller.
+pub fn lone_insertions_are_refused_alike()
+    ensures { (room : ℕ) (e : Fixed) (cache : Cache) → live_entry e.request cache.entries ≡ None → refusal room cache.epoch e cache ≡ own_refusal room e cache }
 {}

@@ -159,23 +159,11 @@ sub_looked files database kind key = switched (sub_answer files (record { kind =
 
 abbrev pub user_in : Looked → Option Passwd
 user_in (Found (row.Passwd p)) = Some p
-user_in (Found (row.Group g)) = None
-user_in (Found (row.Host h)) = None
-user_in (Found (row.Service s)) = None
-user_in (Found (row.Ai a)) = None
-user_in (Found (row.Groups ids)) = None
-user_in NotFound = None
-user_in Unavail = None
+user_in _ = None
 
 abbrev pub group_in : Looked → Option Group
-group_in (Found (row.Passwd p)) = None
 group_in (Found (row.Group g)) = Some g
-group_in (Found (row.Host h)) = None
-group_in (Found (row.Service s)) = None
-group_in (Found (row.Ai a)) = None
-group_in (Found (row.Groups ids)) = None
-group_in NotFound = None
-group_in Unavail = None
+group_in _ = None
 
 -- users, and groups, of a request of this kind and key that names entries so
 abbrev pub user_scan : Files → Kind → List ℕ → (Passwd → Bool) → Scan Passwd
@@ -246,13 +234,7 @@ compat_by kind.PwUid files key = scanned_file (user_scan files kind.PwUid key (u
 compat_by kind.GrName files key = scanned_file (group_scan files kind.GrName key (group_named key)) files.group
 compat_by kind.GrGid files key = scanned_file (group_scan files kind.GrGid key (group_numbered key)) files.group
 compat_by kind.InitGroups files key = gathered_file (id_scan files key) files.group
-compat_by kind.HostName files key = Unavail
-compat_by kind.HostName6 files key = Unavail
-compat_by kind.HostAddr files key = Unavail
-compat_by kind.HostAddr6 files key = Unavail
-compat_by kind.Ai files key = Unavail
-compat_by kind.ServName files key = Unavail
-compat_by kind.ServPort files key = Unavail
+compat_by _ files key = Unavail
 
 unfoldable pub compat_answer : Files → Request → Looked
 compat_answer files request = compat_by request.kind files request.key

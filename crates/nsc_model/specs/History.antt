@@ -1,5 +1,5 @@
 -- The history of a database: a list of records, the newest first.
-use Rattle.std.specs.Prelude.{◌≡◌, ◌≢◌, ℕ, ◌+◌, ◌<◌, ◌==◌, if◌then◌else◌, List, [], ◌∷◌, ◌++◌, length, Option, Some, None, ◌⊎◌}
+use Rattle.std.specs.Prelude.{◌≡◌, ◌≢◌, ℕ, ◌+◌, ◌<◌, ◌≤◌, ◌==◌, if◌then◌else◌, List, [], ◌∷◌, ◌++◌, length, Option, Some, None, ◌⊎◌}
 use Rattle.nsc_model.specs.declared.answer.Request.{Request}
 use Rattle.nsc_model.specs.declared.record.Ending.{Ending}
 use Rattle.nsc_model.specs.declared.record.Ending.TheVariants.{Expired, Invalidated, Replaced}
@@ -101,6 +101,15 @@ Allows Replaced e = Unit {0}
 abbrev pub IsTrueAnswer : List Record → Fixed → Type 0
 IsTrueAnswer history e = (files : Files) × (version_in history e.version ≡ Some files) × (e.answer ≡ answer_of files e.request)
 
+-- the entry of a number
+abbrev pub load_of : List Record → ℕ → Option Fixed
+load_of [] n = None
+load_of (Change version content ∷ before) n = load_of before n
+load_of (Poll version ∷ before) n = load_of before n
+load_of (Load entry ∷ before) n = if entry.number == n then Some entry else load_of before n
+load_of (End number cause ∷ before) n = load_of before n
+load_of (Invalid epoch ∷ before) n = load_of before n
+
 -- a history as a cache may make it, record by record
 abbrev pub Legal : List Record → Type 0
 Legal [] = ⊥
@@ -133,6 +142,18 @@ LooksAt (Poll version ∷ before) n = version ≡ n
 LooksAt (Load entry ∷ before) n = ⊥
 LooksAt (End number cause ∷ before) n = ⊥
 LooksAt (Invalid epoch ∷ before) n = ⊥
+
+-- each entry that was inserted for the request in the first of two histories is ended in the second
+abbrev pub EndedAfter : List Record → List Record → Request → Type 0
+EndedAfter seen history request = (e : Fixed) → HasLoad seen e → e.request ≡ request → HasEnd history e.number
+
+-- the version was looked at in the second of two histories, after the first
+abbrev pub LookedBetween : List Record → List Record → ℕ → Type 0
+LookedBetween seen history n = (moment : List Record) × IsPrefix moment history × (length seen < length moment) × LooksAt moment n
+
+-- the version was looked at after at least so many invalidations
+abbrev pub PolledSince : List Record → ℕ → ℕ → Type 0
+PolledSince history n epoch = (moment : List Record) × IsPrefix moment history × LooksAt moment n × (epoch ≤ invalidations moment)
 
 -- the reply is the answer over a version that was looked at during the call
 pub record FromPoll (seen history : List Record) (request : Request) (bytes : List ℕ) : Type 0 where

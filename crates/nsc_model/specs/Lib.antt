@@ -17,6 +17,7 @@ pub mod Outcomes
 pub mod History
 pub mod Settings
 pub mod Machine
+pub mod Events
 pub mod Frames
 pub mod Replay
 pub mod Fronts

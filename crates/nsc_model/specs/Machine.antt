@@ -1,5 +1,6 @@
 -- The machine that the cache of a database is: its events, each with the records that it adds to the history. One caller
--- drives it, so no insertion comes behind an invalidation that it did not note, and none finds its request live.
+-- drives it, so no other caller overtakes an insertion: none comes after an invalidation that it did not note, and none finds
+-- its request live. The parts of the events stand apart, over what each of them needs.
 use Rattle.std.specs.Prelude.{ℕ, ◌+◌, ◌-◌, ◌*◌, ◌^◌, ◌==◌, nat_lt, nat_le, min, Bool, false, not, ◌&&◌, ◌||◌, if◌then◌else◌, List, [], ◌∷◌, ◌++◌, length, map, filter, find, sum_by, Option, Some, None, Result, Ok, Err}
 use Rattle.nsc_base.specs.Nodes.{node_words}
 use Rattle.nsc_model.specs.declared.answer.Request.{Request}
@@ -101,41 +102,74 @@ room_of settings = settings.size * 128
 abbrev pub life_of : DbSettings → Marked → ℕ
 life_of settings answer = if answer.not_found then settings.negative else settings.positive
 
+-- the entry of a request with its answer, by its number and its version; its time begins at this moment
+abbrev pub made_entry : DbSettings → ℕ → ℕ → ℕ → Request → Marked → Fixed
+made_entry settings now number version request answer =
+    record { number = number; request = request; version = version; answer = answer; timeout = now + life_of settings answer }
+
 -- the entry of a request that is to be inserted: the answer over the newest version, until its time is over
 abbrev pub new_entry : DbSettings → ℕ → Request → ℕ → Cache → Kept
 new_entry settings now request reloads cache =
-    let answer = answer_of cache.sources request in
-    record { entry = record { number = cache.inserted; request = request; version = cache.newest_version; answer = answer; timeout = now + life_of settings answer }; reloads = reloads }
+    record { entry = made_entry settings now cache.inserted cache.newest_version request (answer_of cache.sources request); reloads = reloads }
 
--- why an insertion is refused
+-- the live entry that answers a request
+abbrev pub live_entry : Request → List Kept → Option Kept
+live_entry request entries = find (λ k. is_request request k.entry.request) entries
+
+-- why an insertion is refused: its reply is too long to be kept; the database was invalidated after the insertion noted its
+-- epoch; an entry of its request is live; no more entries can be counted; or it needs more words than are free
 pub data Refusal : Type 0 where
   TooLarge : (length : ℕ) → Refusal
+  Discarded : (loaded : ℕ) → (epoch : ℕ) → Refusal
+  Present : (number : ℕ) → Refusal
   Spent : (count : ℕ) → Refusal
   Full : (need : ℕ) → (free : ℕ) → Refusal
 
--- the first cause that holds: the reply is too long, no more entries can be counted, or the entry needs more words than are free
-abbrev pub refusal : DbSettings → Fixed → Cache → Option Refusal
-refusal settings e cache =
-    if nat_lt kept_limit (length e.answer.bytes) then Some (TooLarge (length e.answer.bytes)) else (
+abbrev pub or_later : Option Refusal → Option Refusal → Option Refusal
+or_later (Some cause) later = Some cause
+or_later None later = later
+
+abbrev pub present_cause : Option Kept → Option Refusal
+present_cause None = None
+present_cause (Some k) = Some (Present k.entry.number)
+
+-- how other callers overtook an insertion of this request that noted this epoch, if they did
+abbrev pub overtaken : ℕ → Request → Cache → Option Refusal
+overtaken noted request cache = if nat_lt noted cache.epoch then Some (Discarded noted cache.epoch) else present_cause (live_entry request cache.entries)
+
+-- the first cause that holds, where the room has so many words and other callers overtook the insertion by this cause, or by none
+abbrev pub refusal_or : ℕ → Option Refusal → Fixed → Cache → Option Refusal
+refusal_or room others e cache =
+    if nat_lt kept_limit (length e.answer.bytes) then Some (TooLarge (length e.answer.bytes)) else or_later others (
     if cache.inserted == last_count then Some (Spent last_count) else (
-    if nat_lt (room_of settings - cache.used) (entry_words e) then Some (Full (entry_words e) (room_of settings - cache.used)) else None))
+    if nat_lt (room - cache.used) (entry_words e) then Some (Full (entry_words e) (room - cache.used)) else None))
+
+-- the first cause that refuses the insertion of an entry, by the words of the room and the epoch that was noted
+abbrev pub refusal : ℕ → ℕ → Fixed → Cache → Option Refusal
+refusal room noted e cache = refusal_or room (overtaken noted e.request cache) e cache
+
+-- the same with one caller, which notes the present epoch and inserts no request that is live
+abbrev pub own_refusal : ℕ → Fixed → Cache → Option Refusal
+own_refusal room e cache = refusal_or room None e cache
 
 -- a refused insertion leaves the cache as it was, but that a full one is counted; that count stays at its end
 abbrev pub tried_by : Option Refusal → Kept → Cache → Passed
 tried_by None k cache = record { cache = record cache { entries = cache.entries ++ k ∷ []; used = cache.used + entry_words k.entry; inserted = cache.inserted + 1 }; adds = Load k.entry ∷ [] }
 tried_by (Some (TooLarge size)) k cache = unchanged cache
+tried_by (Some (Discarded loaded epoch)) k cache = unchanged cache
+tried_by (Some (Present number)) k cache = unchanged cache
 tried_by (Some (Spent count)) k cache = unchanged cache
 tried_by (Some (Full need free)) k cache = unchanged (record cache { add_failed = min (cache.add_failed + 1) last_count })
 
 -- an insertion is tried
 abbrev pub tried : DbSettings → ℕ → Request → ℕ → Cache → Passed
-tried settings now request reloads cache = let k = new_entry settings now request reloads cache in tried_by (refusal settings k.entry cache) k cache
+tried settings now request reloads cache = let k = new_entry settings now request reloads cache in tried_by (own_refusal (room_of settings) k.entry cache) k cache
 
 -- ---- look-ups
 
 -- the live entry that answers a request, where the database is cached
 abbrev pub cached : DbSettings → Request → Cache → Option Kept
-cached settings request cache = if settings.enabled then find (λ k. is_request request k.entry.request) cache.entries else None
+cached settings request cache = if settings.enabled then live_entry request cache.entries else None
 
 -- the entry of this request is used: its count of reloads begins anew
 abbrev pub used_by : Request → Kept → Kept
@@ -182,12 +216,18 @@ ends_of cause (k ∷ entries) before = ends_of cause entries (End k.entry.number
 abbrev pub by_invalidation : Kept → Ending
 by_invalidation k = Invalidated
 
--- an invalidation: every live entry ends
+-- the ends of an invalidation: those of every live entry
+abbrev pub emptied : Cache → Passed
+emptied cache = record {
+  cache = record cache { entries = []; epoch = cache.epoch + 1 };
+  adds = Invalid (cache.epoch + 1) ∷ ends_of by_invalidation cache.entries [];
+}
+
+-- an invalidation: its ends, and a compaction where any entry was ended
 unfoldable pub invalidated : Cache → Result Passed Stopped
 invalidated cache =
-    if cache.epoch == last_count then Err (stopped cache) else
-    behind (Invalid (cache.epoch + 1) ∷ ends_of by_invalidation cache.entries [])
-    (compacted_behind cache.entries (record cache { entries = []; epoch = cache.epoch + 1 }))
+    if cache.epoch == last_count then Err (stopped cache) else (
+    let ends = emptied cache in behind ends.adds (compacted_behind cache.entries ends.cache))
 
 -- ---- ticks
 
@@ -229,25 +269,32 @@ others_of now entries = filter (λ k. not (is_due now k)) entries
 abbrev pub reloaded_of : Option ℕ → List Kept → List Kept
 reloaded_of reloads due = filter (λ k. not (is_dropped reloads k)) due
 
--- the entries whose time is over end, in rising number, and then those that are not dropped are reloaded
+-- the ends of a pruning: those of the entries whose time is over, in rising number
+abbrev pub due_ended : Option ℕ → ℕ → Cache → Passed
+due_ended reloads now cache = record {
+  cache = record cache { entries = others_of now cache.entries };
+  adds = ends_of (due_cause reloads now) (due_of now cache.entries) [];
+}
+
+-- a pruning: its ends, a compaction where any entry was ended, and then those that are not dropped are reloaded
 abbrev pub pruned : DbSettings → Option ℕ → ℕ → Cache → Result Passed Stopped
 pruned settings reloads now cache =
     let due = due_of now cache.entries in
-    behind (ends_of (due_cause reloads now) due [])
-    (compacted_behind due (record cache { entries = others_of now cache.entries }) >>= λ after. Ok (reloaded settings now (reloaded_of reloads due) after))
+    let ends = due_ended reloads now cache in
+    behind ends.adds (compacted_behind due ends.cache >>= λ after. Ok (reloaded settings now (reloaded_of reloads due) after))
 
 -- the version that a tick found is kept
 abbrev pub ticked : Cache → Cache
 ticked cache = record cache { ticked_version = cache.newest_version }
 
 -- the newest version is not the one that the last tick found, and such a change counts
-abbrev pub is_outdated : DbSettings → Cache → Bool
-is_outdated settings cache = settings.check_files && not (cache.newest_version == cache.ticked_version)
+abbrev pub is_outdated : DbSettings → ℕ → ℕ → Bool
+is_outdated settings newest ticked = settings.check_files && not (newest == ticked)
 
 -- behind the poll of a tick: an invalidation where the files changed, after which nothing is left to prune
 abbrev pub checked : DbSettings → Option ℕ → ℕ → Cache → Result Passed Stopped
 checked settings reloads now cache =
-    if is_outdated settings cache then (invalidated cache >>= λ after. Ok (unchanged (ticked after))) else
+    if is_outdated settings cache.newest_version cache.ticked_version then (invalidated cache >>= λ after. Ok (unchanged (ticked after))) else
     pruned settings reloads now (ticked cache)
 
 -- a tick of a database; one that is not cached does nothing

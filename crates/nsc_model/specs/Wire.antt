@@ -10,6 +10,7 @@ use Rattle.nsc_model.specs.declared.row.Group.{Group}
 use Rattle.nsc_model.specs.declared.row.Host.{Host}
 use Rattle.nsc_model.specs.declared.row.Service.{Service}
 use Rattle.nsc_model.specs.declared.row.Ai.{Ai}
+use Rattle.nsc_model.specs.declared.row.Row.{Row}
 use Rattle.nsc_model.specs.declared.row.Row.TheVariants as row
 use Rattle.nsc_model.specs.declared.row.Reply.{Reply}
 use Rattle.nsc_model.specs.declared.row.Reply.TheVariants.{Found, Absent, Disabled}
@@ -47,18 +48,9 @@ text_key key = before_first (λ b. b == 0) key
 
 -- the key that is stored: an address as its raw bytes, every other key as a text
 abbrev pub stored_key : Kind → List ℕ → List ℕ
-stored_key kind.PwName key = text_key key
-stored_key kind.PwUid key = text_key key
-stored_key kind.GrName key = text_key key
-stored_key kind.GrGid key = text_key key
-stored_key kind.HostName key = text_key key
-stored_key kind.HostName6 key = text_key key
 stored_key kind.HostAddr key = key
 stored_key kind.HostAddr6 key = key
-stored_key kind.Ai key = text_key key
-stored_key kind.InitGroups key = text_key key
-stored_key kind.ServName key = text_key key
-stored_key kind.ServPort key = text_key key
+stored_key _ key = text_key key
 
 -- a type up to 21 that is no look-up
 abbrev pub asked_otherwise : ℕ → List ℕ → Asked
@@ -105,25 +97,46 @@ text_len bytes = field (length bytes + 1)
 abbrev pub IsText : List ℕ → Type 0
 IsText bytes = All (λ b. b ≢ 0) bytes
 
+-- the shapes that replies have
+pub data Shape : Type 0 where
+  UserShape : Shape
+  GroupShape : Shape
+  IdsShape : Shape
+  HostShape : Shape
+  AddressesShape : Shape
+  ServiceShape : Shape
+
+-- the shape of the replies of a kind
+abbrev pub shape_of : Kind → Shape
+shape_of kind.PwName = UserShape
+shape_of kind.PwUid = UserShape
+shape_of kind.GrName = GroupShape
+shape_of kind.GrGid = GroupShape
+shape_of kind.HostName = HostShape
+shape_of kind.HostName6 = HostShape
+shape_of kind.HostAddr = HostShape
+shape_of kind.HostAddr6 = HostShape
+shape_of kind.Ai = AddressesShape
+shape_of kind.InitGroups = IdsShape
+shape_of kind.ServName = ServiceShape
+shape_of kind.ServPort = ServiceShape
+
+-- the shape of the reply that has a row
+abbrev pub row_shape : Row → Shape
+row_shape (row.Passwd p) = UserShape
+row_shape (row.Group g) = GroupShape
+row_shape (row.Host h) = HostShape
+row_shape (row.Service s) = ServiceShape
+row_shape (row.Ai a) = AddressesShape
+row_shape (row.Groups ids) = IdsShape
+
+-- ---- the bytes of rows
+
 -- version, found, name length, passwd length, uid, gid, gecos length, dir length, shell length, and the five texts
 abbrev pub passwd_found : Passwd → List ℕ
 passwd_found p =
     field 2 ++ field 1 ++ text_len p.name ++ text_len p.passwd ++ field p.uid ++ field p.gid ++ text_len p.gecos ++ text_len p.dir ++ text_len p.shell
     ++ text p.name ++ text p.passwd ++ text p.gecos ++ text p.dir ++ text p.shell
-
--- the same fields without an entry: the ids are -1, the lengths 0
-abbrev pub passwd_lacking : ℕ → List ℕ
-passwd_lacking found = field 2 ++ field found ++ field 0 ++ field 0 ++ field minus_one ++ field minus_one ++ field 0 ++ field 0 ++ field 0
-
-abbrev pub user_reply : Reply → List ℕ
-user_reply (Found (row.Passwd p)) = passwd_found p
-user_reply (Found (row.Group g)) = []
-user_reply (Found (row.Host h)) = []
-user_reply (Found (row.Service s)) = []
-user_reply (Found (row.Ai a)) = []
-user_reply (Found (row.Groups ids)) = []
-user_reply Absent = passwd_lacking 0
-user_reply Disabled = passwd_lacking minus_one
 
 -- version, found, name length, passwd length, gid, member count, a length for each member, name, passwd and the members
 abbrev pub group_found : Group → List ℕ
@@ -131,36 +144,9 @@ group_found g =
     field 2 ++ field 1 ++ text_len g.name ++ text_len g.passwd ++ field g.gid ++ field (length g.members) ++ flat_map text_len g.members
     ++ text g.name ++ text g.passwd ++ flat_map text g.members
 
--- the same fields without an entry: the id is -1, the lengths and the count 0
-abbrev pub group_lacking : ℕ → List ℕ
-group_lacking found = field 2 ++ field found ++ field 0 ++ field 0 ++ field minus_one ++ field 0
-
-abbrev pub group_reply : Reply → List ℕ
-group_reply (Found (row.Passwd p)) = []
-group_reply (Found (row.Group g)) = group_found g
-group_reply (Found (row.Host h)) = []
-group_reply (Found (row.Service s)) = []
-group_reply (Found (row.Ai a)) = []
-group_reply (Found (row.Groups ids)) = []
-group_reply Absent = group_lacking 0
-group_reply Disabled = group_lacking minus_one
-
 -- version, found, group count, and each id
 abbrev pub ids_found : List ℕ → List ℕ
 ids_found ids = field 2 ++ field 1 ++ field (length ids) ++ flat_map field ids
-
-abbrev pub ids_lacking : ℕ → List ℕ
-ids_lacking found = field 2 ++ field found ++ field 0
-
-abbrev pub ids_reply : Reply → List ℕ
-ids_reply (Found (row.Passwd p)) = []
-ids_reply (Found (row.Group g)) = []
-ids_reply (Found (row.Host h)) = []
-ids_reply (Found (row.Service s)) = []
-ids_reply (Found (row.Ai a)) = []
-ids_reply (Found (row.Groups ids)) = ids_found ids
-ids_reply Absent = ids_lacking 0
-ids_reply Disabled = ids_lacking minus_one
 
 -- version, found, name length, alias count, address type, address length, address count, error; the name, a length for each
 -- alias, the address and the aliases. A reply has one address.
@@ -168,20 +154,6 @@ abbrev pub host_found : Host → List ℕ
 host_found h =
     field 2 ++ field 1 ++ text_len h.name ++ field (length h.aliases) ++ field h.family ++ field (length h.address) ++ field 1 ++ field 0
     ++ text h.name ++ flat_map text_len h.aliases ++ h.address ++ flat_map text h.aliases
-
--- the same fields without an entry: type and length are -1, the error is 1, or -1 where the database is not cached
-abbrev pub host_lacking : ℕ → ℕ → List ℕ
-host_lacking found error = field 2 ++ field found ++ field 0 ++ field 0 ++ field minus_one ++ field minus_one ++ field 0 ++ field error
-
-abbrev pub host_reply : Reply → List ℕ
-host_reply (Found (row.Passwd p)) = []
-host_reply (Found (row.Group g)) = []
-host_reply (Found (row.Host h)) = host_found h
-host_reply (Found (row.Service s)) = []
-host_reply (Found (row.Ai a)) = []
-host_reply (Found (row.Groups ids)) = []
-host_reply Absent = host_lacking 0 1
-host_reply Disabled = host_lacking minus_one minus_one
 
 -- version, found, address count, address bytes, canonical name length, error; all addresses, a byte for the family of each,
 -- and the canonical name
@@ -191,20 +163,6 @@ addresses_found a =
     field 2 ++ field 1 ++ field (length a.list) ++ field (length addresses) ++ text_len a.canon ++ field 0
     ++ addresses ++ map (λ f. f.family) a.list ++ text a.canon
 
--- the same fields without an entry: the error is 1, or -1 where the database is not cached
-abbrev pub addresses_lacking : ℕ → ℕ → List ℕ
-addresses_lacking found error = field 2 ++ field found ++ field 0 ++ field 0 ++ field 0 ++ field error
-
-abbrev pub addresses_reply : Reply → List ℕ
-addresses_reply (Found (row.Passwd p)) = []
-addresses_reply (Found (row.Group g)) = []
-addresses_reply (Found (row.Host h)) = []
-addresses_reply (Found (row.Service s)) = []
-addresses_reply (Found (row.Ai a)) = addresses_found a
-addresses_reply (Found (row.Groups ids)) = []
-addresses_reply Absent = addresses_lacking 0 1
-addresses_reply Disabled = addresses_lacking minus_one minus_one
-
 -- version, found, name length, protocol length, alias count and port, whose two bytes are exchanged; the name, the protocol, a
 -- length for each alias and the aliases
 abbrev pub service_found : Service → List ℕ
@@ -212,34 +170,32 @@ service_found s =
     field 2 ++ field 1 ++ text_len s.name ++ text_len s.proto ++ field (length s.aliases) ++ field (exchanged s.port)
     ++ text s.name ++ text s.proto ++ flat_map text_len s.aliases ++ flat_map text s.aliases
 
--- the same fields without an entry: the port is -1
-abbrev pub service_lacking : ℕ → List ℕ
-service_lacking found = field 2 ++ field found ++ field 0 ++ field 0 ++ field 0 ++ field minus_one
+-- the bytes of the reply that has a row
+abbrev pub row_found : Row → List ℕ
+row_found (row.Passwd p) = passwd_found p
+row_found (row.Group g) = group_found g
+row_found (row.Host h) = host_found h
+row_found (row.Service s) = service_found s
+row_found (row.Ai a) = addresses_found a
+row_found (row.Groups ids) = ids_found ids
 
-abbrev pub service_reply : Reply → List ℕ
-service_reply (Found (row.Passwd p)) = []
-service_reply (Found (row.Group g)) = []
-service_reply (Found (row.Host h)) = []
-service_reply (Found (row.Service s)) = service_found s
-service_reply (Found (row.Ai a)) = []
-service_reply (Found (row.Groups ids)) = []
-service_reply Absent = service_lacking 0
-service_reply Disabled = service_lacking minus_one
+-- the fields of a shape without a row, by their fields found and error: an id, a port, an address type and an address length
+-- are -1, a length and a count 0
+abbrev pub lacking : Shape → ℕ → ℕ → List ℕ
+lacking UserShape found error = field 2 ++ field found ++ field 0 ++ field 0 ++ field minus_one ++ field minus_one ++ field 0 ++ field 0 ++ field 0
+lacking GroupShape found error = field 2 ++ field found ++ field 0 ++ field 0 ++ field minus_one ++ field 0
+lacking IdsShape found error = field 2 ++ field found ++ field 0
+lacking HostShape found error = field 2 ++ field found ++ field 0 ++ field 0 ++ field minus_one ++ field minus_one ++ field 0 ++ field error
+lacking AddressesShape found error = field 2 ++ field found ++ field 0 ++ field 0 ++ field 0 ++ field error
+lacking ServiceShape found error = field 2 ++ field found ++ field 0 ++ field 0 ++ field 0 ++ field minus_one
 
--- the bytes of a reply of a kind
+-- the bytes of a reply of a kind: where there is no entry, found is 0 and the error 1; where the database is not cached, both are -1
 abbrev pub spelled : Kind → Reply → List ℕ
-spelled kind.PwName reply = user_reply reply
-spelled kind.PwUid reply = user_reply reply
-spelled kind.GrName reply = group_reply reply
-spelled kind.GrGid reply = group_reply reply
-spelled kind.HostName reply = host_reply reply
-spelled kind.HostName6 reply = host_reply reply
-spelled kind.HostAddr reply = host_reply reply
-spelled kind.HostAddr6 reply = host_reply reply
-spelled kind.Ai reply = addresses_reply reply
-spelled kind.InitGroups reply = ids_reply reply
-spelled kind.ServName reply = service_reply reply
-spelled kind.ServPort reply = service_reply reply
+spelled kind (Found row) = row_found row
+spelled kind Absent = lacking (shape_of kind) 0 1
+spelled kind Disabled = lacking (shape_of kind) minus_one minus_one
+
+-- ---- rows that can be sent
 
 -- the texts can be sent, and the ids are numbers of four bytes
 pub record IsUser (p : Passwd) : Type 0 where
@@ -251,43 +207,12 @@ pub record IsUser (p : Passwd) : Type 0 where
   pub dir_is : IsText p.dir
   pub shell_is : IsText p.shell
 
-abbrev pub IsUserReply : Reply → Type 0
-IsUserReply (Found (row.Passwd p)) = IsUser p
-IsUserReply (Found (row.Group g)) = ⊥
-IsUserReply (Found (row.Host h)) = ⊥
-IsUserReply (Found (row.Service s)) = ⊥
-IsUserReply (Found (row.Ai a)) = ⊥
-IsUserReply (Found (row.Groups ids)) = ⊥
-IsUserReply Absent = Unit {0}
-IsUserReply Disabled = Unit {0}
-
 -- the texts can be sent, and the id is a number of four bytes
 pub record IsGroup (g : Group) : Type 0 where
   pub name_is : IsText g.name
   pub passwd_is : IsText g.passwd
   pub gid_fits : g.gid < 2 ^ 32
   pub members_are : All IsText g.members
-
-abbrev pub IsGroupReply : Reply → Type 0
-IsGroupReply (Found (row.Passwd p)) = ⊥
-IsGroupReply (Found (row.Group g)) = IsGroup g
-IsGroupReply (Found (row.Host h)) = ⊥
-IsGroupReply (Found (row.Service s)) = ⊥
-IsGroupReply (Found (row.Ai a)) = ⊥
-IsGroupReply (Found (row.Groups ids)) = ⊥
-IsGroupReply Absent = Unit {0}
-IsGroupReply Disabled = Unit {0}
-
--- ids are numbers of four bytes
-abbrev pub IsIdsReply : Reply → Type 0
-IsIdsReply (Found (row.Passwd p)) = ⊥
-IsIdsReply (Found (row.Group g)) = ⊥
-IsIdsReply (Found (row.Host h)) = ⊥
-IsIdsReply (Found (row.Service s)) = ⊥
-IsIdsReply (Found (row.Ai a)) = ⊥
-IsIdsReply (Found (row.Groups ids)) = All (λ id. id < 2 ^ 32) ids
-IsIdsReply Absent = Unit {0}
-IsIdsReply Disabled = Unit {0}
 
 -- four bytes of IPv4 or sixteen of IPv6, by the family
 abbrev pub IsAddress : ℕ → List ℕ → Type 0
@@ -299,30 +224,10 @@ pub record IsHost (h : Host) : Type 0 where
   pub aliases_are : All IsText h.aliases
   pub address_is : IsAddress h.family h.address
 
-abbrev pub IsHostReply : Reply → Type 0
-IsHostReply (Found (row.Passwd p)) = ⊥
-IsHostReply (Found (row.Group g)) = ⊥
-IsHostReply (Found (row.Host h)) = IsHost h
-IsHostReply (Found (row.Service s)) = ⊥
-IsHostReply (Found (row.Ai a)) = ⊥
-IsHostReply (Found (row.Groups ids)) = ⊥
-IsHostReply Absent = Unit {0}
-IsHostReply Disabled = Unit {0}
-
 -- each address is of its family, and the name can be sent
 pub record AreAddresses (a : Ai) : Type 0 where
   pub addresses_are : All (λ f. IsAddress f.family f.address) a.list
   pub canon_is : IsText a.canon
-
-abbrev pub IsAddressesReply : Reply → Type 0
-IsAddressesReply (Found (row.Passwd p)) = ⊥
-IsAddressesReply (Found (row.Group g)) = ⊥
-IsAddressesReply (Found (row.Host h)) = ⊥
-IsAddressesReply (Found (row.Service s)) = ⊥
-IsAddressesReply (Found (row.Ai a)) = AreAddresses a
-IsAddressesReply (Found (row.Groups ids)) = ⊥
-IsAddressesReply Absent = Unit {0}
-IsAddressesReply Disabled = Unit {0}
 
 -- the texts can be sent, and the port is a number of two bytes
 pub record IsService (s : Service) : Type 0 where
@@ -331,30 +236,20 @@ pub record IsService (s : Service) : Type 0 where
   pub aliases_are : All IsText s.aliases
   pub port_fits : s.port < 2 ^ 16
 
-abbrev pub IsServiceReply : Reply → Type 0
-IsServiceReply (Found (row.Passwd p)) = ⊥
-IsServiceReply (Found (row.Group g)) = ⊥
-IsServiceReply (Found (row.Host h)) = ⊥
-IsServiceReply (Found (row.Service s)) = IsService s
-IsServiceReply (Found (row.Ai a)) = ⊥
-IsServiceReply (Found (row.Groups ids)) = ⊥
-IsServiceReply Absent = Unit {0}
-IsServiceReply Disabled = Unit {0}
+-- a row can be sent; ids are numbers of four bytes
+abbrev pub IsRow : Row → Type 0
+IsRow (row.Passwd p) = IsUser p
+IsRow (row.Group g) = IsGroup g
+IsRow (row.Host h) = IsHost h
+IsRow (row.Service s) = IsService s
+IsRow (row.Ai a) = AreAddresses a
+IsRow (row.Groups ids) = All (λ id. id < 2 ^ 32) ids
 
--- a reply is of a kind: a row has the kind's shape and no zero byte in its texts
+-- a reply is of a kind: a row has the kind's shape, and can be sent
 abbrev pub IsReplyOf : Kind → Reply → Type 0
-IsReplyOf kind.PwName reply = IsUserReply reply
-IsReplyOf kind.PwUid reply = IsUserReply reply
-IsReplyOf kind.GrName reply = IsGroupReply reply
-IsReplyOf kind.GrGid reply = IsGroupReply reply
-IsReplyOf kind.HostName reply = IsHostReply reply
-IsReplyOf kind.HostName6 reply = IsHostReply reply
-IsReplyOf kind.HostAddr reply = IsHostReply reply
-IsReplyOf kind.HostAddr6 reply = IsHostReply reply
-IsReplyOf kind.Ai reply = IsAddressesReply reply
-IsReplyOf kind.InitGroups reply = IsIdsReply reply
-IsReplyOf kind.ServName reply = IsServiceReply reply
-IsReplyOf kind.ServPort reply = IsServiceReply reply
+IsReplyOf kind (Found row) = (row_shape row ≡ shape_of kind) × IsRow row
+IsReplyOf kind Absent = Unit {0}
+IsReplyOf kind Disabled = Unit {0}
 
 -- the bytes spell the reply of the kind; a reply has at most 2 ^ 30 bytes, so that its lengths fit their fields
 pub record Spells (kind : Kind) (reply : Reply) (bytes : List ℕ) : Type 0 where

@@ -10,7 +10,7 @@ use Rattle.nsc_model.specs.declared.record.Record.TheVariants.{Invalid}
 use Rattle.nsc_model.specs.Files.{Files}
 use Rattle.nsc_model.specs.Settings.{DbSettings}
 use Rattle.nsc_model.specs.Answers.{answer_of}
-use Rattle.nsc_model.specs.Machine.{Kept, Cache, Passed, Stopped, Turn, Refusal, TooLarge, Spent as Uncounted, Full, last_count, behind, ◌>>=◌, refusal, tried, tried_by, new_entry, polled, cached, kept_answer, loaded, hit_or_load, look_up, used_now, compacted, compacted_behind, invalidated, ends_of, by_invalidation, due_cause, stopped, unchanged, due_of, others_of, reloaded_of, reloaded, next_reloads, pruned, ticked, is_outdated, checked, tick}
+use Rattle.nsc_model.specs.Machine.{Kept, Cache, Passed, Stopped, Turn, Refusal, TooLarge, Discarded, Present, Spent as Uncounted, Full, last_count, behind, ◌>>=◌, own_refusal, room_of, tried, tried_by, new_entry, polled, cached, kept_answer, loaded, hit_or_load, look_up, used_now, compacted, compacted_behind, invalidated, ends_of, by_invalidation, due_cause, stopped, unchanged, due_of, others_of, reloaded_of, reloaded, next_reloads, pruned, ticked, is_outdated, checked, tick}
 use Rattle.nsc_plain.specs.Shelf.{TurnsTo, PassesTo, StopsAt, StopsBy, FaultsBy, GivesUpBy, HitsBy, IsPolledAtMost}
 use Rattle.nsc_plain.specs.Stock.{Fresh, put, put_all, anew}
 
@@ -137,6 +137,8 @@ look_up_faults settings now files request before after (Spent n) none h =
 tried_sources : (r : Option Refusal) (k : Kept) (cache : Cache) → ((tried_by r k cache).cache.sources ≡ cache.sources) × ((tried_by r k cache).cache.newest_version ≡ cache.newest_version)
 tried_sources None k cache = (refl, refl)
 tried_sources (Some (TooLarge size)) k cache = (refl, refl)
+tried_sources (Some (Discarded loaded epoch)) k cache = (refl, refl)
+tried_sources (Some (Present number)) k cache = (refl, refl)
 tried_sources (Some (Uncounted count)) k cache = (refl, refl)
 tried_sources (Some (Full need free)) k cache = (refl, refl)
 
@@ -145,7 +147,7 @@ pub put_is_reloaded : (settings : DbSettings) (now : ℕ) (entries : List Kept) 
 put_is_reloaded settings now [] cache = refl
 put_is_reloaded settings now (k ∷ entries) cache =
     let first = (tried settings now k.entry.request (next_reloads k.reloads) cache).cache in
-    let same = tried_sources (refusal settings (new_entry settings now k.entry.request (next_reloads k.reloads) cache).entry cache) (new_entry settings now k.entry.request (next_reloads k.reloads) cache) cache in
+    let same = tried_sources (own_refusal (room_of settings) (new_entry settings now k.entry.request (next_reloads k.reloads) cache).entry cache) (new_entry settings now k.entry.request (next_reloads k.reloads) cache) cache in
     subst (λ (files : Files). put_all settings now cache.newest_version (map (anew files) entries) first ≡ (reloaded settings now entries first).cache) same.0
     (subst (λ (version : ℕ). put_all settings now version (map (anew first.sources) entries) first ≡ (reloaded settings now entries first).cache) same.1 (put_is_reloaded settings now entries first))
 

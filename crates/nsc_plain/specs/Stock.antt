@@ -5,7 +5,7 @@ use Rattle.nsc_model.specs.Files.{Files}
 use Rattle.nsc_model.specs.Marked.{Marked}
 use Rattle.nsc_model.specs.Settings.{DbSettings}
 use Rattle.nsc_model.specs.Answers.{answer_of}
-use Rattle.nsc_model.specs.Machine.{Kept, Cache, is_due, is_dropped, next_reloads, life_of, refusal, tried_by}
+use Rattle.nsc_model.specs.Machine.{Kept, Cache, is_due, is_dropped, next_reloads, life_of, own_refusal, room_of, tried_by}
 
 -- the live entries, the counts that their insertions and ends change, and for how many entries there is memory
 pub record Stock : Type 0 where
@@ -37,7 +37,7 @@ fresh_entry settings now version fresh cache =
 
 -- the cache once its insertion was tried
 abbrev pub put : DbSettings → ℕ → ℕ → Fresh → Cache → Cache
-put settings now version fresh cache = let k = fresh_entry settings now version fresh cache in (tried_by (refusal settings k.entry cache) k cache).cache
+put settings now version fresh cache = let k = fresh_entry settings now version fresh cache in (tried_by (own_refusal (room_of settings) k.entry cache) k cache).cache
 
 -- the cache once all were tried, one after the other
 abbrev pub put_all : DbSettings → ℕ → ℕ → List Fresh → Cache → Cache

@@ -306,7 +306,7 @@ impl PlainCache {
 
     // Whether the files changed since the last tick, and such a change counts.
     fn is_outdated(&self) -> bool
-        ensures { result ≡ is_outdated self.now.settings self.now.cache }
+        ensures { result ≡ is_outdated self.now.settings self.now.cache.newest_version self.now.cache.ticked_version }
     {
         self.conf.check_files && self.newest_version != self.ticked_version
     }

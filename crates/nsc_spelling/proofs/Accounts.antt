@@ -1,19 +1,22 @@
 -- The entries of passwd and group files can be sent, also with the fields of a compat line.
-use Rattle.std.proofs.Common.{◌≡◌, ℕ, ◌+◌, ◌^◌, ◌<◌, ◌≤◌, Bool, true, false, nat_lt, ◌&&◌, ◌==◌, if◌then◌else◌, List, [], ◌∷◌, flat_map, length, IfSome, arith, length-append}
+use Rattle.std.proofs.Common.{◌≡◌, ℕ, ◌+◌, ◌^◌, ◌<◌, ◌≤◌, Bool, true, false, nat_lt, ◌&&◌, ◌==◌, if◌then◌else◌, List, [], ◌∷◌, flat_map, length, IfSome, refl, arith, length-append}
 use Rattle.std.specs.List.{AllByRecursion}
 use Rattle.std.proofs.lemmas.Bool.Decides.{Decides-ltb}
 use Rattle.nsc_base.specs.Decimal.{decimal_of, is_decimal, value_of}
 use Rattle.nsc_base.specs.Text.{fields_of, is_filled}
 use Rattle.nsc_base.proofs.Options.{then_keeps, when_false, when_true}
+use Rattle.nsc_model.specs.declared.kind.Kind.TheVariants.{PwName, GrName}
 use Rattle.nsc_model.specs.declared.row.Group.{Group}
+use Rattle.nsc_model.specs.declared.row.Looked.TheVariants.{Found}
 use Rattle.nsc_model.specs.declared.row.Passwd.{Passwd}
+use Rattle.nsc_model.specs.declared.row.Row.TheVariants as row
 use Rattle.nsc_model.specs.Compat.{own_or, replaced_user}
 use Rattle.nsc_model.specs.Files.{file_limit}
 use Rattle.nsc_model.specs.Groups.{group_of_fields, group_of_line, members_of}
 use Rattle.nsc_model.specs.Marked.{reply_limit}
 use Rattle.nsc_model.specs.Users.{has_zero, is_name, trimmed, user_of_fields, user_of_line}
-use Rattle.nsc_model.specs.Wire.{IsGroup, IsText, IsUser, group_found, passwd_found, text, text_len}
-use Rattle.nsc_spelling.proofs.Sent.{entry_limit}
+use Rattle.nsc_model.specs.Wire.{IsText, group_found, passwd_found, text, text_len}
+use Rattle.nsc_spelling.proofs.Sent.{IsSent, entry_limit}
 use Rattle.nsc_spelling.proofs.Sizes.{filled_size, pieces_size, sent_lengths, sent_texts, size_of, trimmed_short}
 use Rattle.nsc_spelling.proofs.Texts.{IsClean, are_texts, clean_filled, clean_line, clean_pieces, clean_trimmed, is_text}
 
@@ -36,7 +39,7 @@ decimal_fits text =
 -- ---- users
 
 abbrev pub IsSentUser : ℕ → Passwd → Type 0
-IsSentUser limit p = IsUser p × (length (passwd_found p) ≤ limit)
+IsSentUser limit p = IsSent limit PwName (Found (row.Passwd p))
 
 user_size : (p : Passwd) → length (passwd_found p) ≡ 41 + length p.name + length p.passwd + length p.gecos + length p.dir + length p.shell
 user_size p = simp length-append (omega arith)
@@ -46,7 +49,7 @@ user_fits (name ∷ passwd ∷ uid ∷ gid ∷ gecos ∷ dir ∷ shell ∷ []) (
     then_keeps (λ id. id < 2 ^ 32) (IsSentUser entry_limit) _ (decimal_of uid) (decimal_fits uid) (λ user user_id. then_keeps (λ id. id < 2 ^ 32) (IsSentUser entry_limit) _ (decimal_of gid) (decimal_fits gid) (λ group group_id.
     let p : Passwd = record { name = name; passwd = passwd; uid = user; gid = group; gecos = gecos; dir = dir; shell = shell } in
     when_true (IsSentUser entry_limit) (is_name name) p (λ is. (
-      record { name_is = is_text name n; passwd_is = is_text passwd w; uid_fits = user_id; gid_fits = group_id; gecos_is = is_text gecos e; dir_is = is_text dir d; shell_is = is_text shell s },
+      (refl, record { name_is = is_text name n; passwd_is = is_text passwd w; uid_fits = user_id; gid_fits = group_id; gecos_is = is_text gecos e; dir_is = is_text dir d; shell_is = is_text shell s }),
       omega (arith, user_size p, small),
     ))))
 user_fits _ are = tt
@@ -64,15 +67,18 @@ own_size own other = own_text (λ text. length text ≤ length own + length othe
 pub replaced_fits : (fields : List (List ℕ)) (p : Passwd) → AreFields fields → IsSentUser entry_limit p → IsSentUser reply_limit (replaced_user fields p)
 replaced_fits (name ∷ passwd ∷ uid ∷ gid ∷ gecos ∷ dir ∷ shell ∷ []) p ((n, (w, (u, (g, (e, (d, (s, none))))))), small) sent =
     let replaced = replaced_user (name ∷ passwd ∷ uid ∷ gid ∷ gecos ∷ dir ∷ shell ∷ []) p in (
-      record {
-        name_is = sent.0.name_is;
-        passwd_is = own_text IsText passwd p.passwd (is_text passwd w) sent.0.passwd_is;
-        uid_fits = sent.0.uid_fits;
-        gid_fits = sent.0.gid_fits;
-        gecos_is = own_text IsText gecos p.gecos (is_text gecos e) sent.0.gecos_is;
-        dir_is = own_text IsText dir p.dir (is_text dir d) sent.0.dir_is;
-        shell_is = own_text IsText shell p.shell (is_text shell s) sent.0.shell_is;
-      },
+      (
+        refl,
+        record {
+          name_is = sent.0.1.name_is;
+          passwd_is = own_text IsText passwd p.passwd (is_text passwd w) sent.0.1.passwd_is;
+          uid_fits = sent.0.1.uid_fits;
+          gid_fits = sent.0.1.gid_fits;
+          gecos_is = own_text IsText gecos p.gecos (is_text gecos e) sent.0.1.gecos_is;
+          dir_is = own_text IsText dir p.dir (is_text dir d) sent.0.1.dir_is;
+          shell_is = own_text IsText shell p.shell (is_text shell s) sent.0.1.shell_is;
+        },
+      ),
       omega (arith, user_size replaced, user_size p, sent.1, small, own_size passwd p.passwd, own_size gecos p.gecos, own_size dir p.dir, own_size shell p.shell),
     )
 replaced_fits _ p are sent = (sent.0, omega (arith, sent.1))
@@ -80,7 +86,7 @@ replaced_fits _ p are sent = (sent.0, omega (arith, sent.1))
 -- ---- groups
 
 abbrev pub IsSentGroup : ℕ → Group → Type 0
-IsSentGroup limit g = IsGroup g × (length (group_found g) ≤ limit)
+IsSentGroup limit g = IsSent limit GrName (Found (row.Group g))
 
 group_size : (g : Group) → length (group_found g) ≡ 26 + length g.name + length g.passwd + length (flat_map text_len g.members) + length (flat_map text g.members)
 group_size g = simp length-append (omega arith)
@@ -90,7 +96,7 @@ group_fits (name ∷ passwd ∷ gid ∷ members ∷ []) ((n, (w, (g, (m, none)))
     then_keeps (λ id. id < 2 ^ 32) (IsSentGroup entry_limit) _ (decimal_of gid) (decimal_fits gid) (λ id group_id.
     let group : Group = record { name = name; passwd = passwd; gid = id; members = members_of members } in
     when_true (IsSentGroup entry_limit) (is_name name) group (λ is. (
-      record { name_is = is_text name n; passwd_is = is_text passwd w; gid_fits = group_id; members_are = are_texts (members_of members) (clean_filled (λ b. b == 44) members m) },
+      (refl, record { name_is = is_text name n; passwd_is = is_text passwd w; gid_fits = group_id; members_are = are_texts (members_of members) (clean_filled (λ b. b == 44) members m) }),
       omega (arith, group_size group, sent_lengths group.members, sent_texts group.members, filled_size (λ b. b == 44) members, small),
     )))
 group_fits _ are = tt

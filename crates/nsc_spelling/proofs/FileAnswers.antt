@@ -47,7 +47,7 @@ services_sent names file fits = file_keeps (IsSent entry_limit ServName) row.Ser
 
 -- the ids of groups are ids of theirs
 pub own_ids : (groups : List Group) → AllByRecursion (IsSentGroup entry_limit) groups → AllByRecursion (λ (g : Group). IsIdOf (ids_in groups) g.gid) groups
-own_ids groups sent = groups_stand (ids_in groups) groups (all_weaker (IsSentGroup entry_limit) (λ (g : Group). g.gid < 2 ^ 32) (λ g is. is.0.gid_fits) groups sent) (λ id h. h)
+own_ids groups sent = groups_stand (ids_in groups) groups (all_weaker (IsSentGroup entry_limit) (λ (g : Group). g.gid < 2 ^ 32) (λ g is. is.0.1.gid_fits) groups sent) (λ id h. h)
 
 file_ids_sent : (user : List ℕ) (file : Option (List ℕ)) → FileFits file → IsSent entry_limit InitGroups (file_ids user file)
 file_ids_sent user None fits = none_sent InitGroups

@@ -89,7 +89,7 @@ ids_size ids = simp length-append (omega arith)
 
 found_sent : (all ids : List ℕ) → length ids ≤ 2 * file_limit + 2 → AllByRecursion (IsIdOf all) ids → IsSent entry_limit InitGroups (found_ids ids)
 found_sent all [] few each = none_sent InitGroups
-found_sent all (id ∷ ids) few each = (All-from_recursion (λ n. n < 2 ^ 32) (id ∷ ids) (all_weaker (IsIdOf all) (λ n. n < 2 ^ 32) (λ n is. is.0) (id ∷ ids) each), omega (arith, ids_size (id ∷ ids), fields_size (id ∷ ids), few))
+found_sent all (id ∷ ids) few each = ((refl, All-from_recursion (λ n. n < 2 ^ 32) (id ∷ ids) (all_weaker (IsIdOf all) (λ n. n < 2 ^ 32) (λ n is. is.0) (id ∷ ids) each)), omega (arith, ids_size (id ∷ ids), fields_size (id ∷ ids), few))
 
 pub ids_sent : (all ids : List ℕ) → length all ≤ 2 * file_limit + 2 → AllByRecursion (IsIdOf all) ids → IsSent entry_limit InitGroups (found_ids (each_once ids))
 ids_sent all ids few each = found_sent all (each_once ids) (omega (arith, once_few all ids each, few)) (once_keeps (IsIdOf all) ids each)

@@ -10,20 +10,23 @@ use Rattle.nsc_base.specs.Decimal.{decimal_of}
 use Rattle.nsc_base.specs.Text.{before_remark, is_filled, is_white, words_of}
 use Rattle.nsc_base.proofs.AddressLengths.{v4-length, v6-length}
 use Rattle.nsc_base.proofs.Options.{map_keeps, or_keeps, then_keeps, when_false, when_true}
+use Rattle.nsc_model.specs.declared.kind.Kind.TheVariants as kind
 use Rattle.nsc_model.specs.declared.row.Ai.{Ai}
 use Rattle.nsc_model.specs.declared.row.Found6.{Found6}
 use Rattle.nsc_model.specs.declared.row.Host.{Host}
+use Rattle.nsc_model.specs.declared.row.Looked.TheVariants.{Found}
+use Rattle.nsc_model.specs.declared.row.Row.TheVariants as row
 use Rattle.nsc_model.specs.declared.row.Service.{Service}
 use Rattle.nsc_model.specs.Answers.{all_addresses}
 use Rattle.nsc_model.specs.Files.{file_limit}
 use Rattle.nsc_model.specs.Hosts.{Addressed, addressed_of, family_once, host_of_line, host_of_words}
 use Rattle.nsc_model.specs.ServiceLines.{is_slash, port_of, service_of_line, service_of_words}
 use Rattle.nsc_model.specs.Users.{has_zero}
-use Rattle.nsc_model.specs.Wire.{AreAddresses, IsAddress, IsHost, IsService, addresses_found, host_found, service_found, text, text_len}
+use Rattle.nsc_model.specs.Wire.{IsAddress, IsHost, addresses_found, host_found, service_found, text, text_len}
 use Rattle.nsc_spelling.proofs.Accounts.{decimal_fits}
 use Rattle.nsc_spelling.proofs.Lists.{all_weaker, filter_keeps}
 use Rattle.nsc_spelling.proofs.Lists as lists
-use Rattle.nsc_spelling.proofs.Sent.{entry_limit}
+use Rattle.nsc_spelling.proofs.Sent.{IsSent, entry_limit}
 use Rattle.nsc_spelling.proofs.Sizes.{filled_size, filter_few, sent_lengths, sent_texts, size_of}
 use Rattle.nsc_spelling.proofs.Texts.{IsClean, are_texts, clean_drop, clean_filled, clean_line, clean_take, is_text}
 
@@ -64,8 +67,8 @@ address_short family address (inr is) = omega (arith, is.1)
 host_size : (h : Host) → length (host_found h) ≡ 33 + length h.name + length (flat_map text_len h.aliases) + length h.address + length (flat_map text h.aliases)
 host_size h = simp length-append (omega arith)
 
-pub host_sent : (h : Host) → IsHostIn h → IsHost h × (length (host_found h) ≤ entry_limit)
-host_sent h is = (is.0, omega (arith, host_size h, is.1, sent_lengths h.aliases, sent_texts h.aliases, address_short h.family h.address is.0.address_is))
+pub host_sent : (h : Host) → IsHostIn h → IsSent entry_limit kind.HostName (Found (row.Host h))
+host_sent h is = ((refl, is.0), omega (arith, host_size h, is.1, sent_lengths h.aliases, sent_texts h.aliases, address_short h.family h.address is.0.address_is))
 
 -- ---- the addresses of a host
 
@@ -90,7 +93,7 @@ addresses_size : (a : Ai) → length (addresses_found a) ≡ 25 + length (flat_m
 addresses_size a = simp length-append (omega arith)
 
 abbrev pub IsSentAi : Ai → Type 0
-IsSentAi a = AreAddresses a × (length (addresses_found a) ≤ entry_limit)
+IsSentAi a = IsSent entry_limit kind.Ai (Found (row.Ai a))
 
 all_sent : (hosts : List Host) → length hosts ≤ file_limit + 1 → AllByRecursion IsHostIn hosts → IfSome (all_addresses hosts) IsSentAi
 all_sent [] few all = tt
@@ -98,7 +101,7 @@ all_sent (h ∷ hosts) few all =
     let P : Found6 → Type 0 = λ f. IsAddress f.family f.address in
     let list = founds (h ∷ hosts) in
     let each = lists.map_keeps P (λ (host : Host). record { family = host.family; address = host.address }) (h ∷ hosts) (all_weaker IsHostIn (λ (host : Host). IsAddress host.family host.address) (λ host is. is.0.address_is) (h ∷ hosts) all) in
-    (record { addresses_are = All-from_recursion P list each; canon_is = all.0.0.name_is }, omega (arith, addresses_size (record { list = list; canon = h.name }), founds_size (h ∷ hosts) all, all.0.1, few))
+    ((refl, record { addresses_are = All-from_recursion P list each; canon_is = all.0.0.name_is }), omega (arith, addresses_size (record { list = list; canon = h.name }), founds_size (h ∷ hosts) all, all.0.1, few))
 
 pub addresses_sent : (hosts : List Host) → length hosts ≤ file_limit + 1 → AllByRecursion IsHostIn hosts → IfSome (all_addresses (family_once hosts)) IsSentAi
 addresses_sent hosts few all = all_sent (family_once hosts) (omega (arith, once_few hosts, few)) (once_keeps IsHostIn hosts all)
@@ -106,7 +109,7 @@ addresses_sent hosts few all = all_sent (family_once hosts) (omega (arith, once_
 -- ---- services
 
 abbrev pub IsSentService : Service → Type 0
-IsSentService s = IsService s × (length (service_found s) ≤ entry_limit)
+IsSentService s = IsSent entry_limit kind.ServName (Found (row.Service s))
 
 port_fits : (text : List ℕ) → IfSome (port_of text) (λ n. n < 2 ^ 16)
 port_fits text = then_keeps (λ n. n < 2 ^ 32) (λ n. n < 2 ^ 16) _ (decimal_of text) (decimal_fits text) (λ n fits. when_true (λ m. m < 2 ^ 16) (nat_lt n 65536) n (λ is. (Decides-ltb n 65536).0 is))
@@ -121,7 +124,7 @@ service_fits (name ∷ second ∷ aliases) ((n, (w, s)), small) =
     then_keeps (λ port. port < 2 ^ 16) IsSentService _ (port_of (before_first is_slash second)) (port_fits (before_first is_slash second)) (λ port fits.
     let service : Service = record { name = name; proto = proto; aliases = aliases; port = port } in
     when_true IsSentService (is_filled proto) service (λ is. (
-      record { name_is = is_text name n; proto_is = is_text proto (clean_drop (cut + 1) second w); aliases_are = are_texts aliases s; port_fits = fits },
+      (refl, record { name_is = is_text name n; proto_is = is_text proto (clean_drop (cut + 1) second w); aliases_are = are_texts aliases s; port_fits = fits }),
       omega (arith, service_size service, sent_lengths aliases, sent_texts aliases, length-drop (cut + 1) second, small),
     )))
 service_fits _ are = tt

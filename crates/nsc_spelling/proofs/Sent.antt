@@ -1,12 +1,11 @@
 -- Outcomes whose reply is of a kind, and no longer than some limit.
 use Rattle.std.proofs.Common.{ℕ, ◌≤◌, length, arith, rules}
 use Rattle.nsc_model.specs.declared.kind.Kind.{Kind}
-use Rattle.nsc_model.specs.declared.kind.Kind.TheVariants.{PwName}
 use Rattle.nsc_model.specs.declared.row.Looked.{Looked}
 use Rattle.nsc_model.specs.declared.row.Looked.TheVariants.{Unavail}
 use Rattle.nsc_model.specs.Marked.{reply_limit}
 use Rattle.nsc_model.specs.Outcomes.{reply_to}
-use Rattle.nsc_model.specs.Wire.{IsReplyOf, spelled}
+use Rattle.nsc_model.specs.Wire.{IsReplyOf, Shape, UserShape, lacking, shape_of, spelled}
 
 abbrev pub IsSent : ℕ → Kind → Looked → Type 0
 IsSent limit kind looked = IsReplyOf kind (reply_to looked) × (length (spelled kind (reply_to looked)) ≤ limit)
@@ -19,6 +18,9 @@ pub any_sent : (kind : Kind) (looked : Looked) → IsSent entry_limit kind looke
 any_sent kind looked sent = (sent.0, omega (arith, sent.1))
 
 -- so is the reply that there is none
+none_short : (shape : Shape) → length (lacking shape 0 1) ≤ entry_limit
+none_short UserShape = search rules
+none_short _ = search rules
+
 pub none_sent : (kind : Kind) → IsSent entry_limit kind Unavail
-none_sent PwName = (tt, search rules)
-none_sent _ = (tt, search rules)
+none_sent kind = (tt, none_short (shape_of kind))

@@ -2,35 +2,18 @@
 
 ghost use Rattle.std.specs.Prelude.{◌≡◌, ◌≤◌, ◌++◌, length, map, flat_map, IfOk, OnOk};
 ghost use Rattle.nsc_model.specs.Marked.{reply_limit};
-ghost use Rattle.nsc_model.specs.Wire.{IsAddressesReply, addresses_found, addresses_lacking, addresses_reply};
+ghost use Rattle.nsc_model.specs.Wire.{addresses_found};
 
-use crate::reply::{MINUS_ONE, VERSION, put_fields, put_text, text_len};
+use crate::reply::{VERSION, put_fields, put_text, text_len};
 use nsc_base::{Bytes, NoMemory};
-use nsc_model::{Ai, Found6, Reply, Row};
+use nsc_model::{Ai, Found6};
 use std::alloc::Global;
 
 // The six fields of a reply with addresses, in bytes.
 const FIELDS: usize = 24;
 
-// The error of a reply without addresses: HOST_NOT_FOUND of netdb.h.
-const NOT_FOUND: u32 = 1;
-
-// The bytes of a reply to a look-up of a host's addresses.
-pub(crate) fn encode_addresses(alloc: Global, reply: &Reply) -> Result<Bytes, NoMemory>
-    requires of_kind { IsAddressesReply reply.now }
-    requires fits { length (addresses_reply reply.now) ≤ reply_limit }
-    ensures { IfOk result (λ bytes. bytes ≡ addresses_reply reply.now) }
-{
-    match reply {
-        Reply::Found(Row::Ai(ai)) => encode_found(alloc, ai),
-        Reply::Found(_) => unreachable!(),
-        Reply::Absent => encode_lacking(alloc, 0, NOT_FOUND),
-        Reply::Disabled => encode_lacking(alloc, MINUS_ONE, MINUS_ONE),
-    }
-}
-
-// The fields, the addresses, their families and the name.
-fn encode_found(alloc: Global, ai: &Ai) -> Result<Bytes, NoMemory>
+// The bytes of the reply that has a host's addresses: its fields, the addresses, their families and the name.
+pub(crate) fn encode_addresses(alloc: Global, ai: &Ai) -> Result<Bytes, NoMemory>
     requires { length (addresses_found ai.now) ≤ reply_limit }
     ensures { IfOk result (λ bytes. bytes ≡ addresses_found ai.now) }
 {
@@ -77,14 +60,4 @@ fn put_families(out: &mut Vec<u8>, list: &[Found6]) -> Result<(), NoMemory>
         out.push(found.family)?;
     }
     Ok(())
-}
-
-// The fields of a reply without addresses.
-fn encode_lacking(alloc: Global, found: u32, error: u32) -> Result<Bytes, NoMemory>
-    ensures { IfOk result (λ bytes. bytes ≡ addresses_lacking found error) }
-{
-    let fields = [VERSION, found, 0, 0, 0, error];
-    let mut out = Vec::with_capacity(alloc, FIELDS)?;
-    put_fields(&mut out, &fields)?;
-    Ok(Bytes::from_vec(out))
 }

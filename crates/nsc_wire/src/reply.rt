@@ -1,6 +1,6 @@
 ghost use Rattle.std.specs.Prelude.{◌≡◌, ◌+◌, ◌<◌, ◌≤◌, ◌++◌, length, IfOk, OnOk};
 ghost use Rattle.nsc_model.specs.Marked.{reply_limit};
-ghost use Rattle.nsc_model.specs.Wire.{IsReplyOf, Spells, field, spelled, text};
+ghost use Rattle.nsc_model.specs.Wire.{IsReplyOf, Spells, field, lacking, row_found, shape_of, spelled, text};
 ghost use Rattle.nsc_wire.specs.Fields.{fields};
 
 use crate::addresses::encode_addresses;
@@ -10,7 +10,7 @@ use crate::services::encode_service;
 use crate::users::encode_user;
 use byteorder::{ByteOrder, LittleEndian};
 use nsc_base::{Bytes, NoMemory};
-use nsc_model::{Kind, Reply};
+use nsc_model::{Kind, Reply, Row};
 use std::alloc::Global;
 
 // The version of the protocol, in the first field of each request and each reply.
@@ -20,7 +20,10 @@ pub(crate) const VERSION: u32 = 2;
 pub(crate) const FIELD: usize = 4;
 
 // A number that is not there, or a database that is not cached.
-pub(crate) const MINUS_ONE: u32 = u32::MAX;
+const MINUS_ONE: u32 = u32::MAX;
+
+// The error of a reply on hosts without a row: HOST_NOT_FOUND of netdb.h.
+const NOT_FOUND: u32 = 1;
 
 /// The bytes of a reply of this kind. A row is of the kind's shape and has no zero byte in its texts, and the bytes are
 /// at most 2^30. Memory is taken once; fails only for want of it.
@@ -29,16 +32,59 @@ pub fn encode(alloc: Global, kind: Kind, reply: &Reply) -> Result<Bytes, NoMemor
     requires fits { length (spelled kind reply.now) ≤ reply_limit }
     ensures { IfOk result (λ bytes. Spells kind reply.now bytes) }
 {
-    match kind {
-        Kind::PwName => encode_user(alloc, reply),
-        Kind::PwUid => encode_user(alloc, reply),
-        Kind::GrName | Kind::GrGid => encode_group(alloc, reply),
-        Kind::InitGroups => encode_ids(alloc, reply),
-        Kind::HostName | Kind::HostName6 => encode_host(alloc, reply),
-        Kind::HostAddr | Kind::HostAddr6 => encode_host(alloc, reply),
-        Kind::Ai => encode_addresses(alloc, reply),
-        Kind::ServName | Kind::ServPort => encode_service(alloc, reply),
+    match reply {
+        Reply::Found(row) => encode_row(alloc, row),
+        Reply::Absent => encode_lacking(alloc, kind, 0, NOT_FOUND),
+        Reply::Disabled => encode_lacking(alloc, kind, MINUS_ONE, MINUS_ONE),
     }
+}
+
+// The bytes of the reply that has a row.
+fn encode_row(alloc: Global, row: &Row) -> Result<Bytes, NoMemory>
+    requires { length (row_found row.now) ≤ reply_limit }
+    ensures { IfOk result (λ bytes. bytes ≡ row_found row.now) }
+{
+    match row {
+        Row::Passwd(user) => encode_user(alloc, user),
+        Row::Group(group) => encode_group(alloc, group),
+        Row::Host(host) => encode_host(alloc, host),
+        Row::Service(service) => encode_service(alloc, service),
+        Row::Ai(ai) => encode_addresses(alloc, ai),
+        Row::Groups(ids) => encode_ids(alloc, ids.as_slice()),
+    }
+}
+
+// The fields of a reply of this kind without a row.
+fn encode_lacking(alloc: Global, kind: Kind, found: u32, error: u32) -> Result<Bytes, NoMemory>
+    ensures { IfOk result (λ bytes. bytes ≡ lacking (shape_of kind) found error) }
+{
+    match kind {
+        Kind::PwName | Kind::PwUid => encode_fields(
+            alloc,
+            &[VERSION, found, 0, 0, MINUS_ONE, MINUS_ONE, 0, 0, 0],
+        ),
+        Kind::GrName | Kind::GrGid => encode_fields(alloc, &[VERSION, found, 0, 0, MINUS_ONE, 0]),
+        Kind::InitGroups => encode_fields(alloc, &[VERSION, found, 0]),
+        Kind::HostName | Kind::HostName6 | Kind::HostAddr | Kind::HostAddr6 => encode_fields(
+            alloc,
+            &[VERSION, found, 0, 0, MINUS_ONE, MINUS_ONE, 0, error],
+        ),
+        Kind::Ai => encode_fields(alloc, &[VERSION, found, 0, 0, 0, error]),
+        Kind::ServName | Kind::ServPort => encode_fields(
+            alloc,
+            &[VERSION, found, 0, 0, 0, MINUS_ONE],
+        ),
+    }
+}
+
+// A few fields, in memory that is taken once.
+fn encode_fields(alloc: Global, numbers: &[u32]) -> Result<Bytes, NoMemory>
+    requires { length numbers.now < 10 }
+    ensures { IfOk result (λ bytes. bytes ≡ fields numbers.now) }
+{
+    let mut out = Vec::with_capacity(alloc, FIELD * numbers.len())?;
+    put_fields(&mut out, numbers)?;
+    Ok(Bytes::from_vec(out))
 }
 
 // How many bytes a text has with its zero byte.

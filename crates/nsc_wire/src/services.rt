@@ -3,33 +3,19 @@
 ghost use Rattle.std.specs.Prelude.{◌≡◌, ◌≤◌, length, IfOk};
 ghost use Rattle.nsc_model.specs.Marked.{reply_limit};
 ghost use Rattle.nsc_model.specs.ServiceLines.{exchanged};
-ghost use Rattle.nsc_model.specs.Wire.{IsServiceReply, service_found, service_lacking, service_reply};
+ghost use Rattle.nsc_model.specs.Wire.{service_found};
 
-use crate::reply::{MINUS_ONE, VERSION, put_fields, put_text, text_len};
+use crate::reply::{VERSION, put_fields, put_text, text_len};
 use crate::texts::{put_lengths, put_texts, texts_count, texts_size};
 use nsc_base::{Bytes, NoMemory};
-use nsc_model::{Reply, Row, Service};
+use nsc_model::Service;
 use std::alloc::Global;
 
 // The six fields of a service's reply, in bytes.
 const FIELDS: usize = 24;
 
-// The bytes of a reply to a look-up of a service.
-pub(crate) fn encode_service(alloc: Global, reply: &Reply) -> Result<Bytes, NoMemory>
-    requires of_kind { IsServiceReply reply.now }
-    requires fits { length (service_reply reply.now) ≤ reply_limit }
-    ensures { IfOk result (λ bytes. bytes ≡ service_reply reply.now) }
-{
-    match reply {
-        Reply::Found(Row::Service(service)) => encode_found(alloc, service),
-        Reply::Found(_) => unreachable!(),
-        Reply::Absent => encode_lacking(alloc, 0),
-        Reply::Disabled => encode_lacking(alloc, MINUS_ONE),
-    }
-}
-
-// The fields and the texts of a service.
-fn encode_found(alloc: Global, service: &Service) -> Result<Bytes, NoMemory>
+// The bytes of the reply that has a service: its fields, and its texts.
+pub(crate) fn encode_service(alloc: Global, service: &Service) -> Result<Bytes, NoMemory>
     requires { length (service_found service.now) ≤ reply_limit }
     ensures { IfOk result (λ bytes. bytes ≡ service_found service.now) }
 {
@@ -53,14 +39,4 @@ fn port_field(port: u16) -> u32
     ensures { result ≡ exchanged port }
 {
     u32::from(port.swap_bytes())
-}
-
-// The fields of a reply without a service.
-fn encode_lacking(alloc: Global, found: u32) -> Result<Bytes, NoMemory>
-    ensures { IfOk result (λ bytes. bytes ≡ service_lacking found) }
-{
-    let fields = [VERSION, found, 0, 0, 0, MINUS_ONE];
-    let mut out = Vec::with_capacity(alloc, FIELDS)?;
-    put_fields(&mut out, &fields)?;
-    Ok(Bytes::from_vec(out))
 }
