@@ -10,9 +10,11 @@ use Rattle.nsc_model.specs.declared.record.Record.TheVariants.{Invalid}
 use Rattle.nsc_model.specs.Files.{Files}
 use Rattle.nsc_model.specs.Settings.{DbSettings}
 use Rattle.nsc_model.specs.Answers.{answer_of}
-use Rattle.nsc_model.specs.Machine.{Kept, Cache, Passed, Stopped, Turn, Refusal, TooLarge, Spent as Uncounted, Full, last_count, behind, ◌>>=◌, refusal, tried, tried_by, new_entry, polled, cached, kept_answer, loaded, hit_or_load, look_up, used_now, compacted, compacted_behind, invalidated, ends_of, by_invalidation, due_cause, stopped, unchanged, due_of, others_of, reloaded_of, reloaded, next_reloads, pruned, ticked, is_outdated, checked, tick}
-use Rattle.nsc_plain.specs.Shelf.{TurnsTo, PassesTo, StopsAt, StopsBy, FaultsBy, GivesUpBy, HitsBy, IsPolledAtMost}
-use Rattle.nsc_plain.specs.Stock.{Fresh, put, put_all, anew}
+use Rattle.nsc_model.specs.Machine.{Kept, Cache, Passed, Stopped, Turn, Refusal, TooLarge, Spent as Uncounted, Full, last_count, behind, ◌>>=◌, refusal, tried, tried_by, new_entry, polled, cached, kept_answer, loaded, hit_or_load, look_up, used_now, compacted, compacted_behind, invalidated, ends_of, by_invalidation, due_cause, stopped, unchanged, is_due, due_of, others_of, reloaded_of, reloaded, next_reloads, pruned, ticked, is_outdated, checked, tick}
+use Rattle.nsc_plain.specs.PlainCache.{TurnsTo, PassesTo, StopsAt, StopsBy, FaultsBy, GivesUpBy, HitsBy, IsPolledAtMost}
+use Rattle.nsc_plain.specs.Answered.{Answered, anew}
+use Rattle.nsc_plain.specs.Table.{put, put_all}
+use Rattle.nsc_plain.proofs.Ends.{none_left}
 
 at_true : {A : Type 0} (x y : A) {b : Bool} → b ≡ true → cond b x y ≡ x
 at_true {A} x y {b} e = subst (λ (c : Bool). cond c x y ≡ x) (sym e) refl
@@ -158,6 +160,12 @@ left now cache = record cache { entries = others_of now cache.entries }
 compacted_some : (due : List Kept) (cache : Cache) → 0 < length due → compacted_behind due cache ≡ compacted cache
 compacted_some [] cache h = absurd (omega arith)
 compacted_some (k ∷ due) cache h = refl
+
+-- where none is due, nothing changes
+pub prunes_nothing : (settings : DbSettings) (reloads : Option ℕ) (now : ℕ) (cache : Cache) → due_of now cache.entries ≡ [] → PassesTo (pruned settings reloads now cache) cache
+prunes_nothing settings reloads now cache none =
+    subst (λ (due : List Kept). PassesTo (behind (ends_of (due_cause reloads now) due []) (compacted_behind due (left now cache) >>= λ after. Ok (reloaded settings now (reloaded_of reloads due) after))) cache) (sym none)
+    (ap (λ (ks : List Kept). record cache { entries = ks }) (none_left (is_due now) cache.entries none))
 
 pub prunes : (settings : DbSettings) (reloads : Option ℕ) (now : ℕ) (cache mid after : Cache) → 0 < length (due_of now cache.entries) → PassesTo (compacted (left now cache)) mid
     → (reloaded settings now (reloaded_of reloads (due_of now cache.entries)) mid).cache ≡ after → PassesTo (pruned settings reloads now cache) after

@@ -1,3 +1,2 @@
-pub mod Due
 pub mod Ends
 pub mod Events

@@ -1,7 +1,6 @@
 ghost use Rattle.std.specs.Prelude.{◌≡◌};
 ghost use Rattle.nsc_model.specs.Kinds.{is_request};
 ghost use Rattle.nsc_model.specs.Machine.{entry_words, is_due, is_dropped, reached, next_reloads, used_by};
-ghost use Rattle.nsc_plain.specs.Stock.{is_reloaded};
 
 use nsc_model::{Entry, Kind};
 use nsc_words::node_words;
@@ -79,13 +78,6 @@ impl Held {
         ensures { result ≡ is_dropped limit self.now }
     {
         self.entry.answer().is_not_found() || self.has_reached(limit)
-    }
-
-    /// Whether its time is over and it is reloaded.
-    pub fn is_reloaded(&self, limit: Option<u32>, now: u64) -> bool
-        ensures { result ≡ is_reloaded limit now self.now }
-    {
-        self.is_due(now) && !self.is_dropped(limit)
     }
 
     // Whether it was reloaded so often without a use.

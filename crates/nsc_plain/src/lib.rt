@@ -6,10 +6,12 @@ mod cache;
 mod entries;
 mod fault;
 mod held;
+mod prepared;
 mod table;
 
 pub use cache::PlainCache;
 pub use fault::PlainFault;
+pub use prepared::Prepared;
 
 #[cfg(test)]
 mod tests;

@@ -1,8 +1,8 @@
 ghost use Rattle.std.specs.Prelude.{◌≡◌, ◌≤◌, ◌<◌, ◌+◌, ◌^◌, [], length, min, OnOk, IfErr};
 ghost use Rattle.nsc_model.specs.Machine.{Cache, used_now, due_of, others_of, compacted, compacted_behind, room_of, last_count};
 ghost use Rattle.nsc_daemonconf.specs.Conf.{db_settings};
-ghost use Rattle.nsc_plain.specs.Shelf.{PassesTo, StopsBy};
-ghost use Rattle.nsc_plain.specs.Stock.{over, put, put_all};
+ghost use Rattle.nsc_plain.specs.PlainCache.{PassesTo, StopsBy};
+ghost use Rattle.nsc_plain.specs.Table.{over, put, put_all};
 
 use crate::answered::Answered;
 use crate::entries::{drop_due, use_entry, words_of};
@@ -28,9 +28,9 @@ impl Model for Table {
     ghost use Rattle.std.specs.Prelude.{◌≤◌};
     ghost use Rattle.std.specs.Vec.{vec_capacity};
     ghost use Rattle.nsc_model.specs.Machine.{all_words, last_count};
-    ghost use Rattle.nsc_plain.specs.Stock.{Stock};
+    ghost use Rattle.nsc_plain.specs.Table.{Table};
 
-    ghost Value = { Stock };
+    ghost Value = { Table };
 
     ghost view = { λ t. record { entries = t.entries.items; used = t.used; inserted = t.inserted; cycle = t.cycle; add_failed = t.add_failed; capacity = vec_capacity t.entries } };
 

@@ -5,7 +5,7 @@ ghost use Rattle.nsc_model.specs.declared.kind.Kind.TheVariants.{PwName};
 ghost use Rattle.nsc_model.specs.declared.kind.FileId.TheVariants.{Passwd};
 ghost use Rattle.nsc_model.specs.Files.{no_files, with_file};
 
-use crate::PlainCache;
+use crate::{PlainCache, Prepared};
 use nsc_base::{Bytes, NoMemory};
 use nsc_daemonconf::DbConf;
 use nsc_model::{Answer, Answerer, Content, FileId, Kind};
@@ -130,7 +130,7 @@ fn runs(alloc: Global, enabled: bool, check_files: bool, steps: &[Step]) -> Resu
             Step::LookUp(now, over_file, is_found) => {
                 let content = if over_file { &file } else { &none };
                 let reply = if is_found { ROOT } else { ABSENT };
-                match cache.look_up(alloc, content, &Root, Kind::PwName, NAME, u64::from(now)) {
+                match cache.lookup(alloc, content, &Root, Kind::PwName, NAME, u64::from(now)) {
                     Ok(bytes) => bytes.as_slice() == reply,
                     Err(_) => false,
                 }
@@ -247,17 +247,14 @@ fn calls(rt: HostRuntime) -> Result<(), Fail> {
     Ok(())
 }
 
-// A look-up and a tick mark the files as the newest content, also where nothing is compared.
+// A tick and a look-up over files that a caller keeps.
 #[test]
-fn marks(rt: HostRuntime) -> Result<(), Fail> {
+fn serves_kept_files(rt: HostRuntime) -> Result<(), Fail> {
     let alloc = rt.alloc();
-    let file = Arc::new(alloc, one_file(alloc)?)?;
     let mut cache = PlainCache::new(alloc, CONF, None)?;
-    let mut is_newest = false;
-    cache.tick_marked(alloc, &file, &mut is_newest, &Root, 0)?;
-    assert!(rt; is_newest);
-    let reply = cache.look_up_marked(alloc, &file, &mut is_newest, &Root, Kind::PwName, NAME, 0)?;
-    assert!(rt; is_newest);
+    let mut files = Prepared::new(Arc::new(alloc, one_file(alloc)?)?);
+    cache.tick_prepared(alloc, &mut files, &Root, 0)?;
+    let reply = cache.lookup_prepared(alloc, &mut files, &Root, Kind::PwName, NAME, 0)?;
     assert_eq!(rt; reply.as_slice(), ROOT);
     Ok(())
 }

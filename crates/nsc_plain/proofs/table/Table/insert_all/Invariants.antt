@@ -2,7 +2,7 @@ use Rattle.std.proofs.Common.{◌≡◌, ◌≤◌, ◌+◌, length}
 use Rattle.std.specs.Vec.Iter.{into_iter_items, into_iter_len}
 use Rattle.nsc_model.specs.Machine.{Cache}
 use Rattle.nsc_daemonconf.specs.Conf.{db_settings}
-use Rattle.nsc_plain.specs.Stock.{over, put_all}
+use Rattle.nsc_plain.specs.Table.{over, put_all}
 use Rattle.nsc_plain.proofs.table.Table.insert_all.Given as goal
 
 abbrev pub invariant-loop-one : goal.invariant-loop-one
