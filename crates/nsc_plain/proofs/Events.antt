@@ -1,5 +1,5 @@
 -- The parts of the machine's events, one after the other.
-use Rattle.std.proofs.Common.{◌≡◌, ◌≢◌, ℕ, ◌<◌, ◌≤◌, ◌+◌, ◌==◌, nat_lt, ◌⊎◌, inl, inr, Bool, true, false, cond, not, ◌&&◌, List, [], ◌∷◌, ◌++◌, length, map, Option, Some, None, Result, Ok, Err, refl, ap, sym, ◌∙◌, subst, arith}
+use Rattle.std.proofs.Common.{◌≡◌, ◌≢◌, ℕ, ◌<◌, ◌≤◌, ◌+◌, ◌==◌, nat_lt, ◌⊎◌, inl, inr, Bool, true, false, cond, not, ◌&&◌, List, [], ◌∷◌, ◌++◌, length, find, map, Option, Some, None, Result, Ok, Err, refl, ap, sym, ◌∙◌, subst, arith}
 use Rattle.std.proofs.lemmas.Bool.{eq-eqb}
 use Rattle.std.proofs.lemmas.Bool.Decides.{eqb_tells}
 use Rattle.nsc_plain.specs.declared.fault.PlainFault.{PlainFault}
@@ -7,6 +7,7 @@ use Rattle.nsc_plain.specs.declared.fault.PlainFault.TheVariants.{NoMemory, Spen
 use Rattle.nsc_model.specs.declared.answer.Request.{Request}
 use Rattle.nsc_model.specs.declared.record.Record.{Record}
 use Rattle.nsc_model.specs.declared.record.Record.TheVariants.{Invalid}
+use Rattle.nsc_model.specs.Kinds.{is_request}
 use Rattle.nsc_model.specs.Files.{Files}
 use Rattle.nsc_model.specs.Settings.{DbSettings}
 use Rattle.nsc_model.specs.Answers.{answer_of}
@@ -84,6 +85,13 @@ pub keeps : (settings : DbSettings) (now : ℕ) (request : Request) (cache after
 keeps settings now request cache after on h =
     let at : kept_answer settings now request cache ≡ tried settings now request 0 cache = at_true _ _ on in
     ap (λ (p : Passed). p.cache) at ∙ h
+
+-- where the database is cached, an entry is searched for among those that live
+pub searched : (settings : DbSettings) (request : Request) (before after : Cache) (hit : Option (List ℕ)) → settings.enabled ≡ true → HitsBy (find (λ k. is_request request k.entry.request) before.entries) request before after hit
+    → HitsBy (cached settings request before) request before after hit
+searched settings request before after hit on h =
+    let at : cached settings request before ≡ find (λ k. is_request request k.entry.request) before.entries = at_true _ _ on in
+    subst (λ (o : Option Kept). HitsBy o request before after hit) (sym at) h
 
 -- a hit is the machine's
 hit_turns : (o : Option Kept) (settings : DbSettings) (now : ℕ) (files : Files) (request : Request) (before after : Cache) (reply : List ℕ) → HitsBy o request before after (Some reply)

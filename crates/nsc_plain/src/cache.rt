@@ -1,7 +1,6 @@
-ghost use Rattle.std.specs.Prelude.{◌≡◌, ◌≤◌, ◌<◌, ◌^◌, length, IfOk, IfErr, IfSome, OnOk, OnErr};
+ghost use Rattle.std.specs.Prelude.{◌≡◌, ◌≤◌, ◌<◌, ◌^◌, None, length, IfOk, IfErr, IfSome, OnOk, OnErr};
 ghost use Rattle.std.specs.Bool.{OnTrue};
 ghost use Rattle.std.specs.Arc.{arc_value};
-ghost use Rattle.std.specs.Option.{option_copied};
 ghost use Rattle.nsc_model.specs.Files.{no_files};
 ghost use Rattle.nsc_model.specs.Fixed.{key_limit};
 ghost use Rattle.nsc_model.specs.Marked.{reply_limit};
@@ -11,9 +10,8 @@ ghost use Rattle.nsc_daemonconf.specs.Conf.{db_settings};
 ghost use Rattle.nsc_plain.specs.PlainCache.{TurnsTo, PassesTo, FaultsBy, StopsBy, GivesUpBy, HitsBy};
 
 use crate::answered::{Answered, answer_due};
-use crate::entries::find_entry;
 use crate::fault::PlainFault;
-use crate::held::{Held, LAST_COUNT};
+use crate::held::LAST_COUNT;
 use crate::prepared::Prepared;
 use crate::table::Table;
 use nsc_base::{Bytes, NoMemory};
@@ -136,23 +134,10 @@ impl PlainCache {
         ensures hit { IfOk result (HitsBy (cached self.old.settings (record { kind = kind; key = key.now }) self.old.cache) (record { kind = kind; key = key.now }) self.old.cache self.new.cache) }
         ensures stays { OnErr result (self.new.cache ≡ self.old.cache) }
     {
-        let Some(held) = self.find(kind, key) else {
+        if !self.conf.enabled {
             return Ok(None);
-        };
-        let reply = Bytes::copy(alloc, held.entry().answer().bytes())?;
-        self.table.use_entry(kind, key);
-        Ok(Some(reply))
-    }
-
-    // The live entry that answers the request, where the database is cached.
-    fn find(&self, kind: Kind, key: &[u8]) -> Option<&Held>
-        ensures { option_copied result ≡ cached self.now.settings (record { kind = kind; key = key.now }) self.now.cache }
-    {
-        if self.conf.enabled {
-            find_entry(self.table.entries(), kind, key)
-        } else {
-            None
         }
+        self.table.hit(alloc, kind, key)
     }
 
     // Makes the files the newest version, or confirms it where they are the same; where the cache is known to have polled
@@ -164,6 +149,7 @@ impl PlainCache {
         ensures files { files.new.files ≡ files.old.files }
         ensures polled { OnTrue files.new.is_polled (self.new.cache.sources ≡ files.new.files) }
         ensures sources { OnOk result (self.new.cache.sources ≡ files.new.files) }
+        ensures entries { self.new.cache.entries ≡ self.old.cache.entries }
         ensures turn { OnOk result (PassesTo (polled files.old.files self.old.cache) self.new.cache) }
         ensures fault { IfErr result (GivesUpBy (polled files.old.files self.old.cache) self.old.cache self.new.cache) }
     {
@@ -196,6 +182,7 @@ impl PlainCache {
         requires key { length key.now ≤ key_limit }
         requires moment { now < 2 ^ 62 }
         requires sources { self.old.cache.sources ≡ files.old.files }
+        requires new { cached self.old.settings (record { kind = kind; key = key.now }) self.old.cache ≡ None }
         ensures settings { self.new.settings ≡ self.old.settings }
         ensures limit { self.new.reloads ≡ self.old.reloads }
         ensures sources { self.new.cache.sources ≡ self.old.cache.sources }
@@ -223,6 +210,7 @@ impl PlainCache {
         requires key { length key.now ≤ key_limit }
         requires moment { now < 2 ^ 62 }
         requires answer { answer ≡ answer_of self.old.cache.sources (record { kind = kind; key = key.now }) }
+        requires new { cached self.old.settings (record { kind = kind; key = key.now }) self.old.cache ≡ None }
         ensures settings { self.new.settings ≡ self.old.settings }
         ensures limit { self.new.reloads ≡ self.old.reloads }
         ensures sources { self.new.cache.sources ≡ self.old.cache.sources }

@@ -1,26 +1,16 @@
-ghost use Rattle.std.specs.Prelude.{◌≡◌, ◌<◌, ◌^◌, find};
-ghost use Rattle.std.specs.Option.{option_copied};
+ghost use Rattle.std.specs.Prelude.{◌≡◌, ◌<◌, ◌^◌, position};
 ghost use Rattle.std.specs.Vec.{vec_capacity};
 ghost use Rattle.nsc_model.specs.Kinds.{is_request};
-ghost use Rattle.nsc_model.specs.Machine.{used_now, others_of, all_words};
+ghost use Rattle.nsc_model.specs.Machine.{others_of, all_words};
 
 use crate::held::Held;
 use nsc_model::Kind;
 
-/// The first entry that answers the request of this kind and key.
-pub fn find_entry<'a>(entries: &'a [Held], kind: Kind, key: &[u8]) -> Option<&'a Held>
-    ensures { option_copied result ≡ find (λ k. is_request (record { kind = kind; key = key.now }) k.entry.request) entries.now }
+/// The place of the first entry that answers the request of this kind and key.
+pub fn find_entry(entries: &[Held], kind: Kind, key: &[u8]) -> Option<usize>
+    ensures { result ≡ position (λ k. is_request (record { kind = kind; key = key.now }) k.entry.request) entries.now }
 {
-    entries.iter().find(|held| held.answers(kind, key))
-}
-
-/// The count of reloads of the entry that answers the request of this kind and key begins anew.
-pub fn use_entry(entries: &mut [Held], kind: Kind, key: &[u8])
-    ensures { entries.new ≡ used_now (record { kind = kind; key = key.now }) entries.old }
-{
-    for held in entries.iter_mut() {
-        held.use_by(kind, key);
-    }
+    entries.iter().position(|held| held.answers(kind, key))
 }
 
 /// The entries whose time is over leave.

@@ -7,6 +7,7 @@ use Rattle.nsc_plain.specs.PlainCache.{PlainCache}
 use Rattle.nsc_plain.specs.Answered.{Answered, anew}
 use Rattle.nsc_plain.specs.Table.{over, put_all}
 use Rattle.nsc_plain.proofs.Events.{bare, put_is_reloaded, prunes, prunes_nothing, prune_faults}
+use Rattle.nsc_plain.proofs.Apart.{reloads_stay_apart}
 use Rattle.nsc_plain.proofs.Ends.{anew_length}
 use Rattle.nsc_plain.proofs.cache.PlainCache.prune.Goals as goal
 
@@ -23,6 +24,11 @@ insert_all-requires-clause-memory g c =
     let few = anew_length c.args.files.now.files c.self.inside.reloads (due_of c.args.now c.self.inside.table.entries) in
     let memory = c.in_ok-end_due.ensures.memory in
     rw anew_of (omega (arith, few, memory))
+
+pub insert_all-requires-clause-apart : goal.insert_all-requires-clause-apart
+insert_all-requires-clause-apart g c =
+    let anew_of = rw (c.in-Some.is, c.entries-entries.ensures) at c.in_ok-due.ensures.all in
+    rw anew_of (reloads_stay_apart c.args.files.now.files c.self.inside.reloads c.end_due.new.self.entries (due_of c.args.now c.self.inside.table.entries) c.in_ok-end_due.ensures.apart)
 
 pub returns-in_err-end_due-clause-fault : goal.returns-in_err-end_due-clause-fault
 returns-in_err-end_due-clause-fault g c =
