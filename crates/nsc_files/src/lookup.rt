@@ -1,5 +1,5 @@
 ghost use Rattle.std.specs.Prelude.{◌≡◌, IfOk};
-ghost use Rattle.nsc_model.specs.Services.{Local, Extrausers};
+ghost use Rattle.nsc_model.specs.declared.switch.SwitchService.TheVariants.{Files, Extrausers};
 ghost use Rattle.nsc_model.specs.Answers.{answer_by, service_answer};
 ghost use Rattle.nsc_model.specs.Files.{file_of};
 
@@ -24,7 +24,7 @@ pub fn files_lookup(
     kind: Kind,
     key: &[u8],
 ) -> Result<Looked, NoMemory>
-    ensures { IfOk result (λ looked. looked ≡ service_answer content.now (record { kind = kind; key = key.now }) Local) }
+    ensures { IfOk result (λ looked. looked ≡ service_answer content.now (record { kind = kind; key = key.now }) Files) }
 {
     let file = match Db::of(kind) {
         Db::Passwd => FileId::Passwd,

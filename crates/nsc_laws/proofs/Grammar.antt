@@ -1,6 +1,9 @@
 -- What the items of a service list write is read token by token.
 use Rattle.std.proofs.Common.{◌≡◌, ℕ, Bool, true, false, List, [], ◌∷◌, ◌++◌, Some, refl, ◌∙◌, ap, append_assoc}
-use Rattle.nsc_model.specs.Services.{SwitchAction, SwitchStep, Other, plain_step}
+use Rattle.nsc_model.specs.declared.switch.SwitchService.TheVariants.{Other}
+use Rattle.nsc_model.specs.declared.switch.SwitchAction.{SwitchAction}
+use Rattle.nsc_model.specs.declared.switch.SwitchStep.{SwitchStep}
+use Rattle.nsc_model.specs.Services.{plain_step}
 use Rattle.nsc_model.specs.Switches.{AllGaps, Begin, Between, Close, Equals, Equated, First, Gap, Group, Item, Named, Negated, Next, Not, Open, Place, Rest, Rule, Ruled, Service, Spells, Status, Token, Word, Writes, WritesGroup, WritesRule, WritesRules, action_named, at_place, behind_action, behind_status, list_from, negation, onto_steps, ruled, ruled_by, service_of_word, spelled_list, status_named, steps_behind, steps_of, tokens_of}
 
 -- ---- lists end to end

@@ -1,6 +1,9 @@
 -- What is read of a service list token by token is written by items.
 use Rattle.std.proofs.Common.{◌≡◌, ℕ, Bool, true, false, List, [], ◌∷◌, ◌++◌, Option, Some, None, refl, sym, ◌∙◌, ap, subst, append_assoc}
-use Rattle.nsc_model.specs.Services.{SwitchAction, SwitchStep, Other, plain_step}
+use Rattle.nsc_model.specs.declared.switch.SwitchService.TheVariants.{Other}
+use Rattle.nsc_model.specs.declared.switch.SwitchAction.{SwitchAction}
+use Rattle.nsc_model.specs.declared.switch.SwitchStep.{SwitchStep}
+use Rattle.nsc_model.specs.Services.{plain_step}
 use Rattle.nsc_model.specs.Switches.{AllGaps, Begin, Between, Close, Equals, Equated, First, Gap, Group, Item, Named, Negated, Next, Not, Open, Place, Rest, Rule, Ruled, Service, Spells, Status, Token, Word, Writes, WritesGroup, WritesRule, WritesRules, action_named, at_begin, at_between, at_equated, at_first, at_named, at_negated, at_next, at_place, at_ruled, behind_action, behind_status, list_from, negation, onto_steps, ruled, ruled_by, service_of_word, spelled_list, status_named, steps_behind, steps_of, tokens_of}
 use Rattle.nsc_laws.proofs.Grammar.{three, reads, rule-append}
 

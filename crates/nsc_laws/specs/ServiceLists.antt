@@ -1,17 +1,18 @@
 -- The service lists of a text of nsswitch.conf(5), in the words of its grammar.
 use Rattle.std.specs.Prelude.{◌≡◌, ◌⊎◌, ℕ, List, Option, Some, None}
-use Rattle.nsc_model.specs.Services.{SwitchStep}
-use Rattle.nsc_model.specs.Switches.{ListName, Spells, default_list, first_line}
+use Rattle.nsc_model.specs.declared.switch.DbName.{DbName}
+use Rattle.nsc_model.specs.declared.switch.SwitchStep.{SwitchStep}
+use Rattle.nsc_model.specs.Switches.{Spells, default_list, first_line}
 
 abbrev pub SpellsNone : List ℕ → Type 0
 SpellsNone line = (steps : List SwitchStep) → Spells line steps → ⊥
 
 -- the first line of a list spells these steps, item by item; where it spells none, or there is no such line, they are the
 -- default ones
-abbrev pub LineGives : ListName → Option (List ℕ) → List SwitchStep → Type 0
+abbrev pub LineGives : DbName → Option (List ℕ) → List SwitchStep → Type 0
 LineGives name None steps = steps ≡ default_list name
 LineGives name (Some line) steps = Spells line steps ⊎ (SpellsNone line × (steps ≡ default_list name))
 
 -- the text gives the list of this name
-abbrev pub Gives : List ℕ → ListName → List SwitchStep → Type 0
+abbrev pub Gives : List ℕ → DbName → List SwitchStep → Type 0
 Gives text name steps = LineGives name (first_line name text) steps

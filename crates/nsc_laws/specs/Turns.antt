@@ -1,7 +1,11 @@
 -- Where a switch over services ends, nsswitch.conf(5).
 use Rattle.std.specs.Prelude.{◌≡◌, ◌≢◌, ◌⊎◌, List, [], ◌∷◌, ◌++◌, All}
 use Rattle.nsc_model.specs.declared.row.Looked.{Looked}
-use Rattle.nsc_model.specs.Services.{SwitchService, SwitchAction, Continue, SwitchStep, action_at}
+use Rattle.nsc_model.specs.declared.switch.SwitchService.{SwitchService}
+use Rattle.nsc_model.specs.declared.switch.SwitchAction.{SwitchAction}
+use Rattle.nsc_model.specs.declared.switch.SwitchAction.TheVariants.{Continue}
+use Rattle.nsc_model.specs.declared.switch.SwitchStep.{SwitchStep}
+use Rattle.nsc_model.specs.Services.{action_at}
 use Rattle.nsc_model.specs.Answers.{switched}
 
 -- what a step does at the status of its service

@@ -27,7 +27,10 @@ use Rattle.nsc_model.specs.Users.{user_of_line}
 use Rattle.nsc_model.specs.Groups.{group_of_line, has_member}
 use Rattle.nsc_model.specs.Hosts.{family_once, host_addressed, host_has_name, host_named, host_of_line, ipv4, ipv6}
 use Rattle.nsc_model.specs.ServiceLines.{ServiceKey, exchanged, port_of, service_key, service_named, service_of_line, service_ported}
-use Rattle.nsc_model.specs.Services.{SwitchService, Local, Compat, Extrausers, Other, SwitchStep, action_at, ends}
+use Rattle.nsc_model.specs.declared.switch.SwitchService.{SwitchService}
+use Rattle.nsc_model.specs.declared.switch.SwitchService.TheVariants as service
+use Rattle.nsc_model.specs.declared.switch.SwitchStep.{SwitchStep}
+use Rattle.nsc_model.specs.Services.{action_at, ends}
 use Rattle.nsc_model.specs.Switches.{compat_list, service_list}
 use Rattle.nsc_model.specs.Compat.{IdScan, Scan, gathered, replaced_user, scanned_file}
 
@@ -137,10 +140,10 @@ extra_file db.Services files = None
 
 -- the outcome of a service of a compat list: `compat` within it is unavailable, as is what is not built in
 abbrev pub sub_answer : Files → Request → SwitchService → Looked
-sub_answer files request Local = file_answer (own_file (database_of request.kind) files) request
-sub_answer files request Compat = Unavail
-sub_answer files request Extrausers = file_answer (extra_file (database_of request.kind) files) request
-sub_answer files request Other = Unavail
+sub_answer files request service.Files = file_answer (own_file (database_of request.kind) files) request
+sub_answer files request service.Compat = Unavail
+sub_answer files request service.Extrausers = file_answer (extra_file (database_of request.kind) files) request
+sub_answer files request service.Other = Unavail
 
 -- the services in turn, each with its outcome: the first one whose action at its status is to return ends the switch, and
 -- so does the last one
@@ -190,7 +193,7 @@ group_scan files by key names = record {
 
 -- the service whose outcome a switch takes
 abbrev pub deciding : (SwitchService → Looked) → List SwitchStep → SwitchService
-deciding look [] = Other
+deciding look [] = service.Other
 deciding look (step ∷ []) = step.service
 deciding look (step ∷ next ∷ steps) = if ends (action_at step (look step.service)) then step.service else deciding look (next ∷ steps)
 
@@ -200,10 +203,10 @@ pairs_of user None = []
 pairs_of user (Some file) = map (λ g. (g.name, g.gid)) (named_in group_of_line (has_member user) file)
 
 abbrev pub service_pairs : Files → List ℕ → SwitchService → List (List ℕ × ℕ)
-service_pairs files user Local = pairs_of user files.group
-service_pairs files user Compat = []
-service_pairs files user Extrausers = pairs_of user files.extra_group
-service_pairs files user Other = []
+service_pairs files user service.Files = pairs_of user files.group
+service_pairs files user service.Compat = []
+service_pairs files user service.Extrausers = pairs_of user files.extra_group
+service_pairs files user service.Other = []
 
 -- those of the service whose outcome the compat list takes; where that found none, there are none
 abbrev pub named_groups : Files → List ℕ → List (List ℕ × ℕ)
@@ -243,10 +246,10 @@ compat_answer files request = compat_by request.kind files request.key
 
 -- the outcome of a service
 abbrev pub service_answer : Files → Request → SwitchService → Looked
-service_answer files request Local = sub_answer files request Local
-service_answer files request Compat = compat_answer files request
-service_answer files request Extrausers = sub_answer files request Extrausers
-service_answer files request Other = Unavail
+service_answer files request service.Files = sub_answer files request service.Files
+service_answer files request service.Compat = compat_answer files request
+service_answer files request service.Extrausers = sub_answer files request service.Extrausers
+service_answer files request service.Other = Unavail
 
 -- what an outcome is on the wire: the found reply, or else the not-found header with its mark
 abbrev pub marked : Kind → Looked → Marked

@@ -1,27 +1,11 @@
 -- The services of a list of nsswitch.conf(5), and what it does at each status.
 use Rattle.std.specs.Prelude.{Bool, true, false}
+use Rattle.nsc_model.specs.declared.switch.SwitchService.{SwitchService}
+use Rattle.nsc_model.specs.declared.switch.SwitchAction.{SwitchAction}
+use Rattle.nsc_model.specs.declared.switch.SwitchAction.TheVariants.{Return, Continue, Merge}
+use Rattle.nsc_model.specs.declared.switch.SwitchStep.{SwitchStep}
 use Rattle.nsc_model.specs.declared.row.Looked.{Looked}
 use Rattle.nsc_model.specs.declared.row.Looked.TheVariants.{Found, NotFound, Unavail}
-
--- the services that are built in, and every other one
-pub data SwitchService : Type 0 where
-  Local : SwitchService
-  Compat : SwitchService
-  Extrausers : SwitchService
-  Other : SwitchService
-
-pub data SwitchAction : Type 0 where
-  Return : SwitchAction
-  Continue : SwitchAction
-  Merge : SwitchAction
-
--- a service of a list, with what to do at each status
-pub record SwitchStep : Type 0 where
-  pub service : SwitchService
-  pub success : SwitchAction
-  pub notfound : SwitchAction
-  pub unavail : SwitchAction
-  pub tryagain : SwitchAction
 
 -- a service without rules: SUCCESS returns, and the other statuses continue
 abbrev pub plain_step : SwitchService → SwitchStep

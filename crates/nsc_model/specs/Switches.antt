@@ -9,26 +9,25 @@ use Rattle.nsc_model.specs.declared.kind.Db.TheVariants as db
 use Rattle.nsc_model.specs.Files.{Files}
 use Rattle.nsc_model.specs.Entries.{first_of}
 use Rattle.nsc_model.specs.Users.{◌>>=◌, trimmed}
-use Rattle.nsc_model.specs.Services.{SwitchService, Local, Compat, Extrausers, Other, SwitchAction, Return, Continue, Merge, SwitchStep, plain_step}
+use Rattle.nsc_model.specs.declared.switch.DbName.{DbName}
+use Rattle.nsc_model.specs.declared.switch.DbName.TheVariants as list
+use Rattle.nsc_model.specs.declared.switch.SwitchService.{SwitchService}
+use Rattle.nsc_model.specs.declared.switch.SwitchService.TheVariants as service
+use Rattle.nsc_model.specs.declared.switch.SwitchAction.{SwitchAction}
+use Rattle.nsc_model.specs.declared.switch.SwitchAction.TheVariants.{Return, Continue, Merge}
+use Rattle.nsc_model.specs.declared.switch.SwitchStep.{SwitchStep}
+use Rattle.nsc_model.specs.Services.{plain_step}
 
 -- ---- lines
 
--- the lists: of each database, and those that the compat lines of users and groups ask
-pub data ListName : Type 0 where
-  Users : ListName
-  Groups : ListName
-  Hosts : ListName
-  Services : ListName
-  UsersCompat : ListName
-  GroupsCompat : ListName
-
-abbrev pub name_text : ListName → List ℕ
-name_text Users = codes "passwd"
-name_text Groups = codes "group"
-name_text Hosts = codes "hosts"
-name_text Services = codes "services"
-name_text UsersCompat = codes "passwd_compat"
-name_text GroupsCompat = codes "group_compat"
+-- the word that begins a line of a list
+abbrev pub name_text : DbName → List ℕ
+name_text list.Passwd = codes "passwd"
+name_text list.Group = codes "group"
+name_text list.Hosts = codes "hosts"
+name_text list.Services = codes "services"
+name_text list.PasswdCompat = codes "passwd_compat"
+name_text list.GroupCompat = codes "group_compat"
 
 -- what stands behind a text that bytes begin with
 abbrev pub behind_text : List ℕ → List ℕ → Option (List ℕ)
@@ -41,11 +40,11 @@ behind_colon [] = None
 behind_colon (b ∷ bytes) = if b == 58 then Some bytes else None
 
 -- what stands behind the name and the colon of a line of this list, white space around the name aside
-abbrev pub own_part : ListName → List ℕ → Option (List ℕ)
+abbrev pub own_part : DbName → List ℕ → Option (List ℕ)
 own_part name line = behind_text (name_text name) (trimmed (before_remark line)) >>= λ rest. behind_colon (trimmed rest)
 
 -- the first line of a list counts alone
-abbrev pub first_line : ListName → List ℕ → Option (List ℕ)
+abbrev pub first_line : DbName → List ℕ → Option (List ℕ)
 first_line name text = first_of (filter_map (own_part name) (lines_of text))
 
 -- ---- tokens
@@ -89,9 +88,9 @@ tokens_of (b ∷ bytes) = put_token (mark_of b) b (tokens_of bytes)
 
 abbrev pub service_of_word : List ℕ → SwitchService
 service_of_word word =
-    if bytes_eq word (codes "files") then Local else (
-    if bytes_eq word (codes "compat") then Compat else (
-    if bytes_eq word (codes "extrausers") then Extrausers else Other))
+    if bytes_eq word (codes "files") then service.Files else (
+    if bytes_eq word (codes "compat") then service.Compat else (
+    if bytes_eq word (codes "extrausers") then service.Extrausers else service.Other))
 
 pub data Status : Type 0 where
   OnSuccess : Status
@@ -334,25 +333,22 @@ list_from place step (token ∷ tokens) = at_place place token step (λ next now
 
 -- the steps that a text spells, where it spells any
 abbrev pub spelled_list : List ℕ → Option (List SwitchStep)
-spelled_list text = list_from First (plain_step Other) (tokens_of text)
+spelled_list text = list_from First (plain_step service.Other) (tokens_of text)
 
 -- ---- lists of a content
 
 -- a list that no line spells: `files`, and for compat lines the service nis
-abbrev pub default_list : ListName → List SwitchStep
-default_list Users = plain_step Local ∷ []
-default_list Groups = plain_step Local ∷ []
-default_list Hosts = plain_step Local ∷ []
-default_list Services = plain_step Local ∷ []
-default_list UsersCompat = plain_step Other ∷ []
-default_list GroupsCompat = plain_step Other ∷ []
+abbrev pub default_list : DbName → List SwitchStep
+default_list list.PasswdCompat = plain_step service.Other ∷ []
+default_list list.GroupCompat = plain_step service.Other ∷ []
+default_list _ = plain_step service.Files ∷ []
 
 abbrev pub list_or : List SwitchStep → Option (List SwitchStep) → List SwitchStep
 list_or other None = other
 list_or other (Some steps) = steps
 
 -- the list of a name: what its first line spells; the default one where there is no such line, or it spells nothing
-abbrev pub list_of : List ℕ → ListName → List SwitchStep
+abbrev pub list_of : List ℕ → DbName → List SwitchStep
 list_of text name = list_or (default_list name) (first_line name text >>= spelled_list)
 
 -- an absent file is like an empty one
@@ -360,22 +356,20 @@ abbrev pub text_of : Option (List ℕ) → List ℕ
 text_of None = []
 text_of (Some bytes) = bytes
 
-abbrev pub list_name : Db → ListName
-list_name db.Passwd = Users
-list_name db.Group = Groups
-list_name db.Hosts = Hosts
-list_name db.Services = Services
+abbrev pub list_name : Db → DbName
+list_name db.Passwd = list.Passwd
+list_name db.Group = list.Group
+list_name db.Hosts = list.Hosts
+list_name db.Services = list.Services
 
 -- the service list of a database over a content
 unfoldable pub service_list : Files → Db → List SwitchStep
 service_list files db = list_of (text_of files.switch) (list_name db)
 
 -- the list that compat lines ask; hosts and services have no compat, so any will do for them
-abbrev pub compat_name : Db → ListName
-compat_name db.Passwd = UsersCompat
-compat_name db.Group = GroupsCompat
-compat_name db.Hosts = UsersCompat
-compat_name db.Services = UsersCompat
+abbrev pub compat_name : Db → DbName
+compat_name db.Group = list.GroupCompat
+compat_name _ = list.PasswdCompat
 
 unfoldable pub compat_list : Files → Db → List SwitchStep
 compat_list files db = list_of (text_of files.switch) (compat_name db)

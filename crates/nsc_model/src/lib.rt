@@ -9,6 +9,7 @@ mod content;
 mod kind;
 mod record;
 mod row;
+mod switch;
 
 pub use answer::{Answer, Request};
 pub use answerer::Answerer;
@@ -16,3 +17,4 @@ pub use content::Content;
 pub use kind::{Db, FileId, Kind};
 pub use record::{Ending, Entry, Record};
 pub use row::{Ai, Found6, Founds, Group, Host, Looked, Passwd, Reply, Row, Service};
+pub use switch::{DbName, SwitchAction, SwitchService, SwitchStep};

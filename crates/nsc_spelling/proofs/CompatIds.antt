@@ -12,7 +12,8 @@ use Rattle.nsc_model.specs.Answers.{answer_by, deciding, found_or_unavail, gathe
 use Rattle.nsc_model.specs.Compat.{IdScan, before_ids, gather_line, gathered, id_of_group, ids_of_pairs, is_excluded}
 use Rattle.nsc_model.specs.Files.{Files, FilesFit, file_limit}
 use Rattle.nsc_model.specs.Groups.{group_of_line, has_member}
-use Rattle.nsc_model.specs.Services.{SwitchService, Local, Compat, Extrausers, Other}
+use Rattle.nsc_model.specs.declared.switch.SwitchService.{SwitchService}
+use Rattle.nsc_model.specs.declared.switch.SwitchService.TheVariants as service
 use Rattle.nsc_model.specs.Switches.{compat_list}
 use Rattle.nsc_spelling.proofs.Accounts.{IsSentGroup}
 use Rattle.nsc_spelling.proofs.Entries.{entries_few, entries_in, file_keeps}
@@ -58,19 +59,19 @@ file_pairs P user (Some file) all =
 
 module _ (P : ℕ → Type 0) (files : Files) (own : AllByRecursion (λ g. P g.gid) (entries_in group_of_line files.group)) (extra : AllByRecursion (λ g. P g.gid) (entries_in group_of_line files.extra_group)) (user : List ℕ) where
   service_finds : (name : List ℕ) (service : SwitchService) → IfSome (group_in (sub_answer files (record { kind = GrName; key = name }) service)) (λ g. P g.gid)
-  service_finds name Local = name_finds P name files.group own
-  service_finds name Compat = tt
-  service_finds name Extrausers = name_finds P name files.extra_group extra
-  service_finds name Other = tt
+  service_finds name service.Files = name_finds P name files.group own
+  service_finds name service.Compat = tt
+  service_finds name service.Extrausers = name_finds P name files.extra_group extra
+  service_finds name service.Other = tt
 
   named : (name : List ℕ) → IfSome ((id_scan files user).by_name name) (λ g. P g.gid)
   named name = switched_keeps (λ looked. IfSome (group_in looked) (λ g. P g.gid)) (sub_answer files (record { kind = GrName; key = name })) tt (service_finds name) (compat_list files db.Group)
 
   pairs_by : (service : SwitchService) → AllByRecursion (λ p. P p.1) (service_pairs files user service)
-  pairs_by Local = file_pairs P user files.group own
-  pairs_by Compat = tt
-  pairs_by Extrausers = file_pairs P user files.extra_group extra
-  pairs_by Other = tt
+  pairs_by service.Files = file_pairs P user files.group own
+  pairs_by service.Compat = tt
+  pairs_by service.Extrausers = file_pairs P user files.extra_group extra
+  pairs_by service.Other = tt
 
   pairs : AllByRecursion (λ p. P p.1) (named_groups files user)
   pairs = pairs_by (deciding (sub_answer files (record { kind = InitGroups; key = user })) (compat_list files db.Group))

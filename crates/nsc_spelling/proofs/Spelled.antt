@@ -12,7 +12,8 @@ use Rattle.nsc_model.specs.Files.{Files, FilesFit}
 use Rattle.nsc_model.specs.Kinds.{database_of}
 use Rattle.nsc_model.specs.Marked.{reply_limit}
 use Rattle.nsc_model.specs.Outcomes.{reply_to}
-use Rattle.nsc_model.specs.Services.{SwitchService, Local, Compat, Extrausers, Other}
+use Rattle.nsc_model.specs.declared.switch.SwitchService.{SwitchService}
+use Rattle.nsc_model.specs.declared.switch.SwitchService.TheVariants as service
 use Rattle.nsc_model.specs.Switches.{service_list}
 use Rattle.nsc_model.specs.Wire.{Spells}
 use Rattle.nsc_spelling.proofs.CompatEntries.{groups_sent, users_sent}
@@ -30,10 +31,10 @@ compat_sent by files key fit = any_sent by Unavail (none_sent by)
 
 service_sent : (files : Files) (request : Request) → FilesFit files → (service : SwitchService) → IsSent reply_limit request.kind (service_answer files request service)
 unfolding compat_answer
-service_sent files request fit Local = any_sent request.kind (sub_answer files request Local) (sub_sent files request fit Local)
-service_sent files request fit Compat = compat_sent request.kind files request.key fit
-service_sent files request fit Extrausers = any_sent request.kind (sub_answer files request Extrausers) (sub_sent files request fit Extrausers)
-service_sent files request fit Other = any_sent request.kind Unavail (none_sent request.kind)
+service_sent files request fit service.Files = any_sent request.kind (sub_answer files request service.Files) (sub_sent files request fit service.Files)
+service_sent files request fit service.Compat = compat_sent request.kind files request.key fit
+service_sent files request fit service.Extrausers = any_sent request.kind (sub_answer files request service.Extrausers) (sub_sent files request fit service.Extrausers)
+service_sent files request fit service.Other = any_sent request.kind Unavail (none_sent request.kind)
 
 outcome_sent : (files : Files) (request : Request) → FilesFit files → IsSent reply_limit request.kind (looked_up files request)
 outcome_sent files request fit =

@@ -9,7 +9,10 @@ use Rattle.nsc_model.specs.declared.row.Looked.TheVariants.{Unavail}
 use Rattle.nsc_model.specs.Answers.{extra_file, own_file, sub_answer, sub_looked, switched}
 use Rattle.nsc_model.specs.Files.{FileFits, Files, FilesFit}
 use Rattle.nsc_model.specs.Kinds.{database_of}
-use Rattle.nsc_model.specs.Services.{SwitchService, Local, Compat, Extrausers, Other, SwitchStep, action_at, ends}
+use Rattle.nsc_model.specs.declared.switch.SwitchService.{SwitchService}
+use Rattle.nsc_model.specs.declared.switch.SwitchService.TheVariants as service
+use Rattle.nsc_model.specs.declared.switch.SwitchStep.{SwitchStep}
+use Rattle.nsc_model.specs.Services.{action_at, ends}
 use Rattle.nsc_model.specs.Switches.{compat_list}
 use Rattle.nsc_spelling.proofs.FileAnswers.{file_sent}
 use Rattle.nsc_spelling.proofs.Sent.{IsSent, entry_limit, none_sent}
@@ -36,10 +39,10 @@ extra_fits files db.Hosts fit = tt
 extra_fits files db.Services fit = tt
 
 pub sub_sent : (files : Files) (request : Request) → FilesFit files → (service : SwitchService) → IsSent entry_limit request.kind (sub_answer files request service)
-sub_sent files request fit Local = file_sent request.kind (own_file (database_of request.kind) files) request.key (own_fits files (database_of request.kind) fit)
-sub_sent files request fit Compat = none_sent request.kind
-sub_sent files request fit Extrausers = file_sent request.kind (extra_file (database_of request.kind) files) request.key (extra_fits files (database_of request.kind) fit)
-sub_sent files request fit Other = none_sent request.kind
+sub_sent files request fit service.Files = file_sent request.kind (own_file (database_of request.kind) files) request.key (own_fits files (database_of request.kind) fit)
+sub_sent files request fit service.Compat = none_sent request.kind
+sub_sent files request fit service.Extrausers = file_sent request.kind (extra_file (database_of request.kind) files) request.key (extra_fits files (database_of request.kind) fit)
+sub_sent files request fit service.Other = none_sent request.kind
 
 -- the services that compat lines ask
 pub sub_looked_sent : (files : Files) (d : Db) (kind : Kind) (key : List ℕ) → FilesFit files → IsSent entry_limit kind (sub_looked files d kind key)

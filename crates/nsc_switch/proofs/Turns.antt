@@ -3,10 +3,11 @@ use Rattle.std.proofs.Common.{◌≡◌, ℕ, ◌+◌, ◌<◌, ◌≤◌, Bool,
 use Rattle.std.proofs.lemmas.List.{at_drop_all, at_drop_more}
 use Rattle.nsc_model.specs.declared.row.Looked.{Looked}
 use Rattle.nsc_model.specs.declared.row.Looked.TheVariants.{Unavail}
-use Rattle.nsc_model.specs.Services.{SwitchService, Other, SwitchStep, action_at, ends}
+use Rattle.nsc_model.specs.declared.switch.SwitchService.{SwitchService}
+use Rattle.nsc_model.specs.declared.switch.SwitchService.TheVariants.{Other}
+use Rattle.nsc_model.specs.declared.switch.SwitchStep.{SwitchStep}
+use Rattle.nsc_model.specs.Services.{action_at, ends}
 use Rattle.nsc_model.specs.Answers.{deciding, switched}
-use Rattle.nsc_switchconf.specs.declared.step.Step.{Step}
-use Rattle.nsc_switchconf.specs.Steps.{service_of, step_of, steps_of}
 
 -- steps up to the first at which the switch ends, with what stands for the last step that was asked
 abbrev pub picked : {X : Type 0} → (SwitchStep → Bool) → (SwitchStep → X) → X → List SwitchStep → X
@@ -40,30 +41,30 @@ deciding_picks look [] = refl
 deciding_picks look (step ∷ steps) = service_from look Other step steps
 
 -- where no step is left, what stands for the last is what is picked
-pub all_asked : {X : Type 0} (last : SwitchStep → Bool) (value : SwitchStep → X) (first now all : X) (steps : List Step) (n : ℕ) → length steps ≤ n → picked last value now (steps_of (drop n steps)) ≡ picked last value first (steps_of steps) → picked last value first (steps_of steps) ≡ all → now ≡ all
-all_asked last value first now all steps n le e is = sym (at_drop_all (λ left. picked last value now (steps_of left)) steps n le) ∙ (e ∙ is)
+pub all_asked : {X : Type 0} (last : SwitchStep → Bool) (value : SwitchStep → X) (first now all : X) (steps : List SwitchStep) (n : ℕ) → length steps ≤ n → picked last value now (drop n steps) ≡ picked last value first steps → picked last value first steps ≡ all → now ≡ all
+all_asked last value first now all steps n le e is = sym (at_drop_all (λ left. picked last value now left) steps n le) ∙ (e ∙ is)
 
 -- at a step at which the switch ends, it is that step's
-ends_here : {X : Type 0} (last : SwitchStep → Bool) (value : SwitchStep → X) (first now all : X) (steps : List Step) (n : ℕ) (none : Step) → n < length steps → picked last value now (steps_of (drop n steps)) ≡ picked last value first (steps_of steps)
-    → last (step_of (get_or steps n none)) ≡ true → picked last value first (steps_of steps) ≡ all → value (step_of (get_or steps n none)) ≡ all
+ends_here : {X : Type 0} (last : SwitchStep → Bool) (value : SwitchStep → X) (first now all : X) (steps : List SwitchStep) (n : ℕ) (none : SwitchStep) → n < length steps → picked last value now (drop n steps) ≡ picked last value first steps
+    → last (get_or steps n none) ≡ true → picked last value first steps ≡ all → value (get_or steps n none) ≡ all
 ends_here last value first now all steps n none lt e end is =
-    let step = step_of (get_or steps n none) in
-    let rest = steps_of (drop (n + 1) steps) in
+    let step = get_or steps n none in
+    let rest = drop (n + 1) steps in
     let here : (if last step then value step else picked last value (value step) rest) ≡ value step = rw end refl in
-    sym here ∙ (sym (at_drop_more (λ left. picked last value now (steps_of left)) steps n none lt) ∙ (e ∙ is))
+    sym here ∙ (sym (at_drop_more (λ left. picked last value now left) steps n none lt) ∙ (e ∙ is))
 
 -- and at another one the switch goes on
-pub goes_on : {X : Type 0} (last : SwitchStep → Bool) (value : SwitchStep → X) (first now : X) (steps : List Step) (n : ℕ) (none : Step) → n < length steps → picked last value now (steps_of (drop n steps)) ≡ picked last value first (steps_of steps)
-    → last (step_of (get_or steps n none)) ≡ false → picked last value (value (step_of (get_or steps n none))) (steps_of (drop (n + 1) steps)) ≡ picked last value first (steps_of steps)
+pub goes_on : {X : Type 0} (last : SwitchStep → Bool) (value : SwitchStep → X) (first now : X) (steps : List SwitchStep) (n : ℕ) (none : SwitchStep) → n < length steps → picked last value now (drop n steps) ≡ picked last value first steps
+    → last (get_or steps n none) ≡ false → picked last value (value (get_or steps n none)) (drop (n + 1) steps) ≡ picked last value first steps
 goes_on last value first now steps n none lt e end =
-    let step = step_of (get_or steps n none) in
-    let rest = steps_of (drop (n + 1) steps) in
+    let step = get_or steps n none in
+    let rest = drop (n + 1) steps in
     let here : (if last step then value step else picked last value (value step) rest) ≡ picked last value (value step) rest = rw end refl in
-    sym here ∙ (sym (at_drop_more (λ left. picked last value now (steps_of left)) steps n none lt) ∙ e)
+    sym here ∙ (sym (at_drop_more (λ left. picked last value now left) steps n none lt) ∙ e)
 
 -- a switch ends at the outcome that was found
-pub looked_ends : {X : Type 0} (look : SwitchService → Looked) (value : SwitchStep → X) (first now all : X) (found : Looked) (steps : List Step) (n : ℕ) (none : Step) → n < length steps
-    → picked (ends_at look) value now (steps_of (drop n steps)) ≡ picked (ends_at look) value first (steps_of steps) → found ≡ look (service_of (get_or steps n none).service) → ends (action_at (step_of (get_or steps n none)) found) ≡ true
-    → picked (ends_at look) value first (steps_of steps) ≡ all → value (step_of (get_or steps n none)) ≡ all
+pub looked_ends : {X : Type 0} (look : SwitchService → Looked) (value : SwitchStep → X) (first now all : X) (found : Looked) (steps : List SwitchStep) (n : ℕ) (none : SwitchStep) → n < length steps
+    → picked (ends_at look) value now (drop n steps) ≡ picked (ends_at look) value first steps → found ≡ look (get_or steps n none).service → ends (action_at (get_or steps n none) found) ≡ true
+    → picked (ends_at look) value first steps ≡ all → value (get_or steps n none) ≡ all
 looked_ends look value first now all found steps n none lt e is end whole =
-    ends_here (ends_at look) value first now all steps n none lt e (subst (λ (f : Looked). ends (action_at (step_of (get_or steps n none)) f) ≡ true) is end) whole
+    ends_here (ends_at look) value first now all steps n none lt e (subst (λ (f : Looked). ends (action_at (get_or steps n none) f) ≡ true) is end) whole

@@ -8,7 +8,6 @@ ghost use Rattle.nsc_model.specs.Groups.{group_of_line, has_member as is_member}
 ghost use Rattle.nsc_model.specs.Entries.{if_named};
 ghost use Rattle.nsc_model.specs.Switches.{compat_list, compat_name};
 ghost use Rattle.nsc_compat.specs.Pairs.{pair_of};
-ghost use Rattle.nsc_switchconf.specs.Steps.{name_of, service_of, steps_of};
 
 use crate::decided::{Outcomes, decide};
 use crate::outcome::switch_text;
@@ -16,8 +15,8 @@ use nsc_accounts::{group_line, has_member};
 use nsc_base::{Bytes, NoMemory, Span, line_at};
 use nsc_compat::{NamedId, SubLookup};
 use nsc_files::{extra_lookup, files_lookup};
-use nsc_model::{Content, Db, FileId, Kind, Looked};
-use nsc_switchconf::{DbName, Service, Step, service_list};
+use nsc_model::{Content, Db, DbName, FileId, Kind, Looked, SwitchService, SwitchStep};
+use nsc_switchconf::service_list;
 use std::alloc::Global;
 
 /// The services of the lists `passwd_compat` and `group_compat`.
@@ -62,29 +61,29 @@ impl<'a> Outcomes for Listed<'a> {
     fn outcome(
         &self,
         alloc: Global,
-        service: Service,
+        service: SwitchService,
         kind: Kind,
         key: &[u8],
     ) -> Result<Looked, NoMemory> {
         match service {
-            Service::Files => files_lookup(alloc, self.content, kind, key),
-            Service::Extrausers => extra_lookup(alloc, self.content, kind, key),
-            Service::Compat | Service::Other => Ok(Looked::Unavail),
+            SwitchService::Files => files_lookup(alloc, self.content, kind, key),
+            SwitchService::Extrausers => extra_lookup(alloc, self.content, kind, key),
+            SwitchService::Compat | SwitchService::Other => Ok(Looked::Unavail),
         }
     }
 }
 
 // The compat list of a database over a content.
 #[tactic(auto, unfolding(nsc_model::specs::Switches::compat_list))]
-fn compat_steps(alloc: Global, content: &Content, db: Db) -> Result<Vec<Step>, NoMemory>
-    ensures { IfOk result (λ list. steps_of list.items ≡ compat_list content.now db) }
+fn compat_steps(alloc: Global, content: &Content, db: Db) -> Result<Vec<SwitchStep>, NoMemory>
+    ensures { IfOk result (λ list. list.items ≡ compat_list content.now db) }
 {
     service_list(alloc, switch_text(content), compat_name(db))
 }
 
 // The name of the compat list of a database. Hosts and services have no compat, so theirs is never asked.
 fn compat_name(db: Db) -> DbName
-    ensures { name_of result ≡ compat_name db }
+    ensures { result ≡ compat_name db }
 {
     match db {
         Db::Group => DbName::GroupCompat,
@@ -96,15 +95,15 @@ fn compat_name(db: Db) -> DbName
 fn groups_by(
     alloc: Global,
     content: &Content,
-    service: Service,
+    service: SwitchService,
     user: &[u8],
 ) -> Result<Vec<NamedId>, NoMemory>
-    ensures { IfOk result (λ groups. map pair_of groups.items ≡ service_pairs content.now user.now (service_of service)) }
+    ensures { IfOk result (λ groups. map pair_of groups.items ≡ service_pairs content.now user.now service) }
 {
     let file = match service {
-        Service::Files => content.file(FileId::Group),
-        Service::Extrausers => content.file(FileId::ExtraGroup),
-        Service::Compat | Service::Other => None,
+        SwitchService::Files => content.file(FileId::Group),
+        SwitchService::Extrausers => content.file(FileId::ExtraGroup),
+        SwitchService::Compat | SwitchService::Other => None,
     };
     match file {
         Some(text) => groups_in(alloc, text, user),

@@ -2,12 +2,11 @@ ghost use Rattle.std.specs.Prelude.{◌≡◌, IfOk};
 ghost use Rattle.nsc_model.specs.declared.answer.Request.{Request};
 ghost use Rattle.nsc_model.specs.declared.row.Looked.{Looked};
 ghost use Rattle.nsc_model.specs.Answers.{deciding, switched};
-ghost use Rattle.nsc_model.specs.Services.{SwitchService, action_at, ends};
-ghost use Rattle.nsc_switchconf.specs.Steps.{action_of, service_of, step_of, steps_of};
+ghost use Rattle.nsc_model.specs.declared.switch.SwitchService.{SwitchService};
+ghost use Rattle.nsc_model.specs.Services.{action_at, ends};
 
 use nsc_base::NoMemory;
-use nsc_model::{Kind, Looked};
-use nsc_switchconf::{Action, Service, Step};
+use nsc_model::{Kind, Looked, SwitchAction, SwitchService, SwitchStep};
 use std::alloc::Global;
 
 /// What each service gives, whichever list it stands in.
@@ -19,17 +18,17 @@ pub(crate) trait Outcomes {
     fn outcome(
         &self,
         alloc: Global,
-        service: Service,
+        service: SwitchService,
         kind: Kind,
         key: &[u8],
     ) -> Result<Looked, NoMemory>
-        ensures { IfOk result (λ looked. looked ≡ outcome self.now (record { kind = kind; key = key.now }) (service_of service)) };
+        ensures { IfOk result (λ looked. looked ≡ outcome self.now (record { kind = kind; key = key.now }) service) };
 }
 
 /// Where a switch ended: the service, and its outcome.
 #[derive(Drop)]
 pub(crate) struct Decided {
-    pub service: Service,
+    pub service: SwitchService,
     pub outcome: Looked,
 }
 
@@ -39,15 +38,15 @@ pub(crate) struct Decided {
 pub(crate) fn decide<O: Outcomes>(
     alloc: Global,
     outcomes: &O,
-    steps: &[Step],
+    steps: &[SwitchStep],
     kind: Kind,
     key: &[u8],
 ) -> Result<Decided, NoMemory>
-    ensures outcome { IfOk result (λ decided. decided.outcome ≡ switched (O.outcome outcomes.now (record { kind = kind; key = key.now })) (steps_of steps.now)) }
-    ensures service { IfOk result (λ decided. service_of decided.service ≡ deciding (O.outcome outcomes.now (record { kind = kind; key = key.now })) (steps_of steps.now)) }
+    ensures outcome { IfOk result (λ decided. decided.outcome ≡ switched (O.outcome outcomes.now (record { kind = kind; key = key.now })) steps.now) }
+    ensures service { IfOk result (λ decided. decided.service ≡ deciding (O.outcome outcomes.now (record { kind = kind; key = key.now })) steps.now) }
 {
     let mut decided = Decided {
-        service: Service::Other,
+        service: SwitchService::Other,
         outcome: Looked::Unavail,
     };
     for step in steps {
@@ -65,8 +64,8 @@ pub(crate) fn decide<O: Outcomes>(
 }
 
 // What a step does at the status of an outcome. No service answers that it may be tried again.
-fn action_of(step: &Step, outcome: &Looked) -> Action
-    ensures { action_of result ≡ action_at (step_of step.now) outcome.now }
+fn action_of(step: &SwitchStep, outcome: &Looked) -> SwitchAction
+    ensures { result ≡ action_at step.now outcome.now }
 {
     match outcome {
         Looked::Found(_) => step.success,
@@ -76,11 +75,11 @@ fn action_of(step: &Step, outcome: &Looked) -> Action
 }
 
 // Whether the switch ends at this action; to merge is to return as long as no outcomes are joined.
-fn is_end(action: Action) -> bool
-    ensures { result ≡ ends (action_of action) }
+fn is_end(action: SwitchAction) -> bool
+    ensures { result ≡ ends action }
 {
     match action {
-        Action::Return | Action::Merge => true,
-        Action::Continue => false,
+        SwitchAction::Return | SwitchAction::Merge => true,
+        SwitchAction::Continue => false,
     }
 }

@@ -3,13 +3,12 @@ ghost use Rattle.nsc_model.specs.Answers.{looked_up, service_answer, switched};
 ghost use Rattle.nsc_model.specs.Files.{FilesFit, file_of};
 ghost use Rattle.nsc_model.specs.Kinds.{database_of};
 ghost use Rattle.nsc_model.specs.Switches.{list_name, service_list, text_of};
-ghost use Rattle.nsc_switchconf.specs.Steps.{name_of, steps_of};
 
 use crate::decided::decide;
 use crate::services::{PlainServices, ServiceLook, Whole};
 use nsc_base::NoMemory;
-use nsc_model::{Content, Db, FileId, Kind, Looked};
-use nsc_switchconf::{DbName, Step, service_list};
+use nsc_model::{Content, Db, DbName, FileId, Kind, Looked, SwitchStep};
+use nsc_switchconf::service_list;
 use std::alloc::Global;
 
 /// The outcome of the switch for the request of this kind and key, over a content: the services that its
@@ -25,8 +24,8 @@ pub fn switch(alloc: Global, content: &Content, kind: Kind, key: &[u8]) -> Resul
 
 // The service list of a database over a content.
 #[tactic(auto, unfolding(nsc_model::specs::Switches::service_list))]
-fn steps_for(alloc: Global, content: &Content, db: Db) -> Result<Vec<Step>, NoMemory>
-    ensures list { IfOk result (λ list. steps_of list.items ≡ service_list content.now db) }
+fn steps_for(alloc: Global, content: &Content, db: Db) -> Result<Vec<SwitchStep>, NoMemory>
+    ensures list { IfOk result (λ list. list.items ≡ service_list content.now db) }
     ensures fits { FilesFit content.now }
 {
     service_list(alloc, switch_text(content), name_of(db))
@@ -45,7 +44,7 @@ pub(crate) fn switch_text(content: &Content) -> &[u8]
 
 // The name of a database's list.
 fn name_of(db: Db) -> DbName
-    ensures { name_of result ≡ list_name db }
+    ensures { result ≡ list_name db }
 {
     match db {
         Db::Passwd => DbName::Passwd,
@@ -61,11 +60,11 @@ fn name_of(db: Db) -> DbName
 pub fn switch_over<V: ServiceLook>(
     alloc: Global,
     services: &V,
-    steps: &[Step],
+    steps: &[SwitchStep],
     kind: Kind,
     key: &[u8],
 ) -> Result<Looked, NoMemory>
-    ensures { IfOk result (λ looked. looked ≡ switched (service_answer (V.content services.now) (record { kind = kind; key = key.now })) (steps_of steps.now)) }
+    ensures { IfOk result (λ looked. looked ≡ switched (service_answer (V.content services.now) (record { kind = kind; key = key.now })) steps.now) }
 {
     let decided = decide(alloc, &Whole { services }, steps, kind, key)?;
     Ok(decided.outcome)

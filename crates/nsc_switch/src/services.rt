@@ -1,15 +1,13 @@
 ghost use Rattle.std.specs.Prelude.{◌≡◌, IfOk};
 ghost use Rattle.nsc_model.specs.Answers.{service_answer};
 ghost use Rattle.nsc_model.specs.Files.{Files};
-ghost use Rattle.nsc_switchconf.specs.Steps.{service_of};
 
 use crate::compat::CompatServices;
 use crate::decided::Outcomes;
 use nsc_base::NoMemory;
 use nsc_compat::compat_lookup;
 use nsc_files::{extra_lookup, files_lookup};
-use nsc_model::{Content, Kind, Looked};
-use nsc_switchconf::Service;
+use nsc_model::{Content, Kind, Looked, SwitchService};
 use std::alloc::Global;
 
 /// The services over one content.
@@ -21,11 +19,11 @@ pub trait ServiceLook {
     fn look(
         &self,
         alloc: Global,
-        service: Service,
+        service: SwitchService,
         kind: Kind,
         key: &[u8],
     ) -> Result<Looked, NoMemory>
-        ensures { IfOk result (λ looked. looked ≡ service_answer (content self.now) (record { kind = kind; key = key.now }) (service_of service)) };
+        ensures { IfOk result (λ looked. looked ≡ service_answer (content self.now) (record { kind = kind; key = key.now }) service) };
 }
 
 /// The services that read a content as it is: each request goes over its files anew.
@@ -41,15 +39,15 @@ impl<'a> ServiceLook for PlainServices<'a> {
     fn look(
         &self,
         alloc: Global,
-        service: Service,
+        service: SwitchService,
         kind: Kind,
         key: &[u8],
     ) -> Result<Looked, NoMemory> {
         match service {
-            Service::Files => files_lookup(alloc, self.content, kind, key),
-            Service::Extrausers => extra_lookup(alloc, self.content, kind, key),
-            Service::Compat => compat_lookup(alloc, self.content, kind, key, &CompatServices),
-            Service::Other => Ok(Looked::Unavail),
+            SwitchService::Files => files_lookup(alloc, self.content, kind, key),
+            SwitchService::Extrausers => extra_lookup(alloc, self.content, kind, key),
+            SwitchService::Compat => compat_lookup(alloc, self.content, kind, key, &CompatServices),
+            SwitchService::Other => Ok(Looked::Unavail),
         }
     }
 }
@@ -66,7 +64,7 @@ impl<'a, V: ServiceLook> Outcomes for Whole<'a, V> {
     fn outcome(
         &self,
         alloc: Global,
-        service: Service,
+        service: SwitchService,
         kind: Kind,
         key: &[u8],
     ) -> Result<Looked, NoMemory> {

@@ -11,7 +11,9 @@ use Rattle.std.proofs.lemmas.Slice.Eq.{strip_prefix_is}
 use Rattle.memchr.specs.Find.{IsFirstByte, is_byte}
 use Rattle.nsc_base.specs.Text.{before_remark, is_white}
 use Rattle.nsc_model.specs.Users.{◌>>=◌, trimmed}
-use Rattle.nsc_model.specs.Switches.{ListName, Users, Groups, Hosts, Services, UsersCompat, GroupsCompat, behind_colon, behind_text, name_text, own_part}
+use Rattle.nsc_model.specs.declared.switch.DbName.{DbName}
+use Rattle.nsc_model.specs.declared.switch.DbName.TheVariants as list
+use Rattle.nsc_model.specs.Switches.{behind_colon, behind_text, name_text, own_part}
 
 -- ---- remarks
 
@@ -103,20 +105,16 @@ behind_colon-remark (b ∷ bytes) =
           ] refl
     ] refl
 
-name_has_none : (name : ListName) → HasNone (name_text name)
-name_has_none Users = refl
-name_has_none Groups = refl
-name_has_none Hosts = refl
-name_has_none Services = refl
-name_has_none UsersCompat = refl
-name_has_none GroupsCompat = refl
+name_has_none : (name : DbName) → HasNone (name_text name)
+name_has_none list.Passwd = refl
+name_has_none _ = refl
 
 behind_name : (o : Option (List ℕ)) → (option_map before_remark o >>= λ rest. behind_colon (trimmed rest)) ≡ option_map before_remark (o >>= λ rest. behind_colon (trimmed rest))
 behind_name None = refl
 behind_name (Some rest) = ap behind_colon (trimmed-remark rest) ∙ behind_colon-remark (trimmed rest)
 
 -- the remark is cut off at the end
-pub own_part-remark : (name : ListName) (line : List ℕ) → own_part name line ≡ option_map before_remark (behind_text (name_text name) (trimmed line) >>= λ rest. behind_colon (trimmed rest))
+pub own_part-remark : (name : DbName) (line : List ℕ) → own_part name line ≡ option_map before_remark (behind_text (name_text name) (trimmed line) >>= λ rest. behind_colon (trimmed rest))
 own_part-remark name line =
     ap (λ bytes. behind_text (name_text name) bytes >>= λ rest. behind_colon (trimmed rest)) (trimmed-remark line)
     ∙ ap (λ o. o >>= λ rest. behind_colon (trimmed rest)) (behind_text-remark (name_text name) (trimmed line) (name_has_none name))
@@ -160,14 +158,14 @@ colon (b ∷ bytes) =
 
 -- ---- the part of a line, as it is read
 
-named : (name : ListName) (line bytes text : List ℕ) (r : Option (Bor (List ℕ))) → bytes ≡ trimmed line → text ≡ name_text name → Strips bytes text r → behind_text (name_text name) (trimmed line) ≡ option_copied r
+named : (name : DbName) (line bytes text : List ℕ) (r : Option (Bor (List ℕ))) → bytes ≡ trimmed line → text ≡ name_text name → Strips bytes text r → behind_text (name_text name) (trimmed line) ≡ option_copied r
 named name line bytes text r is word strips = sym (ap (behind_text (name_text name)) is) ∙ sym (ap (λ t. behind_text t bytes) word) ∙ stripped bytes text r strips
 
-pub unnamed : (name : ListName) (line bytes text : List ℕ) → bytes ≡ trimmed line → text ≡ name_text name → Strips bytes text None → own_part name line ≡ None
+pub unnamed : (name : DbName) (line bytes text : List ℕ) → bytes ≡ trimmed line → text ≡ name_text name → Strips bytes text None → own_part name line ≡ None
 unnamed name line bytes text is word strips =
     own_part-remark name line ∙ ap (λ o. option_map before_remark (o >>= λ rest. behind_colon (trimmed rest))) (named name line bytes text None is word strips)
 
-pub part_is : (name : ListName) (line bytes text : List ℕ) (behind : Bor (List ℕ)) (more : List ℕ) (r : Option (Bor (List ℕ))) → bytes ≡ trimmed line → text ≡ name_text name → Strips bytes text (Some behind) → more ≡ trimmed behind.now → Strips more (58 ∷ []) r → own_part name line ≡ option_map before_remark (option_copied r)
+pub part_is : (name : DbName) (line bytes text : List ℕ) (behind : Bor (List ℕ)) (more : List ℕ) (r : Option (Bor (List ℕ))) → bytes ≡ trimmed line → text ≡ name_text name → Strips bytes text (Some behind) → more ≡ trimmed behind.now → Strips more (58 ∷ []) r → own_part name line ≡ option_map before_remark (option_copied r)
 part_is name line bytes text behind more r is word strips goes ends =
     own_part-remark name line
     ∙ ap (λ o. option_map before_remark (o >>= λ rest. behind_colon (trimmed rest))) (named name line bytes text (Some behind) is word strips)

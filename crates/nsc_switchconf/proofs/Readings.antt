@@ -1,7 +1,7 @@
 -- The reading of a list, token by token: the steps that are done stand before what the rest comes to.
 use Rattle.std.proofs.Common.{◌≡◌, ℕ, List, [], ◌∷◌, ◌++◌, Option, Some, None, refl, sym, ◌∙◌, ap, append_assoc}
 use Rattle.std.specs.Option.{option_map}
-use Rattle.nsc_model.specs.Services.{SwitchStep}
+use Rattle.nsc_model.specs.declared.switch.SwitchStep.{SwitchStep}
 use Rattle.nsc_model.specs.Switches as switches
 use Rattle.nsc_model.specs.Switches.{Rest, Token, at_end, at_place, list_from, onto_steps, tokens_of}
 use Rattle.nsc_switchconf.specs.declared.place.Move.{Move}

@@ -1,9 +1,9 @@
 -- The places of the reading of a service list, and its rules, as those of its grammar.
 use Rattle.std.specs.Prelude.{List, Option, Some, None}
-use Rattle.nsc_model.specs.Services.{SwitchStep, plain_step}
+use Rattle.nsc_model.specs.declared.switch.SwitchStep.{SwitchStep}
+use Rattle.nsc_model.specs.Services.{plain_step}
 use Rattle.nsc_model.specs.Switches as switches
 use Rattle.nsc_model.specs.Switches.{Rest, onto_steps, ruled}
-use Rattle.nsc_switchconf.specs.Steps.{action_of, service_of}
 use Rattle.nsc_switchconf.specs.declared.rule.Status.{Status}
 use Rattle.nsc_switchconf.specs.declared.rule.Status.TheVariants as statuses
 use Rattle.nsc_switchconf.specs.declared.rule.Rule.{Rule}
@@ -19,7 +19,7 @@ status_of statuses.Unavail = switches.OnUnavail
 status_of statuses.TryAgain = switches.OnTryAgain
 
 abbrev pub rule_of : Rule → switches.Rule
-rule_of rule = record { negated = rule.negated; status = status_of rule.status; action = action_of rule.action }
+rule_of rule = record { negated = rule.negated; status = status_of rule.status; action = rule.action }
 
 abbrev pub place_of : Place → switches.Place
 place_of places.First = switches.First
@@ -35,6 +35,6 @@ place_of places.Next = switches.Next
 abbrev pub moved : SwitchStep → Rest → Option Move → Option (List SwitchStep)
 moved step rest None = None
 moved step rest (Some (moves.To place)) = rest (place_of place) step
-moved step rest (Some (moves.First service)) = rest switches.Between (plain_step (service_of service))
-moved step rest (Some (moves.Another service)) = onto_steps step (rest switches.Between (plain_step (service_of service)))
+moved step rest (Some (moves.First service)) = rest switches.Between (plain_step service)
+moved step rest (Some (moves.Another service)) = onto_steps step (rest switches.Between (plain_step service))
 moved step rest (Some (moves.Rule rule)) = rest switches.Ruled (ruled (rule_of rule) step)

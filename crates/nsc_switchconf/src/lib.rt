@@ -6,8 +6,7 @@ mod list;
 mod names;
 mod place;
 mod rule;
-mod step;
 mod token;
 
 pub use list::service_list;
-pub use step::{Action, DbName, Service, Step};
+pub use nsc_model::{DbName, SwitchAction as Action, SwitchService as Service, SwitchStep as Step};

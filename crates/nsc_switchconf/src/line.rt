@@ -3,15 +3,14 @@ ghost use Rattle.std.specs.Option.{option_copied};
 ghost use Rattle.nsc_model.specs.Users.{trimmed};
 ghost use Rattle.nsc_base.specs.Text.{before_remark};
 ghost use Rattle.nsc_model.specs.Switches.{first_line, name_text, own_part};
-ghost use Rattle.nsc_switchconf.specs.Steps.{name_of};
 
-use crate::step::DbName;
 use memchr::memchr;
 use nsc_base::line_at;
+use nsc_model::DbName;
 
 /// What the first line of this list has behind its colon, up to a remark. `None` where the text has no such line.
 pub fn first_part(text: &[u8], name: DbName) -> Option<&[u8]>
-    ensures { option_copied result ≡ first_line (name_of name) text.now }
+    ensures { option_copied result ≡ first_line name text.now }
 {
     let mut from = 0;
     while let Some(line) = line_at(text, from) {
@@ -26,7 +25,7 @@ pub fn first_part(text: &[u8], name: DbName) -> Option<&[u8]>
 // What a line of this list has behind its colon, up to a remark. White space around the name is passed over. `None` where
 // the line is not one of this list.
 fn list_part(line: &[u8], name: DbName) -> Option<&[u8]>
-    ensures { option_copied result ≡ own_part (name_of name) line.now }
+    ensures { option_copied result ≡ own_part name line.now }
 {
     let behind_name = behind_white(line).strip_prefix(name_bytes(name))?;
     let behind_colon = behind_white(behind_name).strip_prefix(b":")?;
@@ -56,7 +55,7 @@ fn up_to_remark(bytes: &[u8]) -> &[u8]
 
 // The word that begins a line of this list.
 fn name_bytes(name: DbName) -> &'static [u8]
-    ensures { result.now ≡ name_text (name_of name) }
+    ensures { result.now ≡ name_text name }
 {
     match name {
         DbName::Passwd => b"passwd",

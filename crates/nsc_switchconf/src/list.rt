@@ -1,20 +1,19 @@
 ghost use Rattle.std.specs.Prelude.{◌≡◌, ◌≤◌, ◌∷◌, [], length, IfOk, IfSome};
 ghost use Rattle.std.specs.Option.{option_map};
 ghost use Rattle.nsc_model.specs.Switches.{default_list, list_of, spelled_list};
-ghost use Rattle.nsc_switchconf.specs.Steps.{name_of, steps_of};
 
 use crate::line::first_part;
 use crate::place::{Move, Place, move_at};
-use crate::step::{DbName, Service, Step};
 use crate::token::next_token;
 use nsc_base::NoMemory;
+use nsc_model::{DbName, SwitchService, SwitchStep};
 use std::alloc::Global;
 
 /// The service list of this name in the text of an nsswitch.conf(5): what the first line of the name spells, and where
 /// there is none, or it breaks the grammar, `files`, or for the compat lists a service that is not built in. An absent
 /// file is passed as the empty text. The list has a step at least. Fails only for want of memory.
-pub fn service_list(alloc: Global, text: &[u8], name: DbName) -> Result<Vec<Step>, NoMemory>
-    ensures list { IfOk result (λ list. steps_of list.items ≡ list_of text.now (name_of name)) }
+pub fn service_list(alloc: Global, text: &[u8], name: DbName) -> Result<Vec<SwitchStep>, NoMemory>
+    ensures list { IfOk result (λ list. list.items ≡ list_of text.now name) }
     ensures some { IfOk result (λ list. 1 ≤ length list.items) }
 {
     if let Some(part) = first_part(text, name)
@@ -28,23 +27,23 @@ pub fn service_list(alloc: Global, text: &[u8], name: DbName) -> Result<Vec<Step
 }
 
 // The one step of the list of a name where no line spells it.
-fn default_step(name: DbName) -> Step
-    ensures { steps_of (result ∷ []) ≡ default_list (name_of name) }
+fn default_step(name: DbName) -> SwitchStep
+    ensures { (result ∷ []) ≡ default_list name }
 {
     match name {
-        DbName::PasswdCompat | DbName::GroupCompat => Step::plain(Service::Other),
-        _ => Step::plain(Service::Files),
+        DbName::PasswdCompat | DbName::GroupCompat => SwitchStep::plain(SwitchService::Other),
+        _ => SwitchStep::plain(SwitchService::Files),
     }
 }
 
 // The list that a text spells. `None` where it breaks the grammar.
-fn spelled(alloc: Global, text: &[u8]) -> Result<Option<Vec<Step>>, NoMemory>
-    ensures list { IfOk result (λ list. option_map (λ v. steps_of v.items) list ≡ spelled_list text.now) }
+fn spelled(alloc: Global, text: &[u8]) -> Result<Option<Vec<SwitchStep>>, NoMemory>
+    ensures list { IfOk result (λ list. option_map (λ v. v.items) list ≡ spelled_list text.now) }
     ensures some { IfOk result (λ list. IfSome list (λ v. 1 ≤ length v.items)) }
 {
     let mut list = Vec::new(alloc);
     let mut place = Place::First;
-    let mut step = Step::plain(Service::Other);
+    let mut step = SwitchStep::plain(SwitchService::Other);
     let mut left = text;
     while let Some((token, rest)) = next_token(left) {
         match move_at(place, token) {
@@ -52,12 +51,12 @@ fn spelled(alloc: Global, text: &[u8]) -> Result<Option<Vec<Step>>, NoMemory>
             Some(Move::To(to)) => place = to,
             Some(Move::First(service)) => {
                 place = Place::Between;
-                step = Step::plain(service);
+                step = SwitchStep::plain(service);
             }
             Some(Move::Another(service)) => {
                 list.push(step)?;
                 place = Place::Between;
-                step = Step::plain(service);
+                step = SwitchStep::plain(service);
             }
             Some(Move::Rule(rule)) => {
                 place = Place::Ruled;

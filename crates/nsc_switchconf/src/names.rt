@@ -1,25 +1,24 @@
 ghost use Rattle.std.specs.Prelude.{◌≡◌};
 ghost use Rattle.std.specs.Option.{option_map};
 ghost use Rattle.nsc_model.specs.Switches.{action_named, service_of_word, status_named};
-ghost use Rattle.nsc_switchconf.specs.Steps.{action_of, service_of};
 ghost use Rattle.nsc_switchconf.specs.Places.{status_of};
 
 use crate::rule::Status;
-use crate::step::{Action, Service};
 use nsc_base::equal;
+use nsc_model::{SwitchAction, SwitchService};
 
 /// The service of this name.
-pub fn service(word: &[u8]) -> Service
-    ensures { service_of result ≡ service_of_word word.now }
+pub fn service(word: &[u8]) -> SwitchService
+    ensures { result ≡ service_of_word word.now }
 {
     if equal(word, b"files") {
-        Service::Files
+        SwitchService::Files
     } else if equal(word, b"compat") {
-        Service::Compat
+        SwitchService::Compat
     } else if equal(word, b"extrausers") {
-        Service::Extrausers
+        SwitchService::Extrausers
     } else {
-        Service::Other
+        SwitchService::Other
     }
 }
 
@@ -41,15 +40,15 @@ pub fn status(word: &[u8]) -> Option<Status>
 }
 
 /// The action of this name, in letters of either case.
-pub fn action(word: &[u8]) -> Option<Action>
-    ensures { option_map action_of result ≡ action_named word.now }
+pub fn action(word: &[u8]) -> Option<SwitchAction>
+    ensures { result ≡ action_named word.now }
 {
     if word.eq_ignore_ascii_case(b"return") {
-        Some(Action::Return)
+        Some(SwitchAction::Return)
     } else if word.eq_ignore_ascii_case(b"continue") {
-        Some(Action::Continue)
+        Some(SwitchAction::Continue)
     } else if word.eq_ignore_ascii_case(b"merge") {
-        Some(Action::Merge)
+        Some(SwitchAction::Merge)
     } else {
         None
     }

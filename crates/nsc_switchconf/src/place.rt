@@ -1,13 +1,13 @@
 ghost use Rattle.std.specs.Prelude.{◌≡◌};
 ghost use Rattle.nsc_model.specs.Switches.{Rest, at_begin, at_between, at_equated, at_first, at_named, at_negated, at_next, at_place, at_ruled};
-ghost use Rattle.nsc_model.specs.Services.{SwitchStep};
+ghost use Rattle.nsc_model.specs.declared.switch.SwitchStep.{SwitchStep};
 ghost use Rattle.nsc_switchconf.specs.Places.{moved, place_of, status_of};
 ghost use Rattle.nsc_switchconf.specs.Tokens.{token_of};
 
 use crate::names;
 use crate::rule::{Rule, Status};
-use crate::step::Service;
 use crate::token::Token;
+use nsc_model::SwitchService;
 
 /// Where the reading of a list stands.
 #[derive(Clone, Copy, Debug)]
@@ -46,9 +46,9 @@ pub enum Move {
     /// The reading goes on at this place.
     To(Place),
     /// The first service begins.
-    First(Service),
+    First(SwitchService),
     /// The step before is done, and a service begins.
-    Another(Service),
+    Another(SwitchService),
     /// A rule applies to the step.
     Rule(Rule),
 }

@@ -1,9 +1,8 @@
 ghost use Rattle.std.specs.Prelude.{◌≡◌};
 ghost use Rattle.nsc_model.specs.Switches.{ruled};
 ghost use Rattle.nsc_switchconf.specs.Places.{rule_of};
-ghost use Rattle.nsc_switchconf.specs.Steps.{step_of};
 
-use crate::step::{Action, Step};
+use nsc_model::{SwitchAction, SwitchStep};
 
 /// What a service may answer.
 #[derive(Clone, Copy, Debug, PartialEq, Eq)]
@@ -26,13 +25,13 @@ pub struct Rule {
     /// The status.
     pub status: Status,
     /// The action.
-    pub action: Action,
+    pub action: SwitchAction,
 }
 
 impl Rule {
     /// The step with this rule, which replaces what was said of its statuses before.
-    pub fn applied_to(self, step: Step) -> Step
-        ensures { step_of result ≡ ruled (rule_of self) (step_of step) }
+    pub fn applied_to(self, step: SwitchStep) -> SwitchStep
+        ensures { result ≡ ruled (rule_of self) step }
     {
         let action_at = |status, before| {
             if (status == self.status) != self.negated {
@@ -41,7 +40,7 @@ impl Rule {
                 before
             }
         };
-        Step {
+        SwitchStep {
             service: step.service,
             success: action_at(Status::Success, step.success),
             notfound: action_at(Status::NotFound, step.notfound),

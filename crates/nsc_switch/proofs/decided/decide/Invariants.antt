@@ -1,7 +1,6 @@
 use Rattle.std.proofs.Common.{◌≡◌, drop}
 use Rattle.nsc_model.specs.declared.row.Looked.TheVariants.{Unavail}
-use Rattle.nsc_model.specs.Services.{Other}
-use Rattle.nsc_switchconf.specs.Steps.{service_of, steps_of}
+use Rattle.nsc_model.specs.declared.switch.SwitchService.TheVariants.{Other}
 use Rattle.nsc_switch.proofs.Turns.{ends_at, picked}
 use Rattle.nsc_switch.proofs.decided.decide.Given as goal
 
@@ -10,6 +9,6 @@ abbrev pub invariant-loop-step : goal.invariant-loop-step
 invariant-loop-step g l =
     let look = g.O.Outcomes.outcome l.outcomes (record { kind = l.kind; key = l.key }) in
     record {
-      decide : picked (ends_at look) (λ s. look s.service) l.decided.outcome (steps_of (drop l.step-index l.steps)) ≡ picked (ends_at look) (λ s. look s.service) Unavail (steps_of l.steps);
-      service : picked (ends_at look) (λ s. s.service) (service_of l.decided.service) (steps_of (drop l.step-index l.steps)) ≡ picked (ends_at look) (λ s. s.service) Other (steps_of l.steps);
+      decide : picked (ends_at look) (λ s. look s.service) l.decided.outcome (drop l.step-index l.steps) ≡ picked (ends_at look) (λ s. look s.service) Unavail l.steps;
+      service : picked (ends_at look) (λ s. s.service) l.decided.service (drop l.step-index l.steps) ≡ picked (ends_at look) (λ s. s.service) Other l.steps;
     }

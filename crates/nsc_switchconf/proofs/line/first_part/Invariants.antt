@@ -1,12 +1,11 @@
 use Rattle.std.proofs.Common.{◌≡◌, ◌≤◌, ◌-◌, length, drop}
 use Rattle.nsc_model.specs.Switches.{first_line}
-use Rattle.nsc_switchconf.specs.Steps.{name_of}
 use Rattle.nsc_switchconf.proofs.line.first_part.Given as goal
 
 abbrev pub invariant-loop-line : goal.invariant-loop-line
 invariant-loop-line l = record {
   inside : l.from ≤ length l.text;
-  left : first_line (name_of l.name) (drop l.from l.text) ≡ first_line (name_of l.name) l.text;
+  left : first_line l.name (drop l.from l.text) ≡ first_line l.name l.text;
 }
 
 abbrev pub decreases-loop-line : goal.decreases-loop-line

@@ -1,6 +1,5 @@
 ghost use Rattle.std.specs.Prelude.{◌≡◌};
 ghost use Rattle.nsc_model.specs.Services.{plain_step};
-ghost use Rattle.nsc_switchconf.specs.Steps.{service_of, step_of};
 
 /// The lists of nsswitch.conf(5): of each database, and those that the compat lines of passwd and group ask.
 #[derive(Clone, Copy, Debug, PartialEq, Eq)]
@@ -21,12 +20,12 @@ pub enum DbName {
 
 /// The services that are built in, and every other one.
 #[derive(Clone, Copy, Debug, PartialEq, Eq)]
-pub enum Service {
+pub enum SwitchService {
     /// `files`: the database's own file.
     Files,
     /// `compat`: lines of passwd and group that begin with `+` or `-`.
     Compat,
-    /// `extrausers`: the extra files of users and groups.
+    /// `extrausers`: the extra files of passwd and group.
     Extrausers,
     /// A service that is not built in, which is unavailable.
     Other,
@@ -34,7 +33,7 @@ pub enum Service {
 
 /// What the switch does at a status of a service.
 #[derive(Clone, Copy, Debug, PartialEq, Eq)]
-pub enum Action {
+pub enum SwitchAction {
     /// It ends with this outcome.
     Return,
     /// It asks the next service.
@@ -45,30 +44,30 @@ pub enum Action {
 
 /// A service of a list, with an action for each status.
 #[derive(Clone, Copy, Debug, PartialEq, Eq)]
-pub struct Step {
+pub struct SwitchStep {
     /// The service.
-    pub service: Service,
+    pub service: SwitchService,
     /// What is done where it found an entry.
-    pub success: Action,
+    pub success: SwitchAction,
     /// What is done where it has no such entry.
-    pub notfound: Action,
+    pub notfound: SwitchAction,
     /// What is done where it cannot be asked.
-    pub unavail: Action,
+    pub unavail: SwitchAction,
     /// What is done where it may answer later.
-    pub tryagain: Action,
+    pub tryagain: SwitchAction,
 }
 
-impl Step {
-    /// A service with no rules.
-    pub(crate) fn plain(service: Service) -> Step
-        ensures { step_of result ≡ plain_step (service_of service) }
+impl SwitchStep {
+    /// A service with no rules: the switch ends where it found an entry, and goes on at every other status.
+    pub fn plain(service: SwitchService) -> SwitchStep
+        ensures { result ≡ plain_step service }
     {
-        Step {
+        SwitchStep {
             service,
-            success: Action::Return,
-            notfound: Action::Continue,
-            unavail: Action::Continue,
-            tryagain: Action::Continue,
+            success: SwitchAction::Return,
+            notfound: SwitchAction::Continue,
+            unavail: SwitchAction::Continue,
+            tryagain: SwitchAction::Continue,
         }
     }
 }
