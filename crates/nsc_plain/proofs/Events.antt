@@ -30,7 +30,7 @@ other_number a b ne = elim (eqb_tells a b) [ inl p ↦ absurd (ne p.1) | inr p �
 abbrev pub bare : Files → ℕ → ℕ → ℕ → Cache
 bare files version epoch ticked = record { sources = files; newest_version = version; entries = []; used = 0; epoch = epoch; inserted = 0; cycle = 0; ticked_version = ticked; add_failed = 0 }
 
--- ---- one part behind another
+-- ---- one part after another
 
 pub passes_behind : (adds : List Record) (r : Result Passed Stopped) (after : Cache) → PassesTo r after → PassesTo (behind adds r) after
 passes_behind adds (Ok passed) after h = h
@@ -217,7 +217,7 @@ tick_unpolled settings reloads now files before after NoMemory on h = inl h
 tick_unpolled settings reloads now files before after (Spent n) on h =
     subst (λ (r : Result Passed Stopped). StopsAt r after n) (sym (tick_runs settings reloads now files before on)) (stops_first (polled files before) (checked settings reloads now) after n h)
 
--- what came behind its poll gave up
+-- what came after its poll gave up
 pub tick_faults : (settings : DbSettings) (reloads : Option ℕ) (now : ℕ) (files : Files) (before mid after : Cache) (fault : PlainFault) → settings.enabled ≡ true → PassesTo (polled files before) mid
     → GivesUpBy (checked settings reloads now mid) mid after fault → FaultsBy (tick settings reloads now files before) files before after fault
 tick_faults settings reloads now files before mid after NoMemory on h k = inr (subst (λ (c : Cache). PassesTo (polled files before) c) (sym k) h)

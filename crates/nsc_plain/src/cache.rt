@@ -134,10 +134,10 @@ impl PlainCache {
         ensures hit { IfOk result (HitsBy (cached self.old.settings (record { kind = kind; key = key.now }) self.old.cache) (record { kind = kind; key = key.now }) self.old.cache self.new.cache) }
         ensures stays { OnErr result (self.new.cache ≡ self.old.cache) }
     {
-        if !self.conf.enabled {
-            return Ok(None);
+        if self.conf.enabled {
+            return self.table.hit(alloc, kind, key);
         }
-        self.table.hit(alloc, kind, key)
+        Ok(None)
     }
 
     // Makes the files the newest version, or confirms it where they are the same; where the cache is known to have polled

@@ -1,4 +1,4 @@
--- What stands behind the first byte of a frame, by that byte.
+-- What stands after the first byte of a frame, by that byte.
 use Rattle.std.proofs.Common.{◌≡◌, ◌≢◌, ℕ, List, [], Option, Ok, refl, sym, subst}
 use Rattle.nsc_model.specs.declared.kind.FileId.{FileId}
 use Rattle.nsc_model.specs.declared.kind.Db.{Db}
@@ -9,7 +9,7 @@ use Rattle.nsc_replay.specs.declared.halt.Halt.TheVariants as halts
 use Rattle.nsc_replay.specs.Reading.{Halts, Gets}
 use Rattle.nsc_replay.proofs.Steps.{Told, nothing, halts_first, gets_made, gets_now, eqb_off}
 
--- a byte that makes a frame of what a parser finds behind it
+-- a byte that makes a frame of what a parser finds after it
 record Makes {A : Type 0} (first : ℕ) (parser : Parser A) (make : A → Frame) : Type 0 where
   same : behind first ≡ made make parser
 

@@ -1,4 +1,4 @@
--- Readers, one behind the other.
+-- Readers, one after the other.
 use Rattle.std.proofs.Common.{◌≡◌, ◌≢◌, ℕ, ◌<◌, Bool, true, false, cond, eqb, List, [], ◌++◌, Option, Some, None, Result, Ok, Err, refl, sym, subst}
 use Rattle.std.proofs.lemmas.Bool.{eqb-true}
 use Rattle.nsc_outside.specs.Stream.{Moves}
@@ -83,7 +83,7 @@ guard_halts b fault p a c halt e h = subst (λ (t : Bool). Halts (guarded t faul
 pub guard_gets : {A : Type 0} (b : Bool) (fault : Fault) (p : Parser A) (a c : Told) (x : A) → b ≡ false → Gets p a c x → Gets (guarded b fault p) a c x
 guard_gets b fault p a c x e h = subst (λ (t : Bool). Gets (guarded t fault p) a c x) (sym e) h
 
--- ---- options behind a number
+-- ---- options after a number
 
 pub cleared_some : (o : Option Db) (a : Told) (db : Db) → o ≡ Some db → Gets (cleared o) a a db
 cleared_some o a db e = subst (λ (x : Option Db). Gets (cleared x) a a db) (sym e) (gets_now a db)

@@ -115,12 +115,12 @@ fn held<R: Source>(alloc: Global, input: &mut R, size: u32) -> Result<Bytes, Hal
 }
 
 // What a file becomes, by the byte that says whether it is present.
-fn marked<R: Source>(alloc: Global, input: &mut R, mark: u8) -> Result<Option<Bytes>, Halt>
-    ensures reads { Reads (λ bytes. bytes) (marked_at mark) (R.left input.old) (R.left input.new) result }
+fn by_presence<R: Source>(alloc: Global, input: &mut R, presence: u8) -> Result<Option<Bytes>, Halt>
+    ensures reads { Reads (λ bytes. bytes) (marked_at presence) (R.left input.old) (R.left input.new) result }
     ensures fits { IfOk result FileFits }
     ensures counts { Counts (R.faults input.old) (R.faults input.new) result }
 {
-    match mark {
+    match presence {
         0 => Ok(None),
         1 => Ok(Some(present(alloc, input)?)),
         _ => Err(Halt::NoFrame),
@@ -133,8 +133,8 @@ fn becomes<R: Source>(alloc: Global, input: &mut R) -> Result<Option<Bytes>, Hal
     ensures fits { IfOk result FileFits }
     ensures counts { Counts (R.faults input.old) (R.faults input.new) result }
 {
-    let mark = byte(input)?;
-    marked(alloc, input, mark)
+    let presence = byte(input)?;
+    by_presence(alloc, input, presence)
 }
 
 // The file of this number, and what it becomes.
