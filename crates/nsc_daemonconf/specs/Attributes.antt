@@ -5,7 +5,8 @@ use Rattle.std.specs.Option.{option_map}
 use Rattle.std.specs.Str.{bytes_eq}
 use Rattle.nsc_base.specs.Decimal.{decimal_of}
 use Rattle.nsc_model.specs.declared.kind.Db.{Db}
-use Rattle.nsc_model.specs.Settings.{DbSettings, Settings}
+use Rattle.nsc_model.specs.declared.conf.Conf.{Conf}
+use Rattle.nsc_model.specs.declared.conf.DbConf.{DbConf}
 use Rattle.nsc_daemonconf.specs.declared.attributes.Attribute.{Attribute}
 use Rattle.nsc_daemonconf.specs.declared.attributes.Attribute.TheVariants as attributes
 use Rattle.nsc_daemonconf.specs.declared.attributes.DbAttribute.{DbAttribute}
@@ -18,7 +19,7 @@ use Rattle.nsc_daemonconf.specs.Lines as lines
 use Rattle.nsc_daemonconf.specs.Lines.{yes_or_no, size_of, reloads_of, no_effect}
 
 -- what a value of an attribute of one database does
-abbrev pub database_sets : DbAttribute → List ℕ → Option (DbSettings → DbSettings)
+abbrev pub database_sets : DbAttribute → List ℕ → Option (DbConf → DbConf)
 database_sets databases.EnableCache w = option_map (λ b s. record s { enabled = b }) (yes_or_no w)
 database_sets databases.PositiveTimeToLive w = option_map (λ n s. record s { positive = n }) (decimal_of w)
 database_sets databases.NegativeTimeToLive w = option_map (λ n s. record s { negative = n }) (decimal_of w)
@@ -30,7 +31,7 @@ database_sets databases.MaxDbSize w = option_map (λ n s. record s { max_size = 
 database_sets databases.AutoPropagate w = option_map (λ b s. record s { propagate = b }) (yes_or_no w)
 
 -- what a value of an attribute of the daemon does
-abbrev pub daemon_sets : DaemonAttribute → List ℕ → Option (Settings → Settings)
+abbrev pub daemon_sets : DaemonAttribute → List ℕ → Option (Conf → Conf)
 daemon_sets daemons.Threads w = option_map (λ n s. record s { threads = n }) (decimal_of w)
 daemon_sets daemons.ReloadCount w = option_map (λ r s. record s { reloads = r }) (reloads_of w)
 daemon_sets daemons.MaxThreads w = no_effect (decimal_of w)

@@ -1,4 +1,3 @@
-pub mod Conf
 pub mod Lines
 pub mod Attributes
 pub mod Sizes

@@ -9,8 +9,9 @@ use Rattle.nsc_base.specs.Text.{before_remark, is_filled, lines_of, words_of}
 use Rattle.nsc_base.specs.Decimal.{decimal_of}
 use Rattle.nsc_model.specs.declared.kind.Db.{Db}
 use Rattle.nsc_model.specs.declared.kind.Db.TheVariants as db
-use Rattle.nsc_model.specs.Settings.{DbSettings, Settings}
-use Rattle.nsc_daemonconf.specs.Conf.{default_settings}
+use Rattle.nsc_model.specs.declared.conf.Conf.{Conf}
+use Rattle.nsc_model.specs.declared.conf.DbConf.{DbConf}
+use Rattle.nsc_model.specs.Settings.{default_settings}
 
 -- ---- values
 
@@ -46,11 +47,11 @@ reloads_of word =
 
 -- what an attribute is about: one database, or all of the daemon; and what a value does, where it is one of the attribute's
 pub data Attribute : Type 0 where
-  OfDatabase : (sets : List ℕ → Option (DbSettings → DbSettings)) → Attribute
-  OfDaemon : (sets : List ℕ → Option (Settings → Settings)) → Attribute
+  OfDatabase : (sets : List ℕ → Option (DbConf → DbConf)) → Attribute
+  OfDaemon : (sets : List ℕ → Option (Conf → Conf)) → Attribute
 
 -- no setting changes
-abbrev pub no_effect : {A : Type 0} → Option A → Option (Settings → Settings)
+abbrev pub no_effect : {A : Type 0} → Option A → Option (Conf → Conf)
 no_effect value = option_map (λ v s. s) value
 
 abbrev pub attribute_named : List ℕ → Option Attribute
@@ -84,7 +85,7 @@ service_named word =
     if bytes_eq word (codes "netgroup") then Some None else None))))
 
 -- the settings with those of one database changed so; a line about netgroups changes nothing
-abbrev pub with_database : Option Db → (DbSettings → DbSettings) → Settings → Settings
+abbrev pub with_database : Option Db → (DbConf → DbConf) → Conf → Conf
 with_database None change s = s
 with_database (Some db.Passwd) change s = record s { passwd = change s.passwd }
 with_database (Some db.Group) change s = record s { group = change s.group }
@@ -110,7 +111,7 @@ abbrev ◌>>=◌ : {A B E : Type 0} → Result A E → (A → Result B E) → Re
 (Ok x) >>= f = f x
 
 -- what an attribute with these words behind it does
-abbrev pub attribute_does : Attribute → List (List ℕ) → Result (Settings → Settings) LineFault
+abbrev pub attribute_does : Attribute → List (List ℕ) → Result (Conf → Conf) LineFault
 attribute_does (OfDatabase sets) (service ∷ value ∷ []) = do
   which ← or_fault BadLine (service_named service)
   change ← or_fault BadValue (sets value)
@@ -120,13 +121,13 @@ attribute_does (OfDatabase sets) _ = Err BadLine
 attribute_does (OfDaemon sets) _ = Err BadLine
 
 -- what the words of a line do; with no word a line does nothing
-abbrev pub words_do : List (List ℕ) → Result (Settings → Settings) LineFault
+abbrev pub words_do : List (List ℕ) → Result (Conf → Conf) LineFault
 words_do [] = Ok (λ s. s)
 words_do (word ∷ words) = do
   attribute ← or_fault UnknownAttribute (attribute_named word)
   attribute_does attribute words
 
-abbrev pub line_does : List ℕ → Result (Settings → Settings) LineFault
+abbrev pub line_does : List ℕ → Result (Conf → Conf) LineFault
 line_does line = words_do (words_of (before_remark line))
 
 -- ---- the whole text
@@ -137,16 +138,16 @@ pub record Refused : Type 0 where
   pub line : ℕ
 
 -- one line behind settings, and then the lines behind it
-abbrev pub then_lines : ℕ → Settings → Result (Settings → Settings) LineFault → (Settings → Result Settings Refused) → Result Settings Refused
+abbrev pub then_lines : ℕ → Conf → Result (Conf → Conf) LineFault → (Conf → Result Conf Refused) → Result Conf Refused
 then_lines n s (Err fault) next = Err (record { fault = fault; line = n })
 then_lines n s (Ok change) next = next (change s)
 
 -- each line in its order, the first of them with this number: a later one replaces an earlier one, and the first that is
 -- refused decides
-abbrev pub conf_from : ℕ → Settings → List (List ℕ) → Result Settings Refused
+abbrev pub conf_from : ℕ → Conf → List (List ℕ) → Result Conf Refused
 conf_from n s [] = Ok s
 conf_from n s (line ∷ lines) = then_lines n s (line_does line) (λ later. conf_from (n + 1) later lines)
 
 -- the settings that a text gives
-abbrev pub conf_of : List ℕ → Result Settings Refused
+abbrev pub conf_of : List ℕ → Result Conf Refused
 conf_of text = conf_from 1 default_settings (lines_of text)

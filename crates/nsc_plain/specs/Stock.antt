@@ -3,7 +3,7 @@ use Rattle.std.specs.Prelude.{ℕ, ◌+◌, Bool, not, ◌&&◌, List, [], ◌�
 use Rattle.nsc_model.specs.declared.answer.Request.{Request}
 use Rattle.nsc_model.specs.Files.{Files}
 use Rattle.nsc_model.specs.Marked.{Marked}
-use Rattle.nsc_model.specs.Settings.{DbSettings}
+use Rattle.nsc_model.specs.declared.conf.DbConf.{DbConf}
 use Rattle.nsc_model.specs.Answers.{answer_of}
 use Rattle.nsc_model.specs.Machine.{Kept, Cache, is_due, is_dropped, next_reloads, life_of, own_refusal, room_of, tried_by}
 
@@ -31,16 +31,16 @@ pub record Fresh : Type 0 where
   pub reloads : ℕ
 
 -- its entry in this cache, over this version
-abbrev pub fresh_entry : DbSettings → ℕ → ℕ → Fresh → Cache → Kept
+abbrev pub fresh_entry : DbConf → ℕ → ℕ → Fresh → Cache → Kept
 fresh_entry settings now version fresh cache =
     record { entry = record { number = cache.inserted; request = fresh.request; version = version; answer = fresh.answer; timeout = now + life_of settings fresh.answer }; reloads = fresh.reloads }
 
 -- the cache once its insertion was tried
-abbrev pub put : DbSettings → ℕ → ℕ → Fresh → Cache → Cache
+abbrev pub put : DbConf → ℕ → ℕ → Fresh → Cache → Cache
 put settings now version fresh cache = let k = fresh_entry settings now version fresh cache in (tried_by (own_refusal (room_of settings) k.entry cache) k cache).cache
 
 -- the cache once all were tried, one after the other
-abbrev pub put_all : DbSettings → ℕ → ℕ → List Fresh → Cache → Cache
+abbrev pub put_all : DbConf → ℕ → ℕ → List Fresh → Cache → Cache
 put_all settings now version [] cache = cache
 put_all settings now version (fresh ∷ others) cache = put_all settings now version others (put settings now version fresh cache)
 

@@ -1,6 +1,5 @@
 ghost use Rattle.std.specs.Prelude.{◌≡◌, ◌≤◌, ◌<◌, ◌+◌, ◌^◌, [], length, min, OnOk, IfErr};
 ghost use Rattle.nsc_model.specs.Machine.{Cache, used_now, due_of, others_of, compacted, compacted_behind, room_of, last_count};
-ghost use Rattle.nsc_daemonconf.specs.Conf.{db_settings};
 ghost use Rattle.nsc_plain.specs.Shelf.{PassesTo, StopsBy};
 ghost use Rattle.nsc_plain.specs.Stock.{over, put, put_all};
 
@@ -81,7 +80,7 @@ impl Table {
     pub fn insert(&mut self, conf: &DbConf, now: u64, version: u64, fresh: Answered)
         requires moment { now < 2 ^ 62 }
         requires memory { length self.old.entries < self.old.capacity }
-        ensures inserted { (cache : Cache) → put (db_settings conf.now) now version fresh (over cache self.old) ≡ over cache self.new }
+        ensures inserted { (cache : Cache) → put conf.now now version fresh (over cache self.old) ≡ over cache self.new }
         ensures capacity { self.old.capacity ≤ self.new.capacity }
         ensures length { length self.new.entries ≤ length self.old.entries + 1 }
     {
@@ -106,7 +105,7 @@ impl Table {
     pub fn insert_all(&mut self, conf: &DbConf, now: u64, version: u64, fresh: Vec<Answered>)
         requires moment { now < 2 ^ 62 }
         requires memory { length self.old.entries + length fresh.items ≤ self.old.capacity }
-        ensures { (cache : Cache) → put_all (db_settings conf.now) now version fresh.items (over cache self.old) ≡ over cache self.new }
+        ensures { (cache : Cache) → put_all conf.now now version fresh.items (over cache self.old) ≡ over cache self.new }
     {
         for one in fresh {
             self.insert(conf, now, version, one);
@@ -153,7 +152,7 @@ impl Table {
 
 // The room of a cache in words.
 fn room_of(conf: &DbConf) -> usize
-    ensures { result ≡ room_of (db_settings conf.now) }
+    ensures { result ≡ room_of conf.now }
 {
     conf.size as usize * 128
 }

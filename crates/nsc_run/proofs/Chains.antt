@@ -4,7 +4,7 @@ use Rattle.std.proofs.lemmas.List.{length-append}
 use Rattle.nsc_outside.specs.Stream.{Grows}
 use Rattle.nsc_outside.proofs.Streams.{Moves-then, Grows-then}
 use Rattle.nsc_model.specs.Frames.{Finish, Done, Bad, Long, Spent}
-use Rattle.nsc_model.specs.Settings.{Settings}
+use Rattle.nsc_model.specs.declared.conf.Conf.{Conf}
 use Rattle.nsc_model.specs.Replay.{State, Replayed, behind_output, replay_from}
 use Rattle.nsc_run.specs.declared.exit.Exit.{Exit}
 use Rattle.nsc_run.specs.declared.exit.Exit.TheVariants as exits
@@ -14,13 +14,13 @@ abbrev Told : Type 0
 Told = Option (List ℕ)
 
 -- what the replay of two parts is, by the replay of the second
-joined : (settings : Settings) (s next : State) (place next_place : ℕ) (before after had got : Told) (a : GoesOn settings s place next next_place before after had got) (xs : List ℕ) (r : Replayed) → replay_from settings next next_place xs ≡ r → replay_from settings s place (a.front ++ xs) ≡ behind_output a.out r
+joined : (settings : Conf) (s next : State) (place next_place : ℕ) (before after had got : Told) (a : GoesOn settings s place next next_place before after had got) (xs : List ℕ) (r : Replayed) → replay_from settings next next_place xs ≡ r → replay_from settings s place (a.front ++ xs) ≡ behind_output a.out r
 joined settings s next place next_place before after had got a xs r e = a.goes xs ∙ ap (behind_output a.out) e
 
-regrouped : (settings : Settings) (s : State) (place : ℕ) (a b more : List ℕ) → replay_from settings s place ((a ++ b) ++ more) ≡ replay_from settings s place (a ++ (b ++ more))
+regrouped : (settings : Conf) (s : State) (place : ℕ) (a b more : List ℕ) → replay_from settings s place ((a ++ b) ++ more) ≡ replay_from settings s place (a ++ (b ++ more))
 regrouped settings s place a b more = ap (λ (bytes : List ℕ). replay_from settings s place bytes) (append_assoc a b more)
 
-then_end : (settings : Settings) (s next : State) (place next_place : ℕ) (before mid after had between got : Told) → GoesOn settings s place next next_place before mid had between → RunsToEnd settings next next_place mid after between got → RunsToEnd settings s place before after had got
+then_end : (settings : Conf) (s next : State) (place next_place : ℕ) (before mid after had between got : Told) → GoesOn settings s place next next_place before mid had between → RunsToEnd settings next next_place mid after between got → RunsToEnd settings s place before after had got
 then_end settings s next place next_place before mid after had between got a b = record {
   front = a.front ++ b.front;
   moved = Moves-then before mid after a.front b.front a.moved b.moved;
@@ -33,7 +33,7 @@ then_end settings s next place next_place before mid after had between got a b =
       ∙ ap (λ p. record { output = a.out ++ b.out; finish = Done p }) len);
 }
 
-then_to : (finish : Finish) (settings : Settings) (s next : State) (place next_place : ℕ) (before mid after had between got : Told) → GoesOn settings s place next next_place before mid had between → RunsTo finish settings next next_place mid after between got → RunsTo finish settings s place before after had got
+then_to : (finish : Finish) (settings : Conf) (s next : State) (place next_place : ℕ) (before mid after had between got : Told) → GoesOn settings s place next next_place before mid had between → RunsTo finish settings next next_place mid after between got → RunsTo finish settings s place before after had got
 then_to finish settings s next place next_place before mid after had between got a b = record {
   front = a.front ++ b.front;
   moved = Moves-then before mid after a.front b.front a.moved b.moved;
@@ -45,17 +45,17 @@ then_to finish settings s next place next_place before mid after had between got
   ];
 }
 
-output_joined : (settings : Settings) (s next : State) (place next_place : ℕ) (before after had got : Told) (a : GoesOn settings s place next next_place before after had got) (xs : List ℕ) → (replay_from settings s place (a.front ++ xs)).output ≡ a.out ++ (replay_from settings next next_place xs).output
+output_joined : (settings : Conf) (s next : State) (place next_place : ℕ) (before after had got : Told) (a : GoesOn settings s place next next_place before after had got) (xs : List ℕ) → (replay_from settings s place (a.front ++ xs)).output ≡ a.out ++ (replay_from settings next next_place xs).output
 output_joined settings s next place next_place before after had got a xs = ap (λ (r : Replayed). r.output) (a.goes xs)
 
-then_read_fault : (settings : Settings) (s next : State) (place next_place : ℕ) (before mid after had between got : Told) → GoesOn settings s place next next_place before mid had between → RunsToReadFault settings next next_place mid after between got → RunsToReadFault settings s place before after had got
+then_read_fault : (settings : Conf) (s next : State) (place next_place : ℕ) (before mid after had between got : Told) → GoesOn settings s place next next_place before mid had between → RunsToReadFault settings next next_place mid after between got → RunsToReadFault settings s place before after had got
 then_read_fault settings s next place next_place before mid after had between got a b = record {
   front = a.front ++ b.front;
   moved = Moves-then before mid after a.front b.front a.moved b.moved;
   grown = subst (Grows had got) (sym (output_joined settings s next place next_place before mid had between a b.front)) (Grows-then had between got a.out _ a.grown b.grown);
 }
 
-then_write_fault : (settings : Settings) (s next : State) (place next_place : ℕ) (before mid after had between got : Told) → GoesOn settings s place next next_place before mid had between → RunsToWriteFault settings next next_place mid after between got → RunsToWriteFault settings s place before after had got
+then_write_fault : (settings : Conf) (s next : State) (place next_place : ℕ) (before mid after had between got : Told) → GoesOn settings s place next next_place before mid had between → RunsToWriteFault settings next next_place mid after between got → RunsToWriteFault settings s place before after had got
 then_write_fault settings s next place next_place before mid after had between got a b = record {
   front = a.front ++ b.front;
   moved = Moves-then before mid after a.front b.front a.moved b.moved;
@@ -65,7 +65,7 @@ then_write_fault settings s next place next_place before mid after had between g
   grown = Grows-then had between got a.out b.out a.grown b.grown;
 }
 
-then_no_memory : (settings : Settings) (s next : State) (place next_place : ℕ) (before mid after had between got : Told) → GoesOn settings s place next next_place before mid had between → RunsOutOfMemory settings next next_place mid after between got → RunsOutOfMemory settings s place before after had got
+then_no_memory : (settings : Conf) (s next : State) (place next_place : ℕ) (before mid after had between got : Told) → GoesOn settings s place next next_place before mid had between → RunsOutOfMemory settings next next_place mid after between got → RunsOutOfMemory settings s place before after had got
 then_no_memory settings s next place next_place before mid after had between got a b = record {
   front = a.front ++ b.front;
   moved = Moves-then before mid after a.front b.front a.moved b.moved;
@@ -85,7 +85,7 @@ then_no_memory settings s next place next_place before mid after had between got
 }
 
 -- a round that goes on, and a run from there, are a run
-pub chained : (settings : Settings) (s next : State) (place next_place : ℕ) (before mid after had between got : Told) (exit : Exit) → GoesOn settings s place next next_place before mid had between → Run settings next next_place mid after between got exit → Run settings s place before after had got exit
+pub chained : (settings : Conf) (s next : State) (place next_place : ℕ) (before mid after had between got : Told) (exit : Exit) → GoesOn settings s place next next_place before mid had between → Run settings next next_place mid after between got exit → Run settings s place before after had got exit
 chained settings s next place next_place before mid after had between got exits.Ok a b = then_end settings s next place next_place before mid after had between got a b
 chained settings s next place next_place before mid after had between got exits.Usage a b = b
 chained settings s next place next_place before mid after had between got exits.SourceFault a b = b

@@ -4,7 +4,7 @@ use Rattle.nsc_model.specs.declared.kind.Db.TheVariants as db
 use Rattle.nsc_model.specs.declared.kind.FileId.{FileId}
 use Rattle.nsc_model.specs.declared.kind.FileId.TheVariants as file
 use Rattle.nsc_model.specs.Files.{Files, part_of, with_file}
-use Rattle.nsc_model.specs.Settings.{Settings}
+use Rattle.nsc_model.specs.declared.conf.Conf.{Conf}
 use Rattle.nsc_run.specs.Desks.{Database, IsOfGroups, IsOfUsers, Agrees}
 
 -- the parts of the files, one file being set
@@ -24,7 +24,7 @@ parts file.ExtraPasswd own files held = record { users = refl; groups = refl; ho
 parts file.ExtraGroup own files held = absurd own
 
 -- the databases agree with the files still, once users read the file as it is now
-pub agree_on : (settings : Settings) (id : FileId) (files later part : Files) (held : Option (List ℕ)) (moment : ℕ) (users now groups hosts services : Database) → IsOfUsers id → Agrees settings files moment users groups hosts services
+pub agree_on : (settings : Conf) (id : FileId) (files later part : Files) (held : Option (List ℕ)) (moment : ℕ) (users now groups hosts services : Database) → IsOfUsers id → Agrees settings files moment users groups hosts services
     → part ≡ with_file (part_of db.Passwd files) id held → now ≡ record users { files = part } → later ≡ with_file files id held → Agrees settings later moment now groups hosts services
 agree_on settings id files later part held moment users now groups hosts services own a is set all =
     let p = parts id own files held in
@@ -54,7 +54,7 @@ group_parts file.Services own files held = absurd own
 group_parts file.ExtraPasswd own files held = absurd own
 group_parts file.ExtraGroup own files held = record { users = refl; groups = refl; hosts = refl; services = refl }
 
-pub groups_agree_on : (settings : Settings) (id : FileId) (files later part : Files) (held : Option (List ℕ)) (moment : ℕ) (users groups now hosts services : Database) → IsOfGroups id → Agrees settings files moment users groups hosts services
+pub groups_agree_on : (settings : Conf) (id : FileId) (files later part : Files) (held : Option (List ℕ)) (moment : ℕ) (users groups now hosts services : Database) → IsOfGroups id → Agrees settings files moment users groups hosts services
     → part ≡ with_file (part_of db.Group files) id held → now ≡ record groups { files = part } → later ≡ with_file files id held → Agrees settings later moment users now hosts services
 groups_agree_on settings id files later part held moment users groups now hosts services own a is set all =
     let p = group_parts id own files held in

@@ -5,7 +5,8 @@ use Rattle.nsc_model.specs.declared.kind.Db.TheVariants as db
 use Rattle.nsc_model.specs.declared.kind.FileId.{FileId}
 use Rattle.nsc_model.specs.declared.kind.FileId.TheVariants as file
 use Rattle.nsc_model.specs.Files.{Files, part_of}
-use Rattle.nsc_model.specs.Settings.{Settings, settings_of}
+use Rattle.nsc_model.specs.declared.conf.Conf.{Conf}
+use Rattle.nsc_model.specs.Settings.{settings_of}
 use Rattle.nsc_model.specs.Replay.{State, last_moment}
 use Rattle.nsc_plain.specs.Shelf.{Shelf}
 
@@ -16,7 +17,7 @@ pub record Database : Type 0 where
 
 -- the settings of a replay, and the state that it is in
 pub record Desk : Type 0 where
-  pub settings : Settings
+  pub settings : Conf
   pub state : State
 
 -- the state of these files and databases as they are, at this moment
@@ -51,13 +52,13 @@ IsOfGroups file.ExtraPasswd = ⊥
 IsOfGroups file.ExtraGroup = Unit {0}
 
 -- a database has its settings, and reads its part of the files
-pub record HasOwn (which : Db) (settings : Settings) (files : Files) (database : Database) : Type 0 where
+pub record HasOwn (which : Db) (settings : Conf) (files : Files) (database : Database) : Type 0 where
   pub own : database.shelf.settings ≡ settings_of settings which
   pub limit : database.shelf.reloads ≡ settings.reloads
   pub part : database.files ≡ part_of which files
 
 -- so does each of them, and the moment is none behind the last one
-pub record Agrees (settings : Settings) (files : Files) (moment : ℕ) (users groups hosts services : Database) : Type 0 where
+pub record Agrees (settings : Conf) (files : Files) (moment : ℕ) (users groups hosts services : Database) : Type 0 where
   pub users_own : HasOwn db.Passwd settings files users
   pub groups_own : HasOwn db.Group settings files groups
   pub hosts_own : HasOwn db.Hosts settings files hosts

@@ -3,14 +3,14 @@ use Rattle.std.specs.Prelude.{◌≡◌, ℕ, ◌+◌, ◌⊎◌, List, ◌++◌
 use Rattle.nsc_outside.specs.Stream.{Rose, Moves, IsDrained, Grows}
 use Rattle.nsc_model.specs.Frames.{Frame, frame_at, Finish, Done, Bad, Long, Spent}
 use Rattle.nsc_model.specs.Fronts.{Finds}
-use Rattle.nsc_model.specs.Settings.{Settings}
+use Rattle.nsc_model.specs.declared.conf.Conf.{Conf}
 use Rattle.nsc_model.specs.Replay.{State, behind_output, replay_from}
 use Rattle.nsc_run.specs.declared.exit.Exit.{Exit}
 use Rattle.nsc_run.specs.declared.exit.Exit.TheVariants as exits
 
 -- The first E was reached: whatever follows the bytes that were read, the replay ends behind them, and what was written is
 -- its output.
-pub record RunsToEnd (settings : Settings) (s : State) (place : ℕ) (before after had got : Option (List ℕ)) : Type 0 where
+pub record RunsToEnd (settings : Conf) (s : State) (place : ℕ) (before after had got : Option (List ℕ)) : Type 0 where
   pub front : List ℕ
   pub moved : Moves before after front
   pub out : List ℕ
@@ -19,7 +19,7 @@ pub record RunsToEnd (settings : Settings) (s : State) (place : ℕ) (before aft
 
 -- The replay ends so, and what was written is its output: it ends so whatever follows the bytes that were read, or they
 -- are all that there is.
-pub record RunsTo (finish : Finish) (settings : Settings) (s : State) (place : ℕ) (before after had got : Option (List ℕ)) : Type 0 where
+pub record RunsTo (finish : Finish) (settings : Conf) (s : State) (place : ℕ) (before after had got : Option (List ℕ)) : Type 0 where
   pub front : List ℕ
   pub moved : Moves before after front
   pub out : List ℕ
@@ -27,13 +27,13 @@ pub record RunsTo (finish : Finish) (settings : Settings) (s : State) (place : �
   pub ends : ((more : List ℕ) → replay_from settings s place (front ++ more) ≡ record { output = out; finish = finish }) ⊎ (IsDrained after × (replay_from settings s place front ≡ record { output = out; finish = finish }))
 
 -- The input failed: what was written is the output for the whole frames among the bytes that were read.
-pub record RunsToReadFault (settings : Settings) (s : State) (place : ℕ) (before after had got : Option (List ℕ)) : Type 0 where
+pub record RunsToReadFault (settings : Conf) (s : State) (place : ℕ) (before after had got : Option (List ℕ)) : Type 0 where
   pub front : List ℕ
   pub moved : Moves before after front
   pub grown : Grows had got (replay_from settings s place front).output
 
 -- The output failed: what was written is a front of the output for the frames that were read.
-pub record RunsToWriteFault (settings : Settings) (s : State) (place : ℕ) (before after had got : Option (List ℕ)) : Type 0 where
+pub record RunsToWriteFault (settings : Conf) (s : State) (place : ℕ) (before after had got : Option (List ℕ)) : Type 0 where
   pub front : List ℕ
   pub moved : Moves before after front
   pub out : List ℕ
@@ -42,7 +42,7 @@ pub record RunsToWriteFault (settings : Settings) (s : State) (place : ℕ) (bef
   pub grown : Grows had got out
 
 -- what was written is the output for all frames that were read but the last
-pub record AllButLast (settings : Settings) (s : State) (place : ℕ) (front out : List ℕ) : Type 0 where
+pub record AllButLast (settings : Conf) (s : State) (place : ℕ) (front out : List ℕ) : Type 0 where
   pub earlier : List ℕ
   pub last : List ℕ
   pub parts : front ≡ earlier ++ last
@@ -51,7 +51,7 @@ pub record AllButLast (settings : Settings) (s : State) (place : ℕ) (front out
   pub written_is : out ≡ (replay_from settings s place earlier).output
 
 -- Memory was wanting: what was written is the output for all frames that were read, or for all but the last.
-pub record RunsOutOfMemory (settings : Settings) (s : State) (place : ℕ) (before after had got : Option (List ℕ)) : Type 0 where
+pub record RunsOutOfMemory (settings : Conf) (s : State) (place : ℕ) (before after had got : Option (List ℕ)) : Type 0 where
   pub front : List ℕ
   pub moved : Moves before after front
   pub out : List ℕ
@@ -59,7 +59,7 @@ pub record RunsOutOfMemory (settings : Settings) (s : State) (place : ℕ) (befo
   pub which : (out ≡ (replay_from settings s place front).output) ⊎ AllButLast settings s place front out
 
 -- the run, by the exit that it came to
-abbrev pub Run : Settings → State → ℕ → Option (List ℕ) → Option (List ℕ) → Option (List ℕ) → Option (List ℕ) → Exit → Type 0
+abbrev pub Run : Conf → State → ℕ → Option (List ℕ) → Option (List ℕ) → Option (List ℕ) → Option (List ℕ) → Exit → Type 0
 Run settings s place before after had got exits.Ok = RunsToEnd settings s place before after had got
 Run settings s place before after had got exits.Usage = ⊥
 Run settings s place before after had got exits.ReadFault = RunsToReadFault settings s place before after had got
@@ -72,7 +72,7 @@ Run settings s place before after had got exits.NoMemory = RunsOutOfMemory setti
 Run settings s place before after had got (exits.TooLong size) = RunsTo (Long size) settings s place before after had got
 
 -- one round: the frame at the front is done, and the replay goes on in this state at this place
-pub record GoesOn (settings : Settings) (s : State) (place : ℕ) (next : State) (next_place : ℕ) (before after had got : Option (List ℕ)) : Type 0 where
+pub record GoesOn (settings : Conf) (s : State) (place : ℕ) (next : State) (next_place : ℕ) (before after had got : Option (List ℕ)) : Type 0 where
   pub front : List ℕ
   pub moved : Moves before after front
   pub out : List ℕ

@@ -4,7 +4,6 @@ ghost use Rattle.nsc_model.specs.Files.{no_files};
 ghost use Rattle.nsc_model.specs.Fixed.{key_limit};
 ghost use Rattle.nsc_model.specs.Marked.{reply_limit};
 ghost use Rattle.nsc_model.specs.Machine.{new_cache, look_up, tick, invalidated};
-ghost use Rattle.nsc_daemonconf.specs.Conf.{db_settings};
 ghost use Rattle.nsc_plain.specs.Shelf.{TurnsTo, PassesTo};
 ghost use Rattle.nsc_run.specs.Turns.{EventFaults};
 
@@ -44,7 +43,7 @@ impl Cached {
     pub fn new(alloc: Global, conf: DbConf, reloads: Option<u32>) -> Result<Cached, NoMemory>
         requires some { 1 ≤ conf.size }
         requires limit { conf.size ≤ 65536 }
-        ensures { IfOk result (λ database. database ≡ record { files = no_files; shelf = record { settings = db_settings conf; reloads = reloads; cache = new_cache no_files } }) }
+        ensures { IfOk result (λ database. database ≡ record { files = no_files; shelf = record { settings = conf; reloads = reloads; cache = new_cache no_files } }) }
     {
         Ok(Cached {
             content: Arc::new(alloc, Content::none())?,

@@ -2,7 +2,6 @@ ghost use Rattle.std.specs.Prelude.{◌≡◌, ◌⊎◌, Err, false, true, map,
 ghost use Rattle.std.specs.String.{string_bytes};
 ghost use Rattle.nsc_outside.specs.Stream.{Rose};
 ghost use Rattle.nsc_model.specs.Replay.{first_state, replay};
-ghost use Rattle.nsc_daemonconf.specs.Conf.{settings};
 ghost use Rattle.nsc_daemonconf.specs.Sizes.{SizesFit};
 ghost use Rattle.nsc_daemonconf.specs.Told.{refused};
 ghost use Rattle.nsc_daemonconf.specs.declared.lines.ConfFault.{ConfFault};
@@ -31,20 +30,20 @@ pub fn replay<RT: AllocGlobal, R: Source, K: Sink>(
     input: &mut R,
     output: &mut K,
 ) -> Exit
-    requires { SizesFit (settings conf.now) }
+    requires { SizesFit conf.now }
 
     // The input was read to the end of its first E, and the output is that of the replay.
-    ensures ok { result ≡ Exit.Ok → IfSome (R.left input.old) (λ bytes. IsReplayed (settings conf.now) bytes (R.left input.new) (K.taken output.old) (K.taken output.new)) }
+    ensures ok { result ≡ Exit.Ok → IfSome (R.left input.old) (λ bytes. IsReplayed conf.now bytes (R.left input.new) (K.taken output.old) (K.taken output.new)) }
 
     // What was read and written, by the exit.
-    ensures run { Run (settings conf.now) first_state 0 (R.left input.old) (R.left input.new) (K.taken output.old) (K.taken output.new) result }
+    ensures run { Run conf.now first_state 0 (R.left input.old) (R.left input.new) (K.taken output.old) (K.taken output.new) result }
 
     // A fault of a stream is told only where one came.
     ensures counts { Counted result (R.faults input.old) (R.faults input.new) (K.faults output.old) (K.faults output.new) }
 
     // Where no fault came, the exit tells how the replay of the input ends, unless memory was wanting.
     ensures complete { (Rose (R.faults input.old) (R.faults input.new) → ⊥) → (Rose (K.faults output.old) (K.faults output.new) → ⊥) →
-        IfSome (R.left input.old) (λ bytes. TellsEnd (replay (settings conf.now) bytes).finish result) }
+        IfSome (R.left input.old) (λ bytes. TellsEnd (replay conf.now bytes).finish result) }
 {
     replay_over(rt.alloc(), conf, &Plain, input, output)
 }

@@ -4,7 +4,6 @@ ghost use Rattle.nsc_model.specs.Files.{FileFits, with_file};
 ghost use Rattle.nsc_model.specs.Fixed.{key_limit};
 ghost use Rattle.nsc_model.specs.Wire.{request_of};
 ghost use Rattle.nsc_model.specs.Replay.{ask_frame, clear_frame, first_state, look_frame, reach_frame, turn_of};
-ghost use Rattle.nsc_daemonconf.specs.Conf.{settings};
 ghost use Rattle.nsc_daemonconf.specs.Sizes.{SizesFit};
 ghost use Rattle.nsc_run.specs.Desks.{IsOfGroups, IsOfUsers};
 ghost use Rattle.nsc_run.specs.Reading.{FrameFits, seen};
@@ -35,14 +34,13 @@ pub struct Machine {
 }
 
 impl Model for Machine {
-    ghost use Rattle.nsc_daemonconf.specs.Conf.{settings};
     ghost use Rattle.nsc_run.specs.Desks.{Desk, Agrees, state_of};
 
     ghost Value = { Desk };
 
-    ghost view = { λ m. record { settings = settings m.conf; state = state_of m.sources m.moment m.users m.groups m.hosts m.services } };
+    ghost view = { λ m. record { settings = m.conf; state = state_of m.sources m.moment m.users m.groups m.hosts m.services } };
 
-    ghost invariant = { λ m. Agrees (settings m.conf) m.sources m.moment m.users m.groups m.hosts m.services };
+    ghost invariant = { λ m. Agrees m.conf m.sources m.moment m.users m.groups m.hosts m.services };
 }
 
 // The greatest moment, in seconds: 2^62 - 1.
@@ -51,8 +49,8 @@ const LAST_MOMENT: u64 = 4_611_686_018_427_387_903;
 impl Machine {
     /// Every file absent, moment 0, and four empty caches with these settings. Fails only for want of memory.
     pub fn new(alloc: Global, conf: &Conf) -> Result<Machine, NoMemory>
-        requires { SizesFit (settings conf.now) }
-        ensures { IfOk result (λ machine. machine ≡ record { settings = settings conf.now; state = first_state }) }
+        requires { SizesFit conf.now }
+        ensures { IfOk result (λ machine. machine ≡ record { settings = conf.now; state = first_state }) }
     {
         Ok(Machine {
             conf: *conf,

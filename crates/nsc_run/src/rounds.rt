@@ -1,7 +1,6 @@
 ghost use Rattle.std.specs.Prelude.{◌≡◌, ◌≤◌, ◌<◌, ◌+◌, length, IfOk, IfErr, OnOk};
 ghost use Rattle.nsc_model.specs.Frames.{input_limit, place_limit};
 ghost use Rattle.nsc_model.specs.Replay.{first_state, turn_of};
-ghost use Rattle.nsc_daemonconf.specs.Conf.{settings};
 ghost use Rattle.nsc_daemonconf.specs.Sizes.{SizesFit};
 ghost use Rattle.nsc_run.specs.Reading.{FrameFits, seen};
 ghost use Rattle.nsc_run.specs.Turns.{DoesNot, IsDone};
@@ -29,8 +28,8 @@ pub fn replay_over<A: Answerer, R: Source, K: Sink>(
     input: &mut R,
     output: &mut K,
 ) -> Exit
-    requires { SizesFit (settings conf.now) }
-    ensures run { Run (settings conf.now) first_state 0 (R.left input.old) (R.left input.new) (K.taken output.old) (K.taken output.new) result }
+    requires { SizesFit conf.now }
+    ensures run { Run conf.now first_state 0 (R.left input.old) (R.left input.new) (K.taken output.old) (K.taken output.new) result }
     ensures counts { Counted result (R.faults input.old) (R.faults input.new) (K.faults output.old) (K.faults output.new) }
 {
     let mut machine = match Machine::new(alloc, conf) {
