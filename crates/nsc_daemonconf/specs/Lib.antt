@@ -1,4 +1,4 @@
 pub mod Lines
-pub mod Attributes
+pub mod Tables
 pub mod Sizes
 pub mod Told

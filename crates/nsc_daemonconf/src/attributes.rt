@@ -1,7 +1,7 @@
 ghost use Rattle.std.specs.Prelude.{◌≡◌, IfSome};
 ghost use Rattle.std.specs.Option.{option_map};
-ghost use Rattle.nsc_daemonconf.specs.Lines.{attribute_named, service_named};
-ghost use Rattle.nsc_daemonconf.specs.Attributes.{attribute_of, daemon_sets, database_of, database_sets, found};
+ghost use Rattle.nsc_daemonconf.specs.Lines.{attribute_named, daemon_sets, database_sets, service_named};
+ghost use Rattle.nsc_daemonconf.specs.Tables.{found};
 ghost use Rattle.nsc_daemonconf.specs.Sizes.{SizeFits, SizesFit};
 
 use self::Attribute::{OfDaemon, OfDatabase};
@@ -121,7 +121,7 @@ fn named<T: Copy>(table: &[(&[u8], T)], word: &[u8]) -> Option<T>
 impl Attribute {
     /// The attribute of this name. `None` where there is none.
     pub fn named(word: &[u8]) -> Option<Attribute>
-        ensures { option_map attribute_of result ≡ attribute_named word.now }
+        ensures { result ≡ attribute_named word.now }
     {
         named(&ATTRIBUTES, word)
     }
@@ -174,7 +174,7 @@ impl DaemonAttribute {
 impl Service {
     /// The service of this name. `None` where there is none.
     pub fn named(word: &[u8]) -> Option<Service>
-        ensures { option_map database_of result ≡ service_named word.now }
+        ensures { result ≡ service_named word.now }
     {
         named(&SERVICES, word)
     }

@@ -1,7 +1,6 @@
-ghost use Rattle.std.specs.Prelude.{◌≡◌, IfOk, Some};
+ghost use Rattle.std.specs.Prelude.{◌≡◌, IfOk};
 ghost use Rattle.nsc_base.specs.Text.{words_of};
-ghost use Rattle.nsc_daemonconf.specs.Lines.{OfDatabase, OfDaemon, attribute_does, conf_of, line_does, with_database};
-ghost use Rattle.nsc_daemonconf.specs.Attributes.{daemon_sets, database_sets};
+ghost use Rattle.nsc_daemonconf.specs.Lines.{attribute_does, conf_of, line_does, with_database};
 ghost use Rattle.nsc_daemonconf.specs.Sizes.{SizeFits, SizesFit};
 ghost use Rattle.nsc_daemonconf.specs.Told.{after_line, conf_told};
 
@@ -77,7 +76,7 @@ fn with_database_line(
     rest: &[u8],
     number: u64,
 ) -> Result<Conf, ConfFault>
-    ensures told { conf_told result ≡ after_line number conf (attribute_does (OfDatabase (database_sets attribute)) (words_of rest.now)) }
+    ensures told { conf_told result ≡ after_line number conf (attribute_does (Attribute.OfDatabase attribute) (words_of rest.now)) }
     ensures sizes { IfOk result (λ later. SizesFit conf → SizesFit later) }
 {
     let bad_line = ConfFault::BadLine { line: number };
@@ -98,7 +97,7 @@ fn with_database_line(
 
 // The settings with those of one database replaced.
 fn with_settings(mut conf: Conf, db: Db, changed: DbConf) -> Conf
-    ensures with { result ≡ with_database (Some db) (λ _. changed) conf }
+    ensures with { result ≡ with_database (Service.Database db) (λ _. changed) conf }
     ensures sizes { SizesFit conf → SizeFits changed → SizesFit result }
 {
     match db {
@@ -117,7 +116,7 @@ fn with_daemon_line(
     rest: &[u8],
     number: u64,
 ) -> Result<Conf, ConfFault>
-    ensures told { conf_told result ≡ after_line number conf (attribute_does (OfDaemon (daemon_sets attribute)) (words_of rest.now)) }
+    ensures told { conf_told result ≡ after_line number conf (attribute_does (Attribute.OfDaemon attribute) (words_of rest.now)) }
     ensures sizes { IfOk result (λ later. SizesFit conf → SizesFit later) }
 {
     let bad_line = ConfFault::BadLine { line: number };
