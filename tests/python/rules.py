@@ -82,7 +82,7 @@ def steps_of(text):
 
 
 def service_list(files, name):
-    default = [("nis" if name.endswith("_compat") else "files", {SUCCESS: "return", NOTFOUND: "continue", UNAVAIL: "continue"})]
+    default = steps_of(b"nis" if name.endswith("_compat") else b"files")
     for line in (files["switch"] or b"").split(b"\n"):
         line = line.split(b"#")[0].strip(b" \t")
         front = re.match(name.encode() + rb"[ \t]*:", line)
@@ -295,8 +295,8 @@ def spelled(kind, row):
     found = number(2) + number(1)
     if kind in ("user", "uid"):
         name, password, uid, gid, gecos, folder, shell = row
-        ids = number(uid) + number(gid)
-        return found + lengths([name, password]) + ids + lengths([gecos, folder, shell]) + texts(name, password, gecos, folder, shell)
+        head = found + lengths([name, password]) + number(uid) + number(gid) + lengths([gecos, folder, shell])
+        return head + texts(name, password, gecos, folder, shell)
     if kind in ("group", "gid"):
         name, password, gid, _ = row
         head = found + lengths([name, password]) + number(gid) + number(len(members(row)))
@@ -307,7 +307,8 @@ def spelled(kind, row):
         all_of_them = b"".join(host[0] for host in row)
         families = bytes(2 if len(host[0]) == 4 else 10 for host in row)
         name = row[0][1]
-        return found + number(len(row)) + number(len(all_of_them)) + size_of(name) + number(0) + all_of_them + families + texts(name)
+        head = found + number(len(row)) + number(len(all_of_them)) + size_of(name) + number(0)
+        return head + all_of_them + families + texts(name)
     if kind in ("service", "port"):
         name, port, proto, aliases = row
         head = found + lengths([name, proto]) + number(len(aliases)) + number(port % 256 * 256 + port // 256)

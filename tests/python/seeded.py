@@ -34,11 +34,26 @@ LISTS = [
     "files ! extrausers",
     "",
 ]
-ACCOUNTS = ["NAME:x:ID:100:G NAME:/home/NAME:/bin/sh"] * 4 + ["  NAME::ID:ID:::", "NAME:x:ID", "#NAME:x:ID:1:::", "NAME:x:x:1:::", "NAME:x:ID:1::\0:"]
-GROUPS = ["NAME:x:ID:NAMES"] * 4 + [" NAME::ID:", "NAME:x:ID:NAMES:", "NAME:x:99999999999:NAMES", "NAME:x:ID:,NAMES,,OTHER"]
-COMPAT = ["+", "-NAME", "+NAME", "-", "+NAME:P:1:2:G:/d:/s", "+::::H::", "+NAME:x:1:OTHER", "-@x", "+@x", " \t-NAME", "-NAME:x", "-NAME\0"]
-HOSTS = ["10.0.0.ID NAME", "10.0.0.ID NAME OTHER # ann", "fd00::ID NAME", "::ffff:10.0.0.ID NAME", "10.0.0 NAME", "\tFD00::ID\tOTHER NAME", "10.0.0.ID # NAME", "fd00:::ID NAME"]
-SERVICES = ["NAME ID/tcp", "NAME ID/udp OTHER # x", "NAME\t65535/tcp", "NAME 65536/tcp", "NAME ID", "NAME ID/ OTHER", "NAME ID/tcp/x"]
+ACCOUNTS = [
+    *["NAME:x:ID:100:G NAME:/home/NAME:/bin/sh"] * 4,
+    *["  NAME::ID:ID:::", "NAME:x:ID", "#NAME:x:ID:1:::", "NAME:x:x:1:::", "NAME:x:ID:1::\0:"],
+]
+GROUPS = [
+    *["NAME:x:ID:NAMES"] * 4,
+    *[" NAME::ID:", "NAME:x:ID:NAMES:", "NAME:x:99999999999:NAMES", "NAME:x:ID:,NAMES,,OTHER"],
+]
+COMPAT = [
+    *["+", "-NAME", "+NAME", "-", "-@x", "+@x", " \t-NAME", "-NAME:x", "-NAME\0"],
+    *["+NAME:P:1:2:G:/d:/s", "+::::H::", "+NAME:x:1:OTHER"],
+]
+HOSTS = [
+    *["10.0.0.ID NAME", "10.0.0.ID NAME OTHER # ann", "fd00::ID NAME", "\tFD00::ID\tOTHER NAME"],
+    *["::ffff:10.0.0.ID NAME", "10.0.0 NAME", "10.0.0.ID # NAME", "fd00:::ID NAME"],
+]
+SERVICES = [
+    *["NAME ID/tcp", "NAME ID/udp OTHER # x", "NAME\t65535/tcp", "NAME ID/tcp/x"],
+    *["NAME 65536/tcp", "NAME ID", "NAME ID/ OTHER"],
+]
 
 
 @dataclass
@@ -61,17 +76,16 @@ class Cache:
     database: str
     settings: dict
     reloads: int
-    newest: dict = field(default_factory=dict)
+    newest: dict = field(default_factory=lambda: dict.fromkeys(frames.FILES))
     version: int = 0
     ticked: int = 0
     entries: list = field(default_factory=list)
 
     def poll(self, files):
         part = {name: files[name] if name in READ_BY[self.database] else None for name in frames.FILES}
-        if part != (self.newest or dict.fromkeys(frames.FILES)):
+        if part != self.newest:
             self.newest = part
             self.version += 1
-        self.newest = part
 
     def insert(self, kind, key, now, reloads):
         """The reply to a request over the newest files, which is kept where it fits."""
@@ -215,9 +229,13 @@ class Maker:
         self.frames += frames.END
 
 
+def argument(place, otherwise):
+    return int(sys.argv[place]) if place < len(sys.argv) else otherwise
+
+
 def main():
     program = frames.program()
-    count, start = [*map(int, sys.argv[1:]), *[200, 0][len(sys.argv) - 1 :]][:2]
+    count, start = argument(1, 200), argument(2, 0)
     found = broken = 0
     for seed in range(start, start + count):
         maker = Maker(seed)

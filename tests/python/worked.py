@@ -200,6 +200,10 @@ def read_cases(path):
     return reader.cases
 
 
+def shown(reply):
+    return reply.hex(" ", -4) or "empty"
+
+
 def faults_of(case, program):
     """What is wrong with the outcome of a case."""
     end = b"" if case.has_end else frames.END
@@ -212,7 +216,7 @@ def faults_of(case, program):
     came, rest = frames.replies(output)
     for (place, want), reply in zip(case.wanted, came):
         if reply != want:
-            faults.append(f"line {place}: the reply is {reply.hex() or 'empty'}, and not {want.hex() or 'empty'}")
+            faults.append(f"line {place}: the reply is {shown(reply)}, and not {shown(want)}")
             break
     if len(came) != len(case.wanted):
         faults.append(f"there are {len(came)} replies, and not {len(case.wanted)}")
@@ -223,8 +227,8 @@ def faults_of(case, program):
 
 def main():
     program = frames.program()
-    paths = [Path(word) for word in sys.argv[1:]]
-    cases = [case for path in paths or sorted((frames.ROOT / "tests" / "replays").glob("*.replay")) for case in read_cases(path)]
+    paths = [Path(word) for word in sys.argv[1:]] or sorted((frames.ROOT / "tests" / "replays").glob("*.replay"))
+    cases = [case for path in paths for case in read_cases(path)]
     broken = 0
     for case in cases:
         faults = faults_of(case, program)

@@ -1,5 +1,5 @@
 -- The parts of the machine's events, one after the other.
-use Rattle.std.proofs.Common.{◌≡◌, ◌≢◌, ℕ, ◌<◌, ◌≤◌, ◌+◌, ◌==◌, nat_lt, ◌⊎◌, inl, inr, Bool, true, false, cond, not, ◌&&◌, List, [], ◌∷◌, ◌++◌, length, map, Option, Some, None, Result, Ok, Err, refl, ap, sym, ◌∙◌, subst, arith}
+use Rattle.std.proofs.Common.{◌≡◌, ◌≢◌, ℕ, ◌<◌, ◌≤◌, ◌+◌, ◌==◌, nat_lt, ◌⊎◌, inl, inr, Bool, true, false, cond, not, ◌&&◌, List, [], ◌∷◌, ◌++◌, length, find, map, Option, Some, None, Result, Ok, Err, refl, ap, sym, ◌∙◌, subst, arith}
 use Rattle.std.proofs.lemmas.Bool.{eq-eqb}
 use Rattle.std.proofs.lemmas.Bool.Decides.{eqb_tells}
 use Rattle.nsc_plain.specs.declared.fault.PlainFault.{PlainFault}
@@ -7,12 +7,15 @@ use Rattle.nsc_plain.specs.declared.fault.PlainFault.TheVariants.{NoMemory, Spen
 use Rattle.nsc_model.specs.declared.answer.Request.{Request}
 use Rattle.nsc_model.specs.declared.record.Record.{Record}
 use Rattle.nsc_model.specs.declared.record.Record.TheVariants.{Invalid}
+use Rattle.nsc_model.specs.Kinds.{is_request}
 use Rattle.nsc_model.specs.Files.{Files}
 use Rattle.nsc_model.specs.declared.conf.DbConf.{DbConf}
 use Rattle.nsc_model.specs.Answers.{answer_of}
-use Rattle.nsc_model.specs.Machine.{Kept, Cache, Passed, Stopped, Turn, Refusal, TooLarge, Discarded, Present, Spent as Uncounted, Full, last_count, behind, ◌>>=◌, own_refusal, room_of, tried, tried_by, new_entry, polled, cached, kept_answer, loaded, hit_or_load, look_up, used_now, compacted, compacted_behind, invalidated, ends_of, by_invalidation, due_cause, stopped, unchanged, due_of, others_of, reloaded_of, reloaded, next_reloads, pruned, ticked, is_outdated, checked, tick}
-use Rattle.nsc_plain.specs.Shelf.{TurnsTo, PassesTo, StopsAt, StopsBy, FaultsBy, GivesUpBy, HitsBy, IsPolledAtMost}
-use Rattle.nsc_plain.specs.Stock.{Fresh, put, put_all, anew}
+use Rattle.nsc_model.specs.Machine.{Kept, Cache, Passed, Stopped, Turn, Refusal, TooLarge, Discarded, Present, Spent as Uncounted, Full, last_count, behind, ◌>>=◌, own_refusal, room_of, tried, tried_by, new_entry, polled, cached, kept_answer, loaded, hit_or_load, look_up, used_now, compacted, compacted_behind, invalidated, ends_of, by_invalidation, due_cause, stopped, unchanged, is_due, due_of, others_of, reloaded_of, reloaded, next_reloads, pruned, ticked, is_outdated, checked, tick}
+use Rattle.nsc_plain.specs.PlainCache.{TurnsTo, PassesTo, StopsAt, StopsBy, FaultsBy, GivesUpBy, HitsBy, IsPolledAtMost}
+use Rattle.nsc_plain.specs.Answered.{Answered, anew}
+use Rattle.nsc_plain.specs.Table.{put, put_all}
+use Rattle.nsc_plain.proofs.Ends.{none_left}
 
 at_true : {A : Type 0} (x y : A) {b : Bool} → b ≡ true → cond b x y ≡ x
 at_true {A} x y {b} e = subst (λ (c : Bool). cond c x y ≡ x) (sym e) refl
@@ -27,7 +30,7 @@ other_number a b ne = elim (eqb_tells a b) [ inl p ↦ absurd (ne p.1) | inr p �
 abbrev pub bare : Files → ℕ → ℕ → ℕ → Cache
 bare files version epoch ticked = record { sources = files; newest_version = version; entries = []; used = 0; epoch = epoch; inserted = 0; cycle = 0; ticked_version = ticked; add_failed = 0 }
 
--- ---- one part behind another
+-- ---- one part after another
 
 pub passes_behind : (adds : List Record) (r : Result Passed Stopped) (after : Cache) → PassesTo r after → PassesTo (behind adds r) after
 passes_behind adds (Ok passed) after h = h
@@ -82,6 +85,13 @@ pub keeps : (settings : DbConf) (now : ℕ) (request : Request) (cache after : C
 keeps settings now request cache after on h =
     let at : kept_answer settings now request cache ≡ tried settings now request 0 cache = at_true _ _ on in
     ap (λ (p : Passed). p.cache) at ∙ h
+
+-- where the database is cached, an entry is searched for among those that live
+pub searched : (settings : DbConf) (request : Request) (before after : Cache) (hit : Option (List ℕ)) → settings.enabled ≡ true → HitsBy (find (λ k. is_request request k.entry.request) before.entries) request before after hit
+    → HitsBy (cached settings request before) request before after hit
+searched settings request before after hit on h =
+    let at : cached settings request before ≡ find (λ k. is_request request k.entry.request) before.entries = at_true _ _ on in
+    subst (λ (o : Option Kept). HitsBy o request before after hit) (sym at) h
 
 -- a hit is the machine's
 hit_turns : (o : Option Kept) (settings : DbConf) (now : ℕ) (files : Files) (request : Request) (before after : Cache) (reply : List ℕ) → HitsBy o request before after (Some reply)
@@ -161,6 +171,12 @@ compacted_some : (due : List Kept) (cache : Cache) → 0 < length due → compac
 compacted_some [] cache h = absurd (omega arith)
 compacted_some (k ∷ due) cache h = refl
 
+-- where none is due, nothing changes
+pub prunes_nothing : (settings : DbConf) (reloads : Option ℕ) (now : ℕ) (cache : Cache) → due_of now cache.entries ≡ [] → PassesTo (pruned settings reloads now cache) cache
+prunes_nothing settings reloads now cache none =
+    subst (λ (due : List Kept). PassesTo (behind (ends_of (due_cause reloads now) due []) (compacted_behind due (left now cache) >>= λ after. Ok (reloaded settings now (reloaded_of reloads due) after))) cache) (sym none)
+    (ap (λ (ks : List Kept). record cache { entries = ks }) (none_left (is_due now) cache.entries none))
+
 pub prunes : (settings : DbConf) (reloads : Option ℕ) (now : ℕ) (cache mid after : Cache) → 0 < length (due_of now cache.entries) → PassesTo (compacted (left now cache)) mid
     → (reloaded settings now (reloaded_of reloads (due_of now cache.entries)) mid).cache ≡ after → PassesTo (pruned settings reloads now cache) after
 prunes settings reloads now cache mid after some h k =
@@ -201,7 +217,7 @@ tick_unpolled settings reloads now files before after NoMemory on h = inl h
 tick_unpolled settings reloads now files before after (Spent n) on h =
     subst (λ (r : Result Passed Stopped). StopsAt r after n) (sym (tick_runs settings reloads now files before on)) (stops_first (polled files before) (checked settings reloads now) after n h)
 
--- what came behind its poll gave up
+-- what came after its poll gave up
 pub tick_faults : (settings : DbConf) (reloads : Option ℕ) (now : ℕ) (files : Files) (before mid after : Cache) (fault : PlainFault) → settings.enabled ≡ true → PassesTo (polled files before) mid
     → GivesUpBy (checked settings reloads now mid) mid after fault → FaultsBy (tick settings reloads now files before) files before after fault
 tick_faults settings reloads now files before mid after NoMemory on h k = inr (subst (λ (c : Cache). PassesTo (polled files before) c) (sym k) h)

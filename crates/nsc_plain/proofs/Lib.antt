@@ -1,3 +1,3 @@
-pub mod Due
+pub mod Apart
 pub mod Ends
 pub mod Events

@@ -1,2 +1,4 @@
-pub mod Shelf
-pub mod Stock
+pub mod Answered
+pub mod Prepared
+pub mod Table
+pub mod PlainCache

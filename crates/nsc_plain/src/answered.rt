@@ -1,10 +1,11 @@
-ghost use Rattle.std.specs.Prelude.{◌≡◌, ◌≤◌, ◌<◌, ◌+◌, ◌^◌, length, map, IfOk};
+ghost use Rattle.std.specs.Prelude.{◌≡◌, ◌≤◌, ◌<◌, ◌+◌, ◌^◌, [], length, map, IfOk, IfSome, MatchOption};
 ghost use Rattle.nsc_base.specs.Nodes.{node_words};
 ghost use Rattle.nsc_model.specs.Fixed.{key_limit, kept_limit};
 ghost use Rattle.nsc_model.specs.Machine.{life_of, due_of, reloaded_of};
-ghost use Rattle.nsc_plain.specs.Stock.{anew};
+ghost use Rattle.nsc_plain.specs.Answered.{anew};
 
 use crate::held::Held;
+use crate::prepared::Prepared;
 use nsc_base::{Bytes, NoMemory};
 use nsc_daemonconf::DbConf;
 use nsc_model::{Answer, Answerer, Entry, Request};
@@ -24,9 +25,9 @@ pub struct Answered {
 impl Model for Answered {
     ghost use Rattle.std.specs.Prelude.{◌≤◌, length};
     ghost use Rattle.nsc_model.specs.Fixed.{key_limit};
-    ghost use Rattle.nsc_plain.specs.Stock.{Fresh};
+    ghost use Rattle.nsc_plain.specs.Answered.{Answered};
 
-    ghost Value = { Fresh };
+    ghost Value = { Answered };
 
     ghost view = { λ a. record { request = a.request; answer = a.answer; reloads = a.reloads } };
 
@@ -85,37 +86,45 @@ fn life_of(conf: &DbConf, answer: &Answer) -> u64
     }
 }
 
-/// What is to be inserted for the entries whose time is over and that are reloaded, in their order.
-pub fn answer_all<A: Answerer>(
+/// What is to be inserted for the entries whose time is over and that are reloaded, in their order; `None` where the
+/// time of no entry is over.
+pub fn answer_due<A: Answerer>(
     alloc: Global,
+    files: &mut Prepared<A>,
     answers: &A,
-    ready: &A::Ready,
     entries: &[Held],
     limit: Option<u32>,
     now: u64,
-) -> Result<Vec<Answered>, NoMemory>
-    ensures { IfOk result (λ all. all.items ≡ map (anew (A.prepared_from ready.now)) (reloaded_of limit (due_of now entries.now))) }
+) -> Result<Option<Vec<Answered>>, NoMemory>
+    ensures stays { files.new ≡ files.old }
+    ensures due { IfOk result (λ due. MatchOption due (due_of now entries.now ≡ []) (λ all. 0 < length (due_of now entries.now))) }
+    ensures all { IfOk result (λ due. IfSome due (λ all. all.items ≡ map (anew files.old.files) (reloaded_of limit (due_of now entries.now)))) }
 {
+    let mut is_any = false;
     let mut all = Vec::new(alloc);
     for held in entries {
-        if held.is_reloaded(limit, now) {
-            all.push(answer_again(alloc, answers, ready, held)?)?;
+        if held.is_due(now) {
+            is_any = true;
+            if !held.is_dropped(limit) {
+                all.push(answer_again(alloc, files, answers, held)?)?;
+            }
         }
     }
-    Ok(all)
+    Ok(is_any.then_some(all))
 }
 
 // What is to be inserted where this entry is reloaded.
 fn answer_again<A: Answerer>(
     alloc: Global,
+    files: &mut Prepared<A>,
     answers: &A,
-    ready: &A::Ready,
     held: &Held,
 ) -> Result<Answered, NoMemory>
-    ensures { IfOk result (λ again. again ≡ anew (A.prepared_from ready.now) held.now) }
+    ensures stays { files.new ≡ files.old }
+    ensures again { IfOk result (λ again. again ≡ anew files.old.files held.now) }
 {
     let request = held.entry().request();
-    let answer = answers.answer(alloc, ready, request.kind, request.key.as_slice())?;
+    let answer = files.answer(alloc, answers, request.kind, request.key.as_slice())?;
     let key = Bytes::copy(alloc, request.key.as_slice())?;
     let kind = request.kind;
     Ok(Answered::new(Request { kind, key }, answer, held.next_reloads()))

@@ -1,19 +1,17 @@
-ghost use Rattle.std.specs.Prelude.{◌≡◌, ◌≤◌, ◌<◌, ◌^◌, true, length, map, IfOk, IfErr, IfSome, OnOk, OnErr};
+ghost use Rattle.std.specs.Prelude.{◌≡◌, ◌≤◌, ◌<◌, ◌^◌, None, length, IfOk, IfErr, IfSome, OnOk, OnErr};
 ghost use Rattle.std.specs.Bool.{OnTrue};
 ghost use Rattle.std.specs.Arc.{arc_value};
-ghost use Rattle.std.specs.Option.{option_copied};
 ghost use Rattle.nsc_model.specs.Files.{no_files};
 ghost use Rattle.nsc_model.specs.Fixed.{key_limit};
 ghost use Rattle.nsc_model.specs.Marked.{reply_limit};
 ghost use Rattle.nsc_model.specs.Answers.{answer_of};
-ghost use Rattle.nsc_model.specs.Machine.{new_cache, cached, polled, kept_answer, look_up, due_of, reloaded_of, pruned, ticked, is_outdated, checked, tick, invalidated};
-ghost use Rattle.nsc_plain.specs.Shelf.{TurnsTo, PassesTo, FaultsBy, StopsBy, GivesUpBy, HitsBy};
-ghost use Rattle.nsc_plain.specs.Stock.{anew};
+ghost use Rattle.nsc_model.specs.Machine.{new_cache, cached, polled, kept_answer, look_up, pruned, ticked, is_outdated, checked, tick, invalidated};
+ghost use Rattle.nsc_plain.specs.PlainCache.{TurnsTo, PassesTo, FaultsBy, StopsBy, GivesUpBy, HitsBy};
 
-use crate::answered::{Answered, answer_all};
-use crate::entries::{find_entry, has_due, has_reloaded};
+use crate::answered::{Answered, answer_due};
 use crate::fault::PlainFault;
-use crate::held::{Held, LAST_COUNT};
+use crate::held::LAST_COUNT;
+use crate::prepared::Prepared;
 use crate::table::Table;
 use nsc_base::{Bytes, NoMemory};
 use nsc_daemonconf::DbConf;
@@ -38,9 +36,9 @@ impl Model for PlainCache {
     ghost use Rattle.std.specs.Prelude.{◌≤◌};
     ghost use Rattle.std.specs.Arc.{arc_value};
     ghost use Rattle.nsc_model.specs.Machine.{last_count};
-    ghost use Rattle.nsc_plain.specs.Shelf.{Shelf};
+    ghost use Rattle.nsc_plain.specs.PlainCache.{PlainCache};
 
-    ghost Value = { Shelf };
+    ghost Value = { PlainCache };
 
     ghost view = { λ c. record {
       settings = c.conf;
@@ -76,7 +74,7 @@ impl PlainCache {
     ///
     /// At `NoMemory` the entries are as before, and a poll may have been made. At `Spent` nothing changed: a new
     /// version was needed, and the count of versions stands at its end.
-    pub fn look_up<A: Answerer>(
+    pub fn lookup<A: Answerer>(
         &mut self,
         alloc: Global,
         content: &Arc<Content>,
@@ -93,17 +91,16 @@ impl PlainCache {
         ensures turn { IfOk result (λ reply. TurnsTo (look_up self.old.settings now (arc_value content.now) (record { kind = kind; key = key.now }) self.old.cache) self.new.cache reply) }
         ensures fault { IfErr result (FaultsBy (look_up self.old.settings now (arc_value content.now) (record { kind = kind; key = key.now }) self.old.cache) (arc_value content.now) self.old.cache self.new.cache) }
     {
-        let mut is_newest = false;
-        self.look_up_marked(alloc, content, &mut is_newest, answers, kind, key, now)
+        let mut files = Prepared::new(content.clone()?);
+        self.lookup_prepared(alloc, &mut files, answers, kind, key, now)
     }
 
-    /// As `look_up`, with a mark whether the files are known to be the newest content: where it is set, a poll compares
-    /// nothing. It is set by a poll, also by that of a call that gave up behind it, and stays set.
-    pub fn look_up_marked<A: Answerer>(
+    /// As `lookup`, over files that a caller keeps. Where the cache is known to have polled them, nothing is compared, and
+    /// what was prepared from them for one answer serves all.
+    pub fn lookup_prepared<A: Answerer>(
         &mut self,
         alloc: Global,
-        content: &Arc<Content>,
-        is_newest: &mut bool,
+        files: &mut Prepared<A>,
         answers: &A,
         kind: Kind,
         key: &[u8],
@@ -111,20 +108,20 @@ impl PlainCache {
     ) -> Result<Bytes, PlainFault>
         requires key { length key.now ≤ key_limit }
         requires moment { now < 2 ^ 62 }
-        requires mark { OnTrue is_newest.old (self.old.cache.sources ≡ arc_value content.now) }
+        requires polled { OnTrue files.old.is_polled (self.old.cache.sources ≡ files.old.files) }
         ensures settings { self.new.settings ≡ self.old.settings }
         ensures limit { self.new.reloads ≡ self.old.reloads }
-        ensures newest { OnTrue is_newest.new (self.new.cache.sources ≡ arc_value content.now) }
-        ensures stays { OnTrue is_newest.old (is_newest.new ≡ true) }
+        ensures files { files.new.files ≡ files.old.files }
+        ensures polled { OnTrue files.new.is_polled (self.new.cache.sources ≡ files.new.files) }
         ensures bound { IfOk result (λ reply. length reply ≤ reply_limit) }
-        ensures turn { IfOk result (λ reply. TurnsTo (look_up self.old.settings now (arc_value content.now) (record { kind = kind; key = key.now }) self.old.cache) self.new.cache reply) }
-        ensures fault { IfErr result (FaultsBy (look_up self.old.settings now (arc_value content.now) (record { kind = kind; key = key.now }) self.old.cache) (arc_value content.now) self.old.cache self.new.cache) }
+        ensures turn { IfOk result (λ reply. TurnsTo (look_up self.old.settings now files.old.files (record { kind = kind; key = key.now }) self.old.cache) self.new.cache reply) }
+        ensures fault { IfErr result (FaultsBy (look_up self.old.settings now files.old.files (record { kind = kind; key = key.now }) self.old.cache) files.old.files self.old.cache self.new.cache) }
     {
         if let Some(reply) = self.hit(alloc, kind, key)? {
             return Ok(reply);
         }
-        self.poll(content, is_newest)?;
-        Ok(self.load(alloc, answers, kind, key, now)?)
+        self.poll(files)?;
+        Ok(self.load(alloc, files, answers, kind, key, now)?)
     }
 
     // The reply of the live entry of the request, whose count of reloads begins anew, if there is one.
@@ -135,56 +132,46 @@ impl PlainCache {
         ensures hit { IfOk result (HitsBy (cached self.old.settings (record { kind = kind; key = key.now }) self.old.cache) (record { kind = kind; key = key.now }) self.old.cache self.new.cache) }
         ensures stays { OnErr result (self.new.cache ≡ self.old.cache) }
     {
-        let Some(held) = self.find(kind, key) else {
-            return Ok(None);
-        };
-        let reply = Bytes::copy(alloc, held.entry().answer().bytes())?;
-        self.table.use_entry(kind, key);
-        Ok(Some(reply))
-    }
-
-    // The live entry that answers the request, where the database is cached.
-    fn find(&self, kind: Kind, key: &[u8]) -> Option<&Held>
-        ensures { option_copied result ≡ cached self.now.settings (record { kind = kind; key = key.now }) self.now.cache }
-    {
         if self.conf.enabled {
-            find_entry(self.table.entries(), kind, key)
-        } else {
-            None
+            return self.table.hit(alloc, kind, key);
         }
+        Ok(None)
     }
 
-    // Makes the files the newest version, or confirms it where they are the same; where they are known to be the newest
-    // content, nothing is compared.
-    fn poll(&mut self, content: &Arc<Content>, is_newest: &mut bool) -> Result<(), PlainFault>
-        requires mark { OnTrue is_newest.old (self.old.cache.sources ≡ arc_value content.now) }
+    // Makes the files the newest version, or confirms it where they are the same; where the cache is known to have polled
+    // them, nothing is compared.
+    fn poll<A: Answerer>(&mut self, files: &mut Prepared<A>) -> Result<(), PlainFault>
+        requires polled { OnTrue files.old.is_polled (self.old.cache.sources ≡ files.old.files) }
         ensures settings { self.new.settings ≡ self.old.settings }
         ensures limit { self.new.reloads ≡ self.old.reloads }
-        ensures newest { OnTrue is_newest.new (self.new.cache.sources ≡ arc_value content.now) }
-        ensures stays { OnTrue is_newest.old (is_newest.new ≡ true) }
-        ensures turn { OnOk result (PassesTo (polled (arc_value content.now) self.old.cache) self.new.cache) }
-        ensures fault { IfErr result (GivesUpBy (polled (arc_value content.now) self.old.cache) self.old.cache self.new.cache) }
+        ensures files { files.new.files ≡ files.old.files }
+        ensures polled { OnTrue files.new.is_polled (self.new.cache.sources ≡ files.new.files) }
+        ensures sources { OnOk result (self.new.cache.sources ≡ files.new.files) }
+        ensures entries { self.new.cache.entries ≡ self.old.cache.entries }
+        ensures turn { OnOk result (PassesTo (polled files.old.files self.old.cache) self.new.cache) }
+        ensures fault { IfErr result (GivesUpBy (polled files.old.files self.old.cache) self.old.cache self.new.cache) }
     {
-        if *is_newest {
+        if files.is_polled() {
             return Ok(());
         }
-        if content.is_same(&self.content) {
-            *is_newest = true;
+        if files.content().is_same(&self.content) {
+            files.set_polled();
             return Ok(());
         }
         if self.newest_version == LAST_COUNT {
             return Err(PlainFault::Spent { count: LAST_COUNT });
         }
-        self.content = content.clone()?;
+        self.content = files.content().clone()?;
         self.newest_version += 1;
-        *is_newest = true;
+        files.set_polled();
         Ok(())
     }
 
-    // The reply over the newest version; where the database is cached, its insertion is tried.
+    // The reply over the newest version, which these files are; where the database is cached, its insertion is tried.
     fn load<A: Answerer>(
         &mut self,
         alloc: Global,
+        files: &mut Prepared<A>,
         answers: &A,
         kind: Kind,
         key: &[u8],
@@ -192,16 +179,18 @@ impl PlainCache {
     ) -> Result<Bytes, NoMemory>
         requires key { length key.now ≤ key_limit }
         requires moment { now < 2 ^ 62 }
+        requires sources { self.old.cache.sources ≡ files.old.files }
+        requires new { cached self.old.settings (record { kind = kind; key = key.now }) self.old.cache ≡ None }
         ensures settings { self.new.settings ≡ self.old.settings }
         ensures limit { self.new.reloads ≡ self.old.reloads }
         ensures sources { self.new.cache.sources ≡ self.old.cache.sources }
+        ensures files { files.new ≡ files.old }
         ensures bound { IfOk result (λ reply. length reply ≤ reply_limit) }
         ensures kept { OnOk result ((kept_answer self.old.settings now (record { kind = kind; key = key.now }) self.old.cache).cache ≡ self.new.cache) }
         ensures reply { IfOk result (λ reply. (answer_of self.old.cache.sources (record { kind = kind; key = key.now })).bytes ≡ reply) }
         ensures stays { OnErr result (self.new.cache ≡ self.old.cache) }
     {
-        let ready = answers.prepare(alloc, self.content.clone()?)?;
-        let answer = answers.answer(alloc, &ready, kind, key)?;
+        let answer = files.answer(alloc, answers, kind, key)?;
         let reply = Bytes::copy(alloc, answer.bytes())?;
         self.keep(alloc, kind, key, answer, now)?;
         Ok(reply)
@@ -219,6 +208,7 @@ impl PlainCache {
         requires key { length key.now ≤ key_limit }
         requires moment { now < 2 ^ 62 }
         requires answer { answer ≡ answer_of self.old.cache.sources (record { kind = kind; key = key.now }) }
+        requires new { cached self.old.settings (record { kind = kind; key = key.now }) self.old.cache ≡ None }
         ensures settings { self.new.settings ≡ self.old.settings }
         ensures limit { self.new.reloads ≡ self.old.reloads }
         ensures sources { self.new.cache.sources ≡ self.old.cache.sources }
@@ -255,47 +245,53 @@ impl PlainCache {
         ensures turn { OnOk result (PassesTo (tick self.old.settings self.old.reloads now (arc_value content.now) self.old.cache) self.new.cache) }
         ensures fault { IfErr result (FaultsBy (tick self.old.settings self.old.reloads now (arc_value content.now) self.old.cache) (arc_value content.now) self.old.cache self.new.cache) }
     {
-        let mut is_newest = false;
-        self.tick_marked(alloc, content, &mut is_newest, answers, now)
+        let mut files = Prepared::new(content.clone()?);
+        self.tick_prepared(alloc, &mut files, answers, now)
     }
 
-    /// As `tick`, with a mark whether the files are known to be the newest content: where it is set, the poll compares
-    /// nothing. It is set by a poll, also by that of a call that gave up behind it, and stays set.
-    pub fn tick_marked<A: Answerer>(
+    /// As `tick`, over files that a caller keeps, as in `lookup_prepared`.
+    pub fn tick_prepared<A: Answerer>(
         &mut self,
         alloc: Global,
-        content: &Arc<Content>,
-        is_newest: &mut bool,
+        files: &mut Prepared<A>,
         answers: &A,
         now: u64,
     ) -> Result<(), PlainFault>
         requires moment { now < 2 ^ 62 }
-        requires mark { OnTrue is_newest.old (self.old.cache.sources ≡ arc_value content.now) }
+        requires polled { OnTrue files.old.is_polled (self.old.cache.sources ≡ files.old.files) }
         ensures settings { self.new.settings ≡ self.old.settings }
         ensures limit { self.new.reloads ≡ self.old.reloads }
-        ensures newest { OnTrue is_newest.new (self.new.cache.sources ≡ arc_value content.now) }
-        ensures stays { OnTrue is_newest.old (is_newest.new ≡ true) }
-        ensures turn { OnOk result (PassesTo (tick self.old.settings self.old.reloads now (arc_value content.now) self.old.cache) self.new.cache) }
-        ensures fault { IfErr result (FaultsBy (tick self.old.settings self.old.reloads now (arc_value content.now) self.old.cache) (arc_value content.now) self.old.cache self.new.cache) }
+        ensures files { files.new.files ≡ files.old.files }
+        ensures polled { OnTrue files.new.is_polled (self.new.cache.sources ≡ files.new.files) }
+        ensures turn { OnOk result (PassesTo (tick self.old.settings self.old.reloads now files.old.files self.old.cache) self.new.cache) }
+        ensures fault { IfErr result (FaultsBy (tick self.old.settings self.old.reloads now files.old.files self.old.cache) files.old.files self.old.cache self.new.cache) }
     {
         if !self.conf.enabled {
             return Ok(());
         }
-        self.poll(content, is_newest)?;
-        self.check(alloc, answers, now)
+        self.poll(files)?;
+        self.check(alloc, files, answers, now)
     }
 
-    // Behind the poll of a tick: an invalidation where the files changed since the last one, and else a pruning.
-    fn check<A: Answerer>(&mut self, alloc: Global, answers: &A, now: u64) -> Result<(), PlainFault>
+    // After the poll of a tick: an invalidation where the files changed since the last one, and else a pruning.
+    fn check<A: Answerer>(
+        &mut self,
+        alloc: Global,
+        files: &mut Prepared<A>,
+        answers: &A,
+        now: u64,
+    ) -> Result<(), PlainFault>
         requires moment { now < 2 ^ 62 }
+        requires sources { self.old.cache.sources ≡ files.old.files }
         ensures settings { self.new.settings ≡ self.old.settings }
         ensures limit { self.new.reloads ≡ self.old.reloads }
         ensures sources { self.new.cache.sources ≡ self.old.cache.sources }
+        ensures files { files.new ≡ files.old }
         ensures turn { OnOk result (PassesTo (checked self.old.settings self.old.reloads now self.old.cache) self.new.cache) }
         ensures fault { IfErr result (GivesUpBy (checked self.old.settings self.old.reloads now self.old.cache) self.old.cache self.new.cache) }
     {
         if !self.is_outdated() {
-            return self.prune(alloc, answers, now);
+            return self.prune(alloc, files, answers, now);
         }
         self.invalidate()?;
         self.ticked_version = self.newest_version;
@@ -309,42 +305,34 @@ impl PlainCache {
         self.conf.check_files && self.newest_version != self.ticked_version
     }
 
-    // The entries whose time is over end, and those of them that are not dropped are loaded anew.
-    fn prune<A: Answerer>(&mut self, alloc: Global, answers: &A, now: u64) -> Result<(), PlainFault>
+    // The entries whose time is over end, and those of them that are not dropped are loaded anew. All memory is taken
+    // before anything changes.
+    fn prune<A: Answerer>(
+        &mut self,
+        alloc: Global,
+        files: &mut Prepared<A>,
+        answers: &A,
+        now: u64,
+    ) -> Result<(), PlainFault>
         requires moment { now < 2 ^ 62 }
+        requires sources { self.old.cache.sources ≡ files.old.files }
         ensures settings { self.new.settings ≡ self.old.settings }
         ensures limit { self.new.reloads ≡ self.old.reloads }
         ensures sources { self.new.cache.sources ≡ self.old.cache.sources }
+        ensures files { files.new ≡ files.old }
         ensures turn { OnOk result (PassesTo (pruned self.old.settings self.old.reloads now (ticked self.old.cache)) self.new.cache) }
         ensures fault { IfErr result (GivesUpBy (pruned self.old.settings self.old.reloads now (ticked self.old.cache)) self.old.cache self.new.cache) }
     {
-        if !has_due(self.table.entries(), now) {
-            self.ticked_version = self.newest_version;
-            return Ok(());
-        }
-        let fresh = self.answer_due(alloc, answers, now)?;
+        let entries = self.table.entries();
+        let due = answer_due(alloc, files, answers, entries, self.reloads, now)?;
         self.ticked_version = self.newest_version;
+        let Some(fresh) = due else {
+            return Ok(());
+        };
         self.table.end_due(now)?;
         self.table
             .insert_all(&self.conf, now, self.newest_version, fresh);
         Ok(())
-    }
-
-    // What is to be inserted for the entries that are reloaded; where there is none, nothing is made ready.
-    fn answer_due<A: Answerer>(
-        &self,
-        alloc: Global,
-        answers: &A,
-        now: u64,
-    ) -> Result<Vec<Answered>, NoMemory>
-        ensures { IfOk result (λ fresh. fresh.items ≡ map (anew self.now.cache.sources) (reloaded_of self.now.reloads (due_of now self.now.cache.entries))) }
-    {
-        let entries = self.table.entries();
-        if !has_reloaded(entries, self.reloads, now) {
-            return Ok(Vec::new(alloc));
-        }
-        let ready = answers.prepare(alloc, self.content.clone()?)?;
-        answer_all(alloc, answers, &ready, entries, self.reloads, now)
     }
 
     /// An invalidation: every live entry ends. It takes no memory. At `Spent` the cache is as the machine leaves it

@@ -1,7 +1,6 @@
 ghost use Rattle.std.specs.Prelude.{◌≡◌};
 ghost use Rattle.nsc_model.specs.Kinds.{is_request};
-ghost use Rattle.nsc_model.specs.Machine.{entry_words, is_due, is_dropped, reached, next_reloads, used_by};
-ghost use Rattle.nsc_plain.specs.Stock.{is_reloaded};
+ghost use Rattle.nsc_model.specs.Machine.{entry_words, is_due, is_dropped, reached, next_reloads};
 
 use nsc_model::{Entry, Kind};
 use nsc_words::node_words;
@@ -48,13 +47,11 @@ impl Held {
         kind.number() == request.kind.number() && key == request.key.as_slice()
     }
 
-    /// Its use by the request of this kind and key: the count of reloads begins anew where it answers it.
-    pub fn use_by(&mut self, kind: Kind, key: &[u8])
-        ensures { self.new ≡ used_by (record { kind = kind; key = key.now }) self.old }
+    /// It is used: its count of reloads begins anew.
+    pub fn restart(&mut self)
+        ensures { self.new ≡ record self.old { reloads = 0 } }
     {
-        if self.answers(kind, key) {
-            self.reloads = 0;
-        }
+        self.reloads = 0;
     }
 
     /// How many words it takes: at most 8,328.
@@ -79,13 +76,6 @@ impl Held {
         ensures { result ≡ is_dropped limit self.now }
     {
         self.entry.answer().is_not_found() || self.has_reached(limit)
-    }
-
-    /// Whether its time is over and it is reloaded.
-    pub fn is_reloaded(&self, limit: Option<u32>, now: u64) -> bool
-        ensures { result ≡ is_reloaded limit now self.now }
-    {
-        self.is_due(now) && !self.is_dropped(limit)
     }
 
     // Whether it was reloaded so often without a use.

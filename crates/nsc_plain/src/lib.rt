@@ -6,7 +6,9 @@ mod cache;
 mod entries;
 mod fault;
 mod held;
+mod prepared;
 mod table;
 
 pub use cache::PlainCache;
 pub use fault::PlainFault;
+pub use prepared::Prepared;

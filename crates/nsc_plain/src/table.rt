@@ -1,13 +1,16 @@
-ghost use Rattle.std.specs.Prelude.{◌≡◌, ◌≤◌, ◌<◌, ◌+◌, ◌^◌, [], length, min, OnOk, IfErr};
-ghost use Rattle.nsc_model.specs.Machine.{Cache, used_now, due_of, others_of, compacted, compacted_behind, room_of, last_count};
-ghost use Rattle.nsc_plain.specs.Shelf.{PassesTo, StopsBy};
-ghost use Rattle.nsc_plain.specs.Stock.{over, put, put_all};
+ghost use Rattle.std.specs.Prelude.{◌≡◌, ◌≤◌, ◌<◌, ◌+◌, ◌^◌, [], ◌∷◌, None, find, length, min, IfOk, IfErr, IfSome, OnOk, OnErr};
+ghost use Rattle.nsc_model.specs.declared.answer.Request.{Request};
+ghost use Rattle.nsc_model.specs.Kinds.{is_request};
+ghost use Rattle.nsc_model.specs.Marked.{reply_limit};
+ghost use Rattle.nsc_model.specs.Machine.{Cache, due_of, others_of, compacted, compacted_behind, room_of, last_count};
+ghost use Rattle.nsc_plain.specs.PlainCache.{HitsBy, PassesTo, StopsBy};
+ghost use Rattle.nsc_plain.specs.Table.{StayApart, answered_for, entries_for, over, put, put_all};
 
 use crate::answered::Answered;
-use crate::entries::{drop_due, use_entry, words_of};
+use crate::entries::{drop_due, find_entry, words_of};
 use crate::fault::PlainFault;
 use crate::held::{Held, LAST_COUNT};
-use nsc_base::NoMemory;
+use nsc_base::{Bytes, NoMemory};
 use nsc_daemonconf::DbConf;
 use nsc_model::Kind;
 use std::alloc::Global;
@@ -24,16 +27,14 @@ pub struct Table {
 }
 
 impl Model for Table {
-    ghost use Rattle.std.specs.Prelude.{◌≤◌};
     ghost use Rattle.std.specs.Vec.{vec_capacity};
-    ghost use Rattle.nsc_model.specs.Machine.{all_words, last_count};
-    ghost use Rattle.nsc_plain.specs.Stock.{Stock};
+    ghost use Rattle.nsc_plain.specs.Table.{IsKept, Table};
 
-    ghost Value = { Stock };
+    ghost Value = { Table };
 
     ghost view = { λ t. record { entries = t.entries.items; used = t.used; inserted = t.inserted; cycle = t.cycle; add_failed = t.add_failed; capacity = vec_capacity t.entries } };
 
-    ghost invariant = { λ t. (all_words t.entries.items ≤ t.used) × (t.inserted ≤ last_count) };
+    ghost invariant = { λ t. IsKept t.entries.items t.used t.inserted };
 }
 
 // The longest reply that is kept.
@@ -60,11 +61,20 @@ impl Table {
         self.entries.as_slice()
     }
 
-    /// The count of reloads of the entry that answers the request of this kind and key begins anew.
-    pub fn use_entry(&mut self, kind: Kind, key: &[u8])
-        ensures { self.new ≡ record self.old { entries = used_now (record { kind = kind; key = key.now }) self.old.entries } }
+    /// The reply of the entry that answers the request of this kind and key, whose count of reloads begins anew, if there
+    /// is one. Fails only for want of memory; then nothing changed.
+    pub fn hit(&mut self, alloc: Global, kind: Kind, key: &[u8]) -> Result<Option<Bytes>, NoMemory>
+        ensures bound { IfOk result (λ hit. IfSome hit (λ reply. length reply ≤ reply_limit)) }
+        ensures hit { IfOk result (λ hit. (cache : Cache) → HitsBy (find (λ k. is_request (record { kind = kind; key = key.now }) k.entry.request) self.old.entries) (record { kind = kind; key = key.now }) (over cache self.old) (over cache self.new) hit) }
+        ensures stays { OnErr result (self.new ≡ self.old) }
     {
-        use_entry(&mut self.entries, kind, key);
+        let Some(at) = find_entry(&self.entries, kind, key) else {
+            return Ok(None);
+        };
+        let held = &mut self.entries[at];
+        let reply = Bytes::copy(alloc, held.entry().answer().bytes())?;
+        held.restart();
+        Ok(Some(reply))
     }
 
     /// Takes the memory for so many more entries.
@@ -80,9 +90,11 @@ impl Table {
     pub fn insert(&mut self, conf: &DbConf, now: u64, version: u64, fresh: Answered)
         requires moment { now < 2 ^ 62 }
         requires memory { length self.old.entries < self.old.capacity }
+        requires new { find (λ k. is_request fresh.request k.entry.request) self.old.entries ≡ None }
         ensures inserted { (cache : Cache) → put conf.now now version fresh (over cache self.old) ≡ over cache self.new }
         ensures capacity { self.old.capacity ≤ self.new.capacity }
         ensures length { length self.new.entries ≤ length self.old.entries + 1 }
+        ensures requests { (request : Request) → entries_for request self.new.entries ≤ entries_for request self.old.entries + answered_for request (fresh ∷ []) }
     {
         if fresh.reply_len() > KEPT_LIMIT || self.inserted == LAST_COUNT {
             return;
@@ -105,6 +117,7 @@ impl Table {
     pub fn insert_all(&mut self, conf: &DbConf, now: u64, version: u64, fresh: Vec<Answered>)
         requires moment { now < 2 ^ 62 }
         requires memory { length self.old.entries + length fresh.items ≤ self.old.capacity }
+        requires apart { StayApart self.old.entries fresh.items }
         ensures { (cache : Cache) → put_all conf.now now version fresh.items (over cache self.old) ≡ over cache self.new }
     {
         for one in fresh {
@@ -132,6 +145,8 @@ impl Table {
         ensures turn { OnOk result ((cache : Cache) → PassesTo (compacted (over cache (record self.old { entries = others_of now self.old.entries }))) (over cache self.new)) }
         ensures fault { IfErr result (λ fault. (cache : Cache) → StopsBy (compacted (over cache (record self.old { entries = others_of now self.old.entries }))) (over cache self.new) fault) }
         ensures memory { length self.new.entries + length (due_of now self.old.entries) ≤ self.new.capacity }
+        ensures entries { self.new.entries ≡ others_of now self.old.entries }
+        ensures apart { (request : Request) → entries_for request self.new.entries + entries_for request (due_of now self.old.entries) ≤ 1 }
     {
         drop_due(&mut self.entries, now);
         self.compact()

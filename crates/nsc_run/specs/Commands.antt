@@ -1,7 +1,9 @@
 -- The command words, the configuration that they name, and what the program claims of a whole run.
-use Rattle.std.specs.Prelude.{◌≡◌, ℕ, ◌⊎◌, Bool, true, false, ◌&&◌, List, drop, Option, Some, None, IfSome, Result, Ok, Err, codes}
+use Rattle.std.specs.Prelude.{◌≡◌, ℕ, ◌⊎◌, Bool, true, false, ◌&&◌, List, drop, map, Option, Some, None, IfSome, Result, Ok, Err, codes}
 use Rattle.std.specs.Option.{option_map_or}
 use Rattle.std.specs.Str.{bytes_eq}
+use Rattle.std.specs.String.{string_bytes}
+use Rattle.std.specs.declared.string.String.{String}
 use Rattle.clap.specs.Walk.{Rule, first_of, is_empty}
 use Rattle.clap.specs.Simple.{App, matches_of, new_app, new_rule, on_top, with_rule}
 use Rattle.clap.specs.Faults.{fault_of}
@@ -17,9 +19,12 @@ use Rattle.nsc_model.specs.Settings.{default_settings}
 use Rattle.nsc_daemonconf.specs.Lines.{Refused, conf_of}
 use Rattle.nsc_daemonconf.specs.Sizes.{SizesFit}
 use Rattle.nsc_daemonconf.specs.Told.{refused}
-use Rattle.nsc_run.specs.Runs.{Run}
+use Rattle.nsc_replay.specs.declared.ended.Ended.{Ended}
+use Rattle.nsc_replay.specs.Streams.{Streams, Calm, InputFailed, OutputFailed}
+use Rattle.nsc_replay.specs.Runs.{Run}
 use Rattle.nsc_run.specs.declared.exit.Exit.{Exit}
 use Rattle.nsc_run.specs.declared.exit.Exit.TheVariants as exits
+use Rattle.nsc_run.specs.Exits.{exit_of}
 
 -- ---- the words
 
@@ -47,6 +52,10 @@ has_replay words = option_map_or (λ text. bytes_eq text (codes "true")) (first_
 abbrev pub is_replay : List (List ℕ) → Bool
 is_replay words = is_command words && has_replay words
 
+-- the words as bytes
+abbrev pub texts : {Z : Type 0} → List (String Z) → List (List ℕ)
+texts words = map (λ w. string_bytes w) words
+
 -- the path of the configuration file that the words of a command name
 abbrev pub config_of : List (List ℕ) → Option (List ℕ)
 config_of words = first_of (codes "config-file") (matches_of command_app words)
@@ -61,6 +70,10 @@ IsRefusal good exit = (exit ≡ exits.NoMemory) ⊎ ((exit ≡ exits.Usage) × (
 abbrev pub config_told : (List ℕ → Option (Option (List ℕ))) → Option (List ℕ) → Option (Option (List ℕ))
 config_told held None = Some None
 config_told held (Some path) = held path
+
+-- what is told of the configuration that the words of a command name
+abbrev pub named_config : (List ℕ → Option (Option (List ℕ))) → List (List ℕ) → Option (Option (List ℕ))
+named_config held words = config_told held (config_of words)
 
 -- the settings that a configuration gives, or the line that it is refused for; an absent one gives the defaults
 abbrev pub settings_by : Option (List ℕ) → Result Conf Refused
@@ -89,13 +102,19 @@ NotSet told before after _ = ⊥
 
 -- ---- the whole run
 
--- The replay of what the source had is done: the source stands right behind its first E, and the sink took exactly the
+-- The replay ran, and the exit tells how it ended.
+pub record Replays (settings : Conf) (streams : Streams) (exit : Exit) : Type 0 where
+  pub ended : Ended
+  pub told : exit ≡ exit_of ended
+  pub run : Run settings first_state 0 streams ended
+
+-- The replay of what the source had is done: the source stands right after its first E, and the sink took exactly the
 -- output.
-pub record IsReplayed (settings : Conf) (bytes : List ℕ) (after had got : Option (List ℕ)) : Type 0 where
+pub record IsReplayed (settings : Conf) (bytes : List ℕ) (streams : Streams) : Type 0 where
   pub place : ℕ
   pub done : (replay settings bytes).finish ≡ Done place
-  pub left_is : after ≡ Some (drop place bytes)
-  pub grown : Grows had got (replay settings bytes).output
+  pub left_is : streams.after.left ≡ Some (drop place bytes)
+  pub grown : Grows streams.before.taken streams.after.taken (replay settings bytes).output
 
 -- the exit that tells how a replay ends, unless memory was wanting
 abbrev pub exit_at : Finish → Exit
@@ -107,14 +126,25 @@ exit_at (Spent count) = exits.Spent count
 abbrev pub TellsEnd : Finish → Exit → Type 0
 TellsEnd finish exit = (exit ≡ exit_at finish) ⊎ (exit ≡ exits.NoMemory)
 
+-- no count of faults of the streams rose
+pub record NoFault (streams : Streams) : Type 0 where
+  pub input : Rose streams.before.input_faults streams.after.input_faults → ⊥
+  pub output : Rose streams.before.output_faults streams.after.output_faults → ⊥
+
+-- the counts of faults of the streams, by the exit: one rose where its stream failed, and else both stay
+abbrev pub Counted : Exit → Streams → Type 0
+Counted exits.ReadFault streams = InputFailed streams
+Counted exits.WriteFault streams = OutputFailed streams
+Counted _ streams = Calm streams
+
 -- the exit tells that line, unless memory was wanting
 abbrev pub TellsRefused : Refused → Exit → Type 0
 TellsRefused line exit = ((fault : ConfFault) × (refused fault ≡ line) × (exit ≡ exits.BadConf fault)) ⊎ (exit ≡ exits.NoMemory)
 
 -- Nothing was read and nothing written.
-pub record Untouched (before after had got : Option (List ℕ)) : Type 0 where
-  pub left_stays : after ≡ before
-  pub taken_stays : got ≡ had
+pub record Untouched (streams : Streams) : Type 0 where
+  pub left_stays : streams.after.left ≡ streams.before.left
+  pub taken_stays : streams.after.taken ≡ streams.before.taken
 
 -- the exits that come before a replay only
 abbrev pub ComesBefore : Exit → Type 0
@@ -124,22 +154,28 @@ ComesBefore (exits.BadConf fault) = Unit {0}
 ComesBefore _ = ⊥
 
 -- the replay began, with settings that were read
-pub record Ran (told : Option (Option (List ℕ))) (faults_before faults_after : ℕ) (before after had got : Option (List ℕ)) (exit : Exit) : Type 0 where
+pub record Ran (told : Option (Option (List ℕ))) (faults_before faults_after : ℕ) (streams : Streams) (exit : Exit) : Type 0 where
   pub settings : Conf
   pub is_set : IsSet told faults_before faults_after settings
-  pub run : Run settings first_state 0 before after had got exit
+  pub run : Replays settings streams exit
 
 -- the replay ran, or no settings were read, and it did not begin
-abbrev pub Course : Option (Option (List ℕ)) → ℕ → ℕ → Option (List ℕ) → Option (List ℕ) → Option (List ℕ) → Option (List ℕ) → Exit → Type 0
-Course told faults_before faults_after before after had got exit =
-    Ran told faults_before faults_after before after had got exit
-    ⊎ (NotSet told faults_before faults_after exit × Untouched before after had got)
+abbrev pub Course : Option (Option (List ℕ)) → ℕ → ℕ → Streams → Exit → Type 0
+Course told faults_before faults_after streams exit =
+    Ran told faults_before faults_after streams exit
+    ⊎ (NotSet told faults_before faults_after exit × Untouched streams)
+
+-- the configuration that is told, where it is told, has this length, which is more than a file may have; and the set's count
+-- of faults rose
+pub record IsLongConf (told : Option (Option (List ℕ))) (faults_before faults_after size : ℕ) : Type 0 where
+  pub long : IsPastLimit told size
+  pub rose : Rose faults_before faults_after
 
 -- the replay of what the source had is done, with settings that were read
-pub record IsReplayedBy (told : Option (Option (List ℕ))) (before after had got : Option (List ℕ)) : Type 0 where
+pub record IsReplayedBy (told : Option (Option (List ℕ))) (streams : Streams) : Type 0 where
   pub settings : Conf
   pub of_config : Gives told (Ok settings)
-  pub replayed : IfSome before (λ bytes. IsReplayed settings bytes after had got)
+  pub replayed : IfSome streams.before.left (λ bytes. IsReplayed settings bytes streams)
 
 -- the exit tells how the replay of the source ends with these settings, or the line that is refused
 abbrev pub TellsAll : Option (List ℕ) → Result Conf Refused → Exit → Type 0

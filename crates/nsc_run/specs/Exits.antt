@@ -6,10 +6,8 @@ use Rattle.nsc_outside.specs.declared.files.ReadCause.{ReadCause}
 use Rattle.nsc_outside.specs.declared.files.ReadCause.TheVariants as causes
 use Rattle.nsc_daemonconf.specs.declared.lines.ConfFault.{ConfFault}
 use Rattle.nsc_daemonconf.specs.declared.lines.ConfFault.TheVariants as lines
-use Rattle.nsc_plain.specs.declared.fault.PlainFault.{PlainFault}
-use Rattle.nsc_plain.specs.declared.fault.PlainFault.TheVariants as faults
-use Rattle.nsc_run.specs.declared.halt.Halt.{Halt}
-use Rattle.nsc_run.specs.declared.halt.Halt.TheVariants as halts
+use Rattle.nsc_replay.specs.declared.ended.Ended.{Ended}
+use Rattle.nsc_replay.specs.declared.ended.Ended.TheVariants as ended
 use Rattle.nsc_run.specs.declared.exit.Exit.{Exit}
 use Rattle.nsc_run.specs.declared.exit.Exit.TheVariants as exits
 
@@ -60,15 +58,12 @@ abbrev pub error_exit : ErrorKind → Exit
 error_exit kinds.OutOfMemory = exits.NoMemory
 error_exit kind = exits.Usage
 
--- the exit of a fault of the cache
-abbrev pub exit_of : PlainFault → Exit
-exit_of faults.NoMemory = exits.NoMemory
-exit_of (faults.Spent count) = exits.Spent count
-
--- the exit where no frame was read at this place of the input
-abbrev pub halt_exit : ℕ → Halt → Exit
-halt_exit place halts.Ended = exits.BadFrame place
-halt_exit place halts.NoFrame = exits.BadFrame place
-halt_exit place (halts.LongFile size) = exits.TooLong size
-halt_exit place halts.ReadFault = exits.ReadFault
-halt_exit place halts.NoMemory = exits.NoMemory
+-- the exit where the replay ended so
+abbrev pub exit_of : Ended → Exit
+exit_of ended.Done = exits.Ok
+exit_of ended.ReadFault = exits.ReadFault
+exit_of ended.WriteFault = exits.WriteFault
+exit_of (ended.BadFrame offset) = exits.BadFrame offset
+exit_of (ended.TooLong size) = exits.TooLong size
+exit_of (ended.Spent count) = exits.Spent count
+exit_of ended.NoMemory = exits.NoMemory

@@ -1,25 +1,23 @@
-ghost use Rattle.std.specs.Prelude.{◌≡◌, ◌⊎◌, Err, false, true, map, option_map, IfErr, IfSome};
-ghost use Rattle.std.specs.String.{string_bytes};
+ghost use Rattle.std.specs.Prelude.{◌≡◌, ◌⊎◌, Err, false, true, ℕ, option_map, IfErr, IfSome};
 ghost use Rattle.nsc_outside.specs.Stream.{Rose};
-ghost use Rattle.nsc_model.specs.Replay.{first_state, replay};
+ghost use Rattle.nsc_model.specs.Replay.{replay};
 ghost use Rattle.nsc_daemonconf.specs.Sizes.{SizesFit};
 ghost use Rattle.nsc_daemonconf.specs.Told.{refused};
 ghost use Rattle.nsc_daemonconf.specs.declared.lines.ConfFault.{ConfFault};
-ghost use Rattle.nsc_run.specs.Runs.{Counted, Run};
-ghost use Rattle.nsc_run.specs.Commands.{ComesBefore, Course, Gives, IsReplayed, IsReplayedBy, TellsAll, TellsEnd, TellsRefused, Untouched, config_of, config_told, is_replay, settings_by};
+ghost use Rattle.nsc_replay.specs.Streams.{streams};
+ghost use Rattle.nsc_run.specs.Commands.{ComesBefore, Counted, Course, Gives, IsLongConf, IsReplayed, IsReplayedBy, NoFault, Ran, Replays, TellsAll, TellsEnd, TellsRefused, Untouched, config_told, is_replay, named_config, settings_by, texts};
 
 use crate::config::conf_at;
 use crate::exit::Exit;
-use crate::rounds::replay_over;
 use crate::words::read_words;
 use nsc_answer::Plain;
 use nsc_daemonconf::Conf;
 use nsc_outside::{FileSet, Sink, Source};
 
 /// Replays the frames of the input with these settings: from every file absent, at moment 0, up to and with the first E.
-/// For each input of a connection the reply is written behind its length. The suggested sizes are 1 to 65,536.
+/// For each input of a connection the reply is written after its length. The suggested sizes are 1 to 65,536.
 ///
-/// At `Ok` the input stands right behind its first E, and what was written is the whole output of the replay. At
+/// At `Ok` the input stands right after its first E, and what was written is the whole output of the replay. At
 /// `BadFrame`, `TooLong` and `Spent` it is the output of the frames before. At `ReadFault` it is that of the whole frames
 /// that were read, at `NoMemory` that of these or of all but the last, and at `WriteFault` a front of it. `ReadFault` and
 /// `WriteFault` come only where a call on that stream failed, and its count of faults rose. Memory may be wanting at any
@@ -33,19 +31,18 @@ pub fn replay<RT: AllocGlobal, R: Source, K: Sink>(
     requires { SizesFit conf.now }
 
     // The input was read to the end of its first E, and the output is that of the replay.
-    ensures ok { result ≡ Exit.Ok → IfSome (R.left input.old) (λ bytes. IsReplayed conf.now bytes (R.left input.new) (K.taken output.old) (K.taken output.new)) }
+    ensures ok { result ≡ Exit.Ok → IfSome (R.left input.old) (λ bytes. IsReplayed conf.now bytes (streams R.Source K.Sink input.old input.new output.old output.new)) }
 
     // What was read and written, by the exit.
-    ensures run { Run conf.now first_state 0 (R.left input.old) (R.left input.new) (K.taken output.old) (K.taken output.new) result }
+    ensures run { Replays conf.now (streams R.Source K.Sink input.old input.new output.old output.new) result }
 
     // A fault of a stream is told only where one came.
-    ensures counts { Counted result (R.faults input.old) (R.faults input.new) (K.faults output.old) (K.faults output.new) }
+    ensures counts { Counted result (streams R.Source K.Sink input.old input.new output.old output.new) }
 
     // Where no fault came, the exit tells how the replay of the input ends, unless memory was wanting.
-    ensures complete { (Rose (R.faults input.old) (R.faults input.new) → ⊥) → (Rose (K.faults output.old) (K.faults output.new) → ⊥) →
-        IfSome (R.left input.old) (λ bytes. TellsEnd (replay conf.now bytes).finish result) }
+    ensures complete { NoFault (streams R.Source K.Sink input.old input.new output.old output.new) → IfSome (R.left input.old) (λ bytes. TellsEnd (replay conf.now bytes).finish result) }
 {
-    replay_over(rt.alloc(), conf, &Plain, input, output)
+    Exit::from(nsc_replay::replay(rt.alloc(), conf, &Plain, input, output))
 }
 
 /// Runs the command of these words, which leave out the program's own name. The one command so far is `--replay`: the
@@ -63,30 +60,35 @@ pub fn run<RT: AllocGlobal, R: Source, K: Sink, F: FileSet>(
     files: &mut F,
 ) -> Exit
     // Usage tells that the words are none of the replay, and these come to nothing else, unless memory was wanting.
-    ensures usage { result ≡ Exit.Usage → is_replay (map (λ w. string_bytes w) words.now) ≡ false }
-    ensures refused { is_replay (map (λ w. string_bytes w) words.now) ≡ false → (result ≡ Exit.Usage) ⊎ (result ≡ Exit.NoMemory) }
-    ensures untouched { ComesBefore result → Untouched (R.left input.old) (R.left input.new) (K.taken output.old) (K.taken output.new) }
+    ensures usage { result ≡ Exit.Usage → is_replay (texts words.now) ≡ false }
+    ensures refused { is_replay (texts words.now) ≡ false → (result ≡ Exit.Usage) ⊎ (result ≡ Exit.NoMemory) }
+    ensures unread { is_replay (texts words.now) ≡ false → Untouched (streams R.Source K.Sink input.old input.new output.old output.new) }
+    ensures untouched { ComesBefore result → Untouched (streams R.Source K.Sink input.old input.new output.old output.new) }
 
     // A line is told only where a configuration that is read is refused for it, and where one is told that is, so it is.
-    ensures bad_conf { (fault : ConfFault) → result ≡ Exit.BadConf fault → Gives (config_told (F.conf_held files.old) (config_of (map (λ w. string_bytes w) words.now))) (Err (refused fault)) }
-    ensures refused_conf { is_replay (map (λ w. string_bytes w) words.now) ≡ true → (Rose (F.faults files.old) (F.faults files.new) → ⊥) →
-        IfSome (config_told (F.conf_held files.old) (config_of (map (λ w. string_bytes w) words.now))) (λ config. IfErr (settings_by config) (λ line. TellsRefused line result)) }
+    ensures bad_conf { (fault : ConfFault) → result ≡ Exit.BadConf fault → Gives (named_config (F.conf_held files.old) (texts words.now)) (Err (refused fault)) }
+    ensures refused_conf { is_replay (texts words.now) ≡ true → (Rose (F.faults files.old) (F.faults files.new) → ⊥) →
+        IfSome (named_config (F.conf_held files.old) (texts words.now)) (λ config. IfErr (settings_by config) (λ line. TellsRefused line result)) }
+
+    // A length is told of a configuration only where that is longer than a file may be, and else of a file in a frame.
+    ensures too_long { (size : ℕ) → result ≡ Exit.TooLong size →
+        IsLongConf (named_config (F.conf_held files.old) (texts words.now)) (F.faults files.old) (F.faults files.new) size
+        ⊎ Ran (named_config (F.conf_held files.old) (texts words.now)) (F.faults files.old) (F.faults files.new) (streams R.Source K.Sink input.old input.new output.old output.new) result }
 
     // A fault of a stream or of the files is told only where one came.
-    ensures counts { Counted result (R.faults input.old) (R.faults input.new) (K.faults output.old) (K.faults output.new) }
+    ensures counts { Counted result (streams R.Source K.Sink input.old input.new output.old output.new) }
     ensures files { result ≡ Exit.SourceFault → Rose (F.faults files.old) (F.faults files.new) }
 
     // The input was read to the end of its first E, and the output is that of the replay.
-    ensures ok { result ≡ Exit.Ok → IsReplayedBy (config_told (F.conf_held files.old) (config_of (map (λ w. string_bytes w) words.now))) (R.left input.old) (R.left input.new) (K.taken output.old) (K.taken output.new) }
+    ensures ok { result ≡ Exit.Ok → IsReplayedBy (named_config (F.conf_held files.old) (texts words.now)) (streams R.Source K.Sink input.old input.new output.old output.new) }
 
     // What was read and written, by the exit.
-    ensures run { is_replay (map (λ w. string_bytes w) words.now) ≡ true →
-        Course (config_told (F.conf_held files.old) (config_of (map (λ w. string_bytes w) words.now))) (F.faults files.old) (F.faults files.new) (R.left input.old) (R.left input.new) (K.taken output.old) (K.taken output.new) result }
+    ensures run { is_replay (texts words.now) ≡ true →
+        Course (named_config (F.conf_held files.old) (texts words.now)) (F.faults files.old) (F.faults files.new) (streams R.Source K.Sink input.old input.new output.old output.new) result }
 
     // Where no fault came, the exit tells how the replay of the input ends, unless memory was wanting.
-    ensures complete { is_replay (map (λ w. string_bytes w) words.now) ≡ true →
-        (Rose (F.faults files.old) (F.faults files.new) → ⊥) → (Rose (R.faults input.old) (R.faults input.new) → ⊥) → (Rose (K.faults output.old) (K.faults output.new) → ⊥) →
-        IfSome (config_told (F.conf_held files.old) (config_of (map (λ w. string_bytes w) words.now))) (λ config. TellsAll (R.left input.old) (settings_by config) result) }
+    ensures complete { is_replay (texts words.now) ≡ true → (Rose (F.faults files.old) (F.faults files.new) → ⊥) → NoFault (streams R.Source K.Sink input.old input.new output.old output.new) →
+        IfSome (named_config (F.conf_held files.old) (texts words.now)) (λ config. TellsAll (R.left input.old) (settings_by config) result) }
 {
     match read_words(rt.alloc(), words) {
         Ok(asked) => configured(rt, asked.config, input, output, files),
@@ -102,8 +104,8 @@ fn configured<RT: AllocGlobal, R: Source, K: Sink, F: FileSet>(
     output: &mut K,
     files: &mut F,
 ) -> Exit
-    ensures run { Course (config_told (F.conf_held files.old) (option_map (λ p. p.now) config.entry)) (F.faults files.old) (F.faults files.new) (R.left input.old) (R.left input.new) (K.taken output.old) (K.taken output.new) result }
-    ensures counts { Counted result (R.faults input.old) (R.faults input.new) (K.faults output.old) (K.faults output.new) }
+    ensures run { Course (config_told (F.conf_held files.old) (option_map (λ p. p.now) config.entry)) (F.faults files.old) (F.faults files.new) (streams R.Source K.Sink input.old input.new output.old output.new) result }
+    ensures counts { Counted result (streams R.Source K.Sink input.old input.new output.old output.new) }
 {
     match conf_at(rt.alloc(), config, files) {
         Ok(conf) => replay(rt, &conf, input, output),

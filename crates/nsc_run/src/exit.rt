@@ -4,8 +4,8 @@ ghost use Rattle.nsc_run.specs.declared.exit.Exit.TheVariants.{NoMemory as Memor
 use nsc_base::{Bytes, NoMemory};
 use nsc_daemonconf::ConfFault;
 use nsc_outside::ReadCause;
-use nsc_plain::PlainFault;
-use std::alloc::{AllocError, AllocFailed, Global};
+use nsc_replay::Ended;
+use std::alloc::{AllocError, Global};
 use std::fmt;
 
 /// How the program ends.
@@ -67,7 +67,7 @@ impl Exit {
         }
     }
 
-    /// What is told on standard error: the text of the exit with a newline behind it, and nothing where the command was
+    /// What is told on standard error: the text of the exit with a newline after it, and nothing where the command was
     /// done. Fails only for want of memory.
     pub fn text(&self, alloc: Global) -> Result<Bytes, NoMemory>
         ensures { IfOk result (λ text. text ≡ line_of self.now) }
@@ -111,14 +111,6 @@ impl fmt::Display for Exit {
     }
 }
 
-impl From<NoMemory> for Exit {
-    ghost from_gives = { λ _ exit. exit ≡ Memory };
-
-    fn from(_e: NoMemory) -> Exit {
-        Exit::NoMemory
-    }
-}
-
 impl From<AllocError> for Exit {
     ghost from_gives = { λ _ exit. exit ≡ Memory };
 
@@ -151,23 +143,20 @@ impl From<ConfFault> for Exit {
     }
 }
 
-impl<T: Drop> From<AllocFailed<T>> for Exit {
-    ghost from_gives = { λ _ exit. exit ≡ Memory };
-
-    fn from(_e: AllocFailed<T>) -> Exit {
-        Exit::NoMemory
-    }
-}
-
-impl From<PlainFault> for Exit {
+impl From<Ended> for Exit {
     ghost use Rattle.nsc_run.specs.Exits.{exit_of};
 
-    ghost from_gives = { λ fault exit. exit ≡ exit_of fault };
+    ghost from_gives = { λ ended exit. exit ≡ exit_of ended };
 
-    fn from(fault: PlainFault) -> Exit {
-        match fault {
-            PlainFault::NoMemory => Exit::NoMemory,
-            PlainFault::Spent { count } => Exit::Spent { count },
+    fn from(ended: Ended) -> Exit {
+        match ended {
+            Ended::Done => Exit::Ok,
+            Ended::ReadFault => Exit::ReadFault,
+            Ended::WriteFault => Exit::WriteFault,
+            Ended::BadFrame { offset } => Exit::BadFrame { offset },
+            Ended::TooLong { length } => Exit::TooLong { length },
+            Ended::Spent { count } => Exit::Spent { count },
+            Ended::NoMemory => Exit::NoMemory,
         }
     }
 }

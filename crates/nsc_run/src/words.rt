@@ -1,9 +1,8 @@
-ghost use Rattle.std.specs.Prelude.{◌≡◌, ◌⊎◌, IfOk, IfErr, List, ℕ, true, false, map, option_map, codes};
+ghost use Rattle.std.specs.Prelude.{◌≡◌, ◌⊎◌, IfOk, IfErr, true, false, option_map, codes};
 ghost use Rattle.std.specs.Option.{option_map_or};
 ghost use Rattle.std.specs.Str.{bytes_eq};
-ghost use Rattle.std.specs.String.{string_bytes};
 ghost use Rattle.clap.specs.Words.{app_of, first_of, found_of, kind_of, matches_of, rows_of};
-ghost use Rattle.nsc_run.specs.Commands.{IsRefusal, command_app, config_of, is_command, is_replay};
+ghost use Rattle.nsc_run.specs.Commands.{IsRefusal, command_app, config_of, is_command, is_replay, texts};
 ghost use Rattle.nsc_run.specs.Exits.{error_exit};
 
 use crate::exit::Exit;
@@ -22,8 +21,8 @@ pub struct Asked<'a> {
 /// Reads the words of the replay: `--replay`, and `-f FILE` or `--config-file FILE` with a text that is not empty, in
 /// any order and each at most once. Other words are `Usage`.
 pub fn read_words<'a>(alloc: Global, words: &'a [String]) -> Result<Asked<'a>, Exit>
-    ensures ok { IfOk result (λ asked. (is_replay (map (λ w. string_bytes w) words.entry.now) ≡ true) × (option_map (λ p. p.now) asked.config ≡ config_of (map (λ w. string_bytes w) words.entry.now))) }
-    ensures err { IfErr result (λ exit. IsRefusal (is_replay (map (λ w. string_bytes w) words.entry.now)) exit) }
+    ensures ok { IfOk result (λ asked. (is_replay (texts words.entry.now) ≡ true) × (option_map (λ p. p.now) asked.config ≡ config_of (texts words.entry.now))) }
+    ensures err { IfErr result (λ exit. IsRefusal (is_replay (texts words.entry.now)) exit) }
 {
     let matches = parsed(alloc, words)?;
     if !has_replay(&matches) {
@@ -36,9 +35,9 @@ pub fn read_words<'a>(alloc: Global, words: &'a [String]) -> Result<Asked<'a>, E
 
 // The matches of the program's command.
 fn parsed<'a>(alloc: Global, words: &'a [String]) -> Result<ArgMatches<'a>, Exit>
-    ensures command { IfOk result (λ m. is_command (map (λ w. string_bytes w) words.entry.now) ≡ true) }
-    ensures matches { IfOk result (λ m. rows_of (found_of m) ≡ matches_of command_app (map (λ w. string_bytes w) words.entry.now)) }
-    ensures err { IfErr result (λ exit. IsRefusal (is_command (map (λ w. string_bytes w) words.entry.now)) exit) }
+    ensures command { IfOk result (λ m. is_command (texts words.entry.now) ≡ true) }
+    ensures matches { IfOk result (λ m. rows_of (found_of m) ≡ matches_of command_app (texts words.entry.now)) }
+    ensures err { IfErr result (λ exit. IsRefusal (is_command (texts words.entry.now)) exit) }
 {
     match command(alloc)?.try_get_matches_from(words) {
         Ok(matches) => Ok(matches),

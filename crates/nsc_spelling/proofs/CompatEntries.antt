@@ -26,7 +26,8 @@ group_found : (looked : Looked) → IsSent entry_limit GrName looked → IfSome 
 group_found (Found (row.Group g)) sent = sent
 group_found _ sent = tt
 
-pub users_sent : (files : Files) (by : Kind) (key : List ℕ) (names : Passwd → Bool) → FilesFit files → IsSent entry_limit PwName (sub_looked files db.Passwd by key) → IsSent reply_limit PwName (scanned_file (user_scan files by key names) files.passwd)
+pub users_sent : (files : Files) (by : Kind) (key : List ℕ) (names : Passwd → Bool) → FilesFit files
+    → IsSent entry_limit PwName (sub_looked files db.Passwd by key) → IsSent reply_limit PwName (scanned_file (user_scan files by key names) files.passwd)
 users_sent files by key names fit asked =
     let scan = user_scan files by key names in
     let none = any_sent PwName Unavail (none_sent PwName) in
@@ -40,7 +41,8 @@ users_sent files by key names fit asked =
     } in
     scan_keeps (IsSent reply_limit PwName) (IsSentUser entry_limit) scan scans files.passwd fit.passwd_fits (users_keep files.passwd fit.passwd_fits)
 
-pub groups_sent : (files : Files) (by : Kind) (key : List ℕ) (names : Group → Bool) → FilesFit files → IsSent entry_limit GrName (sub_looked files db.Group by key) → IsSent reply_limit GrName (scanned_file (group_scan files by key names) files.group)
+pub groups_sent : (files : Files) (by : Kind) (key : List ℕ) (names : Group → Bool) → FilesFit files
+    → IsSent entry_limit GrName (sub_looked files db.Group by key) → IsSent reply_limit GrName (scanned_file (group_scan files by key names) files.group)
 groups_sent files by key names fit asked =
     let scan = group_scan files by key names in
     let none = any_sent GrName Unavail (none_sent GrName) in

@@ -34,7 +34,8 @@ before_keeps : (P : ℕ → Type 0) (ids : List ℕ) (o : Option (List ℕ)) →
 before_keeps P ids None first later = tt
 before_keeps P ids (Some more) first later = append_keeps P ids more first later
 
-gathered_keeps : (P : ℕ → Type 0) (scan : IdScan) → ((name : List ℕ) → IfSome (scan.by_name name) (λ g. P g.gid)) → AllByRecursion (λ p. P p.1) scan.pairs → (lines : List (List ℕ)) → AllByRecursion (λ g. P g.gid) (filter_map scan.group_of lines) → (excluded : List (List ℕ)) → IfSome (gathered scan lines excluded) (AllByRecursion P)
+gathered_keeps : (P : ℕ → Type 0) (scan : IdScan) → ((name : List ℕ) → IfSome (scan.by_name name) (λ g. P g.gid)) → AllByRecursion (λ p. P p.1) scan.pairs
+    → (lines : List (List ℕ)) → AllByRecursion (λ g. P g.gid) (filter_map scan.group_of lines) → (excluded : List (List ℕ)) → IfSome (gathered scan lines excluded) (AllByRecursion P)
 gathered_keeps P scan named pairs [] all excluded = tt
 gathered_keeps P scan named pairs (line ∷ lines) all excluded =
     let front = front_keeps (λ g. P g.gid) (scan.group_of line) (filter_map scan.group_of lines) all in
@@ -75,7 +76,7 @@ module _ (P : ℕ → Type 0) (files : Files) (own : AllByRecursion (λ g. P g.g
   pairs : AllByRecursion (λ p. P p.1) (named_groups files user)
   pairs = pairs_by (deciding (sub_answer files (record { kind = InitGroups; key = user })) (compat_list files db.Group))
 
-  pub file_gathered : (file : List ℕ) → files.group ≡ Some file → IfSome (gathered (id_scan files user) (lines_of file) []) (AllByRecursion P)
+  file_gathered : (file : List ℕ) → files.group ≡ Some file → IfSome (gathered (id_scan files user) (lines_of file) []) (AllByRecursion P)
   file_gathered file is = gathered_keeps P (id_scan files user) named pairs (lines_of file) (subst (λ (f : Option (List ℕ)). AllByRecursion (λ g. P g.gid) (entries_in group_of_line f)) is own) []
 
 -- ---- the ids of both files

@@ -37,7 +37,8 @@ found_keeps P row_of none None kept = none
 found_keeps P row_of none (Some x) kept = kept
 
 -- a property of outcomes that the entries of a file have
-pub file_keeps : {A : Type 0} (P : Looked → Type 0) (row_of : A → Row) (entry_of : List ℕ → Option A) (names : A → Bool) → P NotFound → P Unavail → (file : Option (List ℕ)) → AllByRecursion (λ x. P (Found (row_of x))) (entries_in entry_of file) → P (file_entry row_of entry_of names file)
+pub file_keeps : {A : Type 0} (P : Looked → Type 0) (row_of : A → Row) (entry_of : List ℕ → Option A) (names : A → Bool) → P NotFound → P Unavail
+    → (file : Option (List ℕ)) → AllByRecursion (λ x. P (Found (row_of x))) (entries_in entry_of file) → P (file_entry row_of entry_of names file)
 file_keeps P row_of entry_of names none lacking None all = lacking
 file_keeps {A} P row_of entry_of names none lacking (Some file) all =
     let Q : A → Type 0 = λ x. P (Found (row_of x)) in

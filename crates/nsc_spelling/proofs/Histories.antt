@@ -33,7 +33,8 @@ version_below (End number cause ∷ before) n files l h = version_below before n
 version_below (Invalid epoch ∷ before) n files l h = version_below before n files l.0 h
 
 -- so a version stays behind the change to the next
-version_stays : (version : ℕ) (content : Files) (before : List Record) (n : ℕ) (files : Files) → Legal before → version ≡ changes before → version_in before n ≡ Some files → version_in (Change version content ∷ before) n ≡ Some files
+version_stays : (version : ℕ) (content : Files) (before : List Record) (n : ℕ) (files : Files) → Legal before
+    → version ≡ changes before → version_in before n ≡ Some files → version_in (Change version content ∷ before) n ≡ Some files
 version_stays version content before n files l is h =
     let below = version_below before n files l h in
     let other : (version == n) ≡ false = grind (arith, nat_tests) in
@@ -53,13 +54,15 @@ version_fits (Load entry ∷ before) n files within h = version_fits before n fi
 version_fits (End number cause ∷ before) n files within h = version_fits before n files within.1 h
 version_fits (Invalid epoch ∷ before) n files within h = version_fits before n files within.1 h
 
-spelled_over : (history : List Record) (n : ℕ) (files : Files) (request : Request) (bytes : List ℕ) → AllByRecursion IsWithin history → version_in history n ≡ Some files → (answer_of files request).bytes ≡ bytes → SpellsVersion history request bytes
+spelled_over : (history : List Record) (n : ℕ) (files : Files) (request : Request) (bytes : List ℕ) → AllByRecursion IsWithin history
+    → version_in history n ≡ Some files → (answer_of files request).bytes ≡ bytes → SpellsVersion history request bytes
 spelled_over history n files request bytes within holds said =
     let fits = version_fits history n files within holds in
     subst (λ (b : List ℕ). SpellsVersion history request b) said (record { version = n; files = files; holds = holds; fits = fits; spells = answer_spells files request fits })
 
 -- what was spelled before a record is spelled behind it, where the versions stay
-behind : (r : Record) (before : List Record) (e : Fixed) → ((n : ℕ) (files : Files) → version_in before n ≡ Some files → version_in (r ∷ before) n ≡ Some files) → SpellsVersion before e.request e.answer.bytes → SpellsVersion (r ∷ before) e.request e.answer.bytes
+behind : (r : Record) (before : List Record) (e : Fixed) → ((n : ℕ) (files : Files) → version_in before n ≡ Some files → version_in (r ∷ before) n ≡ Some files)
+    → SpellsVersion before e.request e.answer.bytes → SpellsVersion (r ∷ before) e.request e.answer.bytes
 behind r before e stay spelled = record { version = spelled.version; files = spelled.files; holds = stay spelled.version spelled.files spelled.holds; fits = spelled.fits; spells = spelled.spells }
 
 load_spells : (history : List Record) (e : Fixed) → Legal history → AllByRecursion IsWithin history → HasLoad history e → SpellsVersion history e.request e.answer.bytes
@@ -80,7 +83,8 @@ load_spells (Invalid epoch ∷ before) e l within has = behind (Invalid epoch) b
 pub loaded_law : (history : List Record) (entry : Fixed) → Legal history → All IsWithin history → HasLoad history entry → SpellsVersion history entry.request entry.answer.bytes
 loaded_law history entry l within has = load_spells history entry l (recursion_from_All IsWithin history within) has
 
-source_spells : (seen history : List Record) (request : Request) (bytes : List ℕ) → Legal history → All IsWithin history → FromEntry seen history request bytes ⊎ FromPoll seen history request bytes → SpellsVersion history request bytes
+source_spells : (seen history : List Record) (request : Request) (bytes : List ℕ) → Legal history → All IsWithin history
+    → FromEntry seen history request bytes ⊎ FromPoll seen history request bytes → SpellsVersion history request bytes
 source_spells seen history request bytes l within (inl from) =
     let e = from.entry_is in
     let spelled = subst (λ (asked : Request). SpellsVersion history asked e.answer.bytes) from.answers (loaded_law history e l within from.inserted) in

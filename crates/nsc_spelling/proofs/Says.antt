@@ -27,7 +27,8 @@ module _ {A : Type 0} (P : Says A → Type 0) (nothing : P Nothing) (netgroup : 
       ]
 
   -- the fields are those of a line without a zero byte
-  pub line_case : (entry_of : List ℕ → Option A) (line : List ℕ) → IfSome (entry_of line) (λ x. P (Entry x)) → (has_zero line ≡ false → P (AsksAll (fields_of 58 (trimmed line)))) → (has_zero line ≡ false → (name : List ℕ) → P (Asks name (fields_of 58 (trimmed line)))) → P (says entry_of line)
+  pub line_case : (entry_of : List ℕ → Option A) (line : List ℕ) → IfSome (entry_of line) (λ x. P (Entry x)) → (has_zero line ≡ false → P (AsksAll (fields_of 58 (trimmed line))))
+      → (has_zero line ≡ false → (name : List ℕ) → P (Asks name (fields_of 58 (trimmed line)))) → P (says entry_of line)
   line_case entry_of line entry asks_all asks =
       elim (has_zero line) as (λ v. has_zero line ≡ v → P (if v then Nothing else says_by (entry_of line) (trimmed line))) [
         | true ↦ λ is. nothing

@@ -23,12 +23,14 @@ pub record Scans {A : Type 0} (P : Looked → Type 0) (Q : A → Type 0) (scan :
   pub named : (name : List ℕ) → IfSome (scan.by_name name) Q
   pub asked : IfSome scan.asked Q
 
-answers_keep : {A : Type 0} (P : Looked → Type 0) (scan : Scan A) (names : A → Bool) (excluded : List (List ℕ)) (o : Option A) (replaced : A → A) (next : Looked) → IfSome o (λ x. P (scan.found (replaced x))) → P next → P (answers_or scan names excluded o replaced next)
+answers_keep : {A : Type 0} (P : Looked → Type 0) (scan : Scan A) (names : A → Bool) (excluded : List (List ℕ)) (o : Option A) (replaced : A → A) (next : Looked)
+    → IfSome o (λ x. P (scan.found (replaced x))) → P next → P (answers_or scan names excluded o replaced next)
 answers_keep P scan names excluded None replaced next kept later = later
 answers_keep P scan names excluded (Some x) replaced next kept later =
     elim (names x && not (is_excluded excluded (scan.name_of x))) as (λ v. P (if v then scan.found (replaced x) else next)) [ true ↦ kept | false ↦ later ]
 
-lines_keep : {A : Type 0} (P : Looked → Type 0) (Q : A → Type 0) (scan : Scan A) → Scans P Q scan → (lines : List (List ℕ)) → size_of lines ≤ file_limit + 1 → AllByRecursion Q (filter_map scan.entry_of lines) → (excluded : List (List ℕ)) → P (scanned scan lines excluded)
+lines_keep : {A : Type 0} (P : Looked → Type 0) (Q : A → Type 0) (scan : Scan A) → Scans P Q scan → (lines : List (List ℕ))
+    → size_of lines ≤ file_limit + 1 → AllByRecursion Q (filter_map scan.entry_of lines) → (excluded : List (List ℕ)) → P (scanned scan lines excluded)
 lines_keep P Q scan scans [] short all excluded = scans.none
 lines_keep {A} P Q scan scans (line ∷ lines) short all excluded =
     let front = front_keeps Q (scan.entry_of line) (filter_map scan.entry_of lines) all in

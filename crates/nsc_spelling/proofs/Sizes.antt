@@ -32,7 +32,7 @@ lines_size (b ∷ bytes) =
       | false ↦ omega (arith, onto_size b (length bytes) (lines_of bytes) later)
     ]
 
-pub filter_size : (test : List ℕ → Bool) (texts : List (List ℕ)) → size_of (filter test texts) ≤ size_of texts
+filter_size : (test : List ℕ → Bool) (texts : List (List ℕ)) → size_of (filter test texts) ≤ size_of texts
 filter_size test [] = omega arith
 filter_size test (text ∷ texts) =
     let later = filter_size test texts in

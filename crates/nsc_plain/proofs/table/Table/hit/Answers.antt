@@ -1,0 +1,47 @@
+use Rattle.std.proofs.Common.{◌≡◌, ℕ, ◌<◌, List, length, get_or, set, find, Some, None, sym, ◌∙◌, ap, subst, refl, Option, true}
+use Rattle.std.specs.Prelude.{position}
+use Rattle.std.proofs.lemmas.List.Quantifiers.{position-Some}
+use Rattle.nsc_model.specs.declared.answer.Request.{Request}
+use Rattle.nsc_model.specs.Fixed.{Fixed}
+use Rattle.nsc_model.specs.Marked.{Marked}
+use Rattle.nsc_model.specs.Machine.{Kept}
+use Rattle.nsc_plain.specs.PlainCache.{HitsBy}
+use Rattle.nsc_plain.specs.Table.{Table, over}
+use Rattle.nsc_plain.proofs.Apart.{asks, restarted, found_at, found_none, hit_keeps, used_at}
+use Rattle.nsc_plain.proofs.table.Table.hit.Goals as goal
+
+pub returns-in_default-clause-hit : goal.returns-in_default-clause-hit
+returns-in_default-clause-hit c = λ cache.
+    let request : Request = record { kind = c.args.kind; key = c.args.key.now } in
+    let none = found_none (asks request) c.self.inside.entries.items (rw c.deref.ensures.value at (sym c.in_default.ensures)) in
+    let none_here = subst (λ (t : Table). find (asks request) t.entries ≡ None) c.self.view_is none in
+    subst (λ (o : Option Kept). HitsBy o request (over cache c.args.self.now) (over cache c.args.self.now) None) (sym none_here) (refl, refl)
+
+-- the entry at the place that was found, and the entries once it was used
+pub invariant_of-self-2 : goal.invariant_of-self-2
+invariant_of-self-2 c =
+    let request : Request = record { kind = c.args.kind; key = c.args.key.now } in
+    let items = c.self.inside.entries.items in
+    let held : Kept = c.index_mut-held.result.now in
+    let at = position-Some (asks request) items c.in-Some.at held (rw c.deref.ensures.value at (sym c.in-Some.ensures)) in
+    let new : c.restart.new.self ≡ restarted (get_or items c.in-Some.at held) = c.restart.ensures ∙ ap restarted c.index_mut-held.ensures.value in
+    rw new (hit_keeps items c.in-Some.at held c.self.inside.used c.self.inside.inserted at.0 c.self.invariant)
+
+pub returns-clause-hit : goal.returns-clause-hit
+returns-clause-hit c = λ cache.
+    let request : Request = record { kind = c.args.kind; key = c.args.key.now } in
+    let items : List Kept = c.self.inside.entries.items in
+    let held : Kept = c.index_mut-held.result.now in
+    let first : position (asks request) items ≡ Some c.in-Some.at = rw c.deref.ensures.value at (sym c.in-Some.ensures) in
+    let at = position-Some (asks request) items c.in-Some.at held first in
+    let found = found_at (asks request) items c.in-Some.at held first in
+    let new : c.restart.new.self ≡ restarted (get_or items c.in-Some.at held) = c.restart.ensures ∙ ap restarted c.index_mut-held.ensures.value in
+    let used = ap (set items c.in-Some.at) new ∙ sym (used_at request items c.in-Some.at held at.0 at.1 (c.self.invariant.apart request)) in
+    let reply : c.in_ok-reply.reply ≡ (get_or items c.in-Some.at held).entry.answer.bytes =
+    c.in_ok-reply.ensures
+    ∙ (c.bytes.ensures.value
+    ∙ (ap (λ (a : Marked). a.bytes) c.answer.ensures.value ∙ (ap (λ (e : Fixed). e.answer.bytes) c.entry.ensures ∙ ap (λ (k : Kept). k.entry.answer.bytes) c.index_mut-held.ensures.value))) in
+    let with = λ (entries : List Kept). let t : Table = record { entries = entries; used = c.self.inside.used; inserted = c.self.inside.inserted; cycle = c.self.inside.cycle; add_failed = c.self.inside.add_failed; capacity = 0 } in t in
+    subst (λ (t : Table). HitsBy (find (asks request) t.entries) request (over cache t) (over cache (with (set items c.in-Some.at c.restart.new.self))) (Some c.in_ok-reply.reply)) c.self.view_is
+    (subst (λ (o : Option Kept). HitsBy o request (over cache (with items)) (over cache (with (set items c.in-Some.at c.restart.new.self))) (Some c.in_ok-reply.reply)) (sym found)
+    (ap (λ (bytes : List ℕ). Some bytes) reply, ap (λ (entries : List Kept). over cache (with entries)) used))

@@ -1,0 +1,55 @@
+-- What a plain cache holds apart from its contents, and insertions into it.
+use Rattle.std.specs.Prelude.{ℕ, ◌+◌, ◌≤◌, List, [], ◌∷◌, count_by}
+use Rattle.nsc_model.specs.declared.answer.Request.{Request}
+use Rattle.nsc_model.specs.Kinds.{is_request}
+use Rattle.nsc_model.specs.declared.conf.DbConf.{DbConf}
+use Rattle.nsc_model.specs.Machine.{Kept, Cache, all_words, last_count, life_of, own_refusal, room_of, tried_by}
+use Rattle.nsc_plain.specs.Answered.{Answered}
+
+-- the live entries, the counts that their insertions and ends change, and for how many entries there is memory
+pub record Table : Type 0 where
+  pub entries : List Kept
+  pub used : ℕ
+  pub inserted : ℕ
+  pub cycle : ℕ
+  pub add_failed : ℕ
+  pub capacity : ℕ
+
+-- the cache that is this one but for its entries and their counts
+abbrev pub over : Cache → Table → Cache
+over cache table = record cache { entries = table.entries; used = table.used; inserted = table.inserted; cycle = table.cycle; add_failed = table.add_failed }
+
+-- how many of these entries answer a request, and how many of these answered requests are that one
+abbrev pub entries_for : Request → List Kept → ℕ
+entries_for request entries = count_by (λ k. is_request request k.entry.request) entries
+
+abbrev pub answered_for : Request → List Answered → ℕ
+answered_for request all = count_by (λ a. is_request request a.request) all
+
+-- the entries have different requests
+abbrev pub AreApart : List Kept → Type 0
+AreApart entries = (request : Request) → entries_for request entries ≤ 1
+
+-- and so have they with those that are to be inserted
+abbrev pub StayApart : List Kept → List Answered → Type 0
+StayApart entries all = (request : Request) → entries_for request entries + answered_for request all ≤ 1
+
+-- what a table keeps: the words of its entries are used, its count of insertions has an end, and no request has two entries
+pub record IsKept (entries : List Kept) (used inserted : ℕ) : Type 0 where
+  pub words : all_words entries ≤ used
+  pub counted : inserted ≤ last_count
+  pub apart : AreApart entries
+
+-- the entry of an answered request in this cache, over this version
+abbrev pub answered_entry : DbConf → ℕ → ℕ → Answered → Cache → Kept
+answered_entry settings now version answered cache =
+    record { entry = record { number = cache.inserted; request = answered.request; version = version; answer = answered.answer; timeout = now + life_of settings answered.answer }; reloads = answered.reloads }
+
+-- the cache once its insertion was tried
+abbrev pub put : DbConf → ℕ → ℕ → Answered → Cache → Cache
+put settings now version answered cache = let k = answered_entry settings now version answered cache in (tried_by (own_refusal (room_of settings) k.entry cache) k cache).cache
+
+-- the cache once all were tried, one after the other
+abbrev pub put_all : DbConf → ℕ → ℕ → List Answered → Cache → Cache
+put_all settings now version [] cache = cache
+put_all settings now version (answered ∷ others) cache = put_all settings now version others (put settings now version answered cache)

@@ -1,0 +1,85 @@
+ghost use Rattle.std.specs.Prelude.{◌≡◌, true, false, IfOk};
+ghost use Rattle.std.specs.Arc.{arc_value};
+ghost use Rattle.nsc_model.specs.Answers.{answer_of};
+
+use nsc_base::NoMemory;
+use nsc_model::{Answer, Answerer, Content, Kind};
+use std::alloc::Global;
+use std::marker::Model;
+use std::sync::Arc;
+
+/// The files that a database reads, as they are: whether its cache is known to have polled them, and what was prepared
+/// from them, once an answer was asked for.
+#[derive(Drop)]
+pub struct Prepared<A: Answerer> {
+    content: Arc<Content>,
+    is_polled: bool,
+    ready: Option<A::Ready>,
+}
+
+impl<A: Answerer> Model for Prepared<A> {
+    ghost use Rattle.std.specs.Prelude.{◌≡◌, IfSome};
+    ghost use Rattle.std.specs.Arc.{arc_value};
+    ghost use Rattle.nsc_plain.specs.Prepared.{Prepared};
+
+    ghost Value = { Prepared };
+
+    ghost view = { λ p. record { files = arc_value p.content; is_polled = p.is_polled } };
+
+    ghost invariant = { λ p. IfSome p.ready (λ ready. A.prepared_from ready ≡ arc_value p.content) };
+}
+
+impl<A: Answerer> Prepared<A> {
+    /// These files, which no cache is known to have polled.
+    pub fn new(content: Arc<Content>) -> Prepared<A>
+        ensures { result ≡ record { files = arc_value content; is_polled = false } }
+    {
+        Prepared {
+            content,
+            is_polled: false,
+            ready: None,
+        }
+    }
+
+    /// The files.
+    pub(crate) fn content(&self) -> &Arc<Content>
+        ensures { arc_value result.now ≡ self.now.files }
+    {
+        &self.content
+    }
+
+    /// Whether the cache is known to have polled them.
+    pub(crate) fn is_polled(&self) -> bool
+        ensures { result ≡ self.now.is_polled }
+    {
+        self.is_polled
+    }
+
+    /// The cache polled them.
+    pub(crate) fn set_polled(&mut self)
+        ensures { self.new ≡ record self.old { is_polled = true } }
+    {
+        self.is_polled = true;
+    }
+
+    /// The answer to the request of this kind and key over these files. What is prepared for the first answer serves the
+    /// later ones. Fails only for want of memory.
+    pub(crate) fn answer(
+        &mut self,
+        alloc: Global,
+        answers: &A,
+        kind: Kind,
+        key: &[u8],
+    ) -> Result<Answer, NoMemory>
+        ensures stays { self.new ≡ self.old }
+        ensures answer { IfOk result (λ answer. answer ≡ answer_of self.old.files (record { kind = kind; key = key.now })) }
+    {
+        let ready = match self.ready.take() {
+            Some(ready) => ready,
+            None => answers.prepare(alloc, self.content.clone()?)?,
+        };
+        let answer = answers.answer(alloc, &ready, kind, key);
+        self.ready = Some(ready);
+        answer
+    }
+}

@@ -1,0 +1,6 @@
+pub mod Steps
+pub mod Firsts
+pub mod Parts
+pub mod Outputs
+pub mod OneRound
+pub mod Chains

@@ -1,0 +1,10 @@
+pub mod Frame
+pub mod Ended
+pub mod Databases
+pub mod Cached
+pub mod Parts
+pub mod Machine
+pub mod Reading
+pub mod Turns
+pub mod Streams
+pub mod Runs

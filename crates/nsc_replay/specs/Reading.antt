@@ -1,0 +1,44 @@
+-- Frames read from a source: what is claimed of the bytes that were read, where the source tells them.
+use Rattle.std.specs.Prelude.{◌≡◌, ℕ, List, Option, Result, Ok, Err}
+use Rattle.nsc_outside.specs.Stream.{Rose, Moves, IsDrained}
+use Rattle.nsc_model.specs.Frames as frames
+use Rattle.nsc_model.specs.Fronts.{Finds, Refuses, IsPartial}
+use Rattle.nsc_replay.specs.declared.halt.Halt.{Halt}
+use Rattle.nsc_replay.specs.declared.halt.Halt.TheVariants as halts
+
+-- why a parser stops after this front
+abbrev pub Stops : {A : Type 0} → (List ℕ → Result (A × List ℕ) frames.Fault) → Option (List ℕ) → List ℕ → Halt → Type 0
+Stops parser after front halts.Ended = IsPartial parser front × IsDrained after
+Stops parser after front halts.NoFrame = Refuses parser front frames.NoFrame
+Stops parser after front (halts.LongFile size) = Refuses parser front (frames.LongFile size)
+Stops parser after front halts.ReadFault = IsPartial parser front
+Stops parser after front halts.NoMemory = IsPartial parser front
+
+-- a reader read a front of what was left, and stopped there
+pub record Halts {A : Type 0} (parser : List ℕ → Result (A × List ℕ) frames.Fault) (before after : Option (List ℕ)) (halt : Halt) : Type 0 where
+  pub front : List ℕ
+  pub moved : Moves before after front
+  pub stops : Stops parser after front halt
+
+-- a reader read a front of what was left, in which the parser finds this, whatever follows
+pub record Gets {A : Type 0} (parser : List ℕ → Result (A × List ℕ) frames.Fault) (before after : Option (List ℕ)) (piece : A) : Type 0 where
+  pub front : List ℕ
+  pub moved : Moves before after front
+  pub finds : Finds parser front piece
+
+-- a reader does what the parser does, to the front of what was left, and reads no more
+abbrev pub Reads : {X A : Type 0} → (X → A) → (List ℕ → Result (A × List ℕ) frames.Fault) → Option (List ℕ) → Option (List ℕ) → Result X Halt → Type 0
+Reads view parser before after (Ok x) = Gets parser before after (view x)
+Reads view parser before after (Err halt) = Halts parser before after halt
+
+-- the count of faults rose where the input failed, and else is as before
+abbrev pub CountsFault : ℕ → ℕ → Halt → Type 0
+CountsFault before after halts.Ended = after ≡ before
+CountsFault before after halts.NoFrame = after ≡ before
+CountsFault before after (halts.LongFile size) = after ≡ before
+CountsFault before after halts.ReadFault = Rose before after
+CountsFault before after halts.NoMemory = after ≡ before
+
+abbrev pub Counts : {X : Type 0} → ℕ → ℕ → Result X Halt → Type 0
+Counts before after (Ok x) = after ≡ before
+Counts before after (Err halt) = CountsFault before after halt

@@ -1,0 +1,46 @@
+-- One frame through the machine of a replay.
+use Rattle.std.specs.Prelude.{◌≡◌, ℕ, List, [], Option, Some, None, Result, Ok, Err}
+use Rattle.nsc_outside.specs.Stream.{Rose, Grows, GrowsByFront}
+use Rattle.nsc_model.specs.Frames.{Finish, Spent}
+use Rattle.nsc_model.specs.Replay.{State, Went, framed}
+use Rattle.nsc_plain.specs.declared.fault.PlainFault.{PlainFault}
+use Rattle.nsc_plain.specs.declared.fault.PlainFault.TheVariants as faults
+use Rattle.nsc_replay.specs.declared.ended.Ended.{Ended}
+use Rattle.nsc_replay.specs.declared.ended.Ended.TheVariants as ended
+
+-- what is written for a reply, and for none
+abbrev pub written : Option (List ℕ) → List ℕ
+written None = []
+written (Some reply) = framed reply
+
+-- the machine goes on in this state, and this reply is to be written
+abbrev pub TurnsTo : Result Went Finish → State → Option (List ℕ) → Type 0
+TurnsTo (Ok went) state reply = (went.state ≡ state) × (went.writes ≡ written reply)
+TurnsTo (Err finish) state reply = ⊥
+
+-- the machine ends so; nothing is claimed where memory was wanting
+abbrev pub TurnFaults : Result Went Finish → PlainFault → Type 0
+TurnFaults turn faults.NoMemory = Unit {0}
+TurnFaults turn (faults.Spent count) = turn ≡ Err (Spent count)
+
+-- a frame is done: the machine turned to this state, and the sink took what is written for it
+abbrev pub IsDone : Result Went Finish → State → Option (List ℕ) → Option (List ℕ) → Type 0
+IsDone (Ok went) state had got = (went.state ≡ state) × Grows had got went.writes
+IsDone (Err finish) state had got = ⊥
+
+-- what is written for a frame went out in part
+abbrev pub IsCutShort : Result Went Finish → Option (List ℕ) → Option (List ℕ) → Type 0
+IsCutShort (Ok went) had got = GrowsByFront had got went.writes
+IsCutShort (Err finish) had got = ⊥
+
+-- a frame ended the replay: what the sink took, before and after
+abbrev pub DoesNot : Result Went Finish → Option (List ℕ) → Option (List ℕ) → Ended → Type 0
+DoesNot turn had got ended.NoMemory = got ≡ had
+DoesNot turn had got (ended.Spent count) = (turn ≡ Err (Spent count)) × (got ≡ had)
+DoesNot turn had got ended.WriteFault = IsCutShort turn had got
+DoesNot turn had got _ = ⊥
+
+-- the sink's count of faults, before and after: it rose where the output failed, and else stays
+abbrev pub CountsOutput : Ended → ℕ → ℕ → Type 0
+CountsOutput ended.WriteFault before after = Rose before after
+CountsOutput _ before after = after ≡ before

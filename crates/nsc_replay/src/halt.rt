@@ -1,0 +1,74 @@
+ghost use Rattle.std.specs.Prelude.{◌≡◌};
+ghost use Rattle.nsc_replay.specs.declared.halt.Halt.TheVariants.{ReadFault, NoMemory as Memory};
+
+use crate::ended::Ended;
+use nsc_base::NoMemory;
+use nsc_outside::Failed;
+use std::alloc::{AllocError, AllocFailed};
+
+/// Why no frame was read.
+#[derive(Clone, Copy, Debug, PartialEq, Eq)]
+pub enum Halt {
+    /// The input ended inside a frame, or where one should begin.
+    Ended,
+    /// The bytes begin no frame, whatever follows.
+    NoFrame,
+    /// A file is announced that is longer than a file may be.
+    LongFile {
+        /// The length that is announced, in bytes.
+        length: u64,
+    },
+    /// The input failed.
+    ReadFault,
+    /// Memory was wanting.
+    NoMemory,
+}
+
+impl Halt {
+    ghost use Rattle.std.specs.Prelude.{◌≡◌};
+    ghost use Rattle.nsc_replay.specs.Ended.{ended_at};
+
+    /// How a replay ends where no frame was read at this place of the input.
+    pub fn at(self, place: u64) -> Ended
+        ensures { result ≡ ended_at place self }
+    {
+        match self {
+            Halt::Ended | Halt::NoFrame => Ended::BadFrame { offset: place },
+            Halt::LongFile { length } => Ended::TooLong { length },
+            Halt::ReadFault => Ended::ReadFault,
+            Halt::NoMemory => Ended::NoMemory,
+        }
+    }
+}
+
+impl From<Failed> for Halt {
+    ghost from_gives = { λ _ halt. halt ≡ ReadFault };
+
+    fn from(_e: Failed) -> Halt {
+        Halt::ReadFault
+    }
+}
+
+impl From<NoMemory> for Halt {
+    ghost from_gives = { λ _ halt. halt ≡ Memory };
+
+    fn from(_e: NoMemory) -> Halt {
+        Halt::NoMemory
+    }
+}
+
+impl From<AllocError> for Halt {
+    ghost from_gives = { λ _ halt. halt ≡ Memory };
+
+    fn from(_e: AllocError) -> Halt {
+        Halt::NoMemory
+    }
+}
+
+impl<T: Drop> From<AllocFailed<T>> for Halt {
+    ghost from_gives = { λ _ halt. halt ≡ Memory };
+
+    fn from(_e: AllocFailed<T>) -> Halt {
+        Halt::NoMemory
+    }
+}

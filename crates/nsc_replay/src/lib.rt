@@ -1,0 +1,17 @@
+//! The replay of frames through the caches of the four databases.
+#![tactic(auto)]
+
+mod cached;
+mod databases;
+mod ended;
+mod frame;
+mod halt;
+mod machine;
+mod pieces;
+mod reading;
+mod reply;
+mod rounds;
+mod sources;
+
+pub use ended::Ended;
+pub use rounds::replay;

@@ -1,0 +1,121 @@
+ghost use Rattle.std.specs.Prelude.{◌≡◌, ◌<◌, IfOk, IfErr, OnOk};
+ghost use Rattle.nsc_model.specs.Frames.{place_limit};
+ghost use Rattle.nsc_model.specs.Replay.{first_state, turn_of};
+ghost use Rattle.nsc_daemonconf.specs.Sizes.{SizesFit};
+ghost use Rattle.nsc_replay.specs.Frame.{FrameFits, said};
+ghost use Rattle.nsc_replay.specs.Turns.{CountsOutput, DoesNot, IsDone};
+ghost use Rattle.nsc_replay.specs.Streams.{Calm, Counted, streams};
+ghost use Rattle.nsc_replay.specs.Runs.{GoesOn, Run};
+
+use crate::ended::Ended;
+use crate::frame::{Frame, INPUT_LIMIT};
+use crate::machine::Machine;
+use crate::reading::read_frame;
+use crate::reply::put_reply;
+use nsc_daemonconf::Conf;
+use nsc_model::Answerer;
+use nsc_outside::{Sink, Source};
+use std::alloc::Global;
+
+// A frame begins below this place: 2^40.
+const PLACE_LIMIT: u64 = 1_099_511_627_776;
+
+/// Replays the frames of the input with these settings: from every file absent, at moment 0, up to and with the first E.
+/// For each input of a connection the reply is written after its length. The suggested sizes are 1 to 65,536.
+pub fn replay<A: Answerer, R: Source, K: Sink>(
+    alloc: Global,
+    conf: &Conf,
+    answers: &A,
+    input: &mut R,
+    output: &mut K,
+) -> Ended
+    requires { SizesFit conf.now }
+
+    // What was read and written, by how the replay ended.
+    ensures run { Run conf.now first_state 0 (streams R.Source K.Sink input.old input.new output.old output.new) result }
+
+    // A fault of a stream is told only where one came.
+    ensures counts { Counted result (streams R.Source K.Sink input.old input.new output.old output.new) }
+{
+    let mut machine = match Machine::new(alloc, conf) {
+        Ok(machine) => machine,
+        Err(_) => return Ended::NoMemory,
+    };
+    all_rounds(alloc, answers, input, output, &mut machine)
+}
+
+// Frames, one after another, from the input's first byte on.
+fn all_rounds<A: Answerer, R: Source, K: Sink>(
+    alloc: Global,
+    answers: &A,
+    input: &mut R,
+    output: &mut K,
+    machine: &mut Machine<A>,
+) -> Ended
+    ensures run { Run machine.old.settings machine.old.state 0 (streams R.Source K.Sink input.old input.new output.old output.new) result }
+    ensures counts { Counted result (streams R.Source K.Sink input.old input.new output.old output.new) }
+{
+    let mut room = [0; INPUT_LIMIT];
+    let mut place = 0;
+    while place < PLACE_LIMIT {
+        match round(alloc, answers, input, output, machine, &mut room, place) {
+            Ok(next) => place = next,
+            Err(ended) => return ended,
+        }
+    }
+    Ended::BadFrame { offset: place }
+}
+
+// The frame at this place of the input. Gives the place after it, or how the replay ends.
+fn round<A: Answerer, R: Source, K: Sink>(
+    alloc: Global,
+    answers: &A,
+    input: &mut R,
+    output: &mut K,
+    machine: &mut Machine<A>,
+    room: &mut [u8; INPUT_LIMIT],
+    place: u64,
+) -> Result<u64, Ended>
+    requires { place < place_limit }
+    ensures settings { machine.new.settings ≡ machine.old.settings }
+    ensures goes { IfOk result (λ next. GoesOn machine.old.settings machine.old.state place machine.new.state next (streams R.Source K.Sink input.old input.new output.old output.new)) }
+    ensures onward { IfOk result (λ next. place < next) }
+    ensures calm { OnOk result (Calm (streams R.Source K.Sink input.old input.new output.old output.new)) }
+    ensures ends { IfErr result (Run machine.old.settings machine.old.state place (streams R.Source K.Sink input.old input.new output.old output.new)) }
+    ensures counts { IfErr result (λ ended. Counted ended (streams R.Source K.Sink input.old input.new output.old output.new)) }
+{
+    let frame = match read_frame(alloc, input, room) {
+        Ok(frame) => frame,
+        Err(halt) => return Err(halt.at(place)),
+    };
+    if frame.is_end() {
+        return Err(Ended::Done);
+    }
+    let next = place + frame.size();
+    serve(alloc, answers, output, machine, frame)?;
+    Ok(next)
+}
+
+// One frame through the machine, and its reply to the output.
+fn serve<A: Answerer, K: Sink>(
+    alloc: Global,
+    answers: &A,
+    output: &mut K,
+    machine: &mut Machine<A>,
+    frame: Frame<'_>,
+) -> Result<(), Ended>
+    requires { FrameFits frame }
+    ensures settings { machine.new.settings ≡ machine.old.settings }
+    ensures done { OnOk result (IsDone (turn_of machine.old.settings machine.old.state (said frame.entry)) machine.new.state (K.taken output.old) (K.taken output.new)) }
+    ensures calm { OnOk result (K.faults output.new ≡ K.faults output.old) }
+    ensures ends { IfErr result (DoesNot (turn_of machine.old.settings machine.old.state (said frame.entry)) (K.taken output.old) (K.taken output.new)) }
+    ensures counts { IfErr result (λ ended. CountsOutput ended (K.faults output.old) (K.faults output.new)) }
+{
+    let Some(reply) = machine.turn(alloc, answers, frame)? else {
+        return Ok(());
+    };
+    match put_reply(output, reply.as_slice()) {
+        Ok(()) => Ok(()),
+        Err(_) => Err(Ended::WriteFault),
+    }
+}

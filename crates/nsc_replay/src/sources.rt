@@ -1,0 +1,146 @@
+ghost use Rattle.std.specs.Prelude.{◌≡◌, unwrap_or, IfOk, OnOk};
+ghost use Rattle.std.specs.Arc.{arc_value};
+ghost use Rattle.std.specs.Option.{option_map};
+ghost use Rattle.nsc_model.specs.Files.{FileFits, no_files, part_of, with_file};
+ghost use Rattle.nsc_replay.specs.Parts.{is_read, lent};
+
+use nsc_base::{Bytes, NoMemory};
+use nsc_model::{Content, Db, FileId};
+use std::alloc::Global;
+use std::marker::Model;
+use std::sync::Arc;
+
+/// The bytes of a file, which contents share; `None` where the file is absent.
+#[derive(Drop)]
+pub struct Shared {
+    bytes: Option<Arc<Bytes>>,
+}
+
+impl Model for Shared {
+    ghost use Rattle.std.specs.Prelude.{Option, List, ℕ};
+    ghost use Rattle.std.specs.Arc.{arc_value};
+    ghost use Rattle.std.specs.Option.{option_map};
+
+    ghost Value = { Option (List ℕ) };
+
+    ghost view = { λ file. option_map (λ b. arc_value b) file.bytes };
+}
+
+impl Shared {
+    /// An absent file, or one of these bytes, which are not copied. Fails only for want of memory.
+    pub fn new(alloc: Global, bytes: Option<Bytes>) -> Result<Shared, NoMemory>
+        ensures { IfOk result (λ file. file ≡ bytes) }
+    {
+        let bytes = match bytes {
+            Some(bytes) => Some(Arc::new(alloc, bytes)?),
+            None => None,
+        };
+        Ok(Shared { bytes })
+    }
+
+    // Another handle on the bytes.
+    fn handle(&self) -> Result<Option<Arc<Bytes>>, NoMemory>
+        ensures { IfOk result (λ bytes. option_map (λ b. arc_value b) bytes ≡ self.now) }
+    {
+        match &self.bytes {
+            Some(bytes) => Ok(Some(bytes.clone()?)),
+            None => Ok(None),
+        }
+    }
+}
+
+/// The seven files as they are, whose bytes the contents of the databases share.
+#[derive(Drop)]
+pub struct Sources {
+    files: [Shared; 7],
+}
+
+impl Model for Sources {
+    ghost use Rattle.nsc_model.specs.Files.{Files, files_in, FilesFit};
+
+    ghost Value = { Files };
+
+    ghost view = { λ s. files_in s.files };
+
+    ghost invariant = { λ s. FilesFit (files_in s.files) };
+}
+
+// An absent file.
+const ABSENT: Shared = Shared { bytes: None };
+
+impl Sources {
+    /// Every file is absent.
+    pub fn none() -> Sources
+        ensures { result ≡ no_files }
+    {
+        Sources {
+            files: [ABSENT, ABSENT, ABSENT, ABSENT, ABSENT, ABSENT, ABSENT],
+        }
+    }
+
+    /// A file becomes this. The other files stay.
+    pub fn set(&mut self, file: FileId, held: Shared)
+        requires { FileFits held }
+        ensures { self.new ≡ with_file self.old file held }
+    {
+        self.files[file as usize] = held;
+    }
+
+    /// What a database will read once a file is this, and `None` where it does not read that file. No bytes are copied.
+    /// Fails only for want of memory.
+    pub fn part_with(
+        &self,
+        alloc: Global,
+        db: Db,
+        file: FileId,
+        held: &Shared,
+    ) -> Result<Option<Arc<Content>>, NoMemory>
+        requires { FileFits held.now }
+        ensures { IfOk result (λ part. unwrap_or (option_map (λ c. arc_value c) part) (part_of db self.now) ≡ part_of db (with_file self.now file held.now)) }
+    {
+        if !reads(db, file) {
+            return Ok(None);
+        }
+        let mut part = self.part(db)?;
+        part.share(file, held.handle()?);
+        Ok(Some(Arc::new(alloc, part)?))
+    }
+
+    // What a database reads.
+    fn part(&self, db: Db) -> Result<Content, NoMemory>
+        ensures { IfOk result (λ content. content ≡ part_of db self.now) }
+    {
+        let mut part = Content::none();
+        self.lend(&mut part, db, FileId::Switch)?;
+        self.lend(&mut part, db, FileId::Passwd)?;
+        self.lend(&mut part, db, FileId::Group)?;
+        self.lend(&mut part, db, FileId::Hosts)?;
+        self.lend(&mut part, db, FileId::Services)?;
+        self.lend(&mut part, db, FileId::ExtraPasswd)?;
+        self.lend(&mut part, db, FileId::ExtraGroup)?;
+        Ok(part)
+    }
+
+    // A file of a content becomes what it is here, where a database reads it.
+    fn lend(&self, part: &mut Content, db: Db, file: FileId) -> Result<(), NoMemory>
+        ensures { OnOk result (part.new ≡ lent db self.now file part.old) }
+    {
+        if reads(db, file) {
+            part.share(file, self.files[file as usize].handle()?);
+        }
+        Ok(())
+    }
+}
+
+// Whether a database reads a file.
+fn reads(db: Db, file: FileId) -> bool
+    ensures { result ≡ is_read db file }
+{
+    match file {
+        FileId::Switch => true,
+        FileId::Passwd | FileId::ExtraPasswd => db == Db::Passwd,
+        FileId::Group | FileId::ExtraGroup => db == Db::Group,
+        FileId::Hosts => db == Db::Hosts,
+        FileId::Services => db == Db::Services,
+    }
+}

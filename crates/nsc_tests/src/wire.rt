@@ -1,0 +1,102 @@
+ghost use Rattle.std.specs.Prelude.{◌≤◌, length, IfOk};
+ghost use Rattle.nsc_model.specs.Marked.{reply_limit};
+ghost use Rattle.nsc_model.specs.Wire.{IsUserReply, user_reply};
+
+use nsc_base::{Bytes, NoMemory, Span};
+use nsc_model::{Kind, Passwd, Row};
+use nsc_wire::{Reply, Wire, encode, read_request};
+use std::alloc::Global;
+use std::test::Fail;
+
+// The line root:x:0:0:root:/root:/bin/bash.
+fn root(alloc: Global) -> Result<Reply, NoMemory>
+    ensures user { IfOk result IsUserReply }
+    ensures fits { IfOk result (λ reply. length (user_reply reply) ≤ reply_limit) }
+{
+    Ok(Reply::Found(Row::Passwd(Passwd {
+        name: Bytes::copy(alloc, b"root")?,
+        passwd: Bytes::copy(alloc, b"x")?,
+        uid: 0,
+        gid: 0,
+        gecos: Bytes::copy(alloc, b"root")?,
+        dir: Bytes::copy(alloc, b"/root")?,
+        shell: Bytes::copy(alloc, b"/bin/bash")?,
+    })))
+}
+
+#[test]
+fn found_user(rt: HostRuntime) -> Result<(), Fail> {
+    let reply = root(rt.alloc())?;
+    let bytes = encode(rt.alloc(), Kind::PwName, &reply)?;
+    assert_eq!(rt;
+        bytes.as_slice(),
+        b"\x02\0\0\0\x01\0\0\0\x05\0\0\0\x02\0\0\0\0\0\0\0\0\0\0\0\x05\0\0\0\x06\0\0\0\x0a\0\0\0root\0x\0root\0/root\0/bin/bash\0".as_slice()
+    );
+    Ok(())
+}
+
+// The replies where a database is disabled, which the program never sends.
+const DISABLED: [(Kind, &[u8]); 6] = [
+    (
+        Kind::PwUid,
+        b"\x02\0\0\0\xff\xff\xff\xff\0\0\0\0\0\0\0\0\xff\xff\xff\xff\xff\xff\xff\xff\0\0\0\0\0\0\0\0\0\0\0\0",
+    ),
+    (
+        Kind::GrName,
+        b"\x02\0\0\0\xff\xff\xff\xff\0\0\0\0\0\0\0\0\xff\xff\xff\xff\0\0\0\0",
+    ),
+    (Kind::InitGroups, b"\x02\0\0\0\xff\xff\xff\xff\0\0\0\0"),
+    (
+        Kind::HostAddr,
+        b"\x02\0\0\0\xff\xff\xff\xff\0\0\0\0\0\0\0\0\xff\xff\xff\xff\xff\xff\xff\xff\0\0\0\0\xff\xff\xff\xff",
+    ),
+    (
+        Kind::Ai,
+        b"\x02\0\0\0\xff\xff\xff\xff\0\0\0\0\0\0\0\0\0\0\0\0\xff\xff\xff\xff",
+    ),
+    (
+        Kind::ServPort,
+        b"\x02\0\0\0\xff\xff\xff\xff\0\0\0\0\0\0\0\0\0\0\0\0\xff\xff\xff\xff",
+    ),
+];
+
+#[test]
+fn disabled_databases(rt: HostRuntime) -> Result<(), Fail> {
+    for (kind, want) in &DISABLED {
+        let bytes = encode(rt.alloc(), *kind, &Reply::Disabled)?;
+        assert_eq!(rt; bytes.as_slice(), *want, "of {kind:?}");
+    }
+    Ok(())
+}
+
+// The requests and faults that have no reply of their own, so that a replay shows one empty reply for each.
+const UNANSWERED: [(&[u8], Wire); 10] = [
+    (b"\x02\0\0\0\0\0\0\0\0\0\0", Wire::Short { have: 11 }),
+    (
+        b"\x02\0\0\0\0\0\0\0\x05\0\0\0root",
+        Wire::Short { have: 16 },
+    ),
+    (b"\x01\0\0\0\x16\0\0\0\x05\0\0\0root\0", Wire::BadVersion(1)),
+    (b"\x02\0\0\0\x16\0\0\0\0\0\0\0", Wire::BadType(22)),
+    (b"\x02\0\0\0\0\0\0\0\x01\x04\0\0root", Wire::BadLength(1025)),
+    (
+        b"\x02\0\0\0\0\0\0\0\xff\xff\xff\xffroot",
+        Wire::BadLength(-1),
+    ),
+    (b"\x02\0\0\0\x08\0\0\0\0\0\0\0", Wire::Shutdown),
+    (b"\x02\0\0\0\x09\0\0\0\0\0\0\0", Wire::Stat),
+    (
+        b"\x02\0\0\0\x0a\0\0\0\x07\0\0\0passwd\0",
+        Wire::Invalidate {
+            key: Span { from: 12, to: 18 },
+        },
+    ),
+    (b"\x02\0\0\0\x0b\0\0\0\0\0\0\0", Wire::Descriptor),
+];
+
+#[test]
+fn unanswered_requests(rt: HostRuntime) {
+    for (bytes, wire) in &UNANSWERED {
+        assert_eq!(rt; read_request(bytes), *wire, "at {bytes:?}");
+    }
+}
