@@ -1,10 +1,9 @@
 -- Tables that are gone through entry by entry.
 use Rattle.std.proofs.Common.{◌≡◌, ℕ, ◌+◌, ◌<◌, ◌≤◌, true, false, if◌then◌else◌, List, [], ◌∷◌, length, drop, get_or, Option, Some, None, Bor, refl, sym, ◌∙◌, ap, add-one}
-use Rattle.std.specs.Option.{option_map}
 use Rattle.std.specs.Str.{bytes_eq}
 use Rattle.std.proofs.Math.Seq.{drop-cons}
 use Rattle.std.proofs.lemmas.List.{at_drop_all}
-use Rattle.nsc_daemonconf.specs.Attributes.{found}
+use Rattle.nsc_daemonconf.specs.Tables.{found}
 
 -- the entries from a place on
 from_entry : {A : Type 0} (table : List (Bor (List ℕ) × A)) (k : ℕ) (entry : Bor (List ℕ) × A) → k < length table → entry ≡ get_or table k entry → drop k table ≡ entry ∷ drop (k + 1) table
@@ -22,16 +21,12 @@ pub found_none : {A : Type 0} (table : List (Bor (List ℕ) × A)) (word : List 
 unfolding found
 found_none table word k past = at_drop_all (λ entries. found entries word) table k past
 
--- what the entry that is found stands for
-abbrev pub meaning : {A B : Type 0} → (A → B) → List (Bor (List ℕ) × A) → List ℕ → Option B
-meaning f [] word = None
-meaning f (entry ∷ table) word = if bytes_eq word entry.0.now then Some (f entry.1) else meaning f table word
+-- the entry that is found, where the table is spelled out
+abbrev pub entry_of : {A : Type 0} → List (Bor (List ℕ) × A) → List ℕ → Option A
+entry_of [] word = None
+entry_of (entry ∷ table) word = if bytes_eq word entry.0.now then Some entry.1 else entry_of table word
 
-pub found-map : {A B : Type 0} (f : A → B) (table : List (Bor (List ℕ) × A)) (word : List ℕ) → option_map f (found table word) ≡ meaning f table word
+pub found-entry : {A : Type 0} (table : List (Bor (List ℕ) × A)) (word : List ℕ) → found table word ≡ entry_of table word
 unfolding found
-found-map f [] word = refl
-found-map f (entry ∷ table) word =
-    elim (bytes_eq word entry.0.now) as (λ same. option_map f (if same then Some entry.1 else found table word) ≡ (if same then Some (f entry.1) else meaning f table word)) [
-      | true ↦ refl
-      | false ↦ found-map f table word
-    ]
+found-entry [] word = refl
+found-entry (entry ∷ table) word = ap (λ later. if bytes_eq word entry.0.now then Some entry.1 else later) (found-entry table word)

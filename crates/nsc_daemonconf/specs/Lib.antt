@@ -1,5 +1,4 @@
-pub mod Conf
 pub mod Lines
-pub mod Attributes
+pub mod Tables
 pub mod Sizes
 pub mod Told

@@ -7,10 +7,18 @@ use Rattle.std.specs.Str.{bytes_eq, str_eq_ignore_ascii_case}
 use Rattle.std.specs.Str.Parse.{digits_value}
 use Rattle.nsc_base.specs.Text.{before_remark, is_filled, lines_of, words_of}
 use Rattle.nsc_base.specs.Decimal.{decimal_of}
-use Rattle.nsc_model.specs.declared.kind.Db.{Db}
 use Rattle.nsc_model.specs.declared.kind.Db.TheVariants as db
-use Rattle.nsc_model.specs.Settings.{DbSettings, Settings}
-use Rattle.nsc_daemonconf.specs.Conf.{default_settings}
+use Rattle.nsc_model.specs.declared.conf.Conf.{Conf}
+use Rattle.nsc_model.specs.declared.conf.DbConf.{DbConf}
+use Rattle.nsc_model.specs.Settings.{default_settings}
+use Rattle.nsc_daemonconf.specs.declared.attributes.Attribute.{Attribute}
+use Rattle.nsc_daemonconf.specs.declared.attributes.Attribute.TheVariants.{OfDatabase, OfDaemon}
+use Rattle.nsc_daemonconf.specs.declared.attributes.DbAttribute.{DbAttribute}
+use Rattle.nsc_daemonconf.specs.declared.attributes.DbAttribute.TheVariants as database
+use Rattle.nsc_daemonconf.specs.declared.attributes.DaemonAttribute.{DaemonAttribute}
+use Rattle.nsc_daemonconf.specs.declared.attributes.DaemonAttribute.TheVariants as daemon
+use Rattle.nsc_daemonconf.specs.declared.attributes.Service.{Service}
+use Rattle.nsc_daemonconf.specs.declared.attributes.Service.TheVariants.{Database, Netgroup}
 
 -- ---- values
 
@@ -44,52 +52,72 @@ reloads_of word =
 
 -- ---- attributes
 
--- what an attribute is about: one database, or all of the daemon; and what a value does, where it is one of the attribute's
-pub data Attribute : Type 0 where
-  OfDatabase : (sets : List ℕ → Option (DbSettings → DbSettings)) → Attribute
-  OfDaemon : (sets : List ℕ → Option (Settings → Settings)) → Attribute
-
--- no setting changes
-abbrev pub no_effect : {A : Type 0} → Option A → Option (Settings → Settings)
-no_effect value = option_map (λ v s. s) value
-
+-- the attribute of a name
 abbrev pub attribute_named : List ℕ → Option Attribute
 attribute_named word =
-    if bytes_eq word (codes "enable-cache") then Some (OfDatabase (λ w. option_map (λ b s. record s { enabled = b }) (yes_or_no w))) else (
-    if bytes_eq word (codes "positive-time-to-live") then Some (OfDatabase (λ w. option_map (λ n s. record s { positive = n }) (decimal_of w))) else (
-    if bytes_eq word (codes "negative-time-to-live") then Some (OfDatabase (λ w. option_map (λ n s. record s { negative = n }) (decimal_of w))) else (
-    if bytes_eq word (codes "suggested-size") then Some (OfDatabase (λ w. option_map (λ n s. record s { size = n }) (size_of w))) else (
-    if bytes_eq word (codes "check-files") then Some (OfDatabase (λ w. option_map (λ b s. record s { check_files = b }) (yes_or_no w))) else (
-    if bytes_eq word (codes "persistent") then Some (OfDatabase (λ w. option_map (λ b s. record s { persistent = b }) (yes_or_no w))) else (
-    if bytes_eq word (codes "shared") then Some (OfDatabase (λ w. option_map (λ b s. record s { shared = b }) (yes_or_no w))) else (
-    if bytes_eq word (codes "max-db-size") then Some (OfDatabase (λ w. option_map (λ n s. record s { max_size = n }) (decimal_of w))) else (
-    if bytes_eq word (codes "auto-propagate") then Some (OfDatabase (λ w. option_map (λ b s. record s { propagate = b }) (yes_or_no w))) else (
-    if bytes_eq word (codes "threads") then Some (OfDaemon (λ w. option_map (λ n s. record s { threads = n }) (decimal_of w))) else (
-    if bytes_eq word (codes "reload-count") then Some (OfDaemon (λ w. option_map (λ r s. record s { reloads = r }) (reloads_of w))) else (
-    if bytes_eq word (codes "max-threads") then Some (OfDaemon (λ w. no_effect (decimal_of w))) else (
-    if bytes_eq word (codes "debug-level") then Some (OfDaemon (λ w. no_effect (decimal_of w))) else (
-    if bytes_eq word (codes "restart-interval") then Some (OfDaemon (λ w. no_effect (decimal_of w))) else (
-    if bytes_eq word (codes "paranoia") then Some (OfDaemon (λ w. no_effect (yes_or_no w))) else (
-    if bytes_eq word (codes "logfile") then Some (OfDaemon (λ w. no_effect (Some w))) else (
-    if bytes_eq word (codes "server-user") then Some (OfDaemon (λ w. no_effect (Some w))) else (
-    if bytes_eq word (codes "stat-user") then Some (OfDaemon (λ w. no_effect (Some w))) else None)))))))))))))))))
+    if bytes_eq word (codes "enable-cache") then Some (OfDatabase database.EnableCache) else (
+    if bytes_eq word (codes "positive-time-to-live") then Some (OfDatabase database.PositiveTimeToLive) else (
+    if bytes_eq word (codes "negative-time-to-live") then Some (OfDatabase database.NegativeTimeToLive) else (
+    if bytes_eq word (codes "suggested-size") then Some (OfDatabase database.SuggestedSize) else (
+    if bytes_eq word (codes "check-files") then Some (OfDatabase database.CheckFiles) else (
+    if bytes_eq word (codes "persistent") then Some (OfDatabase database.Persistent) else (
+    if bytes_eq word (codes "shared") then Some (OfDatabase database.Shared) else (
+    if bytes_eq word (codes "max-db-size") then Some (OfDatabase database.MaxDbSize) else (
+    if bytes_eq word (codes "auto-propagate") then Some (OfDatabase database.AutoPropagate) else (
+    if bytes_eq word (codes "threads") then Some (OfDaemon daemon.Threads) else (
+    if bytes_eq word (codes "reload-count") then Some (OfDaemon daemon.ReloadCount) else (
+    if bytes_eq word (codes "max-threads") then Some (OfDaemon daemon.MaxThreads) else (
+    if bytes_eq word (codes "debug-level") then Some (OfDaemon daemon.DebugLevel) else (
+    if bytes_eq word (codes "restart-interval") then Some (OfDaemon daemon.RestartInterval) else (
+    if bytes_eq word (codes "paranoia") then Some (OfDaemon daemon.Paranoia) else (
+    if bytes_eq word (codes "logfile") then Some (OfDaemon daemon.Logfile) else (
+    if bytes_eq word (codes "server-user") then Some (OfDaemon daemon.ServerUser) else (
+    if bytes_eq word (codes "stat-user") then Some (OfDaemon daemon.StatUser) else None)))))))))))))))))
 
--- the service that a line is about: one of the databases, or netgroups, which are not cached
-abbrev pub service_named : List ℕ → Option (Option Db)
+-- no setting changes
+abbrev pub no_effect : {A : Type 0} → Option A → Option (Conf → Conf)
+no_effect value = option_map (λ v s. s) value
+
+-- what a value of an attribute of one database does
+abbrev pub database_sets : DbAttribute → List ℕ → Option (DbConf → DbConf)
+database_sets database.EnableCache w = option_map (λ b s. record s { enabled = b }) (yes_or_no w)
+database_sets database.PositiveTimeToLive w = option_map (λ n s. record s { positive = n }) (decimal_of w)
+database_sets database.NegativeTimeToLive w = option_map (λ n s. record s { negative = n }) (decimal_of w)
+database_sets database.SuggestedSize w = option_map (λ n s. record s { size = n }) (size_of w)
+database_sets database.CheckFiles w = option_map (λ b s. record s { check_files = b }) (yes_or_no w)
+database_sets database.Persistent w = option_map (λ b s. record s { persistent = b }) (yes_or_no w)
+database_sets database.Shared w = option_map (λ b s. record s { shared = b }) (yes_or_no w)
+database_sets database.MaxDbSize w = option_map (λ n s. record s { max_size = n }) (decimal_of w)
+database_sets database.AutoPropagate w = option_map (λ b s. record s { propagate = b }) (yes_or_no w)
+
+-- what a value of an attribute of the daemon does
+abbrev pub daemon_sets : DaemonAttribute → List ℕ → Option (Conf → Conf)
+daemon_sets daemon.Threads w = option_map (λ n s. record s { threads = n }) (decimal_of w)
+daemon_sets daemon.ReloadCount w = option_map (λ r s. record s { reloads = r }) (reloads_of w)
+daemon_sets daemon.MaxThreads w = no_effect (decimal_of w)
+daemon_sets daemon.DebugLevel w = no_effect (decimal_of w)
+daemon_sets daemon.RestartInterval w = no_effect (decimal_of w)
+daemon_sets daemon.Paranoia w = no_effect (yes_or_no w)
+daemon_sets daemon.Logfile w = no_effect (Some w)
+daemon_sets daemon.ServerUser w = no_effect (Some w)
+daemon_sets daemon.StatUser w = no_effect (Some w)
+
+-- the service of a name
+abbrev pub service_named : List ℕ → Option Service
 service_named word =
-    if bytes_eq word (codes "passwd") then Some (Some db.Passwd) else (
-    if bytes_eq word (codes "group") then Some (Some db.Group) else (
-    if bytes_eq word (codes "hosts") then Some (Some db.Hosts) else (
-    if bytes_eq word (codes "services") then Some (Some db.Services) else (
-    if bytes_eq word (codes "netgroup") then Some None else None))))
+    if bytes_eq word (codes "passwd") then Some (Database db.Passwd) else (
+    if bytes_eq word (codes "group") then Some (Database db.Group) else (
+    if bytes_eq word (codes "hosts") then Some (Database db.Hosts) else (
+    if bytes_eq word (codes "services") then Some (Database db.Services) else (
+    if bytes_eq word (codes "netgroup") then Some Netgroup else None))))
 
--- the settings with those of one database changed so; a line about netgroups changes nothing
-abbrev pub with_database : Option Db → (DbSettings → DbSettings) → Settings → Settings
-with_database None change s = s
-with_database (Some db.Passwd) change s = record s { passwd = change s.passwd }
-with_database (Some db.Group) change s = record s { group = change s.group }
-with_database (Some db.Hosts) change s = record s { hosts = change s.hosts }
-with_database (Some db.Services) change s = record s { services = change s.services }
+-- the settings with those of one database changed so; netgroups are not cached, and a line about them changes nothing
+abbrev pub with_database : Service → (DbConf → DbConf) → Conf → Conf
+with_database Netgroup change s = s
+with_database (Database db.Passwd) change s = record s { passwd = change s.passwd }
+with_database (Database db.Group) change s = record s { group = change s.group }
+with_database (Database db.Hosts) change s = record s { hosts = change s.hosts }
+with_database (Database db.Services) change s = record s { services = change s.services }
 
 -- ---- lines
 
@@ -110,23 +138,22 @@ abbrev ◌>>=◌ : {A B E : Type 0} → Result A E → (A → Result B E) → Re
 (Ok x) >>= f = f x
 
 -- what an attribute with these words behind it does
-abbrev pub attribute_does : Attribute → List (List ℕ) → Result (Settings → Settings) LineFault
-attribute_does (OfDatabase sets) (service ∷ value ∷ []) = do
+abbrev pub attribute_does : Attribute → List (List ℕ) → Result (Conf → Conf) LineFault
+attribute_does (OfDatabase attribute) (service ∷ value ∷ []) = do
   which ← or_fault BadLine (service_named service)
-  change ← or_fault BadValue (sets value)
+  change ← or_fault BadValue (database_sets attribute value)
   Ok (with_database which change)
-attribute_does (OfDaemon sets) (value ∷ []) = or_fault BadValue (sets value)
-attribute_does (OfDatabase sets) _ = Err BadLine
-attribute_does (OfDaemon sets) _ = Err BadLine
+attribute_does (OfDaemon attribute) (value ∷ []) = or_fault BadValue (daemon_sets attribute value)
+attribute_does _ _ = Err BadLine
 
 -- what the words of a line do; with no word a line does nothing
-abbrev pub words_do : List (List ℕ) → Result (Settings → Settings) LineFault
+abbrev pub words_do : List (List ℕ) → Result (Conf → Conf) LineFault
 words_do [] = Ok (λ s. s)
 words_do (word ∷ words) = do
   attribute ← or_fault UnknownAttribute (attribute_named word)
   attribute_does attribute words
 
-abbrev pub line_does : List ℕ → Result (Settings → Settings) LineFault
+abbrev pub line_does : List ℕ → Result (Conf → Conf) LineFault
 line_does line = words_do (words_of (before_remark line))
 
 -- ---- the whole text
@@ -137,16 +164,16 @@ pub record Refused : Type 0 where
   pub line : ℕ
 
 -- one line behind settings, and then the lines behind it
-abbrev pub then_lines : ℕ → Settings → Result (Settings → Settings) LineFault → (Settings → Result Settings Refused) → Result Settings Refused
+abbrev pub then_lines : ℕ → Conf → Result (Conf → Conf) LineFault → (Conf → Result Conf Refused) → Result Conf Refused
 then_lines n s (Err fault) next = Err (record { fault = fault; line = n })
 then_lines n s (Ok change) next = next (change s)
 
 -- each line in its order, the first of them with this number: a later one replaces an earlier one, and the first that is
 -- refused decides
-abbrev pub conf_from : ℕ → Settings → List (List ℕ) → Result Settings Refused
+abbrev pub conf_from : ℕ → Conf → List (List ℕ) → Result Conf Refused
 conf_from n s [] = Ok s
 conf_from n s (line ∷ lines) = then_lines n s (line_does line) (λ later. conf_from (n + 1) later lines)
 
 -- the settings that a text gives
-abbrev pub conf_of : List ℕ → Result Settings Refused
+abbrev pub conf_of : List ℕ → Result Conf Refused
 conf_of text = conf_from 1 default_settings (lines_of text)

@@ -1,17 +1,15 @@
 ghost use Rattle.std.specs.Prelude.{◌≡◌, IfSome};
 ghost use Rattle.std.specs.Option.{option_map};
-ghost use Rattle.nsc_daemonconf.specs.Conf.{db_settings, settings};
-ghost use Rattle.nsc_daemonconf.specs.Lines.{attribute_named, service_named};
-ghost use Rattle.nsc_daemonconf.specs.Attributes.{attribute_of, daemon_sets, database_of, database_sets, found};
+ghost use Rattle.nsc_daemonconf.specs.Lines.{attribute_named, daemon_sets, database_sets, service_named};
+ghost use Rattle.nsc_daemonconf.specs.Tables.{found};
 ghost use Rattle.nsc_daemonconf.specs.Sizes.{SizeFits, SizesFit};
 
 use self::Attribute::{OfDaemon, OfDatabase};
 use self::DaemonAttribute::*;
 use self::DbAttribute::*;
-use crate::conf::{Conf, DbConf};
 use crate::values::{reloads, size, yes_or_no};
 use nsc_base::decimal;
-use nsc_model::Db;
+use nsc_model::{Conf, Db, DbConf};
 
 /// An attribute of nscd.conf(5), by what it is about.
 #[derive(Clone, Copy, Debug)]
@@ -123,7 +121,7 @@ fn named<T: Copy>(table: &[(&[u8], T)], word: &[u8]) -> Option<T>
 impl Attribute {
     /// The attribute of this name. `None` where there is none.
     pub fn named(word: &[u8]) -> Option<Attribute>
-        ensures { option_map attribute_of result ≡ attribute_named word.now }
+        ensures { result ≡ attribute_named word.now }
     {
         named(&ATTRIBUTES, word)
     }
@@ -132,8 +130,8 @@ impl Attribute {
 impl DbAttribute {
     /// The settings of a database with this attribute at this value. `None` where the value is none of the attribute's.
     pub fn applied_to(self, mut conf: DbConf, value: &[u8]) -> Option<DbConf>
-        ensures applied { option_map db_settings result ≡ option_map (λ change. change (db_settings conf)) (database_sets self value.now) }
-        ensures size { IfSome result (λ changed. SizeFits (db_settings conf) → SizeFits (db_settings changed)) }
+        ensures applied { result ≡ option_map (λ change. change conf) (database_sets self value.now) }
+        ensures size { IfSome result (λ changed. SizeFits conf → SizeFits changed) }
     {
         match self {
             DbAttribute::EnableCache => conf.enabled = yes_or_no(value)?,
@@ -153,8 +151,8 @@ impl DbAttribute {
 impl DaemonAttribute {
     /// The settings of the daemon with this attribute at this value. `None` where the value is none of the attribute's.
     pub fn applied_to(self, mut conf: Conf, value: &[u8]) -> Option<Conf>
-        ensures applied { option_map settings result ≡ option_map (λ change. change (settings conf)) (daemon_sets self value.now) }
-        ensures sizes { IfSome result (λ changed. SizesFit (settings conf) → SizesFit (settings changed)) }
+        ensures applied { result ≡ option_map (λ change. change conf) (daemon_sets self value.now) }
+        ensures sizes { IfSome result (λ changed. SizesFit conf → SizesFit changed) }
     {
         match self {
             DaemonAttribute::Threads => conf.threads = decimal(value)?,
@@ -176,7 +174,7 @@ impl DaemonAttribute {
 impl Service {
     /// The service of this name. `None` where there is none.
     pub fn named(word: &[u8]) -> Option<Service>
-        ensures { option_map database_of result ≡ service_named word.now }
+        ensures { result ≡ service_named word.now }
     {
         named(&SERVICES, word)
     }

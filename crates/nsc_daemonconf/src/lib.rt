@@ -2,10 +2,9 @@
 #![tactic(auto)]
 
 mod attributes;
-mod conf;
 mod lines;
 mod values;
 mod words;
 
-pub use conf::{Conf, DbConf};
 pub use lines::{ConfFault, read_conf};
+pub use nsc_model::{Conf, DbConf};

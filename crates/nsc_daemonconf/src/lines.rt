@@ -1,15 +1,13 @@
 ghost use Rattle.std.specs.Prelude.{◌≡◌, IfOk};
 ghost use Rattle.nsc_base.specs.Text.{words_of};
-ghost use Rattle.nsc_daemonconf.specs.Conf.{settings};
-ghost use Rattle.nsc_daemonconf.specs.Lines.{OfDatabase, OfDaemon, attribute_does, conf_of, line_does};
-ghost use Rattle.nsc_daemonconf.specs.Attributes.{daemon_sets, database_sets};
-ghost use Rattle.nsc_daemonconf.specs.Sizes.{SizesFit};
+ghost use Rattle.nsc_daemonconf.specs.Lines.{attribute_does, conf_of, line_does, with_database};
+ghost use Rattle.nsc_daemonconf.specs.Sizes.{SizeFits, SizesFit};
 ghost use Rattle.nsc_daemonconf.specs.Told.{after_line, conf_told};
 
 use crate::attributes::{Attribute, DaemonAttribute, DbAttribute, Service};
-use crate::conf::Conf;
 use crate::words::{next_word, only_word, two_words, up_to_remark};
 use nsc_base::line_at;
+use nsc_model::{Conf, Db, DbConf};
 use thiserror::Error;
 
 /// Why a text is no nscd.conf(5). Each fault has the number of its line, from 1.
@@ -43,7 +41,7 @@ pub fn read_conf(text: &[u8]) -> Result<Conf, ConfFault>
     ensures told { conf_told result ≡ conf_of text.now }
 
     // Each database has a size that a cache can have.
-    ensures sizes { IfOk result (λ conf. SizesFit (settings conf)) }
+    ensures sizes { IfOk result (λ conf. SizesFit conf) }
 {
     let mut conf = Conf::defaults();
     let mut number = 1;
@@ -58,8 +56,8 @@ pub fn read_conf(text: &[u8]) -> Result<Conf, ConfFault>
 
 // The settings with what a line of this number says.
 fn with_line(conf: Conf, line: &[u8], number: u64) -> Result<Conf, ConfFault>
-    ensures told { conf_told result ≡ after_line number (settings conf) (line_does line.now) }
-    ensures sizes { IfOk result (λ later. SizesFit (settings conf) → SizesFit (settings later)) }
+    ensures told { conf_told result ≡ after_line number conf (line_does line.now) }
+    ensures sizes { IfOk result (λ later. SizesFit conf → SizesFit later) }
 {
     let Some((word, rest)) = next_word(up_to_remark(line)) else {
         return Ok(conf);
@@ -78,8 +76,8 @@ fn with_database_line(
     rest: &[u8],
     number: u64,
 ) -> Result<Conf, ConfFault>
-    ensures told { conf_told result ≡ after_line number (settings conf) (attribute_does (OfDatabase (database_sets attribute)) (words_of rest.now)) }
-    ensures sizes { IfOk result (λ later. SizesFit (settings conf) → SizesFit (settings later)) }
+    ensures told { conf_told result ≡ after_line number conf (attribute_does (Attribute.OfDatabase attribute) (words_of rest.now)) }
+    ensures sizes { IfOk result (λ later. SizesFit conf → SizesFit later) }
 {
     let bad_line = ConfFault::BadLine { line: number };
     let bad_value = ConfFault::BadValue { line: number };
@@ -87,7 +85,7 @@ fn with_database_line(
     match Service::named(service).ok_or(bad_line)? {
         Service::Database(db) => {
             let changed = attribute.applied_to(conf.of(db), value).ok_or(bad_value)?;
-            Ok(conf.with(db, changed))
+            Ok(with_settings(conf, db, changed))
         }
         // The value is checked, at any settings, and then changes none.
         Service::Netgroup => {
@@ -97,6 +95,20 @@ fn with_database_line(
     }
 }
 
+// The settings with those of one database replaced.
+fn with_settings(mut conf: Conf, db: Db, changed: DbConf) -> Conf
+    ensures with { result ≡ with_database (Service.Database db) (λ _. changed) conf }
+    ensures sizes { SizesFit conf → SizeFits changed → SizesFit result }
+{
+    match db {
+        Db::Passwd => conf.passwd = changed,
+        Db::Group => conf.group = changed,
+        Db::Hosts => conf.hosts = changed,
+        Db::Services => conf.services = changed,
+    }
+    conf
+}
+
 // The settings with an attribute of the daemon, behind whose name a value stands.
 fn with_daemon_line(
     conf: Conf,
@@ -104,8 +116,8 @@ fn with_daemon_line(
     rest: &[u8],
     number: u64,
 ) -> Result<Conf, ConfFault>
-    ensures told { conf_told result ≡ after_line number (settings conf) (attribute_does (OfDaemon (daemon_sets attribute)) (words_of rest.now)) }
-    ensures sizes { IfOk result (λ later. SizesFit (settings conf) → SizesFit (settings later)) }
+    ensures told { conf_told result ≡ after_line number conf (attribute_does (Attribute.OfDaemon attribute) (words_of rest.now)) }
+    ensures sizes { IfOk result (λ later. SizesFit conf → SizesFit later) }
 {
     let bad_line = ConfFault::BadLine { line: number };
     let bad_value = ConfFault::BadValue { line: number };

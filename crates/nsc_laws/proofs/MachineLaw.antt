@@ -12,7 +12,7 @@ use Rattle.nsc_model.specs.Kinds.{is_request}
 use Rattle.nsc_model.specs.Files as files
 use Rattle.nsc_model.specs.Files.{part_of}
 use Rattle.nsc_model.specs.Fixed.{Fixed}
-use Rattle.nsc_model.specs.Settings.{DbSettings}
+use Rattle.nsc_model.specs.declared.conf.DbConf.{DbConf}
 use Rattle.nsc_model.specs.Answers.{answer_of}
 use Rattle.nsc_model.specs.History.{version_in, IsLive, Legal, Answered}
 use Rattle.nsc_laws.specs.Core.{Caller, Core, opening, Files, Look, Among, AreLive, Replies}
@@ -38,7 +38,7 @@ record Free (live rest : List Fixed) : Type 0 where
   differ : (e f : Fixed) → Among live e → Among rest f → e.request ≢ f.request
   apart : Apart rest
 
-reloads : (db : Db) (a : ℕ) (event : List Record) (settings : DbSettings) (now : ℕ) (rest : List Kept) (core : Core) (c : Caller) (cache : Cache) → Stands a event core c cache → Looked core.history c cache → Free (fixed_of cache.entries) (fixed_of rest)
+reloads : (db : Db) (a : ℕ) (event : List Record) (settings : DbConf) (now : ℕ) (rest : List Kept) (core : Core) (c : Caller) (cache : Cache) → Stands a event core c cache → Looked core.history c cache → Free (fixed_of cache.entries) (fixed_of rest)
     → Went db a event core Nothing (reloaded settings now rest cache).adds (reloaded settings now rest cache).cache
 reloads db a event settings now [] core c cache s l free = stays db a event core c Nothing cache s tt
 reloads db a event settings now (k ∷ rest) core c cache s l free =
@@ -81,7 +81,7 @@ free_rest options now h ks l are = record {
   reload_is : (f : Fixed) → Among (fixed_of (reloaded_of options (due_of now ks))) f → Among (fixed_of (due_of now ks)) f
   reload_is f y = (filter_from (λ k. not (is_dropped options k)) (due_of now ks) f y).0
 
-prune_comes : (db : Db) (a : ℕ) (event : List Record) (settings : DbSettings) (options : Option ℕ) (now : ℕ) (core : Core) (c : Caller) (cache : Cache) → Stands a event core c cache → Looked core.history c cache → Comes db a event core Nothing (pruned settings options now cache)
+prune_comes : (db : Db) (a : ℕ) (event : List Record) (settings : DbConf) (options : Option ℕ) (now : ℕ) (core : Core) (c : Caller) (cache : Cache) → Stands a event core c cache → Looked core.history c cache → Comes db a event core Nothing (pruned settings options now cache)
 prune_comes db a event settings options now core c cache s l =
     let h = core.history in
     let cause = due_cause options now in
@@ -108,7 +108,7 @@ prune_comes db a event settings options now core c cache s l =
     (compacts db a event core1 c (Ready rest) due after s1 (λ cycle used. record { looked = record { version_is = looked.version_is; noted_is = looked.noted_is; was = looked.was }; free = free }))
     (λ mid d x sources t ready. reloads db a event settings now rest mid d x t ready.looked ready.free))
 
-check_comes : (db : Db) (a : ℕ) (event : List Record) (settings : DbSettings) (options : Option ℕ) (now : ℕ) (core : Core) (c : Caller) (cache : Cache) → Stands a event core c cache → Looked core.history c cache → Comes db a event core Nothing (checked settings options now cache)
+check_comes : (db : Db) (a : ℕ) (event : List Record) (settings : DbConf) (options : Option ℕ) (now : ℕ) (core : Core) (c : Caller) (cache : Cache) → Stands a event core c cache → Looked core.history c cache → Comes db a event core Nothing (checked settings options now cache)
 check_comes db a event settings options now core c cache s l = by_test (is_outdated settings cache.newest_version cache.ticked_version) where
   by_test : (b : Bool) → Comes db a event core Nothing (cond b (invalidated cache >>= λ after. Ok (unchanged (ticked after))) (pruned settings options now (ticked cache)))
   by_test true = comes_then db a event core Nothing Nothing (invalidated cache) (λ after. Ok (unchanged (ticked after))) (invalid_comes db a event core c cache s)
@@ -116,7 +116,7 @@ check_comes db a event settings options now core c cache s l = by_test (is_outda
   by_test false = prune_comes db a event settings options now core c (ticked cache) (retold a event core c cache cache.entries cache.used cache.cycle cache.newest_version cache.add_failed refl s)
       (record { version_is = l.version_is; noted_is = l.noted_is; was = l.was })
 
-tick_comes : (db : Db) (a : ℕ) (event : List Record) (settings : DbSettings) (options : Option ℕ) (now : ℕ) (core : Core) (c : Caller) (cache : Cache) → Stands a event core c cache → Comes db a event core Nothing (tick settings options now (part_of db core.sources) cache)
+tick_comes : (db : Db) (a : ℕ) (event : List Record) (settings : DbConf) (options : Option ℕ) (now : ℕ) (core : Core) (c : Caller) (cache : Cache) → Stands a event core c cache → Comes db a event core Nothing (tick settings options now (part_of db core.sources) cache)
 unfolding tick
 tick_comes db a event settings options now core c cache s = by_test settings.enabled where
   by_test : (b : Bool) → Comes db a event core Nothing (cond b (polled (part_of db core.sources) cache >>= checked settings options now) (Ok (unchanged cache)))
@@ -174,7 +174,7 @@ hits db a old request cache k s among same =
       source = inl (k.entry, ap (λ (x : Caller). x.taken) s2.caller_is, refl);
     }
 
-keeps : (db : Db) (a : ℕ) (event : List Record) (core : Core) (c : Caller) (settings : DbSettings) (now : ℕ) (request : Request) (cache : Cache) → Stands a event core c cache → Looked core.history c cache → c.request ≡ Some request
+keeps : (db : Db) (a : ℕ) (event : List Record) (core : Core) (c : Caller) (settings : DbConf) (now : ℕ) (request : Request) (cache : Cache) → Stands a event core c cache → Looked core.history c cache → c.request ≡ Some request
     → (settings.enabled ≡ true → (e : Fixed) → Among (fixed_of cache.entries) e → e.request ≢ request)
     → Tried db a event core c request cache (kept_answer settings now request cache).adds (kept_answer settings now request cache).cache
 keeps db a event core c settings now request cache s l is others = by_test settings.enabled refl where
@@ -185,7 +185,7 @@ keeps db a event core c settings now request cache s l is others = by_test setti
 abbrev asks : Core → ℕ → Request → Core
 asks old a request = changed old a (begun (old.callers a) (Some request) old.history)
 
-misses : (db : Db) (a : ℕ) (old : Core) (settings : DbSettings) (now : ℕ) (request : Request) (cache : Cache) → Drives db a old cache → (settings.enabled ≡ true → (e : Fixed) → Among (fixed_of cache.entries) e → e.request ≢ request)
+misses : (db : Db) (a : ℕ) (old : Core) (settings : DbConf) (now : ℕ) (request : Request) (cache : Cache) → Drives db a old cache → (settings.enabled ≡ true → (e : Fixed) → Among (fixed_of cache.entries) e → e.request ≢ request)
     → TurnsBy db a old request (loaded settings now request (polled (part_of db old.sources) cache))
 misses db a old settings now request cache d others = by_poll (polled (part_of db old.sources) cache) looks where
   begins : Step db a old.history old [] (asks old a request)
@@ -248,7 +248,7 @@ found_in : (b : Bool) (o : Option Kept) (k : Kept) → cond b o None ≡ Some k 
 found_in true o k e = e
 found_in false o k e = absurd cc
 
-pub look_up_turns : (db : Db) (a : ℕ) (settings : DbSettings) (now : ℕ) (request : Request) (old : Core) (cache : Cache) → Drives db a old cache → TurnsBy db a old request (look_up settings now (part_of db old.sources) request cache)
+pub look_up_turns : (db : Db) (a : ℕ) (settings : DbConf) (now : ℕ) (request : Request) (old : Core) (cache : Cache) → Drives db a old cache → TurnsBy db a old request (look_up settings now (part_of db old.sources) request cache)
 unfolding look_up
 look_up_turns db a settings now request old cache d = by_found (cached settings request cache) refl where
   by_found : (o : Option Kept) → cond settings.enabled (find (λ k. is_request request k.entry.request) cache.entries) None ≡ o → TurnsBy db a old request (hit_or_load o settings now (part_of db old.sources) request cache)
@@ -261,7 +261,7 @@ look_up_turns db a settings now request old cache d = by_found (cached settings 
       (λ enabled f x same. false≢true (sym (missed (λ y. is_request request y.request) cache.entries f (subst (λ (b : Bool). cond b (find (λ y. is_request request y.entry.request) cache.entries) None ≡ None) enabled e) x)
       ∙ subst (λ (y : Request). is_request request y ≡ true) (sym same) (request_same request)))
 
-pub tick_passes : (db : Db) (a : ℕ) (settings : DbSettings) (options : Option ℕ) (now : ℕ) (old : Core) (cache : Cache) → Drives db a old cache → PassesBy db a old (tick settings options now (part_of db old.sources) cache)
+pub tick_passes : (db : Db) (a : ℕ) (settings : DbConf) (options : Option ℕ) (now : ℕ) (old : Core) (cache : Cache) → Drives db a old cache → PassesBy db a old (tick settings options now (part_of db old.sources) cache)
 tick_passes db a settings options now old cache d = passes db a old cache Nothing (tick settings options now (part_of db old.sources) cache) d (tick_comes db a old.history settings options now old (old.callers a) cache (driven db a old cache d))
 
 pub invalidation_passes : (db : Db) (a : ℕ) (old : Core) (cache : Cache) → Drives db a old cache → PassesBy db a old (invalidated cache)

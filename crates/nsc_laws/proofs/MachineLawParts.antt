@@ -9,7 +9,7 @@ use Rattle.nsc_model.specs.declared.record.Record.TheVariants.{Change, Poll, Loa
 use Rattle.nsc_model.specs.Files as files
 use Rattle.nsc_model.specs.Files.{part_of, same_files}
 use Rattle.nsc_model.specs.Fixed.{Fixed}
-use Rattle.nsc_model.specs.Settings.{DbSettings}
+use Rattle.nsc_model.specs.declared.conf.DbConf.{DbConf}
 use Rattle.nsc_model.specs.History.{loads, invalidations, newest, version_in, HasEnd, IsLive, NoneLiveOf, WasPolled, Legal}
 use Rattle.nsc_laws.specs.Core.{Caller, Core, Insert, Empty, IsPoll, Among, ended_all, AreLive}
 use Rattle.nsc_model.specs.Machine.{last_count, Kept, Cache, unchanged, stopped, behind, polled, new_entry, Refusal, TooLarge, Discarded, Present, Spent, Full, own_refusal, room_of, tried_by, tried, entry_words, all_words, compacted_behind, emptied, ends_of, by_invalidation, invalidated}
@@ -174,7 +174,7 @@ load_live h es f l is are = record {
   rising = rise_last es f (λ e a. let below : e.number < loads h = load_below h e l (are.live e a).inserted in omega arith) are.rising;
 }
 
-load_tells : (settings : DbSettings) (now : ℕ) (request : Request) (reloads : ℕ) (h : List Record) (cache : Cache) → Tells h cache → WasPolled h cache.newest_version → NoneLiveOf h request
+load_tells : (settings : DbConf) (now : ℕ) (request : Request) (reloads : ℕ) (h : List Record) (cache : Cache) → Tells h cache → WasPolled h cache.newest_version → NoneLiveOf h request
     → Tells (Load (new_entry settings now request reloads cache).entry ∷ h) (inserted_by (new_entry settings now request reloads cache) cache)
 load_tells settings now request reloads h cache t was none =
     let k = new_entry settings now request reloads cache in
@@ -198,7 +198,7 @@ refused db a event core c request cache failed s l = record {
   among = λ e a. inl a;
 }
 
-inserts : (db : Db) (a : ℕ) (event : List Record) (core : Core) (c : Caller) (settings : DbSettings) (now : ℕ) (request : Request) (reloads : ℕ) (cache : Cache) → Stands a event core c cache → Looked core.history c cache → c.request ≡ Some request
+inserts : (db : Db) (a : ℕ) (event : List Record) (core : Core) (c : Caller) (settings : DbConf) (now : ℕ) (request : Request) (reloads : ℕ) (cache : Cache) → Stands a event core c cache → Looked core.history c cache → c.request ≡ Some request
     → ((e : Fixed) → Among (fixed_of cache.entries) e → e.request ≢ request)
     → Tried db a event core c request cache (Load (new_entry settings now request reloads cache).entry ∷ []) (inserted_by (new_entry settings now request reloads cache) cache)
 inserts db a event core c settings now request reloads cache s l is others =
@@ -233,7 +233,7 @@ inserts db a event core c settings now request reloads cache s l is others =
       ];
     }
 
-pub tries : (db : Db) (a : ℕ) (event : List Record) (core : Core) (c : Caller) (settings : DbSettings) (now : ℕ) (request : Request) (reloads : ℕ) (cache : Cache) → Stands a event core c cache → Looked core.history c cache → c.request ≡ Some request
+pub tries : (db : Db) (a : ℕ) (event : List Record) (core : Core) (c : Caller) (settings : DbConf) (now : ℕ) (request : Request) (reloads : ℕ) (cache : Cache) → Stands a event core c cache → Looked core.history c cache → c.request ≡ Some request
     → ((e : Fixed) → Among (fixed_of cache.entries) e → e.request ≢ request)
     → Tried db a event core c request cache (tried settings now request reloads cache).adds (tried settings now request reloads cache).cache
 tries db a event core c settings now request reloads cache s l is others = by_cause (own_refusal (room_of settings) (new_entry settings now request reloads cache).entry cache) where

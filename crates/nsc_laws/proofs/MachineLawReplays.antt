@@ -10,7 +10,8 @@ use Rattle.nsc_model.specs.declared.answer.Request.{Request}
 use Rattle.nsc_model.specs.declared.record.Record.{Record}
 use Rattle.nsc_model.specs.Kinds.{database_of}
 use Rattle.nsc_model.specs.Files.{Files, no_files, with_file, part_of}
-use Rattle.nsc_model.specs.Settings.{Settings, settings_of}
+use Rattle.nsc_model.specs.declared.conf.Conf.{Conf}
+use Rattle.nsc_model.specs.Settings.{settings_of}
 use Rattle.nsc_model.specs.Wire.{Asked, Look, Shutdown, Stat, Invalidate, Descriptor, Netgroup, Short, BadVersion, BadType, BadLength, request_of}
 use Rattle.nsc_model.specs.History.{invalidations}
 use Rattle.nsc_model.specs.Machine.{Cache, Passed, Stopped, Turn, look_up, tick, invalidated}
@@ -44,30 +45,30 @@ last_part old adds s cores db (Err stop) g none w = (with_at cores db (settled w
 
 -- ---- ticks
 
-tick_passes_in : (settings : Settings) (s : State) (cores : Db → Core) (db : Db) → AllDrive s cores → PassesBy db 0 (cores db) (tick_of settings s db)
+tick_passes_in : (settings : Conf) (s : State) (cores : Db → Core) (db : Db) → AllDrive s cores → PassesBy db 0 (cores db) (tick_of settings s db)
 tick_passes_in settings s cores db d =
     subst (λ (f : Files). PassesBy db 0 (cores db) (tick (settings_of settings db) settings.reloads s.moment (part_of db f) (cache_of s db))) (d.sources_are db)
     (tick_passes db 0 (settings_of settings db) settings.reloads s.moment (cores db) (cache_of s db) (d.drives db))
 
-abbrev left_from_services : Settings → State → State
+abbrev left_from_services : Conf → State → State
 left_from_services settings s = left_ticked settings Services s (λ s4. s4)
 
-abbrev left_from_hosts : Settings → State → State
+abbrev left_from_hosts : Conf → State → State
 left_from_hosts settings s = left_ticked settings Hosts s (left_from_services settings)
 
-abbrev left_from_groups : Settings → State → State
+abbrev left_from_groups : Conf → State → State
 left_from_groups settings s = left_ticked settings Group s (left_from_hosts settings)
 
-abbrev from_services : Settings → State → Result Went Finish
+abbrev from_services : Conf → State → Result Went Finish
 from_services settings s = ticked_in settings Services s silent
 
-abbrev from_hosts : Settings → State → Result Went Finish
+abbrev from_hosts : Conf → State → Result Went Finish
 from_hosts settings s = ticked_in settings Hosts s (from_services settings)
 
-abbrev from_groups : Settings → State → Result Went Finish
+abbrev from_groups : Conf → State → Result Went Finish
 from_groups settings s = ticked_in settings Group s (from_hosts settings)
 
-hosts_ticked : (settings : Settings) (old : Db → Core) (a b : List Record) (s : State) (cores : Db → Core) (r : Result Passed Stopped) → AllMove old (each_of a b [] []) s cores → PassesBy Hosts 0 (cores Hosts) r
+hosts_ticked : (settings : Conf) (old : Db → Core) (a b : List Record) (s : State) (cores : Db → Core) (r : Result Passed Stopped) → AllMove old (each_of a b [] []) s cores → PassesBy Hosts 0 (cores Hosts) r
     → Silently old (each_of a b (adds_of r) (unless_stopped r (adds_of (tick_of settings s Services)))) (left_on s Hosts r (left_from_services settings)) s.files s.moment (then_on s Hosts r (from_services settings))
 hosts_ticked settings old a b s cores (Ok passed) g w =
     let t = with_cache s Hosts passed.cache in
@@ -76,7 +77,7 @@ hosts_ticked settings old a b s cores (Ok passed) g w =
     last_part old (each_of a b passed.adds []) t new Services (tick_of settings t Services) moved refl (tick_passes_in settings t new Services moved.drive)
 hosts_ticked settings old a b s cores (Err stop) g w = (with_at cores Hosts (settled w.0), one_moves old (each_of a b [] []) s cores Hosts w.0 stop.adds stop.cache g refl w.1, record { count = stop.count; is = refl })
 
-groups_ticked : (settings : Settings) (old : Db → Core) (a : List Record) (s : State) (cores : Db → Core) (r : Result Passed Stopped) → AllMove old (each_of a [] [] []) s cores → PassesBy Group 0 (cores Group) r
+groups_ticked : (settings : Conf) (old : Db → Core) (a : List Record) (s : State) (cores : Db → Core) (r : Result Passed Stopped) → AllMove old (each_of a [] [] []) s cores → PassesBy Group 0 (cores Group) r
     → Silently old (each_of a (adds_of r) (unless_stopped r (adds_of (tick_of settings s Hosts))) (unless_stopped r (unless_stopped (tick_of settings s Hosts) (adds_of (tick_of settings s Services))))) (left_on s Group r (left_from_hosts settings)) s.files s.moment (then_on s Group r (from_hosts settings))
 groups_ticked settings old a s cores (Ok passed) g w =
     let t = with_cache s Group passed.cache in
@@ -85,7 +86,7 @@ groups_ticked settings old a s cores (Ok passed) g w =
     hosts_ticked settings old a passed.adds t new (tick_of settings t Hosts) moved (tick_passes_in settings t new Hosts moved.drive)
 groups_ticked settings old a s cores (Err stop) g w = (with_at cores Group (settled w.0), one_moves old (each_of a [] [] []) s cores Group w.0 stop.adds stop.cache g refl w.1, record { count = stop.count; is = refl })
 
-users_ticked : (settings : Settings) (old : Db → Core) (s : State) (cores : Db → Core) (r : Result Passed Stopped) → AllMove old none_add s cores → PassesBy Passwd 0 (cores Passwd) r
+users_ticked : (settings : Conf) (old : Db → Core) (s : State) (cores : Db → Core) (r : Result Passed Stopped) → AllMove old none_add s cores → PassesBy Passwd 0 (cores Passwd) r
     → Silently old (each_of (adds_of r) (unless_stopped r (adds_of (tick_of settings s Group))) (unless_stopped r (unless_stopped (tick_of settings s Group) (adds_of (tick_of settings s Hosts))))
     (unless_stopped r (unless_stopped (tick_of settings s Group) (unless_stopped (tick_of settings s Hosts) (adds_of (tick_of settings s Services)))))) (left_on s Passwd r (left_from_groups settings)) s.files s.moment (then_on s Passwd r (from_groups settings))
 users_ticked settings old s cores (Ok passed) g w =
@@ -95,7 +96,7 @@ users_ticked settings old s cores (Ok passed) g w =
     groups_ticked settings old passed.adds t new (tick_of settings t Group) moved (tick_passes_in settings t new Group moved.drive)
 users_ticked settings old s cores (Err stop) g w = (with_at cores Passwd (settled w.0), one_moves old none_add s cores Passwd w.0 stop.adds stop.cache g refl w.1, record { count = stop.count; is = refl })
 
-all_ticked : (settings : Settings) (s : State) (cores : Db → Core) → AllDrive s cores → Silently cores (tick_adds settings s) (left_ticks settings s) s.files s.moment (ticks settings s)
+all_ticked : (settings : Conf) (s : State) (cores : Db → Core) → AllDrive s cores → Silently cores (tick_adds settings s) (left_ticks settings s) s.files s.moment (ticks settings s)
 all_ticked settings s cores d = users_ticked settings cores s cores (tick_of settings s Passwd) (all_stay s cores d) (tick_passes_in settings s cores Passwd d)
 
 -- ---- the input of a connection
@@ -144,7 +145,7 @@ kind_asked s cores kind key (Ok turn) d w =
     )
 kind_asked s cores kind key (Err stop) d w = (with_at cores (database_of kind) (settled w.0), one_moves cores none_add s cores (database_of kind) w.0 stop.adds stop.cache (all_stay s cores d) refl w.1, record { count = stop.count; is = refl })
 
-look_asked : (settings : Settings) (s : State) (cores : Db → Core) (kind : Kind) (key : List ℕ) → AllDrive s cores
+look_asked : (settings : Conf) (s : State) (cores : Db → Core) (kind : Kind) (key : List ℕ) → AllDrive s cores
     → AskedTo cores (asked_adds settings s (Look (request kind key))) s (left_look settings s (database_of kind) (request kind key)) (Look (request kind key)) (look_frame settings s (request kind key))
 look_asked settings s cores kind key d =
     let db = database_of kind in
@@ -155,7 +156,7 @@ look_asked settings s cores kind key d =
 no_look : (s : State) (cores : Db → Core) (asked : Asked) → IsReplied cores cores (framed []) asked → AllDrive s cores → AskedTo cores none_add s s asked (unanswered s)
 no_look s cores asked is d = (cores, all_stay s cores d, is, refl, refl)
 
-any_asked : (settings : Settings) (s : State) (cores : Db → Core) (asked : Asked) → AllDrive s cores → AskedTo cores (asked_adds settings s asked) s (left_asked settings s asked) asked (ask_frame settings s asked)
+any_asked : (settings : Conf) (s : State) (cores : Db → Core) (asked : Asked) → AllDrive s cores → AskedTo cores (asked_adds settings s asked) s (left_asked settings s asked) asked (ask_frame settings s asked)
 any_asked settings s cores (Look r) d = look_asked settings s cores r.kind r.key d
 any_asked settings s cores Shutdown d = no_look s cores Shutdown refl d
 any_asked settings s cores Stat d = no_look s cores Stat refl d
@@ -169,28 +170,28 @@ any_asked settings s cores (BadLength length) d = no_look s cores (BadLength len
 
 -- ---- frames
 
-abbrev Comes : Settings → State → (Db → Core) → Frame → Result Went Finish → Type 0
+abbrev Comes : Conf → State → (Db → Core) → Frame → Result Went Finish → Type 0
 Comes settings s old frame (Ok went) = (new : Db → Core) × IsPlayed settings s old frame went new
 Comes settings s old frame (Err finish) = (new : Db → Core) × IsStopped settings s old frame finish new
 
 -- a stop at a count leaves what the frame left
-count_left : (settings : Settings) (s : State) (old : Db → Core) (frame : Frame) (finish : Finish) (new : Db → Core) → IsCount finish → AllMove old (frame_adds settings s frame) (left_by settings s frame) new → IsStopped settings s old frame finish new
+count_left : (settings : Conf) (s : State) (old : Db → Core) (frame : Frame) (finish : Finish) (new : Db → Core) → IsCount finish → AllMove old (frame_adds settings s frame) (left_by settings s frame) new → IsStopped settings s old frame finish new
 count_left settings s old frame finish new count g =
     record { moves = subst (λ (f : Finish). AllMove old (frame_adds settings s frame) (stopped_in s (left_by settings s frame) f) new) (sym count.is) g }
 
-ask_comes : (settings : Settings) (s : State) (old : Db → Core) (input : List ℕ) (r : Result Went Finish) → AskedTo old (asked_adds settings s (request_of input)) s (left_asked settings s (request_of input)) (request_of input) r → Comes settings s old (Ask input) r
+ask_comes : (settings : Conf) (s : State) (old : Db → Core) (input : List ℕ) (r : Result Went Finish) → AskedTo old (asked_adds settings s (request_of input)) s (left_asked settings s (request_of input)) (request_of input) r → Comes settings s old (Ask input) r
 ask_comes settings s old input (Ok went) w = (w.0, record { moves = w.1; replied = w.2; files_are = w.3; moment_is = w.4 })
 ask_comes settings s old input (Err finish) w = (w.0, count_left settings s old (Ask input) finish w.0 w.2 w.1)
 
-reach_comes : (settings : Settings) (s : State) (old : Db → Core) (moment : ℕ) (r : Result Went Finish) → Silently old (frame_adds settings s (Reach moment)) (left_by settings s (Reach moment)) s.files (reached_moment s moment) r → Comes settings s old (Reach moment) r
+reach_comes : (settings : Conf) (s : State) (old : Db → Core) (moment : ℕ) (r : Result Went Finish) → Silently old (frame_adds settings s (Reach moment)) (left_by settings s (Reach moment)) s.files (reached_moment s moment) r → Comes settings s old (Reach moment) r
 reach_comes settings s old moment (Ok went) w = (w.0, record { moves = w.1; replied = w.2; files_are = w.3; moment_is = w.4 })
 reach_comes settings s old moment (Err finish) w = (w.0, count_left settings s old (Reach moment) finish w.0 w.2 w.1)
 
-clear_comes : (settings : Settings) (s : State) (old : Db → Core) (db : Db) (r : Result Went Finish) → Silently old (frame_adds settings s (Clear db)) (left_by settings s (Clear db)) s.files s.moment r → Comes settings s old (Clear db) r
+clear_comes : (settings : Conf) (s : State) (old : Db → Core) (db : Db) (r : Result Went Finish) → Silently old (frame_adds settings s (Clear db)) (left_by settings s (Clear db)) s.files s.moment r → Comes settings s old (Clear db) r
 clear_comes settings s old db (Ok went) w = (w.0, record { moves = w.1; replied = w.2; files_are = w.3; moment_is = w.4 })
 clear_comes settings s old db (Err finish) w = (w.0, count_left settings s old (Clear db) finish w.0 w.2 w.1)
 
-frame_comes : (settings : Settings) (s : State) (cores : Db → Core) (frame : Frame) → AllDrive s cores → Comes settings s cores frame (turn_of settings s frame)
+frame_comes : (settings : Conf) (s : State) (cores : Db → Core) (frame : Frame) → AllDrive s cores → Comes settings s cores frame (turn_of settings s frame)
 frame_comes settings s cores (Ask input) d = ask_comes settings s cores input (ask_frame settings s (request_of input)) (any_asked settings s cores (request_of input) d)
 frame_comes settings s cores (Become id held) d =
     let f = with_file s.files id held in (
@@ -212,27 +213,27 @@ frame_comes settings s cores Stop d = (cores, record { moves = all_stay s cores 
 -- ---- the law
 
 -- what a frame and those behind it write
-record Turned (settings : Settings) (frame : Frame) (frames : List Frame) (last : Finish) (s : State) (cores : Db → Core) (r : Result Went Finish) (replayed : Replayed) : Type 0 where
+record Turned (settings : Conf) (frame : Frame) (frames : List Frame) (last : Finish) (s : State) (cores : Db → Core) (r : Result Went Finish) (replayed : Replayed) : Type 0 where
   pieces : List (List ℕ)
   played : PlayedThen (λ t new later. EachReplied settings frames last t new later replayed.finish) settings s cores frame pieces replayed.finish r
   output_is : replayed.output ≡ concat pieces
 
-turned : (settings : Settings) (frame : Frame) (frames : List Frame) (last : Finish) (s : State) (cores : Db → Core) (r : Result Went Finish) → Comes settings s cores frame r
+turned : (settings : Conf) (frame : Frame) (frames : List Frame) (last : Finish) (s : State) (cores : Db → Core) (r : Result Went Finish) → Comes settings s cores frame r
     → ((t : State) (new : Db → Core) → AllDrive t new → IsReplayed settings frames last t new (play settings frames last t)) → Turned settings frame frames last s cores r (play_on (play settings frames last) r)
 turned settings frame frames last s cores (Ok went) w others =
     let rest = others went.state w.0 w.1.moves.drive in
     record { pieces = went.writes ∷ rest.pieces; played = (w.0, rest.pieces, w.1, refl, rest.each_replied); output_is = ap (λ (xs : List ℕ). went.writes ++ xs) rest.output_is }
 turned settings frame frames last s cores (Err finish) w others = record { pieces = []; played = (w.0, w.1, refl, refl); output_is = refl }
 
-all_replayed : (settings : Settings) (frames : List Frame) (last : Finish) (s : State) (cores : Db → Core) → AllDrive s cores → IsReplayed settings frames last s cores (play settings frames last s)
+all_replayed : (settings : Conf) (frames : List Frame) (last : Finish) (s : State) (cores : Db → Core) → AllDrive s cores → IsReplayed settings frames last s cores (play settings frames last s)
 unfolding play
 all_replayed settings [] last s cores d = record { pieces = []; each_replied = (d, refl, refl); output_is = refl }
 all_replayed settings (frame ∷ frames) last s cores d =
     let t = turned settings frame frames last s cores (turn_of settings s frame) (frame_comes settings s cores frame d) (λ t new e. all_replayed settings frames last t new e) in
     record { pieces = t.pieces; each_replied = (d, t.played); output_is = t.output_is }
 
-pub frames_law : (settings : Settings) (frames : List Frame) (last : Finish) → IsReplayed settings frames last first_state (λ db. opening db no_files) (play settings frames last first_state)
+pub frames_law : (settings : Conf) (frames : List Frame) (last : Finish) → IsReplayed settings frames last first_state (λ db. opening db no_files) (play settings frames last first_state)
 frames_law settings frames last = all_replayed settings frames last first_state (λ db. opening db no_files) all_begin
 
-pub bytes_law : (settings : Settings) (bytes : List ℕ) → IsReplayed settings (cut_at 0 bytes).frames (cut_at 0 bytes).finish first_state (λ db. opening db no_files) (replay settings bytes)
+pub bytes_law : (settings : Conf) (bytes : List ℕ) → IsReplayed settings (cut_at 0 bytes).frames (cut_at 0 bytes).finish first_state (λ db. opening db no_files) (replay settings bytes)
 bytes_law settings bytes = frames_law settings (cut_at 0 bytes).frames (cut_at 0 bytes).finish

@@ -7,7 +7,7 @@ use Rattle.nsc_model.specs.declared.record.Record.{Record}
 use Rattle.nsc_model.specs.declared.record.Record.TheVariants.{Change}
 use Rattle.nsc_model.specs.Files as files
 use Rattle.nsc_model.specs.Files.{part_of}
-use Rattle.nsc_model.specs.Settings.{DbSettings}
+use Rattle.nsc_model.specs.declared.conf.DbConf.{DbConf}
 use Rattle.nsc_model.specs.History.{Legal, Answered}
 use Rattle.nsc_laws.specs.Core.{Core, opening}
 use Rattle.nsc_model.specs.Machine.{Cache, new_cache, Passed, Stopped, Turn, look_up, tick, invalidated}
@@ -28,7 +28,7 @@ legal_then : (db : Db) (others : Cache → List Record → Type 0) (old : Core) 
 legal_then db others old (Ok passed) w next = subst (others passed.cache) w.1.history_is (next w.0 passed.cache w.1.drives)
 legal_then db others old (Err stop) w next = subst Legal w.1.history_is w.1.drives.tells.legal
 
-each_answered : (db : Db) (settings : DbSettings) (reloads : Option ℕ) (events : List Event) (core : Core) (cache : Cache) → Drives db 0 core cache → EachAnswered db settings reloads events cache core.history
+each_answered : (db : Db) (settings : DbConf) (reloads : Option ℕ) (events : List Event) (core : Core) (cache : Cache) → Drives db 0 core cache → EachAnswered db settings reloads events cache core.history
 each_answered db settings reloads [] core cache d = d.tells.legal
 each_answered db settings reloads (LookUp content now request ∷ events) core cache d = (
   d.tells.legal,
@@ -43,5 +43,5 @@ each_answered db settings reloads (Tick content now ∷ events) core cache d = (
 each_answered db settings reloads (Invalidation ∷ events) core cache d =
     (d.tells.legal, legal_then db (EachAnswered db settings reloads events) core (invalidated cache) (invalidation_passes db 0 core cache d) (λ new after e. each_answered db settings reloads events new after e))
 
-pub runs_law : (db : Db) (settings : DbSettings) (reloads : Option ℕ) (sources : files.Files) (events : List Event) → EachAnswered db settings reloads events (new_cache (part_of db sources)) (Change 0 (part_of db sources) ∷ [])
+pub runs_law : (db : Db) (settings : DbConf) (reloads : Option ℕ) (sources : files.Files) (events : List Event) → EachAnswered db settings reloads events (new_cache (part_of db sources)) (Change 0 (part_of db sources) ∷ [])
 runs_law db settings reloads sources events = each_answered db settings reloads events (opening db sources) (new_cache (part_of db sources)) (opening_drives db 0 sources)

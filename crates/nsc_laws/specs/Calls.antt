@@ -6,7 +6,7 @@ use Rattle.nsc_model.specs.declared.record.Record.{Record}
 use Rattle.nsc_model.specs.Files as files
 use Rattle.nsc_model.specs.Files.{part_of}
 use Rattle.nsc_model.specs.Fixed.{Fixed}
-use Rattle.nsc_model.specs.Settings.{DbSettings}
+use Rattle.nsc_model.specs.declared.conf.DbConf.{DbConf}
 use Rattle.nsc_model.specs.History.{changes, loads, invalidations, newest, version_in, IsLive, Legal, IsPrefix, Answered}
 use Rattle.nsc_laws.specs.Core.{Core, Move, Files, Begin, Look, Note, Fetch, PollStep, Insert, Finish, Empty, Compact, Reply, AreLive, Runs, Replies, opening}
 use Rattle.nsc_model.specs.Machine.{Kept, Cache, Passed, Stopped, Turn, look_up, tick, invalidated}
@@ -113,7 +113,7 @@ abbrev pub LegalThen : (Cache → List Record → Type 0) → List Record → Re
 LegalThen others history (Ok passed) = others passed.cache (passed.adds ++ history)
 LegalThen others history (Err stop) = Legal (stop.adds ++ history)
 
-abbrev pub EachAnswered : Db → DbSettings → Option ℕ → List Event → Cache → List Record → Type 0
+abbrev pub EachAnswered : Db → DbConf → Option ℕ → List Event → Cache → List Record → Type 0
 EachAnswered db settings reloads [] cache history = Legal history
 EachAnswered db settings reloads (LookUp content now request ∷ events) cache history =
     Legal history × AnsweredThen (EachAnswered db settings reloads events) history request (look_up settings now (part_of db content) request cache)

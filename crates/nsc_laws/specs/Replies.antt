@@ -8,7 +8,8 @@ use Rattle.nsc_model.specs.declared.record.Record.{Record}
 use Rattle.nsc_model.specs.Kinds.{database_of}
 use Rattle.nsc_model.specs.Files.{Files, with_file, part_of}
 use Rattle.nsc_model.specs.Fixed.{Fixed}
-use Rattle.nsc_model.specs.Settings.{Settings, settings_of}
+use Rattle.nsc_model.specs.declared.conf.Conf.{Conf}
+use Rattle.nsc_model.specs.Settings.{settings_of}
 use Rattle.nsc_model.specs.Wire.{Asked, Look, Shutdown, Stat, Invalidate, Descriptor, Netgroup, Short, BadVersion, BadType, BadLength, request_of}
 use Rattle.nsc_model.specs.History.{IsLive, Answered}
 use Rattle.nsc_laws.specs.Core.{Core, Replies}
@@ -85,10 +86,10 @@ abbrev pub look_adds_of : Result Turn Stopped → List Record
 look_adds_of (Ok turn) = turn.adds
 look_adds_of (Err stop) = stop.adds
 
-abbrev pub look_adds : Settings → State → Db → Request → Db → List Record
+abbrev pub look_adds : Conf → State → Db → Request → Db → List Record
 look_adds settings s db request = adds_alone db (look_adds_of (look_up (settings_of settings db) s.moment (part_of db s.files) request (cache_of s db)))
 
-abbrev pub asked_adds : Settings → State → Asked → Db → List Record
+abbrev pub asked_adds : Conf → State → Asked → Db → List Record
 asked_adds settings s (Look request) = look_adds settings s (database_of request.kind) request
 asked_adds settings s Shutdown = none_add
 asked_adds settings s Stat = none_add
@@ -101,7 +102,7 @@ asked_adds settings s (BadType type) = none_add
 asked_adds settings s (BadLength length) = none_add
 
 -- the tick of a database, at the moment as it is
-abbrev pub tick_of : Settings → State → Db → Result Passed Stopped
+abbrev pub tick_of : Conf → State → Db → Result Passed Stopped
 tick_of settings s db = tick (settings_of settings db) settings.reloads s.moment (part_of db s.files) (cache_of s db)
 
 -- behind a tick that stops no other database is ticked
@@ -109,7 +110,7 @@ abbrev pub unless_stopped : Result Passed Stopped → List Record → List Recor
 unless_stopped (Ok passed) adds = adds
 unless_stopped (Err stop) adds = []
 
-abbrev pub tick_adds : Settings → State → Db → List Record
+abbrev pub tick_adds : Conf → State → Db → List Record
 tick_adds settings s =
     let users = tick_of settings s Passwd in
     let groups = tick_of settings s Group in
@@ -122,7 +123,7 @@ abbrev pub reached_moment : State → ℕ → ℕ
 reached_moment s moment = max s.moment (min moment last_moment)
 
 -- what a frame adds to the history of each database
-abbrev pub frame_adds : Settings → State → Frame → Db → List Record
+abbrev pub frame_adds : Conf → State → Frame → Db → List Record
 frame_adds settings s (Ask input) = asked_adds settings s (request_of input)
 frame_adds settings s (Become file held) = none_add
 frame_adds settings s (Reach moment) = tick_adds settings (record s { moment = reached_moment s moment })
@@ -147,16 +148,16 @@ left_looked s db (Ok turn) = with_cache s db turn.cache
 left_looked s db (Err stop) = with_cache s db stop.cache
 
 -- what the ticks of all databases leave, or those up to one that stops
-abbrev pub left_ticked : Settings → Db → State → (State → State) → State
+abbrev pub left_ticked : Conf → Db → State → (State → State) → State
 left_ticked settings db s next = left_on s db (tick (settings_of settings db) settings.reloads s.moment (part_of db s.files) (cache_of s db)) next
 
-abbrev pub left_ticks : Settings → State → State
+abbrev pub left_ticks : Conf → State → State
 left_ticks settings s = left_ticked settings Passwd s (λ s1. left_ticked settings Group s1 (λ s2. left_ticked settings Hosts s2 (λ s3. left_ticked settings Services s3 (λ s4. s4))))
 
-abbrev pub left_look : Settings → State → Db → Request → State
+abbrev pub left_look : Conf → State → Db → Request → State
 left_look settings s db request = left_looked s db (look_up (settings_of settings db) s.moment (part_of db s.files) request (cache_of s db))
 
-abbrev pub left_asked : Settings → State → Asked → State
+abbrev pub left_asked : Conf → State → Asked → State
 left_asked settings s (Look request) = left_look settings s (database_of request.kind) request
 left_asked settings s Shutdown = s
 left_asked settings s Stat = s
@@ -169,7 +170,7 @@ left_asked settings s (BadType type) = s
 left_asked settings s (BadLength length) = s
 
 -- what a frame leaves where a count of a database stands at its end
-abbrev pub left_by : Settings → State → Frame → State
+abbrev pub left_by : Conf → State → Frame → State
 left_by settings s (Ask input) = left_asked settings s (request_of input)
 left_by settings s (Become file held) = s
 left_by settings s (Reach moment) = left_ticks settings (record s { moment = max s.moment (min moment last_moment) })
@@ -201,29 +202,29 @@ moment_behind (Clear db) s = s.moment
 moment_behind Stop s = s.moment
 
 -- a frame moves the cores on, over the files as they are behind it, and they gain exactly its records
-pub record IsPlayed (settings : Settings) (s : State) (old : Db → Core) (frame : Frame) (went : Went) (new : Db → Core) : Type 0 where
+pub record IsPlayed (settings : Conf) (s : State) (old : Db → Core) (frame : Frame) (went : Went) (new : Db → Core) : Type 0 where
   pub moves : AllMove old (frame_adds settings s frame) went.state new
   pub replied : RepliesTo old new went.writes frame
   pub files_are : went.state.files ≡ files_behind frame s.files
   pub moment_is : went.state.moment ≡ moment_behind frame s
 
 -- a frame that ends the replay: there the cores moved on to the state at the stop, and gained exactly the records up to it
-pub record IsStopped (settings : Settings) (s : State) (old : Db → Core) (frame : Frame) (finish : Finish) (new : Db → Core) : Type 0 where
+pub record IsStopped (settings : Conf) (s : State) (old : Db → Core) (frame : Frame) (finish : Finish) (new : Db → Core) : Type 0 where
   pub moves : AllMove old (frame_adds settings s frame) (stopped_in s (left_by settings s frame) finish) new
 
 -- frames write these pieces, one piece for each frame in turn, up to one that ends the replay, and the replay ends so
-abbrev pub PlayedThen : (State → (Db → Core) → List (List ℕ) → Type 0) → Settings → State → (Db → Core) → Frame → List (List ℕ) → Finish → Result Went Finish → Type 0
+abbrev pub PlayedThen : (State → (Db → Core) → List (List ℕ) → Type 0) → Conf → State → (Db → Core) → Frame → List (List ℕ) → Finish → Result Went Finish → Type 0
 PlayedThen others settings s old frame pieces finish (Ok went) = (new : Db → Core) × (later : List (List ℕ)) × IsPlayed settings s old frame went new × (pieces ≡ went.writes ∷ later) × others went.state new later
 PlayedThen others settings s old frame pieces finish (Err stop) = (new : Db → Core) × IsStopped settings s old frame stop new × (pieces ≡ []) × (finish ≡ stop)
 
 -- where no frame ends the replay, it ends like this one, as the bytes behind the frames say
-abbrev pub EachReplied : Settings → List Frame → Finish → State → (Db → Core) → List (List ℕ) → Finish → Type 0
+abbrev pub EachReplied : Conf → List Frame → Finish → State → (Db → Core) → List (List ℕ) → Finish → Type 0
 EachReplied settings [] last s cores pieces finish = AllDrive s cores × (pieces ≡ []) × (finish ≡ last)
 EachReplied settings (frame ∷ frames) last s cores pieces finish =
     AllDrive s cores × PlayedThen (λ t new later. EachReplied settings frames last t new later finish) settings s cores frame pieces finish (turn_of settings s frame)
 
 -- what a replay of frames wrote, from a state and these cores on, is what its frames write in turn
-pub record IsReplayed (settings : Settings) (frames : List Frame) (last : Finish) (s : State) (cores : Db → Core) (replayed : Replayed) : Type 0 where
+pub record IsReplayed (settings : Conf) (frames : List Frame) (last : Finish) (s : State) (cores : Db → Core) (replayed : Replayed) : Type 0 where
   pub pieces : List (List ℕ)
   pub each_replied : EachReplied settings frames last s cores pieces replayed.finish
   pub output_is : replayed.output ≡ concat pieces

@@ -6,7 +6,7 @@ ghost use Rattle.nsc_model.specs.declared.kind.Db.{Db};
 ghost use Rattle.nsc_model.specs.declared.record.Record.TheVariants.{Change};
 ghost use Rattle.nsc_model.specs.Files.{Files, part_of};
 ghost use Rattle.nsc_model.specs.Fixed.{Fixed};
-ghost use Rattle.nsc_model.specs.Settings.{DbSettings};
+ghost use Rattle.nsc_model.specs.declared.conf.DbConf.{DbConf};
 ghost use Rattle.nsc_model.specs.Machine.{Cache, new_cache, live_entry, refusal, own_refusal, look_up, tick, invalidated};
 ghost use Rattle.nsc_laws.specs.Core.{Core, opening};
 ghost use Rattle.nsc_laws.specs.Calls.{Drives, TurnsBy, PassesBy, Event, EachAnswered};
@@ -17,9 +17,9 @@ ghost use Rattle.nsc_laws.specs.Calls.{Drives, TurnsBy, PassesBy, Event, EachAns
 pub fn machine_events_are_moves()
     ensures begins { (db : Db) (a : ℕ) (files : Files) → Drives db a (opening db files) (new_cache (part_of db files)) }
     ensures files { (db : Db) (a : ℕ) (old : Core) (cache : Cache) (files : Files) → Drives db a old cache → Drives db a (record old { sources = files }) cache }
-    ensures look_up { (db : Db) (a : ℕ) (settings : DbSettings) (now : ℕ) (request : Request) (old : Core) (cache : Cache) →
+    ensures look_up { (db : Db) (a : ℕ) (settings : DbConf) (now : ℕ) (request : Request) (old : Core) (cache : Cache) →
         Drives db a old cache → TurnsBy db a old request (look_up settings now (part_of db old.sources) request cache) }
-    ensures tick { (db : Db) (a : ℕ) (settings : DbSettings) (reloads : Option ℕ) (now : ℕ) (old : Core) (cache : Cache) →
+    ensures tick { (db : Db) (a : ℕ) (settings : DbConf) (reloads : Option ℕ) (now : ℕ) (old : Core) (cache : Cache) →
         Drives db a old cache → PassesBy db a old (tick settings reloads now (part_of db old.sources) cache) }
     ensures invalidation { (db : Db) (a : ℕ) (old : Core) (cache : Cache) → Drives db a old cache → PassesBy db a old (invalidated cache) }
 {}
@@ -27,7 +27,7 @@ pub fn machine_events_are_moves()
 /// In every run of events from a new cache, whatever the files are at each of them, the history is legal and each reply
 /// is an answer to its request, for a caller that had seen the whole history before the look-up.
 pub fn runs_are_answered()
-    ensures { (db : Db) (settings : DbSettings) (reloads : Option ℕ) (files : Files) (events : List Event) →
+    ensures { (db : Db) (settings : DbConf) (reloads : Option ℕ) (files : Files) (events : List Event) →
         EachAnswered db settings reloads events (new_cache (part_of db files)) (Change 0 (part_of db files) ∷ []) }
 {}
 

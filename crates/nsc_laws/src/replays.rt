@@ -2,7 +2,7 @@
 
 ghost use Rattle.std.specs.Prelude.{ℕ, List};
 ghost use Rattle.nsc_model.specs.Files.{no_files};
-ghost use Rattle.nsc_model.specs.Settings.{Settings};
+ghost use Rattle.nsc_model.specs.declared.conf.Conf.{Conf};
 ghost use Rattle.nsc_model.specs.Frames.{Finish, Frame, cut_at};
 ghost use Rattle.nsc_model.specs.Replay.{first_state, play, replay};
 ghost use Rattle.nsc_laws.specs.Core.{opening};
@@ -14,6 +14,6 @@ ghost use Rattle.nsc_laws.specs.Replies.{IsReplayed};
 /// from is live at that moment. Behind each frame, and at a stop, the history of each database is exactly the records that
 /// the event of the frame names for it, in front of what it was.
 pub fn replays_are_answered()
-    ensures of_frames { (settings : Settings) (frames : List Frame) (last : Finish) → IsReplayed settings frames last first_state (λ db. opening db no_files) (play settings frames last first_state) }
-    ensures of_bytes { (settings : Settings) (bytes : List ℕ) → IsReplayed settings (cut_at 0 bytes).frames (cut_at 0 bytes).finish first_state (λ db. opening db no_files) (replay settings bytes) }
+    ensures of_frames { (settings : Conf) (frames : List Frame) (last : Finish) → IsReplayed settings frames last first_state (λ db. opening db no_files) (play settings frames last first_state) }
+    ensures of_bytes { (settings : Conf) (bytes : List ℕ) → IsReplayed settings (cut_at 0 bytes).frames (cut_at 0 bytes).finish first_state (λ db. opening db no_files) (replay settings bytes) }
 {}

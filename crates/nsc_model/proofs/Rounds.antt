@@ -4,7 +4,7 @@ use Rattle.std.proofs.lemmas.Bool.{le-ltb, lt-ltb}
 use Rattle.std.proofs.lemmas.List.{length-append}
 use Rattle.nsc_model.specs.Frames.{Frame, Ask, Become, Reach, Clear, Stop, Fault, Short, number_at, frame_at, Finish, Done, Bad, place_limit, Cut, more_frames, fault_at, reached, cut_on, cut_from, cut_by, cut_at}
 use Rattle.nsc_model.specs.Fronts.{Finds, Refuses, IsPartial}
-use Rattle.nsc_model.specs.Settings.{Settings}
+use Rattle.nsc_model.specs.declared.conf.Conf.{Conf}
 use Rattle.nsc_model.specs.Replay.{State, Went, turn_of, Replayed, behind_output, play_on, play, replay_from}
 use Rattle.nsc_model.proofs.Parsers.{frame_eats}
 
@@ -97,11 +97,11 @@ cut_late (suc n) place bytes le = let late : ltb place place_limit ≡ false = l
 abbrev pub ended : Finish → Replayed
 ended finish = record { output = []; finish = finish }
 
-abbrev replayed_cut : Settings → State → Cut → Replayed
+abbrev replayed_cut : Conf → State → Cut → Replayed
 replayed_cut settings s cut = play settings cut.frames cut.finish s
 
 -- the frame at the front is done, and the replay goes on behind it
-pub round_goes : (settings : Settings) (s : State) (place : ℕ) (front more : List ℕ) (frame : Frame) (went : Went) → place < place_limit → Finds frame_at front frame → Goes frame → turn_of settings s frame ≡ Ok went
+pub round_goes : (settings : Conf) (s : State) (place : ℕ) (front more : List ℕ) (frame : Frame) (went : Went) → place < place_limit → Finds frame_at front frame → Goes frame → turn_of settings s frame ≡ Ok went
     → replay_from settings s place (front ++ more) ≡ behind_output went.writes (replay_from settings went.state (place + length front) more)
 unfolding play
 round_goes settings s place front more frame went lt found goes turned =
@@ -110,7 +110,7 @@ round_goes settings s place front more frame went lt found goes turned =
     ∙ ap (play_on (play settings rest.frames rest.finish)) turned
 
 -- the frame at the front ends the replay
-pub round_ends : (settings : Settings) (s : State) (place : ℕ) (front more : List ℕ) (frame : Frame) (finish : Finish) → place < place_limit → Finds frame_at front frame → Goes frame → turn_of settings s frame ≡ Err finish
+pub round_ends : (settings : Conf) (s : State) (place : ℕ) (front more : List ℕ) (frame : Frame) (finish : Finish) → place < place_limit → Finds frame_at front frame → Goes frame → turn_of settings s frame ≡ Err finish
     → replay_from settings s place (front ++ more) ≡ ended finish
 unfolding play
 round_ends settings s place front more frame finish lt found goes turned =
@@ -119,21 +119,21 @@ round_ends settings s place front more frame finish lt found goes turned =
     ∙ ap (play_on (play settings rest.frames rest.finish)) turned
 
 -- the first E: what stands behind it is no part of the replay
-pub round_stops : (settings : Settings) (s : State) (place : ℕ) (front more : List ℕ) → place < place_limit → Finds frame_at front Stop → replay_from settings s place (front ++ more) ≡ ended (Done (place + length front))
+pub round_stops : (settings : Conf) (s : State) (place : ℕ) (front more : List ℕ) → place < place_limit → Finds frame_at front Stop → replay_from settings s place (front ++ more) ≡ ended (Done (place + length front))
 unfolding play
 round_stops settings s place front more lt found = ap (replayed_cut settings s) (cut_stops place front more lt found)
 
 -- the front is refused, whatever follows
-pub round_refused : (settings : Settings) (s : State) (place : ℕ) (front more : List ℕ) (fault : Fault) → place < place_limit → Refuses frame_at front fault → replay_from settings s place (front ++ more) ≡ ended (fault_at place fault)
+pub round_refused : (settings : Conf) (s : State) (place : ℕ) (front more : List ℕ) (fault : Fault) → place < place_limit → Refuses frame_at front fault → replay_from settings s place (front ++ more) ≡ ended (fault_at place fault)
 unfolding play
 round_refused settings s place front more fault lt refused = ap (replayed_cut settings s) (cut_fails place (front ++ more) fault lt (refused.whatever more))
 
 -- the bytes end inside a frame, or where one should begin
-pub round_partial : (settings : Settings) (s : State) (place : ℕ) (front : List ℕ) → place < place_limit → IsPartial frame_at front → replay_from settings s place front ≡ ended (Bad place)
+pub round_partial : (settings : Conf) (s : State) (place : ℕ) (front : List ℕ) → place < place_limit → IsPartial frame_at front → replay_from settings s place front ≡ ended (Bad place)
 unfolding play
 round_partial settings s place front lt part = ap (replayed_cut settings s) (cut_fails place front Short lt part.lacks)
 
 -- no frame begins so late
-pub round_late : (settings : Settings) (s : State) (place : ℕ) (more : List ℕ) → place_limit ≤ place → replay_from settings s place more ≡ ended (Bad place)
+pub round_late : (settings : Conf) (s : State) (place : ℕ) (more : List ℕ) → place_limit ≤ place → replay_from settings s place more ≡ ended (Bad place)
 unfolding play
 round_late settings s place more le = ap (replayed_cut settings s) (cut_late (length more) place more le)

@@ -12,7 +12,7 @@ use Rattle.nsc_model.specs.Kinds.{is_request}
 use Rattle.nsc_model.specs.Files.{Files, same_files}
 use Rattle.nsc_model.specs.Marked.{Marked}
 use Rattle.nsc_model.specs.Fixed.{Fixed, kept_limit}
-use Rattle.nsc_model.specs.Settings.{DbSettings}
+use Rattle.nsc_model.specs.declared.conf.DbConf.{DbConf}
 use Rattle.nsc_model.specs.Answers.{answer_of}
 
 -- where every count ends
@@ -95,20 +95,20 @@ abbrev pub all_words : List Kept → ℕ
 all_words entries = sum_by (λ k. entry_words k.entry) entries
 
 -- the room of a cache in words: 128 for each of its suggested size (nscd.conf(5))
-abbrev pub room_of : DbSettings → ℕ
+abbrev pub room_of : DbConf → ℕ
 room_of settings = settings.size * 128
 
 -- for how many seconds an answer is kept
-abbrev pub life_of : DbSettings → Marked → ℕ
+abbrev pub life_of : DbConf → Marked → ℕ
 life_of settings answer = if answer.not_found then settings.negative else settings.positive
 
 -- the entry of a request with its answer, by its number and its version; its time begins at this moment
-abbrev pub made_entry : DbSettings → ℕ → ℕ → ℕ → Request → Marked → Fixed
+abbrev pub made_entry : DbConf → ℕ → ℕ → ℕ → Request → Marked → Fixed
 made_entry settings now number version request answer =
     record { number = number; request = request; version = version; answer = answer; timeout = now + life_of settings answer }
 
 -- the entry of a request that is to be inserted: the answer over the newest version, until its time is over
-abbrev pub new_entry : DbSettings → ℕ → Request → ℕ → Cache → Kept
+abbrev pub new_entry : DbConf → ℕ → Request → ℕ → Cache → Kept
 new_entry settings now request reloads cache =
     record { entry = made_entry settings now cache.inserted cache.newest_version request (answer_of cache.sources request); reloads = reloads }
 
@@ -162,13 +162,13 @@ tried_by (Some (Spent count)) k cache = unchanged cache
 tried_by (Some (Full need free)) k cache = unchanged (record cache { add_failed = min (cache.add_failed + 1) last_count })
 
 -- an insertion is tried
-abbrev pub tried : DbSettings → ℕ → Request → ℕ → Cache → Passed
+abbrev pub tried : DbConf → ℕ → Request → ℕ → Cache → Passed
 tried settings now request reloads cache = let k = new_entry settings now request reloads cache in tried_by (own_refusal (room_of settings) k.entry cache) k cache
 
 -- ---- look-ups
 
 -- the live entry that answers a request, where the database is cached
-abbrev pub cached : DbSettings → Request → Cache → Option Kept
+abbrev pub cached : DbConf → Request → Cache → Option Kept
 cached settings request cache = if settings.enabled then live_entry request cache.entries else None
 
 -- the entry of this request is used: its count of reloads begins anew
@@ -179,22 +179,22 @@ abbrev pub used_now : Request → List Kept → List Kept
 used_now request entries = map (used_by request) entries
 
 -- behind a poll an insertion is tried, where the database is cached
-abbrev pub kept_answer : DbSettings → ℕ → Request → Cache → Passed
+abbrev pub kept_answer : DbConf → ℕ → Request → Cache → Passed
 kept_answer settings now request cache = if settings.enabled then tried settings now request 0 cache else unchanged cache
 
 -- a poll, and then the answer over the newest version
-abbrev pub loaded : DbSettings → ℕ → Request → Result Passed Stopped → Result Turn Stopped
+abbrev pub loaded : DbConf → ℕ → Request → Result Passed Stopped → Result Turn Stopped
 loaded settings now request (Ok poll) =
     let after = kept_answer settings now request poll.cache in
     Ok (record { cache = after.cache; adds = after.adds ++ poll.adds; reply = (answer_of poll.cache.sources request).bytes })
 loaded settings now request (Err stop) = Err stop
 
-abbrev pub hit_or_load : Option Kept → DbSettings → ℕ → Files → Request → Cache → Result Turn Stopped
+abbrev pub hit_or_load : Option Kept → DbConf → ℕ → Files → Request → Cache → Result Turn Stopped
 hit_or_load (Some k) settings now files request cache = Ok (record { cache = record cache { entries = used_now request cache.entries }; adds = []; reply = k.entry.answer.bytes })
 hit_or_load None settings now files request cache = loaded settings now request (polled files cache)
 
 -- a look-up: the reply of the live entry of the request, whose time is not looked at, or else a poll and its answer
-unfoldable pub look_up : DbSettings → ℕ → Files → Request → Cache → Result Turn Stopped
+unfoldable pub look_up : DbConf → ℕ → Files → Request → Cache → Result Turn Stopped
 look_up settings now files request cache = hit_or_load (cached settings request cache) settings now files request cache
 
 -- ---- ends
@@ -251,7 +251,7 @@ abbrev pub next_reloads : ℕ → ℕ
 next_reloads count = min (count + 1) last_count
 
 -- entries are reloaded, one after the other; one whose insertion is refused is gone
-abbrev pub reloaded : DbSettings → ℕ → List Kept → Cache → Passed
+abbrev pub reloaded : DbConf → ℕ → List Kept → Cache → Passed
 reloaded settings now [] cache = unchanged cache
 reloaded settings now (k ∷ entries) cache =
     let first = tried settings now k.entry.request (next_reloads k.reloads) cache in
@@ -277,7 +277,7 @@ due_ended reloads now cache = record {
 }
 
 -- a pruning: its ends, a compaction where any entry was ended, and then those that are not dropped are reloaded
-abbrev pub pruned : DbSettings → Option ℕ → ℕ → Cache → Result Passed Stopped
+abbrev pub pruned : DbConf → Option ℕ → ℕ → Cache → Result Passed Stopped
 pruned settings reloads now cache =
     let due = due_of now cache.entries in
     let ends = due_ended reloads now cache in
@@ -288,15 +288,15 @@ abbrev pub ticked : Cache → Cache
 ticked cache = record cache { ticked_version = cache.newest_version }
 
 -- the newest version is not the one that the last tick found, and such a change counts
-abbrev pub is_outdated : DbSettings → ℕ → ℕ → Bool
+abbrev pub is_outdated : DbConf → ℕ → ℕ → Bool
 is_outdated settings newest ticked = settings.check_files && not (newest == ticked)
 
 -- behind the poll of a tick: an invalidation where the files changed, after which nothing is left to prune
-abbrev pub checked : DbSettings → Option ℕ → ℕ → Cache → Result Passed Stopped
+abbrev pub checked : DbConf → Option ℕ → ℕ → Cache → Result Passed Stopped
 checked settings reloads now cache =
     if is_outdated settings cache.newest_version cache.ticked_version then (invalidated cache >>= λ after. Ok (unchanged (ticked after))) else
     pruned settings reloads now (ticked cache)
 
 -- a tick of a database; one that is not cached does nothing
-unfoldable pub tick : DbSettings → Option ℕ → ℕ → Files → Cache → Result Passed Stopped
+unfoldable pub tick : DbConf → Option ℕ → ℕ → Files → Cache → Result Passed Stopped
 tick settings reloads now files cache = if settings.enabled then (polled files cache >>= checked settings reloads now) else Ok (unchanged cache)

@@ -6,7 +6,8 @@ use Rattle.nsc_model.specs.declared.kind.FileId.{FileId}
 use Rattle.nsc_model.specs.declared.answer.Request.{Request}
 use Rattle.nsc_model.specs.Kinds.{database_of}
 use Rattle.nsc_model.specs.Files.{Files, no_files, with_file, part_of}
-use Rattle.nsc_model.specs.Settings.{Settings, settings_of}
+use Rattle.nsc_model.specs.declared.conf.Conf.{Conf}
+use Rattle.nsc_model.specs.Settings.{settings_of}
 use Rattle.nsc_model.specs.Wire.{Asked, Look, Shutdown, Stat, Invalidate, Descriptor, Netgroup, Short, BadVersion, BadType, BadLength, request_of, field}
 use Rattle.nsc_model.specs.Machine.{Cache, new_cache, Passed, Stopped, Turn, last_count, look_up, tick, invalidated}
 use Rattle.nsc_model.specs.Frames.{Frame, Ask, Become, Reach, Clear, Stop, Finish, Spent, cut_at}
@@ -56,10 +57,10 @@ looked_at s db (Ok turn) = Ok (record { state = with_cache s db turn.cache; writ
 looked_at s db (Err stop) = Err (Spent stop.count)
 
 -- a look-up, in the database of its kind
-abbrev pub look_in : Db → Settings → State → Request → Result Went Finish
+abbrev pub look_in : Db → Conf → State → Request → Result Went Finish
 look_in db settings s request = looked_at s db (look_up (settings_of settings db) s.moment (part_of db s.files) request (cache_of s db))
 
-abbrev pub look_frame : Settings → State → Request → Result Went Finish
+abbrev pub look_frame : Conf → State → Request → Result Went Finish
 look_frame settings s request = look_in (database_of request.kind) settings s request
 
 -- an input that asks for no look-up gets no reply: an empty one is written
@@ -67,7 +68,7 @@ abbrev pub unanswered : State → Result Went Finish
 unanswered s = Ok (record { state = s; writes = framed [] })
 
 -- the input of a connection
-abbrev pub ask_frame : Settings → State → Asked → Result Went Finish
+abbrev pub ask_frame : Conf → State → Asked → Result Went Finish
 ask_frame settings s (Look request) = look_frame settings s request
 ask_frame settings s Shutdown = unanswered s
 ask_frame settings s Stat = unanswered s
@@ -93,11 +94,11 @@ then_on s db (Ok passed) next = next (with_cache s db passed.cache)
 then_on s db (Err stop) next = Err (Spent stop.count)
 
 -- a database is ticked at the moment as it is
-abbrev pub ticked_in : Settings → Db → State → (State → Result Went Finish) → Result Went Finish
+abbrev pub ticked_in : Conf → Db → State → (State → Result Went Finish) → Result Went Finish
 ticked_in settings db s next = then_on s db (tick (settings_of settings db) settings.reloads s.moment (part_of db s.files) (cache_of s db)) next
 
 -- all databases are ticked, one after the other
-abbrev pub ticks : Settings → State → Result Went Finish
+abbrev pub ticks : Conf → State → Result Went Finish
 ticks settings s = ticked_in settings db.Passwd s (λ s1. ticked_in settings db.Group s1 (λ s2. ticked_in settings db.Hosts s2 (λ s3. ticked_in settings db.Services s3 silent)))
 
 -- the greatest moment
@@ -106,7 +107,7 @@ last_moment = last_count - 1
 
 -- the moment becomes this one, or the greatest moment if that is earlier, unless it is later already; and every database is
 -- ticked, also where the moment stays
-abbrev pub reach_frame : Settings → State → ℕ → Result Went Finish
+abbrev pub reach_frame : Conf → State → ℕ → Result Went Finish
 reach_frame settings s moment = ticks settings (record s { moment = max s.moment (min moment last_moment) })
 
 -- a database is invalidated
@@ -114,7 +115,7 @@ abbrev pub clear_frame : State → Db → Result Went Finish
 clear_frame s db = then_on s db (invalidated (cache_of s db)) silent
 
 -- one frame through the machines. The first E is cut off before.
-abbrev pub turn_of : Settings → State → Frame → Result Went Finish
+abbrev pub turn_of : Conf → State → Frame → Result Went Finish
 turn_of settings s (Ask input) = ask_frame settings s (request_of input)
 turn_of settings s (Become file held) = become_frame s file held
 turn_of settings s (Reach moment) = reach_frame settings s moment
@@ -134,14 +135,14 @@ play_on next (Ok went) = behind_output went.writes (next went.state)
 play_on next (Err finish) = record { output = []; finish = finish }
 
 -- frames through the machines, one after another, up to one that ends the replay
-unfoldable pub play : Settings → List Frame → Finish → State → Replayed
+unfoldable pub play : Conf → List Frame → Finish → State → Replayed
 play settings [] finish s = record { output = []; finish = finish }
 play settings (frame ∷ frames) finish s = play_on (play settings frames finish) (turn_of settings s frame)
 
 -- the rest of a replay: the bytes from this place on, in this state
-abbrev pub replay_from : Settings → State → ℕ → List ℕ → Replayed
+abbrev pub replay_from : Conf → State → ℕ → List ℕ → Replayed
 replay_from settings s place bytes = let cut = cut_at place bytes in play settings cut.frames cut.finish s
 
 -- the replay of bytes, with these settings
-abbrev pub replay : Settings → List ℕ → Replayed
+abbrev pub replay : Conf → List ℕ → Replayed
 replay settings bytes = replay_from settings first_state 0 bytes

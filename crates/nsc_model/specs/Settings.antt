@@ -1,32 +1,22 @@
--- The settings of nscd.conf(5), as plain records.
-use Rattle.std.specs.Prelude.{ℕ, Bool, Option}
+-- The settings of nscd.conf(5): of one database, and those that hold where no line says otherwise.
+use Rattle.std.specs.Prelude.{ℕ, true, false, Some}
+use Rattle.nsc_model.specs.declared.conf.Conf.{Conf}
+use Rattle.nsc_model.specs.declared.conf.DbConf.{DbConf}
 use Rattle.nsc_model.specs.declared.kind.Db.{Db}
 use Rattle.nsc_model.specs.declared.kind.Db.TheVariants as db
 
--- the settings of one database: whether it is cached, how long found and not-found replies live in seconds, its suggested
--- size, whether a change of its files invalidates it, and what later attributes say
-pub record DbSettings : Type 0 where
-  pub enabled : Bool
-  pub positive : ℕ
-  pub negative : ℕ
-  pub size : ℕ
-  pub check_files : Bool
-  pub persistent : Bool
-  pub shared : Bool
-  pub max_size : ℕ
-  pub propagate : Bool
-
--- the settings of all databases, after how many reloads an entry is dropped (none: never), and the number of threads
-pub record Settings : Type 0 where
-  pub passwd : DbSettings
-  pub group : DbSettings
-  pub hosts : DbSettings
-  pub services : DbSettings
-  pub reloads : Option ℕ
-  pub threads : ℕ
-
-abbrev pub settings_of : Settings → Db → DbSettings
+abbrev pub settings_of : Conf → Db → DbConf
 settings_of settings db.Passwd = settings.passwd
 settings_of settings db.Group = settings.group
 settings_of settings db.Hosts = settings.hosts
 settings_of settings db.Services = settings.services
+
+-- a cached database: for how many seconds found and not-found replies live, and all else as it is by default. A change of
+-- its files invalidates it, its table takes at most 32 MiB, and it neither outlives the daemon nor is shared with clients
+abbrev pub cached_for : ℕ → ℕ → DbConf
+cached_for positive negative = record { enabled = true; positive = positive; negative = negative; size = 211; check_files = true; persistent = false; shared = false; max_size = 33554432; propagate = true }
+
+-- found replies live an hour, and those of services eight hours; not-found replies live twenty seconds, and those of
+-- groups a minute
+abbrev pub default_settings : Conf
+default_settings = record { passwd = cached_for 3600 20; group = cached_for 3600 60; hosts = cached_for 3600 20; services = cached_for 28800 20; reloads = Some 5; threads = 5 }

@@ -5,6 +5,7 @@
 
 mod answer;
 mod answerer;
+mod conf;
 mod content;
 mod kind;
 mod record;
@@ -13,6 +14,7 @@ mod switch;
 
 pub use answer::{Answer, Request};
 pub use answerer::Answerer;
+pub use conf::{Conf, DbConf};
 pub use content::Content;
 pub use kind::{Db, FileId, Kind};
 pub use record::{Ending, Entry, Record};

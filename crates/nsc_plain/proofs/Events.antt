@@ -9,7 +9,7 @@ use Rattle.nsc_model.specs.declared.record.Record.{Record}
 use Rattle.nsc_model.specs.declared.record.Record.TheVariants.{Invalid}
 use Rattle.nsc_model.specs.Kinds.{is_request}
 use Rattle.nsc_model.specs.Files.{Files}
-use Rattle.nsc_model.specs.Settings.{DbSettings}
+use Rattle.nsc_model.specs.declared.conf.DbConf.{DbConf}
 use Rattle.nsc_model.specs.Answers.{answer_of}
 use Rattle.nsc_model.specs.Machine.{Kept, Cache, Passed, Stopped, Turn, Refusal, TooLarge, Discarded, Present, Spent as Uncounted, Full, last_count, behind, ◌>>=◌, own_refusal, room_of, tried, tried_by, new_entry, polled, cached, kept_answer, loaded, hit_or_load, look_up, used_now, compacted, compacted_behind, invalidated, ends_of, by_invalidation, due_cause, stopped, unchanged, is_due, due_of, others_of, reloaded_of, reloaded, next_reloads, pruned, ticked, is_outdated, checked, tick}
 use Rattle.nsc_plain.specs.PlainCache.{TurnsTo, PassesTo, StopsAt, StopsBy, FaultsBy, GivesUpBy, HitsBy, IsPolledAtMost}
@@ -80,26 +80,26 @@ invalidation_faults cache after (Spent n) ne h =
 
 -- ---- look-ups
 
-pub keeps : (settings : DbSettings) (now : ℕ) (request : Request) (cache after : Cache) → settings.enabled ≡ true
+pub keeps : (settings : DbConf) (now : ℕ) (request : Request) (cache after : Cache) → settings.enabled ≡ true
     → put settings now cache.newest_version (record { request = request; answer = answer_of cache.sources request; reloads = 0 }) cache ≡ after → (kept_answer settings now request cache).cache ≡ after
 keeps settings now request cache after on h =
     let at : kept_answer settings now request cache ≡ tried settings now request 0 cache = at_true _ _ on in
     ap (λ (p : Passed). p.cache) at ∙ h
 
 -- where the database is cached, an entry is searched for among those that live
-pub searched : (settings : DbSettings) (request : Request) (before after : Cache) (hit : Option (List ℕ)) → settings.enabled ≡ true → HitsBy (find (λ k. is_request request k.entry.request) before.entries) request before after hit
+pub searched : (settings : DbConf) (request : Request) (before after : Cache) (hit : Option (List ℕ)) → settings.enabled ≡ true → HitsBy (find (λ k. is_request request k.entry.request) before.entries) request before after hit
     → HitsBy (cached settings request before) request before after hit
 searched settings request before after hit on h =
     let at : cached settings request before ≡ find (λ k. is_request request k.entry.request) before.entries = at_true _ _ on in
     subst (λ (o : Option Kept). HitsBy o request before after hit) (sym at) h
 
 -- a hit is the machine's
-hit_turns : (o : Option Kept) (settings : DbSettings) (now : ℕ) (files : Files) (request : Request) (before after : Cache) (reply : List ℕ) → HitsBy o request before after (Some reply)
+hit_turns : (o : Option Kept) (settings : DbConf) (now : ℕ) (files : Files) (request : Request) (before after : Cache) (reply : List ℕ) → HitsBy o request before after (Some reply)
     → TurnsTo (hit_or_load o settings now files request before) after reply
 hit_turns None settings now files request before after reply h = absurd cc
 hit_turns (Some k) settings now files request before after reply h = let e : k.entry.answer.bytes ≡ reply = cc in (sym h.1, e)
 
-pub hits : (settings : DbSettings) (now : ℕ) (files : Files) (request : Request) (before after : Cache) (hit : Option (List ℕ)) (reply : List ℕ) → hit ≡ Some reply
+pub hits : (settings : DbConf) (now : ℕ) (files : Files) (request : Request) (before after : Cache) (hit : Option (List ℕ)) (reply : List ℕ) → hit ≡ Some reply
     → HitsBy (cached settings request before) request before after hit → TurnsTo (look_up settings now files request before) after reply
 unfolding look_up
 hits settings now files request before after hit reply e h =
@@ -110,32 +110,32 @@ nothing_hit : (o : Option Kept) (request : Request) (before mid : Cache) → Hit
 nothing_hit None request before mid h = (refl, h.1)
 nothing_hit (Some k) request before mid h = absurd cc
 
-pub misses : (settings : DbSettings) (request : Request) (before mid : Cache) (hit : Option (List ℕ)) → hit ≡ None → HitsBy (cached settings request before) request before mid hit
+pub misses : (settings : DbConf) (request : Request) (before mid : Cache) (hit : Option (List ℕ)) → hit ≡ None → HitsBy (cached settings request before) request before mid hit
     → (cached settings request before ≡ None) × (mid ≡ before)
 misses settings request before mid hit e h =
     nothing_hit (cached settings request before) request before mid (subst (λ (o : Option (List ℕ)). HitsBy (cached settings request before) request before mid o) e h)
 
-looks_on : (settings : DbSettings) (now : ℕ) (files : Files) (request : Request) (before : Cache) → cached settings request before ≡ None
+looks_on : (settings : DbConf) (now : ℕ) (files : Files) (request : Request) (before : Cache) → cached settings request before ≡ None
     → look_up settings now files request before ≡ loaded settings now request (polled files before)
 unfolding look_up
 looks_on settings now files request before none = ap (λ (o : Option Kept). hit_or_load o settings now files request before) none
 
-load_turns : (settings : DbSettings) (now : ℕ) (request : Request) (r : Result Passed Stopped) (mid after : Cache) (reply : List ℕ) → PassesTo r mid
+load_turns : (settings : DbConf) (now : ℕ) (request : Request) (r : Result Passed Stopped) (mid after : Cache) (reply : List ℕ) → PassesTo r mid
     → (kept_answer settings now request mid).cache ≡ after → (answer_of mid.sources request).bytes ≡ reply → TurnsTo (loaded settings now request r) after reply
 load_turns settings now request (Ok poll) mid after reply p k a =
     (subst (λ (c : Cache). (kept_answer settings now request c).cache ≡ after) (sym p) k, subst (λ (c : Cache). (answer_of c.sources request).bytes ≡ reply) (sym p) a)
 load_turns settings now request (Err stop) mid after reply p k a = absurd p
 
-pub loads : (settings : DbSettings) (now : ℕ) (files : Files) (request : Request) (before mid after : Cache) (reply : List ℕ) → cached settings request before ≡ None → PassesTo (polled files before) mid
+pub loads : (settings : DbConf) (now : ℕ) (files : Files) (request : Request) (before mid after : Cache) (reply : List ℕ) → cached settings request before ≡ None → PassesTo (polled files before) mid
     → (kept_answer settings now request mid).cache ≡ after → (answer_of mid.sources request).bytes ≡ reply → TurnsTo (look_up settings now files request before) after reply
 loads settings now files request before mid after reply none p k a =
     subst (λ (r : Result Turn Stopped). TurnsTo r after reply) (sym (looks_on settings now files request before none)) (load_turns settings now request (polled files before) mid after reply p k a)
 
-load_stops : (settings : DbSettings) (now : ℕ) (request : Request) (r : Result Passed Stopped) (after : Cache) (n : ℕ) → StopsAt r after n → StopsAt (loaded settings now request r) after n
+load_stops : (settings : DbConf) (now : ℕ) (request : Request) (r : Result Passed Stopped) (after : Cache) (n : ℕ) → StopsAt r after n → StopsAt (loaded settings now request r) after n
 load_stops settings now request (Ok poll) after n h = absurd h
 load_stops settings now request (Err stop) after n h = h
 
-pub look_up_faults : (settings : DbSettings) (now : ℕ) (files : Files) (request : Request) (before after : Cache) (fault : PlainFault) → cached settings request before ≡ None
+pub look_up_faults : (settings : DbConf) (now : ℕ) (files : Files) (request : Request) (before after : Cache) (fault : PlainFault) → cached settings request before ≡ None
     → GivesUpBy (polled files before) before after fault → FaultsBy (look_up settings now files request before) files before after fault
 look_up_faults settings now files request before after NoMemory none h = inl h
 look_up_faults settings now files request before after (Spent n) none h =
@@ -152,7 +152,7 @@ tried_sources (Some (Present number)) k cache = (refl, refl)
 tried_sources (Some (Uncounted count)) k cache = (refl, refl)
 tried_sources (Some (Full need free)) k cache = (refl, refl)
 
-pub put_is_reloaded : (settings : DbSettings) (now : ℕ) (entries : List Kept) (cache : Cache)
+pub put_is_reloaded : (settings : DbConf) (now : ℕ) (entries : List Kept) (cache : Cache)
     → put_all settings now cache.newest_version (map (anew cache.sources) entries) cache ≡ (reloaded settings now entries cache).cache
 put_is_reloaded settings now [] cache = refl
 put_is_reloaded settings now (k ∷ entries) cache =
@@ -172,12 +172,12 @@ compacted_some [] cache h = absurd (omega arith)
 compacted_some (k ∷ due) cache h = refl
 
 -- where none is due, nothing changes
-pub prunes_nothing : (settings : DbSettings) (reloads : Option ℕ) (now : ℕ) (cache : Cache) → due_of now cache.entries ≡ [] → PassesTo (pruned settings reloads now cache) cache
+pub prunes_nothing : (settings : DbConf) (reloads : Option ℕ) (now : ℕ) (cache : Cache) → due_of now cache.entries ≡ [] → PassesTo (pruned settings reloads now cache) cache
 prunes_nothing settings reloads now cache none =
     subst (λ (due : List Kept). PassesTo (behind (ends_of (due_cause reloads now) due []) (compacted_behind due (left now cache) >>= λ after. Ok (reloaded settings now (reloaded_of reloads due) after))) cache) (sym none)
     (ap (λ (ks : List Kept). record cache { entries = ks }) (none_left (is_due now) cache.entries none))
 
-pub prunes : (settings : DbSettings) (reloads : Option ℕ) (now : ℕ) (cache mid after : Cache) → 0 < length (due_of now cache.entries) → PassesTo (compacted (left now cache)) mid
+pub prunes : (settings : DbConf) (reloads : Option ℕ) (now : ℕ) (cache mid after : Cache) → 0 < length (due_of now cache.entries) → PassesTo (compacted (left now cache)) mid
     → (reloaded settings now (reloaded_of reloads (due_of now cache.entries)) mid).cache ≡ after → PassesTo (pruned settings reloads now cache) after
 prunes settings reloads now cache mid after some h k =
     let due = due_of now cache.entries in
@@ -185,7 +185,7 @@ prunes settings reloads now cache mid after some h k =
     let first : PassesTo (compacted_behind due (left now cache)) mid = subst (λ (r : Result Passed Stopped). PassesTo r mid) (sym (compacted_some due (left now cache) some)) h in
     passes_behind (ends_of (due_cause reloads now) due []) (compacted_behind due (left now cache) >>= next) after (passes_then (compacted_behind due (left now cache)) next mid after first k)
 
-pub prune_faults : (settings : DbSettings) (reloads : Option ℕ) (now : ℕ) (cache before after : Cache) (fault : PlainFault) → 0 < length (due_of now cache.entries)
+pub prune_faults : (settings : DbConf) (reloads : Option ℕ) (now : ℕ) (cache before after : Cache) (fault : PlainFault) → 0 < length (due_of now cache.entries)
     → StopsBy (compacted (left now cache)) after fault → GivesUpBy (pruned settings reloads now cache) before after fault
 prune_faults settings reloads now cache before after NoMemory some h = absurd h
 prune_faults settings reloads now cache before after (Spent n) some h =
@@ -194,31 +194,31 @@ prune_faults settings reloads now cache before after (Spent n) some h =
     let first : StopsAt (compacted_behind due (left now cache)) after n = subst (λ (r : Result Passed Stopped). StopsAt r after n) (sym (compacted_some due (left now cache) some)) h in
     stops_behind (ends_of (due_cause reloads now) due []) (compacted_behind due (left now cache) >>= next) after n (stops_first (compacted_behind due (left now cache)) next after n first)
 
-pub tick_rests : (settings : DbSettings) (reloads : Option ℕ) (now : ℕ) (files : Files) (cache : Cache) → settings.enabled ≡ false → PassesTo (tick settings reloads now files cache) cache
+pub tick_rests : (settings : DbConf) (reloads : Option ℕ) (now : ℕ) (files : Files) (cache : Cache) → settings.enabled ≡ false → PassesTo (tick settings reloads now files cache) cache
 unfolding tick
 tick_rests settings reloads now files cache off =
     let at : tick settings reloads now files cache ≡ Ok (unchanged cache) = at_false _ _ off in
     subst (λ (r : Result Passed Stopped). PassesTo r cache) (sym at) refl
 
-tick_runs : (settings : DbSettings) (reloads : Option ℕ) (now : ℕ) (files : Files) (cache : Cache) → settings.enabled ≡ true
+tick_runs : (settings : DbConf) (reloads : Option ℕ) (now : ℕ) (files : Files) (cache : Cache) → settings.enabled ≡ true
     → tick settings reloads now files cache ≡ (polled files cache >>= checked settings reloads now)
 unfolding tick
 tick_runs settings reloads now files cache on = at_true _ _ on
 
-pub tick_passes : (settings : DbSettings) (reloads : Option ℕ) (now : ℕ) (files : Files) (before mid after : Cache) → settings.enabled ≡ true → PassesTo (polled files before) mid
+pub tick_passes : (settings : DbConf) (reloads : Option ℕ) (now : ℕ) (files : Files) (before mid after : Cache) → settings.enabled ≡ true → PassesTo (polled files before) mid
     → PassesTo (checked settings reloads now mid) after → PassesTo (tick settings reloads now files before) after
 tick_passes settings reloads now files before mid after on h k =
     subst (λ (r : Result Passed Stopped). PassesTo r after) (sym (tick_runs settings reloads now files before on)) (passes_then (polled files before) (checked settings reloads now) mid after h k)
 
 -- the poll of a tick gave up
-pub tick_unpolled : (settings : DbSettings) (reloads : Option ℕ) (now : ℕ) (files : Files) (before after : Cache) (fault : PlainFault) → settings.enabled ≡ true
+pub tick_unpolled : (settings : DbConf) (reloads : Option ℕ) (now : ℕ) (files : Files) (before after : Cache) (fault : PlainFault) → settings.enabled ≡ true
     → GivesUpBy (polled files before) before after fault → FaultsBy (tick settings reloads now files before) files before after fault
 tick_unpolled settings reloads now files before after NoMemory on h = inl h
 tick_unpolled settings reloads now files before after (Spent n) on h =
     subst (λ (r : Result Passed Stopped). StopsAt r after n) (sym (tick_runs settings reloads now files before on)) (stops_first (polled files before) (checked settings reloads now) after n h)
 
 -- what came after its poll gave up
-pub tick_faults : (settings : DbSettings) (reloads : Option ℕ) (now : ℕ) (files : Files) (before mid after : Cache) (fault : PlainFault) → settings.enabled ≡ true → PassesTo (polled files before) mid
+pub tick_faults : (settings : DbConf) (reloads : Option ℕ) (now : ℕ) (files : Files) (before mid after : Cache) (fault : PlainFault) → settings.enabled ≡ true → PassesTo (polled files before) mid
     → GivesUpBy (checked settings reloads now mid) mid after fault → FaultsBy (tick settings reloads now files before) files before after fault
 tick_faults settings reloads now files before mid after NoMemory on h k = inr (subst (λ (c : Cache). PassesTo (polled files before) c) (sym k) h)
 tick_faults settings reloads now files before mid after (Spent n) on h k =

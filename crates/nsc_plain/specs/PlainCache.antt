@@ -4,11 +4,11 @@ use Rattle.nsc_plain.specs.declared.fault.PlainFault.{PlainFault}
 use Rattle.nsc_plain.specs.declared.fault.PlainFault.TheVariants.{NoMemory, Spent}
 use Rattle.nsc_model.specs.declared.answer.Request.{Request}
 use Rattle.nsc_model.specs.Files.{Files}
-use Rattle.nsc_model.specs.Settings.{DbSettings}
+use Rattle.nsc_model.specs.declared.conf.DbConf.{DbConf}
 use Rattle.nsc_model.specs.Machine.{Kept, Cache, Passed, Stopped, Turn, used_now, polled}
 
 pub record PlainCache : Type 0 where
-  pub settings : DbSettings
+  pub settings : DbConf
   pub reloads : Option ℕ
   pub cache : Cache
 

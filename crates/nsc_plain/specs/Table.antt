@@ -2,7 +2,7 @@
 use Rattle.std.specs.Prelude.{ℕ, ◌+◌, ◌≤◌, List, [], ◌∷◌, count_by}
 use Rattle.nsc_model.specs.declared.answer.Request.{Request}
 use Rattle.nsc_model.specs.Kinds.{is_request}
-use Rattle.nsc_model.specs.Settings.{DbSettings}
+use Rattle.nsc_model.specs.declared.conf.DbConf.{DbConf}
 use Rattle.nsc_model.specs.Machine.{Kept, Cache, all_words, last_count, life_of, own_refusal, room_of, tried_by}
 use Rattle.nsc_plain.specs.Answered.{Answered}
 
@@ -41,15 +41,15 @@ pub record IsKept (entries : List Kept) (used inserted : ℕ) : Type 0 where
   pub apart : AreApart entries
 
 -- the entry of an answered request in this cache, over this version
-abbrev pub answered_entry : DbSettings → ℕ → ℕ → Answered → Cache → Kept
+abbrev pub answered_entry : DbConf → ℕ → ℕ → Answered → Cache → Kept
 answered_entry settings now version answered cache =
     record { entry = record { number = cache.inserted; request = answered.request; version = version; answer = answered.answer; timeout = now + life_of settings answered.answer }; reloads = answered.reloads }
 
 -- the cache once its insertion was tried
-abbrev pub put : DbSettings → ℕ → ℕ → Answered → Cache → Cache
+abbrev pub put : DbConf → ℕ → ℕ → Answered → Cache → Cache
 put settings now version answered cache = let k = answered_entry settings now version answered cache in (tried_by (own_refusal (room_of settings) k.entry cache) k cache).cache
 
 -- the cache once all were tried, one after the other
-abbrev pub put_all : DbSettings → ℕ → ℕ → List Answered → Cache → Cache
+abbrev pub put_all : DbConf → ℕ → ℕ → List Answered → Cache → Cache
 put_all settings now version [] cache = cache
 put_all settings now version (answered ∷ others) cache = put_all settings now version others (put settings now version answered cache)

@@ -3,7 +3,6 @@ ghost use Rattle.nsc_base.specs.Nodes.{node_words};
 ghost use Rattle.nsc_model.specs.Fixed.{key_limit, kept_limit};
 ghost use Rattle.nsc_model.specs.Machine.{life_of, due_of, reloaded_of};
 ghost use Rattle.nsc_plain.specs.Answered.{anew};
-ghost use Rattle.nsc_daemonconf.specs.Conf.{db_settings};
 
 use crate::held::Held;
 use crate::prepared::Prepared;
@@ -67,7 +66,7 @@ impl Answered {
     pub fn into_held(self, conf: &DbConf, now: u64, version: u64, number: u64) -> Held
         requires reply { length self.answer.bytes ≤ kept_limit }
         requires moment { now < 2 ^ 62 }
-        ensures { result ≡ record { entry = record { number = number; request = self.request; version = version; answer = self.answer; timeout = now + life_of (db_settings conf.now) self.answer }; reloads = self.reloads } }
+        ensures { result ≡ record { entry = record { number = number; request = self.request; version = version; answer = self.answer; timeout = now + life_of conf.now self.answer }; reloads = self.reloads } }
     {
         let timeout = now + life_of(conf, &self.answer);
         let entry = Entry::new(number, self.request, version, self.answer, timeout);
@@ -77,7 +76,7 @@ impl Answered {
 
 // How long an answer is kept, in seconds.
 fn life_of(conf: &DbConf, answer: &Answer) -> u64
-    ensures value { result ≡ life_of (db_settings conf.now) answer.now }
+    ensures value { result ≡ life_of conf.now answer.now }
     ensures bound { result < 2 ^ 32 }
 {
     if answer.is_not_found() {

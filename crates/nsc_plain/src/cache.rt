@@ -6,7 +6,6 @@ ghost use Rattle.nsc_model.specs.Fixed.{key_limit};
 ghost use Rattle.nsc_model.specs.Marked.{reply_limit};
 ghost use Rattle.nsc_model.specs.Answers.{answer_of};
 ghost use Rattle.nsc_model.specs.Machine.{new_cache, cached, polled, kept_answer, look_up, pruned, ticked, is_outdated, checked, tick, invalidated};
-ghost use Rattle.nsc_daemonconf.specs.Conf.{db_settings};
 ghost use Rattle.nsc_plain.specs.PlainCache.{TurnsTo, PassesTo, FaultsBy, StopsBy, GivesUpBy, HitsBy};
 
 use crate::answered::{Answered, answer_due};
@@ -37,13 +36,12 @@ impl Model for PlainCache {
     ghost use Rattle.std.specs.Prelude.{◌≤◌};
     ghost use Rattle.std.specs.Arc.{arc_value};
     ghost use Rattle.nsc_model.specs.Machine.{last_count};
-    ghost use Rattle.nsc_daemonconf.specs.Conf.{db_settings};
     ghost use Rattle.nsc_plain.specs.PlainCache.{PlainCache};
 
     ghost Value = { PlainCache };
 
     ghost view = { λ c. record {
-      settings = db_settings c.conf;
+      settings = c.conf;
       reloads = c.reloads;
       cache = record { sources = arc_value c.content; newest_version = c.newest_version; entries = c.table.entries; used = c.table.used; epoch = c.epoch; inserted = c.table.inserted; cycle = c.table.cycle; ticked_version = c.ticked_version; add_failed = c.table.add_failed };
     } };
@@ -57,7 +55,7 @@ impl PlainCache {
     pub fn new(alloc: Global, conf: DbConf, reloads: Option<u32>) -> Result<PlainCache, NoMemory>
         requires some { 1 ≤ conf.size }
         requires limit { conf.size ≤ 65536 }
-        ensures { IfOk result (λ cache. cache ≡ record { settings = db_settings conf; reloads = reloads; cache = new_cache no_files }) }
+        ensures { IfOk result (λ cache. cache ≡ record { settings = conf; reloads = reloads; cache = new_cache no_files }) }
     {
         Ok(PlainCache {
             conf,

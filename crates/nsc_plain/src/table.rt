@@ -3,7 +3,6 @@ ghost use Rattle.nsc_model.specs.declared.answer.Request.{Request};
 ghost use Rattle.nsc_model.specs.Kinds.{is_request};
 ghost use Rattle.nsc_model.specs.Marked.{reply_limit};
 ghost use Rattle.nsc_model.specs.Machine.{Cache, due_of, others_of, compacted, compacted_behind, room_of, last_count};
-ghost use Rattle.nsc_daemonconf.specs.Conf.{db_settings};
 ghost use Rattle.nsc_plain.specs.PlainCache.{HitsBy, PassesTo, StopsBy};
 ghost use Rattle.nsc_plain.specs.Table.{StayApart, answered_for, entries_for, over, put, put_all};
 
@@ -92,7 +91,7 @@ impl Table {
         requires moment { now < 2 ^ 62 }
         requires memory { length self.old.entries < self.old.capacity }
         requires new { find (λ k. is_request fresh.request k.entry.request) self.old.entries ≡ None }
-        ensures inserted { (cache : Cache) → put (db_settings conf.now) now version fresh (over cache self.old) ≡ over cache self.new }
+        ensures inserted { (cache : Cache) → put conf.now now version fresh (over cache self.old) ≡ over cache self.new }
         ensures capacity { self.old.capacity ≤ self.new.capacity }
         ensures length { length self.new.entries ≤ length self.old.entries + 1 }
         ensures requests { (request : Request) → entries_for request self.new.entries ≤ entries_for request self.old.entries + answered_for request (fresh ∷ []) }
@@ -119,7 +118,7 @@ impl Table {
         requires moment { now < 2 ^ 62 }
         requires memory { length self.old.entries + length fresh.items ≤ self.old.capacity }
         requires apart { StayApart self.old.entries fresh.items }
-        ensures { (cache : Cache) → put_all (db_settings conf.now) now version fresh.items (over cache self.old) ≡ over cache self.new }
+        ensures { (cache : Cache) → put_all conf.now now version fresh.items (over cache self.old) ≡ over cache self.new }
     {
         for one in fresh {
             self.insert(conf, now, version, one);
@@ -168,7 +167,7 @@ impl Table {
 
 // The room of a cache in words.
 fn room_of(conf: &DbConf) -> usize
-    ensures { result ≡ room_of (db_settings conf.now) }
+    ensures { result ≡ room_of conf.now }
 {
     conf.size as usize * 128
 }

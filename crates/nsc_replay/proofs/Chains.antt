@@ -3,14 +3,14 @@ use Rattle.std.proofs.Common.{◌≡◌, ◌⊎◌, ℕ, ◌+◌, List, ◌++◌
 use Rattle.std.proofs.lemmas.List.{length-append}
 use Rattle.nsc_outside.proofs.Streams.{Moves-then, Grows-then}
 use Rattle.nsc_model.specs.Frames.{Finish, Done, Bad, Long, Spent}
-use Rattle.nsc_model.specs.Settings.{Settings}
+use Rattle.nsc_model.specs.declared.conf.Conf.{Conf}
 use Rattle.nsc_model.specs.Replay.{State, Replayed, behind_output, replay_from}
 use Rattle.nsc_replay.specs.declared.ended.Ended.{Ended}
 use Rattle.nsc_replay.specs.declared.ended.Ended.TheVariants as ended
 use Rattle.nsc_replay.specs.Streams.{StreamsAt}
 use Rattle.nsc_replay.specs.Runs.{FinishesBy, EndsBy, AllButLast, Run, GoesOn}
 
-module _ (settings : Settings) (s next : State) (place next_place : ℕ) (before mid after : StreamsAt) (a : GoesOn settings s place next next_place (record { before = before; after = mid })) where
+module _ (settings : Conf) (s next : State) (place next_place : ℕ) (before mid after : StreamsAt) (a : GoesOn settings s place next next_place (record { before = before; after = mid })) where
   -- what the replay of two parts is, by the replay of the second
   joined : (xs : List ℕ) (r : Replayed) → replay_from settings next next_place xs ≡ r → replay_from settings s place (a.front ++ xs) ≡ behind_output a.out r
   joined xs r e = a.goes xs ∙ ap (behind_output a.out) e

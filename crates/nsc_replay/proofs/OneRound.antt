@@ -4,7 +4,7 @@ use Rattle.std.proofs.lemmas.List.{append-nil}
 use Rattle.nsc_outside.specs.Stream.{Grows}
 use Rattle.nsc_outside.proofs.Streams.{Moves-nothing, Grows-nothing}
 use Rattle.nsc_model.specs.Frames.{Frame, Ask, Become, Reach, Clear, Stop, NoFrame, LongFile, frame_at, frame_size, Finish, Spent, place_limit, cut_by}
-use Rattle.nsc_model.specs.Settings.{Settings}
+use Rattle.nsc_model.specs.declared.conf.Conf.{Conf}
 use Rattle.nsc_model.specs.Replay.{State, Went, turn_of, Replayed, behind_output, replay_from, play}
 use Rattle.nsc_model.proofs.Parsers.{front_size}
 use Rattle.nsc_model.proofs.Rounds.{Goes, round_goes, round_ends, round_stops, round_refused, round_partial, round_late}
@@ -27,7 +27,7 @@ followed (Clear db) h = tt
 followed Stop h = h
 
 -- nothing is written for no byte
-pub no_output : (settings : Settings) (s : State) (place : ℕ) → (replay_from settings s place []).output ≡ []
+pub no_output : (settings : Conf) (s : State) (place : ℕ) → (replay_from settings s place []).output ≡ []
 unfolding play cut_by
 no_output settings s place = refl
 
@@ -36,7 +36,7 @@ same_taken had got e = subst (λ t. Grows had t []) (sym e) (Grows-nothing had)
 
 -- ---- a frame is done
 
-pub goes_on : (settings : Settings) (s next : State) (place next_place : ℕ) (frame : Frame) (streams : Streams) → place < place_limit → Gets frame_at streams.before.left streams.after.left frame → IsFollowed frame
+pub goes_on : (settings : Conf) (s next : State) (place next_place : ℕ) (frame : Frame) (streams : Streams) → place < place_limit → Gets frame_at streams.before.left streams.after.left frame → IsFollowed frame
     → IsDone (turn_of settings s frame) next streams.before.taken streams.after.taken → next_place ≡ place + frame_size frame → GoesOn settings s place next next_place streams
 goes_on settings s next place next_place frame streams lt found follows done size = by_turn (turn_of settings s frame) refl done where
   by_turn : (turn : Result Went Finish) → turn_of settings s frame ≡ turn → IsDone turn next streams.before.taken streams.after.taken → GoesOn settings s place next next_place streams
@@ -55,7 +55,7 @@ goes_on settings s next place next_place frame streams lt found follows done siz
 
 -- ---- a frame ends the replay
 
-cut_short : (settings : Settings) (s : State) (place : ℕ) (frame : Frame) (streams : Streams) (turn : Result Went Finish) → place < place_limit → Gets frame_at streams.before.left streams.after.left frame → IsFollowed frame
+cut_short : (settings : Conf) (s : State) (place : ℕ) (frame : Frame) (streams : Streams) (turn : Result Went Finish) → place < place_limit → Gets frame_at streams.before.left streams.after.left frame → IsFollowed frame
     → turn_of settings s frame ≡ turn → IsCutShort turn streams.before.taken streams.after.taken → Run settings s place streams ended.WriteFault
 cut_short settings s place frame streams (Err finish) lt found follows e c = absurd c
 cut_short settings s place frame streams (Ok went) lt found follows e c =
@@ -70,7 +70,7 @@ cut_short settings s place frame streams (Ok went) lt found follows e c =
     }
 
 -- what ends a frame ends the replay
-pub does_not : (settings : Settings) (s : State) (place : ℕ) (frame : Frame) (streams : Streams) (by : Ended) → place < place_limit → Gets frame_at streams.before.left streams.after.left frame → IsFollowed frame
+pub does_not : (settings : Conf) (s : State) (place : ℕ) (frame : Frame) (streams : Streams) (by : Ended) → place < place_limit → Gets frame_at streams.before.left streams.after.left frame → IsFollowed frame
     → DoesNot (turn_of settings s frame) streams.before.taken streams.after.taken by → Run settings s place streams by
 does_not settings s place frame streams ended.NoMemory lt found follows d = record {
   front = found.front;
@@ -90,7 +90,7 @@ does_not settings s place frame streams _ lt found follows d = absurd d
 -- ---- the first E, and what is no frame
 
 -- nothing was written
-module _ (settings : Settings) (s : State) (place : ℕ) (streams : Streams) (same : streams.after.taken ≡ streams.before.taken) where
+module _ (settings : Conf) (s : State) (place : ℕ) (streams : Streams) (same : streams.after.taken ≡ streams.before.taken) where
   pub stops : place < place_limit → Gets frame_at streams.before.left streams.after.left Stop → Run settings s place streams ended.Done
   stops lt found = record {
     front = found.front;
@@ -110,9 +110,9 @@ module _ (settings : Settings) (s : State) (place : ℕ) (streams : Streams) (sa
   halts_run halts.NoMemory lt h = halted_by halts.NoMemory h (inl (sym (ap (λ (r : Replayed). r.output) (round_partial settings s place h.front lt h.stops))))
 
 -- no frame begins so late
-pub late : (settings : Settings) (s : State) (place : ℕ) (at : StreamsAt) → place_limit ≤ place → Run settings s place (record { before = at; after = at }) (ended.BadFrame place)
+pub late : (settings : Conf) (s : State) (place : ℕ) (at : StreamsAt) → place_limit ≤ place → Run settings s place (record { before = at; after = at }) (ended.BadFrame place)
 late settings s place at le = record { front = []; out = []; transfers = record { moved = Moves-nothing at.left; grown = Grows-nothing at.taken }; ends = inl (λ more. round_late settings s place more le) }
 
 -- memory was wanting before anything was read
-pub no_start : (settings : Settings) (s : State) (place : ℕ) (at : StreamsAt) → Run settings s place (record { before = at; after = at }) ended.NoMemory
+pub no_start : (settings : Conf) (s : State) (place : ℕ) (at : StreamsAt) → Run settings s place (record { before = at; after = at }) ended.NoMemory
 no_start settings s place at = record { front = []; out = []; transfers = record { moved = Moves-nothing at.left; grown = Grows-nothing at.taken }; ends = inl (sym (no_output settings s place)) }

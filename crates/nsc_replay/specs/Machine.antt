@@ -3,13 +3,14 @@ use Rattle.std.specs.Prelude.{◌≡◌, ℕ, ◌≤◌}
 use Rattle.nsc_model.specs.declared.kind.Db.{Db}
 use Rattle.nsc_model.specs.declared.kind.Db.TheVariants as db
 use Rattle.nsc_model.specs.Files.{Files, part_of}
-use Rattle.nsc_model.specs.Settings.{Settings, settings_of}
+use Rattle.nsc_model.specs.declared.conf.Conf.{Conf}
+use Rattle.nsc_model.specs.Settings.{settings_of}
 use Rattle.nsc_model.specs.Replay.{State, last_moment}
 use Rattle.nsc_replay.specs.declared.databases.Databases.{Databases}
 use Rattle.nsc_replay.specs.Cached.{Cached}
 
 pub record Machine : Type 0 where
-  pub settings : Settings
+  pub settings : Conf
   pub state : State
 
 -- the state of these files and databases, at this moment
@@ -24,13 +25,13 @@ state_of files moment databases = record {
 }
 
 -- a database has its settings, and reads its part of the files
-pub record HasOwn (which : Db) (settings : Settings) (files : Files) (cached : Cached) : Type 0 where
+pub record HasOwn (which : Db) (settings : Conf) (files : Files) (cached : Cached) : Type 0 where
   pub own : cached.cache.settings ≡ settings_of settings which
   pub limit : cached.cache.reloads ≡ settings.reloads
   pub part : cached.files ≡ part_of which files
 
 -- so does each of them, and the moment is not later than the last one
-pub record Agrees (settings : Settings) (files : Files) (moment : ℕ) (databases : Databases Cached) : Type 0 where
+pub record Agrees (settings : Conf) (files : Files) (moment : ℕ) (databases : Databases Cached) : Type 0 where
   pub passwd : HasOwn db.Passwd settings files databases.passwd
   pub group : HasOwn db.Group settings files databases.group
   pub hosts : HasOwn db.Hosts settings files databases.hosts

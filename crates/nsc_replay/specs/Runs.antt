@@ -3,20 +3,20 @@ use Rattle.std.specs.Prelude.{◌≡◌, ℕ, ◌+◌, ◌⊎◌, List, ◌++◌
 use Rattle.nsc_outside.specs.Stream.{IsDrained}
 use Rattle.nsc_model.specs.Frames.{Frame, frame_at, Finish, Done, Bad, Long, Spent}
 use Rattle.nsc_model.specs.Fronts.{Finds}
-use Rattle.nsc_model.specs.Settings.{Settings}
+use Rattle.nsc_model.specs.declared.conf.Conf.{Conf}
 use Rattle.nsc_model.specs.Replay.{State, behind_output, replay_from}
 use Rattle.nsc_replay.specs.declared.ended.Ended.{Ended}
 use Rattle.nsc_replay.specs.declared.ended.Ended.TheVariants as ended
 use Rattle.nsc_replay.specs.Streams.{Streams, Transfers}
 
 -- The replay ends so, with this output: it does whatever follows the bytes that were read, or they are all that there is.
-abbrev pub FinishesBy : Finish → Settings → State → ℕ → Option (List ℕ) → List ℕ → List ℕ → Type 0
+abbrev pub FinishesBy : Finish → Conf → State → ℕ → Option (List ℕ) → List ℕ → List ℕ → Type 0
 FinishesBy finish settings s place left front out =
     ((more : List ℕ) → replay_from settings s place (front ++ more) ≡ record { output = out; finish = finish })
     ⊎ (IsDrained left × (replay_from settings s place front ≡ record { output = out; finish = finish }))
 
 -- what was written is the output for all frames that were read but the last
-pub record AllButLast (settings : Settings) (s : State) (place : ℕ) (front out : List ℕ) : Type 0 where
+pub record AllButLast (settings : Conf) (s : State) (place : ℕ) (front out : List ℕ) : Type 0 where
   pub earlier : List ℕ
   pub last : List ℕ
   pub parts : front ≡ earlier ++ last
@@ -27,7 +27,7 @@ pub record AllButLast (settings : Settings) (s : State) (place : ℕ) (front out
 -- What the bytes that were read and those that were written are, by how the replay ended: at Done what was read ends with the
 -- first E, whatever follows it, and at ReadFault, WriteFault and NoMemory what was written is the output for the whole frames
 -- that were read, a front of it, or it but for that of the last frame.
-abbrev pub EndsBy : Ended → Settings → State → ℕ → Option (List ℕ) → List ℕ → List ℕ → Type 0
+abbrev pub EndsBy : Ended → Conf → State → ℕ → Option (List ℕ) → List ℕ → List ℕ → Type 0
 EndsBy ended.Done settings s place left front out = (more : List ℕ) → replay_from settings s place (front ++ more) ≡ record { output = out; finish = Done (place + length front) }
 EndsBy ended.ReadFault settings s place left front out = out ≡ (replay_from settings s place front).output
 EndsBy ended.WriteFault settings s place left front out = (rest : List ℕ) × ((replay_from settings s place front).output ≡ out ++ rest)
@@ -37,14 +37,14 @@ EndsBy (ended.Spent count) settings s place left front out = FinishesBy (Spent c
 EndsBy ended.NoMemory settings s place left front out = (out ≡ (replay_from settings s place front).output) ⊎ AllButLast settings s place front out
 
 -- the run: what was read, what was written, and how that ended
-pub record Run (settings : Settings) (s : State) (place : ℕ) (streams : Streams) (ended : Ended) : Type 0 where
+pub record Run (settings : Conf) (s : State) (place : ℕ) (streams : Streams) (ended : Ended) : Type 0 where
   pub front : List ℕ
   pub out : List ℕ
   pub transfers : Transfers streams front out
   pub ends : EndsBy ended settings s place streams.after.left front out
 
 -- one round: the frame at the front is done, and the replay goes on in this state at this place
-pub record GoesOn (settings : Settings) (s : State) (place : ℕ) (next : State) (next_place : ℕ) (streams : Streams) : Type 0 where
+pub record GoesOn (settings : Conf) (s : State) (place : ℕ) (next : State) (next_place : ℕ) (streams : Streams) : Type 0 where
   pub front : List ℕ
   pub out : List ℕ
   pub transfers : Transfers streams front out

@@ -4,7 +4,6 @@ ghost use Rattle.nsc_model.specs.Files.{no_files};
 ghost use Rattle.nsc_model.specs.Fixed.{key_limit};
 ghost use Rattle.nsc_model.specs.Marked.{reply_limit};
 ghost use Rattle.nsc_model.specs.Machine.{new_cache, look_up, tick, invalidated};
-ghost use Rattle.nsc_daemonconf.specs.Conf.{db_settings};
 ghost use Rattle.nsc_plain.specs.PlainCache.{FaultsBy, PassesTo, StopsBy, TurnsTo};
 
 use nsc_base::{Bytes, NoMemory};
@@ -39,7 +38,7 @@ impl<A: Answerer> Cached<A> {
     pub fn new(alloc: Global, conf: DbConf, reloads: Option<u32>) -> Result<Cached<A>, NoMemory>
         requires some { 1 ≤ conf.size }
         requires limit { conf.size ≤ 65536 }
-        ensures { IfOk result (λ cached. cached ≡ record { files = no_files; cache = record { settings = db_settings conf; reloads = reloads; cache = new_cache no_files } }) }
+        ensures { IfOk result (λ cached. cached ≡ record { files = no_files; cache = record { settings = conf; reloads = reloads; cache = new_cache no_files } }) }
     {
         Ok(Cached {
             files: Prepared::new(Arc::new(alloc, Content::none())?),

@@ -4,7 +4,6 @@ ghost use Rattle.nsc_model.specs.Files.{FileFits, with_file};
 ghost use Rattle.nsc_model.specs.Fixed.{key_limit};
 ghost use Rattle.nsc_model.specs.Wire.{request_of};
 ghost use Rattle.nsc_model.specs.Replay.{ask_frame, clear_frame, first_state, look_frame, reach_frame, turn_of};
-ghost use Rattle.nsc_daemonconf.specs.Conf.{settings};
 ghost use Rattle.nsc_daemonconf.specs.Sizes.{SizesFit};
 ghost use Rattle.nsc_replay.specs.Frame.{FrameFits, said};
 ghost use Rattle.nsc_replay.specs.Turns.{TurnsTo, TurnFaults};
@@ -32,14 +31,13 @@ pub struct Machine<A: Answerer> {
 }
 
 impl<A: Answerer> Model for Machine<A> {
-    ghost use Rattle.nsc_daemonconf.specs.Conf.{settings};
     ghost use Rattle.nsc_replay.specs.Machine.{Machine, Agrees, state_of};
 
     ghost Value = { Machine };
 
-    ghost view = { λ m. record { settings = settings m.conf; state = state_of m.sources m.moment m.databases } };
+    ghost view = { λ m. record { settings = m.conf; state = state_of m.sources m.moment m.databases } };
 
-    ghost invariant = { λ m. Agrees (settings m.conf) m.sources m.moment m.databases };
+    ghost invariant = { λ m. Agrees m.conf m.sources m.moment m.databases };
 }
 
 // The greatest moment, in seconds: 2^62 - 1.
@@ -48,8 +46,8 @@ const LAST_MOMENT: u64 = 4_611_686_018_427_387_903;
 impl<A: Answerer> Machine<A> {
     /// Every file absent, moment 0, and four empty caches with these settings. Fails only for want of memory.
     pub fn new(alloc: Global, conf: &Conf) -> Result<Machine<A>, NoMemory>
-        requires { SizesFit (settings conf.now) }
-        ensures { IfOk result (λ machine. machine ≡ record { settings = settings conf.now; state = first_state }) }
+        requires { SizesFit conf.now }
+        ensures { IfOk result (λ machine. machine ≡ record { settings = conf.now; state = first_state }) }
     {
         Ok(Machine {
             conf: *conf,

@@ -1,7 +1,6 @@
 ghost use Rattle.std.specs.Prelude.{◌≡◌, ◌<◌, IfOk, IfErr, OnOk};
 ghost use Rattle.nsc_model.specs.Frames.{place_limit};
 ghost use Rattle.nsc_model.specs.Replay.{first_state, turn_of};
-ghost use Rattle.nsc_daemonconf.specs.Conf.{settings};
 ghost use Rattle.nsc_daemonconf.specs.Sizes.{SizesFit};
 ghost use Rattle.nsc_replay.specs.Frame.{FrameFits, said};
 ghost use Rattle.nsc_replay.specs.Turns.{CountsOutput, DoesNot, IsDone};
@@ -30,10 +29,10 @@ pub fn replay<A: Answerer, R: Source, K: Sink>(
     input: &mut R,
     output: &mut K,
 ) -> Ended
-    requires { SizesFit (settings conf.now) }
+    requires { SizesFit conf.now }
 
     // What was read and written, by how the replay ended.
-    ensures run { Run (settings conf.now) first_state 0 (streams R.Source K.Sink input.old input.new output.old output.new) result }
+    ensures run { Run conf.now first_state 0 (streams R.Source K.Sink input.old input.new output.old output.new) result }
 
     // A fault of a stream is told only where one came.
     ensures counts { Counted result (streams R.Source K.Sink input.old input.new output.old output.new) }

@@ -4,7 +4,7 @@ use Rattle.std.specs.Prelude.{IfSome}
 use Rattle.std.proofs.lemmas.List.{drop_at, append-nil}
 use Rattle.nsc_outside.specs.Stream.{Moves, IsDrained, Grows}
 use Rattle.nsc_model.specs.Frames.{Finish, Done, Bad, Long, Spent}
-use Rattle.nsc_model.specs.Settings.{Settings}
+use Rattle.nsc_model.specs.declared.conf.Conf.{Conf}
 use Rattle.nsc_model.specs.Replay.{Replayed, first_state, replay}
 use Rattle.nsc_replay.specs.declared.ended.Ended.{Ended}
 use Rattle.nsc_replay.specs.declared.ended.Ended.TheVariants as ended
@@ -30,7 +30,7 @@ is_done : (by : Ended) → exits.Ok ≡ exit_of by → by ≡ ended.Done
 is_done ended.Done e = refl
 is_done _ e = absurd cc
 
-module _ (settings : Settings) (s : Streams) (bytes : List ℕ) (told : s.before.left ≡ Some bytes) where
+module _ (settings : Conf) (s : Streams) (bytes : List ℕ) (told : s.before.left ≡ Some bytes) where
   -- the whole input is the bytes that were read and those that are left
   moved_from : (front : List ℕ) → Moves s.before.left s.after.left front → Moves (Some bytes) s.after.left front
   moved_from front m = subst (λ (left : Option (List ℕ)). Moves left s.after.left front) told m
@@ -70,18 +70,18 @@ module _ (settings : Settings) (s : Streams) (bytes : List ℕ) (told : s.before
   tells_at (ended.Spent count) r counts calm = finish_tells (Spent count) r.front r.out r.transfers.moved r.ends
   tells_at ended.NoMemory r counts calm = inr refl
 
-tells_from : (settings : Settings) (s : Streams) (left : Option (List ℕ)) → s.before.left ≡ left → (by : Ended) → Run settings first_state 0 s by → streams.Counted by s → NoFault s
+tells_from : (settings : Conf) (s : Streams) (left : Option (List ℕ)) → s.before.left ≡ left → (by : Ended) → Run settings first_state 0 s by → streams.Counted by s → NoFault s
     → IfSome left (λ bytes. TellsEnd (replay settings bytes).finish (exit_of by))
 tells_from settings s None told by r counts calm = tt
 tells_from settings s (Some bytes) told by r counts calm = tells_at settings s bytes told by r counts calm
 
-pub tells : (settings : Settings) (s : Streams) (by : Ended) → Run settings first_state 0 s by → streams.Counted by s → NoFault s → IfSome s.before.left (λ bytes. TellsEnd (replay settings bytes).finish (exit_of by))
+pub tells : (settings : Conf) (s : Streams) (by : Ended) → Run settings first_state 0 s by → streams.Counted by s → NoFault s → IfSome s.before.left (λ bytes. TellsEnd (replay settings bytes).finish (exit_of by))
 tells settings s by r counts calm = tells_from settings s s.before.left refl by r counts calm
 
-replayed_from : (settings : Settings) (s : Streams) (left : Option (List ℕ)) → s.before.left ≡ left → Run settings first_state 0 s ended.Done → IfSome left (λ bytes. IsReplayed settings bytes s)
+replayed_from : (settings : Conf) (s : Streams) (left : Option (List ℕ)) → s.before.left ≡ left → Run settings first_state 0 s ended.Done → IfSome left (λ bytes. IsReplayed settings bytes s)
 replayed_from settings s None told r = tt
 replayed_from settings s (Some bytes) told r = replayed_at settings s bytes told r
 
 -- the run of an exit that is Ok
-pub ok_run : (settings : Settings) (s : Streams) (exit : Exit) → Replays settings s exit → exit ≡ exits.Ok → IfSome s.before.left (λ bytes. IsReplayed settings bytes s)
+pub ok_run : (settings : Conf) (s : Streams) (exit : Exit) → Replays settings s exit → exit ≡ exits.Ok → IfSome s.before.left (λ bytes. IsReplayed settings bytes s)
 ok_run settings s exit r e = replayed_from settings s s.before.left refl (subst (Run settings first_state 0 s) (is_done r.ended (sym e ∙ r.told)) r.run)

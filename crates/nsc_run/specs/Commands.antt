@@ -12,10 +12,10 @@ use Rattle.clap.specs.declared.builder.value_parser.ValueParser.TheVariants.{Non
 use Rattle.nsc_outside.specs.Stream.{Rose, Grows}
 use Rattle.nsc_outside.specs.FileSets.{IsAsTold, IsPastLimit}
 use Rattle.nsc_model.specs.Frames.{Finish, Done, Bad, Long, Spent}
-use Rattle.nsc_model.specs.Settings.{Settings}
+use Rattle.nsc_model.specs.declared.conf.Conf.{Conf}
 use Rattle.nsc_model.specs.Replay.{first_state, replay}
 use Rattle.nsc_daemonconf.specs.declared.lines.ConfFault.{ConfFault}
-use Rattle.nsc_daemonconf.specs.Conf.{default_settings}
+use Rattle.nsc_model.specs.Settings.{default_settings}
 use Rattle.nsc_daemonconf.specs.Lines.{Refused, conf_of}
 use Rattle.nsc_daemonconf.specs.Sizes.{SizesFit}
 use Rattle.nsc_daemonconf.specs.Told.{refused}
@@ -76,18 +76,18 @@ abbrev pub named_config : (List ℕ → Option (Option (List ℕ))) → List (Li
 named_config held words = config_told held (config_of words)
 
 -- the settings that a configuration gives, or the line that it is refused for; an absent one gives the defaults
-abbrev pub settings_by : Option (List ℕ) → Result Settings Refused
+abbrev pub settings_by : Option (List ℕ) → Result Conf Refused
 settings_by None = Ok default_settings
 settings_by (Some text) = conf_of text
 
 -- a configuration was read, the one that is told where one is told, and this is what it gives
-pub record Gives (told : Option (Option (List ℕ))) (outcome : Result Settings Refused) : Type 0 where
+pub record Gives (told : Option (Option (List ℕ))) (outcome : Result Conf Refused) : Type 0 where
   pub config : Option (List ℕ)
   pub as_told : IsAsTold told config
   pub gives : settings_by config ≡ outcome
 
 -- Settings that were read, and the set's count of faults, which stays.
-pub record IsSet (told : Option (Option (List ℕ))) (before after : ℕ) (settings : Settings) : Type 0 where
+pub record IsSet (told : Option (Option (List ℕ))) (before after : ℕ) (settings : Conf) : Type 0 where
   pub of_config : Gives told (Ok settings)
   pub sizes : SizesFit settings
   pub calm : after ≡ before
@@ -103,14 +103,14 @@ NotSet told before after _ = ⊥
 -- ---- the whole run
 
 -- The replay ran, and the exit tells how it ended.
-pub record Replays (settings : Settings) (streams : Streams) (exit : Exit) : Type 0 where
+pub record Replays (settings : Conf) (streams : Streams) (exit : Exit) : Type 0 where
   pub ended : Ended
   pub told : exit ≡ exit_of ended
   pub run : Run settings first_state 0 streams ended
 
 -- The replay of what the source had is done: the source stands right after its first E, and the sink took exactly the
 -- output.
-pub record IsReplayed (settings : Settings) (bytes : List ℕ) (streams : Streams) : Type 0 where
+pub record IsReplayed (settings : Conf) (bytes : List ℕ) (streams : Streams) : Type 0 where
   pub place : ℕ
   pub done : (replay settings bytes).finish ≡ Done place
   pub left_is : streams.after.left ≡ Some (drop place bytes)
@@ -155,7 +155,7 @@ ComesBefore _ = ⊥
 
 -- the replay began, with settings that were read
 pub record Ran (told : Option (Option (List ℕ))) (faults_before faults_after : ℕ) (streams : Streams) (exit : Exit) : Type 0 where
-  pub settings : Settings
+  pub settings : Conf
   pub is_set : IsSet told faults_before faults_after settings
   pub run : Replays settings streams exit
 
@@ -173,11 +173,11 @@ pub record IsLongConf (told : Option (Option (List ℕ))) (faults_before faults_
 
 -- the replay of what the source had is done, with settings that were read
 pub record IsReplayedBy (told : Option (Option (List ℕ))) (streams : Streams) : Type 0 where
-  pub settings : Settings
+  pub settings : Conf
   pub of_config : Gives told (Ok settings)
   pub replayed : IfSome streams.before.left (λ bytes. IsReplayed settings bytes streams)
 
 -- the exit tells how the replay of the source ends with these settings, or the line that is refused
-abbrev pub TellsAll : Option (List ℕ) → Result Settings Refused → Exit → Type 0
+abbrev pub TellsAll : Option (List ℕ) → Result Conf Refused → Exit → Type 0
 TellsAll before (Ok settings) exit = IfSome before (λ bytes. TellsEnd (replay settings bytes).finish exit)
 TellsAll before (Err line) exit = TellsRefused line exit

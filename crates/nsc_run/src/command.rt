@@ -1,7 +1,6 @@
 ghost use Rattle.std.specs.Prelude.{◌≡◌, ◌⊎◌, Err, false, true, ℕ, option_map, IfErr, IfSome};
 ghost use Rattle.nsc_outside.specs.Stream.{Rose};
 ghost use Rattle.nsc_model.specs.Replay.{replay};
-ghost use Rattle.nsc_daemonconf.specs.Conf.{settings};
 ghost use Rattle.nsc_daemonconf.specs.Sizes.{SizesFit};
 ghost use Rattle.nsc_daemonconf.specs.Told.{refused};
 ghost use Rattle.nsc_daemonconf.specs.declared.lines.ConfFault.{ConfFault};
@@ -29,19 +28,19 @@ pub fn replay<RT: AllocGlobal, R: Source, K: Sink>(
     input: &mut R,
     output: &mut K,
 ) -> Exit
-    requires { SizesFit (settings conf.now) }
+    requires { SizesFit conf.now }
 
     // The input was read to the end of its first E, and the output is that of the replay.
-    ensures ok { result ≡ Exit.Ok → IfSome (R.left input.old) (λ bytes. IsReplayed (settings conf.now) bytes (streams R.Source K.Sink input.old input.new output.old output.new)) }
+    ensures ok { result ≡ Exit.Ok → IfSome (R.left input.old) (λ bytes. IsReplayed conf.now bytes (streams R.Source K.Sink input.old input.new output.old output.new)) }
 
     // What was read and written, by the exit.
-    ensures run { Replays (settings conf.now) (streams R.Source K.Sink input.old input.new output.old output.new) result }
+    ensures run { Replays conf.now (streams R.Source K.Sink input.old input.new output.old output.new) result }
 
     // A fault of a stream is told only where one came.
     ensures counts { Counted result (streams R.Source K.Sink input.old input.new output.old output.new) }
 
     // Where no fault came, the exit tells how the replay of the input ends, unless memory was wanting.
-    ensures complete { NoFault (streams R.Source K.Sink input.old input.new output.old output.new) → IfSome (R.left input.old) (λ bytes. TellsEnd (replay (settings conf.now) bytes).finish result) }
+    ensures complete { NoFault (streams R.Source K.Sink input.old input.new output.old output.new) → IfSome (R.left input.old) (λ bytes. TellsEnd (replay conf.now bytes).finish result) }
 {
     Exit::from(nsc_replay::replay(rt.alloc(), conf, &Plain, input, output))
 }

@@ -1,5 +1,5 @@
 use Rattle.std.proofs.Common.{◌≡◌, drop}
-use Rattle.nsc_daemonconf.specs.Attributes.{found}
+use Rattle.nsc_daemonconf.specs.Tables.{found}
 use Rattle.nsc_daemonconf.proofs.attributes.named.Given as goal
 
 abbrev pub invariant-loop-name : goal.invariant-loop-name

@@ -1,8 +1,7 @@
 use Rattle.nsc_model.specs.Replay.{first_state}
-use Rattle.nsc_daemonconf.specs.Conf.{settings}
 use Rattle.nsc_replay.specs.Streams.{streams_at}
 use Rattle.nsc_replay.proofs.OneRound.{no_start}
 use Rattle.nsc_replay.proofs.rounds.replay.Goals as goal
 
 pub returns-in-Err-clause-run : goal.returns-in-Err-clause-run
-returns-in-Err-clause-run g c = no_start (settings c.args.conf.now) first_state 0 (streams_at g.R.Source g.K.Sink c.args.input.now c.args.output.now)
+returns-in-Err-clause-run g c = no_start c.args.conf.now first_state 0 (streams_at g.R.Source g.K.Sink c.args.input.now c.args.output.now)

@@ -1,7 +1,6 @@
 use Rattle.std.proofs.Common.{List, ℕ, sym, subst}
 use Rattle.std.specs.Prelude.{IfSome}
 use Rattle.nsc_model.specs.Replay.{replay}
-use Rattle.nsc_daemonconf.specs.Conf.{settings}
 use Rattle.nsc_replay.specs.Streams.{streams}
 use Rattle.nsc_run.specs.declared.exit.Exit.{Exit}
 use Rattle.nsc_run.specs.Commands.{Counted, TellsEnd}
@@ -10,7 +9,7 @@ use Rattle.nsc_run.proofs.command.replay.Goals as goal
 
 pub returns : goal.returns
 returns g c =
-    let conf = settings c.args.conf.now in
+    let conf = c.args.conf.now in
     let both = streams g.R.Source g.K.Sink c.args.input.now c.replay.new.input c.args.output.now c.replay.new.output in
     let run = c.replay.ensures.run in
     let counts = c.replay.ensures.counts in

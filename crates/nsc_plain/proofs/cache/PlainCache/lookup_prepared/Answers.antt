@@ -2,7 +2,7 @@ use Rattle.std.proofs.Common.{◌≡◌, ℕ, List, Option, inr, sym, ◌∙◌,
 use Rattle.std.specs.Arc.{arc_value}
 use Rattle.std.proofs.lemmas.Result.{err_from_is_err_and}
 use Rattle.nsc_model.specs.declared.answer.Request.{Request}
-use Rattle.nsc_model.specs.Settings.{DbSettings}
+use Rattle.nsc_model.specs.declared.conf.DbConf.{DbConf}
 use Rattle.nsc_model.specs.Machine.{Cache, cached, kept_answer, polled}
 use Rattle.nsc_plain.specs.PlainCache.{PassesTo, GivesUpBy, HitsBy}
 use Rattle.nsc_plain.proofs.Events.{hits, misses, loads, look_up_faults}
@@ -44,5 +44,5 @@ returns-clause-turn g c =
     let missed = misses c.args.self.now.settings request before c.hit.new.self.cache _ c.in_default.is c.in_ok-reply.ensures.hit in
     loads c.args.self.now.settings c.args.now files request before c.poll.new.self.cache c.load.new.self.cache c.in_ok-load.field-0 missed.0
     (subst (λ (mid : Cache). PassesTo (polled files mid) c.poll.new.self.cache) missed.1 c.in_ok-poll.ensures.turn)
-    (subst (λ (s : DbSettings). (kept_answer s c.args.now request c.poll.new.self.cache).cache ≡ c.load.new.self.cache) (c.in_ok-poll.ensures.settings ∙ c.in_ok-reply.ensures.settings) c.in_ok-load.ensures.kept)
+    (subst (λ (s : DbConf). (kept_answer s c.args.now request c.poll.new.self.cache).cache ≡ c.load.new.self.cache) (c.in_ok-poll.ensures.settings ∙ c.in_ok-reply.ensures.settings) c.in_ok-load.ensures.kept)
     c.in_ok-load.ensures.reply

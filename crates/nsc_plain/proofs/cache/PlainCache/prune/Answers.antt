@@ -2,7 +2,6 @@ use Rattle.std.proofs.Common.{◌≡◌, ◌<◌, List, length, map, sym, ◌∙
 use Rattle.std.specs.Arc.{arc_value}
 use Rattle.std.proofs.lemmas.Result.{err_from_is_err_and}
 use Rattle.nsc_model.specs.Machine.{Kept, Cache, due_of, reloaded_of, reloaded, ticked}
-use Rattle.nsc_daemonconf.specs.Conf.{db_settings}
 use Rattle.nsc_plain.specs.PlainCache.{PlainCache}
 use Rattle.nsc_plain.specs.Answered.{Answered, anew}
 use Rattle.nsc_plain.specs.Table.{over, put_all}
@@ -16,7 +15,7 @@ returns-in_default-clause-turn g c =
     let before = bare (arc_value c.self.inside.content) c.self.inside.newest_version c.self.inside.epoch c.self.inside.ticked_version in
     let none = rw c.in_default.is at c.in_ok-due.ensures.due in
     rw (← c.self.view_is)
-    (prunes_nothing (db_settings c.self.inside.conf) c.self.inside.reloads c.args.now (over (ticked before) c.self.inside.table) (rw c.entries-entries.ensures at none))
+    (prunes_nothing c.self.inside.conf c.self.inside.reloads c.args.now (over (ticked before) c.self.inside.table) (rw c.entries-entries.ensures at none))
 
 pub insert_all-requires-clause-memory : goal.insert_all-requires-clause-memory
 insert_all-requires-clause-memory g c =
@@ -37,13 +36,13 @@ returns-in_err-end_due-clause-fault g c =
     let some = rw (c.in-Some.is, c.entries-entries.ensures) at c.in_ok-due.ensures.due in
     let p = err_from_is_err_and c.from_residual-in_err-end_due.result c.from_residual-in_err-end_due.ensures.1 in
     rw (← c.self.view_is, p.1, p.2)
-    (prune_faults (db_settings c.self.inside.conf) c.self.inside.reloads c.args.now (over base c.self.inside.table) (over before c.self.inside.table) (over base c.end_due.new.self) c.in_err-end_due.field-0.0 some (c.in_err-end_due.ensures.fault base))
+    (prune_faults c.self.inside.conf c.self.inside.reloads c.args.now (over base c.self.inside.table) (over before c.self.inside.table) (over base c.end_due.new.self) c.in_err-end_due.field-0.0 some (c.in_err-end_due.ensures.fault base))
 
 pub returns-clause-turn : goal.returns-clause-turn
 returns-clause-turn g c =
     let before = bare (arc_value c.self.inside.content) c.self.inside.newest_version c.self.inside.epoch c.self.inside.ticked_version in
     let base = ticked before in
-    let settings = db_settings c.self.inside.conf in
+    let settings = c.self.inside.conf in
     let again = reloaded_of c.self.inside.reloads (due_of c.args.now c.self.inside.table.entries) in
     let some = rw (c.in-Some.is, c.entries-entries.ensures) at c.in_ok-due.ensures.due in
     let sources : c.args.files.now.files ≡ arc_value c.self.inside.content = sym c.requires.sources ∙ sym (ap (λ (s : PlainCache). s.cache.sources) c.self.view_is) in

@@ -1,7 +1,6 @@
 use Rattle.std.proofs.Common.{◌≡◌, ◌≤◌, ◌+◌, length}
 use Rattle.std.specs.Vec.Iter.{into_iter_items, into_iter_len}
 use Rattle.nsc_model.specs.Machine.{Cache}
-use Rattle.nsc_daemonconf.specs.Conf.{db_settings}
 use Rattle.nsc_plain.specs.Table.{StayApart, over, put_all}
 use Rattle.nsc_plain.proofs.table.Table.insert_all.Given as goal
 
@@ -12,5 +11,5 @@ invariant-loop-one l = record {
   long : into_iter_len l.one-iterator ≡ length (into_iter_items l.one-iterator);
   memory : length l.self.entries + length (into_iter_items l.one-iterator) ≤ l.self.capacity;
   apart : StayApart l.self.entries (into_iter_items l.one-iterator);
-  rest : (cache : Cache) → put_all (db_settings l.conf) l.now l.version (into_iter_items l.one-iterator) (over cache l.self) ≡ put_all (db_settings l.conf) l.now l.version l.fn.fresh.items (over cache l.initial.self);
+  rest : (cache : Cache) → put_all l.conf l.now l.version (into_iter_items l.one-iterator) (over cache l.self) ≡ put_all l.conf l.now l.version l.fn.fresh.items (over cache l.initial.self);
 }

@@ -1,4 +1,7 @@
-use nsc_model::Db;
+ghost use Rattle.std.specs.Prelude.{◌≡◌};
+ghost use Rattle.nsc_model.specs.Settings.{cached_for, default_settings, settings_of};
+
+use crate::kind::Db;
 
 /// The settings of one database.
 #[derive(Clone, Copy, Debug, PartialEq, Eq)]
@@ -41,12 +44,9 @@ pub struct Conf {
 }
 
 impl DbConf {
-    ghost use Rattle.std.specs.Prelude.{◌≡◌};
-    ghost use Rattle.nsc_daemonconf.specs.Conf.{db_settings, cached_for};
-
     // A database that is cached, with these lives of found and not-found replies in seconds, and all else as it is by default.
     fn cached_for(positive: u32, negative: u32) -> DbConf
-        ensures { db_settings result ≡ cached_for positive negative }
+        ensures { result ≡ cached_for positive negative }
     {
         DbConf {
             enabled: true,
@@ -63,15 +63,9 @@ impl DbConf {
 }
 
 impl Conf {
-    ghost use Rattle.std.specs.Prelude.{◌≡◌, Some};
-    ghost use Rattle.nsc_model.specs.Settings.{settings_of};
-    ghost use Rattle.nsc_daemonconf.specs.Conf.{db_settings, settings, default_settings};
-    ghost use Rattle.nsc_daemonconf.specs.Lines.{with_database};
-    ghost use Rattle.nsc_daemonconf.specs.Sizes.{SizeFits, SizesFit};
-
     /// The settings that hold where no line of nscd.conf(5) says otherwise.
     pub fn defaults() -> Conf
-        ensures { settings result ≡ default_settings }
+        ensures { result ≡ default_settings }
     {
         Conf {
             passwd: DbConf::cached_for(3600, 20),
@@ -85,7 +79,7 @@ impl Conf {
 
     /// The settings of one database.
     pub fn of(&self, db: Db) -> DbConf
-        ensures { db_settings result ≡ settings_of (settings self.now) db }
+        ensures { result ≡ settings_of self.now db }
     {
         match db {
             Db::Passwd => self.passwd,
@@ -93,19 +87,5 @@ impl Conf {
             Db::Hosts => self.hosts,
             Db::Services => self.services,
         }
-    }
-
-    /// The settings with those of one database replaced.
-    pub(crate) fn with(mut self, db: Db, changed: DbConf) -> Conf
-        ensures with { settings result ≡ with_database (Some db) (λ _. db_settings changed) (settings self) }
-        ensures sizes { SizesFit (settings self) → SizeFits (db_settings changed) → SizesFit (settings result) }
-    {
-        match db {
-            Db::Passwd => self.passwd = changed,
-            Db::Group => self.group = changed,
-            Db::Hosts => self.hosts = changed,
-            Db::Services => self.services = changed,
-        }
-        self
     }
 }
