@@ -14,7 +14,7 @@ use Rattle.std.proofs.lemmas.Slice.Eq.{bytes_eq-Decides}
 use Rattle.nsc_model.specs.declared.answer.Request.{Request}
 use Rattle.nsc_model.specs.Kinds.{type_number, is_request}
 use Rattle.nsc_model.specs.Files.{Files}
-use Rattle.nsc_model.specs.Machine.{Kept, last_count, entry_words, used_by, used_now, is_due, is_dropped, due_of, others_of, reloaded_of}
+use Rattle.nsc_model.specs.Machine.{Kept, last_count, entry_words, used_now, is_due, is_dropped, due_of, others_of, reloaded_of}
 use Rattle.nsc_model.proofs.Contents.{both_true, same_bytes}
 use Rattle.nsc_plain.specs.Answered.{Answered, anew}
 use Rattle.nsc_plain.specs.Table.{entries_for, answered_for, AreApart, StayApart, IsKept}

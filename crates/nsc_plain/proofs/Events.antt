@@ -1,5 +1,5 @@
 -- The parts of the machine's events, one after the other.
-use Rattle.std.proofs.Common.{◌≡◌, ◌≢◌, ℕ, ◌<◌, ◌≤◌, ◌+◌, ◌==◌, nat_lt, ◌⊎◌, inl, inr, Bool, true, false, cond, not, ◌&&◌, List, [], ◌∷◌, ◌++◌, length, find, map, Option, Some, None, Result, Ok, Err, refl, ap, sym, ◌∙◌, subst, arith}
+use Rattle.std.proofs.Common.{◌≡◌, ◌≢◌, ℕ, ◌<◌, ◌+◌, ◌==◌, inl, inr, Bool, true, false, cond, List, [], ◌∷◌, length, find, map, Option, Some, None, Result, Ok, Err, refl, ap, sym, ◌∙◌, subst, arith}
 use Rattle.std.proofs.lemmas.Bool.{eq-eqb}
 use Rattle.std.proofs.lemmas.Bool.Decides.{eqb_tells}
 use Rattle.nsc_plain.specs.declared.fault.PlainFault.{PlainFault}
@@ -11,9 +11,9 @@ use Rattle.nsc_model.specs.Kinds.{is_request}
 use Rattle.nsc_model.specs.Files.{Files}
 use Rattle.nsc_model.specs.declared.conf.DbConf.{DbConf}
 use Rattle.nsc_model.specs.Answers.{answer_of}
-use Rattle.nsc_model.specs.Machine.{Kept, Cache, Passed, Stopped, Turn, Refusal, TooLarge, Discarded, Present, Spent as Uncounted, Full, last_count, behind, ◌>>=◌, own_refusal, room_of, tried, tried_by, new_entry, polled, cached, kept_answer, loaded, hit_or_load, look_up, used_now, compacted, compacted_behind, invalidated, ends_of, by_invalidation, due_cause, stopped, unchanged, is_due, due_of, others_of, reloaded_of, reloaded, next_reloads, pruned, ticked, is_outdated, checked, tick}
-use Rattle.nsc_plain.specs.PlainCache.{TurnsTo, PassesTo, StopsAt, StopsBy, FaultsBy, GivesUpBy, HitsBy, IsPolledAtMost}
-use Rattle.nsc_plain.specs.Answered.{Answered, anew}
+use Rattle.nsc_model.specs.Machine.{Kept, Cache, Passed, Stopped, Turn, Refusal, TooLarge, Discarded, Present, Spent as Uncounted, Full, last_count, behind, ◌>>=◌, own_refusal, room_of, tried, tried_by, new_entry, polled, cached, kept_answer, loaded, hit_or_load, look_up, compacted, compacted_behind, invalidated, ends_of, by_invalidation, due_cause, stopped, unchanged, is_due, due_of, others_of, reloaded_of, reloaded, next_reloads, pruned, ticked, checked, tick}
+use Rattle.nsc_plain.specs.PlainCache.{TurnsTo, PassesTo, StopsAt, StopsBy, FaultsBy, GivesUpBy, HitsBy}
+use Rattle.nsc_plain.specs.Answered.{anew}
 use Rattle.nsc_plain.specs.Table.{put, put_all}
 use Rattle.nsc_plain.proofs.Ends.{none_left}
 

@@ -1,5 +1,5 @@
 -- A round, and then the rest of the run.
-use Rattle.std.proofs.Common.{◌≡◌, ◌⊎◌, ℕ, ◌+◌, List, ◌++◌, length, sym, ap, ◌∙◌, append_assoc, arith, inl, inr}
+use Rattle.std.proofs.Common.{◌≡◌, ℕ, ◌+◌, List, ◌++◌, length, sym, ap, ◌∙◌, append_assoc, arith, inl, inr}
 use Rattle.std.proofs.lemmas.List.{length-append}
 use Rattle.nsc_outside.proofs.Streams.{Moves-then, Grows-then}
 use Rattle.nsc_model.specs.Frames.{Finish, Done, Bad, Long, Spent}
@@ -8,7 +8,7 @@ use Rattle.nsc_model.specs.Replay.{State, Replayed, behind_output, replay_from}
 use Rattle.nsc_replay.specs.declared.ended.Ended.{Ended}
 use Rattle.nsc_replay.specs.declared.ended.Ended.TheVariants as ended
 use Rattle.nsc_replay.specs.Streams.{StreamsAt}
-use Rattle.nsc_replay.specs.Runs.{FinishesBy, EndsBy, AllButLast, Run, GoesOn}
+use Rattle.nsc_replay.specs.Runs.{FinishesBy, EndsBy, Run, GoesOn}
 
 module _ (settings : Conf) (s next : State) (place next_place : ℕ) (before mid after : StreamsAt) (a : GoesOn settings s place next next_place (record { before = before; after = mid })) where
   -- what the replay of two parts is, by the replay of the second

@@ -1,4 +1,4 @@
-use Rattle.std.proofs.Common.{◌≡◌, ◌<◌, length, take, map}
+use Rattle.std.proofs.Common.{◌≡◌, length, take, map}
 use Rattle.std.specs.Prelude.{nat_lt}
 use Rattle.nsc_model.specs.Machine.{due_of, reloaded_of}
 use Rattle.nsc_plain.specs.Answered.{anew}

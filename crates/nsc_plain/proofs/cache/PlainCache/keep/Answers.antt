@@ -1,4 +1,4 @@
-use Rattle.std.proofs.Common.{◌≡◌, sym, ◌∙◌, ap, subst, refl}
+use Rattle.std.proofs.Common.{◌≡◌, ap, subst}
 use Rattle.std.specs.Arc.{arc_value}
 use Rattle.nsc_model.specs.Answers.{answer_of}
 use Rattle.nsc_plain.specs.PlainCache.{PlainCache}

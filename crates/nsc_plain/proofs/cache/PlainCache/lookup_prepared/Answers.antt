@@ -1,10 +1,9 @@
-use Rattle.std.proofs.Common.{◌≡◌, ℕ, List, Option, inr, sym, ◌∙◌, subst}
-use Rattle.std.specs.Arc.{arc_value}
+use Rattle.std.proofs.Common.{◌≡◌, inr, sym, ◌∙◌, subst}
 use Rattle.std.proofs.lemmas.Result.{err_from_is_err_and}
 use Rattle.nsc_model.specs.declared.answer.Request.{Request}
 use Rattle.nsc_model.specs.declared.conf.DbConf.{DbConf}
-use Rattle.nsc_model.specs.Machine.{Cache, cached, kept_answer, polled}
-use Rattle.nsc_plain.specs.PlainCache.{PassesTo, GivesUpBy, HitsBy}
+use Rattle.nsc_model.specs.Machine.{Cache, kept_answer, polled}
+use Rattle.nsc_plain.specs.PlainCache.{PassesTo, GivesUpBy}
 use Rattle.nsc_plain.proofs.Events.{hits, misses, loads, look_up_faults}
 use Rattle.nsc_plain.proofs.cache.PlainCache.lookup_prepared.Goals as goal
 

@@ -1,4 +1,4 @@
-use Rattle.std.proofs.Common.{◌≡◌, sym, ◌∙◌, ap}
+use Rattle.std.proofs.Common.{sym, ◌∙◌, ap}
 use Rattle.std.proofs.lemmas.Bool.{OnTrue_from}
 use Rattle.nsc_model.proofs.Contents.{one_content}
 use Rattle.nsc_plain.specs.PlainCache.{PlainCache}

@@ -1,9 +1,9 @@
-use Rattle.std.proofs.Common.{◌≡◌, ◌<◌, List, length, map, sym, ◌∙◌, ap, subst, arith}
+use Rattle.std.proofs.Common.{◌≡◌, List, sym, ◌∙◌, ap, subst, arith}
 use Rattle.std.specs.Arc.{arc_value}
 use Rattle.std.proofs.lemmas.Result.{err_from_is_err_and}
-use Rattle.nsc_model.specs.Machine.{Kept, Cache, due_of, reloaded_of, reloaded, ticked}
+use Rattle.nsc_model.specs.Machine.{due_of, reloaded_of, reloaded, ticked}
 use Rattle.nsc_plain.specs.PlainCache.{PlainCache}
-use Rattle.nsc_plain.specs.Answered.{Answered, anew}
+use Rattle.nsc_plain.specs.Answered.{Answered}
 use Rattle.nsc_plain.specs.Table.{over, put_all}
 use Rattle.nsc_plain.proofs.Events.{bare, put_is_reloaded, prunes, prunes_nothing, prune_faults}
 use Rattle.nsc_plain.proofs.Apart.{reloads_stay_apart}

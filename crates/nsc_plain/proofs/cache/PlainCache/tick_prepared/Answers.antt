@@ -1,5 +1,4 @@
 use Rattle.std.proofs.Common.{◌≡◌, true, false, subst}
-use Rattle.std.specs.Arc.{arc_value}
 use Rattle.std.proofs.lemmas.Result.{err_from_is_err_and, IfErr-weaker, on_ok_weaker}
 use Rattle.nsc_plain.specs.PlainCache.{PlainCache}
 use Rattle.nsc_plain.proofs.Events.{tick_rests, tick_passes, tick_unpolled, tick_faults}

@@ -1,4 +1,4 @@
-use Rattle.std.proofs.Common.{length, List, sym, subst, arith}
+use Rattle.std.proofs.Common.{List, sym, subst, arith}
 use Rattle.nsc_model.specs.Machine.{Kept}
 use Rattle.nsc_plain.specs.Table.{IsKept}
 use Rattle.nsc_plain.proofs.Apart.{apart_due, apart_others}

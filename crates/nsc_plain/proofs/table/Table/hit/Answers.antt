@@ -1,4 +1,4 @@
-use Rattle.std.proofs.Common.{◌≡◌, ℕ, ◌<◌, List, length, get_or, set, find, Some, None, sym, ◌∙◌, ap, subst, refl, Option, true}
+use Rattle.std.proofs.Common.{◌≡◌, ℕ, List, get_or, set, find, Some, None, sym, ◌∙◌, ap, subst, refl, Option}
 use Rattle.std.specs.Prelude.{position}
 use Rattle.std.proofs.lemmas.List.Quantifiers.{position-Some}
 use Rattle.nsc_model.specs.declared.answer.Request.{Request}
