@@ -12,7 +12,7 @@ use Rattle.nsc_model.specs.Fixed.{Fixed}
 use Rattle.nsc_model.specs.declared.conf.DbConf.{DbConf}
 use Rattle.nsc_model.specs.History.{loads, invalidations, newest, version_in, HasEnd, IsLive, NoneLiveOf, WasPolled, Legal}
 use Rattle.nsc_laws.specs.Core.{Caller, Core, Insert, Empty, IsPoll, Among, ended_all, AreLive}
-use Rattle.nsc_model.specs.Machine.{last_count, Kept, Cache, unchanged, stopped, behind, polled, new_entry, Refusal, TooLarge, Discarded, Present, Spent, Full, own_refusal, room_of, tried_by, tried, entry_words, all_words, compacted_behind, emptied, ends_of, by_invalidation, invalidated}
+use Rattle.nsc_model.specs.Machine.{last_count, Kept, Cache, unchanged, stopped, behind, polled, new_entry, Refusal, TooLarge, Discarded, Present, Spent, Full, own_refusal, room_of, tried_by, tried, entry_words, all_words, compacted_behind, emptied, by_invalidation, invalidated}
 use Rattle.nsc_laws.specs.Calls.{fixed_of, Tells}
 use Rattle.nsc_model.proofs.Contents.{one_content}
 use Rattle.nsc_laws.proofs.Requests.{content_same}

@@ -1,5 +1,5 @@
 -- No bytes spell two services.
-use Rattle.std.proofs.Common.{◌≡◌, ℕ, ◌+◌, ◌<◌, ◌≤◌, ◌^◌, List, ◌++◌, length, flat_map, refl, sym, ap, subst, ◌∙◌, append_assoc, arith, length-append}
+use Rattle.std.proofs.Common.{◌≡◌, ℕ, ◌+◌, ◌<◌, ◌≤◌, ◌^◌, List, ◌++◌, length, flat_map, sym, ap, ◌∙◌, append_assoc, arith, length-append}
 use Rattle.nsc_model.specs.declared.row.Service.{Service}
 use Rattle.nsc_model.specs.Marked.{reply_limit}
 use Rattle.nsc_model.specs.ServiceLines.{exchanged}
