@@ -5,3 +5,4 @@ pub mod Moments
 pub mod Turns
 pub mod ServiceLists
 pub mod Origins
+pub mod Within

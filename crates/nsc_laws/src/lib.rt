@@ -1,8 +1,9 @@
 //! The laws of the definitions: theorems over whole histories, runs, replays, lists and texts, each the contract of a function with
-//! no body. No crate stands on this one.
+//! no body. `nsc_answer` cites one of them: that an answer spells its row.
 #![tactic(auto)]
 
 mod addresses;
+mod answers;
 mod callers;
 mod histories;
 mod lists;
@@ -12,6 +13,7 @@ mod replies;
 mod switches;
 
 pub use addresses::{printed_v4_is_read, printed_v6_is_read};
+pub use answers::{answers_in_histories_spell_their_rows, answers_spell_their_rows};
 pub use callers::{
     answers_are_replied, core_can_be_emptied, core_runs_are_legal, legal_histories_are_run,
     polled_versions_are_held,

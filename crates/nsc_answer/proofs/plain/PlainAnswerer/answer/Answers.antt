@@ -6,7 +6,7 @@ use Rattle.nsc_model.specs.Files.{Files, FilesFit}
 use Rattle.nsc_model.specs.Marked.{Marked, reply_limit}
 use Rattle.nsc_model.specs.Outcomes.{reply_to}
 use Rattle.nsc_model.specs.Wire.{IsReplyOf, spelled}
-use Rattle.nsc_spelling.proofs.Spelled.{answer_spells}
+use Rattle.nsc_laws.proofs.Spelled.{answer_spells}
 use Rattle.nsc_answer.proofs.plain.PlainAnswerer.answer.Goals as goal
 
 -- the outcome of the switch is of the request's kind, and has a reply that is not too long

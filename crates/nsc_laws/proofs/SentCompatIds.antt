@@ -15,14 +15,14 @@ use Rattle.nsc_model.specs.Groups.{group_of_line, has_member}
 use Rattle.nsc_model.specs.declared.switch.SwitchService.{SwitchService}
 use Rattle.nsc_model.specs.declared.switch.SwitchService.TheVariants as service
 use Rattle.nsc_model.specs.Switches.{compat_list}
-use Rattle.nsc_spelling.proofs.Accounts.{IsSentGroup}
-use Rattle.nsc_spelling.proofs.Entries.{entries_few, entries_in, file_keeps}
-use Rattle.nsc_spelling.proofs.FileAnswers.{groups_keep, own_ids}
-use Rattle.nsc_spelling.proofs.Ids.{IsIdOf, ids_in, ids_sent}
-use Rattle.nsc_spelling.proofs.Lists.{append_keeps, filter_keeps, front_keeps, map_keeps, parts_keep}
-use Rattle.nsc_spelling.proofs.Says.{line_case}
-use Rattle.nsc_spelling.proofs.Sent.{IsSent, entry_limit, none_sent}
-use Rattle.nsc_spelling.proofs.Switched.{switched_keeps}
+use Rattle.nsc_laws.proofs.SentAccounts.{IsSentGroup}
+use Rattle.nsc_laws.proofs.SentEntries.{entries_few, entries_in, file_keeps}
+use Rattle.nsc_laws.proofs.SentAnswers.{groups_keep, own_ids}
+use Rattle.nsc_laws.proofs.SentIds.{IsIdOf, ids_in, ids_sent}
+use Rattle.nsc_laws.proofs.SentLists.{append_keeps, filter_keeps, front_keeps, map_keeps, parts_keep}
+use Rattle.nsc_laws.proofs.SentSays.{line_case}
+use Rattle.nsc_laws.proofs.Sent.{IsSent, entry_limit, none_sent}
+use Rattle.nsc_laws.proofs.SentSwitches.{switched_keeps}
 
 -- ---- what holds of each id that may be gathered holds of all of them
 

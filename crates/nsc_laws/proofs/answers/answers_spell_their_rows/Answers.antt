@@ -1,5 +1,5 @@
-use Rattle.nsc_spelling.proofs.Spelled.{answer_marks, answer_spells}
-use Rattle.nsc_spelling.proofs.laws.answers_spell_their_rows.Goals as goal
+use Rattle.nsc_laws.proofs.Spelled.{answer_marks, answer_spells}
+use Rattle.nsc_laws.proofs.answers.answers_spell_their_rows.Goals as goal
 
 pub returns-clause-spelled : goal.returns-clause-spelled
 returns-clause-spelled c = answer_spells

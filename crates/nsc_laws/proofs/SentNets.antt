@@ -23,12 +23,12 @@ use Rattle.nsc_model.specs.Hosts.{Addressed, addressed_of, family_once, host_of_
 use Rattle.nsc_model.specs.ServiceLines.{is_slash, port_of, service_of_line, service_of_words}
 use Rattle.nsc_model.specs.Users.{has_zero}
 use Rattle.nsc_model.specs.Wire.{IsAddress, IsHost, addresses_found, host_found, service_found, text, text_len}
-use Rattle.nsc_spelling.proofs.Accounts.{decimal_fits}
-use Rattle.nsc_spelling.proofs.Lists.{all_weaker, filter_keeps}
-use Rattle.nsc_spelling.proofs.Lists as lists
-use Rattle.nsc_spelling.proofs.Sent.{IsSent, entry_limit}
-use Rattle.nsc_spelling.proofs.Sizes.{filled_size, filter_few, sent_lengths, sent_texts, size_of}
-use Rattle.nsc_spelling.proofs.Texts.{IsClean, are_texts, clean_drop, clean_filled, clean_line, clean_take, is_text}
+use Rattle.nsc_laws.proofs.SentAccounts.{decimal_fits}
+use Rattle.nsc_laws.proofs.SentLists.{all_weaker, filter_keeps}
+use Rattle.nsc_laws.proofs.SentLists as lists
+use Rattle.nsc_laws.proofs.Sent.{IsSent, entry_limit}
+use Rattle.nsc_laws.proofs.SentSizes.{filled_size, filter_few, sent_lengths, sent_texts, size_of}
+use Rattle.nsc_laws.proofs.SentTexts.{IsClean, are_texts, clean_drop, clean_filled, clean_line, clean_take, is_text}
 
 -- words as a line of a file may have them
 abbrev AreWords : List (List ℕ) → Type 0

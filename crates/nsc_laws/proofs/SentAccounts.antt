@@ -16,9 +16,9 @@ use Rattle.nsc_model.specs.Groups.{group_of_fields, group_of_line, members_of}
 use Rattle.nsc_model.specs.Marked.{reply_limit}
 use Rattle.nsc_model.specs.Users.{has_zero, is_name, trimmed, user_of_fields, user_of_line}
 use Rattle.nsc_model.specs.Wire.{IsText, group_found, passwd_found, text, text_len}
-use Rattle.nsc_spelling.proofs.Sent.{IsSent, entry_limit}
-use Rattle.nsc_spelling.proofs.Sizes.{filled_size, pieces_size, sent_lengths, sent_texts, size_of, trimmed_short}
-use Rattle.nsc_spelling.proofs.Texts.{IsClean, are_texts, clean_filled, clean_line, clean_pieces, clean_trimmed, is_text}
+use Rattle.nsc_laws.proofs.Sent.{IsSent, entry_limit}
+use Rattle.nsc_laws.proofs.SentSizes.{filled_size, pieces_size, sent_lengths, sent_texts, size_of, trimmed_short}
+use Rattle.nsc_laws.proofs.SentTexts.{IsClean, are_texts, clean_filled, clean_line, clean_pieces, clean_trimmed, is_text}
 
 -- fields as a line of a file may have them
 abbrev pub AreFields : List (List ℕ) → Type 0

@@ -1,5 +1,5 @@
-use Rattle.nsc_spelling.proofs.Histories.{answered_law, loaded_law}
-use Rattle.nsc_spelling.proofs.laws.answers_in_histories_spell_their_rows.Goals as goal
+use Rattle.nsc_laws.proofs.SpelledHistories.{answered_law, loaded_law}
+use Rattle.nsc_laws.proofs.answers.answers_in_histories_spell_their_rows.Goals as goal
 
 pub returns-clause-loaded : goal.returns-clause-loaded
 returns-clause-loaded c = loaded_law

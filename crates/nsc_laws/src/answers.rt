@@ -11,7 +11,7 @@ ghost use Rattle.nsc_model.specs.Fixed.{Fixed};
 ghost use Rattle.nsc_model.specs.History.{Answered, HasLoad, Legal};
 ghost use Rattle.nsc_model.specs.Outcomes.{reply_to};
 ghost use Rattle.nsc_model.specs.Wire.{Spells};
-ghost use Rattle.nsc_spelling.specs.Within.{IsWithin, SpellsVersion};
+ghost use Rattle.nsc_laws.specs.Within.{IsWithin, SpellsVersion};
 
 /// Over all files within their limits, the answer to every request spells the reply to what the switch finds: a row of the
 /// request's kind with no zero byte in its texts, or that there is none, in at most 2^30 bytes. Its mark says exactly that

@@ -11,8 +11,8 @@ use Rattle.nsc_model.specs.Files.{Files, FilesFit}
 use Rattle.nsc_model.specs.Fixed.{Fixed}
 use Rattle.nsc_model.specs.History.{Answered, FromEntry, FromPoll, HasLoad, Legal, changes, version_in}
 use Rattle.nsc_model.specs.Marked.{Marked}
-use Rattle.nsc_spelling.specs.Within.{IsWithin, SpellsVersion}
-use Rattle.nsc_spelling.proofs.Spelled.{answer_spells}
+use Rattle.nsc_laws.specs.Within.{IsWithin, SpellsVersion}
+use Rattle.nsc_laws.proofs.Spelled.{answer_spells}
 
 -- ---- versions are numbered from 0, and none has the number of an earlier one
 

@@ -17,13 +17,13 @@ use Rattle.nsc_model.specs.Groups.{group_of_line, has_member}
 use Rattle.nsc_model.specs.Hosts.{host_addressed, host_has_name, host_named, host_of_line}
 use Rattle.nsc_model.specs.ServiceLines.{service_key, service_of_line}
 use Rattle.nsc_model.specs.Users.{user_of_line}
-use Rattle.nsc_spelling.proofs.Accounts.{IsSentGroup, IsSentUser, group_line, user_line}
-use Rattle.nsc_spelling.proofs.Entries.{entries_few, entries_in, entries_keep, file_keeps, found_keeps}
-use Rattle.nsc_spelling.proofs.Ids.{IsIdOf, groups_stand, ids_in, ids_sent}
-use Rattle.nsc_spelling.proofs.Lists.{all_weaker, filter_keeps, map_keeps}
-use Rattle.nsc_spelling.proofs.Nets.{IsHostIn, IsSentService, addresses_sent, host_line, host_sent, service_line}
-use Rattle.nsc_spelling.proofs.Sent.{IsSent, entry_limit, none_sent}
-use Rattle.nsc_spelling.proofs.Sizes.{filter_few}
+use Rattle.nsc_laws.proofs.SentAccounts.{IsSentGroup, IsSentUser, group_line, user_line}
+use Rattle.nsc_laws.proofs.SentEntries.{entries_few, entries_in, entries_keep, file_keeps, found_keeps}
+use Rattle.nsc_laws.proofs.SentIds.{IsIdOf, groups_stand, ids_in, ids_sent}
+use Rattle.nsc_laws.proofs.SentLists.{all_weaker, filter_keeps, map_keeps}
+use Rattle.nsc_laws.proofs.SentNets.{IsHostIn, IsSentService, addresses_sent, host_line, host_sent, service_line}
+use Rattle.nsc_laws.proofs.Sent.{IsSent, entry_limit, none_sent}
+use Rattle.nsc_laws.proofs.SentSizes.{filter_few}
 
 pub users_keep : (file : Option (List ℕ)) → FileFits file → AllByRecursion (IsSentUser entry_limit) (entries_in user_of_line file)
 users_keep file fits = entries_keep (IsSentUser entry_limit) user_of_line user_line file fits

@@ -16,10 +16,10 @@ use Rattle.nsc_model.specs.declared.switch.SwitchService.{SwitchService}
 use Rattle.nsc_model.specs.declared.switch.SwitchService.TheVariants as service
 use Rattle.nsc_model.specs.Switches.{service_list}
 use Rattle.nsc_model.specs.Wire.{Spells}
-use Rattle.nsc_spelling.proofs.CompatEntries.{groups_sent, users_sent}
-use Rattle.nsc_spelling.proofs.CompatIds.{ids_gathered}
-use Rattle.nsc_spelling.proofs.Sent.{IsSent, any_sent, none_sent}
-use Rattle.nsc_spelling.proofs.Switched.{sub_looked_sent, sub_sent, switched_keeps}
+use Rattle.nsc_laws.proofs.SentCompatEntries.{groups_sent, users_sent}
+use Rattle.nsc_laws.proofs.SentCompatIds.{ids_gathered}
+use Rattle.nsc_laws.proofs.Sent.{IsSent, any_sent, none_sent}
+use Rattle.nsc_laws.proofs.SentSwitches.{sub_looked_sent, sub_sent, switched_keeps}
 
 compat_sent : (by : Kind) (files : Files) (key : List ℕ) → FilesFit files → IsSent reply_limit by (compat_by by files key)
 compat_sent PwName files key fit = users_sent files PwName key (user_named key) fit (sub_looked_sent files db.Passwd PwName key fit)

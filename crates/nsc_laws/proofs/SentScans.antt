@@ -8,11 +8,11 @@ use Rattle.nsc_model.specs.declared.row.Looked.TheVariants.{NotFound, Unavail}
 use Rattle.nsc_model.specs.Compat.{Scan, answers_or, is_excluded, scan_line, scanned, scanned_file}
 use Rattle.nsc_model.specs.Files.{FileFits, file_limit}
 use Rattle.nsc_model.specs.Users.{trimmed}
-use Rattle.nsc_spelling.proofs.Accounts.{AreFields, line_fields}
-use Rattle.nsc_spelling.proofs.Entries.{entries_in}
-use Rattle.nsc_spelling.proofs.Lists.{front_keeps}
-use Rattle.nsc_spelling.proofs.Says.{line_case}
-use Rattle.nsc_spelling.proofs.Sizes.{lines_size, size_of}
+use Rattle.nsc_laws.proofs.SentAccounts.{AreFields, line_fields}
+use Rattle.nsc_laws.proofs.SentEntries.{entries_in}
+use Rattle.nsc_laws.proofs.SentLists.{front_keeps}
+use Rattle.nsc_laws.proofs.SentSays.{line_case}
+use Rattle.nsc_laws.proofs.SentSizes.{lines_size, size_of}
 
 -- Q holds of what lines and services find, and P of what comes of it
 pub record Scans {A : Type 0} (P : Looked → Type 0) (Q : A → Type 0) (scan : Scan A) : Type 0 where

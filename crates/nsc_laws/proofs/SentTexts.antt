@@ -6,7 +6,7 @@ use Rattle.std.proofs.lemmas.List.Elements.{All-from_recursion}
 use Rattle.nsc_base.specs.Text.{is_filled, is_white, onto_first, pieces}
 use Rattle.nsc_model.specs.Users.{has_zero, trimmed}
 use Rattle.nsc_model.specs.Wire.{IsText}
-use Rattle.nsc_spelling.proofs.Lists.{all_weaker, filter_keeps}
+use Rattle.nsc_laws.proofs.SentLists.{all_weaker, filter_keeps}
 
 -- no byte is zero
 abbrev pub IsClean : List ℕ → Type 0

@@ -10,8 +10,8 @@ use Rattle.nsc_model.specs.declared.row.Group.{Group}
 use Rattle.nsc_model.specs.Answers.{each_once, found_ids}
 use Rattle.nsc_model.specs.Files.{file_limit}
 use Rattle.nsc_model.specs.Wire.{field, ids_found}
-use Rattle.nsc_spelling.proofs.Lists.{all_weaker, filter_keeps}
-use Rattle.nsc_spelling.proofs.Sent.{IsSent, entry_limit, none_sent}
+use Rattle.nsc_laws.proofs.SentLists.{all_weaker, filter_keeps}
+use Rattle.nsc_laws.proofs.Sent.{IsSent, entry_limit, none_sent}
 
 abbrev pub StandsIn : List ℕ → ℕ → Type 0
 StandsIn ids id = list_any (nat_eq id) ids ≡ true

@@ -14,8 +14,8 @@ use Rattle.nsc_model.specs.declared.switch.SwitchService.TheVariants as service
 use Rattle.nsc_model.specs.declared.switch.SwitchStep.{SwitchStep}
 use Rattle.nsc_model.specs.Services.{action_at, ends}
 use Rattle.nsc_model.specs.Switches.{compat_list}
-use Rattle.nsc_spelling.proofs.FileAnswers.{file_sent}
-use Rattle.nsc_spelling.proofs.Sent.{IsSent, entry_limit, none_sent}
+use Rattle.nsc_laws.proofs.SentAnswers.{file_sent}
+use Rattle.nsc_laws.proofs.Sent.{IsSent, entry_limit, none_sent}
 
 pub switched_keeps : (P : Looked → Type 0) (look : SwitchService → Looked) → P Unavail → ((service : SwitchService) → P (look service)) → (steps : List SwitchStep) → P (switched look steps)
 switched_keeps P look none each [] = none

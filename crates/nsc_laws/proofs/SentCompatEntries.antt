@@ -12,11 +12,11 @@ use Rattle.nsc_model.specs.Answers.{group_in, group_scan, sub_looked, user_in, u
 use Rattle.nsc_model.specs.Compat.{scanned_file}
 use Rattle.nsc_model.specs.Files.{Files, FilesFit}
 use Rattle.nsc_model.specs.Marked.{reply_limit}
-use Rattle.nsc_spelling.proofs.Accounts.{IsSentGroup, IsSentUser, replaced_fits}
-use Rattle.nsc_spelling.proofs.FileAnswers.{groups_keep, users_keep}
-use Rattle.nsc_spelling.proofs.Scans.{Scans, scan_keeps}
-use Rattle.nsc_spelling.proofs.Sent.{IsSent, any_sent, entry_limit, none_sent}
-use Rattle.nsc_spelling.proofs.Switched.{sub_looked_sent}
+use Rattle.nsc_laws.proofs.SentAccounts.{IsSentGroup, IsSentUser, replaced_fits}
+use Rattle.nsc_laws.proofs.SentAnswers.{groups_keep, users_keep}
+use Rattle.nsc_laws.proofs.SentScans.{Scans, scan_keeps}
+use Rattle.nsc_laws.proofs.Sent.{IsSent, any_sent, entry_limit, none_sent}
+use Rattle.nsc_laws.proofs.SentSwitches.{sub_looked_sent}
 
 user_found : (looked : Looked) → IsSent entry_limit PwName looked → IfSome (user_in looked) (IsSentUser entry_limit)
 user_found (Found (row.Passwd p)) sent = sent

@@ -8,8 +8,8 @@ use Rattle.nsc_model.specs.declared.row.Row.{Row}
 use Rattle.nsc_model.specs.Answers.{file_entry, found_first}
 use Rattle.nsc_model.specs.Entries.{first_named, named_in}
 use Rattle.nsc_model.specs.Files.{FileFits, file_limit}
-use Rattle.nsc_spelling.proofs.Lists.{filter_keeps, first_keeps, onto_keeps}
-use Rattle.nsc_spelling.proofs.Sizes.{lines_few, lines_size, size_of}
+use Rattle.nsc_laws.proofs.SentLists.{filter_keeps, first_keeps, onto_keeps}
+use Rattle.nsc_laws.proofs.SentSizes.{lines_few, lines_size, size_of}
 
 -- each line that a file may have gives such an entry, or none
 abbrev pub EachLine : {A : Type 0} → (A → Type 0) → (List ℕ → Option A) → Type 0
