@@ -2,5 +2,7 @@
 #![tactic(auto)]
 
 mod plain;
+mod prepared;
 
 pub use plain::Plain;
+pub use prepared::Prepared;

@@ -1,42 +1,41 @@
 ghost use Rattle.std.specs.Prelude.{◌≡◌, ◌≤◌, IfOk, length};
-ghost use Rattle.std.specs.Arc.{arc_value};
 ghost use Rattle.nsc_model.specs.Answers.{marked};
 ghost use Rattle.nsc_model.specs.Marked.{reply_limit};
 ghost use Rattle.nsc_model.specs.Outcomes.{reply_to};
 ghost use Rattle.nsc_model.specs.Wire.{IsReplyOf, spelled};
 
+use crate::prepared::Prepared;
 use nsc_base::NoMemory;
 use nsc_model::{Answer, Answerer, Content, Kind, Looked};
-use nsc_switch::switch;
 use nsc_wire::{Reply, encode};
 use std::alloc::Global;
 use std::sync::Arc;
 
-/// Answers over the content itself: each request reads the service list and the files anew.
+/// Answers over the content itself: its service lists are read once, and its files anew at each request.
 #[derive(Clone, Copy, Debug)]
 pub struct Plain;
 
 impl Answerer for Plain {
-    type Ready = Arc<Content>;
+    type Ready = Prepared;
 
-    ghost prepared_from = { λ ready. arc_value ready };
+    ghost prepared_from = { λ ready. ready };
 
-    fn prepare(&self, _alloc: Global, content: Arc<Content>) -> Result<Arc<Content>, NoMemory> {
-        Ok(content)
+    fn prepare(&self, alloc: Global, content: Arc<Content>) -> Result<Prepared, NoMemory> {
+        Prepared::of(alloc, content)
     }
 
-    fn content<'a>(&self, ready: &'a Arc<Content>) -> &'a Arc<Content> {
-        ready
+    fn content<'a>(&self, ready: &'a Prepared) -> &'a Arc<Content> {
+        ready.content()
     }
 
     fn answer(
         &self,
         alloc: Global,
-        ready: &Arc<Content>,
+        ready: &Prepared,
         kind: Kind,
         key: &[u8],
     ) -> Result<Answer, NoMemory> {
-        let looked = switch(alloc, ready, kind, key)?;
+        let looked = ready.look(alloc, kind, key)?;
         answer_with(alloc, kind, looked)
     }
 }

@@ -10,7 +10,7 @@ ghost use Rattle.nsc_model.specs.Switches.{compat_list, compat_name};
 ghost use Rattle.nsc_compat.specs.Pairs.{pair_of};
 
 use crate::decided::{Outcomes, decide};
-use crate::outcome::switch_text;
+use crate::lists::switch_text;
 use nsc_accounts::{group_line, has_member};
 use nsc_base::{Bytes, NoMemory, Span, line_at};
 use nsc_compat::{NamedId, SubLookup};

@@ -3,8 +3,10 @@
 
 mod compat;
 mod decided;
+mod lists;
 mod outcome;
 mod services;
 
-pub use outcome::{switch, switch_over};
+pub use lists::Lists;
+pub use outcome::{switch, switch_by, switch_over};
 pub use services::{PlainServices, ServiceLook};

@@ -1,4 +1,4 @@
-use Rattle.std.proofs.Common.{◌≡◌, ◌≤◌, ℕ, List, length, IfOk, sym, subst, ap, ◌∙◌}
+use Rattle.std.proofs.Common.{◌≡◌, ◌≤◌, ℕ, List, length, IfOk, sym, subst, ap}
 use Rattle.nsc_model.specs.declared.answer.Request.{Request}
 use Rattle.nsc_model.specs.declared.row.Looked.{Looked}
 use Rattle.nsc_model.specs.Answers.{answer_of, looked_up, marked}
@@ -20,14 +20,14 @@ reply_fits files request looked fit is =
     subst (λ (l : Looked). length (spelled request.kind (reply_to l)) ≤ reply_limit) (sym is) found
 
 pub answer_with-requires-clause-of_kind : goal.answer_with-requires-clause-of_kind
-answer_with-requires-clause-of_kind c = of_kind c.deref.result.now (record { kind = c.args.kind; key = c.args.key.now }) c.in_ok-looked.looked c.in_ok-looked.ensures.fits c.in_ok-looked.ensures.outcome
+answer_with-requires-clause-of_kind c = of_kind c.args.ready.now (record { kind = c.args.kind; key = c.args.key.now }) c.in_ok-looked.looked c.in_ok-looked.ensures.fits c.in_ok-looked.ensures.outcome
 
 pub answer_with-requires-clause-fits : goal.answer_with-requires-clause-fits
-answer_with-requires-clause-fits c = reply_fits c.deref.result.now (record { kind = c.args.kind; key = c.args.key.now }) c.in_ok-looked.looked c.in_ok-looked.ensures.fits c.in_ok-looked.ensures.outcome
+answer_with-requires-clause-fits c = reply_fits c.args.ready.now (record { kind = c.args.kind; key = c.args.key.now }) c.in_ok-looked.looked c.in_ok-looked.ensures.fits c.in_ok-looked.ensures.outcome
 
 pub returns : goal.returns
 unfolding answer_of
 returns c =
     let request : Request = record { kind = c.args.kind; key = c.args.key.now } in
-    let is = ap (marked c.args.kind) c.in_ok-looked.ensures.outcome ∙ ap (λ files. marked c.args.kind (looked_up files request)) c.deref.ensures in
+    let is = ap (marked c.args.kind) c.in_ok-looked.ensures.outcome in
     subst (λ (m : Marked). IfOk c.answer_with.result (λ answer. answer ≡ m)) is c.answer_with.ensures
