@@ -4,7 +4,7 @@ ghost use Rattle.nsc_model.specs.Marked.{reply_limit};
 ghost use Rattle.nsc_model.specs.Outcomes.{reply_to};
 ghost use Rattle.nsc_model.specs.Wire.{IsReplyOf, spelled};
 
-use crate::prepared::Prepared;
+use crate::listed::Listed;
 use nsc_base::NoMemory;
 use nsc_model::{Answer, Answerer, Content, Kind, Looked};
 use nsc_wire::{Reply, encode};
@@ -16,22 +16,22 @@ use std::sync::Arc;
 pub struct Plain;
 
 impl Answerer for Plain {
-    type Ready = Prepared;
+    type Ready = Listed;
 
     ghost prepared_from = { λ ready. ready };
 
-    fn prepare(&self, alloc: Global, content: Arc<Content>) -> Result<Prepared, NoMemory> {
-        Prepared::of(alloc, content)
+    fn prepare(&self, alloc: Global, content: Arc<Content>) -> Result<Listed, NoMemory> {
+        Listed::of(alloc, content)
     }
 
-    fn content<'a>(&self, ready: &'a Prepared) -> &'a Arc<Content> {
+    fn content<'a>(&self, ready: &'a Listed) -> &'a Arc<Content> {
         ready.content()
     }
 
     fn answer(
         &self,
         alloc: Global,
-        ready: &Prepared,
+        ready: &Listed,
         kind: Kind,
         key: &[u8],
     ) -> Result<Answer, NoMemory> {

@@ -12,12 +12,12 @@ use std::sync::Arc;
 
 /// A content with its service lists, which were read once.
 #[derive(Debug, Drop)]
-pub struct Prepared {
+pub struct Listed {
     content: Arc<Content>,
     lists: Lists,
 }
 
-impl Model for Prepared {
+impl Model for Listed {
     ghost use Rattle.std.specs.Prelude.{◌≡◌};
     ghost use Rattle.std.specs.Arc.{arc_value};
     ghost use Rattle.nsc_model.specs.Files.{Files, FilesFit};
@@ -30,13 +30,13 @@ impl Model for Prepared {
     ghost invariant = { λ p. (p.lists ≡ lists_of (arc_value p.content)) × FilesFit (arc_value p.content) };
 }
 
-impl Prepared {
+impl Listed {
     /// A content, once its service lists are read. Fails only for want of memory.
-    pub(crate) fn of(alloc: Global, content: Arc<Content>) -> Result<Prepared, NoMemory>
-        ensures { IfOk result (λ prepared. prepared ≡ arc_value content) }
+    pub(crate) fn of(alloc: Global, content: Arc<Content>) -> Result<Listed, NoMemory>
+        ensures { IfOk result (λ listed. listed ≡ arc_value content) }
     {
         let lists = Lists::of(alloc, &content)?;
-        Ok(Prepared { content, lists })
+        Ok(Listed { content, lists })
     }
 
     /// The content.
