@@ -9,7 +9,7 @@ use nsc_compat::{NamedId, SubLookup, compat_lookup};
 use nsc_files::{extra_lookup, files_lookup};
 use nsc_model::{Content, FileId, Kind, Looked, Row};
 use nsc_nets::ai_of;
-use nsc_switch::{PlainServices, switch, switch_over};
+use nsc_switch::{Lists, PlainServices, switch, switch_by, switch_over};
 use nsc_switchconf::{Action, Service, Step};
 use std::alloc::Global;
 use std::test::Fail;
@@ -190,5 +190,19 @@ fn switches(rt: HostRuntime) -> Result<(), Fail> {
     let steps = [passed(Service::Files), passed(Service::Extrausers)];
     let eve = by_steps(rt.alloc(), &content, &steps, b"eve")?;
     assert_eq!(rt; eve, Outcome::User(3));
+    Ok(())
+}
+
+fn by_lists(alloc: Global, content: &Content, name: &[u8]) -> Result<Outcome, NoMemory> {
+    let lists = Lists::of(alloc, content)?;
+    let looked = switch_by(alloc, content, &lists, Kind::PwName, name)?;
+    Ok(told(&looked))
+}
+
+#[test]
+fn lists_that_were_read_before(rt: HostRuntime) -> Result<(), Fail> {
+    let content = content(rt.alloc())?;
+    let ann = by_lists(rt.alloc(), &content, b"ann")?;
+    assert_eq!(rt; ann, Outcome::User(1));
     Ok(())
 }
