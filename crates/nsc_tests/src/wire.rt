@@ -1,6 +1,6 @@
 ghost use Rattle.std.specs.Prelude.{◌≤◌, length, IfOk};
 ghost use Rattle.nsc_model.specs.Marked.{reply_limit};
-ghost use Rattle.nsc_model.specs.Wire.{IsUserReply, user_reply};
+ghost use Rattle.nsc_model.specs.Wire.{IsReplyOf, spelled};
 
 use nsc_base::{Bytes, NoMemory, Span};
 use nsc_model::{Kind, Passwd, Row};
@@ -10,8 +10,8 @@ use std::test::Fail;
 
 // The line root:x:0:0:root:/root:/bin/bash.
 fn root(alloc: Global) -> Result<Reply, NoMemory>
-    ensures user { IfOk result IsUserReply }
-    ensures fits { IfOk result (λ reply. length (user_reply reply) ≤ reply_limit) }
+    ensures user { IfOk result (IsReplyOf Kind.PwName) }
+    ensures fits { IfOk result (λ reply. length (spelled Kind.PwName reply) ≤ reply_limit) }
 {
     Ok(Reply::Found(Row::Passwd(Passwd {
         name: Bytes::copy(alloc, b"root")?,
