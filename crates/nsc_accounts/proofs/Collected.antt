@@ -62,7 +62,7 @@ lack_there ids n there m =
 lack_more : (ids : List ℕ) (n m : ℕ) → lack (ids ++ n ∷ []) m ≡ (lack ids m && not (m == n))
 lack_more ids n m = ap not (list_any-append (λ other. m == other) ids (n ∷ [])) ∙ not_or (list_any (λ other. m == other) ids) (m == n)
 
--- behind what is there come the others, each once
+-- after what is there come the others, each once
 all_are : (ids more : List ℕ) → all_ids ids more ≡ ids ++ filter (lack ids) (each_once more)
 all_are ids [] = sym (append-nil ids)
 all_are ids (n ∷ more) =
@@ -104,11 +104,11 @@ line_ids user text from line r is gives =
     ∙ id_step (has_member user) (group_of_line (part text line.span)) (filter_map group_of_line (lines_of (drop line.next text)))
     ∙ ap (λ (o : Option ℕ). cons_option o (member_ids user (drop line.next text))) (sym gives)
 
--- behind a line that gives no id
-pub ids_behind : (user text : List ℕ) (from : ℕ) (line : Line) (ids answer : List ℕ) → IsLine text from line → None ≡ option_map (λ g. g.gid) (if_named (has_member user) (group_of_line (part text line.span))) → all_ids ids (member_ids user (drop from text)) ≡ answer → all_ids ids (member_ids user (drop line.next text)) ≡ answer
-ids_behind user text from line ids answer is gives left = ap (all_ids ids) (sym (line_ids user text from line None is gives)) ∙ left
+-- after a line that gives no id
+pub ids_after : (user text : List ℕ) (from : ℕ) (line : Line) (ids answer : List ℕ) → IsLine text from line → None ≡ option_map (λ g. g.gid) (if_named (has_member user) (group_of_line (part text line.span))) → all_ids ids (member_ids user (drop from text)) ≡ answer → all_ids ids (member_ids user (drop line.next text)) ≡ answer
+ids_after user text from line ids answer is gives left = ap (all_ids ids) (sym (line_ids user text from line None is gives)) ∙ left
 
--- and behind one that gives an id
+-- and after one that gives an id
 pub ids_more : (user text : List ℕ) (from : ℕ) (line : Line) (ids now : List ℕ) (n : ℕ) (answer : List ℕ) → IsLine text from line → Some n ≡ option_map (λ g. g.gid) (if_named (has_member user) (group_of_line (part text line.span))) → now ≡ with_id ids n → all_ids ids (member_ids user (drop from text)) ≡ answer → all_ids now (member_ids user (drop line.next text)) ≡ answer
 ids_more user text from line ids now n answer is gives added left =
     ap (λ (those : List ℕ). all_ids those (member_ids user (drop line.next text))) added

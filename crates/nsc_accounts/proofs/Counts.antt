@@ -63,7 +63,7 @@ cut_more text within from spans i field all l is field_is =
     ∙ ap (λ (fs : List (List ℕ)). fs ++ later) (sym mapped)
 
 pub lie_more : (text : List ℕ) (within : Span) (from : ℕ) (spans : List Span) (i : ℕ) (field : Line) → i < length spans → within.from ≤ from → AllWithin (LiesIn within) spans 0 i → IsField 58 text within from field → AllWithin (LiesIn within) (set spans i field.span) 0 (i + 1)
-lie_more text within from spans i field l behind lie field_is =
+lie_more text within from spans i field l no_earlier lie field_is =
     AllWithin-more_set spans i field.span l (LiesIn within) lie (record { begins = omega (arith, field_is.begins); ordered = omega (arith, field_is.begins, field_is.ordered); ends = field_is.ends })
 
 -- when all are found, what was written down is the whole list

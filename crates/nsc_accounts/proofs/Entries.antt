@@ -16,9 +16,9 @@ part-drop text line w l =
     let whole : line.to - line.from ≡ w + m = omega arith in
     ap (λ (n : ℕ). drop w (take n all)) whole ∙ drop-take w m all ∙ ap (λ (xs : List ℕ). take m xs) (drop-drop w line.from text)
 
--- the fields of a line are those behind the white space
-pub fields_behind : (n : ℕ) (text : List ℕ) (line : Span) (w : ℕ) → w ≤ length (part text line) → has_zero (part text line) ≡ false → drop w (part text line) ≡ trimmed (part text line) → fields_of_line n (part text line) ≡ exactly n (fields_of 58 (part text (record { from = line.from + w; to = line.to })))
-fields_behind n text line w l clean rest =
+-- the fields of a line are those after the white space
+pub fields_after : (n : ℕ) (text : List ℕ) (line : Span) (w : ℕ) → w ≤ length (part text line) → has_zero (part text line) ≡ false → drop w (part text line) ≡ trimmed (part text line) → fields_of_line n (part text line) ≡ exactly n (fields_of 58 (part text (record { from = line.from + w; to = line.to })))
+fields_after n text line w l clean rest =
     rw clean (ap (λ (bytes : List ℕ). exactly n (fields_of 58 bytes)) (sym rest ∙ part-drop text line w l))
 
 -- exactly so many
@@ -81,7 +81,7 @@ no_group line h = sym (unformed_line 4 group_of_fields unformed_group line h)
 pub group_is : (line : List ℕ) (fields : List (List ℕ)) → Some fields ≡ fields_of_line 4 line → group_of_fields fields ≡ group_of_line line
 group_is line fields h = formed_line 4 group_of_fields line fields h
 
--- what lies behind the white space lies in the line
+-- what lies after the white space lies in the line
 pub lies_in_line : (line : Span) (w : ℕ) (spans : List Span) → All (LiesIn (record { from = line.from + w; to = line.to })) spans → All (LiesIn line) spans
 lies_in_line line w spans lie = λ k d l.
     let there = lie k d l in

@@ -36,7 +36,7 @@ pieces-second cuts (b ∷ bytes) first second others h =
 abbrev NamedFirst : {A : Type 0} → (List (List ℕ) → Option A) → (A → List ℕ) → Type 0
 NamedFirst {A} entry_of name_of = (fields : List (List ℕ)) (x : A) → entry_of fields ≡ Some x → (second : List ℕ) × ((others : List (List ℕ)) × (fields ≡ name_of x ∷ second ∷ others))
 
--- a line with an entry begins with the name and a colon, behind its white space
+-- a line with an entry begins with the name and a colon, after its white space
 begins_with_name : {A : Type 0} (entry_of : List (List ℕ) → Option A) (name_of : A → List ℕ) → NamedFirst entry_of name_of → (line : List ℕ) (x : A) → entry_by entry_of line ≡ Some x → (rest : List ℕ) × (trimmed line ≡ name_of x ++ 58 ∷ rest)
 begins_with_name entry_of name_of first line x h =
     elim (has_zero line) as (λ v. (if v then None else entry_of (fields_of 58 (trimmed line))) ≡ Some x → (rest : List ℕ) × (trimmed line ≡ name_of x ++ 58 ∷ rest)) [

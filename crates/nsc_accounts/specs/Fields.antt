@@ -7,6 +7,6 @@ use Rattle.nsc_model.specs.Users.{has_zero, trimmed}
 abbrev pub exactly : {A : Type 0} → ℕ → List A → Option (List A)
 exactly count items = if length items == count then Some items else None
 
--- the fields of a line behind its white space, where there are exactly so many and no byte is zero
+-- the fields of a line after its white space, where there are exactly so many and no byte is zero
 abbrev pub fields_of_line : ℕ → List ℕ → Option (List (List ℕ))
 fields_of_line count line = if has_zero line then None else exactly count (fields_of 58 (trimmed line))

@@ -12,7 +12,7 @@ HasThose seen ids = (q : ℕ) → contains nat_cmp seen q ≡ list_any (λ id. q
 abbrev pub with_id : List ℕ → ℕ → List ℕ
 with_id ids id = if list_any (λ other. id == other) ids then ids else ids ++ id ∷ []
 
--- more numbers behind others, each where it is not there yet
+-- more numbers after others, each where it is not there yet
 abbrev pub all_ids : List ℕ → List ℕ → List ℕ
 all_ids ids [] = ids
 all_ids ids (n ∷ more) = all_ids (with_id ids n) more

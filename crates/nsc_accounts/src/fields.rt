@@ -49,7 +49,7 @@ pub fn exact_fields<const N: usize>(text: &[u8], within: Span) -> Option<[Span; 
     Some(spans)
 }
 
-/// The fields of a line behind the white space at its front, where there are exactly `N` and no byte of the line is 0.
+/// The fields of a line after the white space at its front, where there are exactly `N` and no byte of the line is 0.
 pub fn line_fields<const N: usize>(text: &[u8], line: Span) -> Option<[Span; N]>
     requires ordered { line.from ≤ line.to }
     requires inside { line.to ≤ length text.now }

@@ -110,7 +110,7 @@ fn group_numbered(text: &[u8], line: Span, gid: u32) -> Option<GroupAt>
     if group.gid == gid { Some(group) } else { None }
 }
 
-// Whether a line begins with the name and a colon, behind white space.
+// Whether a line begins with the name and a colon, after white space.
 fn begins_with_name(line: &[u8], name: &[u8]) -> bool
     ensures { IsTrue result ↔ ((rest : List ℕ) × (trimmed line.now ≡ name.now ++ 58 ∷ rest)) }
 {

@@ -72,7 +72,7 @@ passes-groups ipv4 (s ∷ segments) text (inr last) = subst Passes (sym last.3) 
 pub around_pair_none : (segments text : List ℕ) → IsGroups true text segments → around_pair text ≡ None
 around_pair_none segments text groups = ap around_pair (sym (append-nil text)) ∙ passes-groups true segments text groups []
 
--- the pair behind groups is the first
+-- the pair after groups is the first
 pub around_pair_first : (segments text rest : List ℕ) → IsGroups false text segments → around_pair (text ++ 58 ∷ 58 ∷ rest) ≡ Some (text, rest)
 around_pair_first segments text rest groups = passes-groups false segments text groups (58 ∷ 58 ∷ rest) ∙ ap (λ front. Some (front, rest)) (append-nil text)
 

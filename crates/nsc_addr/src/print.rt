@@ -5,7 +5,7 @@ ghost use Rattle.nsc_base.specs.Addresses.{colon_text, longest_run, v4_text, v6_
 use nsc_base::Buf;
 use std::net::Ipv6Addr;
 
-/// Puts an IPv4 address behind what a buffer holds: its four numbers in decimal, with dots between them. The caller knows
+/// Puts an IPv4 address after what a buffer holds: its four numbers in decimal, with dots between them. The caller knows
 /// that the longest such text fits, 15 bytes.
 pub fn print_v4(address: [u8; 4], out: &mut Buf)
     requires { length out.old.content + 15 ≤ out.old.limit }
@@ -19,7 +19,7 @@ pub fn print_v4(address: [u8; 4], out: &mut Buf)
     }
 }
 
-/// Puts an IPv6 address behind what a buffer holds, as RFC 5952, 4 writes it: eight groups in lower case with no zero at
+/// Puts an IPv6 address after what a buffer holds, as RFC 5952, 4 writes it: eight groups in lower case with no zero at
 /// their front, and `::` for the longest run of two zero groups or more, the first of those that are as long. No part is
 /// written with dots. The caller knows that the longest such text fits, 39 bytes.
 pub fn print_v6(address: [u8; 16], out: &mut Buf)

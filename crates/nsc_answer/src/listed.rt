@@ -20,10 +20,11 @@ pub struct Listed {
 impl Model for Listed {
     ghost use Rattle.std.specs.Prelude.{◌≡◌};
     ghost use Rattle.std.specs.Arc.{arc_value};
-    ghost use Rattle.nsc_model.specs.Files.{Files, FilesFit};
+    ghost use Rattle.nsc_model.specs.Content.{Content};
+    ghost use Rattle.nsc_model.specs.Files.{FilesFit};
     ghost use Rattle.nsc_switch.specs.Lists.{lists_of};
 
-    ghost Value = { Files };
+    ghost Value = { Content };
 
     ghost view = { λ p. arc_value p.content };
 

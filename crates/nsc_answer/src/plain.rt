@@ -1,6 +1,6 @@
 ghost use Rattle.std.specs.Prelude.{◌≡◌, ◌≤◌, IfOk, length};
 ghost use Rattle.nsc_model.specs.Answers.{marked};
-ghost use Rattle.nsc_model.specs.Marked.{reply_limit};
+ghost use Rattle.nsc_model.specs.Answer.{reply_limit};
 ghost use Rattle.nsc_model.specs.Outcomes.{reply_to};
 ghost use Rattle.nsc_model.specs.Wire.{IsReplyOf, spelled};
 

@@ -12,7 +12,7 @@ use Rattle.nsc_base.specs.Decimal.{value_of, decimal_of}
 ten_times : (d n m v w : ℕ) → d * (n * m) + (v * m + w) ≡ (d * n + v) * m + w
 ten_times d n m v w = omega arith
 
--- the number that the front spells, moved up by the digits behind it
+-- the number that the front spells, moved up by the digits after it
 pub value-append : (xs ys : List ℕ) → value_of (xs ++ ys) ≡ value_of xs * 10 ^ length ys + value_of ys
 value-append [] ys = omega arith
 value-append (x ∷ xs) ys =

@@ -130,8 +130,8 @@ field-last cut text within from before missing =
     }
 
 -- the words of a text do not change where the white space at its front is dropped
-words_behind : (xs : List ℕ) (n : ℕ) → n ≤ length xs → ((k : ℕ) → k < n → is_white (get_or xs k 0) ≡ true) → words_of xs ≡ words_of (drop n xs)
-words_behind xs n l white =
+words_after : (xs : List ℕ) (n : ℕ) → n ≤ length xs → ((k : ℕ) → k < n → is_white (get_or xs k 0) ≡ true) → words_of xs ≡ words_of (drop n xs)
+words_after xs n l white =
     let len = length-take-le n xs l in
     ap words_of (sym (take-append-drop n xs)) ∙ words-skip (take n xs) (drop n xs) (λ k h.
     let below : k < n = omega (arith, len) in
@@ -151,9 +151,9 @@ pub words-none : (xs ys : List ℕ) (n m : ℕ) → m ≡ 0 → ys ≡ drop n xs
 words-none xs ys n m zero_is is l white stop none =
     let P : List ℕ → ℕ → Type 0 = λ zs k. k < length zs → is_white (get_or zs k 0) ≡ false → ⊥ in
     let here : P (drop n xs) 0 = subst (λ (zs : List ℕ). P zs 0) is (subst (P ys) zero_is none) in
-    words_behind xs n l white ∙ ap words_of (drop_all n xs (at_end xs n stop here))
+    words_after xs n l white ∙ ap words_of (drop_all n xs (at_end xs n stop here))
 
--- the first word behind the white space, and what follows it
+-- the first word after the white space, and what follows it
 words-found : (xs : List ℕ) (m : ℕ) → m ≤ length xs → 0 < m → ((k : ℕ) → k < m → is_white (get_or xs k 0) ≡ false) → (m < length xs → is_white (get_or xs m 0) ≡ false → ⊥) → words_of xs ≡ take m xs ∷ words_of (drop m xs)
 words-found xs m l filled black stop =
     let len = length-take-le m xs l in
@@ -173,10 +173,10 @@ word-found text within from n m ys is inside before skips white reads filled bla
     let rest : slice_range text (from + n) within.to ≡ ys = range-drop text from n within.to (omega arith) ∙ sym is in
     let word : slice_range text (from + n) (from + n + m) ≡ take m ys = range-take text (from + n) m within.to stops ∙ ap (take m) rest in
     let later : slice_range text (from + n + m) within.to ≡ drop m ys = range-drop text (from + n) m within.to stops ∙ ap (drop m) rest in
-    let skip = words_behind (slice_range text from within.to) n skips white in
+    let skip = words_after (slice_range text from within.to) n skips white in
     let found = words-found ys m reads filled black stop in
     record {
-      behind = omega arith;
+      no_earlier = omega arith;
       filled = omega arith;
       ends = stops;
       next_is = refl;

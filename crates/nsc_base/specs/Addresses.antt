@@ -66,7 +66,7 @@ abbrev pub between_colons : List ℕ → List (List ℕ)
 between_colons [] = []
 between_colons (b ∷ bytes) = fields_of 58 (b ∷ bytes)
 
--- what stands before the first `::` and what stands behind it
+-- what stands before the first `::` and what stands after it
 abbrev pub is_pair : ℕ → List ℕ → Bool
 is_pair b [] = false
 is_pair b (c ∷ bytes) = b == 58 && c == 58

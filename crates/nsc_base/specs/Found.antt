@@ -8,4 +8,4 @@ use Rattle.nsc_base.specs.Text.{IsLine}
 pub data FirstFrom {E : Type 0} (gives : Span → Option E → Type 0) (text : List ℕ) : ℕ → Option E → Type 0 where
   at_end : FirstFrom gives text (length text) None
   here : (from : ℕ) (line : Line) (entry : E) → IsLine text from line → gives line.span (Some entry) → FirstFrom gives text from (Some entry)
-  behind : (from : ℕ) (line : Line) (found : Option E) → IsLine text from line → gives line.span None → FirstFrom gives text line.next found → FirstFrom gives text from found
+  further : (from : ℕ) (line : Line) (found : Option E) → IsLine text from line → gives line.span None → FirstFrom gives text line.next found → FirstFrom gives text from found

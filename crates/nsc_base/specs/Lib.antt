@@ -2,5 +2,5 @@ pub mod Text
 pub mod Found
 pub mod Decimal
 pub mod Addresses
-pub mod Room
+pub mod Buf
 pub mod Nodes

@@ -18,7 +18,7 @@ pieces cuts (b ∷ bytes) = if cuts b then [] ∷ pieces cuts bytes else onto_fi
 abbrev pub fields_of : ℕ → List ℕ → List (List ℕ)
 fields_of cut bytes = pieces (λ b. b == cut) bytes
 
--- a newline ends a line, and so does the end of the text: behind a last newline no line stands
+-- a newline ends a line, and so does the end of the text: after a last newline no line stands
 abbrev pub lines_of : List ℕ → List (List ℕ)
 lines_of [] = []
 lines_of (b ∷ bytes) = if b == 10 then [] ∷ lines_of bytes else onto_first b (lines_of bytes)
@@ -58,11 +58,11 @@ pub record IsLine (text : List ℕ) (from : ℕ) (line : Line) : Type 0 where
   pub next_ends : line.next ≤ length text
   pub cut : lines_of (drop from text) ≡ part text line.span ∷ lines_of (drop line.next text)
 
--- the fields from this place on: none behind the last one
+-- the fields from this place on: none after the last one
 abbrev pub fields_between : ℕ → List ℕ → ℕ → ℕ → List (List ℕ)
 fields_between cut text from to = if nat_lt to from then [] else fields_of cut (slice_range text from to)
 
--- the field that begins at this place; the next one begins behind its separator
+-- the field that begins at this place; the next one begins after its separator
 pub record IsField (cut : ℕ) (text : List ℕ) (within : Span) (from : ℕ) (field : Line) : Type 0 where
   pub begins : field.span.from ≡ from
   pub ordered : from ≤ field.span.to
@@ -72,7 +72,7 @@ pub record IsField (cut : ℕ) (text : List ℕ) (within : Span) (from : ℕ) (f
 
 -- the first word from this place on, and the place where it ends
 pub record IsWord (text : List ℕ) (within : Span) (from : ℕ) (word : Line) : Type 0 where
-  pub behind : from ≤ word.span.from
+  pub no_earlier : from ≤ word.span.from
   pub filled : word.span.from < word.span.to
   pub ends : word.span.to ≤ within.to
   pub next_is : word.next ≡ word.span.to

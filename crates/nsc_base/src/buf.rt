@@ -14,9 +14,9 @@ pub struct Buf {
 impl Model for Buf {
     ghost use Rattle.std.specs.Prelude.{◌≤◌, length};
     ghost use Rattle.std.specs.Vec.{vec_capacity};
-    ghost use Rattle.nsc_base.specs.Room.{Room};
+    ghost use Rattle.nsc_base.specs.Buf.{Buf};
 
-    ghost Value = { Room };
+    ghost Value = { Buf };
 
     ghost view = { λ b. record { content = b.bytes.items; limit = b.limit } };
 
@@ -41,7 +41,7 @@ impl Buf {
         n <= self.limit - self.bytes.len()
     }
 
-    /// Puts bytes behind those that are there. The caller knows that they fit.
+    /// Puts bytes after those that are there. The caller knows that they fit.
     pub fn push(&mut self, bytes: &[u8])
         requires { length self.old.content + length bytes.now ≤ self.old.limit }
         ensures { self.new ≡ record { content = self.old.content ++ bytes.now; limit = self.old.limit } }

@@ -6,8 +6,8 @@ ghost use Rattle.nsc_base.specs.Text.{IsField, IsLine, IsWord, is_white, words_o
 use crate::span::{Line, Span};
 use memchr::memchr;
 
-/// The line of `text` that begins at the place `from`, without its newline, and the place behind the newline. `None`
-/// where no byte is left. A last line needs no newline, and behind a last newline no line begins.
+/// The line of `text` that begins at the place `from`, without its newline, and the place after the newline. `None`
+/// where no byte is left. A last line needs no newline, and after a last newline no line begins.
 pub fn line_at(text: &[u8], from: usize) -> Option<Line>
     requires { from ≤ length text.now }
     ensures none { IsNone result ↔ (from ≡ length text.now) }
@@ -33,7 +33,7 @@ pub fn line_at(text: &[u8], from: usize) -> Option<Line>
 }
 
 /// The field that begins at the place `from` of a part of `text`, up to the separator `cut` or the end of the part,
-/// and the place behind the separator. A part has one field more than separators. `None` where the last field is
+/// and the place after the separator. A part has one field more than separators. `None` where the last field is
 /// passed.
 pub fn field_at(text: &[u8], within: Span, from: usize, cut: u8) -> Option<Line>
     requires { within.to ≤ length text.now }
@@ -77,7 +77,7 @@ pub fn word_at(text: &[u8], within: Span, from: usize) -> Option<Line>
     })
 }
 
-/// What `entry_of` gives for the first line of the text for which it gives something: no line behind it is looked at.
+/// What `entry_of` gives for the first line of the text for which it gives something: no line after it is looked at.
 /// `None` where it gives nothing for any line. Takes no memory of its own.
 pub fn first_line<E, F: Fn(Span) -> Option<E>>(text: &[u8], entry_of: F) -> Option<E>
     requires { (line : Span) → line.from ≤ line.to → line.to ≤ length text.now → F.pre entry_of line }

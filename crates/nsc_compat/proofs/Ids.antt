@@ -17,7 +17,7 @@ use Rattle.nsc_compat.specs.Names.{SameNames}
 use Rattle.nsc_compat.specs.Pairs.{pair_of}
 use Rattle.nsc_compat.proofs.Scans.{with_name}
 
--- ---- ids behind others
+-- ---- ids after others
 
 all_joined : (ids these those : List ℕ) → all_ids ids (these ++ those) ≡ all_ids (all_ids ids these) those
 all_joined ids [] those = refl
@@ -81,19 +81,19 @@ gathered_same scan (line ∷ lines) these those same = line_same scan (says scan
 
 -- ---- line by line
 
--- what is gathered from some lines on, behind these ids
-abbrev pub behind_ids : IdScan → List ℕ → List (List ℕ) → List (List ℕ) → Option (List ℕ)
-behind_ids scan ids lines excluded = option_map (all_ids ids) (gathered scan lines excluded)
+-- what is gathered from some lines on, after these ids
+abbrev pub after_ids : IdScan → List ℕ → List (List ℕ) → List (List ℕ) → Option (List ℕ)
+after_ids scan ids lines excluded = option_map (all_ids ids) (gathered scan lines excluded)
 
-pub name_excluded : (scan : IdScan) (line name : List ℕ) (excluded more : List (List ℕ)) (ids : List ℕ) → Excludes name ≡ says scan.group_of line → SameNames more (name ∷ excluded) → (lines : List (List ℕ)) → behind_ids scan ids lines more ≡ behind_ids scan ids (line ∷ lines) excluded
+pub name_excluded : (scan : IdScan) (line name : List ℕ) (excluded more : List (List ℕ)) (ids : List ℕ) → Excludes name ≡ says scan.group_of line → SameNames more (name ∷ excluded) → (lines : List (List ℕ)) → after_ids scan ids lines more ≡ after_ids scan ids (line ∷ lines) excluded
 name_excluded scan line name excluded more ids is same lines =
     ap (option_map (all_ids ids)) (gathered_same scan lines more (name ∷ excluded) same ∙ ap (λ said. gather_line scan excluded said (gathered scan lines)) is)
 
 -- a line that adds ids
 ids_added : (scan : IdScan) (line : List ℕ) (excluded : List (List ℕ)) (ids now added : List ℕ) (said : Says Group) → ((next : List (List ℕ) → Option (List ℕ)) → before_ids added (next excluded) ≡ gather_line scan excluded said next) → said ≡ says scan.group_of line
-    → now ≡ all_ids ids added → (lines : List (List ℕ)) → behind_ids scan now lines excluded ≡ behind_ids scan ids (line ∷ lines) excluded
+    → now ≡ all_ids ids added → (lines : List (List ℕ)) → after_ids scan now lines excluded ≡ after_ids scan ids (line ∷ lines) excluded
 ids_added scan line excluded ids now added said adds is e lines =
-    ap (λ (those : List ℕ). behind_ids scan those lines excluded) e ∙ sym (before_added ids added (gathered scan lines excluded))
+    ap (λ (those : List ℕ). after_ids scan those lines excluded) e ∙ sym (before_added ids added (gathered scan lines excluded))
     ∙ ap (option_map (all_ids ids)) (adds (gathered scan lines) ∙ ap (λ s. gather_line scan excluded s (gathered scan lines)) is)
 
 none_before : (o : Option (List ℕ)) → before_ids [] o ≡ o
@@ -105,51 +105,51 @@ entry_adds scan excluded None next = none_before (next excluded)
 entry_adds scan excluded (Some g) next = refl
 
 pub entry_added : (scan : IdScan) (line : List ℕ) (excluded : List (List ℕ)) (ids now : List ℕ) (o : Option Group) → says_entry o ≡ says scan.group_of line → now ≡ all_ids ids (id_of_group scan excluded o)
-    → (lines : List (List ℕ)) → behind_ids scan now lines excluded ≡ behind_ids scan ids (line ∷ lines) excluded
+    → (lines : List (List ℕ)) → after_ids scan now lines excluded ≡ after_ids scan ids (line ∷ lines) excluded
 entry_added scan line excluded ids now o is e = ids_added scan line excluded ids now (id_of_group scan excluded o) (says_entry o) (entry_adds scan excluded o) is e
 
 pub found_added : (scan : IdScan) (line name : List ℕ) (fields : List (List ℕ)) (excluded : List (List ℕ)) (ids now : List ℕ) → Asks name fields ≡ says scan.group_of line → now ≡ all_ids ids (id_of_group scan excluded (scan.by_name name))
-    → (lines : List (List ℕ)) → behind_ids scan now lines excluded ≡ behind_ids scan ids (line ∷ lines) excluded
+    → (lines : List (List ℕ)) → after_ids scan now lines excluded ≡ after_ids scan ids (line ∷ lines) excluded
 found_added scan line name fields excluded ids now is e = ids_added scan line excluded ids now (id_of_group scan excluded (scan.by_name name)) (Asks name fields) (λ next. refl) is e
 
 pub pairs_added : (scan : IdScan) (line : List ℕ) (fields : List (List ℕ)) (excluded : List (List ℕ)) (ids now : List ℕ) → AsksAll fields ≡ says scan.group_of line → now ≡ all_ids ids (ids_of_pairs excluded scan.pairs)
-    → (lines : List (List ℕ)) → behind_ids scan now lines excluded ≡ behind_ids scan ids (line ∷ lines) excluded
+    → (lines : List (List ℕ)) → after_ids scan now lines excluded ≡ after_ids scan ids (line ∷ lines) excluded
 pairs_added scan line fields excluded ids now is e = ids_added scan line excluded ids now (ids_of_pairs excluded scan.pairs) (AsksAll fields) (λ next. refl) is e
 
 -- ---- the whole file
 
 -- what a line comes to
 abbrev pub LineGathers : IdScan → List ℕ → Bool → List ℕ → List ℕ → List (List ℕ) → List (List ℕ) → Type 0
-LineGathers scan line on ids now excluded more = (lines : List (List ℕ)) → where_on on (behind_ids scan now lines more) ≡ behind_ids scan ids (line ∷ lines) excluded
+LineGathers scan line on ids now excluded more = (lines : List (List ℕ)) → where_on on (after_ids scan now lines more) ≡ after_ids scan ids (line ∷ lines) excluded
 
 pub all_left : (o : Option (List ℕ)) → option_map (all_ids []) o ≡ option_map each_once o
 all_left None = refl
 all_left (Some ids) = ap Some (all_once ids)
 
-rest_cut : (scan : IdScan) (text : List ℕ) (from : ℕ) (line : Line) (ids : List ℕ) (excluded : List (List ℕ)) → IsLine text from line → behind_ids scan ids (lines_of (drop from text)) excluded ≡ behind_ids scan ids (part text line.span ∷ lines_of (drop line.next text)) excluded
-rest_cut scan text from line ids excluded is = ap (λ (lines : List (List ℕ)). behind_ids scan ids lines excluded) is.cut
+rest_cut : (scan : IdScan) (text : List ℕ) (from : ℕ) (line : Line) (ids : List ℕ) (excluded : List (List ℕ)) → IsLine text from line → after_ids scan ids (lines_of (drop from text)) excluded ≡ after_ids scan ids (part text line.span ∷ lines_of (drop line.next text)) excluded
+rest_cut scan text from line ids excluded is = ap (λ (lines : List (List ℕ)). after_ids scan ids lines excluded) is.cut
 
 pub line_gathered : (scan : IdScan) (text : List ℕ) (from : ℕ) (line : Line) (on : Bool) (ids now : List ℕ) (excluded more : List (List ℕ)) (answer : Option (List ℕ)) → IsLine text from line → LineGathers scan (part text line.span) on ids now excluded more
-    → on ≡ true → behind_ids scan ids (lines_of (drop from text)) excluded ≡ answer → behind_ids scan now (lines_of (drop line.next text)) more ≡ answer
+    → on ≡ true → after_ids scan ids (lines_of (drop from text)) excluded ≡ answer → after_ids scan now (lines_of (drop line.next text)) more ≡ answer
 line_gathered scan text from line on ids now excluded more answer is gathers goes left =
     let rest = lines_of (drop line.next text) in
-    sym (ap (λ v. where_on v (behind_ids scan now rest more)) goes) ∙ gathers rest ∙ sym (rest_cut scan text from line ids excluded is) ∙ left
+    sym (ap (λ v. where_on v (after_ids scan now rest more)) goes) ∙ gathers rest ∙ sym (rest_cut scan text from line ids excluded is) ∙ left
 
 none_gathered : (o : Option (List ℕ)) → None ≡ option_map each_once o → Unavail ≡ found_or_unavail o
 none_gathered None e = refl
 none_gathered (Some ids) e = absurd cc
 
 pub netgroup_reached : (scan : IdScan) (text : List ℕ) (from : ℕ) (line : Line) (on : Bool) (ids now : List ℕ) (excluded more : List (List ℕ)) (whole : Option (List ℕ)) → IsLine text from line → LineGathers scan (part text line.span) on ids now excluded more
-    → on ≡ false → behind_ids scan ids (lines_of (drop from text)) excluded ≡ option_map each_once whole → Unavail ≡ found_or_unavail whole
+    → on ≡ false → after_ids scan ids (lines_of (drop from text)) excluded ≡ option_map each_once whole → Unavail ≡ found_or_unavail whole
 netgroup_reached scan text from line on ids now excluded more whole is gathers stops left =
     let rest = lines_of (drop line.next text) in
-    none_gathered whole (sym (ap (λ v. where_on v (behind_ids scan now rest more)) stops) ∙ gathers rest ∙ sym (rest_cut scan text from line ids excluded is) ∙ left)
+    none_gathered whole (sym (ap (λ v. where_on v (after_ids scan now rest more)) stops) ∙ gathers rest ∙ sym (rest_cut scan text from line ids excluded is) ∙ left)
 
 some_gathered : (ids : List ℕ) (o : Option (List ℕ)) → Some ids ≡ option_map each_once o → found_ids ids ≡ found_or_unavail o
 some_gathered ids None e = absurd cc
 some_gathered ids (Some all) e = ap found_ids (let same : ids ≡ each_once all = cc in same)
 
-pub all_gathered : (scan : IdScan) (text : List ℕ) (from : ℕ) (ids : List ℕ) (excluded : List (List ℕ)) (whole : Option (List ℕ)) → from ≡ length text → behind_ids scan ids (lines_of (drop from text)) excluded ≡ option_map each_once whole → found_ids ids ≡ found_or_unavail whole
+pub all_gathered : (scan : IdScan) (text : List ℕ) (from : ℕ) (ids : List ℕ) (excluded : List (List ℕ)) (whole : Option (List ℕ)) → from ≡ length text → after_ids scan ids (lines_of (drop from text)) excluded ≡ option_map each_once whole → found_ids ids ≡ found_or_unavail whole
 all_gathered scan text from ids excluded whole last left =
     let none : drop from text ≡ [] = ap (λ (n : ℕ). drop n text) last ∙ drop-length text in
-    some_gathered ids whole (sym (ap (λ (bytes : List ℕ). behind_ids scan ids (lines_of bytes) excluded) none) ∙ left)
+    some_gathered ids whole (sym (ap (λ (bytes : List ℕ). after_ids scan ids (lines_of bytes) excluded) none) ∙ left)

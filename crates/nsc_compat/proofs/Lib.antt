@@ -1,5 +1,5 @@
 pub mod Held
-pub mod Marks
+pub mod Sayings
 pub mod Scans
 pub mod ByKind
 pub mod Ids

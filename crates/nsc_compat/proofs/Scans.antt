@@ -31,9 +31,9 @@ pub scanned_same : {A : Type 0} (scan : Scan A) (lines : List (List ℕ)) (these
 scanned_same scan [] these those same = refl
 scanned_same scan (line ∷ lines) these those same = line_same scan (says scan.entry_of line) these those (scanned scan lines) (scanned_same scan lines) same
 
--- behind a line that excludes a name
-pub behind_excluded : {A : Type 0} (scan : Scan A) (line name : List ℕ) (excluded more : List (List ℕ)) → Excludes name ≡ says scan.entry_of line → SameNames more (name ∷ excluded) → (lines : List (List ℕ)) → scanned scan lines more ≡ scanned scan (line ∷ lines) excluded
-behind_excluded scan line name excluded more is same lines =
+-- after a line that excludes a name
+pub after_excluded : {A : Type 0} (scan : Scan A) (line name : List ℕ) (excluded more : List (List ℕ)) → Excludes name ≡ says scan.entry_of line → SameNames more (name ∷ excluded) → (lines : List (List ℕ)) → scanned scan lines more ≡ scanned scan (line ∷ lines) excluded
+after_excluded scan line name excluded more is same lines =
     scanned_same scan lines more (name ∷ excluded) same ∙ ap (λ said. scan_line scan excluded said (scanned scan lines)) is
 
 -- a line that asks for the request itself comes to what is asked
@@ -47,7 +47,7 @@ ok_weaker (Err e) each h = tt
 
 -- ---- line by line
 
--- what a line comes to, where the lines behind it are looked at with these names excluded
+-- what a line comes to, where the lines after it are looked at with these names excluded
 abbrev pub ComesTo : {A : Type 0} → Scan A → List ℕ → List (List ℕ) → List (List ℕ) → Option Looked → Type 0
 ComesTo scan line excluded more outcome = (lines : List (List ℕ)) → looked_or outcome (scanned scan lines more) ≡ scanned scan (line ∷ lines) excluded
 
@@ -58,7 +58,7 @@ line_answers scan text from line excluded more outcome looked is comes answers l
     let rest = lines_of (drop line.next text) in
     sym (ap (λ o. looked_or o (scanned scan rest more)) answers) ∙ comes rest ∙ sym (ap (λ (lines : List (List ℕ)). scanned scan lines excluded) is.cut) ∙ left
 
--- and another one leaves the decision to the lines behind it
+-- and another one leaves the decision to the lines after it
 pub line_passed : {A : Type 0} (scan : Scan A) (text : List ℕ) (from : ℕ) (line : Line) (excluded more : List (List ℕ)) (outcome : Option Looked) → IsLine text from line → ComesTo scan (part text line.span) excluded more outcome
     → outcome ≡ None → scanned scan (lines_of (drop from text)) excluded ≡ scanned scan (lines_of text) [] → scanned scan (lines_of (drop line.next text)) more ≡ scanned scan (lines_of text) []
 line_passed scan text from line excluded more outcome is comes passes left =

@@ -4,11 +4,11 @@ use Rattle.nsc_base.specs.declared.span.Span.{Span}
 use Rattle.nsc_base.specs.Text.{LiesIn, fields_of, part}
 use Rattle.nsc_model.specs.Compat as compat
 use Rattle.nsc_model.specs.Compat.{Says, says_entry}
-use Rattle.nsc_compat.specs.declared.mark.Mark.{Mark}
-use Rattle.nsc_compat.specs.declared.mark.Mark.TheVariants.{Plain, Excludes, Asks, AsksAll, Netgroup, Nothing}
+use Rattle.nsc_compat.specs.declared.said.Said.{Said}
+use Rattle.nsc_compat.specs.declared.said.Said.TheVariants.{Plain, Excludes, Asks, AsksAll, Netgroup, Nothing}
 
 -- where the line, as an entry, is this one
-abbrev pub said_as : {A : Type 0} → List ℕ → Option A → Mark → Says A
+abbrev pub said_as : {A : Type 0} → List ℕ → Option A → Said → Says A
 said_as text entry Plain = says_entry entry
 said_as text entry (Excludes name) = compat.Excludes (part text name)
 said_as text entry (Asks name all) = compat.Asks (part text name) (fields_of 58 (part text all))
@@ -17,10 +17,10 @@ said_as text entry Netgroup = compat.Netgroup
 said_as text entry Nothing = compat.Nothing
 
 -- the places lie within a span
-abbrev pub MarkIn : Span → Mark → Type 0
-MarkIn within Plain = Unit {0}
-MarkIn within (Excludes name) = LiesIn within name
-MarkIn within (Asks name all) = LiesIn within name × LiesIn within all
-MarkIn within (AsksAll all) = LiesIn within all
-MarkIn within Netgroup = Unit {0}
-MarkIn within Nothing = Unit {0}
+abbrev pub SaidIn : Span → Said → Type 0
+SaidIn within Plain = Unit {0}
+SaidIn within (Excludes name) = LiesIn within name
+SaidIn within (Asks name all) = LiesIn within name × LiesIn within all
+SaidIn within (AsksAll all) = LiesIn within all
+SaidIn within Netgroup = Unit {0}
+SaidIn within Nothing = Unit {0}

@@ -27,7 +27,7 @@ users_asked asking = user_scan asking.content.now asking.kind asking.key.now (wa
 abbrev pub groups_asked : Asking → Scan Group
 groups_asked asking = group_scan asking.content.now asking.kind asking.key.now (wanted_group asking.wanted)
 
--- an outcome that a line has, or else that of the lines behind it
+-- an outcome that a line has, or else that of the lines after it
 abbrev pub looked_or : Option Looked → Looked → Looked
 looked_or None next = next
 looked_or (Some looked) next = looked

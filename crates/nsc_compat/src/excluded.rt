@@ -8,7 +8,7 @@ use std::collections::BTreeSet;
 use std::marker::Model;
 
 /// The names that minus lines have excluded so far, borrowed from the text that has them. They stand in order, so that
-/// many of them make no look-up slow.
+/// many of them make no lookup slow.
 #[derive(Drop)]
 pub struct Excluded<'a> {
     names: BTreeSet<&'a [u8]>,

@@ -9,7 +9,7 @@ ghost use Rattle.nsc_compat.specs.Wanted.{groups_asked, looked_or, wanted_group}
 
 use crate::asking::{Asking, Wanted, names_entry};
 use crate::excluded::Excluded;
-use crate::mark::{Mark, mark_of};
+use crate::said::{Said, line_says};
 use crate::sub::SubLookup;
 use nsc_accounts::{group_line, group_row};
 use nsc_base::{NoMemory, Span, line_at};
@@ -76,13 +76,13 @@ fn line_outcome<'t, S: SubLookup>(
     requires inside { line.to ≤ length text.now }
     ensures { IfOk result (λ outcome. (lines : List (List ℕ)) → looked_or outcome (scanned (groups_asked asking.now) lines excluded.new) ≡ scanned (groups_asked asking.now) (part text.now line ∷ lines) excluded.old) }
 {
-    match mark_of(text, line) {
-        Mark::Plain => own_group(alloc, asking, text, line, excluded),
-        Mark::Excludes(name) => {
+    match line_says(text, line) {
+        Said::Plain => own_group(alloc, asking, text, line, excluded),
+        Said::Excludes(name) => {
             excluded.add(&text[name.from..name.to])?;
             Ok(None)
         }
-        Mark::Asks { name, .. } => {
+        Said::Asks { name, .. } => {
             let found = sub.look(
                 alloc,
                 asking.content,
@@ -91,12 +91,12 @@ fn line_outcome<'t, S: SubLookup>(
             )?;
             Ok(named_group(asking, found, excluded))
         }
-        Mark::AsksAll { .. } => {
+        Said::AsksAll { .. } => {
             let found = sub.look(alloc, asking.content, asking.kind, asking.key)?;
             Ok(asked_group(found, excluded))
         }
-        Mark::Netgroup => Ok(Some(Looked::Unavail)),
-        Mark::Nothing => Ok(None),
+        Said::Netgroup => Ok(Some(Looked::Unavail)),
+        Said::Nothing => Ok(None),
     }
 }
 

@@ -5,7 +5,7 @@ mod asking;
 mod excluded;
 mod groups;
 mod lookup;
-mod mark;
+mod said;
 mod member_ids;
 mod sub;
 mod users;

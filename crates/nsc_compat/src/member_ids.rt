@@ -10,7 +10,7 @@ ghost use Rattle.nsc_compat.specs.Pairs.{pair_of};
 
 use crate::excluded::Excluded;
 use crate::groups::group_in;
-use crate::mark::{Mark, mark_of};
+use crate::said::{Said, line_says};
 use crate::sub::{NamedId, SubLookup};
 use nsc_accounts::{OnceIds, group_line, has_member};
 use nsc_base::{Ids, NoMemory, Span, equal, line_at};
@@ -64,7 +64,7 @@ fn gather<S: SubLookup>(
     Ok(outcome_of(ids.into_ids()))
 }
 
-// Adds the ids of a line, or excludes its name. False at a netgroup, behind which no line is looked at.
+// Adds the ids of a line, or excludes its name. False at a netgroup, after which no line is looked at.
 fn add_line<'t, S: SubLookup>(
     alloc: Global,
     member: &Member,
@@ -78,28 +78,28 @@ fn add_line<'t, S: SubLookup>(
     requires inside { line.to ≤ length text.now }
     ensures { IfOk result (λ on. (lines : List (List ℕ)) → where_on on (option_map (all_ids ids.new) (gathered (id_scan member.now.content.now member.now.user.now) lines excluded.new)) ≡ option_map (all_ids ids.old) (gathered (id_scan member.now.content.now member.now.user.now) (part text.now line ∷ lines) excluded.old)) }
 {
-    match mark_of(text, line) {
-        Mark::Plain => {
+    match line_says(text, line) {
+        Said::Plain => {
             add_own(text, line, member.user, excluded, ids)?;
             Ok(true)
         }
-        Mark::Excludes(name) => {
+        Said::Excludes(name) => {
             excluded.add(&text[name.from..name.to])?;
             Ok(true)
         }
-        Mark::Asks { name, .. } => {
+        Said::Asks { name, .. } => {
             let name = &text[name.from..name.to];
             let found = sub.look(alloc, member.content, Kind::GrName, name)?;
             add_found(found, member.user, excluded, ids)?;
             Ok(true)
         }
-        Mark::AsksAll { .. } => {
+        Said::AsksAll { .. } => {
             let groups = sub.named_groups(alloc, member.content, member.user)?;
             add_all(&groups, excluded, ids)?;
             Ok(true)
         }
-        Mark::Netgroup => Ok(false),
-        Mark::Nothing => Ok(true),
+        Said::Netgroup => Ok(false),
+        Said::Nothing => Ok(true),
     }
 }
 

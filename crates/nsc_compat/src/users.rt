@@ -9,7 +9,7 @@ ghost use Rattle.nsc_compat.specs.Wanted.{looked_or, users_asked, wanted_user};
 
 use crate::asking::{Asking, Wanted, names_entry};
 use crate::excluded::Excluded;
-use crate::mark::{Mark, mark_of};
+use crate::said::{Said, line_says};
 use crate::sub::SubLookup;
 use nsc_accounts::{exact_fields, passwd_line, user_row};
 use nsc_base::{Bytes, NoMemory, Span, line_at};
@@ -76,13 +76,13 @@ fn user_line<'t, S: SubLookup>(
     requires inside { line.to ≤ length text.now }
     ensures { IfOk result (λ outcome. (lines : List (List ℕ)) → looked_or outcome (scanned (users_asked asking.now) lines excluded.new) ≡ scanned (users_asked asking.now) (part text.now line ∷ lines) excluded.old) }
 {
-    match mark_of(text, line) {
-        Mark::Plain => own_user(alloc, asking, text, line, excluded),
-        Mark::Excludes(name) => {
+    match line_says(text, line) {
+        Said::Plain => own_user(alloc, asking, text, line, excluded),
+        Said::Excludes(name) => {
             excluded.add(&text[name.from..name.to])?;
             Ok(None)
         }
-        Mark::Asks { name, all } => {
+        Said::Asks { name, all } => {
             let found = sub.look(
                 alloc,
                 asking.content,
@@ -91,12 +91,12 @@ fn user_line<'t, S: SubLookup>(
             )?;
             named_user(alloc, asking, found, text, all, excluded)
         }
-        Mark::AsksAll { all } => {
+        Said::AsksAll { all } => {
             let found = sub.look(alloc, asking.content, asking.kind, asking.key)?;
             asked_user(alloc, found, text, all, excluded)
         }
-        Mark::Netgroup => Ok(Some(Looked::Unavail)),
-        Mark::Nothing => Ok(None),
+        Said::Netgroup => Ok(Some(Looked::Unavail)),
+        Said::Nothing => Ok(None),
     }
 }
 

@@ -1,4 +1,2 @@
 pub mod Lines
 pub mod Tables
-pub mod Sizes
-pub mod Told

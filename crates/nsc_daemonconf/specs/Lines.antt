@@ -17,8 +17,10 @@ use Rattle.nsc_daemonconf.specs.declared.attributes.DbAttribute.{DbAttribute}
 use Rattle.nsc_daemonconf.specs.declared.attributes.DbAttribute.TheVariants as database
 use Rattle.nsc_daemonconf.specs.declared.attributes.DaemonAttribute.{DaemonAttribute}
 use Rattle.nsc_daemonconf.specs.declared.attributes.DaemonAttribute.TheVariants as daemon
-use Rattle.nsc_daemonconf.specs.declared.attributes.Service.{Service}
-use Rattle.nsc_daemonconf.specs.declared.attributes.Service.TheVariants.{Database, Netgroup}
+use Rattle.nsc_daemonconf.specs.declared.attributes.ServiceName.{ServiceName}
+use Rattle.nsc_daemonconf.specs.declared.attributes.ServiceName.TheVariants.{Database, Netgroup}
+use Rattle.nsc_daemonconf.specs.declared.lines.ConfFault.{ConfFault}
+use Rattle.nsc_daemonconf.specs.declared.lines.ConfFault.TheVariants.{UnknownAttribute, BadLine, BadValue}
 
 -- ---- values
 
@@ -103,7 +105,7 @@ daemon_sets daemon.ServerUser w = no_effect (Some w)
 daemon_sets daemon.StatUser w = no_effect (Some w)
 
 -- the service of a name
-abbrev pub service_named : List ℕ → Option Service
+abbrev pub service_named : List ℕ → Option ServiceName
 service_named word =
     if bytes_eq word (codes "passwd") then Some (Database db.Passwd) else (
     if bytes_eq word (codes "group") then Some (Database db.Group) else (
@@ -112,7 +114,7 @@ service_named word =
     if bytes_eq word (codes "netgroup") then Some Netgroup else None))))
 
 -- the settings with those of one database changed so; netgroups are not cached, and a line about them changes nothing
-abbrev pub with_database : Service → (DbConf → DbConf) → Conf → Conf
+abbrev pub with_database : ServiceName → (DbConf → DbConf) → Conf → Conf
 with_database Netgroup change s = s
 with_database (Database db.Passwd) change s = record s { passwd = change s.passwd }
 with_database (Database db.Group) change s = record s { group = change s.group }
@@ -121,12 +123,10 @@ with_database (Database db.Services) change s = record s { services = change s.s
 
 -- ---- lines
 
--- why a line is refused: an attribute that is none; a number of words, or a service, that the attribute does not have; or a
--- value that is none of the attribute's
-pub data LineFault : Type 0 where
-  UnknownAttribute : LineFault
-  BadLine : LineFault
-  BadValue : LineFault
+-- why a line is refused, by its number: an attribute that is none; a number of words, or a service, that the attribute does
+-- not have; or a value that is none of the attribute's
+abbrev pub LineFault : Type 0
+LineFault = ℕ → ConfFault
 
 abbrev pub or_fault : {A : Type 0} → LineFault → Option A → Result A LineFault
 or_fault fault None = Err fault
@@ -137,7 +137,7 @@ abbrev ◌>>=◌ : {A B E : Type 0} → Result A E → (A → Result B E) → Re
 (Err e) >>= f = Err e
 (Ok x) >>= f = f x
 
--- what an attribute with these words behind it does
+-- what an attribute with these words after it does
 abbrev pub attribute_does : Attribute → List (List ℕ) → Result (Conf → Conf) LineFault
 attribute_does (OfDatabase attribute) (service ∷ value ∷ []) = do
   which ← or_fault BadLine (service_named service)
@@ -158,22 +158,21 @@ line_does line = words_do (words_of (before_remark line))
 
 -- ---- the whole text
 
--- a line that is refused, by its number from 1
-pub record Refused : Type 0 where
-  pub fault : LineFault
-  pub line : ℕ
-
--- one line behind settings, and then the lines behind it
-abbrev pub then_lines : ℕ → Conf → Result (Conf → Conf) LineFault → (Conf → Result Conf Refused) → Result Conf Refused
-then_lines n s (Err fault) next = Err (record { fault = fault; line = n })
+-- one line after settings, and then the lines after it
+abbrev pub then_lines : ℕ → Conf → Result (Conf → Conf) LineFault → (Conf → Result Conf ConfFault) → Result Conf ConfFault
+then_lines n s (Err fault) next = Err (fault n)
 then_lines n s (Ok change) next = next (change s)
+
+-- the settings with what one line does, or the fault of that line
+abbrev pub after_line : ℕ → Conf → Result (Conf → Conf) LineFault → Result Conf ConfFault
+after_line n s does = then_lines n s does (λ later. Ok later)
 
 -- each line in its order, the first of them with this number: a later one replaces an earlier one, and the first that is
 -- refused decides
-abbrev pub conf_from : ℕ → Conf → List (List ℕ) → Result Conf Refused
+abbrev pub conf_from : ℕ → Conf → List (List ℕ) → Result Conf ConfFault
 conf_from n s [] = Ok s
 conf_from n s (line ∷ lines) = then_lines n s (line_does line) (λ later. conf_from (n + 1) later lines)
 
 -- the settings that a text gives
-abbrev pub conf_of : List ℕ → Result Conf Refused
+abbrev pub conf_of : List ℕ → Result Conf ConfFault
 conf_of text = conf_from 1 default_settings (lines_of text)

@@ -2,7 +2,7 @@ ghost use Rattle.std.specs.Prelude.{◌≡◌, IfSome};
 ghost use Rattle.std.specs.Option.{option_map};
 ghost use Rattle.nsc_daemonconf.specs.Lines.{attribute_named, daemon_sets, database_sets, service_named};
 ghost use Rattle.nsc_daemonconf.specs.Tables.{found};
-ghost use Rattle.nsc_daemonconf.specs.Sizes.{SizeFits, SizesFit};
+ghost use Rattle.nsc_model.specs.Sizes.{SizeFits, SizesFit};
 
 use self::Attribute::{OfDaemon, OfDatabase};
 use self::DaemonAttribute::*;
@@ -66,9 +66,9 @@ pub enum DaemonAttribute {
     StatUser,
 }
 
-/// The service that a line is about.
+/// The name of the service that a line is about.
 #[derive(Clone, Copy, Debug)]
-pub enum Service {
+pub enum ServiceName {
     /// One of the databases.
     Database(Db),
     /// Netgroups, which are not cached.
@@ -98,12 +98,12 @@ static ATTRIBUTES: [(&[u8], Attribute); 18] = [
 ];
 
 // Each service by its name.
-static SERVICES: [(&[u8], Service); 5] = [
-    (b"passwd", Service::Database(Db::Passwd)),
-    (b"group", Service::Database(Db::Group)),
-    (b"hosts", Service::Database(Db::Hosts)),
-    (b"services", Service::Database(Db::Services)),
-    (b"netgroup", Service::Netgroup),
+static SERVICES: [(&[u8], ServiceName); 5] = [
+    (b"passwd", ServiceName::Database(Db::Passwd)),
+    (b"group", ServiceName::Database(Db::Group)),
+    (b"hosts", ServiceName::Database(Db::Hosts)),
+    (b"services", ServiceName::Database(Db::Services)),
+    (b"netgroup", ServiceName::Netgroup),
 ];
 
 // What stands beside a name in a table.
@@ -171,9 +171,9 @@ impl DaemonAttribute {
     }
 }
 
-impl Service {
+impl ServiceName {
     /// The service of this name. `None` where there is none.
-    pub fn named(word: &[u8]) -> Option<Service>
+    pub fn named(word: &[u8]) -> Option<ServiceName>
         ensures { result ≡ service_named word.now }
     {
         named(&SERVICES, word)

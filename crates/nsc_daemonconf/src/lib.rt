@@ -7,4 +7,3 @@ mod values;
 mod words;
 
 pub use lines::{ConfFault, read_conf};
-pub use nsc_model::{Conf, DbConf};

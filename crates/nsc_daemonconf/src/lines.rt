@@ -1,10 +1,9 @@
 ghost use Rattle.std.specs.Prelude.{◌≡◌, IfOk};
 ghost use Rattle.nsc_base.specs.Text.{words_of};
-ghost use Rattle.nsc_daemonconf.specs.Lines.{attribute_does, conf_of, line_does, with_database};
-ghost use Rattle.nsc_daemonconf.specs.Sizes.{SizeFits, SizesFit};
-ghost use Rattle.nsc_daemonconf.specs.Told.{after_line, conf_told};
+ghost use Rattle.nsc_daemonconf.specs.Lines.{after_line, attribute_does, conf_of, line_does, with_database};
+ghost use Rattle.nsc_model.specs.Sizes.{SizeFits, SizesFit};
 
-use crate::attributes::{Attribute, DaemonAttribute, DbAttribute, Service};
+use crate::attributes::{Attribute, DaemonAttribute, DbAttribute, ServiceName};
 use crate::words::{next_word, only_word, two_words, up_to_remark};
 use nsc_base::line_at;
 use nsc_model::{Conf, Db, DbConf};
@@ -38,7 +37,7 @@ pub enum ConfFault {
 /// nothing. Attributes, services and values are told by their exact bytes, but for `unlimited`. The first line at fault
 /// decides, and of its faults an unknown attribute before a bad line, and that before a bad value. Takes no memory.
 pub fn read_conf(text: &[u8]) -> Result<Conf, ConfFault>
-    ensures told { conf_told result ≡ conf_of text.now }
+    ensures told { result ≡ conf_of text.now }
 
     // Each database has a size that a cache can have.
     ensures sizes { IfOk result (λ conf. SizesFit conf) }
@@ -56,7 +55,7 @@ pub fn read_conf(text: &[u8]) -> Result<Conf, ConfFault>
 
 // The settings with what a line of this number says.
 fn with_line(conf: Conf, line: &[u8], number: u64) -> Result<Conf, ConfFault>
-    ensures told { conf_told result ≡ after_line number conf (line_does line.now) }
+    ensures told { result ≡ after_line number conf (line_does line.now) }
     ensures sizes { IfOk result (λ later. SizesFit conf → SizesFit later) }
 {
     let Some((word, rest)) = next_word(up_to_remark(line)) else {
@@ -69,26 +68,26 @@ fn with_line(conf: Conf, line: &[u8], number: u64) -> Result<Conf, ConfFault>
     }
 }
 
-// The settings with an attribute of one database, behind whose name a service and a value stand.
+// The settings with an attribute of one database, after whose name a service and a value stand.
 fn with_database_line(
     conf: Conf,
     attribute: DbAttribute,
     rest: &[u8],
     number: u64,
 ) -> Result<Conf, ConfFault>
-    ensures told { conf_told result ≡ after_line number conf (attribute_does (Attribute.OfDatabase attribute) (words_of rest.now)) }
+    ensures told { result ≡ after_line number conf (attribute_does (Attribute.OfDatabase attribute) (words_of rest.now)) }
     ensures sizes { IfOk result (λ later. SizesFit conf → SizesFit later) }
 {
     let bad_line = ConfFault::BadLine { line: number };
     let bad_value = ConfFault::BadValue { line: number };
     let (service, value) = two_words(rest).ok_or(bad_line)?;
-    match Service::named(service).ok_or(bad_line)? {
-        Service::Database(db) => {
+    match ServiceName::named(service).ok_or(bad_line)? {
+        ServiceName::Database(db) => {
             let changed = attribute.applied_to(conf.of(db), value).ok_or(bad_value)?;
             Ok(with_settings(conf, db, changed))
         }
         // The value is checked, at any settings, and then changes none.
-        Service::Netgroup => {
+        ServiceName::Netgroup => {
             attribute.applied_to(conf.passwd, value).ok_or(bad_value)?;
             Ok(conf)
         }
@@ -97,7 +96,7 @@ fn with_database_line(
 
 // The settings with those of one database replaced.
 fn with_settings(mut conf: Conf, db: Db, changed: DbConf) -> Conf
-    ensures with { result ≡ with_database (Service.Database db) (λ _. changed) conf }
+    ensures with { result ≡ with_database (ServiceName.Database db) (λ _. changed) conf }
     ensures sizes { SizesFit conf → SizeFits changed → SizesFit result }
 {
     match db {
@@ -109,14 +108,14 @@ fn with_settings(mut conf: Conf, db: Db, changed: DbConf) -> Conf
     conf
 }
 
-// The settings with an attribute of the daemon, behind whose name a value stands.
+// The settings with an attribute of the daemon, after whose name a value stands.
 fn with_daemon_line(
     conf: Conf,
     attribute: DaemonAttribute,
     rest: &[u8],
     number: u64,
 ) -> Result<Conf, ConfFault>
-    ensures told { conf_told result ≡ after_line number conf (attribute_does (Attribute.OfDaemon attribute) (words_of rest.now)) }
+    ensures told { result ≡ after_line number conf (attribute_does (Attribute.OfDaemon attribute) (words_of rest.now)) }
     ensures sizes { IfOk result (λ later. SizesFit conf → SizesFit later) }
 {
     let bad_line = ConfFault::BadLine { line: number };

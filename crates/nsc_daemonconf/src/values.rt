@@ -25,7 +25,7 @@ pub fn size(word: &[u8]) -> Option<u32>
     }
 }
 
-/// The limit of reloads that a word gives: `unlimited` in letters of either case, or a number, in decimal or, behind `0x`,
+/// The limit of reloads that a word gives: `unlimited` in letters of either case, or a number, in decimal or, after `0x`,
 /// in hexadecimal. `Some(None)` where there is no limit, as at 255 and above; `None` where the word gives none of these.
 pub fn reloads(word: &[u8]) -> Option<Option<u32>>
     ensures { result ≡ reloads_of word.now }

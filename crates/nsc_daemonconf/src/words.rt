@@ -15,7 +15,7 @@ pub fn up_to_remark(line: &[u8]) -> &[u8]
     }
 }
 
-/// The first word of a text, and the text behind it. `None` where it has no word.
+/// The first word of a text, and the text after it. `None` where it has no word.
 pub fn next_word(text: &[u8]) -> Option<(&[u8], &[u8])>
     ensures { MatchOption result (words_of text.now ≡ []) (λ w. words_of text.now ≡ w.0.now ∷ words_of w.1.now) }
 {

@@ -7,7 +7,7 @@ use nsc_base::{Ids, NoMemory, decimal};
 use nsc_model::{Looked, Row};
 use std::alloc::Global;
 
-/// The outcome of a look-up of a group's name over the text of a group file. Fails only for want of memory.
+/// The outcome of a lookup of a group's name over the text of a group file. Fails only for want of memory.
 pub fn group_by_name(alloc: Global, text: &[u8], name: &[u8]) -> Result<Looked, NoMemory>
     ensures { IfOk result (λ looked. looked ≡ file_entry Row.Group group_of_line (group_named name.now) (Some text.now)) }
 {
@@ -17,7 +17,7 @@ pub fn group_by_name(alloc: Global, text: &[u8], name: &[u8]) -> Result<Looked, 
     }
 }
 
-/// The outcome of a look-up of a group's id, as a key in decimal, over the text of a group file. A key that is no number
+/// The outcome of a lookup of a group's id, as a key in decimal, over the text of a group file. A key that is no number
 /// names no group. Fails only for want of memory.
 pub fn group_by_id(alloc: Global, text: &[u8], key: &[u8]) -> Result<Looked, NoMemory>
     ensures { IfOk result (λ looked. looked ≡ file_entry Row.Group group_of_line (group_numbered key.now) (Some text.now)) }
@@ -31,7 +31,7 @@ pub fn group_by_id(alloc: Global, text: &[u8], key: &[u8]) -> Result<Looked, NoM
     }
 }
 
-/// The outcome of a look-up of the groups of a user over the text of a group file: their ids, and not found where there
+/// The outcome of a lookup of the groups of a user over the text of a group file: their ids, and not found where there
 /// is none. Fails only for want of memory.
 pub fn groups_of_user(alloc: Global, text: &[u8], user: &[u8]) -> Result<Looked, NoMemory>
     ensures { IfOk result (λ looked. looked ≡ file_ids user.now (Some text.now)) }

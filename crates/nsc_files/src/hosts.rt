@@ -11,7 +11,7 @@ use nsc_model::{Host, Looked, Row};
 use nsc_nets::{HostAt, ai_of, find_host, find_host_by_addr};
 use std::alloc::Global;
 
-/// The outcome of a look-up of a host's name and a family of addresses, 2 for IPv4 and 10 for IPv6, over the text of a
+/// The outcome of a lookup of a host's name and a family of addresses, 2 for IPv4 and 10 for IPv6, over the text of a
 /// hosts file. Fails only for want of memory.
 pub fn host_by_name(alloc: Global, text: &[u8], name: &[u8], family: u8) -> Result<Looked, NoMemory>
     ensures { IfOk result (λ looked. looked ≡ file_entry Row.Host host_of_line (host_named family name.now) (Some text.now)) }
@@ -19,7 +19,7 @@ pub fn host_by_name(alloc: Global, text: &[u8], name: &[u8], family: u8) -> Resu
     host_found(alloc, text, find_host(text, name, family))
 }
 
-/// The outcome of a look-up of an address, as its four or sixteen bytes, over the text of a hosts file. Bytes of another
+/// The outcome of a lookup of an address, as its four or sixteen bytes, over the text of a hosts file. Bytes of another
 /// length are no address, and name no host. Fails only for want of memory.
 pub fn host_by_address(alloc: Global, text: &[u8], address: &[u8]) -> Result<Looked, NoMemory>
     ensures { IfOk result (λ looked. looked ≡ file_entry Row.Host host_of_line (host_addressed address.now) (Some text.now)) }
@@ -27,7 +27,7 @@ pub fn host_by_address(alloc: Global, text: &[u8], address: &[u8]) -> Result<Loo
     host_found(alloc, text, find_host_by_addr(text, address))
 }
 
-/// The outcome of a look-up of all addresses of a host over the text of a hosts file: those of the first entry of each
+/// The outcome of a lookup of all addresses of a host over the text of a hosts file: those of the first entry of each
 /// family. Fails only for want of memory.
 pub fn addresses_by_name(alloc: Global, text: &[u8], name: &[u8]) -> Result<Looked, NoMemory>
     ensures { IfOk result (λ looked. looked ≡ file_addresses name.now (Some text.now)) }

@@ -12,7 +12,7 @@ use nsc_model::{Looked, Row, Service};
 use nsc_nets::{ServiceAt, find_service, find_service_by_port};
 use std::alloc::Global;
 
-/// The outcome of a look-up of a service's name over the text of a services file. The key is the name, and behind its
+/// The outcome of a lookup of a service's name over the text of a services file. The key is the name, and after its
 /// last slash the protocol; without a slash, or with an empty protocol, any protocol will do. Fails only for want of
 /// memory.
 pub fn service_by_name(alloc: Global, text: &[u8], key: &[u8]) -> Result<Looked, NoMemory>
@@ -22,8 +22,8 @@ pub fn service_by_name(alloc: Global, text: &[u8], key: &[u8]) -> Result<Looked,
     service_found(alloc, text, find_service(text, name, proto))
 }
 
-/// The outcome of a look-up of a service's port over the text of a services file. The key is the port in decimal, with its
-/// two bytes exchanged, and behind its last slash the protocol as in `service_by_name`. A key that has no port names no
+/// The outcome of a lookup of a service's port over the text of a services file. The key is the port in decimal, with its
+/// two bytes exchanged, and after its last slash the protocol as in `service_by_name`. A key that has no port names no
 /// service. Fails only for want of memory.
 pub fn service_by_port(alloc: Global, text: &[u8], key: &[u8]) -> Result<Looked, NoMemory>
     ensures { IfOk result (λ looked. looked ≡ file_entry Row.Service service_of_line (key_ported (service_key key.now)) (Some text.now)) }
@@ -35,7 +35,7 @@ pub fn service_by_port(alloc: Global, text: &[u8], key: &[u8]) -> Result<Looked,
     service_found(alloc, text, find_service_by_port(text, port, proto))
 }
 
-// What stands before the last slash of a key and what stands behind it; the whole key and nothing where it has none.
+// What stands before the last slash of a key and what stands after it; the whole key and nothing where it has none.
 fn parts(key: &[u8]) -> (&[u8], &[u8])
     ensures { record { asked = result.0.now; proto = result.1.now } ≡ service_key key.now }
 {

@@ -7,7 +7,7 @@ use nsc_base::{NoMemory, decimal};
 use nsc_model::{Looked, Row};
 use std::alloc::Global;
 
-/// The outcome of a look-up of a user's name over the text of a passwd file. Fails only for want of memory.
+/// The outcome of a lookup of a user's name over the text of a passwd file. Fails only for want of memory.
 pub fn user_by_name(alloc: Global, text: &[u8], name: &[u8]) -> Result<Looked, NoMemory>
     ensures { IfOk result (λ looked. looked ≡ file_entry Row.Passwd user_of_line (user_named name.now) (Some text.now)) }
 {
@@ -17,7 +17,7 @@ pub fn user_by_name(alloc: Global, text: &[u8], name: &[u8]) -> Result<Looked, N
     }
 }
 
-/// The outcome of a look-up of a user's id, as a key in decimal, over the text of a passwd file. A key that is no number
+/// The outcome of a lookup of a user's id, as a key in decimal, over the text of a passwd file. A key that is no number
 /// names no user. Fails only for want of memory.
 pub fn user_by_id(alloc: Global, text: &[u8], key: &[u8]) -> Result<Looked, NoMemory>
     ensures { IfOk result (λ looked. looked ≡ file_entry Row.Passwd user_of_line (user_numbered key.now) (Some text.now)) }

@@ -8,9 +8,9 @@ use Rattle.nsc_model.specs.declared.answer.Request.{Request}
 use Rattle.nsc_model.specs.declared.record.Ending.TheVariants.{Invalidated}
 use Rattle.nsc_model.specs.declared.record.Record.{Record}
 use Rattle.nsc_model.specs.declared.record.Record.TheVariants.{Change, Load, End, Invalid}
-use Rattle.nsc_model.specs.Files as files
+use Rattle.nsc_model.specs.Content.{Content}
 use Rattle.nsc_model.specs.Files.{part_of}
-use Rattle.nsc_model.specs.Fixed.{Fixed}
+use Rattle.nsc_model.specs.Entry.{Entry}
 use Rattle.nsc_model.specs.Answers.{answer_of}
 use Rattle.nsc_model.specs.History.{changes, invalidations, newest, version_in, HasLoad, HasEnd, IsLive, WasPolled, Legal, IsPrefix, FromEntry, FromPoll, LooksAt}
 use Rattle.nsc_laws.specs.Origins.{IsOfCallers, IsAnswer}
@@ -22,7 +22,7 @@ record Asks (seen history : List Record) (n : ℕ) : Type 0 where
   moment : List Record
   is_moment : IsPrefix moment history
   later : length seen < length moment
-  behind_first : 1 < length moment
+  past_first : 1 < length moment
   looks : LooksAt moment n
 
 -- what a caller knows is true of the history
@@ -32,9 +32,9 @@ record Told (history : List Record) (c : Caller) : Type 0 where
   polled_since : (k n : ℕ) → c.noted ≡ Some k → c.version ≡ Some n → k ≡ invalidations history → WasPolled history n
   version_before : (n : ℕ) → c.version ≡ Some n → n < changes history
   asked_before : (n : ℕ) → c.asked ≡ Some n → n < changes history
-  taken_was : (e : Fixed) → c.taken ≡ Some e → HasLoad history e
-  taken_is : (e : Fixed) → c.taken ≡ Some e → c.request ≡ Some e.request
-  taken_lives : (e : Fixed) → c.taken ≡ Some e → HasEnd c.seen e.number → ⊥
+  taken_was : (e : Entry) → c.taken ≡ Some e → HasLoad history e
+  taken_is : (e : Entry) → c.taken ≡ Some e → c.request ≡ Some e.request
+  taken_lives : (e : Entry) → c.taken ≡ Some e → HasEnd c.seen e.number → ⊥
   asks : (n : ℕ) → c.asked ≡ Some n → Asks c.seen history n
 
 record Sound (core : Core) : Type 0 where
@@ -53,10 +53,10 @@ told_more r h c t = record {
   taken_was = λ e is. load_more r h e (t.taken_was e is);
   taken_is = t.taken_is;
   taken_lives = t.taken_lives;
-  asks = λ n is. let a = t.asks n is in record { moment = a.moment; is_moment = prefix_more r a.moment h a.is_moment; later = a.later; behind_first = a.behind_first; looks = a.looks };
+  asks = λ n is. let a = t.asks n is in record { moment = a.moment; is_moment = prefix_more r a.moment h a.is_moment; later = a.later; past_first = a.past_first; looks = a.looks };
 }
 
-told_ended : (entries : List Fixed) (h : List Record) (c : Caller) → Told h c → Told (ended_all entries h) c
+told_ended : (entries : List Entry) (h : List Record) (c : Caller) → Told h c → Told (ended_all entries h) c
 told_ended [] h c t = t
 told_ended (e ∷ entries) h c t = told_ended entries (End e.number Invalidated ∷ h) c (told_more (End e.number Invalidated) h c t)
 
@@ -106,10 +106,10 @@ misses h c t = record {
   asks = t.asks;
 }
 
-abbrev pub taking : Caller → Fixed → Caller
+abbrev pub taking : Caller → Entry → Caller
 taking c e = record c { taken = Some e }
 
-takes : (h : List Record) (c : Caller) (e : Fixed) → IsLive h e → c.request ≡ Some e.request → Told h c → Told h (taking c e)
+takes : (h : List Record) (c : Caller) (e : Entry) → IsLive h e → c.request ≡ Some e.request → Told h c → Told h (taking c e)
 takes h c e live request t = record {
   seen_before = t.seen_before;
   noted_before = t.noted_before;
@@ -117,8 +117,8 @@ takes h c e live request t = record {
   version_before = t.version_before;
   asked_before = t.asked_before;
   taken_was = λ f is. subst (HasLoad h) (same_Some e f is) live.inserted;
-  taken_is = λ f is. subst (λ (x : Fixed). c.request ≡ Some x.request) (same_Some e f is) request;
-  taken_lives = λ f is. subst (λ (x : Fixed). HasEnd c.seen x.number → ⊥) (same_Some e f is) (not_ended_before c.seen h e.number t.seen_before live.not_ended);
+  taken_is = λ f is. subst (λ (x : Entry). c.request ≡ Some x.request) (same_Some e f is) request;
+  taken_lives = λ f is. subst (λ (x : Entry). HasEnd c.seen x.number → ⊥) (same_Some e f is) (not_ended_before c.seen h e.number t.seen_before live.not_ended);
   asks = t.asks;
 }
 
@@ -138,10 +138,10 @@ notes h c t = record {
   asks = t.asks;
 }
 
-abbrev pub fetching : Caller → files.Files → Caller
+abbrev pub fetching : Caller → Content → Caller
 fetching c content = record c { fetched = Some content }
 
-fetches : (h : List Record) (c : Caller) (content : files.Files) → Told h c → Told h (fetching c content)
+fetches : (h : List Record) (c : Caller) (content : Content) → Told h c → Told h (fetching c content)
 fetches h c content t = record {
   seen_before = t.seen_before;
   noted_before = t.noted_before;
@@ -175,20 +175,20 @@ polls h c poll n some below was looks t = record {
   more = told_more poll h c t
 
   asked : Asks c.seen (poll ∷ h) n
-  asked = record { moment = poll ∷ h; is_moment = ([], refl); later = let low : length c.seen ≤ length h = prefix_length c.seen h t.seen_before in omega arith; behind_first = omega arith; looks = looks }
+  asked = record { moment = poll ∷ h; is_moment = ([], refl); later = let low : length c.seen ≤ length h = prefix_length c.seen h t.seen_before in omega arith; past_first = omega arith; looks = looks }
 
--- what is known behind a poll
+-- what is known after a poll
 record IsLook (h : List Record) (poll : Record) (n : ℕ) : Type 0 where
   legal : Legal (poll ∷ h)
   below : n < changes (poll ∷ h)
   was : WasPolled (poll ∷ h) n
   looks : LooksAt (poll ∷ h) n
 
-pub change_legal : (h : List Record) (n : ℕ) (content : files.Files) → Legal h → n ≡ changes h → newest h ≢ Some content → Legal (Change n content ∷ h)
+pub change_legal : (h : List Record) (n : ℕ) (content : Content) → Legal h → n ≡ changes h → newest h ≢ Some content → Legal (Change n content ∷ h)
 change_legal [] n content l e d = absurd l
 change_legal (r ∷ h) n content l e d = (l, e, d)
 
-is_look : (h : List Record) (content : files.Files) (poll : Record) (n : ℕ) → Legal h → IsPoll h content poll n → IsLook h poll n
+is_look : (h : List Record) (content : Content) (poll : Record) (n : ℕ) → Legal h → IsPoll h content poll n → IsLook h poll n
 is_look h content poll n l (inl same) = subst (λ (r : Record). IsLook h r n) (sym same.2) (record { legal = (l, same.1); below = let next : n + 1 ≡ changes h = same.1 in omega arith; was = inl refl; looks = refl })
 is_look h content poll n l (inr other) = subst (λ (r : Record). IsLook h r n) (sym other.2) (record { legal = change_legal h n content l other.1 other.0; below = let new : n ≡ changes h = other.1 in omega arith; was = inl refl; looks = refl })
 
@@ -199,7 +199,7 @@ some_record (r ∷ h) l = omega arith
 abbrev pub after_poll : Core → ℕ → Record → ℕ → Core
 after_poll core a poll n = record core { history = poll ∷ core.history; callers = with_caller core.callers a (polling (core.callers a) n) }
 
-poll_sound : (core : Core) (a : ℕ) (content : files.Files) (poll : Record) (n : ℕ) → Sound core → IsPoll core.history content poll n → Sound (after_poll core a poll n)
+poll_sound : (core : Core) (a : ℕ) (content : Content) (poll : Record) (n : ℕ) → Sound core → IsPoll core.history content poll n → Sound (after_poll core a poll n)
 poll_sound core a content poll n s is =
     let look = is_look core.history content poll n s.legal is in
     record {
@@ -215,15 +215,15 @@ gaining core r = record core { history = r ∷ core.history }
 gains : (core : Core) (r : Record) → Sound core → Legal (r ∷ core.history) → Sound (gaining core r)
 gains core r s l = record { legal = l; told = λ a. told_more r core.history (core.callers a) (s.told a) }
 
-load_legal : (h : List Record) (c : Caller) (timeout : ℕ) (e : Fixed) → Legal h → Told h c → Inserts h c timeout e → Legal (Load e ∷ h)
+load_legal : (h : List Record) (c : Caller) (timeout : ℕ) (e : Entry) → Legal h → Told h c → Inserts h c timeout e → Legal (Load e ∷ h)
 load_legal h c timeout e l t i = (l, i.number_is, i.none_live, (i.content, i.held, i.answer_is), t.polled_since (invalidations h) e.version i.noted_is i.version_is refl)
 
 -- ---- an invalidation
 
-abbrev emptied : Core → List Fixed → Core
+abbrev emptied : Core → List Entry → Core
 emptied core entries = record core { history = Invalid (invalidations core.history + 1) ∷ ended_all entries core.history }
 
-empty_sound : (core : Core) (entries : List Fixed) → Sound core → AreLive core.history entries → Sound (emptied core entries)
+empty_sound : (core : Core) (entries : List Entry) → Sound core → AreLive core.history entries → Sound (emptied core entries)
 empty_sound core entries s are =
     let h = core.history in
     let same : invalidations (ended_all entries h) ≡ invalidations h = same_invalidations entries h in
@@ -268,7 +268,7 @@ new_told h = record {
   asks = λ n is. absurd (none-some n is);
 }
 
-opening_sound : (db : Db) (sources : files.Files) → Sound (opening db sources)
+opening_sound : (db : Db) (sources : Content) → Sound (opening db sources)
 opening_sound db sources = record { legal = refl; told = λ a. new_told (Change 0 (part_of db sources) ∷ []) }
 
 -- ---- replies
@@ -277,7 +277,7 @@ abbrev Source : Core → ℕ → Request → List ℕ → Type 0
 Source core a request bytes = FromEntry (core.callers a).seen core.history request bytes ⊎ FromPoll (core.callers a).seen core.history request bytes
 
 answers_by : (core : Core) (a : ℕ) (bytes : List ℕ) → Told core.history (core.callers a) → (request : Request) → (core.callers a).request ≡ Some request
-    → ((e : Fixed) × ((core.callers a).taken ≡ Some e) × (e.answer.bytes ≡ bytes)) ⊎ ((n : ℕ) × (content : files.Files) × ((core.callers a).asked ≡ Some n) × (version_in core.history n ≡ Some content) × ((answer_of content request).bytes ≡ bytes))
+    → ((e : Entry) × ((core.callers a).taken ≡ Some e) × (e.answer.bytes ≡ bytes)) ⊎ ((n : ℕ) × (content : Content) × ((core.callers a).asked ≡ Some n) × (version_in core.history n ≡ Some content) × ((answer_of content request).bytes ≡ bytes))
     → (source : Source core a request bytes) × IsOfCallers source
 answers_by core a bytes t request is (inl took) = (
   inl (record {
@@ -301,7 +301,7 @@ answers_by core a bytes t request is (inr asked) =
         holds = asked.3;
         said = asked.4;
       }),
-      asks.behind_first,
+      asks.past_first,
     )
 
 replies_answer : (core : Core) → Sound core → (a : ℕ) (bytes : List ℕ) (reply : Replies core a bytes) → IsAnswer (core.callers a).seen core.history reply.request bytes
@@ -311,21 +311,21 @@ replies_answer core s a bytes reply =
 
 -- ---- the law
 
-pub legal_law : (db : Db) (sources : files.Files) (moves : List Move) (new : Core) → Runs db moves (opening db sources) new → Legal new.history
+pub legal_law : (db : Db) (sources : Content) (moves : List Move) (new : Core) → Runs db moves (opening db sources) new → Legal new.history
 legal_law db sources moves new r = (run_kept db moves (opening db sources) new (opening_sound db sources) r).legal
 
-pub replies_law : (db : Db) (sources : files.Files) (moves : List Move) (new : Core) → Runs db moves (opening db sources) new → (a : ℕ) (bytes : List ℕ) (reply : Replies new a bytes) → IsAnswer (new.callers a).seen new.history reply.request bytes
+pub replies_law : (db : Db) (sources : Content) (moves : List Move) (new : Core) → Runs db moves (opening db sources) new → (a : ℕ) (bytes : List ℕ) (reply : Replies new a bytes) → IsAnswer (new.callers a).seen new.history reply.request bytes
 replies_law db sources moves new r = replies_answer new (run_kept db moves (opening db sources) new (opening_sound db sources) r)
 
-pub answered_law : (db : Db) (sources : files.Files) (moves : List Move) (new : Core) → Runs db moves (opening db sources) new → RepliesAnswer new
+pub answered_law : (db : Db) (sources : Content) (moves : List Move) (new : Core) → Runs db moves (opening db sources) new → RepliesAnswer new
 answered_law db sources moves new r a bytes reply = (replies_law db sources moves new r a bytes reply).answered
 
-pub polled_law : (db : Db) (sources : files.Files) (moves : List Move) (new : Core) → Runs db moves (opening db sources) new → (a n : ℕ) → (new.callers a).asked ≡ Some n → (content : files.Files) × (version_in new.history n ≡ Some content)
+pub polled_law : (db : Db) (sources : Content) (moves : List Move) (new : Core) → Runs db moves (opening db sources) new → (a n : ℕ) → (new.callers a).asked ≡ Some n → (content : Content) × (version_in new.history n ≡ Some content)
 polled_law db sources moves new r a n is =
     let s = run_kept db moves (opening db sources) new (opening_sound db sources) r in
     version_held new.history n s.legal ((s.told a).asked_before n is)
 
-pub version_law : (db : Db) (sources : files.Files) (moves : List Move) (new : Core) → Runs db moves (opening db sources) new → (a n : ℕ) → (new.callers a).version ≡ Some n → (content : files.Files) × (version_in new.history n ≡ Some content)
+pub version_law : (db : Db) (sources : Content) (moves : List Move) (new : Core) → Runs db moves (opening db sources) new → (a n : ℕ) → (new.callers a).version ≡ Some n → (content : Content) × (version_in new.history n ≡ Some content)
 version_law db sources moves new r a n is =
     let s = run_kept db moves (opening db sources) new (opening_sound db sources) r in
     version_held new.history n s.legal ((s.told a).version_before n is)

@@ -6,8 +6,8 @@ use Rattle.nsc_model.specs.declared.kind.Db.{Db}
 use Rattle.nsc_model.specs.declared.record.Ending.{Ending}
 use Rattle.nsc_model.specs.declared.record.Record.{Record}
 use Rattle.nsc_model.specs.declared.record.Record.TheVariants.{Change, Poll, Load, End, Invalid}
-use Rattle.nsc_model.specs.Files as files
-use Rattle.nsc_model.specs.Fixed.{Fixed}
+use Rattle.nsc_model.specs.Content.{Content}
+use Rattle.nsc_model.specs.Entry.{Entry}
 use Rattle.nsc_model.specs.History.{loads, invalidations, IsLive, Legal}
 use Rattle.nsc_laws.specs.Core.{Core, opening, Among, Rise, ended_all, AreLive, Move, Empty, Moves, Runs}
 use Rattle.nsc_laws.proofs.Prefixes.{load_below, end_below}
@@ -16,55 +16,55 @@ use Rattle.nsc_laws.proofs.CoreLaw.{legal_law}
 
 -- ---- lists of entries in rising number
 
-pub among_more : (entries : List Fixed) (f e : Fixed) → Among (entries ++ f ∷ []) e → Among entries e ⊎ (f ≡ e)
+pub among_more : (entries : List Entry) (f e : Entry) → Among (entries ++ f ∷ []) e → Among entries e ⊎ (f ≡ e)
 among_more [] f e (inl same) = inr same
 among_more [] f e (inr a) = absurd a
 among_more (x ∷ entries) f e (inl same) = inl (inl same)
 among_more (x ∷ entries) f e (inr a) = elim (among_more entries f e a) [ inl b ↦ inl (inr b) | inr same ↦ inr same ]
 
-pub among_first : (entries : List Fixed) (f e : Fixed) → Among entries e → Among (entries ++ f ∷ []) e
+pub among_first : (entries : List Entry) (f e : Entry) → Among entries e → Among (entries ++ f ∷ []) e
 among_first [] f e a = absurd a
 among_first (x ∷ entries) f e (inl same) = inl same
 among_first (x ∷ entries) f e (inr a) = inr (among_first entries f e a)
 
-pub among_last : (entries : List Fixed) (f : Fixed) → Among (entries ++ f ∷ []) f
+pub among_last : (entries : List Entry) (f : Entry) → Among (entries ++ f ∷ []) f
 among_last [] f = inl refl
 among_last (x ∷ entries) f = inr (among_last entries f)
 
-pub rise_first : (e : Fixed) (entries : List Fixed) → ((f : Fixed) → Among entries f → e.number < f.number) → Rise entries → Rise (e ∷ entries)
+pub rise_first : (e : Entry) (entries : List Entry) → ((f : Entry) → Among entries f → e.number < f.number) → Rise entries → Rise (e ∷ entries)
 rise_first e [] low r = tt
 rise_first e (f ∷ entries) low r = (low f (inl refl), r)
 
-pub rise_last : (entries : List Fixed) (f : Fixed) → ((e : Fixed) → Among entries e → e.number < f.number) → Rise entries → Rise (entries ++ f ∷ [])
+pub rise_last : (entries : List Entry) (f : Entry) → ((e : Entry) → Among entries e → e.number < f.number) → Rise entries → Rise (entries ++ f ∷ [])
 rise_last [] f low r = tt
 rise_last (e ∷ []) f low r = (low e (inl refl), tt)
 rise_last (e ∷ g ∷ entries) f low r = (r.0, rise_last (g ∷ entries) f (λ x a. low x (inr a)) r.1)
 
 -- the entries but those of this number
-without : List Fixed → ℕ → List Fixed
+without : List Entry → ℕ → List Entry
 without [] k = []
 without (e ∷ entries) k = cond (eqb e.number k) (without entries k) (e ∷ without entries k)
 
-without_among : (entries : List Fixed) (k : ℕ) (e : Fixed) → Among (without entries k) e → Among entries e × (e.number ≢ k)
+without_among : (entries : List Entry) (k : ℕ) (e : Entry) → Among (without entries k) e → Among entries e × (e.number ≢ k)
 unfolding without
 without_among [] k e a = absurd a
 without_among (x ∷ entries) k e a = by_test (eqb x.number k) refl a (without_among entries k e) where
   by_test : (b : Bool) → eqb x.number k ≡ b → Among (cond b (without entries k) (x ∷ without entries k)) e → (Among (without entries k) e → Among entries e × (e.number ≢ k)) → Among (x ∷ entries) e × (e.number ≢ k)
   by_test true t a others = let rest = others a in (inr rest.0, rest.1)
-  by_test false t (inl same) others = (inl same, subst (λ (y : Fixed). y.number ≢ k) same (eqb-false x.number k t))
+  by_test false t (inl same) others = (inl same, subst (λ (y : Entry). y.number ≢ k) same (eqb-false x.number k t))
   by_test false t (inr a) others = let rest = others a in (inr rest.0, rest.1)
 
-among_without : (entries : List Fixed) (k : ℕ) (e : Fixed) → Among entries e → e.number ≢ k → Among (without entries k) e
+among_without : (entries : List Entry) (k : ℕ) (e : Entry) → Among entries e → e.number ≢ k → Among (without entries k) e
 unfolding without
 among_without [] k e a other = absurd a
 among_without (x ∷ entries) k e a other = by_test (eqb x.number k) refl a (λ among. among_without entries k e among other) where
   by_test : (b : Bool) → eqb x.number k ≡ b → Among (x ∷ entries) e → (Among entries e → Among (without entries k) e) → Among (cond b (without entries k) (x ∷ without entries k)) e
-  by_test true t (inl same) others = absurd (other (sym (ap (λ (y : Fixed). y.number) same) ∙ eqb-true x.number k t))
+  by_test true t (inl same) others = absurd (other (sym (ap (λ (y : Entry). y.number) same) ∙ eqb-true x.number k t))
   by_test true t (inr a) others = others a
   by_test false t (inl same) others = inl same
   by_test false t (inr a) others = inr (others a)
 
-rise_without : (entries : List Fixed) (k : ℕ) → Rise entries → Rise (without entries k)
+rise_without : (entries : List Entry) (k : ℕ) → Rise entries → Rise (without entries k)
 unfolding without
 rise_without [] k r = tt
 rise_without (e ∷ entries) k r = by_test (eqb e.number k) (rise_without entries k (rise_tail e entries r)) where
@@ -75,13 +75,13 @@ rise_without (e ∷ entries) k r = by_test (eqb e.number k) (rise_without entrie
 -- ---- the live entries
 
 record Lives (h : List Record) : Type 0 where
-  entries : List Fixed
+  entries : List Entry
   are : AreLive h entries
 
-no_entry : (v : ℕ) (c : files.Files) → Lives (Change v c ∷ [])
+no_entry : (v : ℕ) (c : Content) → Lives (Change v c ∷ [])
 no_entry v c = record { entries = []; are = record { live = λ e a. absurd a; all = λ e l. absurd l.inserted; rising = tt } }
 
-after_change : (v : ℕ) (c : files.Files) (h : List Record) → Lives h → Lives (Change v c ∷ h)
+after_change : (v : ℕ) (c : Content) (h : List Record) → Lives h → Lives (Change v c ∷ h)
 after_change v c h s = record {
   entries = s.entries;
   are = record {
@@ -111,10 +111,10 @@ after_invalid n h s = record {
   };
 }
 
-pub new_live : (h : List Record) (f : Fixed) → Legal h → f.number ≡ loads h → IsLive (Load f ∷ h) f
+pub new_live : (h : List Record) (f : Entry) → Legal h → f.number ≡ loads h → IsLive (Load f ∷ h) f
 new_live h f l is = record { inserted = inl refl; not_ended = λ ended. let below : f.number < loads h = end_below h f.number l ended in omega arith }
 
-after_load : (f : Fixed) (h : List Record) → Legal h → f.number ≡ loads h → Lives h → Lives (Load f ∷ h)
+after_load : (f : Entry) (h : List Record) → Legal h → f.number ≡ loads h → Lives h → Lives (Load f ∷ h)
 after_load f h legal is s = record {
   entries = s.entries ++ f ∷ [];
   are = record {
@@ -154,8 +154,8 @@ lives (Invalid n ∷ h) l = after_invalid n h (lives h l.0)
 
 -- ---- the law
 
-abbrev emptied : Core → List Fixed → Core
+abbrev emptied : Core → List Entry → Core
 emptied core entries = record core { history = Invalid (invalidations core.history + 1) ∷ ended_all entries core.history }
 
-pub emptied_law : (db : Db) (sources : files.Files) (moves : List Move) (new : Core) → Runs db moves (opening db sources) new → (empty : Core) × Moves db Empty new empty
+pub emptied_law : (db : Db) (sources : Content) (moves : List Move) (new : Core) → Runs db moves (opening db sources) new → (empty : Core) × Moves db Empty new empty
 emptied_law db sources moves new r = let s = lives new.history (legal_law db sources moves new r) in (emptied new s.entries, (s.entries, s.are, refl))

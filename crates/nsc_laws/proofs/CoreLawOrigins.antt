@@ -6,9 +6,9 @@ use Rattle.nsc_model.specs.declared.kind.Db.{Db}
 use Rattle.nsc_model.specs.declared.record.Ending.TheVariants.{Invalidated}
 use Rattle.nsc_model.specs.declared.record.Record.{Record}
 use Rattle.nsc_model.specs.declared.record.Record.TheVariants.{Change, Poll, Load, End, Invalid}
-use Rattle.nsc_model.specs.Files as files
+use Rattle.nsc_model.specs.Content.{Content}
 use Rattle.nsc_model.specs.Files.{part_of}
-use Rattle.nsc_model.specs.Fixed.{Fixed}
+use Rattle.nsc_model.specs.Entry.{Entry}
 use Rattle.nsc_model.specs.History.{invalidations}
 use Rattle.nsc_laws.specs.Core.{Caller, Core, new_caller, opening, with_caller, Move, Files, Begin, Look, Note, Fetch, PollStep, Insert, Finish, Empty, Compact, Reply, IsPoll, ended_all, Moves, Runs}
 use Rattle.nsc_laws.specs.Origins.{IsRead, WasAsked, IsSourced}
@@ -19,7 +19,7 @@ use Rattle.nsc_laws.proofs.CoreLawRecords.{invalidations_rise}
 record Knows (db : Db) (history : List Record) (c : Caller) : Type 0 where
   noted_before : (k : ℕ) → c.noted ≡ Some k → k ≤ invalidations history
   asked_since : (k n : ℕ) → c.noted ≡ Some k → c.version ≡ Some n → k ≡ invalidations history → WasAsked history n
-  read : (content : files.Files) → c.fetched ≡ Some content → IsRead db content
+  read : (content : Content) → c.fetched ≡ Some content → IsRead db content
 
 record Founded (db : Db) (core : Core) : Type 0 where
   begun_with : core.history ≢ []
@@ -49,7 +49,7 @@ gaining core r = record core { history = r ∷ core.history }
 founded_more : (db : Db) (core : Core) (r : Record) → Founded db core → IsSourced db (r ∷ core.history) → Founded db (gaining core r)
 founded_more db core r f s = record { begun_with = λ none. cc; sourced = s; knows = λ a. knows_more db r core.history (core.callers a) f.begun_with (f.knows a) }
 
-founded_ended : (db : Db) (entries : List Fixed) (core : Core) → Founded db core → Founded db (record core { history = ended_all entries core.history })
+founded_ended : (db : Db) (entries : List Entry) (core : Core) → Founded db core → Founded db (record core { history = ended_all entries core.history })
 founded_ended db [] core f = record { begun_with = f.begun_with; sourced = f.sourced; knows = f.knows }
 founded_ended db (e ∷ entries) core f = founded_ended db entries (gaining core (End e.number Invalidated)) (founded_more db core (End e.number Invalidated) f f.sourced)
 
@@ -79,17 +79,17 @@ notes db h c = record {
   read = λ content is. absurd (none-some content is);
 }
 
-fetches : (db : Db) (h : List Record) (c : Caller) (sources : files.Files) → Knows db h c → Knows db h (fetching c (part_of db sources))
+fetches : (db : Db) (h : List Record) (c : Caller) (sources : Content) → Knows db h c → Knows db h (fetching c (part_of db sources))
 fetches db h c sources w = record { noted_before = w.noted_before; asked_since = w.asked_since; read = λ content is. (sources, sym (same_Some (part_of db sources) content is)) }
 
 -- ---- a poll
 
-poll_asked : (h : List Record) (content : files.Files) (poll : Record) (n : ℕ) → h ≢ [] → IsPoll h content poll n → WasAsked (poll ∷ h) n
+poll_asked : (h : List Record) (content : Content) (poll : Record) (n : ℕ) → h ≢ [] → IsPoll h content poll n → WasAsked (poll ∷ h) n
 poll_asked [] content poll n some is = absurd (some refl)
 poll_asked (x ∷ h) content poll n some (inl same) = subst (λ (r : Record). WasAsked (r ∷ x ∷ h) n) (sym same.2) (inl refl)
 poll_asked (x ∷ h) content poll n some (inr other) = subst (λ (r : Record). WasAsked (r ∷ x ∷ h) n) (sym other.2) (inl refl)
 
-poll_sourced : (db : Db) (h : List Record) (content : files.Files) (poll : Record) (n : ℕ) → IsSourced db h → IsRead db content → IsPoll h content poll n → IsSourced db (poll ∷ h)
+poll_sourced : (db : Db) (h : List Record) (content : Content) (poll : Record) (n : ℕ) → IsSourced db h → IsRead db content → IsPoll h content poll n → IsSourced db (poll ∷ h)
 poll_sourced db h content poll n s read (inl same) = subst (λ (r : Record). IsSourced db (r ∷ h)) (sym same.2) s
 poll_sourced db h content poll n s read (inr other) = subst (λ (r : Record). IsSourced db (r ∷ h)) (sym other.2) (s, read)
 
@@ -98,7 +98,7 @@ polls db h c poll n some asked w =
     let more = knows_more db poll h c some w in
     record { noted_before = more.noted_before; asked_since = λ k m e v same. subst (WasAsked (poll ∷ h)) (same_Some n m v) asked; read = more.read }
 
-poll_founded : (db : Db) (core : Core) (a : ℕ) (content : files.Files) (poll : Record) (n : ℕ) → Founded db core → (core.callers a).fetched ≡ Some content → IsPoll core.history content poll n → Founded db (after_poll core a poll n)
+poll_founded : (db : Db) (core : Core) (a : ℕ) (content : Content) (poll : Record) (n : ℕ) → Founded db core → (core.callers a).fetched ≡ Some content → IsPoll core.history content poll n → Founded db (after_poll core a poll n)
 poll_founded db core a content poll n f fetched is =
     let h = core.history in
     record {
@@ -136,8 +136,8 @@ run_kept db (move ∷ moves) old new f r = run_kept db moves r.0 new (kept db mo
 new_knows : (db : Db) (h : List Record) → Knows db h new_caller
 new_knows db h = record { noted_before = λ k is. absurd (none-some k is); asked_since = λ k n is v same. absurd (none-some k is); read = λ content is. absurd (none-some content is) }
 
-opening_founded : (db : Db) (sources : files.Files) → Founded db (opening db sources)
+opening_founded : (db : Db) (sources : Content) → Founded db (opening db sources)
 opening_founded db sources = record { begun_with = λ none. cc; sourced = (tt, (sources, refl)); knows = λ a. new_knows db (Change 0 (part_of db sources) ∷ []) }
 
-pub sourced_law : (db : Db) (sources : files.Files) (moves : List Move) (new : Core) → Runs db moves (opening db sources) new → IsSourced db new.history
+pub sourced_law : (db : Db) (sources : Content) (moves : List Move) (new : Core) → Runs db moves (opening db sources) new → IsSourced db new.history
 sourced_law db sources moves new r = (run_kept db moves (opening db sources) new (opening_founded db sources) r).sourced

@@ -4,7 +4,7 @@ use Rattle.std.proofs.lemmas.List.Elements.{All-nil, All-cons}
 use Rattle.nsc_model.specs.declared.answer.Request.{Request}
 use Rattle.nsc_model.specs.declared.row.Looked.{Looked}
 use Rattle.nsc_model.specs.declared.row.Looked.TheVariants.{Unavail}
-use Rattle.nsc_model.specs.Files.{Files}
+use Rattle.nsc_model.specs.Content.{Content}
 use Rattle.nsc_model.specs.declared.switch.SwitchService.{SwitchService}
 use Rattle.nsc_model.specs.declared.switch.SwitchService.TheVariants.{Other}
 use Rattle.nsc_model.specs.declared.switch.SwitchAction.{SwitchAction}
@@ -26,7 +26,7 @@ outcome_decided look (step ∷ next ∷ steps) other = by_test (ends (action_of 
   by_test true later = refl
   by_test false later = later
 
-pub service_decided : (files : Files) (request : Request) (steps : List SwitchStep) → switched (service_answer files request) steps ≡ service_answer files request (deciding (service_answer files request) steps)
+pub service_decided : (files : Content) (request : Request) (steps : List SwitchStep) → switched (service_answer files request) steps ≡ service_answer files request (deciding (service_answer files request) steps)
 service_decided files request steps = outcome_decided (service_answer files request) steps refl
 
 -- no action but to continue goes on
@@ -57,8 +57,8 @@ ends_at look (step ∷ next ∷ steps) some = by_test (ends (action_of look step
     outcome = ap (λ b. cond b (look step.service) (switched look (next ∷ steps))) is ∙ later.outcome;
   }
 
-pub lists_end_at : (files : Files) (request : Request) (db : Db) → EndsAt (service_answer files request) (service_list files db) (deciding (service_answer files request) (service_list files db))
+pub lists_end_at : (files : Content) (request : Request) (db : Db) → EndsAt (service_answer files request) (service_list files db) (deciding (service_answer files request) (service_list files db))
 lists_end_at files request db = ends_at (service_answer files request) (service_list files db) (some_listed files db)
 
-pub sub_lists_end_at : (files : Files) (request : Request) (db : Db) → EndsAt (sub_answer files request) (compat_list files db) (deciding (sub_answer files request) (compat_list files db))
+pub sub_lists_end_at : (files : Content) (request : Request) (db : Db) → EndsAt (sub_answer files request) (compat_list files db) (deciding (sub_answer files request) (compat_list files db))
 sub_lists_end_at files request db = ends_at (sub_answer files request) (compat_list files db) (some_asked files db)

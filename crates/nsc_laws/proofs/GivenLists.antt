@@ -2,12 +2,12 @@
 use Rattle.std.proofs.Common.{◌≡◌, ◌≢◌, ℕ, List, [], ◌∷◌, Option, Some, None, refl, sym, ◌∙◌, inl, inr}
 use Rattle.std.proofs.lemmas.Option.{none-some, same_Some}
 use Rattle.nsc_model.specs.declared.kind.Db.{Db}
-use Rattle.nsc_model.specs.Files.{Files}
+use Rattle.nsc_model.specs.Content.{Content}
 use Rattle.nsc_model.specs.Users.{◌>>=◌}
 use Rattle.nsc_model.specs.declared.switch.DbName.{DbName}
 use Rattle.nsc_model.specs.declared.switch.DbName.TheVariants as list
 use Rattle.nsc_model.specs.declared.switch.SwitchStep.{SwitchStep}
-use Rattle.nsc_model.specs.Switches.{Group, Item, Service, compat_list, compat_name, default_list, first_line, list_name, list_of, list_or, service_list, spelled_list, steps_behind, steps_of, text_of}
+use Rattle.nsc_model.specs.Switches.{Group, Item, Service, compat_list, compat_name, default_list, first_line, list_name, list_of, list_or, service_list, spelled_list, steps_after, steps_of, text_of}
 use Rattle.nsc_laws.specs.ServiceLists.{Gives, LineGives}
 use Rattle.nsc_laws.proofs.Grammar.{written_is_read}
 use Rattle.nsc_laws.proofs.GrammarItems.{read_is_written}
@@ -42,15 +42,15 @@ given_is_list text name steps given = by_line name (first_line name text) steps 
 
 -- ---- a list has a service
 
-some_behind : (step : SwitchStep) (items : List Item) → steps_behind step items ≢ []
-some_behind step [] none = absurd cc
-some_behind step (Service word ∷ items) none = absurd cc
-some_behind step (Group rules ∷ items) none = some_behind _ items none
+some_after : (step : SwitchStep) (items : List Item) → steps_after step items ≢ []
+some_after step [] none = absurd cc
+some_after step (Service word ∷ items) none = absurd cc
+some_after step (Group rules ∷ items) none = some_after _ items none
 
 some_steps : (items : List Item) (steps : List SwitchStep) → steps_of items ≡ Some steps → steps ≢ []
 some_steps [] steps is none = none-some steps is
 some_steps (Group rules ∷ items) steps is none = none-some steps is
-some_steps (Service word ∷ items) steps is none = some_behind _ items (same_Some _ steps is ∙ none)
+some_steps (Service word ∷ items) steps is none = some_after _ items (same_Some _ steps is ∙ none)
 
 some_default : (name : DbName) → default_list name ≢ []
 some_default list.Passwd none = absurd cc
@@ -64,10 +64,10 @@ some_given name (Some line) steps (inr default) none = some_default name (sym de
 pub some_service : (text : List ℕ) (name : DbName) → list_of text name ≢ []
 some_service text name none = some_given name (first_line name text) (list_of text name) (list_given text name) none
 
-pub some_listed : (files : Files) (db : Db) → service_list files db ≢ []
+pub some_listed : (files : Content) (db : Db) → service_list files db ≢ []
 unfolding service_list
 some_listed files db = some_service (text_of files.switch) (list_name db)
 
-pub some_asked : (files : Files) (db : Db) → compat_list files db ≢ []
+pub some_asked : (files : Content) (db : Db) → compat_list files db ≢ []
 unfolding compat_list
 some_asked files db = some_service (text_of files.switch) (compat_name db)

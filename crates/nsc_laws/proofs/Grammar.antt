@@ -4,7 +4,7 @@ use Rattle.nsc_model.specs.declared.switch.SwitchService.TheVariants.{Other}
 use Rattle.nsc_model.specs.declared.switch.SwitchAction.{SwitchAction}
 use Rattle.nsc_model.specs.declared.switch.SwitchStep.{SwitchStep}
 use Rattle.nsc_model.specs.Services.{plain_step}
-use Rattle.nsc_model.specs.Switches.{AllGaps, Begin, Between, Close, Equals, Equated, First, Gap, Group, Item, Named, Negated, Next, Not, Open, Place, Rest, Rule, Ruled, Service, Spells, Status, Token, Word, Writes, WritesGroup, WritesRule, WritesRules, action_named, at_place, behind_action, behind_status, list_from, negation, onto_steps, ruled, ruled_by, service_of_word, spelled_list, status_named, steps_behind, steps_of, tokens_of}
+use Rattle.nsc_model.specs.Switches.{AllGaps, Begin, Between, Close, Equals, Equated, First, Gap, Group, Item, Named, Negated, Next, Not, Open, Place, Rest, Rule, Ruled, Service, WritesSteps, Status, Token, Word, Writes, WritesGroup, WritesRule, WritesRules, action_named, at_place, after_action, after_status, list_from, negation, onto_steps, ruled, ruled_by, service_of_word, spelled_list, status_named, steps_after, steps_of, tokens_of}
 
 -- ---- lists end to end
 
@@ -39,7 +39,7 @@ gaps-read place stays step (Close ∷ gaps) tokens are = absurd are
 gaps-read place stays step (Not ∷ gaps) tokens are = absurd are
 gaps-read place stays step (Equals ∷ gaps) tokens are = absurd are
 
--- white space alone, behind an item
+-- white space alone, after an item
 gaps-end : (step : SwitchStep) (gaps : List Token) → AllGaps gaps → list_from Between step gaps ≡ Some (step ∷ [])
 gaps-end step [] are = ends step
 gaps-end step (Gap ∷ gaps) are = reads Between step Gap gaps ∙ gaps-end step gaps are
@@ -51,7 +51,7 @@ gaps-end step (Equals ∷ gaps) are = absurd are
 
 -- a place where a rule may begin
 record Rules (place : Place) : Type 0 where
-  words : (bytes : List ℕ) (step : SwitchStep) (rest : Rest) → at_place place (Word bytes) step rest ≡ behind_status false (status_named bytes) step rest
+  words : (bytes : List ℕ) (step : SwitchStep) (rest : Rest) → at_place place (Word bytes) step rest ≡ after_status false (status_named bytes) step rest
   negations : (step : SwitchStep) (rest : Rest) → at_place place Not step rest ≡ rest Negated step
 
 rules_at_begin : Rules Begin
@@ -60,16 +60,16 @@ rules_at_begin = record { words = λ bytes step rest. refl; negations = λ step 
 rules_at_next : Rules Next
 rules_at_next = record { words = λ bytes step rest. refl; negations = λ step rest. refl }
 
--- behind its status, a rule goes on to its action
+-- after its status, a rule goes on to its action
 status-read : (negated : Bool) (status : Status) (action : SwitchAction) (word : List ℕ) (before after more : List Token) (step : SwitchStep) → AllGaps before → AllGaps after → action_named word ≡ Some action → list_from (Named negated status) step (before ++ (Equals ∷ (after ++ Word word ∷ more))) ≡ list_from Ruled (ruled (record { negated = negated; status = status; action = action }) step) more
 status-read negated status action word before after more step first second is =
     gaps-read (Named negated status) (λ now rest. refl) step before (Equals ∷ (after ++ Word word ∷ more)) first
     ∙ reads (Named negated status) step Equals (after ++ Word word ∷ more)
     ∙ gaps-read (Equated negated status) (λ now rest. refl) step after (Word word ∷ more) second
     ∙ reads (Equated negated status) step (Word word) more
-    ∙ ap (λ o. behind_action negated status o step (λ next now. list_from next now more)) is
+    ∙ ap (λ o. after_action negated status o step (λ next now. list_from next now more)) is
 
--- a rule with something behind it, piece by piece
+-- a rule with something after it, piece by piece
 pub rule-append : (negated : Bool) (status action : List ℕ) (before after more : List Token) → negation negated ++ Word status ∷ before ++ Equals ∷ after ++ Word action ∷ [] ++ more ≡ negation negated ++ (Word status ∷ (before ++ (Equals ∷ (after ++ Word action ∷ more))))
 rule-append true status action before after more = ap (λ (ys : List Token). Not ∷ Word status ∷ ys) (three before (Equals ∷ after) (Word action ∷ []) more)
 rule-append false status action before after more = ap (λ (ys : List Token). Word status ∷ ys) (three before (Equals ∷ after) (Word action ∷ []) more)
@@ -77,10 +77,10 @@ rule-append false status action before after more = ap (λ (ys : List Token). Wo
 front-read : (place : Place) → Rules place → (negated : Bool) (status : Status) (word : List ℕ) (step : SwitchStep) (more : List Token) → status_named word ≡ Some status → list_from place step (negation negated ++ Word word ∷ more) ≡ list_from (Named negated status) step more
 front-read place may true status word step more is =
     reads place step Not (Word word ∷ more) ∙ may.negations step (λ next now. list_from next now (Word word ∷ more))
-    ∙ reads Negated step (Word word) more ∙ ap (λ o. behind_status true o step (λ next now. list_from next now more)) is
+    ∙ reads Negated step (Word word) more ∙ ap (λ o. after_status true o step (λ next now. list_from next now more)) is
 front-read place may false status word step more is =
     reads place step (Word word) more ∙ may.words word step (λ next now. list_from next now more)
-    ∙ ap (λ o. behind_status false o step (λ next now. list_from next now more)) is
+    ∙ ap (λ o. after_status false o step (λ next now. list_from next now more)) is
 
 rule-read : (place : Place) → Rules place → (rule : Rule) (tokens more : List Token) (step : SwitchStep) → WritesRule rule tokens → list_from place step (tokens ++ more) ≡ list_from Ruled (ruled rule step) more
 rule-read place may rule tokens more step writes =
@@ -100,7 +100,7 @@ rules-read (rule ∷ next ∷ rules) place may tokens more step (one, gaps, rest
     ∙ gaps-read Next (λ now other. refl) (ruled rule step) gaps (rest ++ more) are
     ∙ rules-read (next ∷ rules) Next rules_at_next rest more (ruled rule step) later
 
--- brackets close behind a rule, with white space before at will
+-- brackets close after a rule, with white space before at will
 close-read : (after more : List Token) (step : SwitchStep) → AllGaps after → list_from Ruled step (after ++ Close ∷ more) ≡ list_from Between step more
 close-read [] more step are = reads Ruled step Close more
 close-read (Gap ∷ gaps) more step are =
@@ -120,7 +120,7 @@ group-read rules group more step writes =
     ∙ rules-read rules Begin rules_at_begin writes.inner (writes.after ++ Close ∷ more) step writes.rules_are
     ∙ close-read writes.after more (ruled_by rules step) writes.after_gaps
 
-items-read : (items : List Item) (tokens : List Token) (step : SwitchStep) → Writes items tokens → list_from Between step tokens ≡ Some (steps_behind step items)
+items-read : (items : List Item) (tokens : List Token) (step : SwitchStep) → Writes items tokens → list_from Between step tokens ≡ Some (steps_after step items)
 items-read [] tokens step writes = gaps-end step tokens writes
 items-read (Service word ∷ items) tokens step (gaps, rest, are, is, later) =
     ap (list_from Between step) is

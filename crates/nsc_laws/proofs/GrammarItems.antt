@@ -4,7 +4,7 @@ use Rattle.nsc_model.specs.declared.switch.SwitchService.TheVariants.{Other}
 use Rattle.nsc_model.specs.declared.switch.SwitchAction.{SwitchAction}
 use Rattle.nsc_model.specs.declared.switch.SwitchStep.{SwitchStep}
 use Rattle.nsc_model.specs.Services.{plain_step}
-use Rattle.nsc_model.specs.Switches.{AllGaps, Begin, Between, Close, Equals, Equated, First, Gap, Group, Item, Named, Negated, Next, Not, Open, Place, Rest, Rule, Ruled, Service, Spells, Status, Token, Word, Writes, WritesGroup, WritesRule, WritesRules, action_named, at_begin, at_between, at_equated, at_first, at_named, at_negated, at_next, at_place, at_ruled, behind_action, behind_status, list_from, negation, onto_steps, ruled, ruled_by, service_of_word, spelled_list, status_named, steps_behind, steps_of, tokens_of}
+use Rattle.nsc_model.specs.Switches.{AllGaps, Begin, Between, Close, Equals, Equated, First, Gap, Group, Item, Named, Negated, Next, Not, Open, Place, Rest, Rule, Ruled, Service, WritesSteps, Status, Token, Word, Writes, WritesGroup, WritesRule, WritesRules, action_named, at_begin, at_between, at_equated, at_first, at_named, at_negated, at_next, at_place, at_ruled, after_action, after_status, list_from, negation, onto_steps, ruled, ruled_by, service_of_word, spelled_list, status_named, steps_after, steps_of, tokens_of}
 use Rattle.nsc_laws.proofs.Grammar.{three, reads, rule-append}
 
 -- the end of brackets: nothing but white space before the `]`, or rules
@@ -23,7 +23,7 @@ abbrev RuledTail : List Rule → List Token → Type 0
 RuledTail [] tail = Tail [] tail
 RuledTail (rule ∷ rules) tail = (later : List Token) × Tail (rule ∷ rules) later × (tail ≡ Gap ∷ later)
 
--- tokens are the end of brackets and items behind them, which come to these steps
+-- tokens are the end of brackets and items after them, which come to these steps
 record Claim (shape : List Rule → List Token → Type 0) (step : SwitchStep) (tokens : List Token) (steps : List SwitchStep) : Type 0 where
   rules : List Rule
   tail : List Token
@@ -32,7 +32,7 @@ record Claim (shape : List Rule → List Token → Type 0) (step : SwitchStep) (
   shaped : shape rules tail
   is : tokens ≡ tail ++ rest
   writes : Writes items rest
-  steps_are : steps ≡ steps_behind (ruled_by rules step) items
+  steps_are : steps ≡ steps_after (ruled_by rules step) items
 
 -- an action, and such an end
 record EquatedClaim (negated : Bool) (status : Status) (step : SwitchStep) (tokens : List Token) (steps : List SwitchStep) : Type 0 where
@@ -65,7 +65,7 @@ record NegatedClaim (step : SwitchStep) (tokens : List Token) (steps : List Swit
 -- what tokens are that are read from a place on, and come to these steps
 abbrev ClaimAt : Place → SwitchStep → List Token → List SwitchStep → Type 0
 ClaimAt First step tokens steps = (items : List Item) × Writes items tokens × (steps_of items ≡ Some steps)
-ClaimAt Between step tokens steps = (items : List Item) × Writes items tokens × (steps ≡ steps_behind step items)
+ClaimAt Between step tokens steps = (items : List Item) × Writes items tokens × (steps ≡ steps_after step items)
 ClaimAt Begin step tokens steps = Claim FilledTail step tokens steps
 ClaimAt Negated step tokens steps = NegatedClaim step tokens steps
 ClaimAt (Named negated status) step tokens steps = NamedClaim negated status step tokens steps
@@ -79,14 +79,14 @@ Later tokens = (place : Place) (step : SwitchStep) (steps : List SwitchStep) →
 abbrev reading : List Token → Rest
 reading tokens next now = list_from next now tokens
 
--- a rule, and rules behind it
+-- a rule, and rules after it
 rule_before : (rule : Rule) (rules : List Rule) (one tail : List Token) → WritesRule rule one → RuledTail rules tail → Tail (rule ∷ rules) (one ++ tail)
 rule_before rule [] one tail writes (after, gaps, is) = ([], one, after, tt, writes, gaps, ap (λ (ys : List Token). one ++ ys) is)
 rule_before rule (next ∷ rules) one tail writes (later, (gaps, inner, after, are, more, spaces, is), front) =
     let whole = three one (Gap ∷ gaps) inner (after ++ Close ∷ []) in
     ([], one ++ Gap ∷ gaps ++ inner, after, tt, (one, gaps, inner, writes, are, refl, more), spaces, ap (λ (ys : List Token). one ++ ys) (front ∙ ap (λ (ys : List Token). Gap ∷ ys) is) ∙ sym whole)
 
--- a status, and what is behind it, are a rule and what is behind that
+-- a status, and what is after it, are a rule and what is after that
 rule-claim : (negated : Bool) (word : List ℕ) (status : Status) (step : SwitchStep) (tokens : List Token) (steps : List SwitchStep) → status_named word ≡ Some status → NamedClaim negated status step tokens steps → Claim FilledTail step (negation negated ++ Word word ∷ tokens) steps
 rule-claim negated word status step tokens steps named claim =
     let equated = claim.claim in
@@ -197,11 +197,11 @@ group-items (rule ∷ rules) tail rest tokens items (gaps, inner, after, are, mo
     ([], Open ∷ tail, rest, tt, group, ap (λ (ys : List Token). Open ∷ ys) falls, writes)
 
 -- names that are read are names
-status-some : (negated : Bool) (o : Option Status) (step : SwitchStep) (rest : Rest) (steps : List SwitchStep) → behind_status negated o step rest ≡ Some steps → (status : Status) × (o ≡ Some status) × (rest (Named negated status) step ≡ Some steps)
+status-some : (negated : Bool) (o : Option Status) (step : SwitchStep) (rest : Rest) (steps : List SwitchStep) → after_status negated o step rest ≡ Some steps → (status : Status) × (o ≡ Some status) × (rest (Named negated status) step ≡ Some steps)
 status-some negated None step rest steps is = cc
 status-some negated (Some status) step rest steps is = (status, refl, is)
 
-action-some : (negated : Bool) (status : Status) (o : Option SwitchAction) (step : SwitchStep) (rest : Rest) (steps : List SwitchStep) → behind_action negated status o step rest ≡ Some steps → (action : SwitchAction) × (o ≡ Some action) × (rest Ruled (ruled (record { negated = negated; status = status; action = action }) step) ≡ Some steps)
+action-some : (negated : Bool) (status : Status) (o : Option SwitchAction) (step : SwitchStep) (rest : Rest) (steps : List SwitchStep) → after_action negated status o step rest ≡ Some steps → (action : SwitchAction) × (o ≡ Some action) × (rest Ruled (ruled (record { negated = negated; status = status; action = action }) step) ≡ Some steps)
 action-some negated status None step rest steps is = cc
 action-some negated status (Some action) step rest steps is = (action, refl, is)
 

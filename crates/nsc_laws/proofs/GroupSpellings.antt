@@ -2,7 +2,7 @@
 use Rattle.std.proofs.Common.{◌≡◌, ℕ, ◌+◌, ◌*◌, ◌<◌, ◌≤◌, ◌^◌, List, [], ◌∷◌, ◌++◌, length, map, flat_map, All, refl, sym, ap, subst, ◌∙◌, append_assoc, arith, length-append}
 use Rattle.std.proofs.lemmas.List.Elements.{All-head, All-tail}
 use Rattle.nsc_model.specs.declared.row.Group.{Group}
-use Rattle.nsc_model.specs.Marked.{reply_limit}
+use Rattle.nsc_model.specs.Answer.{reply_limit}
 use Rattle.nsc_model.specs.Wire.{field, text, text_len, group_found, ids_found, IsGroup}
 use Rattle.nsc_laws.proofs.Spellings.{same_field, same_text, head_is, tail_is, length_text}
 
@@ -33,7 +33,7 @@ same_ids xs ys a b f g e =
 
 -- ---- the entry of a group
 
--- the lengths of texts, with their zero bytes, and what stands behind them
+-- the lengths of texts, with their zero bytes, and what stands after them
 pub same_lengths : (xs ys : List (List ℕ)) (r s : List ℕ) → length xs ≡ length ys → length (flat_map text xs) ≤ reply_limit → length (flat_map text ys) ≤ reply_limit → flat_map text_len xs ++ r ≡ flat_map text_len ys ++ s
     → (map (λ x. length x + 1) xs ≡ map (λ x. length x + 1) ys) × (r ≡ s)
 same_lengths [] [] r s l f g e = (refl, e)
@@ -58,11 +58,11 @@ same_texts (x ∷ xs) (y ∷ ys) l e =
     let later = same_texts xs ys sizes first.1 in
     subst (λ (z : List ℕ). x ∷ xs ≡ z ∷ ys) first.0 (ap (λ more. x ∷ more) later)
 
--- what stands behind the count
-abbrev behind_count : Group → List ℕ
-behind_count g = flat_map text_len g.members ++ (text g.name ++ (text g.passwd ++ flat_map text g.members))
+-- what stands after the count
+abbrev after_count : Group → List ℕ
+after_count g = flat_map text_len g.members ++ (text g.name ++ (text g.passwd ++ flat_map text g.members))
 
-regrouped : (g : Group) → flat_map text_len g.members ++ text g.name ++ text g.passwd ++ flat_map text g.members ≡ behind_count g
+regrouped : (g : Group) → flat_map text_len g.members ++ text g.name ++ text g.passwd ++ flat_map text g.members ≡ after_count g
 regrouped g =
     append_assoc (flat_map text_len g.members ++ text g.name) (text g.passwd) (flat_map text g.members)
     ∙ append_assoc (flat_map text_len g.members) (text g.name) (text g.passwd ++ flat_map text g.members)

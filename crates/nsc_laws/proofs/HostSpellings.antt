@@ -6,14 +6,14 @@ use Rattle.std.proofs.lemmas.List.Elements.{All-head, All-tail}
 use Rattle.nsc_model.specs.declared.row.Host.{Host}
 use Rattle.nsc_model.specs.declared.row.Found6.{Found6}
 use Rattle.nsc_model.specs.declared.row.Ai.{Ai}
-use Rattle.nsc_model.specs.Marked.{reply_limit}
+use Rattle.nsc_model.specs.Answer.{reply_limit}
 use Rattle.nsc_model.specs.Wire.{text, text_len, host_found, addresses_found, IsAddress, IsHost, AreAddresses}
 use Rattle.nsc_laws.proofs.Spellings.{same_field, same_text, same_last, head_is, tail_is}
 use Rattle.nsc_laws.proofs.GroupSpellings.{same_lengths, same_texts, lengths_size}
 
 -- ---- addresses
 
--- bytes and what stands behind them, where their number is known
+-- bytes and what stands after them, where their number is known
 same_front : (a b r s : List ℕ) → length a ≡ length b → a ++ r ≡ b ++ s → (a ≡ b) × (r ≡ s)
 same_front a b r s l e = (
   sym (take-append_seam a r) ∙ (ap (λ n. take n (a ++ r)) l ∙ (ap (take (length b)) e ∙ take-append_seam b s)),
@@ -38,7 +38,7 @@ same_size family a b (inr x) (inr y) = x.1 ∙ sym y.1
 
 -- ---- the entry of a host
 
--- the name and what stands behind it
+-- the name and what stands after it
 abbrev from_name : Host → List ℕ
 from_name h = text h.name ++ (flat_map text_len h.aliases ++ (h.address ++ flat_map text h.aliases))
 
@@ -115,7 +115,7 @@ same_founds (x ∷ xs) (y ∷ ys) a b m e =
     let later = same_founds xs ys (All-tail Addressed x xs a) (All-tail Addressed y ys b) (tail_is x.family y.family (families_of xs) (families_of ys) m) address.1 in
     subst (λ (z : Found6). x ∷ xs ≡ z ∷ ys) first (ap (λ more. x ∷ more) later)
 
--- all addresses and what stands behind them
+-- all addresses and what stands after them
 abbrev from_addresses : Ai → List ℕ
 from_addresses a = addresses_of a.list ++ (families_of a.list ++ text a.canon)
 

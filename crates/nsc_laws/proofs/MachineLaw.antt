@@ -9,20 +9,20 @@ use Rattle.nsc_model.specs.declared.answer.Request.{Request}
 use Rattle.nsc_model.specs.declared.record.Record.{Record}
 use Rattle.nsc_model.specs.declared.record.Record.TheVariants.{Change}
 use Rattle.nsc_model.specs.Kinds.{is_request}
-use Rattle.nsc_model.specs.Files as files
+use Rattle.nsc_model.specs.Content.{Content}
 use Rattle.nsc_model.specs.Files.{part_of}
-use Rattle.nsc_model.specs.Fixed.{Fixed}
+use Rattle.nsc_model.specs.Entry.{Entry}
 use Rattle.nsc_model.specs.declared.conf.DbConf.{DbConf}
 use Rattle.nsc_model.specs.Answers.{answer_of}
 use Rattle.nsc_model.specs.History.{version_in, IsLive, Legal, Answered}
 use Rattle.nsc_laws.specs.Core.{Caller, Core, opening, Files, Look, Among, AreLive, Replies}
-use Rattle.nsc_model.specs.Machine.{Kept, Cache, new_cache, Passed, Stopped, unchanged, ◌>>=◌, polled, tried, kept_answer, cached, used_now, loaded, hit_or_load, look_up, invalidated, compacted_behind, ends_of, is_dropped, due_cause, next_reloads, reloaded, due_of, others_of, reloaded_of, pruned, ticked, is_outdated, checked, tick}
-use Rattle.nsc_laws.specs.Calls.{fixed_of, Drives, IsTurned, PassesBy, TurnsBy}
+use Rattle.nsc_model.specs.Machine.{Kept, Cache, new_cache, Passed, Stopped, unchanged, ◌>>=◌, polled, tried, kept_answer, cached, used_now, loaded, hit_or_load, lookup, invalidated, compacted_after, ends_of, is_dropped, due_cause, next_reloads, reloaded, due_of, others_of, reloaded_of, pruned, ticked, is_outdated, checked, tick}
+use Rattle.nsc_laws.specs.Calls.{entries_of, Drives, IsTurned, PassesBy, TurnsBy}
 use Rattle.nsc_laws.proofs.Requests.{same_request, request_same}
 use Rattle.nsc_laws.proofs.CoreLaw.{changed, begun, taking, answered_law}
-use Rattle.nsc_laws.proofs.MachineLawLists.{filter_from, rise_filter, found, missed, used_fixed, one_live, Apart, live_apart}
-use Rattle.nsc_laws.proofs.MachineLawEnds.{ends_behind, invalidations_ends, polled_ends, finishes, finishes_own, ended, ends_run, due_allowed, due_is, other_is, due_live, due_rise, pruned_tells}
-use Rattle.nsc_laws.proofs.MachineLawSteps.{Step, no_step, one_step, then_step, silent_step, runs_append, Stands, Looked, retold, gains_on, caller_on, begin_step, begin_stands, Went, Nothing, Comes, comes_behind, comes_then, stays, moved, passes, driven}
+use Rattle.nsc_laws.proofs.MachineLawLists.{filter_from, rise_filter, found, missed, used_entries, one_live, Apart, live_apart}
+use Rattle.nsc_laws.proofs.MachineLawEnds.{ends_after, invalidations_ends, polled_ends, finishes, finishes_own, ended, ends_run, due_allowed, due_is, other_is, due_live, due_rise, pruned_tells}
+use Rattle.nsc_laws.proofs.MachineLawSteps.{Step, no_step, one_step, then_step, silent_step, runs_append, Stands, Looked, retold, gains_on, caller_on, begin_step, begin_stands, Went, Nothing, Comes, comes_after, comes_then, stays, moved, passes, driven}
 use Rattle.nsc_laws.proofs.MachineLawParts.{Polled, poll_comes, Tried, tries, compacts, invalid_comes}
 
 abbrev given : ℕ → Option ℕ
@@ -34,11 +34,11 @@ asking r = Some r
 -- ---- reloads
 
 -- the entries that are still to be reloaded have requests of their own, and none of them is live
-record Free (live rest : List Fixed) : Type 0 where
-  differ : (e f : Fixed) → Among live e → Among rest f → e.request ≢ f.request
+record Free (live rest : List Entry) : Type 0 where
+  differ : (e f : Entry) → Among live e → Among rest f → e.request ≢ f.request
   apart : Apart rest
 
-reloads : (db : Db) (a : ℕ) (event : List Record) (settings : DbConf) (now : ℕ) (rest : List Kept) (core : Core) (c : Caller) (cache : Cache) → Stands a event core c cache → Looked core.history c cache → Free (fixed_of cache.entries) (fixed_of rest)
+reloads : (db : Db) (a : ℕ) (event : List Record) (settings : DbConf) (now : ℕ) (rest : List Kept) (core : Core) (c : Caller) (cache : Cache) → Stands a event core c cache → Looked core.history c cache → Free (entries_of cache.entries) (entries_of rest)
     → Went db a event core Nothing (reloaded settings now rest cache).adds (reloaded settings now rest cache).cache
 reloads db a event settings now [] core c cache s l free = stays db a event core c Nothing cache s tt
 reloads db a event settings now (k ∷ rest) core c cache s l free =
@@ -66,19 +66,19 @@ reloads db a event settings now (k ∷ rest) core c cache s l free =
 -- what is known between the ends of a tick and its reloads
 record Ready (rest : List Kept) (h : List Record) (c : Caller) (cache : Cache) : Type 0 where
   looked : Looked h c cache
-  free : Free (fixed_of cache.entries) (fixed_of rest)
+  free : Free (entries_of cache.entries) (entries_of rest)
 
-free_rest : (options : Option ℕ) (now : ℕ) (h : List Record) (ks : List Kept) → Legal h → AreLive h (fixed_of ks) → Free (fixed_of (others_of now ks)) (fixed_of (reloaded_of options (due_of now ks)))
+free_rest : (options : Option ℕ) (now : ℕ) (h : List Record) (ks : List Kept) → Legal h → AreLive h (entries_of ks) → Free (entries_of (others_of now ks)) (entries_of (reloaded_of options (due_of now ks)))
 free_rest options now h ks l are = record {
   differ = λ e f x y same. (
       let other = other_is now ks e x in
       let due = due_is now ks f (reload_is f y) in
       let one : e ≡ f = one_live h e f l (are.live e other.0) (are.live f due.0) same in
-      let both : true ≡ false = sym due.1 ∙ (sym (ap (λ (g : Fixed). ltb g.timeout now) one) ∙ other.1) in
+      let both : true ≡ false = sym due.1 ∙ (sym (ap (λ (g : Entry). ltb g.timeout now) one) ∙ other.1) in
       absurd cc);
-  apart = live_apart h (fixed_of (reloaded_of options (due_of now ks))) l (λ f y. due_live now ks h are f (reload_is f y)) (rise_filter (λ k. not (is_dropped options k)) (due_of now ks) (due_rise now ks h are));
+  apart = live_apart h (entries_of (reloaded_of options (due_of now ks))) l (λ f y. due_live now ks h are f (reload_is f y)) (rise_filter (λ k. not (is_dropped options k)) (due_of now ks) (due_rise now ks h are));
 } where
-  reload_is : (f : Fixed) → Among (fixed_of (reloaded_of options (due_of now ks))) f → Among (fixed_of (due_of now ks)) f
+  reload_is : (f : Entry) → Among (entries_of (reloaded_of options (due_of now ks))) f → Among (entries_of (due_of now ks)) f
   reload_is f y = (filter_from (λ k. not (is_dropped options k)) (due_of now ks) f y).0
 
 prune_comes : (db : Db) (a : ℕ) (event : List Record) (settings : DbConf) (options : Option ℕ) (now : ℕ) (core : Core) (c : Caller) (cache : Cache) → Stands a event core c cache → Looked core.history c cache → Comes db a event core Nothing (pruned settings options now cache)
@@ -93,18 +93,18 @@ prune_comes db a event settings options now core c cache s l =
       moves = finishes cause due;
       own = finishes_own a event cause due;
       runs = ends_run db cause due core (due_live now cache.entries h s.tells.entries_are) (due_allowed options now cache.entries) (due_rise now cache.entries h s.tells.entries_are);
-      history_is = sym (ends_behind cause due [] h);
+      history_is = sym (ends_after cause due [] h);
       sources_stay = refl;
     } in
-    let s1 = gains_on a event core (ends_of cause due h) (ends_of cause due []) c cache after (sym (ends_behind cause due [] h)) (pruned_tells options now h cache s.tells) s in
+    let s1 = gains_on a event core (ends_of cause due h) (ends_of cause due []) c cache after (sym (ends_after cause due [] h)) (pruned_tells options now h cache s.tells) s in
     let looked : Looked core1.history c cache = record {
       version_is = l.version_is;
       noted_is = l.noted_is ∙ ap (λ (n : ℕ). given n) (sym (invalidations_ends cause due h));
       was = polled_ends cause due h cache.newest_version l.was;
     } in
     let free = free_rest options now h cache.entries s.tells.legal s.tells.entries_are in
-    comes_behind db a event core core1 Nothing (ends_of cause due []) (compacted_behind due after >>= λ x. Ok (reloaded settings now rest x)) step
-    (comes_then db a event core1 (Ready rest) Nothing (compacted_behind due after) (λ x. Ok (reloaded settings now rest x))
+    comes_after db a event core core1 Nothing (ends_of cause due []) (compacted_after due after >>= λ x. Ok (reloaded settings now rest x)) step
+    (comes_then db a event core1 (Ready rest) Nothing (compacted_after due after) (λ x. Ok (reloaded settings now rest x))
     (compacts db a event core1 c (Ready rest) due after s1 (λ cycle used. record { looked = record { version_is = looked.version_is; noted_is = looked.noted_is; was = looked.was }; free = free }))
     (λ mid d x sources t ready. reloads db a event settings now rest mid d x t ready.looked ready.free))
 
@@ -124,7 +124,7 @@ tick_comes db a event settings options now core c cache s = by_test settings.ena
       (λ mid d x sources t p. check_comes db a event settings options now mid d x t p.looked)
   by_test false = stays db a event core c Nothing cache s tt
 
--- ---- a look-up
+-- ---- a lookup
 
 -- the caller may get this reply
 record Gets (db : Db) (a : ℕ) (old : Core) (request : Request) (adds : List Record) (reply : List ℕ) (after : Cache) : Type 0 where
@@ -134,9 +134,9 @@ record Gets (db : Db) (a : ℕ) (old : Core) (request : Request) (adds : List Re
   stands : Stands a old.history new caller after
   request_is : caller.request ≡ Some request
   seen_is : caller.seen ≡ old.history
-  live : (e : Fixed) → caller.taken ≡ Some e → IsLive new.history e
-  source : ((e : Fixed) × ((new.callers a).taken ≡ Some e) × (e.answer.bytes ≡ reply))
-      ⊎ ((n : ℕ) × (content : files.Files) × ((new.callers a).asked ≡ Some n) × (version_in new.history n ≡ Some content) × ((answer_of content request).bytes ≡ reply))
+  live : (e : Entry) → caller.taken ≡ Some e → IsLive new.history e
+  source : ((e : Entry) × ((new.callers a).taken ≡ Some e) × (e.answer.bytes ≡ reply))
+      ⊎ ((n : ℕ) × (content : Content) × ((new.callers a).asked ≡ Some n) × (version_in new.history n ≡ Some content) × ((answer_of content request).bytes ≡ reply))
 
 gets_turned : (db : Db) (a : ℕ) (old : Core) (cache : Cache) (request : Request) (adds : List Record) (reply : List ℕ) (after : Cache) → Drives db a old cache → (g : Gets db a old request adds reply after) → IsTurned db a old request adds reply after g.new
 gets_turned db a old cache request adds reply after d g =
@@ -152,7 +152,7 @@ gets_turned db a old cache request adds reply after d g =
       answered = subst (λ (h : List Record). Answered h g.new.history request reply) seen (answered_law db m.drives.first m.drives.moves g.new m.drives.runs a reply replies);
     }
 
-hits : (db : Db) (a : ℕ) (old : Core) (request : Request) (cache : Cache) (k : Kept) → Stands a old.history old (old.callers a) cache → Among (fixed_of cache.entries) k.entry → request ≡ k.entry.request
+hits : (db : Db) (a : ℕ) (old : Core) (request : Request) (cache : Cache) (k : Kept) → Stands a old.history old (old.callers a) cache → Among (entries_of cache.entries) k.entry → request ≡ k.entry.request
     → Gets db a old request [] k.entry.answer.bytes (record cache { entries = used_now request cache.entries })
 hits db a old request cache k s among same =
     let c1 = begun (old.callers a) (Some request) old.history in
@@ -167,7 +167,7 @@ hits db a old request cache k s among same =
       step = silent_step db a old.history old core1 core2 [] (begin_step db a old.history old (old.callers a) cache request s)
           (one_step db a old.history (Look a (Some k.entry)) core1 [] core2 refl
           (s.tells.entries_are.live k.entry among, ap (λ (x : Caller). x.request) s1.caller_is ∙ ap (λ (r : Request). asking r) same, ap (λ (x : Caller). changed core1 a (taking x k.entry)) (sym s1.caller_is)) refl refl);
-      stands = retold a old.history core2 c2 cache (used_now request cache.entries) cache.used cache.cycle cache.ticked_version cache.add_failed (used_fixed request cache.entries) s2;
+      stands = retold a old.history core2 c2 cache (used_now request cache.entries) cache.used cache.cycle cache.ticked_version cache.add_failed (used_entries request cache.entries) s2;
       request_is = refl;
       seen_is = refl;
       live = λ e is. subst (IsLive old.history) (same_Some k.entry e is) (s.tells.entries_are.live k.entry among);
@@ -175,7 +175,7 @@ hits db a old request cache k s among same =
     }
 
 keeps : (db : Db) (a : ℕ) (event : List Record) (core : Core) (c : Caller) (settings : DbConf) (now : ℕ) (request : Request) (cache : Cache) → Stands a event core c cache → Looked core.history c cache → c.request ≡ Some request
-    → (settings.enabled ≡ true → (e : Fixed) → Among (fixed_of cache.entries) e → e.request ≢ request)
+    → (settings.enabled ≡ true → (e : Entry) → Among (entries_of cache.entries) e → e.request ≢ request)
     → Tried db a event core c request cache (kept_answer settings now request cache).adds (kept_answer settings now request cache).cache
 keeps db a event core c settings now request cache s l is others = by_test settings.enabled refl where
   by_test : (b : Bool) → settings.enabled ≡ b → Tried db a event core c request cache (cond b (tried settings now request 0 cache) (unchanged cache)).adds (cond b (tried settings now request 0 cache) (unchanged cache)).cache
@@ -185,7 +185,7 @@ keeps db a event core c settings now request cache s l is others = by_test setti
 abbrev asks : Core → ℕ → Request → Core
 asks old a request = changed old a (begun (old.callers a) (Some request) old.history)
 
-misses : (db : Db) (a : ℕ) (old : Core) (settings : DbConf) (now : ℕ) (request : Request) (cache : Cache) → Drives db a old cache → (settings.enabled ≡ true → (e : Fixed) → Among (fixed_of cache.entries) e → e.request ≢ request)
+misses : (db : Db) (a : ℕ) (old : Core) (settings : DbConf) (now : ℕ) (request : Request) (cache : Cache) → Drives db a old cache → (settings.enabled ≡ true → (e : Entry) → Among (entries_of cache.entries) e → e.request ≢ request)
     → TurnsBy db a old request (loaded settings now request (polled (part_of db old.sources) cache))
 misses db a old settings now request cache d others = by_poll (polled (part_of db old.sources) cache) looks where
   begins : Step db a old.history old [] (asks old a request)
@@ -197,8 +197,8 @@ misses db a old settings now request cache d others = by_poll (polled (part_of d
   by_poll : (r : Result Passed Stopped) → Comes db a old.history (asks old a request) (Polled (Some request) old.history None cache.entries) r → TurnsBy db a old request (loaded settings now request r)
   by_poll (Ok poll) w =
       let after = kept_answer settings now request poll.cache in
-      let others_there : settings.enabled ≡ true → (e : Fixed) → Among (fixed_of poll.cache.entries) e → e.request ≢ request =
-      λ enabled e x. others enabled e (subst (λ (ks : List Kept). Among (fixed_of ks) e) w.holds.entries_stay x) in
+      let others_there : settings.enabled ≡ true → (e : Entry) → Among (entries_of poll.cache.entries) e → e.request ≢ request =
+      λ enabled e x. others enabled e (subst (λ (ks : List Kept). Among (entries_of ks) e) w.holds.entries_stay x) in
       let t = keeps db a old.history w.new w.caller settings now request poll.cache w.stands w.holds.looked w.holds.request_is others_there in
       let both = then_step db a old.history (asks old a request) w.new t.new poll.adds after.adds w.step t.step in
       let g : Gets db a old request (after.adds ++ poll.adds) (answer_of poll.cache.sources request).bytes after.cache = record {
@@ -218,7 +218,7 @@ misses db a old settings now request cache d others = by_poll (polled (part_of d
 
 -- ---- the law
 
-pub opening_drives : (db : Db) (a : ℕ) (sources : files.Files) → Drives db a (opening db sources) (new_cache (part_of db sources))
+pub opening_drives : (db : Db) (a : ℕ) (sources : Content) → Drives db a (opening db sources) (new_cache (part_of db sources))
 opening_drives db a sources = record {
   first = sources;
   moves = [];
@@ -235,7 +235,7 @@ opening_drives db a sources = record {
   };
 }
 
-pub files_drive : (db : Db) (a : ℕ) (old : Core) (cache : Cache) (sources : files.Files) → Drives db a old cache → Drives db a (record old { sources = sources }) cache
+pub files_drive : (db : Db) (a : ℕ) (old : Core) (cache : Cache) (sources : Content) → Drives db a old cache → Drives db a (record old { sources = sources }) cache
 files_drive db a old cache sources d = record {
   first = d.first;
   moves = d.moves ++ Files sources ∷ [];
@@ -248,9 +248,9 @@ found_in : (b : Bool) (o : Option Kept) (k : Kept) → cond b o None ≡ Some k 
 found_in true o k e = e
 found_in false o k e = absurd cc
 
-pub look_up_turns : (db : Db) (a : ℕ) (settings : DbConf) (now : ℕ) (request : Request) (old : Core) (cache : Cache) → Drives db a old cache → TurnsBy db a old request (look_up settings now (part_of db old.sources) request cache)
-unfolding look_up
-look_up_turns db a settings now request old cache d = by_found (cached settings request cache) refl where
+pub lookup_turns : (db : Db) (a : ℕ) (settings : DbConf) (now : ℕ) (request : Request) (old : Core) (cache : Cache) → Drives db a old cache → TurnsBy db a old request (lookup settings now (part_of db old.sources) request cache)
+unfolding lookup
+lookup_turns db a settings now request old cache d = by_found (cached settings request cache) refl where
   by_found : (o : Option Kept) → cond settings.enabled (find (λ k. is_request request k.entry.request) cache.entries) None ≡ o → TurnsBy db a old request (hit_or_load o settings now (part_of db old.sources) request cache)
   by_found (Some k) e =
       let at = found (λ x. is_request request x.entry.request) cache.entries k (found_in settings.enabled (find (λ x. is_request request x.entry.request) cache.entries) k e) in

@@ -5,7 +5,8 @@ use Rattle.std.proofs.lemmas.List.Elements.{All-nil, All-cons, All-append, All-w
 use Rattle.nsc_model.specs.declared.kind.Db.{Db}
 use Rattle.nsc_model.specs.declared.kind.Db.TheVariants.{Passwd, Group, Hosts, Services}
 use Rattle.nsc_model.specs.declared.record.Record.{Record}
-use Rattle.nsc_model.specs.Files.{Files, no_files}
+use Rattle.nsc_model.specs.Content.{Content}
+use Rattle.nsc_model.specs.Files.{no_files}
 use Rattle.nsc_model.specs.History.{invalidations}
 use Rattle.nsc_laws.specs.Core.{Caller, Core, Note, opening}
 use Rattle.nsc_model.specs.Machine.{Cache}
@@ -19,10 +20,10 @@ use Rattle.nsc_laws.proofs.MachineLawSteps.{own_by, runs_append, at_own, note_st
 -- ---- four cores
 
 -- the core stands over these files, and its caller holds no content that it fetched
-abbrev Rests : Files → Core → Type 0
+abbrev Rests : Content → Core → Type 0
 Rests f core = (core.sources ≡ f) × ((core.callers 0).fetched ≡ None)
 
-four_drive : (s : State) (cores : Db → Core) → Drives Passwd 0 (cores Passwd) s.users → Drives Group 0 (cores Group) s.groups → Drives Hosts 0 (cores Hosts) s.hosts → Drives Services 0 (cores Services) s.services
+four_drive : (s : State) (cores : Db → Core) → Drives Passwd 0 (cores Passwd) s.passwd → Drives Group 0 (cores Group) s.group → Drives Hosts 0 (cores Hosts) s.hosts → Drives Services 0 (cores Services) s.services
     → ((db : Db) → Rests s.files (cores db)) → AllDrive s cores
 four_drive s cores users groups hosts services rests = record { drives = drives; sources_are = λ db. (rests db).0; none_fetched = λ db. (rests db).1 } where
   drives : (db : Db) → Drives db 0 (cores db) (cache_of s db)
@@ -31,7 +32,7 @@ four_drive s cores users groups hosts services rests = record { drives = drives;
   drives Hosts = hosts
   drives Services = services
 
-rest_with : (f : Files) (cores : Db → Core) (db : Db) (core : Core) → ((e : Db) → Rests f (cores e)) → Rests f core → (e : Db) → Rests f (with_at cores db core e)
+rest_with : (f : Content) (cores : Db → Core) (db : Db) (core : Core) → ((e : Db) → Rests f (cores e)) → Rests f core → (e : Db) → Rests f (with_at cores db core e)
 rest_with f cores Passwd core others own Passwd = own
 rest_with f cores Passwd core others own Group = others Group
 rest_with f cores Passwd core others own Hosts = others Hosts
@@ -84,17 +85,17 @@ gained_with old cores adds Services core more g none is =
     four_gained old (adds Passwd) (adds Group) (adds Hosts) more (cores Passwd) (cores Group) (cores Hosts) core (g Passwd) (g Group) (g Hosts) (first_gained (old Services) (cores Services) core (adds Services) more (g Services) none is)
 
 -- and each core moves on over these files
-abbrev Over : Files → (Db → Core) → (Db → Core) → Type 0
+abbrev Over : Content → (Db → Core) → (Db → Core) → Type 0
 Over f old new = (db : Db) → MovesOver db 0 f (old db) (new db)
 
-four_over : (f : Files) (old : Db → Core) (users groups hosts services : Core) → MovesOver Passwd 0 f (old Passwd) users → MovesOver Group 0 f (old Group) groups → MovesOver Hosts 0 f (old Hosts) hosts → MovesOver Services 0 f (old Services) services
+four_over : (f : Content) (old : Db → Core) (users groups hosts services : Core) → MovesOver Passwd 0 f (old Passwd) users → MovesOver Group 0 f (old Group) groups → MovesOver Hosts 0 f (old Hosts) hosts → MovesOver Services 0 f (old Services) services
     → Over f old (each_of users groups hosts services)
 four_over f old users groups hosts services p g h v Passwd = p
 four_over f old users groups hosts services p g h v Group = g
 four_over f old users groups hosts services p g h v Hosts = h
 four_over f old users groups hosts services p g h v Services = v
 
--- behind an event its caller notes the invalidations anew, so that it holds no content
+-- after an event its caller notes the invalidations anew, so that it holds no content
 abbrev pub settled : Core → Core
 settled core = changed core 0 (noting (core.callers 0) (invalidations core.history))
 
@@ -104,10 +105,10 @@ settled_drives db core cache d =
     let s = driven db 0 core cache d in
     drive_on db 0 core cache core.history [] (settled core) (noting c (invalidations core.history)) cache d (note_step db 0 core.history core c cache s) (note_stands 0 core.history core c cache s)
 
-settled_rests : (f : Files) (core : Core) → core.sources ≡ f → Rests f (settled core)
+settled_rests : (f : Content) (core : Core) → core.sources ≡ f → Rests f (settled core)
 settled_rests f core same = (same, ap (λ (c : Caller). c.fetched) (at_own core.callers 0 (noting (core.callers 0) (invalidations core.history))))
 
-over_more : (db : Db) (f : Files) (old mid new : Core) (adds : List Record) (after : Cache) → MovesOver db 0 f old mid → IsMoved db 0 mid adds after new → MovesOver db 0 f old (settled new)
+over_more : (db : Db) (f : Content) (old mid new : Core) (adds : List Record) (after : Cache) → MovesOver db 0 f old mid → IsMoved db 0 mid adds after new → MovesOver db 0 f old (settled new)
 over_more db f old mid new adds after o m = record {
   moves = o.moves ++ (m.moves ++ Note 0 ∷ []);
   own = All-append (IsBy 0) o.moves (m.moves ++ Note 0 ∷ []) o.own
@@ -115,26 +116,26 @@ over_more db f old mid new adds after o m = record {
   runs = runs_append db o.moves (m.moves ++ Note 0 ∷ []) (record old { sources = f }) mid (settled new) o.runs (runs_append db m.moves (Note 0 ∷ []) mid new (settled new) m.runs (settled new, refl, refl));
 }
 
-over_with : (f : Files) (old cores : Db → Core) (db : Db) (core : Core) → Over f old cores → MovesOver db 0 f (old db) core → Over f old (with_at cores db core)
+over_with : (f : Content) (old cores : Db → Core) (db : Db) (core : Core) → Over f old cores → MovesOver db 0 f (old db) core → Over f old (with_at cores db core)
 over_with f old cores Passwd core o p = four_over f old core (cores Group) (cores Hosts) (cores Services) p (o Group) (o Hosts) (o Services)
 over_with f old cores Group core o p = four_over f old (cores Passwd) core (cores Hosts) (cores Services) (o Passwd) p (o Hosts) (o Services)
 over_with f old cores Hosts core o p = four_over f old (cores Passwd) (cores Group) core (cores Services) (o Passwd) (o Group) p (o Services)
 over_with f old cores Services core o p = four_over f old (cores Passwd) (cores Group) (cores Hosts) core (o Passwd) (o Group) (o Hosts) p
 
 -- a core whose files are these stays
-over_same : (db : Db) (f : Files) (core : Core) → core.sources ≡ f → MovesOver db 0 f core core
-over_same db f core same = record { moves = []; own = All-nil (IsBy 0); runs = ap (λ (x : Files). record core { sources = x }) same }
+over_same : (db : Db) (f : Content) (core : Core) → core.sources ≡ f → MovesOver db 0 f core core
+over_same db f core same = record { moves = []; own = All-nil (IsBy 0); runs = ap (λ (x : Content). record core { sources = x }) same }
 
 -- the moment says nothing of the caches
 pub moment_drive : (s : State) (cores : Db → Core) (moment : ℕ) → AllDrive s cores → AllDrive (record s { moment = moment }) cores
 moment_drive s cores moment d = four_drive (record s { moment = moment }) cores (d.drives Passwd) (d.drives Group) (d.drives Hosts) (d.drives Services) (rests_of s cores d)
 
-abbrev pub over_files : Files → (Db → Core) → Db → Core
+abbrev pub over_files : Content → (Db → Core) → Db → Core
 over_files f cores db = record (cores db) { sources = f }
 
-pub become_drive : (s : State) (cores : Db → Core) (f : Files) → AllDrive s cores → AllDrive (record s { files = f }) (over_files f cores)
-become_drive s cores f d =
-    four_drive (record s { files = f }) (over_files f cores) (files_drive Passwd 0 (cores Passwd) s.users f (d.drives Passwd)) (files_drive Group 0 (cores Group) s.groups f (d.drives Group))
+pub set_file_drive : (s : State) (cores : Db → Core) (f : Content) → AllDrive s cores → AllDrive (record s { files = f }) (over_files f cores)
+set_file_drive s cores f d =
+    four_drive (record s { files = f }) (over_files f cores) (files_drive Passwd 0 (cores Passwd) s.passwd f (d.drives Passwd)) (files_drive Group 0 (cores Group) s.group f (d.drives Group))
     (files_drive Hosts 0 (cores Hosts) s.hosts f (d.drives Hosts)) (files_drive Services 0 (cores Services) s.services f (d.drives Services)) (λ db. (refl, d.none_fetched db))
 
 -- ---- moves of one of them
@@ -160,7 +161,7 @@ one_moves old adds s cores db core more after g none m =
     record {
       drive = drive_with s cores db new after g.drive (settled_drives db core after m.drives) (settled_rests s.files core (m.sources_stay ∙ g.drive.sources_are db));
       gained = gained_with old cores adds db new more g.gained none m.history_is;
-      over = subst (λ (f : Files). Over f old (with_at cores db new)) (sym (files_with s db after)) over;
+      over = subst (λ (f : Content). Over f old (with_at cores db new)) (sym (files_with s db after)) over;
     }
 
 pub all_stay : (s : State) (cores : Db → Core) → AllDrive s cores → AllMove cores none_add s cores

@@ -5,11 +5,11 @@ use Rattle.nsc_model.specs.declared.answer.Request.{Request}
 use Rattle.nsc_model.specs.declared.record.Record.{Record}
 use Rattle.nsc_model.specs.declared.record.Record.TheVariants.{Change, Poll, Load, End, Invalid}
 use Rattle.nsc_model.specs.Kinds.{is_request}
-use Rattle.nsc_model.specs.Fixed.{Fixed}
+use Rattle.nsc_model.specs.Entry.{Entry}
 use Rattle.nsc_model.specs.History.{loads, HasLoad, HasEnd, IsLive, Legal}
 use Rattle.nsc_laws.specs.Core.{Among, Rise}
 use Rattle.nsc_model.specs.Machine.{Kept, used_now}
-use Rattle.nsc_laws.specs.Calls.{fixed_of}
+use Rattle.nsc_laws.specs.Calls.{entries_of}
 use Rattle.nsc_laws.proofs.Prefixes.{load_below}
 use Rattle.nsc_laws.proofs.CoreLawRecords.{rise_tail, first_least}
 use Rattle.nsc_laws.proofs.CoreLawLive.{rise_first}
@@ -17,31 +17,31 @@ use Rattle.nsc_laws.proofs.CoreLawLive.{rise_first}
 -- ---- filters
 
 -- what a filter keeps was there, and passes the test
-pub filter_from : (test : Kept → Bool) (ks : List Kept) (e : Fixed) → Among (fixed_of (filter test ks)) e → Among (fixed_of ks) e × ((k : Kept) × (k.entry ≡ e) × (test k ≡ true))
+pub filter_from : (test : Kept → Bool) (ks : List Kept) (e : Entry) → Among (entries_of (filter test ks)) e → Among (entries_of ks) e × ((k : Kept) × (k.entry ≡ e) × (test k ≡ true))
 filter_from test [] e a = absurd a
 filter_from test (x ∷ ks) e a = by_test (test x) refl a (filter_from test ks e) where
-  by_test : (b : Bool) → test x ≡ b → Among (fixed_of (cond b (x ∷ filter test ks) (filter test ks))) e → (Among (fixed_of (filter test ks)) e → Among (fixed_of ks) e × ((k : Kept) × (k.entry ≡ e) × (test k ≡ true)))
-      → Among (fixed_of (x ∷ ks)) e × ((k : Kept) × (k.entry ≡ e) × (test k ≡ true))
+  by_test : (b : Bool) → test x ≡ b → Among (entries_of (cond b (x ∷ filter test ks) (filter test ks))) e → (Among (entries_of (filter test ks)) e → Among (entries_of ks) e × ((k : Kept) × (k.entry ≡ e) × (test k ≡ true)))
+      → Among (entries_of (x ∷ ks)) e × ((k : Kept) × (k.entry ≡ e) × (test k ≡ true))
   by_test true t (inl same) others = (inl same, (x, same, t))
   by_test true t (inr a) others = let f = others a in (inr f.0, f.1)
   by_test false t a others = let f = others a in (inr f.0, f.1)
 
 -- a filter by a test of the entries keeps what passes it
-pub filter_to : (test : Fixed → Bool) (ks : List Kept) (e : Fixed) → Among (fixed_of ks) e → test e ≡ true → Among (fixed_of (filter (λ k. test k.entry) ks)) e
+pub filter_to : (test : Entry → Bool) (ks : List Kept) (e : Entry) → Among (entries_of ks) e → test e ≡ true → Among (entries_of (filter (λ k. test k.entry) ks)) e
 filter_to test [] e a t = absurd a
 filter_to test (x ∷ ks) e a t = by_test (test x.entry) refl a (λ among. filter_to test ks e among t) where
-  by_test : (b : Bool) → test x.entry ≡ b → Among (fixed_of (x ∷ ks)) e → (Among (fixed_of ks) e → Among (fixed_of (filter (λ k. test k.entry) ks)) e)
-      → Among (fixed_of (cond b (x ∷ filter (λ k. test k.entry) ks) (filter (λ k. test k.entry) ks))) e
+  by_test : (b : Bool) → test x.entry ≡ b → Among (entries_of (x ∷ ks)) e → (Among (entries_of ks) e → Among (entries_of (filter (λ k. test k.entry) ks)) e)
+      → Among (entries_of (cond b (x ∷ filter (λ k. test k.entry) ks) (filter (λ k. test k.entry) ks))) e
   by_test true u (inl same) others = inl same
   by_test true u (inr a) others = inr (others a)
   by_test false u (inl same) others = let both : true ≡ false = sym t ∙ (sym (ap test same) ∙ u) in absurd cc
   by_test false u (inr a) others = others a
 
-pub rise_filter : (test : Kept → Bool) (ks : List Kept) → Rise (fixed_of ks) → Rise (fixed_of (filter test ks))
+pub rise_filter : (test : Kept → Bool) (ks : List Kept) → Rise (entries_of ks) → Rise (entries_of (filter test ks))
 rise_filter test [] r = tt
-rise_filter test (k ∷ ks) r = by_test (test k) (rise_filter test ks (rise_tail k.entry (fixed_of ks) r)) where
-  by_test : (b : Bool) → Rise (fixed_of (filter test ks)) → Rise (fixed_of (cond b (k ∷ filter test ks) (filter test ks)))
-  by_test true rest = rise_first k.entry (fixed_of (filter test ks)) (λ f a. first_least k.entry (fixed_of ks) f r (filter_from test ks f a).0) rest
+rise_filter test (k ∷ ks) r = by_test (test k) (rise_filter test ks (rise_tail k.entry (entries_of ks) r)) where
+  by_test : (b : Bool) → Rise (entries_of (filter test ks)) → Rise (entries_of (cond b (k ∷ filter test ks) (filter test ks)))
+  by_test true rest = rise_first k.entry (entries_of (filter test ks)) (λ f a. first_least k.entry (entries_of ks) f r (filter_from test ks f a).0) rest
   by_test false rest = rest
 
 -- ---- searches
@@ -52,74 +52,74 @@ some k = Some k
 some_is : (a b : Kept) → some a ≡ some b → a ≡ b
 some_is a b e = cc
 
-pub found : (test : Kept → Bool) (ks : List Kept) (k : Kept) → find test ks ≡ Some k → Among (fixed_of ks) k.entry × (test k ≡ true)
+pub found : (test : Kept → Bool) (ks : List Kept) (k : Kept) → find test ks ≡ Some k → Among (entries_of ks) k.entry × (test k ≡ true)
 found test [] k h = absurd cc
 found test (x ∷ ks) k h = by_test (test x) refl h (found test ks k) where
-  by_test : (b : Bool) → test x ≡ b → cond b (Some x) (find test ks) ≡ Some k → (find test ks ≡ Some k → Among (fixed_of ks) k.entry × (test k ≡ true)) → Among (fixed_of (x ∷ ks)) k.entry × (test k ≡ true)
+  by_test : (b : Bool) → test x ≡ b → cond b (Some x) (find test ks) ≡ Some k → (find test ks ≡ Some k → Among (entries_of ks) k.entry × (test k ≡ true)) → Among (entries_of (x ∷ ks)) k.entry × (test k ≡ true)
   by_test true t h others = let same : x ≡ k = some_is x k h in (inl (ap (λ (y : Kept). y.entry) same), subst (λ y. test y ≡ true) same t)
   by_test false t h others = let f = others h in (inr f.0, f.1)
 
-pub missed : (test : Fixed → Bool) (ks : List Kept) (e : Fixed) → find (λ k. test k.entry) ks ≡ None → Among (fixed_of ks) e → test e ≡ false
+pub missed : (test : Entry → Bool) (ks : List Kept) (e : Entry) → find (λ k. test k.entry) ks ≡ None → Among (entries_of ks) e → test e ≡ false
 missed test [] e h a = absurd a
 missed test (x ∷ ks) e h a = by_test (test x.entry) refl h a (missed test ks e) where
-  by_test : (b : Bool) → test x.entry ≡ b → cond b (Some x) (find (λ k. test k.entry) ks) ≡ None → Among (fixed_of (x ∷ ks)) e → (find (λ k. test k.entry) ks ≡ None → Among (fixed_of ks) e → test e ≡ false) → test e ≡ false
+  by_test : (b : Bool) → test x.entry ≡ b → cond b (Some x) (find (λ k. test k.entry) ks) ≡ None → Among (entries_of (x ∷ ks)) e → (find (λ k. test k.entry) ks ≡ None → Among (entries_of ks) e → test e ≡ false) → test e ≡ false
   by_test true t h a others = absurd cc
   by_test false t h (inl same) others = subst (λ y. test y ≡ false) same t
   by_test false t h (inr a) others = others h a
 
 -- a use changes no entry
-pub used_fixed : (request : Request) (ks : List Kept) → fixed_of (used_now request ks) ≡ fixed_of ks
-used_fixed request [] = refl
-used_fixed request (k ∷ ks) = by_test (is_request request k.entry.request) (used_fixed request ks) where
-  by_test : (b : Bool) → fixed_of (used_now request ks) ≡ fixed_of ks → fixed_of (cond b (record k { reloads = 0 }) k ∷ used_now request ks) ≡ fixed_of (k ∷ ks)
-  by_test true rest = ap (λ (es : List Fixed). k.entry ∷ es) rest
-  by_test false rest = ap (λ (es : List Fixed). k.entry ∷ es) rest
+pub used_entries : (request : Request) (ks : List Kept) → entries_of (used_now request ks) ≡ entries_of ks
+used_entries request [] = refl
+used_entries request (k ∷ ks) = by_test (is_request request k.entry.request) (used_entries request ks) where
+  by_test : (b : Bool) → entries_of (used_now request ks) ≡ entries_of ks → entries_of (cond b (record k { reloads = 0 }) k ∷ used_now request ks) ≡ entries_of (k ∷ ks)
+  by_test true rest = ap (λ (es : List Entry). k.entry ∷ es) rest
+  by_test false rest = ap (λ (es : List Entry). k.entry ∷ es) rest
 
 -- ---- entries of a history
 
 -- two entries of one number that were inserted are one
-pub same_load : (h : List Record) (e f : Fixed) → Legal h → HasLoad h e → HasLoad h f → e.number ≡ f.number → e ≡ f
+pub same_load : (h : List Record) (e f : Entry) → Legal h → HasLoad h e → HasLoad h f → e.number ≡ f.number → e ≡ f
 same_load [] e f l a b n = absurd l
 same_load (Change v c ∷ []) e f l a b n = absurd a
 same_load (Change v c ∷ r ∷ h) e f l a b n = same_load (r ∷ h) e f l.0 a b n
 same_load (Poll v ∷ h) e f l a b n = same_load h e f l.0 a b n
 same_load (Load x ∷ h) e f l (inl p) (inl q) n = sym p ∙ q
-same_load (Load x ∷ h) e f l (inl p) (inr b) n = let low : f.number < loads h = load_below h f l.0 b in let is : x.number ≡ loads h = l.1 in let same : x.number ≡ e.number = ap (λ (y : Fixed). y.number) p in absurd (omega arith)
-same_load (Load x ∷ h) e f l (inr a) (inl q) n = let low : e.number < loads h = load_below h e l.0 a in let is : x.number ≡ loads h = l.1 in let same : x.number ≡ f.number = ap (λ (y : Fixed). y.number) q in absurd (omega arith)
+same_load (Load x ∷ h) e f l (inl p) (inr b) n = let low : f.number < loads h = load_below h f l.0 b in let is : x.number ≡ loads h = l.1 in let same : x.number ≡ e.number = ap (λ (y : Entry). y.number) p in absurd (omega arith)
+same_load (Load x ∷ h) e f l (inr a) (inl q) n = let low : e.number < loads h = load_below h e l.0 a in let is : x.number ≡ loads h = l.1 in let same : x.number ≡ f.number = ap (λ (y : Entry). y.number) q in absurd (omega arith)
 same_load (Load x ∷ h) e f l (inr a) (inr b) n = same_load h e f l.0 a b n
 same_load (End k cause ∷ h) e f l a b n = same_load h e f l.0 a b n
 same_load (Invalid k ∷ h) e f l a b n = same_load h e f l.0 a b n
 
 -- two live entries of one request are one
-one_live_of : (h : List Record) (e f : Fixed) → Legal h → HasLoad h e → (HasEnd h e.number → ⊥) → HasLoad h f → (HasEnd h f.number → ⊥) → e.request ≡ f.request → e ≡ f
+one_live_of : (h : List Record) (e f : Entry) → Legal h → HasLoad h e → (HasEnd h e.number → ⊥) → HasLoad h f → (HasEnd h f.number → ⊥) → e.request ≡ f.request → e ≡ f
 one_live_of [] e f l a lives b stays r = absurd l
 one_live_of (Change v c ∷ []) e f l a lives b stays r = absurd a
 one_live_of (Change v c ∷ s ∷ h) e f l a lives b stays r = one_live_of (s ∷ h) e f l.0 a lives b stays r
 one_live_of (Poll v ∷ h) e f l a lives b stays r = one_live_of h e f l.0 a lives b stays r
 one_live_of (Load x ∷ h) e f l (inl p) lives (inl q) stays r = sym p ∙ q
-one_live_of (Load x ∷ h) e f l (inl p) lives (inr b) stays r = absurd (stays (l.2 f b (sym r ∙ sym (ap (λ (y : Fixed). y.request) p))))
-one_live_of (Load x ∷ h) e f l (inr a) lives (inl q) stays r = absurd (lives (l.2 e a (r ∙ sym (ap (λ (y : Fixed). y.request) q))))
+one_live_of (Load x ∷ h) e f l (inl p) lives (inr b) stays r = absurd (stays (l.2 f b (sym r ∙ sym (ap (λ (y : Entry). y.request) p))))
+one_live_of (Load x ∷ h) e f l (inr a) lives (inl q) stays r = absurd (lives (l.2 e a (r ∙ sym (ap (λ (y : Entry). y.request) q))))
 one_live_of (Load x ∷ h) e f l (inr a) lives (inr b) stays r = one_live_of h e f l.0 a lives b stays r
 one_live_of (End k cause ∷ h) e f l a lives b stays r = one_live_of h e f l.0 a (λ ended. lives (inr ended)) b (λ ended. stays (inr ended)) r
 one_live_of (Invalid k ∷ h) e f l a lives b stays r = one_live_of h e f l.0 a lives b stays r
 
-pub one_live : (h : List Record) (e f : Fixed) → Legal h → IsLive h e → IsLive h f → e.request ≡ f.request → e ≡ f
+pub one_live : (h : List Record) (e f : Entry) → Legal h → IsLive h e → IsLive h f → e.request ≡ f.request → e ≡ f
 one_live h e f l a b r = one_live_of h e f l a.inserted a.not_ended b.inserted b.not_ended r
 
 -- ---- lists of requests that differ
 
 -- the entries have different requests, each from each
-abbrev pub Apart : List Fixed → Type 0
+abbrev pub Apart : List Entry → Type 0
 Apart [] = Unit {0}
-Apart (e ∷ es) = ((f : Fixed) → Among es f → f.request ≢ e.request) × Apart es
+Apart (e ∷ es) = ((f : Entry) → Among es f → f.request ≢ e.request) × Apart es
 
 -- live entries in rising number are apart
-pub live_apart : (h : List Record) (es : List Fixed) → Legal h → ((e : Fixed) → Among es e → IsLive h e) → Rise es → Apart es
+pub live_apart : (h : List Record) (es : List Entry) → Legal h → ((e : Entry) → Among es e → IsLive h e) → Rise es → Apart es
 live_apart h [] l live r = tt
 live_apart h (e ∷ es) l live r = (differ, live_apart h es l (λ f a. live f (inr a)) (rise_tail e es r)) where
-  differ : (f : Fixed) → Among es f → f.request ≢ e.request
+  differ : (f : Entry) → Among es f → f.request ≢ e.request
   differ f a same =
       let one : f ≡ e = one_live h f e l (live f (inr a)) (live e (inl refl)) same in
-      let number : f.number ≡ e.number = ap (λ (y : Fixed). y.number) one in
+      let number : f.number ≡ e.number = ap (λ (y : Entry). y.number) one in
       let low : e.number < f.number = first_least e es f r a in
       omega arith

@@ -6,27 +6,27 @@ use Rattle.nsc_model.specs.declared.kind.Db.{Db}
 use Rattle.nsc_model.specs.declared.answer.Request.{Request}
 use Rattle.nsc_model.specs.declared.record.Record.{Record}
 use Rattle.nsc_model.specs.declared.record.Record.TheVariants.{Change, Poll, Load, Invalid}
-use Rattle.nsc_model.specs.Files as files
+use Rattle.nsc_model.specs.Content.{Content}
 use Rattle.nsc_model.specs.Files.{part_of, same_files}
-use Rattle.nsc_model.specs.Fixed.{Fixed}
+use Rattle.nsc_model.specs.Entry.{Entry}
 use Rattle.nsc_model.specs.declared.conf.DbConf.{DbConf}
 use Rattle.nsc_model.specs.History.{loads, invalidations, newest, version_in, HasEnd, IsLive, NoneLiveOf, WasPolled, Legal}
 use Rattle.nsc_laws.specs.Core.{Caller, Core, Insert, Empty, IsPoll, Among, ended_all, AreLive}
-use Rattle.nsc_model.specs.Machine.{last_count, Kept, Cache, unchanged, stopped, behind, polled, new_entry, Refusal, TooLarge, Discarded, Present, Spent, Full, own_refusal, room_of, tried_by, tried, entry_words, all_words, compacted_behind, emptied, by_invalidation, invalidated}
-use Rattle.nsc_laws.specs.Calls.{fixed_of, Tells}
+use Rattle.nsc_model.specs.Machine.{last_count, Kept, Cache, unchanged, stopped, after_adds, polled, new_entry, Refusal, TooLarge, Discarded, Present, Spent, Full, own_refusal, room_of, tried_by, tried, entry_words, all_words, compacted_after, emptied, by_invalidation, invalidated}
+use Rattle.nsc_laws.specs.Calls.{entries_of, Tells}
 use Rattle.nsc_model.proofs.Contents.{one_content}
 use Rattle.nsc_laws.proofs.Requests.{content_same}
 use Rattle.nsc_laws.proofs.Prefixes.{load_below}
 use Rattle.nsc_laws.proofs.CoreLawRecords.{ended_or_not, same_invalidations, none_left, all_ended}
 use Rattle.nsc_laws.proofs.CoreLawLive.{among_more, among_first, among_last, rise_last, new_live}
 use Rattle.nsc_laws.proofs.CoreLaw.{changed, noting, fetching, polling, change_legal}
-use Rattle.nsc_laws.proofs.MachineLawEnds.{ends_behind, ended_same, changes_ends, loads_ends, newest_ends, version_ends}
-use Rattle.nsc_laws.proofs.MachineLawSteps.{Step, no_step, one_step, silent_step, Stands, Looked, retold, gains_on, note_step, note_stands, fetch_step, fetch_stands, polled_core, poll_step, poll_stands, Went, Nothing, Comes, comes_behind, stays}
+use Rattle.nsc_laws.proofs.MachineLawEnds.{ends_after, ended_same, changes_ends, loads_ends, newest_ends, version_ends}
+use Rattle.nsc_laws.proofs.MachineLawSteps.{Step, no_step, one_step, silent_step, Stands, Looked, retold, gains_on, note_step, note_stands, fetch_step, fetch_stands, polled_core, poll_step, poll_stands, Went, Nothing, Comes, comes_after, stays}
 
 -- ---- a poll
 
--- what is known behind a poll: this caller's call goes on
-pub record Polled (request : Option Request) (seen : List Record) (taken : Option Fixed) (entries : List Kept) (h : List Record) (c : Caller) (cache : Cache) : Type 0 where
+-- what is known after a poll: this caller's call goes on
+pub record Polled (request : Option Request) (seen : List Record) (taken : Option Entry) (entries : List Kept) (h : List Record) (c : Caller) (cache : Cache) : Type 0 where
   pub looked : Looked h c cache
   pub asked_is : c.asked ≡ Some cache.newest_version
   pub request_is : c.request ≡ request
@@ -34,8 +34,8 @@ pub record Polled (request : Option Request) (seen : List Record) (taken : Optio
   pub taken_is : c.taken ≡ taken
   pub entries_stay : cache.entries ≡ entries
 
--- the history tells this version of this content behind the poll
-record Finds (h : List Record) (content : files.Files) (poll : Record) (after : Cache) : Type 0 where
+-- the history tells this version of this content after the poll
+record Finds (h : List Record) (content : Content) (poll : Record) (after : Cache) : Type 0 where
   tells : Tells (poll ∷ h) after
   is : IsPoll h content poll after.newest_version
   was : WasPolled (poll ∷ h) after.newest_version
@@ -71,14 +71,14 @@ poll_went db a event core c cache after poll same s f =
       };
     }
 
-abbrev holding : files.Files → Option files.Files
+abbrev holding : Content → Option Content
 holding f = Some f
 
 -- the same entries live
-live_like : (h g : List Record) (es : List Fixed) → ((e : Fixed) → IsLive h e → IsLive g e) → ((e : Fixed) → IsLive g e → IsLive h e) → AreLive h es → AreLive g es
+live_like : (h g : List Record) (es : List Entry) → ((e : Entry) → IsLive h e → IsLive g e) → ((e : Entry) → IsLive g e → IsLive h e) → AreLive h es → AreLive g es
 live_like h g es to from are = record { live = λ e a. to e (are.live e a); all = λ e l. are.all e (from e l); rising = are.rising }
 
-confirmed : (h : List Record) (content : files.Files) (cache : Cache) → Tells h cache → same_files content cache.sources ≡ true → Finds h content (Poll cache.newest_version) cache
+confirmed : (h : List Record) (content : Content) (cache : Cache) → Tells h cache → same_files content cache.sources ≡ true → Finds h content (Poll cache.newest_version) cache
 confirmed h content cache t same = record {
   tells = record {
     legal = (t.legal, sym t.counted);
@@ -87,28 +87,28 @@ confirmed h content cache t same = record {
     held = t.held;
     loads_are = t.loads_are;
     epochs_are = t.epochs_are;
-    entries_are = live_like h (Poll cache.newest_version ∷ h) (fixed_of cache.entries) (λ e l. record { inserted = l.inserted; not_ended = l.not_ended }) (λ e l. record { inserted = l.inserted; not_ended = l.not_ended }) t.entries_are;
+    entries_are = live_like h (Poll cache.newest_version ∷ h) (entries_of cache.entries) (λ e l. record { inserted = l.inserted; not_ended = l.not_ended }) (λ e l. record { inserted = l.inserted; not_ended = l.not_ended }) t.entries_are;
   };
-  is = inl (t.newest_is ∙ ap (λ (f : files.Files). holding f) (sym (one_content content cache.sources same)), sym t.counted, refl);
+  is = inl (t.newest_is ∙ ap (λ (f : Content). holding f) (sym (one_content content cache.sources same)), sym t.counted, refl);
   was = inl refl;
   same = refl;
 }
 
-holding_is : (f g : files.Files) → holding f ≡ holding g → f ≡ g
+holding_is : (f g : Content) → holding f ≡ holding g → f ≡ g
 holding_is f g e = cc
 
-abbrev turned : Cache → files.Files → Cache
+abbrev turned : Cache → Content → Cache
 turned cache content = record cache { sources = content; newest_version = cache.newest_version + 1 }
 
 eqb_same : (n : ℕ) → eqb n n ≡ true
 eqb_same n = search rules
 
-differ : (h : List Record) (content : files.Files) (cache : Cache) → Tells h cache → same_files content cache.sources ≡ false → newest h ≢ Some content
+differ : (h : List Record) (content : Content) (cache : Cache) → Tells h cache → same_files content cache.sources ≡ false → newest h ≢ Some content
 differ h content cache t other e =
     let same : cache.sources ≡ content = holding_is cache.sources content (sym t.newest_is ∙ e) in
-    false≢true (sym other ∙ subst (λ (f : files.Files). same_files content f ≡ true) (sym same) (content_same content))
+    false≢true (sym other ∙ subst (λ (f : Content). same_files content f ≡ true) (sym same) (content_same content))
 
-turns : (h : List Record) (content : files.Files) (cache : Cache) → Tells h cache → same_files content cache.sources ≡ false → Finds h content (Change (cache.newest_version + 1) content) (turned cache content)
+turns : (h : List Record) (content : Content) (cache : Cache) → Tells h cache → same_files content cache.sources ≡ false → Finds h content (Change (cache.newest_version + 1) content) (turned cache content)
 turns h content cache t other = record {
   tells = record {
     legal = change_legal h (cache.newest_version + 1) content t.legal (sym t.counted) (differ h content cache t other);
@@ -117,7 +117,7 @@ turns h content cache t other = record {
     held = rw (eqb_same (cache.newest_version + 1)) refl;
     loads_are = t.loads_are;
     epochs_are = t.epochs_are;
-    entries_are = live_like h (Change (cache.newest_version + 1) content ∷ h) (fixed_of cache.entries) (λ e l. record { inserted = l.inserted; not_ended = l.not_ended }) (λ e l. record { inserted = l.inserted; not_ended = l.not_ended }) t.entries_are;
+    entries_are = live_like h (Change (cache.newest_version + 1) content ∷ h) (entries_of cache.entries) (λ e l. record { inserted = l.inserted; not_ended = l.not_ended }) (λ e l. record { inserted = l.inserted; not_ended = l.not_ended }) t.entries_are;
   };
   is = inr (differ h content cache t other, sym t.counted, refl);
   was = inl refl;
@@ -146,22 +146,22 @@ pub record Tried (db : Db) (a : ℕ) (event : List Record) (old : Core) (c : Cal
   pub stands : Stands a event new c after
   pub looked : Looked new.history c after
   pub held : version_in new.history before.newest_version ≡ Some before.sources
-  pub among : (e : Fixed) → Among (fixed_of after.entries) e → Among (fixed_of before.entries) e ⊎ (e.request ≡ request)
+  pub among : (e : Entry) → Among (entries_of after.entries) e → Among (entries_of before.entries) e ⊎ (e.request ≡ request)
 
-none_of : (h : List Record) (es : List Fixed) (request : Request) → AreLive h es → ((e : Fixed) → Among es e → e.request ≢ request) → NoneLiveOf h request
+none_of : (h : List Record) (es : List Entry) (request : Request) → AreLive h es → ((e : Entry) → Among es e → e.request ≢ request) → NoneLiveOf h request
 none_of h es request are others e loaded same = by_end (ended_or_not h e.number) where
   by_end : HasEnd h e.number ⊎ (HasEnd h e.number → ⊥) → HasEnd h e.number
   by_end (inl gone) = gone
   by_end (inr never) = absurd (others e (are.all e (record { inserted = loaded; not_ended = never })) same)
 
-fixed_last : (ks : List Kept) (k : Kept) → fixed_of (ks ++ k ∷ []) ≡ fixed_of ks ++ k.entry ∷ []
-fixed_last [] k = refl
-fixed_last (x ∷ ks) k = ap (λ (es : List Fixed). x.entry ∷ es) (fixed_last ks k)
+entries_last : (ks : List Kept) (k : Kept) → entries_of (ks ++ k ∷ []) ≡ entries_of ks ++ k.entry ∷ []
+entries_last [] k = refl
+entries_last (x ∷ ks) k = ap (λ (es : List Entry). x.entry ∷ es) (entries_last ks k)
 
 abbrev inserted_by : Kept → Cache → Cache
 inserted_by k cache = record cache { entries = cache.entries ++ k ∷ []; used = cache.used + entry_words k.entry; inserted = cache.inserted + 1 }
 
-load_live : (h : List Record) (es : List Fixed) (f : Fixed) → Legal h → f.number ≡ loads h → AreLive h es → AreLive (Load f ∷ h) (es ++ f ∷ [])
+load_live : (h : List Record) (es : List Entry) (f : Entry) → Legal h → f.number ≡ loads h → AreLive h es → AreLive (Load f ∷ h) (es ++ f ∷ [])
 load_live h es f l is are = record {
   live = λ e a. elim (among_more es f e a) [
     | inl among ↦ (let was = are.live e among in record { inserted = inr was.inserted; not_ended = was.not_ended })
@@ -185,7 +185,7 @@ load_tells settings now request reloads h cache t was none =
       held = t.held;
       loads_are = let n = t.loads_are in omega arith;
       epochs_are = t.epochs_are;
-      entries_are = subst (AreLive (Load k.entry ∷ h)) (sym (fixed_last cache.entries k)) (load_live h (fixed_of cache.entries) k.entry t.legal (sym t.loads_are) t.entries_are);
+      entries_are = subst (AreLive (Load k.entry ∷ h)) (sym (entries_last cache.entries k)) (load_live h (entries_of cache.entries) k.entry t.legal (sym t.loads_are) t.entries_are);
     }
 
 refused : (db : Db) (a : ℕ) (event : List Record) (core : Core) (c : Caller) (request : Request) (cache : Cache) (failed : ℕ) → Stands a event core c cache → Looked core.history c cache → Tried db a event core c request cache [] (record cache { add_failed = failed })
@@ -199,12 +199,12 @@ refused db a event core c request cache failed s l = record {
 }
 
 inserts : (db : Db) (a : ℕ) (event : List Record) (core : Core) (c : Caller) (settings : DbConf) (now : ℕ) (request : Request) (reloads : ℕ) (cache : Cache) → Stands a event core c cache → Looked core.history c cache → c.request ≡ Some request
-    → ((e : Fixed) → Among (fixed_of cache.entries) e → e.request ≢ request)
+    → ((e : Entry) → Among (entries_of cache.entries) e → e.request ≢ request)
     → Tried db a event core c request cache (Load (new_entry settings now request reloads cache).entry ∷ []) (inserted_by (new_entry settings now request reloads cache) cache)
 inserts db a event core c settings now request reloads cache s l is others =
     let h = core.history in
     let k = new_entry settings now request reloads cache in
-    let none = none_of h (fixed_of cache.entries) request s.tells.entries_are others in
+    let none = none_of h (entries_of cache.entries) request s.tells.entries_are others in
     let t = load_tells settings now request reloads h cache s.tells l.was none in
     record {
       new = record core { history = Load k.entry ∷ h };
@@ -227,14 +227,14 @@ inserts db a event core c settings now request reloads cache s l is others =
       stands = gains_on a event core (Load k.entry ∷ h) (Load k.entry ∷ []) c cache (inserted_by k cache) refl t s;
       looked = record { version_is = l.version_is; noted_is = l.noted_is; was = l.was };
       held = s.tells.held;
-      among = λ e x. elim (among_more (fixed_of cache.entries) k.entry e (subst (λ (es : List Fixed). Among es e) (fixed_last cache.entries k) x)) [
+      among = λ e x. elim (among_more (entries_of cache.entries) k.entry e (subst (λ (es : List Entry). Among es e) (entries_last cache.entries k) x)) [
         | inl old ↦ inl old
-        | inr same ↦ inr (sym (ap (λ (y : Fixed). y.request) same))
+        | inr same ↦ inr (sym (ap (λ (y : Entry). y.request) same))
       ];
     }
 
 pub tries : (db : Db) (a : ℕ) (event : List Record) (core : Core) (c : Caller) (settings : DbConf) (now : ℕ) (request : Request) (reloads : ℕ) (cache : Cache) → Stands a event core c cache → Looked core.history c cache → c.request ≡ Some request
-    → ((e : Fixed) → Among (fixed_of cache.entries) e → e.request ≢ request)
+    → ((e : Entry) → Among (entries_of cache.entries) e → e.request ≢ request)
     → Tried db a event core c request cache (tried settings now request reloads cache).adds (tried settings now request reloads cache).cache
 tries db a event core c settings now request reloads cache s l is others = by_cause (own_refusal (room_of settings) (new_entry settings now request reloads cache).entry cache) where
   by_cause : (o : Option Refusal) → Tried db a event core c request cache (tried_by o (new_entry settings now request reloads cache) cache).adds (tried_by o (new_entry settings now request reloads cache) cache).cache
@@ -248,7 +248,7 @@ tries db a event core c settings now request reloads cache s l is others = by_ca
 -- ---- a compaction and an invalidation
 
 pub compacts : (db : Db) (a : ℕ) (event : List Record) (core : Core) (c : Caller) (also : List Record → Caller → Cache → Type 0) (ks : List Kept) (cache : Cache) → Stands a event core c cache → ((cycle used : ℕ) → also core.history c (record cache { cycle = cycle; used = used }))
-    → Comes db a event core also (compacted_behind ks cache)
+    → Comes db a event core also (compacted_after ks cache)
 compacts db a event core c also [] cache s holds = stays db a event core c also cache s (holds cache.cycle cache.used)
 compacts db a event core c also (k ∷ ks) cache s holds = by_test (ltb cache.cycle last_count) where
   by_test : (b : Bool) → Comes db a event core also (cond b (Ok (unchanged (record cache { cycle = cache.cycle + 2; used = all_words cache.entries }))) (Err (stopped cache)))
@@ -256,9 +256,9 @@ compacts db a event core c also (k ∷ ks) cache s holds = by_test (ltb cache.cy
       (retold a event core c cache cache.entries (all_words cache.entries) (cache.cycle + 2) cache.ticked_version cache.add_failed refl s) (holds (cache.cycle + 2) (all_words cache.entries))
   by_test false = stays db a event core c Nothing cache s tt
 
-invalid_tells : (h : List Record) (cache : Cache) → Tells h cache → Tells (Invalid (invalidations h + 1) ∷ ended_all (fixed_of cache.entries) h) (emptied cache).cache
+invalid_tells : (h : List Record) (cache : Cache) → Tells h cache → Tells (Invalid (invalidations h + 1) ∷ ended_all (entries_of cache.entries) h) (emptied cache).cache
 invalid_tells h cache t =
-    let es = fixed_of cache.entries in
+    let es = entries_of cache.entries in
     let same = ended_same cache.entries h in
     let none = none_left es h t.entries_are in
     record {
@@ -274,17 +274,17 @@ invalid_tells h cache t =
 pub invalid_comes : (db : Db) (a : ℕ) (event : List Record) (core : Core) (c : Caller) (cache : Cache) → Stands a event core c cache → Comes db a event core Nothing (invalidated cache)
 unfolding invalidated
 invalid_comes db a event core c cache s = by_test (eqb cache.epoch last_count) where
-  history_is : Invalid (invalidations core.history + 1) ∷ ended_all (fixed_of cache.entries) core.history ≡ (emptied cache).adds ++ core.history
+  history_is : Invalid (invalidations core.history + 1) ∷ ended_all (entries_of cache.entries) core.history ≡ (emptied cache).adds ++ core.history
   history_is =
-      ap (λ (n : ℕ). Invalid (n + 1) ∷ ended_all (fixed_of cache.entries) core.history) s.tells.epochs_are
-      ∙ ap (λ (h : List Record). Invalid (cache.epoch + 1) ∷ h) (ended_same cache.entries core.history ∙ sym (ends_behind by_invalidation cache.entries [] core.history))
+      ap (λ (n : ℕ). Invalid (n + 1) ∷ ended_all (entries_of cache.entries) core.history) s.tells.epochs_are
+      ∙ ap (λ (h : List Record). Invalid (cache.epoch + 1) ∷ h) (ended_same cache.entries core.history ∙ sym (ends_after by_invalidation cache.entries [] core.history))
 
-  by_test : (b : Bool) → Comes db a event core Nothing (cond b (Err (stopped cache)) (behind (emptied cache).adds (compacted_behind cache.entries (emptied cache).cache)))
+  by_test : (b : Bool) → Comes db a event core Nothing (cond b (Err (stopped cache)) (after_adds (emptied cache).adds (compacted_after cache.entries (emptied cache).cache)))
   by_test true = stays db a event core c Nothing cache s tt
   by_test false =
-      let empty = record core { history = Invalid (invalidations core.history + 1) ∷ ended_all (fixed_of cache.entries) core.history } in
-      comes_behind db a event core empty Nothing (emptied cache).adds (compacted_behind cache.entries (emptied cache).cache)
-      (one_step db a event Empty core (emptied cache).adds empty tt (fixed_of cache.entries, s.tells.entries_are, refl) history_is refl)
+      let empty = record core { history = Invalid (invalidations core.history + 1) ∷ ended_all (entries_of cache.entries) core.history } in
+      comes_after db a event core empty Nothing (emptied cache).adds (compacted_after cache.entries (emptied cache).cache)
+      (one_step db a event Empty core (emptied cache).adds empty tt (entries_of cache.entries, s.tells.entries_are, refl) history_is refl)
       (compacts db a event empty c Nothing cache.entries (emptied cache).cache
-      (gains_on a event core (Invalid (invalidations core.history + 1) ∷ ended_all (fixed_of cache.entries) core.history) (emptied cache).adds c cache (emptied cache).cache history_is (invalid_tells core.history cache s.tells) s)
+      (gains_on a event core (Invalid (invalidations core.history + 1) ∷ ended_all (entries_of cache.entries) core.history) (emptied cache).adds c cache (emptied cache).cache history_is (invalid_tells core.history cache s.tells) s)
       (λ cycle used. tt))

@@ -9,21 +9,23 @@ use Rattle.nsc_model.specs.declared.kind.Kind.{Kind}
 use Rattle.nsc_model.specs.declared.answer.Request.{Request}
 use Rattle.nsc_model.specs.declared.record.Record.{Record}
 use Rattle.nsc_model.specs.Kinds.{database_of}
-use Rattle.nsc_model.specs.Files.{Files, no_files, with_file, part_of}
+use Rattle.nsc_model.specs.Content.{Content}
+use Rattle.nsc_model.specs.Files.{no_files, with_file, part_of}
 use Rattle.nsc_model.specs.declared.conf.Conf.{Conf}
 use Rattle.nsc_model.specs.Settings.{settings_of}
 use Rattle.nsc_model.specs.Wire.{Asked, Look, Shutdown, Stat, Invalidate, Descriptor, Netgroup, Short, BadVersion, BadType, BadLength, request_of}
 use Rattle.nsc_model.specs.History.{invalidations}
-use Rattle.nsc_model.specs.Machine.{Cache, Passed, Stopped, Turn, look_up, tick, invalidated}
-use Rattle.nsc_model.specs.Frames.{Frame, Ask, Become, Reach, Clear, Stop, Finish, Spent, cut_at}
-use Rattle.nsc_model.specs.Replay.{State, first_state, cache_of, with_cache, Went, framed, looked_at, look_frame, unanswered, ask_frame, silent, then_on, ticked_in, ticks, turn_of, Replayed, play_on, play, replay}
+use Rattle.nsc_model.specs.Machine.{Cache, Passed, Stopped, Turn, lookup, tick, invalidated}
+use Rattle.nsc_model.specs.Frames as frame
+use Rattle.nsc_model.specs.Frames.{Frame, Finish, Spent, cut_at}
+use Rattle.nsc_model.specs.Replay.{State, first_state, cache_of, with_cache, Went, framed, looked_at, look_frame, unanswered, request_frame, silent, then_on, ticked_in, ticks, turn_of, Replayed, play_on, play, replay}
 use Rattle.nsc_laws.specs.Core.{Caller, Core, opening}
 use Rattle.nsc_laws.specs.Calls.{IsBy, IsTurned, PassesBy, TurnsBy}
 use Rattle.nsc_laws.specs.Replies.{AllDrive, IsGiven, IsReplied, each_of, with_at, none_add, adds_alone, adds_of, look_adds_of, asked_adds, tick_of, unless_stopped, tick_adds, frame_adds, reached_moment, AllMove, left_on, left_looked, left_ticked, left_ticks, left_look, left_asked, left_by, stopped_in, IsPlayed, IsStopped, PlayedThen, EachReplied, IsReplayed}
 use Rattle.nsc_laws.proofs.CoreLaw.{noting}
-use Rattle.nsc_laws.proofs.MachineLaw.{look_up_turns, tick_passes, invalidation_passes}
+use Rattle.nsc_laws.proofs.MachineLaw.{lookup_turns, tick_passes, invalidation_passes}
 use Rattle.nsc_laws.proofs.MachineLawSteps.{at_own}
-use Rattle.nsc_laws.proofs.MachineLawCores.{settled, moment_drive, over_files, become_drive, files_with, moment_with, one_moves, all_stay, all_begin, with_at_own}
+use Rattle.nsc_laws.proofs.MachineLawCores.{settled, moment_drive, over_files, set_file_drive, files_with, moment_with, one_moves, all_stay, all_begin, with_at_own}
 
 -- ---- events for which nothing is written
 
@@ -33,11 +35,11 @@ record IsCount (finish : Finish) : Type 0 where
   is : finish ≡ Spent count
 
 -- the cores gained exactly these records; a stop leaves this state, and the files and the moment stay
-abbrev Silently : (Db → Core) → (Db → List Record) → State → Files → ℕ → Result Went Finish → Type 0
+abbrev Silently : (Db → Core) → (Db → List Record) → State → Content → ℕ → Result Went Finish → Type 0
 Silently old adds left files moment (Ok went) = (new : Db → Core) × AllMove old adds went.state new × (went.writes ≡ []) × (went.state.files ≡ files) × (went.state.moment ≡ moment)
 Silently old adds left files moment (Err finish) = (new : Db → Core) × AllMove old adds left new × IsCount finish
 
--- one database, and nothing behind it
+-- one database, and nothing after it
 last_part : (old : Db → Core) (adds : Db → List Record) (s : State) (cores : Db → Core) (db : Db) (r : Result Passed Stopped) → AllMove old adds s cores → adds db ≡ [] → PassesBy db 0 (cores db) r
     → Silently old (with_at adds db (adds_of r)) (left_on s db r (λ t. t)) s.files s.moment (then_on s db r silent)
 last_part old adds s cores db (Ok passed) g none w = (with_at cores db (settled w.0), one_moves old adds s cores db w.0 passed.adds passed.cache g none w.1, refl, files_with s db passed.cache, moment_with s db passed.cache)
@@ -47,7 +49,7 @@ last_part old adds s cores db (Err stop) g none w = (with_at cores db (settled w
 
 tick_passes_in : (settings : Conf) (s : State) (cores : Db → Core) (db : Db) → AllDrive s cores → PassesBy db 0 (cores db) (tick_of settings s db)
 tick_passes_in settings s cores db d =
-    subst (λ (f : Files). PassesBy db 0 (cores db) (tick (settings_of settings db) settings.reloads s.moment (part_of db f) (cache_of s db))) (d.sources_are db)
+    subst (λ (f : Content). PassesBy db 0 (cores db) (tick (settings_of settings db) settings.reloads s.moment (part_of db f) (cache_of s db))) (d.sources_are db)
     (tick_passes db 0 (settings_of settings db) settings.reloads s.moment (cores db) (cache_of s db) (d.drives db))
 
 abbrev left_from_services : Conf → State → State
@@ -109,7 +111,7 @@ AskedTo old adds s left asked (Err finish) = (new : Db → Core) × AllMove old 
 abbrev request : Kind → List ℕ → Request
 request kind key = record { kind = kind; key = key }
 
--- a reply is given where its look-up is made, and still where the caller noted the invalidations anew
+-- a reply is given where its lookup is made, and still where the caller noted the invalidations anew
 given_on : (db : Db) (old new : Core) (request : Request) (adds : List Record) (reply : List ℕ) (after : Cache) → IsTurned db 0 old request adds reply after new → IsGiven old (settled new) request reply
 given_on db old new request adds reply after t =
     let is = at_own new.callers 0 (noting (new.callers 0) (invalidations new.history)) in
@@ -149,14 +151,14 @@ look_asked : (settings : Conf) (s : State) (cores : Db → Core) (kind : Kind) (
     → AskedTo cores (asked_adds settings s (Look (request kind key))) s (left_look settings s (database_of kind) (request kind key)) (Look (request kind key)) (look_frame settings s (request kind key))
 look_asked settings s cores kind key d =
     let db = database_of kind in
-    kind_asked s cores kind key (look_up (settings_of settings db) s.moment (part_of db s.files) (request kind key) (cache_of s db)) d
-    (subst (λ (f : Files). TurnsBy db 0 (cores db) (request kind key) (look_up (settings_of settings db) s.moment (part_of db f) (request kind key) (cache_of s db))) (d.sources_are db)
-    (look_up_turns db 0 (settings_of settings db) s.moment (request kind key) (cores db) (cache_of s db) (d.drives db)))
+    kind_asked s cores kind key (lookup (settings_of settings db) s.moment (part_of db s.files) (request kind key) (cache_of s db)) d
+    (subst (λ (f : Content). TurnsBy db 0 (cores db) (request kind key) (lookup (settings_of settings db) s.moment (part_of db f) (request kind key) (cache_of s db))) (d.sources_are db)
+    (lookup_turns db 0 (settings_of settings db) s.moment (request kind key) (cores db) (cache_of s db) (d.drives db)))
 
 no_look : (s : State) (cores : Db → Core) (asked : Asked) → IsReplied cores cores (framed []) asked → AllDrive s cores → AskedTo cores none_add s s asked (unanswered s)
 no_look s cores asked is d = (cores, all_stay s cores d, is, refl, refl)
 
-any_asked : (settings : Conf) (s : State) (cores : Db → Core) (asked : Asked) → AllDrive s cores → AskedTo cores (asked_adds settings s asked) s (left_asked settings s asked) asked (ask_frame settings s asked)
+any_asked : (settings : Conf) (s : State) (cores : Db → Core) (asked : Asked) → AllDrive s cores → AskedTo cores (asked_adds settings s asked) s (left_asked settings s asked) asked (request_frame settings s asked)
 any_asked settings s cores (Look r) d = look_asked settings s cores r.kind r.key d
 any_asked settings s cores Shutdown d = no_look s cores Shutdown refl d
 any_asked settings s cores Stat d = no_look s cores Stat refl d
@@ -179,40 +181,40 @@ count_left : (settings : Conf) (s : State) (old : Db → Core) (frame : Frame) (
 count_left settings s old frame finish new count g =
     record { moves = subst (λ (f : Finish). AllMove old (frame_adds settings s frame) (stopped_in s (left_by settings s frame) f) new) (sym count.is) g }
 
-ask_comes : (settings : Conf) (s : State) (old : Db → Core) (input : List ℕ) (r : Result Went Finish) → AskedTo old (asked_adds settings s (request_of input)) s (left_asked settings s (request_of input)) (request_of input) r → Comes settings s old (Ask input) r
-ask_comes settings s old input (Ok went) w = (w.0, record { moves = w.1; replied = w.2; files_are = w.3; moment_is = w.4 })
-ask_comes settings s old input (Err finish) w = (w.0, count_left settings s old (Ask input) finish w.0 w.2 w.1)
+request_comes : (settings : Conf) (s : State) (old : Db → Core) (input : List ℕ) (r : Result Went Finish) → AskedTo old (asked_adds settings s (request_of input)) s (left_asked settings s (request_of input)) (request_of input) r → Comes settings s old (frame.Request input) r
+request_comes settings s old input (Ok went) w = (w.0, record { moves = w.1; replied = w.2; files_are = w.3; moment_is = w.4 })
+request_comes settings s old input (Err finish) w = (w.0, count_left settings s old (frame.Request input) finish w.0 w.2 w.1)
 
-reach_comes : (settings : Conf) (s : State) (old : Db → Core) (moment : ℕ) (r : Result Went Finish) → Silently old (frame_adds settings s (Reach moment)) (left_by settings s (Reach moment)) s.files (reached_moment s moment) r → Comes settings s old (Reach moment) r
-reach_comes settings s old moment (Ok went) w = (w.0, record { moves = w.1; replied = w.2; files_are = w.3; moment_is = w.4 })
-reach_comes settings s old moment (Err finish) w = (w.0, count_left settings s old (Reach moment) finish w.0 w.2 w.1)
+time_comes : (settings : Conf) (s : State) (old : Db → Core) (moment : ℕ) (r : Result Went Finish) → Silently old (frame_adds settings s (frame.Time moment)) (left_by settings s (frame.Time moment)) s.files (reached_moment s moment) r → Comes settings s old (frame.Time moment) r
+time_comes settings s old moment (Ok went) w = (w.0, record { moves = w.1; replied = w.2; files_are = w.3; moment_is = w.4 })
+time_comes settings s old moment (Err finish) w = (w.0, count_left settings s old (frame.Time moment) finish w.0 w.2 w.1)
 
-clear_comes : (settings : Conf) (s : State) (old : Db → Core) (db : Db) (r : Result Went Finish) → Silently old (frame_adds settings s (Clear db)) (left_by settings s (Clear db)) s.files s.moment r → Comes settings s old (Clear db) r
-clear_comes settings s old db (Ok went) w = (w.0, record { moves = w.1; replied = w.2; files_are = w.3; moment_is = w.4 })
-clear_comes settings s old db (Err finish) w = (w.0, count_left settings s old (Clear db) finish w.0 w.2 w.1)
+invalidate_comes : (settings : Conf) (s : State) (old : Db → Core) (db : Db) (r : Result Went Finish) → Silently old (frame_adds settings s (frame.Invalidate db)) (left_by settings s (frame.Invalidate db)) s.files s.moment r → Comes settings s old (frame.Invalidate db) r
+invalidate_comes settings s old db (Ok went) w = (w.0, record { moves = w.1; replied = w.2; files_are = w.3; moment_is = w.4 })
+invalidate_comes settings s old db (Err finish) w = (w.0, count_left settings s old (frame.Invalidate db) finish w.0 w.2 w.1)
 
 frame_comes : (settings : Conf) (s : State) (cores : Db → Core) (frame : Frame) → AllDrive s cores → Comes settings s cores frame (turn_of settings s frame)
-frame_comes settings s cores (Ask input) d = ask_comes settings s cores input (ask_frame settings s (request_of input)) (any_asked settings s cores (request_of input) d)
-frame_comes settings s cores (Become id held) d =
+frame_comes settings s cores (frame.Request input) d = request_comes settings s cores input (request_frame settings s (request_of input)) (any_asked settings s cores (request_of input) d)
+frame_comes settings s cores (frame.SetFile id held) d =
     let f = with_file s.files id held in (
       over_files f cores,
       record {
-        moves = record { drive = become_drive s cores f d; gained = λ db. refl; over = λ db. record { moves = []; own = All-nil (IsBy 0); runs = refl } };
+        moves = record { drive = set_file_drive s cores f d; gained = λ db. refl; over = λ db. record { moves = []; own = All-nil (IsBy 0); runs = refl } };
         replied = refl;
         files_are = refl;
         moment_is = refl;
       },
     )
-frame_comes settings s cores (Reach moment) d =
+frame_comes settings s cores (frame.Time moment) d =
     let t = record s { moment = reached_moment s moment } in
-    reach_comes settings s cores moment (ticks settings t) (all_ticked settings t cores (moment_drive s cores (reached_moment s moment) d))
-frame_comes settings s cores (Clear db) d =
-    clear_comes settings s cores db (then_on s db (invalidated (cache_of s db)) silent) (last_part cores none_add s cores db (invalidated (cache_of s db)) (all_stay s cores d) refl (invalidation_passes db 0 (cores db) (cache_of s db) (d.drives db)))
-frame_comes settings s cores Stop d = (cores, record { moves = all_stay s cores d; replied = refl; files_are = refl; moment_is = refl })
+    time_comes settings s cores moment (ticks settings t) (all_ticked settings t cores (moment_drive s cores (reached_moment s moment) d))
+frame_comes settings s cores (frame.Invalidate db) d =
+    invalidate_comes settings s cores db (then_on s db (invalidated (cache_of s db)) silent) (last_part cores none_add s cores db (invalidated (cache_of s db)) (all_stay s cores d) refl (invalidation_passes db 0 (cores db) (cache_of s db) (d.drives db)))
+frame_comes settings s cores frame.End d = (cores, record { moves = all_stay s cores d; replied = refl; files_are = refl; moment_is = refl })
 
 -- ---- the law
 
--- what a frame and those behind it write
+-- what a frame and those after it write
 record Turned (settings : Conf) (frame : Frame) (frames : List Frame) (last : Finish) (s : State) (cores : Db → Core) (r : Result Went Finish) (replayed : Replayed) : Type 0 where
   pieces : List (List ℕ)
   played : PlayedThen (λ t new later. EachReplied settings frames last t new later replayed.finish) settings s cores frame pieces replayed.finish r

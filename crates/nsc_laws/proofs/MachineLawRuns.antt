@@ -5,16 +5,16 @@ use Rattle.nsc_model.specs.declared.kind.Db.{Db}
 use Rattle.nsc_model.specs.declared.answer.Request.{Request}
 use Rattle.nsc_model.specs.declared.record.Record.{Record}
 use Rattle.nsc_model.specs.declared.record.Record.TheVariants.{Change}
-use Rattle.nsc_model.specs.Files as files
+use Rattle.nsc_model.specs.Content.{Content}
 use Rattle.nsc_model.specs.Files.{part_of}
 use Rattle.nsc_model.specs.declared.conf.DbConf.{DbConf}
 use Rattle.nsc_model.specs.History.{Legal, Answered}
 use Rattle.nsc_laws.specs.Core.{Core, opening}
-use Rattle.nsc_model.specs.Machine.{Cache, new_cache, Passed, Stopped, Turn, look_up, tick, invalidated}
-use Rattle.nsc_laws.specs.Calls.{Drives, PassesBy, TurnsBy, Event, LookUp, Tick, Invalidation, AnsweredThen, LegalThen, EachAnswered}
-use Rattle.nsc_laws.proofs.MachineLaw.{opening_drives, files_drive, look_up_turns, tick_passes, invalidation_passes}
+use Rattle.nsc_model.specs.Machine.{Cache, new_cache, Passed, Stopped, Turn, lookup, tick, invalidated}
+use Rattle.nsc_laws.specs.Calls.{Drives, PassesBy, TurnsBy, Event, Lookup, Tick, Invalidation, AnsweredThen, LegalThen, EachAnswered}
+use Rattle.nsc_laws.proofs.MachineLaw.{opening_drives, files_drive, lookup_turns, tick_passes, invalidation_passes}
 
--- what comes behind an event, in each core that the caller drives there
+-- what comes after an event, in each core that the caller drives there
 abbrev Onward : Db → (Cache → List Record → Type 0) → Type 0
 Onward db others = (new : Core) (cache : Cache) → Drives db 0 new cache → others cache new.history
 
@@ -30,10 +30,10 @@ legal_then db others old (Err stop) w next = subst Legal w.1.history_is w.1.driv
 
 each_answered : (db : Db) (settings : DbConf) (reloads : Option ℕ) (events : List Event) (core : Core) (cache : Cache) → Drives db 0 core cache → EachAnswered db settings reloads events cache core.history
 each_answered db settings reloads [] core cache d = d.tells.legal
-each_answered db settings reloads (LookUp content now request ∷ events) core cache d = (
+each_answered db settings reloads (Lookup content now request ∷ events) core cache d = (
   d.tells.legal,
-  answered_then db (EachAnswered db settings reloads events) (record core { sources = content }) request (look_up settings now (part_of db content) request cache)
-      (look_up_turns db 0 settings now request (record core { sources = content }) cache (files_drive db 0 core cache content d)) (λ new after e. each_answered db settings reloads events new after e),
+  answered_then db (EachAnswered db settings reloads events) (record core { sources = content }) request (lookup settings now (part_of db content) request cache)
+      (lookup_turns db 0 settings now request (record core { sources = content }) cache (files_drive db 0 core cache content d)) (λ new after e. each_answered db settings reloads events new after e),
 )
 each_answered db settings reloads (Tick content now ∷ events) core cache d = (
   d.tells.legal,
@@ -43,5 +43,5 @@ each_answered db settings reloads (Tick content now ∷ events) core cache d = (
 each_answered db settings reloads (Invalidation ∷ events) core cache d =
     (d.tells.legal, legal_then db (EachAnswered db settings reloads events) core (invalidated cache) (invalidation_passes db 0 core cache d) (λ new after e. each_answered db settings reloads events new after e))
 
-pub runs_law : (db : Db) (settings : DbConf) (reloads : Option ℕ) (sources : files.Files) (events : List Event) → EachAnswered db settings reloads events (new_cache (part_of db sources)) (Change 0 (part_of db sources) ∷ [])
+pub runs_law : (db : Db) (settings : DbConf) (reloads : Option ℕ) (sources : Content) (events : List Event) → EachAnswered db settings reloads events (new_cache (part_of db sources)) (Change 0 (part_of db sources) ∷ [])
 runs_law db settings reloads sources events = each_answered db settings reloads events (opening db sources) (new_cache (part_of db sources)) (opening_drives db 0 sources)

@@ -1,16 +1,16 @@
--- Steps of one caller of the core, one behind the other, and what is known behind them.
+-- Steps of one caller of the core, one after the other, and what is known after them.
 use Rattle.std.proofs.Common.{◌≡◌, ℕ, true, eqb, List, [], ◌∷◌, ◌++◌, refl, sym, ap, subst, ◌∙◌, append_assoc, rules}
 use Rattle.std.specs.Prelude.{All, Some, Result, Ok, Err}
 use Rattle.std.proofs.lemmas.List.Elements.{All-nil, All-cons, All-append}
 use Rattle.nsc_model.specs.declared.kind.Db.{Db}
 use Rattle.nsc_model.specs.declared.answer.Request.{Request}
 use Rattle.nsc_model.specs.declared.record.Record.{Record}
-use Rattle.nsc_model.specs.Files as files
+use Rattle.nsc_model.specs.Content.{Content}
 use Rattle.nsc_model.specs.Files.{part_of}
 use Rattle.nsc_model.specs.History.{invalidations, WasPolled, IsPrefix}
 use Rattle.nsc_laws.specs.Core.{Caller, Core, with_caller, Move, Files, Begin, Look, Note, Fetch, PollStep, Insert, Finish, Empty, Compact, Reply, IsPoll, Moves, Runs}
-use Rattle.nsc_model.specs.Machine.{Kept, Cache, Passed, Stopped, behind, ◌>>=◌}
-use Rattle.nsc_laws.specs.Calls.{fixed_of, Tells, IsOwn, IsBy, Drives, IsMoved, PassesBy}
+use Rattle.nsc_model.specs.Machine.{Kept, Cache, Passed, Stopped, after_adds, ◌>>=◌}
+use Rattle.nsc_laws.specs.Calls.{entries_of, Tells, IsOwn, IsBy, Drives, IsMoved, PassesBy}
 use Rattle.nsc_laws.proofs.CoreLaw.{changed, begun, noting, fetching, polling}
 
 -- ---- steps
@@ -62,7 +62,7 @@ then_step db a event old mid new adds more s t = record {
   sources_stay = t.sources_stay ∙ s.sources_stay;
 }
 
--- behind a step that adds no record
+-- after a step that adds no record
 pub silent_step : (db : Db) (a : ℕ) (event : List Record) (old mid new : Core) (more : List Record) → Step db a event old [] mid → Step db a event mid more new → Step db a event old more new
 silent_step db a event old mid new more s t = record {
   moves = s.moves ++ t.moves;
@@ -99,7 +99,7 @@ pub record Looked (h : List Record) (c : Caller) (cache : Cache) : Type 0 where
   pub was : WasPolled h cache.newest_version
 
 -- the cache differs only in what its history does not tell
-pub retells : (h : List Record) (c : Cache) (entries : List Kept) (used cycle ticked failed : ℕ) → fixed_of entries ≡ fixed_of c.entries → Tells h c → Tells h (record c { entries = entries; used = used; cycle = cycle; ticked_version = ticked; add_failed = failed })
+pub retells : (h : List Record) (c : Cache) (entries : List Kept) (used cycle ticked failed : ℕ) → entries_of entries ≡ entries_of c.entries → Tells h c → Tells h (record c { entries = entries; used = used; cycle = cycle; ticked_version = ticked; add_failed = failed })
 retells h c entries used cycle ticked failed same t = record {
   legal = t.legal;
   newest_is = t.newest_is;
@@ -110,7 +110,7 @@ retells h c entries used cycle ticked failed same t = record {
   entries_are = rw same t.entries_are;
 }
 
-pub retold : (a : ℕ) (event : List Record) (core : Core) (c : Caller) (cache : Cache) (entries : List Kept) (used cycle ticked failed : ℕ) → fixed_of entries ≡ fixed_of cache.entries → Stands a event core c cache
+pub retold : (a : ℕ) (event : List Record) (core : Core) (c : Caller) (cache : Cache) (entries : List Kept) (used cycle ticked failed : ℕ) → entries_of entries ≡ entries_of cache.entries → Stands a event core c cache
     → Stands a event core c (record cache { entries = entries; used = used; cycle = cycle; ticked_version = ticked; add_failed = failed })
 retold a event core c cache entries used cycle ticked failed same s = record {
   caller_is = s.caller_is;
@@ -161,13 +161,13 @@ fetch_step db a event core c cache epoch n s =
     one_step db a event (Fetch a) core [] (changed core a (fetching c (part_of db core.sources))) refl
     ((epoch, ap (λ (x : Caller). x.noted) s.caller_is ∙ n), ap (λ (x : Caller). changed core a (fetching x (part_of db core.sources))) (sym s.caller_is)) refl refl
 
-pub fetch_stands : (a : ℕ) (event : List Record) (core : Core) (c : Caller) (cache : Cache) (content : files.Files) → Stands a event core c cache → Stands a event (changed core a (fetching c content)) (fetching c content) cache
+pub fetch_stands : (a : ℕ) (event : List Record) (core : Core) (c : Caller) (cache : Cache) (content : Content) → Stands a event core c cache → Stands a event (changed core a (fetching c content)) (fetching c content) cache
 fetch_stands a event core c cache content s = caller_on a event core c (fetching c content) cache s.seen_before s
 
 abbrev pub polled_core : Core → ℕ → Caller → Record → ℕ → Core
 polled_core core a c poll n = record core { history = poll ∷ core.history; callers = with_caller core.callers a (polling c n) }
 
-pub poll_step : (db : Db) (a : ℕ) (event : List Record) (core : Core) (c : Caller) (cache : Cache) (content : files.Files) (poll : Record) (n : ℕ) → c.fetched ≡ Some content → IsPoll core.history content poll n → Stands a event core c cache
+pub poll_step : (db : Db) (a : ℕ) (event : List Record) (core : Core) (c : Caller) (cache : Cache) (content : Content) (poll : Record) (n : ℕ) → c.fetched ≡ Some content → IsPoll core.history content poll n → Stands a event core c cache
     → Step db a event core (poll ∷ []) (polled_core core a c poll n)
 poll_step db a event core c cache content poll n f is s =
     one_step db a event (PollStep a) core (poll ∷ []) (polled_core core a c poll n) refl
@@ -199,17 +199,17 @@ abbrev pub Comes : Db → ℕ → List Record → Core → (List Record → Call
 Comes db a event old also (Ok passed) = Went db a event old also passed.adds passed.cache
 Comes db a event old also (Err stop) = Went db a event old Nothing stop.adds stop.cache
 
-went_behind : (db : Db) (a : ℕ) (event : List Record) (old mid : Core) (also : List Record → Caller → Cache → Type 0) (adds more : List Record) (after : Cache) → Step db a event old adds mid → Went db a event mid also more after → Went db a event old also (more ++ adds) after
-went_behind db a event old mid also adds more after s w = record { new = w.new; caller = w.caller; step = then_step db a event old mid w.new adds more s w.step; stands = w.stands; holds = w.holds }
+went_after : (db : Db) (a : ℕ) (event : List Record) (old mid : Core) (also : List Record → Caller → Cache → Type 0) (adds more : List Record) (after : Cache) → Step db a event old adds mid → Went db a event mid also more after → Went db a event old also (more ++ adds) after
+went_after db a event old mid also adds more after s w = record { new = w.new; caller = w.caller; step = then_step db a event old mid w.new adds more s w.step; stands = w.stands; holds = w.holds }
 
-pub comes_behind : (db : Db) (a : ℕ) (event : List Record) (old mid : Core) (also : List Record → Caller → Cache → Type 0) (adds : List Record) (r : Result Passed Stopped) → Step db a event old adds mid → Comes db a event mid also r → Comes db a event old also (behind adds r)
-comes_behind db a event old mid also adds (Ok passed) s w = went_behind db a event old mid also adds passed.adds passed.cache s w
-comes_behind db a event old mid also adds (Err stop) s w = went_behind db a event old mid Nothing adds stop.adds stop.cache s w
+pub comes_after : (db : Db) (a : ℕ) (event : List Record) (old mid : Core) (also : List Record → Caller → Cache → Type 0) (adds : List Record) (r : Result Passed Stopped) → Step db a event old adds mid → Comes db a event mid also r → Comes db a event old also (after_adds adds r)
+comes_after db a event old mid also adds (Ok passed) s w = went_after db a event old mid also adds passed.adds passed.cache s w
+comes_after db a event old mid also adds (Err stop) s w = went_after db a event old mid Nothing adds stop.adds stop.cache s w
 
 pub comes_then : (db : Db) (a : ℕ) (event : List Record) (old : Core) (also also_then : List Record → Caller → Cache → Type 0) (r : Result Passed Stopped) (next : Cache → Result Passed Stopped)
     → Comes db a event old also r → ((mid : Core) (c : Caller) (cache : Cache) → mid.sources ≡ old.sources → Stands a event mid c cache → also mid.history c cache → Comes db a event mid also_then (next cache)) → Comes db a event old also_then (r >>= next)
 comes_then db a event old also also_then (Ok passed) next w f =
-    comes_behind db a event old w.new also_then passed.adds (next passed.cache) w.step (f w.new w.caller passed.cache w.step.sources_stay w.stands w.holds)
+    comes_after db a event old w.new also_then passed.adds (next passed.cache) w.step (f w.new w.caller passed.cache w.step.sources_stay w.stands w.holds)
 comes_then db a event old also also_then (Err stop) next w f = w
 
 pub stays : (db : Db) (a : ℕ) (event : List Record) (core : Core) (c : Caller) (also : List Record → Caller → Cache → Type 0) (cache : Cache) → Stands a event core c cache → also core.history c cache → Went db a event core also [] cache

@@ -5,7 +5,7 @@ use Rattle.nsc_model.specs.declared.row.Row.{Row}
 use Rattle.nsc_model.specs.declared.row.Row.TheVariants.{Passwd, Group, Host, Service, Ai, Groups}
 use Rattle.nsc_model.specs.declared.row.Reply.{Reply}
 use Rattle.nsc_model.specs.declared.row.Reply.TheVariants.{Found, Absent, Disabled}
-use Rattle.nsc_model.specs.Marked.{reply_limit}
+use Rattle.nsc_model.specs.Answer.{reply_limit}
 use Rattle.nsc_model.specs.Wire.{IsReplyOf, IsRow, Shape, Spells, UserShape, field_in, lacking, minus_one, row_found, row_shape, shape_of, spelled}
 use Rattle.nsc_laws.proofs.Spellings.{same_user}
 use Rattle.nsc_laws.proofs.GroupSpellings.{same_group, same_ids}

@@ -7,7 +7,8 @@ use Rattle.nsc_model.specs.declared.kind.Kind.{Kind}
 use Rattle.nsc_model.specs.declared.kind.Kind.TheVariants.{PwName}
 use Rattle.nsc_model.specs.declared.answer.Request.{Request}
 use Rattle.nsc_model.specs.Kinds.{type_number, kind_numbered, is_request}
-use Rattle.nsc_model.specs.Files.{Files, same_file, same_files}
+use Rattle.nsc_model.specs.Content.{Content}
+use Rattle.nsc_model.specs.Files.{same_file, same_files}
 use Rattle.nsc_model.proofs.Contents.{both_true, same_bytes}
 
 -- a kind is the kind of its number
@@ -54,6 +55,6 @@ file_same : (a : Option (List ℕ)) → same_file a a ≡ true
 file_same None = refl
 file_same (Some a) = bytes_same a
 
-pub content_same : (a : Files) → same_files a a ≡ true
+pub content_same : (a : Content) → same_files a a ≡ true
 content_same a =
     true_both _ _ (true_both _ _ (true_both _ _ (true_both _ _ (true_both _ _ (true_both _ _ (file_same a.switch) (file_same a.passwd)) (file_same a.group)) (file_same a.hosts)) (file_same a.services)) (file_same a.extra_passwd)) (file_same a.extra_group)

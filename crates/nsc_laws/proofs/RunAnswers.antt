@@ -7,7 +7,7 @@ use Rattle.nsc_model.specs.declared.answer.Request.{Request}
 use Rattle.nsc_model.specs.declared.record.Ending.TheVariants.{Invalidated}
 use Rattle.nsc_model.specs.declared.record.Record.{Record}
 use Rattle.nsc_model.specs.declared.record.Record.TheVariants.{Load, End, Invalid}
-use Rattle.nsc_model.specs.Fixed.{Fixed}
+use Rattle.nsc_model.specs.Entry.{Entry}
 use Rattle.nsc_model.specs.History.{changes, invalidations, HasLoad, Legal, IsPrefix, LooksAt, FromEntry, FromPoll}
 use Rattle.nsc_laws.specs.Core.{Core, opening, ended_all, Move, Files, Begin, Look, Note, Fetch, PollStep, Insert, Finish, Empty, Compact, Reply, Moves, Runs}
 use Rattle.nsc_laws.specs.Origins.{IsOfCallers, IsAnswer, IsReply}
@@ -19,7 +19,7 @@ use Rattle.nsc_laws.proofs.RunReplies.{changes_grow, version_stays, looked_below
 
 -- ---- histories go on
 
-ended_on : (entries : List Fixed) (h : List Record) → IsPrefix h (ended_all entries h)
+ended_on : (entries : List Entry) (h : List Record) → IsPrefix h (ended_all entries h)
 ended_on [] h = same_prefix h
 ended_on (e ∷ entries) h = both_prefix h (End e.number Invalidated ∷ h) (ended_all entries (End e.number Invalidated ∷ h)) (End e.number Invalidated ∷ [], refl) (ended_on entries (End e.number Invalidated ∷ h))
 
@@ -46,7 +46,7 @@ run_goes_on db (move ∷ moves) old new r = both_prefix old.history r.0.history 
 
 -- ---- answers stay answers
 
-load_stays : (more h : List Record) (e : Fixed) → HasLoad h e → HasLoad (more ++ h) e
+load_stays : (more h : List Record) (e : Entry) → HasLoad h e → HasLoad (more ++ h) e
 load_stays [] h e a = a
 load_stays (r ∷ more) h e a = load_more r (more ++ h) e (load_stays more h e a)
 

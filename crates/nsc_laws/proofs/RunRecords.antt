@@ -8,13 +8,13 @@ use Rattle.nsc_model.specs.declared.answer.Request.{Request}
 use Rattle.nsc_model.specs.declared.record.Ending.{Ending}
 use Rattle.nsc_model.specs.declared.record.Record.{Record}
 use Rattle.nsc_model.specs.declared.record.Record.TheVariants.{Change, Poll, Load, End, Invalid}
-use Rattle.nsc_model.specs.Files as files
+use Rattle.nsc_model.specs.Content.{Content}
 use Rattle.nsc_model.specs.Files.{part_of}
-use Rattle.nsc_model.specs.Fixed.{Fixed}
+use Rattle.nsc_model.specs.Entry.{Entry}
 use Rattle.nsc_model.specs.History.{changes, invalidations, newest, Legal, IsPrefix, LooksAt}
 use Rattle.nsc_laws.specs.Core.{Caller, Core, opening, Move, Begin, Insert, Finish, Empty, Inserts, AreLive, Runs}
 use Rattle.nsc_laws.specs.Origins.{WasAsked, IsSourced, IsRun}
-use Rattle.nsc_laws.proofs.Prefixes.{more_behind, prefix_legal}
+use Rattle.nsc_laws.proofs.Prefixes.{more_after, prefix_legal}
 use Rattle.nsc_laws.proofs.CoreLaw.{begun}
 use Rattle.nsc_laws.proofs.CoreLawRecords.{prefix_more}
 use Rattle.nsc_laws.proofs.MachineLawSteps.{at_own, runs_append, same_prefix}
@@ -33,15 +33,15 @@ nothing_seen h = (h, sym (append-nil h))
 
 -- ---- looks
 
-abbrev given : files.Files → Option files.Files
+abbrev given : Content → Option Content
 given content = Some content
 
 -- a version that is not the first differs from the newest
-pub change_differs : (v : ℕ) (c : files.Files) (h : List Record) → h ≢ [] → Legal (Change v c ∷ h) → (v ≡ changes h) × (newest h ≢ Some c)
+pub change_differs : (v : ℕ) (c : Content) (h : List Record) → h ≢ [] → Legal (Change v c ∷ h) → (v ≡ changes h) × (newest h ≢ Some c)
 change_differs v c [] some l = absurd (some refl)
 change_differs v c (r ∷ h) some l = (l.1, l.2)
 
-newest_change : (v : ℕ) (c : files.Files) (h : List Record) → h ≢ [] → IsNewest (Change v c) h v
+newest_change : (v : ℕ) (c : Content) (h : List Record) → h ≢ [] → IsNewest (Change v c) h v
 newest_change v c [] some = absurd (some refl)
 newest_change v c (r ∷ h) some = record { same_epoch = refl; asked = λ m asked. asked }
 
@@ -49,9 +49,9 @@ newest_poll : (v : ℕ) (h : List Record) → IsNewest (Poll v) h v
 newest_poll v h = record { same_epoch = refl; asked = λ m asked. asked }
 
 -- the newest content is what the database reads of some files
-newest_read : (db : Db) (h : List Record) → Legal h → IsSourced db h → (sources : files.Files) × (newest h ≡ Some (part_of db sources))
+newest_read : (db : Db) (h : List Record) → Legal h → IsSourced db h → (sources : Content) × (newest h ≡ Some (part_of db sources))
 newest_read db [] l s = absurd l
-newest_read db (Change v c ∷ h) l s = (s.1.0, ap (λ (x : files.Files). given x) s.1.1)
+newest_read db (Change v c ∷ h) l s = (s.1.0, ap (λ (x : Content). given x) s.1.1)
 newest_read db (Poll v ∷ h) l s = newest_read db h l.0 s
 newest_read db (Load e ∷ h) l s = newest_read db h l.0 s.0
 newest_read db (End n cause ∷ h) l s = newest_read db h l.0 s
@@ -63,7 +63,7 @@ looks_at db core request seen (Change v c) n ready some at l s q =
     let differs = change_differs v c core.history some l in
     let is = s.1.1 in
     subst (Looks db core request seen (Change v c)) at (looks db core s.1.0 request seen (Change v c) v ready (newest_change v c core.history some) q
-    (inr ((λ same. differs.1 (same ∙ ap (λ (x : files.Files). given x) (sym is))), differs.0, ap (λ (x : files.Files). Change v x) is)))
+    (inr ((λ same. differs.1 (same ∙ ap (λ (x : Content). given x) (sym is))), differs.0, ap (λ (x : Content). Change v x) is)))
 looks_at db core request seen (Poll v) n ready some at l s q =
     let read = newest_read db core.history l.0 s in
     subst (Looks db core request seen (Poll v)) at (looks db core read.0 request seen (Poll v) v ready (newest_poll v core.history) q (inl (read.1, l.1, refl)))
@@ -76,10 +76,10 @@ look_step db core r n w = record { moves = w.moves; new = w.new; runs = w.runs; 
 
 -- ---- loads
 
-abbrev loads_in : Core → ℕ → Fixed → Core
+abbrev loads_in : Core → ℕ → Entry → Core
 loads_in core a e = let c1 = begins core a (Some e.request) core.history in record c1 { history = Load e ∷ core.history }
 
-load_holder : (core : Core) (a : ℕ) (e : Fixed) (fresh n : ℕ) → a < fresh → Holder core fresh n → Holder (loads_in core a e) fresh n
+load_holder : (core : Core) (a : ℕ) (e : Entry) (fresh n : ℕ) → a < fresh → Holder core fresh n → Holder (loads_in core a e) fresh n
 load_holder core a e fresh n low h = by_test (eqb a h.caller) refl where
   by_test : (b : Bool) → eqb a h.caller ≡ b → Holder (loads_in core a e) fresh n
   by_test true t =
@@ -102,7 +102,7 @@ load_holder core a e fresh n low h = by_test (eqb a h.caller) refl where
         seen_before = subst (λ (c : Caller). IsPrefix c.seen (Load e ∷ core.history)) (sym is) (prefix_more (Load e) (core.callers h.caller).seen core.history h.seen_before);
       }
 
-load_step : (db : Db) (core : Core) (e : Fixed) → Ready core → Legal (Load e ∷ core.history) → WasAsked core.history e.version → Reaches db core (Load e ∷ core.history)
+load_step : (db : Db) (core : Core) (e : Entry) → Ready core → Legal (Load e ∷ core.history) → WasAsked core.history e.version → Reaches db core (Load e ∷ core.history)
 load_step db core e ready l asked =
     let h = ready.holders e.version asked in
     let a = h.caller in
@@ -175,16 +175,16 @@ step db (Load e) core ready some l s = load_step db core e ready l s.1
 step db (End n cause) core ready some l s = end_step db core n cause ready l
 step db (Invalid n) core ready some l s = invalid_step db core n ready l
 
-sourced_behind : (db : Db) (r : Record) (h : List Record) → IsSourced db (r ∷ h) → IsSourced db h
-sourced_behind db (Change v c) h s = s.0
-sourced_behind db (Poll v) h s = s
-sourced_behind db (Load e) h s = s.0
-sourced_behind db (End n cause) h s = s
-sourced_behind db (Invalid n) h s = s
+sourced_after : (db : Db) (r : Record) (h : List Record) → IsSourced db (r ∷ h) → IsSourced db h
+sourced_after db (Change v c) h s = s.0
+sourced_after db (Poll v) h s = s
+sourced_after db (Load e) h s = s.0
+sourced_after db (End n cause) h s = s
+sourced_after db (Invalid n) h s = s
 
 pub sourced_before : (db : Db) (more h : List Record) → IsSourced db (more ++ h) → IsSourced db h
 sourced_before db [] h s = s
-sourced_before db (r ∷ more) h s = sourced_before db more h (sourced_behind db r (more ++ h) s)
+sourced_before db (r ∷ more) h s = sourced_before db more h (sourced_after db r (more ++ h) s)
 
 -- one record more
 step_on : (db : Db) (r : Record) (old : Core) (h : List Record) → h ≢ [] → Legal (r ∷ h) → IsSourced db (r ∷ h) → Reaches db old h → Reaches db old (r ∷ h)
@@ -197,15 +197,15 @@ pub reaches_on : (db : Db) (more : List Record) (old : Core) → Ready old → o
 reaches_on db [] old ready some l s = record { moves = []; new = old; runs = refl; ready = ready; history_is = refl }
 reaches_on db (r ∷ more) old ready some l s =
     let h = more ++ old.history in
-    let holds = more_behind more old.history some in
-    step_on db r old h holds l s (reaches_on db more old ready some (prefix_legal (r ∷ []) h holds l) (sourced_behind db r h s))
+    let holds = more_after more old.history some in
+    step_on db r old h holds l s (reaches_on db more old ready some (prefix_legal (r ∷ []) h holds l) (sourced_after db r h s))
 
 -- some opening moves on to the history
 pub record Begins (db : Db) (history : List Record) : Type 0 where
-  pub first : files.Files
+  pub first : Content
   pub reaches : Reaches db (opening db first) history
 
-opening_ready : (db : Db) (sources : files.Files) → Ready (opening db sources)
+opening_ready : (db : Db) (sources : Content) → Ready (opening db sources)
 opening_ready db sources = record { fresh = 0; unused = λ b high. refl; holders = λ n was. absurd was }
 
 more_begun : (db : Db) (r x : Record) (h : List Record) → Legal (r ∷ x ∷ h) → IsSourced db (r ∷ x ∷ h) → Begins db (x ∷ h) → Begins db (r ∷ x ∷ h)
@@ -220,14 +220,14 @@ begins_with db (Change v c ∷ []) l s = record {
     new = opening db s.1.0;
     runs = refl;
     ready = opening_ready db s.1.0;
-    history_is = ap (λ (k : ℕ). Change k (part_of db s.1.0) ∷ []) (sym l) ∙ ap (λ (x : files.Files). Change v x ∷ []) (sym s.1.1);
+    history_is = ap (λ (k : ℕ). Change k (part_of db s.1.0) ∷ []) (sym l) ∙ ap (λ (x : Content). Change v x ∷ []) (sym s.1.1);
   };
 }
 begins_with db (Poll v ∷ []) l s = absurd l.0
 begins_with db (Load e ∷ []) l s = absurd l.0
 begins_with db (End n cause ∷ []) l s = absurd l.0
 begins_with db (Invalid n ∷ []) l s = absurd l.0
-begins_with db (r ∷ x ∷ h) l s = more_begun db r x h l s (begins_with db (x ∷ h) (prefix_legal (r ∷ []) (x ∷ h) (λ none. cc) l) (sourced_behind db r (x ∷ h) s))
+begins_with db (r ∷ x ∷ h) l s = more_begun db r x h l s (begins_with db (x ∷ h) (prefix_legal (r ∷ []) (x ∷ h) (λ none. cc) l) (sourced_after db r (x ∷ h) s))
 
 pub legal_run : (db : Db) (history : List Record) → Legal history → IsSourced db history → IsRun db history
 legal_run db history l s =

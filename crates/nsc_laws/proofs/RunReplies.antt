@@ -6,14 +6,14 @@ use Rattle.nsc_model.specs.declared.kind.Db.{Db}
 use Rattle.nsc_model.specs.declared.answer.Request.{Request}
 use Rattle.nsc_model.specs.declared.record.Record.{Record}
 use Rattle.nsc_model.specs.declared.record.Record.TheVariants.{Change, Poll, Load, End, Invalid}
-use Rattle.nsc_model.specs.Files.{Files}
-use Rattle.nsc_model.specs.Fixed.{Fixed}
+use Rattle.nsc_model.specs.Content.{Content}
+use Rattle.nsc_model.specs.Entry.{Entry}
 use Rattle.nsc_model.specs.Answers.{answer_of}
 use Rattle.nsc_model.specs.History.{changes, version_in, HasLoad, IsLive, Legal, IsPrefix, LooksAt, FromEntry, FromPoll, Answered}
 use Rattle.nsc_laws.specs.Core.{Caller, Core, new_caller, opening, Begin, Look}
 use Rattle.nsc_laws.specs.Moments.{WasLive}
 use Rattle.nsc_laws.specs.Origins.{WasAsked, IsSourced, IsOfCallers, IsAnswer, IsReply}
-use Rattle.nsc_laws.proofs.Prefixes.{more_behind, prefix_legal}
+use Rattle.nsc_laws.proofs.Prefixes.{more_after, prefix_legal}
 use Rattle.nsc_laws.proofs.CoreLaw.{changed, begun, taking}
 use Rattle.nsc_laws.proofs.CoreLawRecords.{changes_rise}
 use Rattle.nsc_laws.proofs.LiveFronts.{reply_was_live}
@@ -42,7 +42,7 @@ changes_grow (r ∷ more) h = let first : changes h ≤ changes (more ++ h) = ch
 pub version_stays : (more h : List Record) (n : ℕ) → h ≢ [] → Legal (more ++ h) → n < changes h → version_in (more ++ h) n ≡ version_in h n
 version_stays [] h n some l low = refl
 version_stays (Change v c ∷ more) h n some l low =
-    let holds = more_behind more h some in
+    let holds = more_after more h some in
     let is : v ≡ changes (more ++ h) = (change_differs v c (more ++ h) holds l).0 in
     let grown : changes h ≤ changes (more ++ h) = changes_grow more h in
     let other : eqb v n ≡ false = ne_eqb v n (λ same. omega arith) in
@@ -67,7 +67,7 @@ legal_in history more h is l = subst Legal is l
 sourced_in : (db : Db) (history : List Record) (more h : List Record) → history ≡ more ++ h → IsSourced db history → IsSourced db (more ++ h)
 sourced_in db history more h is s = subst (λ (x : List Record). IsSourced db x) is s
 
-by_moment : (db : Db) (seen history : List Record) (request : Request) (bytes : List ℕ) (moment : List Record) (n : ℕ) (content : Files) → Legal history → IsSourced db history → IsPrefix seen history → IsPrefix moment history
+by_moment : (db : Db) (seen history : List Record) (request : Request) (bytes : List ℕ) (moment : List Record) (n : ℕ) (content : Content) → Legal history → IsSourced db history → IsPrefix seen history → IsPrefix moment history
     → length seen < length moment → 1 < length moment → LooksAt moment n → version_in history n ≡ Some content → (answer_of content request).bytes ≡ bytes → IsReply db seen history request bytes
 by_moment db seen history request bytes [] n content l s p q later second at holds said = absurd at
 by_moment db seen history request bytes (r ∷ h) n content l s p q later second at holds said =
@@ -109,7 +109,7 @@ reply_from_poll db seen history request bytes l s p from second =
 
 -- ---- replies from an entry
 
--- the callers behind this one are new, and those before it have the versions
+-- the callers after this one are new, and those before it have the versions
 record Spares (core : Core) (a : ℕ) : Type 0 where
   unused : (b : ℕ) → a < b → core.callers b ≡ new_caller
   holders : (n : ℕ) → WasAsked core.history n → Holder core a n
@@ -139,7 +139,7 @@ spares_ready core a s = record {
 abbrev asking : Request → Option Request
 asking r = Some r
 
-by_front : (db : Db) (seen history : List Record) (request : Request) (bytes : List ℕ) (e : Fixed) → Legal history → IsSourced db history → WasLive seen history e → e.request ≡ request → e.answer.bytes ≡ bytes → IsReply db seen history request bytes
+by_front : (db : Db) (seen history : List Record) (request : Request) (bytes : List ℕ) (e : Entry) → Legal history → IsSourced db history → WasLive seen history e → e.request ≡ request → e.answer.bytes ≡ bytes → IsReply db seen history request bytes
 by_front db seen history request bytes e l s live asks said =
     let front = live.front in
     let q = live.in_history in
@@ -163,7 +163,7 @@ by_front db seen history request bytes e l s live asks said =
       moves = w.reaches.moves ++ (Begin a (Some request) seen ∷ Look a (Some e) ∷ []);
       core = c2;
       runs = runs_append db w.reaches.moves (Begin a (Some request) seen ∷ Look a (Some e) ∷ []) (opening db w.first) core c2 w.reaches.runs
-          (c1, (unseen, subst (λ (y : List Record). IsPrefix seen y) is live.behind_seen, refl), (c2, (subst (λ (y : List Record). IsLive y e) is live.live, ap (λ (c : Caller). c.request) own1 ∙ ap (λ (r : Request). asking r) (sym asks), refl), refl));
+          (c1, (unseen, subst (λ (y : List Record). IsPrefix seen y) is live.after_seen, refl), (c2, (subst (λ (y : List Record). IsLive y e) is live.live, ap (λ (c : Caller). c.request) own1 ∙ ap (λ (r : Request). asking r) (sym asks), refl), refl));
       caller = a;
       requested = requested;
       seen_is = ap (λ (c : Caller). c.seen) own2 ∙ ap (λ (c : Caller). c.seen) own1;
@@ -190,7 +190,7 @@ some_seen : (seen : List Record) → seen ≢ [] → 0 < length seen
 some_seen [] some = absurd (some refl)
 some_seen (r ∷ seen) some = omega arith
 
--- a look behind something that the caller had seen is a caller's
+-- a look after something that the caller had seen is a caller's
 pub seen_answer : (seen history : List Record) (request : Request) (bytes : List ℕ) → seen ≢ [] → Answered seen history request bytes → IsAnswer seen history request bytes
 seen_answer seen history request bytes some answered = record { answered = answered; of_callers = by_source answered.source } where
   by_source : (source : FromEntry seen history request bytes ⊎ FromPoll seen history request bytes) → IsOfCallers source

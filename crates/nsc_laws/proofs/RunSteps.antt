@@ -6,7 +6,7 @@ use Rattle.std.proofs.lemmas.List.{append-nil}
 use Rattle.nsc_model.specs.declared.kind.Db.{Db}
 use Rattle.nsc_model.specs.declared.answer.Request.{Request}
 use Rattle.nsc_model.specs.declared.record.Record.{Record}
-use Rattle.nsc_model.specs.Files as files
+use Rattle.nsc_model.specs.Content.{Content}
 use Rattle.nsc_model.specs.Files.{part_of}
 use Rattle.nsc_model.specs.History.{invalidations, IsPrefix}
 use Rattle.nsc_laws.specs.Core.{Caller, Core, new_caller, with_caller, Move, Files, Begin, Note, Fetch, PollStep, IsPoll, Runs}
@@ -36,7 +36,7 @@ other_callers callers a b c other = let e : eqb a b ≡ false = ne_eqb a b other
 
 -- ---- a caller that looks
 
-abbrev over : Core → files.Files → Core
+abbrev over : Core → Content → Core
 over core sources = record core { sources = sources }
 
 abbrev pub begins : Core → ℕ → Option Request → List Record → Core
@@ -49,16 +49,16 @@ abbrev fetches : Db → Core → ℕ → Core
 fetches db core a = changed core a (fetching (core.callers a) (part_of db core.sources))
 
 -- the core before the poll
-abbrev ready_to_poll : Db → Core → files.Files → ℕ → Option Request → List Record → Core
+abbrev ready_to_poll : Db → Core → Content → ℕ → Option Request → List Record → Core
 ready_to_poll db core sources a request seen = fetches db (notes (begins (over core sources) a request seen) a) a
 
-abbrev looks_in : Db → Core → files.Files → ℕ → Option Request → List Record → Record → ℕ → Core
+abbrev looks_in : Db → Core → Content → ℕ → Option Request → List Record → Record → ℕ → Core
 looks_in db core sources a request seen r n = after_poll (ready_to_poll db core sources a request seen) a r n
 
-abbrev looking : files.Files → ℕ → Option Request → List Record → List Move
+abbrev looking : Content → ℕ → Option Request → List Record → List Move
 looking sources a request seen = Files sources ∷ Begin a request seen ∷ Note a ∷ Fetch a ∷ PollStep a ∷ []
 
-look_runs : (db : Db) (core : Core) (sources : files.Files) (a : ℕ) (request : Option Request) (seen : List Record) (r : Record) (n : ℕ) → IsPrefix (core.callers a).seen seen → IsPrefix seen core.history → IsPoll core.history (part_of db sources) r n
+look_runs : (db : Db) (core : Core) (sources : Content) (a : ℕ) (request : Option Request) (seen : List Record) (r : Record) (n : ℕ) → IsPrefix (core.callers a).seen seen → IsPrefix seen core.history → IsPoll core.history (part_of db sources) r n
     → Runs db (looking sources a request seen) core (looks_in db core sources a request seen r n)
 look_runs db core sources a request seen r n p q poll =
     let c1 = over core sources in
@@ -69,11 +69,11 @@ look_runs db core sources a request seen r n p q poll =
     let fetched = ap (λ (c : Caller). c.fetched) (at_own c3.callers a (fetching (c3.callers a) (part_of db sources))) in
     (c1, refl, (c2, (p, q, refl), (c3, refl, (c4, ((invalidations core.history, noted), refl), (after_poll c4 a r n, (part_of db sources, r, n, fetched, poll, refl), refl)))))
 
-abbrev looked_caller : Caller → ℕ → files.Files → Option Request → List Record → ℕ → Caller
+abbrev looked_caller : Caller → ℕ → Content → Option Request → List Record → ℕ → Caller
 looked_caller c epoch content request seen n = polling (fetching (noting (begun c request seen) epoch) content) n
 
 -- the caller that looked, and the others
-looked_is : (db : Db) (core : Core) (sources : files.Files) (a : ℕ) (request : Option Request) (seen : List Record) (r : Record) (n : ℕ)
+looked_is : (db : Db) (core : Core) (sources : Content) (a : ℕ) (request : Option Request) (seen : List Record) (r : Record) (n : ℕ)
     → (looks_in db core sources a request seen r n).callers a ≡ looked_caller (core.callers a) (invalidations core.history) (part_of db sources) request seen n
 looked_is db core sources a request seen r n =
     let c2 = begins (over core sources) a request seen in
@@ -84,7 +84,7 @@ looked_is db core sources a request seen r n =
     let third = at_own c3.callers a (fetching (c3.callers a) (part_of db sources)) ∙ ap (λ (c : Caller). fetching c (part_of db sources)) second in
     at_own c4.callers a (polling (c4.callers a) n) ∙ ap (λ (c : Caller). polling c n) third
 
-others_are : (db : Db) (core : Core) (sources : files.Files) (a : ℕ) (request : Option Request) (seen : List Record) (r : Record) (n b : ℕ) → a ≢ b → (looks_in db core sources a request seen r n).callers b ≡ core.callers b
+others_are : (db : Db) (core : Core) (sources : Content) (a : ℕ) (request : Option Request) (seen : List Record) (r : Record) (n b : ℕ) → a ≢ b → (looks_in db core sources a request seen r n).callers b ≡ core.callers b
 others_are db core sources a request seen r n b other =
     let c2 = begins (over core sources) a request seen in
     let c3 = notes c2 a in
@@ -93,7 +93,7 @@ others_are db core sources a request seen r n b other =
     ∙ (other_callers c3.callers a b (fetching (c3.callers a) (part_of db sources)) other
     ∙ (other_callers c2.callers a b (noting (c2.callers a) (invalidations core.history)) other ∙ other_callers core.callers a b (begun (core.callers a) request seen) other))
 
--- ---- what is known behind it
+-- ---- what is known after it
 
 -- the newest record is of a look at the version
 pub record IsNewest (r : Record) (h : List Record) (n : ℕ) : Type 0 where
@@ -103,7 +103,7 @@ pub record IsNewest (r : Record) (h : List Record) (n : ℕ) : Type 0 where
 abbrev given : ℕ → Option ℕ
 given n = Some n
 
-own_holder : (db : Db) (core : Core) (sources : files.Files) (a : ℕ) (request : Option Request) (seen : List Record) (r : Record) (n m : ℕ) → IsNewest r core.history n → IsPrefix seen core.history → n ≡ m → Holder (looks_in db core sources a request seen r n) (a + 1) m
+own_holder : (db : Db) (core : Core) (sources : Content) (a : ℕ) (request : Option Request) (seen : List Record) (r : Record) (n m : ℕ) → IsNewest r core.history n → IsPrefix seen core.history → n ≡ m → Holder (looks_in db core sources a request seen r n) (a + 1) m
 own_holder db core sources a request seen r n m newest q same =
     let is = looked_is db core sources a request seen r n in
     record {
@@ -114,7 +114,7 @@ own_holder db core sources a request seen r n m newest q same =
       seen_before = subst (λ (c : Caller). IsPrefix c.seen (r ∷ core.history)) (sym is) (prefix_more r seen core.history q);
     }
 
-older_holder : (db : Db) (core : Core) (sources : files.Files) (a : ℕ) (request : Option Request) (seen : List Record) (r : Record) (n m : ℕ) → IsNewest r core.history n → Holder core a m → Holder (looks_in db core sources a request seen r n) (a + 1) m
+older_holder : (db : Db) (core : Core) (sources : Content) (a : ℕ) (request : Option Request) (seen : List Record) (r : Record) (n m : ℕ) → IsNewest r core.history n → Holder core a m → Holder (looks_in db core sources a request seen r n) (a + 1) m
 older_holder db core sources a request seen r n m newest h =
     let low : h.caller < a = h.known in
     let is = others_are db core sources a request seen r n h.caller (λ same. omega arith) in
@@ -126,7 +126,7 @@ older_holder db core sources a request seen r n m newest h =
       seen_before = subst (λ (c : Caller). IsPrefix c.seen (r ∷ core.history)) (sym is) (prefix_more r (core.callers h.caller).seen core.history h.seen_before);
     }
 
-looks_ready : (db : Db) (core : Core) (sources : files.Files) (request : Option Request) (seen : List Record) (r : Record) (n : ℕ) → (ready : Ready core) → IsNewest r core.history n → IsPrefix seen core.history → Ready (looks_in db core sources ready.fresh request seen r n)
+looks_ready : (db : Db) (core : Core) (sources : Content) (request : Option Request) (seen : List Record) (r : Record) (n : ℕ) → (ready : Ready core) → IsNewest r core.history n → IsPrefix seen core.history → Ready (looks_in db core sources ready.fresh request seen r n)
 looks_ready db core sources request seen r n ready newest q = record {
   fresh = ready.fresh + 1;
   unused = λ b high. others_are db core sources ready.fresh request seen r n b (λ same. omega arith) ∙ ready.unused b (omega arith);
@@ -148,7 +148,7 @@ pub record Looks (db : Db) (old : Core) (request : Option Request) (seen : List 
   pub seen_is : (new.callers caller).seen ≡ seen
   pub asked_is : (new.callers caller).asked ≡ Some n
 
-pub looks : (db : Db) (core : Core) (sources : files.Files) (request : Option Request) (seen : List Record) (r : Record) (n : ℕ) → Ready core → IsNewest r core.history n → IsPrefix seen core.history → IsPoll core.history (part_of db sources) r n → Looks db core request seen r n
+pub looks : (db : Db) (core : Core) (sources : Content) (request : Option Request) (seen : List Record) (r : Record) (n : ℕ) → Ready core → IsNewest r core.history n → IsPrefix seen core.history → IsPoll core.history (part_of db sources) r n → Looks db core request seen r n
 looks db core sources request seen r n ready newest q poll =
     let a = ready.fresh in
     let is = looked_is db core sources a request seen r n in

@@ -13,7 +13,7 @@ use Rattle.nsc_model.specs.declared.row.Row.TheVariants as row
 use Rattle.nsc_model.specs.Compat.{own_or, replaced_user}
 use Rattle.nsc_model.specs.Files.{file_limit}
 use Rattle.nsc_model.specs.Groups.{group_of_fields, group_of_line, members_of}
-use Rattle.nsc_model.specs.Marked.{reply_limit}
+use Rattle.nsc_model.specs.Answer.{reply_limit}
 use Rattle.nsc_model.specs.Users.{has_zero, is_name, trimmed, user_of_fields, user_of_line}
 use Rattle.nsc_model.specs.Wire.{IsText, group_found, passwd_found, text, text_len}
 use Rattle.nsc_laws.proofs.Sent.{IsSent, entry_limit}

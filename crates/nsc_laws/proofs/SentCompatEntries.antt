@@ -10,8 +10,9 @@ use Rattle.nsc_model.specs.declared.row.Looked.TheVariants.{Found, Unavail}
 use Rattle.nsc_model.specs.declared.row.Row.TheVariants as row
 use Rattle.nsc_model.specs.Answers.{group_in, group_scan, sub_looked, user_in, user_scan}
 use Rattle.nsc_model.specs.Compat.{scanned_file}
-use Rattle.nsc_model.specs.Files.{Files, FilesFit}
-use Rattle.nsc_model.specs.Marked.{reply_limit}
+use Rattle.nsc_model.specs.Content.{Content}
+use Rattle.nsc_model.specs.Files.{FilesFit}
+use Rattle.nsc_model.specs.Answer.{reply_limit}
 use Rattle.nsc_laws.proofs.SentAccounts.{IsSentGroup, IsSentUser, replaced_fits}
 use Rattle.nsc_laws.proofs.SentAnswers.{groups_keep, users_keep}
 use Rattle.nsc_laws.proofs.SentScans.{Scans, scan_keeps}
@@ -26,7 +27,7 @@ group_found : (looked : Looked) → IsSent entry_limit GrName looked → IfSome 
 group_found (Found (row.Group g)) sent = sent
 group_found _ sent = tt
 
-pub users_sent : (files : Files) (by : Kind) (key : List ℕ) (names : Passwd → Bool) → FilesFit files
+pub users_sent : (files : Content) (by : Kind) (key : List ℕ) (names : Passwd → Bool) → FilesFit files
     → IsSent entry_limit PwName (sub_looked files db.Passwd by key) → IsSent reply_limit PwName (scanned_file (user_scan files by key names) files.passwd)
 users_sent files by key names fit asked =
     let scan = user_scan files by key names in
@@ -41,7 +42,7 @@ users_sent files by key names fit asked =
     } in
     scan_keeps (IsSent reply_limit PwName) (IsSentUser entry_limit) scan scans files.passwd fit.passwd_fits (users_keep files.passwd fit.passwd_fits)
 
-pub groups_sent : (files : Files) (by : Kind) (key : List ℕ) (names : Group → Bool) → FilesFit files
+pub groups_sent : (files : Content) (by : Kind) (key : List ℕ) (names : Group → Bool) → FilesFit files
     → IsSent entry_limit GrName (sub_looked files db.Group by key) → IsSent reply_limit GrName (scanned_file (group_scan files by key names) files.group)
 groups_sent files by key names fit asked =
     let scan = group_scan files by key names in

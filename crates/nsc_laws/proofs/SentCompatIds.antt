@@ -10,7 +10,8 @@ use Rattle.nsc_model.specs.declared.row.Group.{Group}
 use Rattle.nsc_model.specs.declared.row.Row.TheVariants as row
 use Rattle.nsc_model.specs.Answers.{answer_by, deciding, found_or_unavail, gathered_file, group_in, group_named, id_scan, named_groups, pairs_of, service_pairs, sub_answer}
 use Rattle.nsc_model.specs.Compat.{IdScan, before_ids, gather_line, gathered, id_of_group, ids_of_pairs, is_excluded}
-use Rattle.nsc_model.specs.Files.{Files, FilesFit, file_limit}
+use Rattle.nsc_model.specs.Content.{Content}
+use Rattle.nsc_model.specs.Files.{FilesFit, file_limit}
 use Rattle.nsc_model.specs.Groups.{group_of_line, has_member}
 use Rattle.nsc_model.specs.declared.switch.SwitchService.{SwitchService}
 use Rattle.nsc_model.specs.declared.switch.SwitchService.TheVariants as service
@@ -57,7 +58,7 @@ file_pairs P user (Some file) all =
     let groups = entries_in group_of_line (Some file) in
     map_keeps (λ p. P p.1) (λ (g : Group). (g.name, g.gid)) (filter (has_member user) groups) (filter_keeps (λ g. P g.gid) (has_member user) groups all)
 
-module _ (P : ℕ → Type 0) (files : Files) (own : AllByRecursion (λ g. P g.gid) (entries_in group_of_line files.group)) (extra : AllByRecursion (λ g. P g.gid) (entries_in group_of_line files.extra_group)) (user : List ℕ) where
+module _ (P : ℕ → Type 0) (files : Content) (own : AllByRecursion (λ g. P g.gid) (entries_in group_of_line files.group)) (extra : AllByRecursion (λ g. P g.gid) (entries_in group_of_line files.extra_group)) (user : List ℕ) where
   service_finds : (name : List ℕ) (service : SwitchService) → IfSome (group_in (sub_answer files (record { kind = GrName; key = name }) service)) (λ g. P g.gid)
   service_finds name service.Files = name_finds P name files.group own
   service_finds name service.Compat = tt
@@ -81,18 +82,18 @@ module _ (P : ℕ → Type 0) (files : Files) (own : AllByRecursion (λ g. P g.g
 
 -- ---- the ids of both files
 
-abbrev groups_of : Files → List Group
+abbrev groups_of : Content → List Group
 groups_of files = entries_in group_of_line files.group ++ entries_in group_of_line files.extra_group
 
-few_ids : (files : Files) → FilesFit files → length (ids_in (groups_of files)) ≤ 2 * file_limit + 2
+few_ids : (files : Content) → FilesFit files → length (ids_in (groups_of files)) ≤ 2 * file_limit + 2
 few_ids files fit =
     omega (arith, length-map (groups_of files) (λ (g : Group). g.gid), length-append (entries_in group_of_line files.group) (entries_in group_of_line files.extra_group), entries_few group_of_line files.group fit.group_fits, entries_few group_of_line files.extra_group fit.extra_group_fits)
 
-gathered_sent : (files : Files) (o : Option (List ℕ)) → FilesFit files → IfSome o (AllByRecursion (IsIdOf (ids_in (groups_of files)))) → IsSent entry_limit InitGroups (found_or_unavail o)
+gathered_sent : (files : Content) (o : Option (List ℕ)) → FilesFit files → IfSome o (AllByRecursion (IsIdOf (ids_in (groups_of files)))) → IsSent entry_limit InitGroups (found_or_unavail o)
 gathered_sent files None fit kept = none_sent InitGroups
 gathered_sent files (Some ids) fit kept = ids_sent (ids_in (groups_of files)) ids (few_ids files fit) kept
 
-file_sent : (files : Files) (user : List ℕ) (file : Option (List ℕ)) → FilesFit files → files.group ≡ file → IsSent entry_limit InitGroups (gathered_file (id_scan files user) file)
+file_sent : (files : Content) (user : List ℕ) (file : Option (List ℕ)) → FilesFit files → files.group ≡ file → IsSent entry_limit InitGroups (gathered_file (id_scan files user) file)
 file_sent files user None fit is = none_sent InitGroups
 file_sent files user (Some file) fit is =
     let own = groups_keep files.group fit.group_fits in
@@ -102,5 +103,5 @@ file_sent files user (Some file) fit is =
     let parts = parts_keep (λ (g : Group). P g.gid) (entries_in group_of_line files.group) (entries_in group_of_line files.extra_group) each in
     gathered_sent files (gathered (id_scan files user) (lines_of file) []) fit (file_gathered P files parts.0 parts.1 user file is)
 
-pub ids_gathered : (files : Files) (user : List ℕ) → FilesFit files → IsSent entry_limit InitGroups (gathered_file (id_scan files user) files.group)
+pub ids_gathered : (files : Content) (user : List ℕ) → FilesFit files → IsSent entry_limit InitGroups (gathered_file (id_scan files user) files.group)
 ids_gathered files user fit = file_sent files user files.group fit refl

@@ -1,4 +1,4 @@
--- What holds of each item of a list holds of the items that a step of a look-up keeps.
+-- What holds of each item of a list holds of the items that a step of a lookup keeps.
 use Rattle.std.proofs.Common.{Bool, true, false, cond, List, [], ◌∷◌, ◌++◌, filter, map, Option, Some, None, IfSome}
 use Rattle.std.specs.List.{AllByRecursion, cons_option}
 use Rattle.nsc_model.specs.Entries.{first_of}

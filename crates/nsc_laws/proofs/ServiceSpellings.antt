@@ -1,7 +1,7 @@
 -- No bytes spell two services.
 use Rattle.std.proofs.Common.{◌≡◌, ℕ, ◌+◌, ◌<◌, ◌≤◌, ◌^◌, List, ◌++◌, length, flat_map, sym, ap, ◌∙◌, append_assoc, arith, length-append}
 use Rattle.nsc_model.specs.declared.row.Service.{Service}
-use Rattle.nsc_model.specs.Marked.{reply_limit}
+use Rattle.nsc_model.specs.Answer.{reply_limit}
 use Rattle.nsc_model.specs.ServiceLines.{exchanged}
 use Rattle.nsc_model.specs.Wire.{text, text_len, service_found, IsService}
 use Rattle.nsc_laws.proofs.Spellings.{same_field, same_text}
@@ -19,7 +19,7 @@ same_port p q p_fits q_fits e = omega arith
 
 -- ---- the entry of a service
 
--- the name and what stands behind it
+-- the name and what stands after it
 abbrev from_name : Service → List ℕ
 from_name s = text s.name ++ (text s.proto ++ (flat_map text_len s.aliases ++ flat_map text s.aliases))
 

@@ -8,9 +8,10 @@ use Rattle.nsc_model.specs.declared.row.Looked.{Looked}
 use Rattle.nsc_model.specs.declared.row.Looked.TheVariants.{Found, NotFound, Unavail}
 use Rattle.nsc_model.specs.declared.row.Row.{Row}
 use Rattle.nsc_model.specs.Answers.{answer_of, compat_answer, compat_by, group_named, group_numbered, id_scan, gathered_file, looked_up, marked, service_answer, sub_answer, user_named, user_numbered}
-use Rattle.nsc_model.specs.Files.{Files, FilesFit}
+use Rattle.nsc_model.specs.Content.{Content}
+use Rattle.nsc_model.specs.Files.{FilesFit}
 use Rattle.nsc_model.specs.Kinds.{database_of}
-use Rattle.nsc_model.specs.Marked.{reply_limit}
+use Rattle.nsc_model.specs.Answer.{reply_limit}
 use Rattle.nsc_model.specs.Outcomes.{reply_to}
 use Rattle.nsc_model.specs.declared.switch.SwitchService.{SwitchService}
 use Rattle.nsc_model.specs.declared.switch.SwitchService.TheVariants as service
@@ -21,7 +22,7 @@ use Rattle.nsc_laws.proofs.SentCompatIds.{ids_gathered}
 use Rattle.nsc_laws.proofs.Sent.{IsSent, any_sent, none_sent}
 use Rattle.nsc_laws.proofs.SentSwitches.{sub_looked_sent, sub_sent, switched_keeps}
 
-compat_sent : (by : Kind) (files : Files) (key : List ℕ) → FilesFit files → IsSent reply_limit by (compat_by by files key)
+compat_sent : (by : Kind) (files : Content) (key : List ℕ) → FilesFit files → IsSent reply_limit by (compat_by by files key)
 compat_sent PwName files key fit = users_sent files PwName key (user_named key) fit (sub_looked_sent files db.Passwd PwName key fit)
 compat_sent PwUid files key fit = users_sent files PwUid key (user_numbered key) fit (sub_looked_sent files db.Passwd PwUid key fit)
 compat_sent GrName files key fit = groups_sent files GrName key (group_named key) fit (sub_looked_sent files db.Group GrName key fit)
@@ -29,14 +30,14 @@ compat_sent GrGid files key fit = groups_sent files GrGid key (group_numbered ke
 compat_sent InitGroups files key fit = any_sent InitGroups (gathered_file (id_scan files key) files.group) (ids_gathered files key fit)
 compat_sent by files key fit = any_sent by Unavail (none_sent by)
 
-service_sent : (files : Files) (request : Request) → FilesFit files → (service : SwitchService) → IsSent reply_limit request.kind (service_answer files request service)
+service_sent : (files : Content) (request : Request) → FilesFit files → (service : SwitchService) → IsSent reply_limit request.kind (service_answer files request service)
 unfolding compat_answer
 service_sent files request fit service.Files = any_sent request.kind (sub_answer files request service.Files) (sub_sent files request fit service.Files)
 service_sent files request fit service.Compat = compat_sent request.kind files request.key fit
 service_sent files request fit service.Extrausers = any_sent request.kind (sub_answer files request service.Extrausers) (sub_sent files request fit service.Extrausers)
 service_sent files request fit service.Other = any_sent request.kind Unavail (none_sent request.kind)
 
-outcome_sent : (files : Files) (request : Request) → FilesFit files → IsSent reply_limit request.kind (looked_up files request)
+outcome_sent : (files : Content) (request : Request) → FilesFit files → IsSent reply_limit request.kind (looked_up files request)
 outcome_sent files request fit =
     switched_keeps (IsSent reply_limit request.kind) (service_answer files request) (any_sent request.kind Unavail (none_sent request.kind)) (service_sent files request fit) (service_list files (database_of request.kind))
 
@@ -46,7 +47,7 @@ spells kind (Found row) sent = record { of_kind = sent.0; spelling = refl; bound
 spells kind NotFound sent = record { of_kind = sent.0; spelling = refl; bound = sent.1 }
 spells kind Unavail sent = record { of_kind = sent.0; spelling = refl; bound = sent.1 }
 
-pub answer_spells : (files : Files) (request : Request) → FilesFit files → Spells request.kind (reply_to (looked_up files request)) (answer_of files request).bytes
+pub answer_spells : (files : Content) (request : Request) → FilesFit files → Spells request.kind (reply_to (looked_up files request)) (answer_of files request).bytes
 unfolding answer_of
 answer_spells files request fit = spells request.kind (looked_up files request) (outcome_sent files request fit)
 
@@ -56,6 +57,6 @@ marks kind (Found row) = (λ is. absurd cc, λ other. absurd (other row refl))
 marks kind NotFound = (λ is row found. absurd cc, λ other. refl)
 marks kind Unavail = (λ is row found. absurd cc, λ other. refl)
 
-pub answer_marks : (files : Files) (request : Request) → IsTrue (answer_of files request).not_found ↔ ((row : Row) → looked_up files request ≢ Found row)
+pub answer_marks : (files : Content) (request : Request) → IsTrue (answer_of files request).not_found ↔ ((row : Row) → looked_up files request ≢ Found row)
 unfolding answer_of
 answer_marks files request = marks request.kind (looked_up files request)

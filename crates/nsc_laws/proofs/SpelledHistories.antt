@@ -7,23 +7,24 @@ use Rattle.nsc_model.specs.declared.answer.Request.{Request}
 use Rattle.nsc_model.specs.declared.record.Record.{Record}
 use Rattle.nsc_model.specs.declared.record.Record.TheVariants.{Change, Poll, Load, End, Invalid}
 use Rattle.nsc_model.specs.Answers.{answer_of}
-use Rattle.nsc_model.specs.Files.{Files, FilesFit}
-use Rattle.nsc_model.specs.Fixed.{Fixed}
+use Rattle.nsc_model.specs.Content.{Content}
+use Rattle.nsc_model.specs.Files.{FilesFit}
+use Rattle.nsc_model.specs.Entry.{Entry}
 use Rattle.nsc_model.specs.History.{Answered, FromEntry, FromPoll, HasLoad, Legal, changes, version_in}
-use Rattle.nsc_model.specs.Marked.{Marked}
+use Rattle.nsc_model.specs.Answer.{Answer}
 use Rattle.nsc_laws.specs.Within.{IsWithin, SpellsVersion}
 use Rattle.nsc_laws.proofs.Spelled.{answer_spells}
 
 -- ---- versions are numbered from 0, and none has the number of an earlier one
 
-change_below : (version n count : ℕ) (content files : Files) (before : Option Files) → version ≡ count → (before ≡ Some files → n < count) → (if version == n then Some content else before) ≡ Some files → n < count + 1
+change_below : (version n count : ℕ) (content files : Content) (before : Option Content) → version ≡ count → (before ≡ Some files → n < count) → (if version == n then Some content else before) ≡ Some files → n < count + 1
 change_below version n count content files before is below h =
     elim (version == n) as (λ v. (version == n) ≡ v → (if v then Some content else before) ≡ Some files → n < count + 1) [
       | true ↦ λ same e. omega (arith, (Decides-eqb version n).0 same)
       | false ↦ λ other e. omega (arith, below e)
     ] refl h
 
-version_below : (history : List Record) (n : ℕ) (files : Files) → Legal history → version_in history n ≡ Some files → n < changes history
+version_below : (history : List Record) (n : ℕ) (files : Content) → Legal history → version_in history n ≡ Some files → n < changes history
 version_below [] n files l h = absurd l
 version_below (Change version content ∷ []) n files l h = change_below version n 0 content files None l (λ e. absurd cc) h
 version_below (Change version content ∷ r ∷ before) n files l h = change_below version n (changes (r ∷ before)) content files (version_in (r ∷ before) n) l.1 (version_below (r ∷ before) n files l.0) h
@@ -32,8 +33,8 @@ version_below (Load entry ∷ before) n files l h = version_below before n files
 version_below (End number cause ∷ before) n files l h = version_below before n files l.0 h
 version_below (Invalid epoch ∷ before) n files l h = version_below before n files l.0 h
 
--- so a version stays behind the change to the next
-version_stays : (version : ℕ) (content : Files) (before : List Record) (n : ℕ) (files : Files) → Legal before
+-- so a version stays after the change to the next
+version_stays : (version : ℕ) (content : Content) (before : List Record) (n : ℕ) (files : Content) → Legal before
     → version ≡ changes before → version_in before n ≡ Some files → version_in (Change version content ∷ before) n ≡ Some files
 version_stays version content before n files l is h =
     let below = version_below before n files l h in
@@ -42,7 +43,7 @@ version_stays version content before n files l is h =
 
 -- ---- answers
 
-version_fits : (history : List Record) (n : ℕ) (files : Files) → AllByRecursion IsWithin history → version_in history n ≡ Some files → FilesFit files
+version_fits : (history : List Record) (n : ℕ) (files : Content) → AllByRecursion IsWithin history → version_in history n ≡ Some files → FilesFit files
 version_fits [] n files within h = absurd cc
 version_fits (Change version content ∷ before) n files within h =
     elim (version == n) as (λ v. (if v then Some content else version_in before n) ≡ Some files → FilesFit files) [
@@ -54,33 +55,33 @@ version_fits (Load entry ∷ before) n files within h = version_fits before n fi
 version_fits (End number cause ∷ before) n files within h = version_fits before n files within.1 h
 version_fits (Invalid epoch ∷ before) n files within h = version_fits before n files within.1 h
 
-spelled_over : (history : List Record) (n : ℕ) (files : Files) (request : Request) (bytes : List ℕ) → AllByRecursion IsWithin history
+spelled_over : (history : List Record) (n : ℕ) (files : Content) (request : Request) (bytes : List ℕ) → AllByRecursion IsWithin history
     → version_in history n ≡ Some files → (answer_of files request).bytes ≡ bytes → SpellsVersion history request bytes
 spelled_over history n files request bytes within holds said =
     let fits = version_fits history n files within holds in
     subst (λ (b : List ℕ). SpellsVersion history request b) said (record { version = n; files = files; holds = holds; fits = fits; spells = answer_spells files request fits })
 
--- what was spelled before a record is spelled behind it, where the versions stay
-behind : (r : Record) (before : List Record) (e : Fixed) → ((n : ℕ) (files : Files) → version_in before n ≡ Some files → version_in (r ∷ before) n ≡ Some files)
+-- what was spelled before a record is spelled after it, where the versions stay
+still_spelled : (r : Record) (before : List Record) (e : Entry) → ((n : ℕ) (files : Content) → version_in before n ≡ Some files → version_in (r ∷ before) n ≡ Some files)
     → SpellsVersion before e.request e.answer.bytes → SpellsVersion (r ∷ before) e.request e.answer.bytes
-behind r before e stay spelled = record { version = spelled.version; files = spelled.files; holds = stay spelled.version spelled.files spelled.holds; fits = spelled.fits; spells = spelled.spells }
+still_spelled r before e stay spelled = record { version = spelled.version; files = spelled.files; holds = stay spelled.version spelled.files spelled.holds; fits = spelled.fits; spells = spelled.spells }
 
-load_spells : (history : List Record) (e : Fixed) → Legal history → AllByRecursion IsWithin history → HasLoad history e → SpellsVersion history e.request e.answer.bytes
+load_spells : (history : List Record) (e : Entry) → Legal history → AllByRecursion IsWithin history → HasLoad history e → SpellsVersion history e.request e.answer.bytes
 load_spells [] e l within has = absurd has
 load_spells (Change version content ∷ []) e l within has = absurd has
 load_spells (Change version content ∷ r ∷ before) e l within has =
-    behind (Change version content) (r ∷ before) e (λ n files h. version_stays version content (r ∷ before) n files l.0 l.1 h) (load_spells (r ∷ before) e l.0 within.1 has)
-load_spells (Poll version ∷ before) e l within has = behind (Poll version) before e (λ n files h. h) (load_spells before e l.0 within.1 has)
+    still_spelled (Change version content) (r ∷ before) e (λ n files h. version_stays version content (r ∷ before) n files l.0 l.1 h) (load_spells (r ∷ before) e l.0 within.1 has)
+load_spells (Poll version ∷ before) e l within has = still_spelled (Poll version) before e (λ n files h. h) (load_spells before e l.0 within.1 has)
 load_spells (Load entry ∷ before) e l within (inl same) =
     let history = Load entry ∷ before in
     let answer = l.3 in
-    let spelled = spelled_over history entry.version answer.0 entry.request entry.answer.bytes within answer.1 (sym (ap (λ (a : Marked). a.bytes) answer.2)) in
-    subst (λ (x : Fixed). SpellsVersion history x.request x.answer.bytes) same spelled
-load_spells (Load entry ∷ before) e l within (inr has) = behind (Load entry) before e (λ n files h. h) (load_spells before e l.0 within.1 has)
-load_spells (End number cause ∷ before) e l within has = behind (End number cause) before e (λ n files h. h) (load_spells before e l.0 within.1 has)
-load_spells (Invalid epoch ∷ before) e l within has = behind (Invalid epoch) before e (λ n files h. h) (load_spells before e l.0 within.1 has)
+    let spelled = spelled_over history entry.version answer.0 entry.request entry.answer.bytes within answer.1 (sym (ap (λ (a : Answer). a.bytes) answer.2)) in
+    subst (λ (x : Entry). SpellsVersion history x.request x.answer.bytes) same spelled
+load_spells (Load entry ∷ before) e l within (inr has) = still_spelled (Load entry) before e (λ n files h. h) (load_spells before e l.0 within.1 has)
+load_spells (End number cause ∷ before) e l within has = still_spelled (End number cause) before e (λ n files h. h) (load_spells before e l.0 within.1 has)
+load_spells (Invalid epoch ∷ before) e l within has = still_spelled (Invalid epoch) before e (λ n files h. h) (load_spells before e l.0 within.1 has)
 
-pub loaded_law : (history : List Record) (entry : Fixed) → Legal history → All IsWithin history → HasLoad history entry → SpellsVersion history entry.request entry.answer.bytes
+pub loaded_law : (history : List Record) (entry : Entry) → Legal history → All IsWithin history → HasLoad history entry → SpellsVersion history entry.request entry.answer.bytes
 loaded_law history entry l within has = load_spells history entry l (recursion_from_All IsWithin history within) has
 
 source_spells : (seen history : List Record) (request : Request) (bytes : List ℕ) → Legal history → All IsWithin history

@@ -4,7 +4,7 @@ use Rattle.std.proofs.lemmas.List.{length-append, append_cancel_right}
 use Rattle.byteorder.specs.Endian.{little_from}
 use Rattle.byteorder.specs.Numbers.{little_number-reads_back}
 use Rattle.nsc_model.specs.declared.row.Passwd.{Passwd}
-use Rattle.nsc_model.specs.Marked.{reply_limit}
+use Rattle.nsc_model.specs.Answer.{reply_limit}
 use Rattle.nsc_model.specs.Wire.{field, text, passwd_found, IsUser}
 
 pub tail_is : (x y : ℕ) (r s : List ℕ) → x ∷ r ≡ y ∷ s → r ≡ s
@@ -13,11 +13,11 @@ tail_is x y r s e = ap (drop 1) e
 pub head_is : (x y : ℕ) (r s : List ℕ) → x ∷ r ≡ y ∷ s → x ≡ y
 head_is x y r s e = cc
 
--- a field and what stands behind it
+-- a field and what stands after it
 pub same_field : (x y : ℕ) (r s : List ℕ) → x < 2 ^ 32 → y < 2 ^ 32 → field x ++ r ≡ field y ++ s → (x ≡ y) × (r ≡ s)
 same_field x y r s x_fits y_fits e = (sym (little_number-reads_back 4 x r x_fits) ∙ (ap (little_from 0 4) e ∙ little_number-reads_back 4 y s y_fits), ap (drop 4) e)
 
--- a text and what stands behind it, where the lengths are known
+-- a text and what stands after it, where the lengths are known
 pub same_text : (a b r s : List ℕ) → length a + 1 ≡ length b + 1 → text a ++ r ≡ text b ++ s → (a ≡ b) × (r ≡ s)
 same_text [] [] r s l e = (refl, ap (drop 1) e)
 same_text [] (y ∷ b) r s l e = absurd (omega arith)

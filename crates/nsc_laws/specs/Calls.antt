@@ -3,17 +3,17 @@ use Rattle.std.specs.Prelude.{◌≡◌, ℕ, ◌+◌, List, [], ◌∷◌, ◌+
 use Rattle.nsc_model.specs.declared.kind.Db.{Db}
 use Rattle.nsc_model.specs.declared.answer.Request.{Request}
 use Rattle.nsc_model.specs.declared.record.Record.{Record}
-use Rattle.nsc_model.specs.Files as files
+use Rattle.nsc_model.specs.Content.{Content}
 use Rattle.nsc_model.specs.Files.{part_of}
-use Rattle.nsc_model.specs.Fixed.{Fixed}
+use Rattle.nsc_model.specs.Entry.{Entry}
 use Rattle.nsc_model.specs.declared.conf.DbConf.{DbConf}
 use Rattle.nsc_model.specs.History.{changes, loads, invalidations, newest, version_in, IsLive, Legal, IsPrefix, Answered}
 use Rattle.nsc_laws.specs.Core.{Core, Move, Files, Begin, Look, Note, Fetch, PollStep, Insert, Finish, Empty, Compact, Reply, AreLive, Runs, Replies, opening}
-use Rattle.nsc_model.specs.Machine.{Kept, Cache, Passed, Stopped, Turn, look_up, tick, invalidated}
+use Rattle.nsc_model.specs.Machine.{Kept, Cache, Passed, Stopped, Turn, lookup, tick, invalidated}
 
 -- what never changes of the entries
-abbrev pub fixed_of : List Kept → List Fixed
-fixed_of entries = map (λ k. k.entry) entries
+abbrev pub entries_of : List Kept → List Entry
+entries_of entries = map (λ k. k.entry) entries
 
 -- the cache is what its history says: the newest version with its number, the live entries in rising number, and the counts
 pub record Tells (history : List Record) (cache : Cache) : Type 0 where
@@ -23,7 +23,7 @@ pub record Tells (history : List Record) (cache : Cache) : Type 0 where
   pub held : version_in history cache.newest_version ≡ Some cache.sources
   pub loads_are : loads history ≡ cache.inserted
   pub epochs_are : invalidations history ≡ cache.epoch
-  pub entries_are : AreLive history (fixed_of cache.entries)
+  pub entries_are : AreLive history (entries_of cache.entries)
 
 -- a move of this caller, or of the entries, where the caller has seen this history at the start of its calls; the files stay
 abbrev pub IsOwn : ℕ → List Record → Move → Type 0
@@ -54,7 +54,7 @@ IsBy a Compact = Unit {0}
 IsBy a (Reply caller bytes) = caller ≡ a
 
 -- the files become these, and then the core moves on by moves of this caller alone
-pub record MovesOver (db : Db) (a : ℕ) (sources : files.Files) (old new : Core) : Type 0 where
+pub record MovesOver (db : Db) (a : ℕ) (sources : Content) (old new : Core) : Type 0 where
   pub moves : List Move
   pub own : All (IsBy a) moves
   pub runs : Runs db moves (record old { sources = sources }) new
@@ -62,7 +62,7 @@ pub record MovesOver (db : Db) (a : ℕ) (sources : files.Files) (old new : Core
 -- a core that a run from an opening reaches, with a caller that has seen some front of its history, and the cache that tells
 -- the whole of it
 pub record Drives (db : Db) (a : ℕ) (core : Core) (cache : Cache) : Type 0 where
-  pub first : files.Files
+  pub first : Content
   pub moves : List Move
   pub runs : Runs db moves (opening db first) core
   pub seen_before : IsPrefix (core.callers a).seen core.history
@@ -78,12 +78,12 @@ pub record IsMoved (db : Db) (a : ℕ) (old : Core) (adds : List Record) (after 
   pub sources_stay : new.sources ≡ old.sources
   pub drives : Drives db a new after
 
--- and behind them the caller may get this reply to this request; an entry that the reply comes from is live at that moment
+-- and after them the caller may get this reply to this request; an entry that the reply comes from is live at that moment
 pub record IsTurned (db : Db) (a : ℕ) (old : Core) (request : Request) (adds : List Record) (reply : List ℕ) (after : Cache) (new : Core) : Type 0 where
   pub moved : IsMoved db a old adds after new
   pub requested : (new.callers a).request ≡ Some request
   pub replies : Replies new a reply
-  pub live : (e : Fixed) → (new.callers a).taken ≡ Some e → IsLive new.history e
+  pub live : (e : Entry) → (new.callers a).taken ≡ Some e → IsLive new.history e
   pub answered : Answered old.history new.history request reply
 
 -- what an event comes to is moves of the core, also where it stops
@@ -99,8 +99,8 @@ TurnsBy db a old request (Err stop) = (new : Core) × IsMoved db a old stop.adds
 
 -- an event of a database, with the files as they are at it, and its moment in seconds
 pub data Event : Type 0 where
-  LookUp : (content : files.Files) → (now : ℕ) → (request : Request) → Event
-  Tick : (content : files.Files) → (now : ℕ) → Event
+  Lookup : (content : Content) → (now : ℕ) → (request : Request) → Event
+  Tick : (content : Content) → (now : ℕ) → Event
   Invalidation : Event
 
 -- in every run of events the history stays legal, and each reply is an answer to its request whose caller had seen the whole
@@ -115,8 +115,8 @@ LegalThen others history (Err stop) = Legal (stop.adds ++ history)
 
 abbrev pub EachAnswered : Db → DbConf → Option ℕ → List Event → Cache → List Record → Type 0
 EachAnswered db settings reloads [] cache history = Legal history
-EachAnswered db settings reloads (LookUp content now request ∷ events) cache history =
-    Legal history × AnsweredThen (EachAnswered db settings reloads events) history request (look_up settings now (part_of db content) request cache)
+EachAnswered db settings reloads (Lookup content now request ∷ events) cache history =
+    Legal history × AnsweredThen (EachAnswered db settings reloads events) history request (lookup settings now (part_of db content) request cache)
 EachAnswered db settings reloads (Tick content now ∷ events) cache history =
     Legal history × LegalThen (EachAnswered db settings reloads events) history (tick settings reloads now (part_of db content) cache)
 EachAnswered db settings reloads (Invalidation ∷ events) cache history =

@@ -6,9 +6,9 @@ use Rattle.nsc_model.specs.declared.record.Ending.{Ending}
 use Rattle.nsc_model.specs.declared.record.Ending.TheVariants.{Invalidated}
 use Rattle.nsc_model.specs.declared.record.Record.{Record}
 use Rattle.nsc_model.specs.declared.record.Record.TheVariants.{Change, Poll, Load, End, Invalid}
-use Rattle.nsc_model.specs.Files as files
+use Rattle.nsc_model.specs.Content.{Content}
 use Rattle.nsc_model.specs.Files.{part_of}
-use Rattle.nsc_model.specs.Fixed.{Fixed}
+use Rattle.nsc_model.specs.Entry.{Entry}
 use Rattle.nsc_model.specs.Answers.{answer_of}
 use Rattle.nsc_model.specs.History.{changes, loads, invalidations, newest, version_in, IsLive, NoneLiveOf, Allows, IsPrefix, Answered}
 
@@ -19,14 +19,14 @@ pub record Caller : Type 0 where
   pub request : Option Request
   pub seen : List Record
   pub noted : Option ℕ
-  pub fetched : Option files.Files
+  pub fetched : Option Content
   pub version : Option ℕ
-  pub taken : Option Fixed
+  pub taken : Option Entry
   pub asked : Option ℕ
 
 -- the files as they are, the history, and each caller by its number
 pub record Core : Type 0 where
-  pub sources : files.Files
+  pub sources : Content
   pub history : List Record
   pub callers : ℕ → Caller
 
@@ -35,7 +35,7 @@ abbrev pub new_caller : Caller
 new_caller = record { request = None; seen = []; noted = None; fetched = None; version = None; taken = None; asked = None }
 
 -- any files, and the history of their first version
-abbrev pub opening : Db → files.Files → Core
+abbrev pub opening : Db → Content → Core
 opening db sources = record { sources = sources; history = Change 0 (part_of db sources) ∷ []; callers = λ a. new_caller }
 
 -- one caller becomes this
@@ -43,9 +43,9 @@ abbrev pub with_caller : (ℕ → Caller) → ℕ → Caller → ℕ → Caller
 with_caller callers a caller b = if a == b then caller else callers b
 
 pub data Move : Type 0 where
-  Files : (content : files.Files) → Move
+  Files : (content : Content) → Move
   Begin : (caller : ℕ) → (request : Option Request) → (seen : List Record) → Move
-  Look : (caller : ℕ) → (found : Option Fixed) → Move
+  Look : (caller : ℕ) → (found : Option Entry) → Move
   Note : (caller : ℕ) → Move
   Fetch : (caller : ℕ) → Move
   PollStep : (caller : ℕ) → Move
@@ -65,14 +65,14 @@ Gains old more new = new ≡ record old { history = more ++ old.history }
 
 -- the record of a poll of this content, and the number of the version that it finds: an equal content confirms the newest
 -- version, a different one is the next
-abbrev pub IsPoll : List Record → files.Files → Record → ℕ → Type 0
+abbrev pub IsPoll : List Record → Content → Record → ℕ → Type 0
 IsPoll history content poll n =
     ((newest history ≡ Some content) × (n + 1 ≡ changes history) × (poll ≡ Poll n)) ⊎ ((newest history ≢ Some content) × (n ≡ changes history) × (poll ≡ Change n content))
 
 -- the entry that a caller inserts: of its request, over its version, where it noted the present number of invalidations
 -- and no entry of the request is live
-pub record Inserts (history : List Record) (caller : Caller) (timeout : ℕ) (e : Fixed) : Type 0 where
-  pub content : files.Files
+pub record Inserts (history : List Record) (caller : Caller) (timeout : ℕ) (e : Entry) : Type 0 where
+  pub content : Content
   pub request_is : caller.request ≡ Some e.request
   pub version_is : caller.version ≡ Some e.version
   pub noted_is : caller.noted ≡ Some (invalidations history)
@@ -83,33 +83,33 @@ pub record Inserts (history : List Record) (caller : Caller) (timeout : ℕ) (e 
   pub timeout_is : e.timeout ≡ timeout
 
 -- the entry is in the list
-abbrev pub Among : List Fixed → Fixed → Type 0
+abbrev pub Among : List Entry → Entry → Type 0
 Among [] e = ⊥
 Among (entry ∷ entries) e = (entry ≡ e) ⊎ Among entries e
 
 -- the numbers of the entries rise
-abbrev pub Rise : List Fixed → Type 0
+abbrev pub Rise : List Entry → Type 0
 Rise [] = Unit {0}
 Rise (e ∷ []) = Unit {0}
 Rise (e ∷ f ∷ entries) = (e.number < f.number) × Rise (f ∷ entries)
 
 -- the ends of entries by an invalidation, one after the other
-abbrev pub ended_all : List Fixed → List Record → List Record
+abbrev pub ended_all : List Entry → List Record → List Record
 ended_all [] before = before
 ended_all (e ∷ entries) before = ended_all entries (End e.number Invalidated ∷ before)
 
 -- the live entries, each once, in rising number
-pub record AreLive (history : List Record) (entries : List Fixed) : Type 0 where
-  pub live : (e : Fixed) → Among entries e → IsLive history e
-  pub all : (e : Fixed) → IsLive history e → Among entries e
+pub record AreLive (history : List Record) (entries : List Entry) : Type 0 where
+  pub live : (e : Entry) → Among entries e → IsLive history e
+  pub all : (e : Entry) → IsLive history e → Among entries e
   pub rising : Rise entries
 
 -- a reply: of the load that the caller took in this call, or its answer over the version that it polled in this call
 pub record Replies (core : Core) (a : ℕ) (bytes : List ℕ) : Type 0 where
   pub request : Request
   pub request_is : (core.callers a).request ≡ Some request
-  pub source : ((e : Fixed) × ((core.callers a).taken ≡ Some e) × (e.answer.bytes ≡ bytes))
-      ⊎ ((n : ℕ) × (content : files.Files) × ((core.callers a).asked ≡ Some n) × (version_in core.history n ≡ Some content) × ((answer_of content request).bytes ≡ bytes))
+  pub source : ((e : Entry) × ((core.callers a).taken ≡ Some e) × (e.answer.bytes ≡ bytes))
+      ⊎ ((n : ℕ) × (content : Content) × ((core.callers a).asked ≡ Some n) × (version_in core.history n ≡ Some content) × ((answer_of content request).bytes ≡ bytes))
 
 -- one move of the core of a database
 abbrev pub Moves : Db → Move → Core → Core → Type 0
@@ -121,12 +121,12 @@ Moves db (Look a (Some e)) old new = IsLive old.history e × ((old.callers a).re
 Moves db (Note a) old new = Becomes old a (record (old.callers a) { noted = Some (invalidations old.history); fetched = None; version = None }) new
 Moves db (Fetch a) old new = ((epoch : ℕ) × ((old.callers a).noted ≡ Some epoch)) × Becomes old a (record (old.callers a) { fetched = Some (part_of db old.sources) }) new
 Moves db (PollStep a) old new =
-    (content : files.Files) × (poll : Record) × (n : ℕ) × ((old.callers a).fetched ≡ Some content) × IsPoll old.history content poll n
+    (content : Content) × (poll : Record) × (n : ℕ) × ((old.callers a).fetched ≡ Some content) × IsPoll old.history content poll n
     × (new ≡ record old { history = poll ∷ old.history; callers = with_caller old.callers a (record (old.callers a) { version = Some n; asked = Some n }) })
 Moves db (Insert a timeout) old new =
-    ((e : Fixed) × Inserts old.history (old.callers a) timeout e × Gains old (Load e ∷ []) new) ⊎ (((e : Fixed) → Inserts old.history (old.callers a) timeout e → ⊥) × (new ≡ old))
-Moves db (Finish number cause) old new = (e : Fixed) × IsLive old.history e × (e.number ≡ number) × Allows cause e × Gains old (End number cause ∷ []) new
-Moves db Empty old new = (entries : List Fixed) × AreLive old.history entries × (new ≡ record old { history = Invalid (invalidations old.history + 1) ∷ ended_all entries old.history })
+    ((e : Entry) × Inserts old.history (old.callers a) timeout e × Gains old (Load e ∷ []) new) ⊎ (((e : Entry) → Inserts old.history (old.callers a) timeout e → ⊥) × (new ≡ old))
+Moves db (Finish number cause) old new = (e : Entry) × IsLive old.history e × (e.number ≡ number) × Allows cause e × Gains old (End number cause ∷ []) new
+Moves db Empty old new = (entries : List Entry) × AreLive old.history entries × (new ≡ record old { history = Invalid (invalidations old.history + 1) ∷ ended_all entries old.history })
 Moves db Compact old new = new ≡ old
 Moves db (Reply a bytes) old new = Replies old a bytes × (new ≡ old)
 

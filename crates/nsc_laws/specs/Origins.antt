@@ -5,13 +5,14 @@ use Rattle.nsc_model.specs.declared.kind.Db.{Db}
 use Rattle.nsc_model.specs.declared.answer.Request.{Request}
 use Rattle.nsc_model.specs.declared.record.Record.{Record}
 use Rattle.nsc_model.specs.declared.record.Record.TheVariants.{Change, Poll, Load, End, Invalid}
-use Rattle.nsc_model.specs.Files.{Files, part_of}
+use Rattle.nsc_model.specs.Content.{Content}
+use Rattle.nsc_model.specs.Files.{part_of}
 use Rattle.nsc_model.specs.History.{Answered, FromEntry, FromPoll}
 use Rattle.nsc_laws.specs.Core.{Core, Move, Runs, Replies, opening}
 
 -- what the database reads of some files
-abbrev pub IsRead : Db → Files → Type 0
-IsRead db content = (sources : Files) × (content ≡ part_of db sources)
+abbrev pub IsRead : Db → Content → Type 0
+IsRead db content = (sources : Content) × (content ≡ part_of db sources)
 
 -- some caller looked at the version since the last invalidation; the record that begins a history is no caller's
 abbrev pub WasAsked : List Record → ℕ → Type 0
@@ -44,7 +45,7 @@ pub record IsAnswer (seen history : List Record) (request : Request) (bytes : Li
 
 -- some run from an opening makes this history
 pub record IsRun (db : Db) (history : List Record) : Type 0 where
-  pub first : Files
+  pub first : Content
   pub moves : List Move
   pub core : Core
   pub runs : Runs db moves (opening db first) core
@@ -52,7 +53,7 @@ pub record IsRun (db : Db) (history : List Record) : Type 0 where
 
 -- in some run that makes this history a caller asks, has seen so much at the start of its call, and may get this reply
 pub record IsReply (db : Db) (seen history : List Record) (request : Request) (bytes : List ℕ) : Type 0 where
-  pub first : Files
+  pub first : Content
   pub moves : List Move
   pub core : Core
   pub runs : Runs db moves (opening db first) core

@@ -6,16 +6,18 @@ use Rattle.nsc_model.specs.declared.kind.Db.TheVariants.{Passwd, Group, Hosts, S
 use Rattle.nsc_model.specs.declared.answer.Request.{Request}
 use Rattle.nsc_model.specs.declared.record.Record.{Record}
 use Rattle.nsc_model.specs.Kinds.{database_of}
-use Rattle.nsc_model.specs.Files.{Files, with_file, part_of}
-use Rattle.nsc_model.specs.Fixed.{Fixed}
+use Rattle.nsc_model.specs.Content.{Content}
+use Rattle.nsc_model.specs.Files.{with_file, part_of}
+use Rattle.nsc_model.specs.Entry.{Entry}
 use Rattle.nsc_model.specs.declared.conf.Conf.{Conf}
 use Rattle.nsc_model.specs.Settings.{settings_of}
 use Rattle.nsc_model.specs.Wire.{Asked, Look, Shutdown, Stat, Invalidate, Descriptor, Netgroup, Short, BadVersion, BadType, BadLength, request_of}
 use Rattle.nsc_model.specs.History.{IsLive, Answered}
 use Rattle.nsc_laws.specs.Core.{Core, Replies}
-use Rattle.nsc_model.specs.Machine.{Passed, Stopped, Turn, look_up, tick, invalidated}
+use Rattle.nsc_model.specs.Machine.{Passed, Stopped, Turn, lookup, tick, invalidated}
 use Rattle.nsc_laws.specs.Calls.{Drives, MovesOver}
-use Rattle.nsc_model.specs.Frames.{Frame, Ask, Become, Reach, Clear, Stop, Finish, Done, Bad, Long, Spent}
+use Rattle.nsc_model.specs.Frames as frame
+use Rattle.nsc_model.specs.Frames.{Frame, Finish, Done, Bad, Long, Spent}
 use Rattle.nsc_model.specs.Replay.{State, cache_of, with_cache, Went, framed, last_moment, turn_of, Replayed}
 
 -- the cores of the four databases, over the files as they are, with the caches that tell their histories; the caller holds
@@ -30,10 +32,10 @@ pub record AllDrive (s : State) (cores : Db → Core) : Type 0 where
 pub record IsGiven (old new : Core) (request : Request) (reply : List ℕ) : Type 0 where
   pub requested : (new.callers 0).request ≡ Some request
   pub replies : Replies new 0 reply
-  pub live : (e : Fixed) → (new.callers 0).taken ≡ Some e → IsLive new.history e
+  pub live : (e : Entry) → (new.callers 0).taken ≡ Some e → IsLive new.history e
   pub answered : Answered old.history new.history request reply
 
--- what is written for a look-up is a reply behind its length, given by the core of the request's database; for any other
+-- what is written for a lookup is a reply after its length, given by the core of the request's database; for any other
 -- input an empty reply is written
 abbrev pub IsReplied : (Db → Core) → (Db → Core) → List ℕ → Asked → Type 0
 IsReplied old new writes (Look request) = (reply : List ℕ) × (writes ≡ framed reply) × IsGiven (old (database_of request.kind)) (new (database_of request.kind)) request reply
@@ -48,11 +50,11 @@ IsReplied old new writes (BadType type) = writes ≡ framed []
 IsReplied old new writes (BadLength length) = writes ≡ framed []
 
 abbrev pub RepliesTo : (Db → Core) → (Db → Core) → List ℕ → Frame → Type 0
-RepliesTo old new writes (Ask input) = IsReplied old new writes (request_of input)
-RepliesTo old new writes (Become file held) = writes ≡ []
-RepliesTo old new writes (Reach moment) = writes ≡ []
-RepliesTo old new writes (Clear db) = writes ≡ []
-RepliesTo old new writes Stop = writes ≡ []
+RepliesTo old new writes (frame.Request input) = IsReplied old new writes (request_of input)
+RepliesTo old new writes (frame.SetFile file held) = writes ≡ []
+RepliesTo old new writes (frame.Time moment) = writes ≡ []
+RepliesTo old new writes (frame.Invalidate db) = writes ≡ []
+RepliesTo old new writes frame.End = writes ≡ []
 
 -- ---- the records of a frame
 
@@ -87,7 +89,7 @@ look_adds_of (Ok turn) = turn.adds
 look_adds_of (Err stop) = stop.adds
 
 abbrev pub look_adds : Conf → State → Db → Request → Db → List Record
-look_adds settings s db request = adds_alone db (look_adds_of (look_up (settings_of settings db) s.moment (part_of db s.files) request (cache_of s db)))
+look_adds settings s db request = adds_alone db (look_adds_of (lookup (settings_of settings db) s.moment (part_of db s.files) request (cache_of s db)))
 
 abbrev pub asked_adds : Conf → State → Asked → Db → List Record
 asked_adds settings s (Look request) = look_adds settings s (database_of request.kind) request
@@ -105,15 +107,15 @@ asked_adds settings s (BadLength length) = none_add
 abbrev pub tick_of : Conf → State → Db → Result Passed Stopped
 tick_of settings s db = tick (settings_of settings db) settings.reloads s.moment (part_of db s.files) (cache_of s db)
 
--- behind a tick that stops no other database is ticked
+-- after a tick that stops no other database is ticked
 abbrev pub unless_stopped : Result Passed Stopped → List Record → List Record
 unless_stopped (Ok passed) adds = adds
 unless_stopped (Err stop) adds = []
 
 abbrev pub tick_adds : Conf → State → Db → List Record
 tick_adds settings s =
-    let users = tick_of settings s Passwd in
-    let groups = tick_of settings s Group in
+    let passwd = tick_of settings s Passwd in
+    let group = tick_of settings s Group in
     let hosts = tick_of settings s Hosts in
     let services = tick_of settings s Services in
     each_of (adds_of users) (unless_stopped users (adds_of groups)) (unless_stopped users (unless_stopped groups (adds_of hosts))) (unless_stopped users (unless_stopped groups (unless_stopped hosts (adds_of services))))
@@ -124,11 +126,11 @@ reached_moment s moment = max s.moment (min moment last_moment)
 
 -- what a frame adds to the history of each database
 abbrev pub frame_adds : Conf → State → Frame → Db → List Record
-frame_adds settings s (Ask input) = asked_adds settings s (request_of input)
-frame_adds settings s (Become file held) = none_add
-frame_adds settings s (Reach moment) = tick_adds settings (record s { moment = reached_moment s moment })
-frame_adds settings s (Clear db) = adds_alone db (adds_of (invalidated (cache_of s db)))
-frame_adds settings s Stop = none_add
+frame_adds settings s (frame.Request input) = asked_adds settings s (request_of input)
+frame_adds settings s (frame.SetFile file held) = none_add
+frame_adds settings s (frame.Time moment) = tick_adds settings (record s { moment = reached_moment s moment })
+frame_adds settings s (frame.Invalidate db) = adds_alone db (adds_of (invalidated (cache_of s db)))
+frame_adds settings s frame.End = none_add
 
 -- the cores move on over the files of this state, gain exactly these records, and tell its caches
 pub record AllMove (old : Db → Core) (adds : Db → List Record) (s : State) (new : Db → Core) : Type 0 where
@@ -138,7 +140,7 @@ pub record AllMove (old : Db → Core) (adds : Db → List Record) (s : State) (
 
 -- ---- stops
 
--- a database leaves what it did up to its stop, and where it does not stop, the next part goes on behind it
+-- a database leaves what it did up to its stop, and where it does not stop, the next part goes on after it
 abbrev pub left_on : State → Db → Result Passed Stopped → (State → State) → State
 left_on s db (Ok passed) next = next (with_cache s db passed.cache)
 left_on s db (Err stop) next = with_cache s db stop.cache
@@ -155,7 +157,7 @@ abbrev pub left_ticks : Conf → State → State
 left_ticks settings s = left_ticked settings Passwd s (λ s1. left_ticked settings Group s1 (λ s2. left_ticked settings Hosts s2 (λ s3. left_ticked settings Services s3 (λ s4. s4))))
 
 abbrev pub left_look : Conf → State → Db → Request → State
-left_look settings s db request = left_looked s db (look_up (settings_of settings db) s.moment (part_of db s.files) request (cache_of s db))
+left_look settings s db request = left_looked s db (lookup (settings_of settings db) s.moment (part_of db s.files) request (cache_of s db))
 
 abbrev pub left_asked : Conf → State → Asked → State
 left_asked settings s (Look request) = left_look settings s (database_of request.kind) request
@@ -171,11 +173,11 @@ left_asked settings s (BadLength length) = s
 
 -- what a frame leaves where a count of a database stands at its end
 abbrev pub left_by : Conf → State → Frame → State
-left_by settings s (Ask input) = left_asked settings s (request_of input)
-left_by settings s (Become file held) = s
-left_by settings s (Reach moment) = left_ticks settings (record s { moment = max s.moment (min moment last_moment) })
-left_by settings s (Clear db) = left_on s db (invalidated (cache_of s db)) (λ t. t)
-left_by settings s Stop = s
+left_by settings s (frame.Request input) = left_asked settings s (request_of input)
+left_by settings s (frame.SetFile file held) = s
+left_by settings s (frame.Time moment) = left_ticks settings (record s { moment = max s.moment (min moment last_moment) })
+left_by settings s (frame.Invalidate db) = left_on s db (invalidated (cache_of s db)) (λ t. t)
+left_by settings s frame.End = s
 
 -- the state at a stop: for a count what the frame left, and for any other cause what stood before the frame
 abbrev pub stopped_in : State → State → Finish → State
@@ -186,27 +188,27 @@ stopped_in s left (Spent count) = left
 
 -- ---- whole replays
 
--- the files and the moment behind a frame
-abbrev pub files_behind : Frame → Files → Files
-files_behind (Ask input) files = files
-files_behind (Become file held) files = with_file files file held
-files_behind (Reach moment) files = files
-files_behind (Clear db) files = files
-files_behind Stop files = files
+-- the files and the moment after a frame
+abbrev pub files_after : Frame → Content → Content
+files_after (frame.Request input) files = files
+files_after (frame.SetFile file held) files = with_file files file held
+files_after (frame.Time moment) files = files
+files_after (frame.Invalidate db) files = files
+files_after frame.End files = files
 
-abbrev pub moment_behind : Frame → State → ℕ
-moment_behind (Ask input) s = s.moment
-moment_behind (Become file held) s = s.moment
-moment_behind (Reach moment) s = reached_moment s moment
-moment_behind (Clear db) s = s.moment
-moment_behind Stop s = s.moment
+abbrev pub moment_after : Frame → State → ℕ
+moment_after (frame.Request input) s = s.moment
+moment_after (frame.SetFile file held) s = s.moment
+moment_after (frame.Time moment) s = reached_moment s moment
+moment_after (frame.Invalidate db) s = s.moment
+moment_after frame.End s = s.moment
 
--- a frame moves the cores on, over the files as they are behind it, and they gain exactly its records
+-- a frame moves the cores on, over the files as they are after it, and they gain exactly its records
 pub record IsPlayed (settings : Conf) (s : State) (old : Db → Core) (frame : Frame) (went : Went) (new : Db → Core) : Type 0 where
   pub moves : AllMove old (frame_adds settings s frame) went.state new
   pub replied : RepliesTo old new went.writes frame
-  pub files_are : went.state.files ≡ files_behind frame s.files
-  pub moment_is : went.state.moment ≡ moment_behind frame s
+  pub files_are : went.state.files ≡ files_after frame s.files
+  pub moment_is : went.state.moment ≡ moment_after frame s
 
 -- a frame that ends the replay: there the cores moved on to the state at the stop, and gained exactly the records up to it
 pub record IsStopped (settings : Conf) (s : State) (old : Db → Core) (frame : Frame) (finish : Finish) (new : Db → Core) : Type 0 where
@@ -217,7 +219,7 @@ abbrev pub PlayedThen : (State → (Db → Core) → List (List ℕ) → Type 0)
 PlayedThen others settings s old frame pieces finish (Ok went) = (new : Db → Core) × (later : List (List ℕ)) × IsPlayed settings s old frame went new × (pieces ≡ went.writes ∷ later) × others went.state new later
 PlayedThen others settings s old frame pieces finish (Err stop) = (new : Db → Core) × IsStopped settings s old frame stop new × (pieces ≡ []) × (finish ≡ stop)
 
--- where no frame ends the replay, it ends like this one, as the bytes behind the frames say
+-- where no frame ends the replay, it ends like this one, as the bytes after the frames say
 abbrev pub EachReplied : Conf → List Frame → Finish → State → (Db → Core) → List (List ℕ) → Finish → Type 0
 EachReplied settings [] last s cores pieces finish = AllDrive s cores × (pieces ≡ []) × (finish ≡ last)
 EachReplied settings (frame ∷ frames) last s cores pieces finish =

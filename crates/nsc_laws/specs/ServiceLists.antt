@@ -2,7 +2,7 @@
 use Rattle.std.specs.Prelude.{◌≡◌, ◌⊎◌, ℕ, List, Option, Some, None}
 use Rattle.nsc_model.specs.declared.switch.DbName.{DbName}
 use Rattle.nsc_model.specs.declared.switch.SwitchStep.{SwitchStep}
-use Rattle.nsc_model.specs.Switches.{Spells, default_list, first_line}
+use Rattle.nsc_model.specs.Switches.{WritesSteps, default_list, first_line}
 
 abbrev pub SpellsNone : List ℕ → Type 0
 SpellsNone line = (steps : List SwitchStep) → Spells line steps → ⊥

@@ -15,7 +15,7 @@ action_of look step = action_at step (look step.service)
 abbrev pub GoesOn : (SwitchService → Looked) → SwitchStep → Type 0
 GoesOn look step = action_of look step ≡ Continue
 
--- the switch goes on behind each of some steps, and ends with the next one, whose action ends it or which is the last; the
+-- the switch goes on after each of some steps, and ends with the next one, whose action ends it or which is the last; the
 -- outcome is that of its service
 pub record EndsAt (look : SwitchService → Looked) (steps : List SwitchStep) (service : SwitchService) : Type 0 where
   pub before : List SwitchStep

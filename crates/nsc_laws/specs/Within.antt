@@ -4,8 +4,9 @@ use Rattle.nsc_model.specs.declared.answer.Request.{Request}
 use Rattle.nsc_model.specs.declared.record.Record.{Record}
 use Rattle.nsc_model.specs.declared.record.Record.TheVariants.{Change, Poll, Load, End, Invalid}
 use Rattle.nsc_model.specs.Answers.{looked_up}
-use Rattle.nsc_model.specs.Files.{Files, FilesFit}
-use Rattle.nsc_model.specs.Fixed.{kept_limit, key_limit}
+use Rattle.nsc_model.specs.Content.{Content}
+use Rattle.nsc_model.specs.Files.{FilesFit}
+use Rattle.nsc_model.specs.Entry.{kept_limit, key_limit}
 use Rattle.nsc_model.specs.History.{version_in}
 use Rattle.nsc_model.specs.Outcomes.{reply_to}
 use Rattle.nsc_model.specs.Wire.{Spells}
@@ -22,7 +23,7 @@ IsWithin (Invalid epoch) = Unit {0}
 -- limits; so there are no more of them than a reply may have
 pub record SpellsVersion (history : List Record) (request : Request) (bytes : List ℕ) : Type 0 where
   pub version : ℕ
-  pub files : Files
+  pub files : Content
   pub holds : version_in history version ≡ Some files
   pub fits : FilesFit files
   pub spells : Spells request.kind (reply_to (looked_up files request)) bytes

@@ -4,7 +4,7 @@ ghost use Rattle.std.specs.Prelude.{◌≡◌, ◌≢◌, ℕ, List, [], Some};
 ghost use Rattle.nsc_model.specs.declared.answer.Request.{Request};
 ghost use Rattle.nsc_model.specs.declared.kind.Db.{Db};
 ghost use Rattle.nsc_model.specs.declared.record.Record.{Record};
-ghost use Rattle.nsc_model.specs.Files.{Files};
+ghost use Rattle.nsc_model.specs.Content.{Content};
 ghost use Rattle.nsc_model.specs.History.{Answered, Legal, version_in};
 ghost use Rattle.nsc_laws.specs.Core.{Core, Move, Empty, Moves, Runs, RepliesAnswer, opening};
 ghost use Rattle.nsc_laws.specs.Origins.{IsAnswer, IsReply, IsRun, IsSourced};
@@ -14,21 +14,21 @@ ghost use Rattle.nsc_laws.specs.Origins.{IsAnswer, IsReply, IsRun, IsSourced};
 /// each reply that a caller may get is an answer to its request, between what the caller had seen at the start of its call and
 /// the history at the reply.
 pub fn core_runs_are_legal()
-    ensures legal { (db : Db) (files : Files) (moves : List Move) (new : Core) → Runs db moves (opening db files) new → Legal new.history }
-    ensures sourced { (db : Db) (files : Files) (moves : List Move) (new : Core) → Runs db moves (opening db files) new → IsSourced db new.history }
-    ensures answered { (db : Db) (files : Files) (moves : List Move) (new : Core) → Runs db moves (opening db files) new → RepliesAnswer new }
+    ensures legal { (db : Db) (files : Content) (moves : List Move) (new : Core) → Runs db moves (opening db files) new → Legal new.history }
+    ensures sourced { (db : Db) (files : Content) (moves : List Move) (new : Core) → Runs db moves (opening db files) new → IsSourced db new.history }
+    ensures answered { (db : Db) (files : Content) (moves : List Move) (new : Core) → Runs db moves (opening db files) new → RepliesAnswer new }
 {}
 
 /// In every run, the versions that a caller polled have a content: so a caller that polled in its call has an answer to
 /// reply, and one that polled since it noted the invalidations has an answer to insert.
 pub fn polled_versions_are_held()
-    ensures asked { (db : Db) (files : Files) (moves : List Move) (new : Core) → Runs db moves (opening db files) new → (a n : ℕ) → (new.callers a).asked ≡ Some n → (content : Files) × (version_in new.history n ≡ Some content) }
-    ensures version { (db : Db) (files : Files) (moves : List Move) (new : Core) → Runs db moves (opening db files) new → (a n : ℕ) → (new.callers a).version ≡ Some n → (content : Files) × (version_in new.history n ≡ Some content) }
+    ensures asked { (db : Db) (files : Content) (moves : List Move) (new : Core) → Runs db moves (opening db files) new → (a n : ℕ) → (new.callers a).asked ≡ Some n → (content : Content) × (version_in new.history n ≡ Some content) }
+    ensures version { (db : Db) (files : Content) (moves : List Move) (new : Core) → Runs db moves (opening db files) new → (a n : ℕ) → (new.callers a).version ≡ Some n → (content : Content) × (version_in new.history n ≡ Some content) }
 {}
 
 /// After every run the database can be emptied: its live entries are a list, each once, in rising number.
 pub fn core_can_be_emptied()
-    ensures { (db : Db) (files : Files) (moves : List Move) (new : Core) → Runs db moves (opening db files) new → (emptied : Core) × Moves db Empty new emptied }
+    ensures { (db : Db) (files : Content) (moves : List Move) (new : Core) → Runs db moves (opening db files) new → (emptied : Core) × Moves db Empty new emptied }
 {}
 
 /// Every legal history is made by some run of moves from an opening, where each of its contents is what the database reads of

@@ -3,7 +3,7 @@
 ghost use Rattle.std.specs.Prelude.{◌≡◌, ◌≢◌, ℕ, List, [], Some};
 ghost use Rattle.nsc_model.specs.declared.switch.DbName.{DbName};
 ghost use Rattle.nsc_model.specs.declared.switch.SwitchStep.{SwitchStep};
-ghost use Rattle.nsc_model.specs.Switches.{Spells, list_of, spelled_list};
+ghost use Rattle.nsc_model.specs.Switches.{WritesSteps, list_of, spelled_list};
 ghost use Rattle.nsc_laws.specs.ServiceLists.{Gives};
 
 /// A text spells exactly the service list that reading it token by token gives.

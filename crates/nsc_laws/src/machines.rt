@@ -4,10 +4,11 @@ ghost use Rattle.std.specs.Prelude.{◌≡◌, ℕ, List, [], ◌∷◌, Option,
 ghost use Rattle.nsc_model.specs.declared.answer.Request.{Request};
 ghost use Rattle.nsc_model.specs.declared.kind.Db.{Db};
 ghost use Rattle.nsc_model.specs.declared.record.Record.TheVariants.{Change};
-ghost use Rattle.nsc_model.specs.Files.{Files, part_of};
-ghost use Rattle.nsc_model.specs.Fixed.{Fixed};
+ghost use Rattle.nsc_model.specs.Content.{Content};
+ghost use Rattle.nsc_model.specs.Files.{part_of};
+ghost use Rattle.nsc_model.specs.Entry.{Entry};
 ghost use Rattle.nsc_model.specs.declared.conf.DbConf.{DbConf};
-ghost use Rattle.nsc_model.specs.Machine.{Cache, new_cache, live_entry, refusal, own_refusal, look_up, tick, invalidated};
+ghost use Rattle.nsc_model.specs.Machine.{Cache, new_cache, live_entry, refusal, own_refusal, lookup, tick, invalidated};
 ghost use Rattle.nsc_laws.specs.Core.{Core, opening};
 ghost use Rattle.nsc_laws.specs.Calls.{Drives, TurnsBy, PassesBy, Event, EachAnswered};
 
@@ -15,24 +16,24 @@ ghost use Rattle.nsc_laws.specs.Calls.{Drives, TurnsBy, PassesBy, Event, EachAns
 /// it, with the same records and the same reply; so also where it stops. The reply is an answer to its request, and an entry
 /// that it comes from is live at that moment.
 pub fn machine_events_are_moves()
-    ensures begins { (db : Db) (a : ℕ) (files : Files) → Drives db a (opening db files) (new_cache (part_of db files)) }
-    ensures files { (db : Db) (a : ℕ) (old : Core) (cache : Cache) (files : Files) → Drives db a old cache → Drives db a (record old { sources = files }) cache }
-    ensures look_up { (db : Db) (a : ℕ) (settings : DbConf) (now : ℕ) (request : Request) (old : Core) (cache : Cache) →
-        Drives db a old cache → TurnsBy db a old request (look_up settings now (part_of db old.sources) request cache) }
+    ensures begins { (db : Db) (a : ℕ) (files : Content) → Drives db a (opening db files) (new_cache (part_of db files)) }
+    ensures files { (db : Db) (a : ℕ) (old : Core) (cache : Cache) (files : Content) → Drives db a old cache → Drives db a (record old { sources = files }) cache }
+    ensures lookup { (db : Db) (a : ℕ) (settings : DbConf) (now : ℕ) (request : Request) (old : Core) (cache : Cache) →
+        Drives db a old cache → TurnsBy db a old request (lookup settings now (part_of db old.sources) request cache) }
     ensures tick { (db : Db) (a : ℕ) (settings : DbConf) (reloads : Option ℕ) (now : ℕ) (old : Core) (cache : Cache) →
         Drives db a old cache → PassesBy db a old (tick settings reloads now (part_of db old.sources) cache) }
     ensures invalidation { (db : Db) (a : ℕ) (old : Core) (cache : Cache) → Drives db a old cache → PassesBy db a old (invalidated cache) }
 {}
 
 /// In every run of events from a new cache, whatever the files are at each of them, the history is legal and each reply
-/// is an answer to its request, for a caller that had seen the whole history before the look-up.
+/// is an answer to its request, for a caller that had seen the whole history before the lookup.
 pub fn runs_are_answered()
-    ensures { (db : Db) (settings : DbConf) (reloads : Option ℕ) (files : Files) (events : List Event) →
+    ensures { (db : Db) (settings : DbConf) (reloads : Option ℕ) (files : Content) (events : List Event) →
         EachAnswered db settings reloads events (new_cache (part_of db files)) (Change 0 (part_of db files) ∷ []) }
 {}
 
 /// No other caller overtakes an insertion that notes the present epoch and whose request has no live entry: it is refused as
 /// with one caller.
 pub fn lone_insertions_are_refused_alike()
-    ensures { (room : ℕ) (e : Fixed) (cache : Cache) → live_entry e.request cache.entries ≡ None → refusal room cache.epoch e cache ≡ own_refusal room e cache }
+    ensures { (room : ℕ) (e : Entry) (cache : Cache) → live_entry e.request cache.entries ≡ None → refusal room cache.epoch e cache ≡ own_refusal room e cache }
 {}

@@ -9,9 +9,9 @@ ghost use Rattle.nsc_laws.specs.Core.{opening};
 ghost use Rattle.nsc_laws.specs.Replies.{IsReplayed};
 
 /// In every replay, with any settings and any frames or bytes, the output is what the frames write, in order and one piece for
-/// each frame that is played; a piece of a look-up is a reply behind its length, which is an answer to its request over the
-/// history of the request's database, whose caller had seen the whole of it before the look-up, and an entry that it comes
-/// from is live at that moment. Behind each frame, and at a stop, the history of each database is exactly the records that
+/// each frame that is played; a piece of a lookup is a reply after its length, which is an answer to its request over the
+/// history of the request's database, whose caller had seen the whole of it before the lookup, and an entry that it comes
+/// from is live at that moment. After each frame, and at a stop, the history of each database is exactly the records that
 /// the event of the frame names for it, in front of what it was.
 pub fn replays_are_answered()
     ensures of_frames { (settings : Conf) (frames : List Frame) (last : Finish) → IsReplayed settings frames last first_state (λ db. opening db no_files) (play settings frames last first_state) }

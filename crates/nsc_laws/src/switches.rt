@@ -5,7 +5,7 @@ ghost use Rattle.nsc_model.specs.declared.answer.Request.{Request};
 ghost use Rattle.nsc_model.specs.declared.kind.Db.{Db};
 ghost use Rattle.nsc_model.specs.declared.row.Looked.{Looked};
 ghost use Rattle.nsc_model.specs.declared.row.Looked.TheVariants.{Unavail};
-ghost use Rattle.nsc_model.specs.Files.{Files};
+ghost use Rattle.nsc_model.specs.Content.{Content};
 ghost use Rattle.nsc_model.specs.declared.switch.SwitchService.{SwitchService};
 ghost use Rattle.nsc_model.specs.declared.switch.SwitchService.TheVariants.{Other};
 ghost use Rattle.nsc_model.specs.declared.switch.SwitchStep.{SwitchStep};
@@ -17,13 +17,13 @@ ghost use Rattle.nsc_laws.specs.Turns.{EndsAt};
 /// unavailable; so over the services of a content.
 pub fn outcomes_are_decided()
     ensures any { (look : SwitchService → Looked) (steps : List SwitchStep) → look Other ≡ Unavail → switched look steps ≡ look (deciding look steps) }
-    ensures of_content { (files : Files) (request : Request) (steps : List SwitchStep) → switched (service_answer files request) steps ≡ service_answer files request (deciding (service_answer files request) steps) }
+    ensures of_content { (files : Content) (request : Request) (steps : List SwitchStep) → switched (service_answer files request) steps ≡ service_answer files request (deciding (service_answer files request) steps) }
 {}
 
 /// A switch over one service or more ends at the deciding one: each step before it goes on at the outcome of its service, and
 /// its own action ends the switch, or it is the last. So does each list of a content, also one that compat lines ask.
 pub fn switches_end_at_deciding_services()
     ensures any { (look : SwitchService → Looked) (steps : List SwitchStep) → steps ≢ [] → EndsAt look steps (deciding look steps) }
-    ensures of_content { (files : Files) (request : Request) (db : Db) → EndsAt (service_answer files request) (service_list files db) (deciding (service_answer files request) (service_list files db)) }
-    ensures of_compat { (files : Files) (request : Request) (db : Db) → EndsAt (sub_answer files request) (compat_list files db) (deciding (sub_answer files request) (compat_list files db)) }
+    ensures of_content { (files : Content) (request : Request) (db : Db) → EndsAt (service_answer files request) (service_list files db) (deciding (service_answer files request) (service_list files db)) }
+    ensures of_compat { (files : Content) (request : Request) (db : Db) → EndsAt (sub_answer files request) (compat_list files db) (deciding (sub_answer files request) (compat_list files db)) }
 {}

@@ -2,7 +2,8 @@
 use Rattle.std.proofs.Common.{◌≡◌, Bool, true, false, ◌&&◌, ℕ, List, Option, Some, None, refl, ap, ◌∙◌}
 use Rattle.std.proofs.lemmas.Slice.Eq.{bytes_eq-Decides}
 use Rattle.std.specs.Str.{bytes_eq}
-use Rattle.nsc_model.specs.Files.{Files, same_file, same_files}
+use Rattle.nsc_model.specs.Content.{Content}
+use Rattle.nsc_model.specs.Files.{same_file, same_files}
 
 pub both_true : (a b : Bool) → (a && b) ≡ true → (a ≡ true) × (b ≡ true)
 both_true true true e = (refl, refl)
@@ -21,10 +22,10 @@ one_file (Some a) (Some b) e = ap (λ (x : List ℕ). Some x) (same_bytes a b e)
 abbrev File : Type 0
 File = Option (List ℕ)
 
-abbrev all_of : File → File → File → File → File → File → File → Files
+abbrev all_of : File → File → File → File → File → File → File → Content
 all_of f0 f1 f2 f3 f4 f5 f6 = record { switch = f0; passwd = f1; group = f2; hosts = f3; services = f4; extra_passwd = f5; extra_group = f6 }
 
-files_from : (a b : Files) → a.switch ≡ b.switch → a.passwd ≡ b.passwd → a.group ≡ b.group → a.hosts ≡ b.hosts → a.services ≡ b.services → a.extra_passwd ≡ b.extra_passwd → a.extra_group ≡ b.extra_group → a ≡ b
+files_from : (a b : Content) → a.switch ≡ b.switch → a.passwd ≡ b.passwd → a.group ≡ b.group → a.hosts ≡ b.hosts → a.services ≡ b.services → a.extra_passwd ≡ b.extra_passwd → a.extra_group ≡ b.extra_group → a ≡ b
 files_from a b h0 h1 h2 h3 h4 h5 h6 =
     ap (λ f. all_of f a.passwd a.group a.hosts a.services a.extra_passwd a.extra_group) h0
     ∙ (ap (λ f. all_of b.switch f a.group a.hosts a.services a.extra_passwd a.extra_group) h1
@@ -35,7 +36,7 @@ files_from a b h0 h1 h2 h3 h4 h5 h6 =
     ∙ ap (λ f. all_of b.switch b.passwd b.group b.hosts b.services b.extra_passwd f) h6)))))
 
 -- a test that answers true found one content
-pub one_content : (a b : Files) → same_files a b ≡ true → a ≡ b
+pub one_content : (a b : Content) → same_files a b ≡ true → a ≡ b
 one_content a b e =
     let p5 = both_true _ (same_file a.extra_group b.extra_group) e in
     let p4 = both_true _ (same_file a.extra_passwd b.extra_passwd) p5.0 in

@@ -7,7 +7,7 @@ use Rattle.nsc_base.specs.declared.span.Line.{Line}
 use Rattle.nsc_base.specs.declared.span.Span.{Span}
 use Rattle.nsc_base.specs.Text.{IsLine, lines_of, part}
 use Rattle.nsc_model.specs.Entries.{first_named, first_of, if_named}
-use Rattle.nsc_base.specs.Found.{FirstFrom, at_end, here, behind}
+use Rattle.nsc_base.specs.Found.{FirstFrom, at_end, here, further}
 
 -- one line more at the front
 pub first_step : {A : Type 0} (names : A → Bool) (o : Option A) (others : List A) → first_of (filter names (cons_option o others)) ≡ option_or (if_named names o) (first_of (filter names others))
@@ -42,7 +42,7 @@ first_is gives text read entry_of names all from found at_end =
 first_is gives text read entry_of names all from found (here at line entry is g) =
     let given = given_at gives text read entry_of names all at line (Some entry) is g in
     sym (line_step entry_of names text at line is ∙ ap (λ o. option_or o (first_named entry_of names (drop line.next text))) (sym given))
-first_is gives text read entry_of names all from found (behind at line later is g rest) =
+first_is gives text read entry_of names all from found (further at line later is g rest) =
     let given = given_at gives text read entry_of names all at line None is g in
     first_is gives text read entry_of names all line.next later rest
     ∙ sym (line_step entry_of names text at line is ∙ ap (λ o. option_or o (first_named entry_of names (drop line.next text))) (sym given))
@@ -51,4 +51,4 @@ first_is gives text read entry_of names all from found (behind at line later is 
 pub first_has : {E : Type 0} (gives : Span → Option E → Type 0) (text : List ℕ) (P : E → Type 0) → ((span : Span) (r : Option E) → span.from ≤ span.to → span.to ≤ length text → gives span r → IfSome r P) → (from : ℕ) (found : Option E) → FirstFrom gives text from found → IfSome found P
 first_has gives text P all from found at_end = tt
 first_has gives text P all from found (here at line entry is g) = all line.span (Some entry) (omega (arith, is.begins, is.ordered)) is.ends g
-first_has gives text P all from found (behind at line later is g rest) = first_has gives text P all line.next later rest
+first_has gives text P all from found (further at line later is g rest) = first_has gives text P all line.next later rest

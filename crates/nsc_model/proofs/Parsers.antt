@@ -7,13 +7,14 @@ use Rattle.nsc_model.specs.declared.kind.FileId.{FileId}
 use Rattle.nsc_model.specs.declared.kind.Db.{Db}
 use Rattle.nsc_model.specs.Kinds.{db_numbered, file_numbered}
 use Rattle.nsc_model.specs.Files.{file_limit}
-use Rattle.nsc_model.specs.Frames.{Frame, Ask, Become, Reach, Clear, Stop, Fault, Short, NoFrame, LongFile, ◌>>=◌, chunk, number_at, made, input_limit, input_at, ask_at, held_at, present_at, marked_at, bytes_at, become, file_at, cleared, clear_at, behind, frame_at, frame_size}
+use Rattle.nsc_model.specs.Frames as frame
+use Rattle.nsc_model.specs.Frames.{Frame, Fault, Short, NoFrame, LongFile, ◌>>=◌, chunk, number_at, made, input_limit, input_at, request_at, held_at, present_at, presence_at, bytes_at, set_file, file_at, known_db, invalidate_at, frame_after, frame_at, frame_size}
 use Rattle.nsc_model.specs.Fronts.{Finds, Refuses, IsPartial}
 
 abbrev pub Parser : Type 0 → Type 0
 Parser A = List ℕ → Result (A × List ℕ) Fault
 
--- two parsers, one behind the other
+-- two parsers, one after the other
 abbrev pub then : {A B : Type 0} → Parser A → (A → Parser B) → Parser B
 then p q bytes = p bytes >>= λ x. q x.0 x.1
 
@@ -68,7 +69,7 @@ guard_ok : {A : Type 0} (b : Bool) (d : Fault) (x : Result A Fault) (y : A) → 
 guard_ok true d x y e = absurd cc
 guard_ok false d x y e = (refl, e)
 
--- a piece that takes n bytes, and behind it one that takes so many more
+-- a piece that takes n bytes, and after it one that takes so many more
 takes_then : {A B : Type 0} (n : ℕ) (p : Parser A) (q : A → Parser B) (size whole : B → ℕ) → Takes p (λ _. n) → ((x : A) → Takes (q x) size) → ((y : B) → n + size y ≡ whole y) → Takes (then p q) whole
 takes_then n p q size whole a b sum = record {
   parts = λ bytes y e.
@@ -131,28 +132,28 @@ number_takes n = record {
       omega (arith, length-drop n bytes);
 }
 
-abbrev behind_size : Frame → ℕ
-behind_size (Ask input) = 4 + length input
-behind_size (Become file None) = 2
-behind_size (Become file (Some held)) = 6 + length held
-behind_size (Reach moment) = 8
-behind_size (Clear db) = 1
-behind_size Stop = 0
+abbrev after_size : Frame → ℕ
+after_size (frame.Request input) = 4 + length input
+after_size (frame.SetFile file None) = 2
+after_size (frame.SetFile file (Some held)) = 6 + length held
+after_size (frame.Time moment) = 8
+after_size (frame.Invalidate db) = 1
+after_size frame.End = 0
 
-abbrev marked_size : Option (List ℕ) → ℕ
-marked_size None = 0
-marked_size (Some held) = 4 + length held
+abbrev presence_size : Option (List ℕ) → ℕ
+presence_size None = 0
+presence_size (Some held) = 4 + length held
 
 abbrev held_size : Option (List ℕ) → ℕ
-held_size held = 1 + marked_size held
+held_size held = 1 + presence_size held
 
 input_takes : (size : ℕ) → Takes (input_at size) length
 unfolding input_at
 input_takes size = takes_guard (ltb input_limit size) NoFrame (chunk size) length (chunk_takes size)
 
-ask_takes : Takes ask_at (λ input. 4 + length input)
-unfolding ask_at
-ask_takes = takes_then 4 (number_at 4) input_at length (λ input. 4 + length input) (number_takes 4) input_takes (λ y. refl)
+request_takes : Takes request_at (λ input. 4 + length input)
+unfolding request_at
+request_takes = takes_then 4 (number_at 4) input_at length (λ input. 4 + length input) (number_takes 4) input_takes (λ y. refl)
 
 held_takes : (size : ℕ) → Takes (held_at size) length
 unfolding held_at
@@ -162,68 +163,68 @@ present_takes : Takes present_at (λ held. 4 + length held)
 unfolding present_at
 present_takes = takes_then 4 (number_at 4) held_at length (λ held. 4 + length held) (number_takes 4) held_takes (λ y. refl)
 
-marked_takes : (mark : ℕ) → Takes (marked_at mark) marked_size
-unfolding marked_at
-marked_takes mark =
-    takes_choice (eqb mark 0) (λ bytes. Ok (None, bytes)) _ marked_size (takes_now None marked_size refl)
-    (takes_choice (eqb mark 1) (made (λ held. Some held) present_at) (λ bytes. Err NoFrame) marked_size (takes_made present_at (λ held. Some held) (λ held. 4 + length held) marked_size present_takes (λ x. refl)) (takes_refusal NoFrame marked_size))
+presence_takes : (presence : ℕ) → Takes (presence_at presence) presence_size
+unfolding presence_at
+presence_takes presence =
+    takes_choice (eqb presence 0) (λ bytes. Ok (None, bytes)) _ presence_size (takes_now None presence_size refl)
+    (takes_choice (eqb presence 1) (made (λ held. Some held) present_at) (λ bytes. Err NoFrame) presence_size (takes_made present_at (λ held. Some held) (λ held. 4 + length held) presence_size present_takes (λ x. refl)) (takes_refusal NoFrame presence_size))
 
 bytes_takes : Takes bytes_at held_size
 unfolding bytes_at
-bytes_takes = takes_then 1 (number_at 1) marked_at marked_size held_size (number_takes 1) marked_takes (λ y. refl)
+bytes_takes = takes_then 1 (number_at 1) presence_at presence_size held_size (number_takes 1) presence_takes (λ y. refl)
 
-abbrev become_size : FileId × Option (List ℕ) → ℕ
-become_size p = held_size p.1
+abbrev set_file_size : FileId × Option (List ℕ) → ℕ
+set_file_size p = held_size p.1
 
-become_takes : (o : Option FileId) → Takes (become o) become_size
-become_takes None = takes_refusal NoFrame become_size
-become_takes (Some file) = takes_made bytes_at (λ held. (file, held)) held_size become_size bytes_takes (λ x. refl)
+set_file_takes : (o : Option FileId) → Takes (set_file o) set_file_size
+set_file_takes None = takes_refusal NoFrame set_file_size
+set_file_takes (Some file) = takes_made bytes_at (λ held. (file, held)) held_size set_file_size bytes_takes (λ x. refl)
 
-file_takes : Takes file_at (λ p. 1 + become_size p)
+file_takes : Takes file_at (λ p. 1 + set_file_size p)
 unfolding file_at
-file_takes = takes_then 1 (number_at 1) (λ n. become (file_numbered n)) become_size (λ p. 1 + become_size p) (number_takes 1) (λ n. become_takes (file_numbered n)) (λ y. refl)
+file_takes = takes_then 1 (number_at 1) (λ n. set_file (file_numbered n)) set_file_size (λ p. 1 + set_file_size p) (number_takes 1) (λ n. set_file_takes (file_numbered n)) (λ y. refl)
 
-become_sum : (file : FileId) (held : Option (List ℕ)) → 1 + held_size held ≡ behind_size (Become file held)
-become_sum file None = refl
-become_sum file (Some held) = omega arith
+set_file_sum : (file : FileId) (held : Option (List ℕ)) → 1 + held_size held ≡ after_size (frame.SetFile file held)
+set_file_sum file None = refl
+set_file_sum file (Some held) = omega arith
 
-cleared_takes : (o : Option Db) → Takes (cleared o) (λ db. 0)
+cleared_takes : (o : Option Db) → Takes (known_db o) (λ db. 0)
 cleared_takes None = takes_refusal NoFrame (λ db. 0)
 cleared_takes (Some db) = takes_now db (λ db. 0) refl
 
-clear_takes : Takes clear_at (λ db. 1)
-unfolding clear_at
-clear_takes = takes_then 1 (number_at 1) (λ n. cleared (db_numbered n)) (λ db. 0) (λ db. 1) (number_takes 1) (λ n. cleared_takes (db_numbered n)) (λ y. refl)
+invalidate_takes : Takes invalidate_at (λ db. 1)
+unfolding invalidate_at
+invalidate_takes = takes_then 1 (number_at 1) (λ n. known_db (db_numbered n)) (λ db. 0) (λ db. 1) (number_takes 1) (λ n. cleared_takes (db_numbered n)) (λ y. refl)
 
-behind_takes : (first : ℕ) → Takes (behind first) behind_size
-unfolding behind
-behind_takes first =
-    takes_choice (eqb first 81) (made Ask ask_at) _ behind_size (takes_made ask_at Ask (λ input. 4 + length input) behind_size ask_takes (λ x. refl))
-    (takes_choice (eqb first 70) (made (λ p. Become p.0 p.1) file_at) _ behind_size (takes_made file_at (λ p. Become p.0 p.1) (λ p. 1 + become_size p) behind_size file_takes (λ p. become_sum p.0 p.1))
-    (takes_choice (eqb first 84) (made Reach (number_at 8)) _ behind_size (takes_made (number_at 8) Reach (λ _. 8) behind_size (number_takes 8) (λ x. refl))
-    (takes_choice (eqb first 73) (made Clear clear_at) _ behind_size (takes_made clear_at Clear (λ db. 1) behind_size clear_takes (λ x. refl))
-    (takes_choice (eqb first 69) (λ bytes. Ok (Stop, bytes)) (λ bytes. Err NoFrame) behind_size (takes_now Stop behind_size refl) (takes_refusal NoFrame behind_size)))))
+after_takes : (first : ℕ) → Takes (frame_after first) after_size
+unfolding frame_after
+after_takes first =
+    takes_choice (eqb first 81) (made frame.Request request_at) _ after_size (takes_made request_at frame.Request (λ input. 4 + length input) after_size request_takes (λ x. refl))
+    (takes_choice (eqb first 70) (made (λ p. frame.SetFile p.0 p.1) file_at) _ after_size (takes_made file_at (λ p. frame.SetFile p.0 p.1) (λ p. 1 + set_file_size p) after_size file_takes (λ p. set_file_sum p.0 p.1))
+    (takes_choice (eqb first 84) (made frame.Time (number_at 8)) _ after_size (takes_made (number_at 8) frame.Time (λ _. 8) after_size (number_takes 8) (λ x. refl))
+    (takes_choice (eqb first 73) (made frame.Invalidate invalidate_at) _ after_size (takes_made invalidate_at frame.Invalidate (λ db. 1) after_size invalidate_takes (λ x. refl))
+    (takes_choice (eqb first 69) (λ bytes. Ok (frame.End, bytes)) (λ bytes. Err NoFrame) after_size (takes_now frame.End after_size refl) (takes_refusal NoFrame after_size)))))
 
-frame_sum : (f : Frame) → 1 + behind_size f ≡ frame_size f
-frame_sum (Ask input) = omega arith
-frame_sum (Become file None) = refl
-frame_sum (Become file (Some held)) = omega arith
-frame_sum (Reach moment) = refl
-frame_sum (Clear db) = refl
-frame_sum Stop = refl
+frame_sum : (f : Frame) → 1 + after_size f ≡ frame_size f
+frame_sum (frame.Request input) = omega arith
+frame_sum (frame.SetFile file None) = refl
+frame_sum (frame.SetFile file (Some held)) = omega arith
+frame_sum (frame.Time moment) = refl
+frame_sum (frame.Invalidate db) = refl
+frame_sum frame.End = refl
 
 -- a frame takes so many bytes
 frame_takes : Takes frame_at frame_size
 unfolding frame_at
-frame_takes = takes_then 1 (number_at 1) behind behind_size frame_size (number_takes 1) behind_takes frame_sum
+frame_takes = takes_then 1 (number_at 1) frame_after after_size frame_size (number_takes 1) after_takes frame_sum
 
 some_size : (f : Frame) → 0 < frame_size f
-some_size (Ask input) = omega arith
-some_size (Become file None) = omega arith
-some_size (Become file (Some held)) = omega arith
-some_size (Reach moment) = omega arith
-some_size (Clear db) = omega arith
-some_size Stop = omega arith
+some_size (frame.Request input) = omega arith
+some_size (frame.SetFile file None) = omega arith
+some_size (frame.SetFile file (Some held)) = omega arith
+some_size (frame.Time moment) = omega arith
+some_size (frame.Invalidate db) = omega arith
+some_size frame.End = omega arith
 
 -- a frame leaves fewer bytes than it was given
 pub frame_eats : (bytes : List ℕ) (x : Frame × List ℕ) → frame_at bytes ≡ Ok x → length x.1 < length bytes

@@ -2,19 +2,20 @@
 use Rattle.std.proofs.Common.{◌≡◌, ℕ, zero, suc, ◌+◌, ◌<◌, ◌≤◌, true, false, cond, ltb, List, [], ◌∷◌, ◌++◌, length, Result, Ok, Err, refl, sym, ap, ◌∙◌, arith}
 use Rattle.std.proofs.lemmas.Bool.{le-ltb, lt-ltb}
 use Rattle.std.proofs.lemmas.List.{length-append}
-use Rattle.nsc_model.specs.Frames.{Frame, Ask, Become, Reach, Clear, Stop, Fault, Short, number_at, frame_at, Finish, Done, Bad, place_limit, Cut, more_frames, fault_at, reached, cut_on, cut_from, cut_by, cut_at}
+use Rattle.nsc_model.specs.Frames as frame
+use Rattle.nsc_model.specs.Frames.{Frame, Fault, Short, number_at, frame_at, Finish, Done, Bad, place_limit, Cut, more_frames, fault_at, reached, cut_on, cut_from, cut_by, cut_at}
 use Rattle.nsc_model.specs.Fronts.{Finds, Refuses, IsPartial}
 use Rattle.nsc_model.specs.declared.conf.Conf.{Conf}
-use Rattle.nsc_model.specs.Replay.{State, Went, turn_of, Replayed, behind_output, play_on, play, replay_from}
+use Rattle.nsc_model.specs.Replay.{State, Went, turn_of, Replayed, after_output, play_on, play, replay_from}
 use Rattle.nsc_model.proofs.Parsers.{frame_eats}
 
 -- the same cut, whichever cuts the rest, where both cut the rest alike
 same_on : (next other : ℕ → List ℕ → Cut) (place : ℕ) (bytes : List ℕ) (frame : Frame) (rest : List ℕ) → ((p : ℕ) → next p rest ≡ other p rest) → cut_on next place bytes frame rest ≡ cut_on other place bytes frame rest
-same_on next other place bytes (Ask input) rest h = ap (more_frames (Ask input)) (h _)
-same_on next other place bytes (Become file held) rest h = ap (more_frames (Become file held)) (h _)
-same_on next other place bytes (Reach moment) rest h = ap (more_frames (Reach moment)) (h _)
-same_on next other place bytes (Clear db) rest h = ap (more_frames (Clear db)) (h _)
-same_on next other place bytes Stop rest h = refl
+same_on next other place bytes (frame.Request input) rest h = ap (more_frames (frame.Request input)) (h _)
+same_on next other place bytes (frame.SetFile file held) rest h = ap (more_frames (frame.SetFile file held)) (h _)
+same_on next other place bytes (frame.Time moment) rest h = ap (more_frames (frame.Time moment)) (h _)
+same_on next other place bytes (frame.Invalidate db) rest h = ap (more_frames (frame.Invalidate db)) (h _)
+same_on next other place bytes frame.End rest h = refl
 
 same_from : (next other : ℕ → List ℕ → Cut) (place : ℕ) (bytes : List ℕ) (r : Result (Frame × List ℕ) Fault) → ((x : Frame × List ℕ) → r ≡ Ok x → (p : ℕ) → next p x.1 ≡ other p x.1) → cut_from next place bytes r ≡ cut_from other place bytes r
 same_from next other place bytes (Err fault) h = refl
@@ -42,21 +43,21 @@ same_cut (suc n) (suc m) place bytes a b =
 
 -- a frame that is followed by others: each but the first E
 abbrev pub Goes : Frame → Type 0
-Goes (Ask input) = Unit {0}
-Goes (Become file held) = Unit {0}
-Goes (Reach moment) = Unit {0}
-Goes (Clear db) = Unit {0}
-Goes Stop = ⊥
+Goes (frame.Request input) = Unit {0}
+Goes (frame.SetFile file held) = Unit {0}
+Goes (frame.Time moment) = Unit {0}
+Goes (frame.Invalidate db) = Unit {0}
+Goes frame.End = ⊥
 
 abbrev none : Finish → Cut
 none finish = record { frames = []; finish = finish }
 
 on_goes : (next : ℕ → List ℕ → Cut) (place : ℕ) (bytes : List ℕ) (frame : Frame) (rest : List ℕ) → Goes frame → cut_on next place bytes frame rest ≡ more_frames frame (next (reached place bytes rest) rest)
-on_goes next place bytes (Ask input) rest g = refl
-on_goes next place bytes (Become file held) rest g = refl
-on_goes next place bytes (Reach moment) rest g = refl
-on_goes next place bytes (Clear db) rest g = refl
-on_goes next place bytes Stop rest g = absurd g
+on_goes next place bytes (frame.Request input) rest g = refl
+on_goes next place bytes (frame.SetFile file held) rest g = refl
+on_goes next place bytes (frame.Time moment) rest g = refl
+on_goes next place bytes (frame.Invalidate db) rest g = refl
+on_goes next place bytes frame.End rest g = absurd g
 
 -- with one more as fuel than there are bytes, the first frame shows
 one_more : (place : ℕ) (bytes : List ℕ) → place < place_limit → cut_at place bytes ≡ cut_from (cut_by (length bytes)) place bytes (frame_at bytes)
@@ -80,7 +81,7 @@ cut_goes place front more frame lt found goes =
     let e : cut_at (reached place bytes more) more ≡ cut_at (place + length front) more = ap (λ p. cut_at p more) (reached_front place front more) in
     a ∙ (b ∙ (c ∙ ap (more_frames frame) (d ∙ e)))
 
-cut_stops : (place : ℕ) (front more : List ℕ) → place < place_limit → Finds frame_at front Stop → cut_at place (front ++ more) ≡ none (Done (place + length front))
+cut_stops : (place : ℕ) (front more : List ℕ) → place < place_limit → Finds frame_at front frame.End → cut_at place (front ++ more) ≡ none (Done (place + length front))
 cut_stops place front more lt found =
     one_more place (front ++ more) lt ∙ (ap (cut_from (cut_by (length (front ++ more))) place (front ++ more)) (found.whatever more) ∙ ap (λ p. none (Done p)) (reached_front place front more))
 
@@ -100,9 +101,9 @@ ended finish = record { output = []; finish = finish }
 abbrev replayed_cut : Conf → State → Cut → Replayed
 replayed_cut settings s cut = play settings cut.frames cut.finish s
 
--- the frame at the front is done, and the replay goes on behind it
+-- the frame at the front is done, and the replay goes on after it
 pub round_goes : (settings : Conf) (s : State) (place : ℕ) (front more : List ℕ) (frame : Frame) (went : Went) → place < place_limit → Finds frame_at front frame → Goes frame → turn_of settings s frame ≡ Ok went
-    → replay_from settings s place (front ++ more) ≡ behind_output went.writes (replay_from settings went.state (place + length front) more)
+    → replay_from settings s place (front ++ more) ≡ after_output went.writes (replay_from settings went.state (place + length front) more)
 unfolding play
 round_goes settings s place front more frame went lt found goes turned =
     let rest = cut_at (place + length front) more in
@@ -118,8 +119,8 @@ round_ends settings s place front more frame finish lt found goes turned =
     ap (replayed_cut settings s) (cut_goes place front more frame lt found goes)
     ∙ ap (play_on (play settings rest.frames rest.finish)) turned
 
--- the first E: what stands behind it is no part of the replay
-pub round_stops : (settings : Conf) (s : State) (place : ℕ) (front more : List ℕ) → place < place_limit → Finds frame_at front Stop → replay_from settings s place (front ++ more) ≡ ended (Done (place + length front))
+-- the first E: what stands after it is no part of the replay
+pub round_stops : (settings : Conf) (s : State) (place : ℕ) (front more : List ℕ) → place < place_limit → Finds frame_at front frame.End → replay_from settings s place (front ++ more) ≡ ended (Done (place + length front))
 unfolding play
 round_stops settings s place front more lt found = ap (replayed_cut settings s) (cut_stops place front more lt found)
 

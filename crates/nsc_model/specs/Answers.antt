@@ -18,8 +18,8 @@ use Rattle.nsc_model.specs.declared.row.Reply.TheVariants as reply
 use Rattle.nsc_model.specs.declared.kind.Db.{Db}
 use Rattle.nsc_model.specs.declared.kind.Db.TheVariants as db
 use Rattle.nsc_model.specs.Kinds.{database_of}
-use Rattle.nsc_model.specs.Files.{Files}
-use Rattle.nsc_model.specs.Marked.{Marked}
+use Rattle.nsc_model.specs.Content.{Content}
+use Rattle.nsc_model.specs.Answer.{Answer}
 use Rattle.nsc_model.specs.Wire.{spelled}
 use Rattle.nsc_base.specs.Text.{lines_of}
 use Rattle.nsc_model.specs.Entries.{named_in, first_named}
@@ -125,21 +125,21 @@ abbrev pub file_answer : Option (List ℕ) → Request → Looked
 file_answer file request = answer_by request.kind file request.key
 
 -- the file that the service `files` reads for a database
-abbrev pub own_file : Db → Files → Option (List ℕ)
+abbrev pub own_file : Db → Content → Option (List ℕ)
 own_file db.Passwd files = files.passwd
 own_file db.Group files = files.group
 own_file db.Hosts files = files.hosts
 own_file db.Services files = files.services
 
 -- the file that the service `extrausers` reads for a database: users and groups have one
-abbrev pub extra_file : Db → Files → Option (List ℕ)
+abbrev pub extra_file : Db → Content → Option (List ℕ)
 extra_file db.Passwd files = files.extra_passwd
 extra_file db.Group files = files.extra_group
 extra_file db.Hosts files = None
 extra_file db.Services files = None
 
 -- the outcome of a service of a compat list: `compat` within it is unavailable, as is what is not built in
-abbrev pub sub_answer : Files → Request → SwitchService → Looked
+abbrev pub sub_answer : Content → Request → SwitchService → Looked
 sub_answer files request service.Files = file_answer (own_file (database_of request.kind) files) request
 sub_answer files request service.Compat = Unavail
 sub_answer files request service.Extrausers = file_answer (extra_file (database_of request.kind) files) request
@@ -157,7 +157,7 @@ switched look (step ∷ next ∷ steps) =
 -- ---- compat lines
 
 -- a request over the services of the compat list
-abbrev pub sub_looked : Files → Db → Kind → List ℕ → Looked
+abbrev pub sub_looked : Content → Db → Kind → List ℕ → Looked
 sub_looked files database kind key = switched (sub_answer files (record { kind = kind; key = key })) (compat_list files database)
 
 abbrev pub user_in : Looked → Option Passwd
@@ -169,7 +169,7 @@ group_in (Found (row.Group g)) = Some g
 group_in _ = None
 
 -- users, and groups, of a request of this kind and key that names entries so
-abbrev pub user_scan : Files → Kind → List ℕ → (Passwd → Bool) → Scan Passwd
+abbrev pub user_scan : Content → Kind → List ℕ → (Passwd → Bool) → Scan Passwd
 user_scan files by key names = record {
   entry_of = user_of_line;
   name_of = λ p. p.name;
@@ -180,7 +180,7 @@ user_scan files by key names = record {
   found = λ p. Found (row.Passwd p);
 }
 
-abbrev pub group_scan : Files → Kind → List ℕ → (Group → Bool) → Scan Group
+abbrev pub group_scan : Content → Kind → List ℕ → (Group → Bool) → Scan Group
 group_scan files by key names = record {
   entry_of = group_of_line;
   name_of = λ g. g.name;
@@ -202,18 +202,18 @@ abbrev pub pairs_of : List ℕ → Option (List ℕ) → List (List ℕ × ℕ)
 pairs_of user None = []
 pairs_of user (Some file) = map (λ g. (g.name, g.gid)) (named_in group_of_line (has_member user) file)
 
-abbrev pub service_pairs : Files → List ℕ → SwitchService → List (List ℕ × ℕ)
+abbrev pub service_pairs : Content → List ℕ → SwitchService → List (List ℕ × ℕ)
 service_pairs files user service.Files = pairs_of user files.group
 service_pairs files user service.Compat = []
 service_pairs files user service.Extrausers = pairs_of user files.extra_group
 service_pairs files user service.Other = []
 
 -- those of the service whose outcome the compat list takes; where that found none, there are none
-abbrev pub named_groups : Files → List ℕ → List (List ℕ × ℕ)
+abbrev pub named_groups : Content → List ℕ → List (List ℕ × ℕ)
 named_groups files user =
     service_pairs files user (deciding (sub_answer files (record { kind = kind.InitGroups; key = user })) (compat_list files db.Group))
 
-abbrev pub id_scan : Files → List ℕ → IdScan
+abbrev pub id_scan : Content → List ℕ → IdScan
 id_scan files user = record {
   group_of = group_of_line;
   has_user = has_member user;
@@ -231,7 +231,7 @@ gathered_file scan None = Unavail
 gathered_file scan (Some file) = found_or_unavail (gathered scan (lines_of file) [])
 
 -- the outcome of compat: users and groups have it
-abbrev pub compat_by : Kind → Files → List ℕ → Looked
+abbrev pub compat_by : Kind → Content → List ℕ → Looked
 compat_by kind.PwName files key = scanned_file (user_scan files kind.PwName key (user_named key)) files.passwd
 compat_by kind.PwUid files key = scanned_file (user_scan files kind.PwUid key (user_numbered key)) files.passwd
 compat_by kind.GrName files key = scanned_file (group_scan files kind.GrName key (group_named key)) files.group
@@ -239,28 +239,28 @@ compat_by kind.GrGid files key = scanned_file (group_scan files kind.GrGid key (
 compat_by kind.InitGroups files key = gathered_file (id_scan files key) files.group
 compat_by _ files key = Unavail
 
-unfoldable pub compat_answer : Files → Request → Looked
+unfoldable pub compat_answer : Content → Request → Looked
 compat_answer files request = compat_by request.kind files request.key
 
 -- ---- the switch
 
 -- the outcome of a service
-abbrev pub service_answer : Files → Request → SwitchService → Looked
+abbrev pub service_answer : Content → Request → SwitchService → Looked
 service_answer files request service.Files = sub_answer files request service.Files
 service_answer files request service.Compat = compat_answer files request
 service_answer files request service.Extrausers = sub_answer files request service.Extrausers
 service_answer files request service.Other = Unavail
 
 -- what an outcome is on the wire: the found reply, or else the not-found header with its mark
-abbrev pub marked : Kind → Looked → Marked
+abbrev pub marked : Kind → Looked → Answer
 marked kind (Found found) = record { bytes = spelled kind (reply.Found found); not_found = false }
 marked kind NotFound = record { bytes = spelled kind reply.Absent; not_found = true }
 marked kind Unavail = record { bytes = spelled kind reply.Absent; not_found = true }
 
 -- the outcome of the switch over the service list of the request's database
-abbrev pub looked_up : Files → Request → Looked
+abbrev pub looked_up : Content → Request → Looked
 looked_up files request = switched (service_answer files request) (service_list files (database_of request.kind))
 
 -- the answer to a request over a content
-unfoldable pub answer_of : Files → Request → Marked
+unfoldable pub answer_of : Content → Request → Answer
 answer_of files request = marked request.kind (looked_up files request)

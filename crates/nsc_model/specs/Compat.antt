@@ -26,12 +26,12 @@ abbrev pub says_entry : {A : Type 0} → Option A → Says A
 says_entry None = Nothing
 says_entry (Some entry) = Entry entry
 
--- behind a minus: the name up to the first colon
+-- after a minus: the name up to the first colon
 abbrev pub says_minus : {A : Type 0} → List ℕ → Says A
 says_minus [] = Nothing
 says_minus (b ∷ name) = if b == 64 then Netgroup else Excludes (b ∷ name)
 
--- behind a plus
+-- after a plus
 abbrev pub says_plus : {A : Type 0} → List (List ℕ) → List ℕ → Says A
 says_plus fields [] = AsksAll fields
 says_plus fields (b ∷ name) = if b == 64 then Netgroup else Asks (b ∷ name) fields
@@ -40,7 +40,7 @@ says_plus fields (b ∷ name) = if b == 64 then Netgroup else Asks (b ∷ name) 
 abbrev pub first_field : List ℕ → List ℕ
 first_field bytes = before_first (λ b. b == 58) bytes
 
--- by the first byte behind the white space at the front: a plus, a minus, or an entry
+-- by the first byte after the white space at the front: a plus, a minus, or an entry
 abbrev pub says_by : {A : Type 0} → Option A → List ℕ → Says A
 says_by entry [] = Nothing
 says_by entry (b ∷ bytes) =
@@ -84,7 +84,7 @@ answers_or scan names excluded None replaced next = next
 answers_or scan names excluded (Some entry) replaced next =
     if names entry && not (is_excluded excluded (scan.name_of entry)) then scan.found (replaced entry) else next
 
--- what a line comes to, where `next` is what the lines behind it come to with these names excluded
+-- what a line comes to, where `next` is what the lines after it come to with these names excluded
 abbrev pub scan_line : {A : Type 0} → Scan A → List (List ℕ) → Says A → (List (List ℕ) → Looked) → Looked
 scan_line scan excluded (Entry entry) next = answers_or scan scan.names excluded (Some entry) (λ e. e) (next excluded)
 scan_line scan excluded (Excludes name) next = next (name ∷ excluded)
@@ -125,7 +125,7 @@ ids_of_pairs excluded pairs = map (λ p. p.1) (filter (λ p. not (is_excluded ex
 abbrev pub before_ids : List ℕ → Option (List ℕ) → Option (List ℕ)
 before_ids ids others = option_map (λ more. ids ++ more) others
 
--- the ids that a line adds to those of the lines behind it; none where a netgroup is reached
+-- the ids that a line adds to those of the lines after it; none where a netgroup is reached
 abbrev pub gather_line : IdScan → List (List ℕ) → Says Group → (List (List ℕ) → Option (List ℕ)) → Option (List ℕ)
 gather_line scan excluded (Entry g) next = before_ids (id_of_group scan excluded (Some g)) (next excluded)
 gather_line scan excluded (Excludes name) next = next (name ∷ excluded)

@@ -1,4 +1,4 @@
--- The rule of every look-up in a file: of the entries of its lines that have the form, those that the request names.
+-- The rule of every lookup in a file: of the entries of its lines that have the form, those that the request names.
 use Rattle.std.specs.Prelude.{ℕ, Bool, if◌then◌else◌, List, [], ◌∷◌, filter, Option, Some, None}
 use Rattle.std.specs.List.{filter_map}
 use Rattle.nsc_base.specs.Text.{lines_of}

@@ -2,7 +2,7 @@
 use Rattle.std.specs.Prelude.{◌≡◌, ℕ, List, Result, Ok, Err}
 use Rattle.nsc_model.specs.Machine.{Cache, Passed, Stopped, Turn}
 
--- a look-up gives this cache and this reply
+-- a lookup gives this cache and this reply
 abbrev pub TurnsTo : Result Turn Stopped → Cache → List ℕ → Type 0
 TurnsTo (Ok turn) cache reply = (turn.cache ≡ cache) × (turn.reply ≡ reply)
 TurnsTo (Err stop) cache reply = ⊥

@@ -1,7 +1,8 @@
--- A content: seven files, each absent or its bytes.
+-- The files of a content, one by one and as those of a database.
 use Rattle.std.specs.Prelude.{ℕ, ◌≤◌, Bool, true, false, ◌&&◌, List, Option, Some, None, length, IfSome}
 use Rattle.std.specs.List.{slice_index_or}
 use Rattle.std.specs.Str.{bytes_eq}
+use Rattle.nsc_model.specs.Content.{Content}
 use Rattle.nsc_model.specs.declared.kind.Db.{Db}
 use Rattle.nsc_model.specs.declared.kind.Db.TheVariants as db
 use Rattle.nsc_model.specs.declared.kind.FileId.{FileId}
@@ -9,15 +10,6 @@ use Rattle.nsc_model.specs.declared.kind.FileId.TheVariants as file
 
 abbrev pub File : Type 0
 File = Option (List ℕ)
-
-pub record Files : Type 0 where
-  pub switch : Option (List ℕ)
-  pub passwd : Option (List ℕ)
-  pub group : Option (List ℕ)
-  pub hosts : Option (List ℕ)
-  pub services : Option (List ℕ)
-  pub extra_passwd : Option (List ℕ)
-  pub extra_group : Option (List ℕ)
 
 -- a file has at most so many bytes
 abbrev pub file_limit : ℕ
@@ -27,7 +19,7 @@ abbrev pub FileFits : Option (List ℕ) → Type 0
 FileFits f = IfSome f (λ bytes. length bytes ≤ file_limit)
 
 -- no file is longer than a file may be
-pub record FilesFit (files : Files) : Type 0 where
+pub record FilesFit (files : Content) : Type 0 where
   pub switch_fits : FileFits files.switch
   pub passwd_fits : FileFits files.passwd
   pub group_fits : FileFits files.group
@@ -37,7 +29,7 @@ pub record FilesFit (files : Files) : Type 0 where
   pub extra_group_fits : FileFits files.extra_group
 
 -- the files in the order of their numbers
-abbrev pub files_in : List (Option (List ℕ)) → Files
+abbrev pub files_in : List (Option (List ℕ)) → Content
 files_in all = record {
   switch = slice_index_or all 0 None;
   passwd = slice_index_or all 1 None;
@@ -49,10 +41,10 @@ files_in all = record {
 }
 
 -- every file is absent
-abbrev pub no_files : Files
+abbrev pub no_files : Content
 no_files = record { switch = None; passwd = None; group = None; hosts = None; services = None; extra_passwd = None; extra_group = None }
 
-abbrev pub file_of : Files → FileId → Option (List ℕ)
+abbrev pub file_of : Content → FileId → Option (List ℕ)
 file_of files file.Switch = files.switch
 file_of files file.Passwd = files.passwd
 file_of files file.Group = files.group
@@ -62,7 +54,7 @@ file_of files file.ExtraPasswd = files.extra_passwd
 file_of files file.ExtraGroup = files.extra_group
 
 -- one file becomes this, and the others stay
-abbrev pub with_file : Files → FileId → Option (List ℕ) → Files
+abbrev pub with_file : Content → FileId → Option (List ℕ) → Content
 with_file files file.Switch f = record files { switch = f }
 with_file files file.Passwd f = record files { passwd = f }
 with_file files file.Group f = record files { group = f }
@@ -72,7 +64,7 @@ with_file files file.ExtraPasswd f = record files { extra_passwd = f }
 with_file files file.ExtraGroup f = record files { extra_group = f }
 
 -- what a database reads: the files that it does not read count as absent
-abbrev pub part_of : Db → Files → Files
+abbrev pub part_of : Db → Content → Content
 part_of db.Passwd files = record no_files { switch = files.switch; passwd = files.passwd; extra_passwd = files.extra_passwd }
 part_of db.Group files = record no_files { switch = files.switch; group = files.group; extra_group = files.extra_group }
 part_of db.Hosts files = record no_files { switch = files.switch; hosts = files.hosts }
@@ -85,7 +77,7 @@ same_file None (Some b) = false
 same_file (Some a) None = false
 same_file (Some a) (Some b) = bytes_eq a b
 
-abbrev pub same_files : Files → Files → Bool
+abbrev pub same_files : Content → Content → Bool
 same_files a b =
     same_file a.switch b.switch && same_file a.passwd b.passwd && same_file a.group b.group && same_file a.hosts b.hosts
     && same_file a.services b.services && same_file a.extra_passwd b.extra_passwd && same_file a.extra_group b.extra_group

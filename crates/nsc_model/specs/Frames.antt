@@ -8,11 +8,11 @@ use Rattle.nsc_model.specs.Files.{file_limit}
 
 -- a frame: the input of one connection, what a file becomes, a moment, an invalidation, the end of the replay
 pub data Frame : Type 0 where
-  Ask : (input : List ℕ) → Frame
-  Become : (file : FileId) → (bytes : Option (List ℕ)) → Frame
-  Reach : (moment : ℕ) → Frame
-  Clear : (db : Db) → Frame
-  Stop : Frame
+  Request : (input : List ℕ) → Frame
+  SetFile : (file : FileId) → (bytes : Option (List ℕ)) → Frame
+  Time : (moment : ℕ) → Frame
+  Invalidate : (db : Db) → Frame
+  End : Frame
 
 -- bytes end inside a frame; or begin no frame, whatever follows; or announce a file that is longer than a file may be
 pub data Fault : Type 0 where
@@ -29,7 +29,7 @@ abbrev pub ◌>>=◌ : {A B : Type 0} → Result A Fault → (A → Result B Fau
 abbrev pub input_limit : ℕ
 input_limit = 4096
 
--- the first n bytes, and those behind them
+-- the first n bytes, and those after them
 abbrev pub chunk : ℕ → List ℕ → Result (List ℕ × List ℕ) Fault
 chunk n bytes = if nat_lt (length bytes) n then Err Short else Ok (take n bytes, drop n bytes)
 
@@ -45,9 +45,9 @@ made make parser bytes = parser bytes >>= λ piece. Ok (make piece.0, piece.1)
 unfoldable pub input_at : ℕ → List ℕ → Result (List ℕ × List ℕ) Fault
 input_at size bytes = if nat_lt input_limit size then Err NoFrame else chunk size bytes
 
--- behind a Q: a length of four bytes, and so many bytes
-unfoldable pub ask_at : List ℕ → Result (List ℕ × List ℕ) Fault
-ask_at bytes = number_at 4 bytes >>= λ size. input_at size.0 size.1
+-- after a Q: a length of four bytes, and so many bytes
+unfoldable pub request_at : List ℕ → Result (List ℕ × List ℕ) Fault
+request_at bytes = number_at 4 bytes >>= λ size. input_at size.0 size.1
 
 -- the bytes of a file, of this many bytes
 unfoldable pub held_at : ℕ → List ℕ → Result (List ℕ × List ℕ) Fault
@@ -57,55 +57,55 @@ held_at size bytes = if nat_lt file_limit size then Err (LongFile size) else chu
 unfoldable pub present_at : List ℕ → Result (List ℕ × List ℕ) Fault
 present_at bytes = number_at 4 bytes >>= λ size. held_at size.0 size.1
 
--- behind a byte 0 nothing: the file is absent; behind a byte 1 its bytes
-unfoldable pub marked_at : ℕ → List ℕ → Result (Option (List ℕ) × List ℕ) Fault
-marked_at mark bytes =
-    if mark == 0 then Ok (None, bytes) else (
-    if mark == 1 then made (λ held. Some held) present_at bytes else Err NoFrame)
+-- after a byte 0 nothing: the file is absent; after a byte 1 its bytes
+unfoldable pub presence_at : ℕ → List ℕ → Result (Option (List ℕ) × List ℕ) Fault
+presence_at presence bytes =
+    if presence == 0 then Ok (None, bytes) else (
+    if presence == 1 then made (λ held. Some held) present_at bytes else Err NoFrame)
 
 -- what a file becomes
 unfoldable pub bytes_at : List ℕ → Result (Option (List ℕ) × List ℕ) Fault
-bytes_at bytes = number_at 1 bytes >>= λ mark. marked_at mark.0 mark.1
+bytes_at bytes = number_at 1 bytes >>= λ presence. presence_at presence.0 presence.1
 
-abbrev pub become : Option FileId → List ℕ → Result ((FileId × Option (List ℕ)) × List ℕ) Fault
-become None rest = Err NoFrame
-become (Some file) rest = made (λ held. (file, held)) bytes_at rest
+abbrev pub set_file : Option FileId → List ℕ → Result ((FileId × Option (List ℕ)) × List ℕ) Fault
+set_file None rest = Err NoFrame
+set_file (Some file) rest = made (λ held. (file, held)) bytes_at rest
 
--- behind an F: the number of a file, and what it becomes
+-- after an F: the number of a file, and what it becomes
 unfoldable pub file_at : List ℕ → Result ((FileId × Option (List ℕ)) × List ℕ) Fault
-file_at bytes = number_at 1 bytes >>= λ number. become (file_numbered number.0) number.1
+file_at bytes = number_at 1 bytes >>= λ number. set_file (file_numbered number.0) number.1
 
-abbrev pub cleared : Option Db → List ℕ → Result (Db × List ℕ) Fault
-cleared None rest = Err NoFrame
-cleared (Some db) rest = Ok (db, rest)
+abbrev pub known_db : Option Db → List ℕ → Result (Db × List ℕ) Fault
+known_db None rest = Err NoFrame
+known_db (Some db) rest = Ok (db, rest)
 
--- behind an I: the number of a database
-unfoldable pub clear_at : List ℕ → Result (Db × List ℕ) Fault
-clear_at bytes = number_at 1 bytes >>= λ number. cleared (db_numbered number.0) number.1
+-- after an I: the number of a database
+unfoldable pub invalidate_at : List ℕ → Result (Db × List ℕ) Fault
+invalidate_at bytes = number_at 1 bytes >>= λ number. known_db (db_numbered number.0) number.1
 
--- what stands behind the first byte of a frame: Q, F, T, with a moment of eight bytes, I or E
-unfoldable pub behind : ℕ → List ℕ → Result (Frame × List ℕ) Fault
-behind first rest =
-    if first == 81 then made Ask ask_at rest else (
-    if first == 70 then made (λ p. Become p.0 p.1) file_at rest else (
-    if first == 84 then made Reach (number_at 8) rest else (
-    if first == 73 then made Clear clear_at rest else (
-    if first == 69 then Ok (Stop, rest) else Err NoFrame))))
+-- what stands after the first byte of a frame: Q, F, T, with a moment of eight bytes, I or E
+unfoldable pub frame_after : ℕ → List ℕ → Result (Frame × List ℕ) Fault
+frame_after first rest =
+    if first == 81 then made Request request_at rest else (
+    if first == 70 then made (λ p. SetFile p.0 p.1) file_at rest else (
+    if first == 84 then made Time (number_at 8) rest else (
+    if first == 73 then made Invalidate invalidate_at rest else (
+    if first == 69 then Ok (End, rest) else Err NoFrame))))
 
--- the frame at the front of the bytes, and what stands behind it
+-- the frame at the front of the bytes, and what stands after it
 unfoldable pub frame_at : List ℕ → Result (Frame × List ℕ) Fault
-frame_at bytes = number_at 1 bytes >>= λ first. behind first.0 first.1
+frame_at bytes = number_at 1 bytes >>= λ first. frame_after first.0 first.1
 
 -- how many bytes a frame takes
 abbrev pub frame_size : Frame → ℕ
-frame_size (Ask input) = 5 + length input
-frame_size (Become file None) = 3
-frame_size (Become file (Some held)) = 7 + length held
-frame_size (Reach moment) = 9
-frame_size (Clear db) = 2
-frame_size Stop = 1
+frame_size (Request input) = 5 + length input
+frame_size (SetFile file None) = 3
+frame_size (SetFile file (Some held)) = 7 + length held
+frame_size (Time moment) = 9
+frame_size (Invalidate db) = 2
+frame_size End = 1
 
--- how a replay ends: behind its first E; at the place where bytes are no frame or end inside one; at a file that is too
+-- how a replay ends: after its first E; at the place where bytes are no frame or end inside one; at a file that is too
 -- long; at a count that stands at its end
 pub data Finish : Type 0 where
   Done : (place : ℕ) → Finish
@@ -133,13 +133,13 @@ fault_at place (LongFile length) = Long length
 abbrev pub reached : ℕ → List ℕ → List ℕ → ℕ
 reached place bytes rest = place + (length bytes - length rest)
 
--- a frame, and then those behind it, unless it is the first E
+-- a frame, and then those after it, unless it is the first E
 abbrev pub cut_on : (ℕ → List ℕ → Cut) → ℕ → List ℕ → Frame → List ℕ → Cut
-cut_on next place bytes (Ask input) rest = more_frames (Ask input) (next (reached place bytes rest) rest)
-cut_on next place bytes (Become file held) rest = more_frames (Become file held) (next (reached place bytes rest) rest)
-cut_on next place bytes (Reach moment) rest = more_frames (Reach moment) (next (reached place bytes rest) rest)
-cut_on next place bytes (Clear db) rest = more_frames (Clear db) (next (reached place bytes rest) rest)
-cut_on next place bytes Stop rest = record { frames = []; finish = Done (reached place bytes rest) }
+cut_on next place bytes (Request input) rest = more_frames (Request input) (next (reached place bytes rest) rest)
+cut_on next place bytes (SetFile file held) rest = more_frames (SetFile file held) (next (reached place bytes rest) rest)
+cut_on next place bytes (Time moment) rest = more_frames (Time moment) (next (reached place bytes rest) rest)
+cut_on next place bytes (Invalidate db) rest = more_frames (Invalidate db) (next (reached place bytes rest) rest)
+cut_on next place bytes End rest = record { frames = []; finish = Done (reached place bytes rest) }
 
 abbrev pub cut_from : (ℕ → List ℕ → Cut) → ℕ → List ℕ → Result (Frame × List ℕ) Fault → Cut
 cut_from next place bytes (Err fault) = record { frames = []; finish = fault_at place fault }

@@ -5,8 +5,8 @@ use Rattle.nsc_model.specs.declared.record.Ending.{Ending}
 use Rattle.nsc_model.specs.declared.record.Ending.TheVariants.{Expired, Invalidated, Replaced}
 use Rattle.nsc_model.specs.declared.record.Record.{Record}
 use Rattle.nsc_model.specs.declared.record.Record.TheVariants.{Change, Poll, Load, End, Invalid}
-use Rattle.nsc_model.specs.Files.{Files}
-use Rattle.nsc_model.specs.Fixed.{Fixed}
+use Rattle.nsc_model.specs.Content.{Content}
+use Rattle.nsc_model.specs.Entry.{Entry}
 use Rattle.nsc_model.specs.Answers.{answer_of}
 
 -- how many versions, entries and invalidations a history has
@@ -35,7 +35,7 @@ invalidations (End number cause ∷ before) = invalidations before
 invalidations (Invalid epoch ∷ before) = invalidations before + 1
 
 -- the content of the newest version
-abbrev pub newest : List Record → Option Files
+abbrev pub newest : List Record → Option Content
 newest [] = None
 newest (Change version content ∷ before) = Some content
 newest (Poll version ∷ before) = newest before
@@ -44,7 +44,7 @@ newest (End number cause ∷ before) = newest before
 newest (Invalid epoch ∷ before) = newest before
 
 -- the content of a version
-abbrev pub version_in : List Record → ℕ → Option Files
+abbrev pub version_in : List Record → ℕ → Option Content
 version_in [] n = None
 version_in (Change version content ∷ before) n = if version == n then Some content else version_in before n
 version_in (Poll version ∷ before) n = version_in before n
@@ -53,7 +53,7 @@ version_in (End number cause ∷ before) n = version_in before n
 version_in (Invalid epoch ∷ before) n = version_in before n
 
 -- the entry was inserted
-abbrev pub HasLoad : List Record → Fixed → Type 0
+abbrev pub HasLoad : List Record → Entry → Type 0
 HasLoad [] e = ⊥
 HasLoad (Change version content ∷ before) e = HasLoad before e
 HasLoad (Poll version ∷ before) e = HasLoad before e
@@ -71,16 +71,16 @@ HasEnd (End number cause ∷ before) n = (number ≡ n) ⊎ HasEnd before n
 HasEnd (Invalid epoch ∷ before) n = HasEnd before n
 
 -- live: inserted and not ended
-pub record IsLive (history : List Record) (e : Fixed) : Type 0 where
+pub record IsLive (history : List Record) (e : Entry) : Type 0 where
   pub inserted : HasLoad history e
   pub not_ended : HasEnd history e.number → ⊥
 
 -- of the entries that were inserted and answer the request, none is live
 abbrev pub NoneLiveOf : List Record → Request → Type 0
-NoneLiveOf history request = (e : Fixed) → HasLoad history e → e.request ≡ request → HasEnd history e.number
+NoneLiveOf history request = (e : Entry) → HasLoad history e → e.request ≡ request → HasEnd history e.number
 
 abbrev pub NoneLive : List Record → Type 0
-NoneLive history = (e : Fixed) → HasLoad history e → HasEnd history e.number
+NoneLive history = (e : Entry) → HasLoad history e → HasEnd history e.number
 
 -- the version was looked at after the last invalidation, or at any time where there was none
 abbrev pub WasPolled : List Record → ℕ → Type 0
@@ -92,17 +92,17 @@ WasPolled (End number cause ∷ before) n = WasPolled before n
 WasPolled (Invalid epoch ∷ before) n = ⊥
 
 -- a cause lets an entry end: time ends it only where it is over
-abbrev pub Allows : Ending → Fixed → Type 0
+abbrev pub Allows : Ending → Entry → Type 0
 Allows (Expired now) e = e.timeout < now
 Allows Invalidated e = Unit {0}
 Allows Replaced e = Unit {0}
 
 -- the version has a content over which the entry's answer is the answer
-abbrev pub IsTrueAnswer : List Record → Fixed → Type 0
-IsTrueAnswer history e = (files : Files) × (version_in history e.version ≡ Some files) × (e.answer ≡ answer_of files e.request)
+abbrev pub IsTrueAnswer : List Record → Entry → Type 0
+IsTrueAnswer history e = (files : Content) × (version_in history e.version ≡ Some files) × (e.answer ≡ answer_of files e.request)
 
 -- the entry of a number
-abbrev pub load_of : List Record → ℕ → Option Fixed
+abbrev pub load_of : List Record → ℕ → Option Entry
 load_of [] n = None
 load_of (Change version content ∷ before) n = load_of before n
 load_of (Poll version ∷ before) n = load_of before n
@@ -119,7 +119,7 @@ Legal (Change version content ∷ record' ∷ before) =
 Legal (Poll version ∷ before) = Legal before × (version + 1 ≡ changes before)
 Legal (Load entry ∷ before) =
     Legal before × (entry.number ≡ loads before) × NoneLiveOf before entry.request × IsTrueAnswer before entry × WasPolled before entry.version
-Legal (End number cause ∷ before) = Legal before × (e : Fixed) × IsLive before e × (e.number ≡ number) × Allows cause e
+Legal (End number cause ∷ before) = Legal before × (e : Entry) × IsLive before e × (e.number ≡ number) × Allows cause e
 Legal (Invalid epoch ∷ before) = Legal before × (epoch ≡ invalidations before + 1) × NoneLive before
 
 -- the first of two histories is where the second began
@@ -128,7 +128,7 @@ IsPrefix seen history = (more : List Record) × (history ≡ more ++ seen)
 
 -- the reply is of an entry that its caller had not seen to end
 pub record FromEntry (seen history : List Record) (request : Request) (bytes : List ℕ) : Type 0 where
-  pub entry_is : Fixed
+  pub entry_is : Entry
   pub inserted : HasLoad history entry_is
   pub answers : entry_is.request ≡ request
   pub said : entry_is.answer.bytes ≡ bytes
@@ -145,7 +145,7 @@ LooksAt (Invalid epoch ∷ before) n = ⊥
 
 -- each entry that was inserted for the request in the first of two histories is ended in the second
 abbrev pub EndedAfter : List Record → List Record → Request → Type 0
-EndedAfter seen history request = (e : Fixed) → HasLoad seen e → e.request ≡ request → HasEnd history e.number
+EndedAfter seen history request = (e : Entry) → HasLoad seen e → e.request ≡ request → HasEnd history e.number
 
 -- the version was looked at in the second of two histories, after the first
 abbrev pub LookedBetween : List Record → List Record → ℕ → Type 0
@@ -158,7 +158,7 @@ PolledSince history n epoch = (moment : List Record) × IsPrefix moment history 
 -- the reply is the answer over a version that was looked at during the call
 pub record FromPoll (seen history : List Record) (request : Request) (bytes : List ℕ) : Type 0 where
   pub version_is : ℕ
-  pub files_are : Files
+  pub files_are : Content
   pub moment : List Record
   pub is_moment : IsPrefix moment history
   pub later : length seen < length moment

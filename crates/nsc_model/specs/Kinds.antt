@@ -1,4 +1,4 @@
--- Databases, kinds of look-ups and files, with their numbers (glibc's nscd-client.h, protocol version 2).
+-- Databases, kinds of lookups and files, with their numbers (glibc's nscd-client.h, protocol version 2).
 use Rattle.std.specs.Prelude.{ℕ, Bool, ◌==◌, ◌&&◌, if◌then◌else◌, Option, Some, None}
 use Rattle.std.specs.Str.{bytes_eq}
 use Rattle.nsc_model.specs.declared.kind.Db.{Db}
@@ -47,7 +47,7 @@ type_number InitGroups = 15
 type_number ServName = 16
 type_number ServPort = 17
 
--- the kind of a request type, where it is a look-up
+-- the kind of a request type, where it is a lookup
 abbrev pub kind_numbered : ℕ → Option Kind
 kind_numbered n =
     if n == 0 then Some PwName else (

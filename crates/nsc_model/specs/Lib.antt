@@ -1,8 +1,9 @@
 pub mod Kinds
 pub mod Held
+pub mod Content
 pub mod Files
-pub mod Marked
-pub mod Fixed
+pub mod Answer
+pub mod Entry
 pub mod Wire
 pub mod Entries
 pub mod Users
@@ -16,6 +17,7 @@ pub mod Answers
 pub mod Outcomes
 pub mod History
 pub mod Settings
+pub mod Sizes
 pub mod Machine
 pub mod Events
 pub mod Frames

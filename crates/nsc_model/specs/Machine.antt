@@ -9,9 +9,10 @@ use Rattle.nsc_model.specs.declared.record.Ending.TheVariants.{Expired, Invalida
 use Rattle.nsc_model.specs.declared.record.Record.{Record}
 use Rattle.nsc_model.specs.declared.record.Record.TheVariants.{Change, Poll, Load, End, Invalid}
 use Rattle.nsc_model.specs.Kinds.{is_request}
-use Rattle.nsc_model.specs.Files.{Files, same_files}
-use Rattle.nsc_model.specs.Marked.{Marked}
-use Rattle.nsc_model.specs.Fixed.{Fixed, kept_limit}
+use Rattle.nsc_model.specs.Content.{Content}
+use Rattle.nsc_model.specs.Files.{same_files}
+use Rattle.nsc_model.specs.Answer.{Answer}
+use Rattle.nsc_model.specs.Entry.{Entry, kept_limit}
 use Rattle.nsc_model.specs.declared.conf.DbConf.{DbConf}
 use Rattle.nsc_model.specs.Answers.{answer_of}
 
@@ -21,7 +22,7 @@ last_count = 2 ^ 62
 
 -- a live entry, and how often it was reloaded since it was last used
 pub record Kept : Type 0 where
-  pub entry : Fixed
+  pub entry : Entry
   pub reloads : ℕ
 
 -- a cache: its newest content with the number of its version, the live entries from the oldest on, how many words of its
@@ -29,7 +30,7 @@ pub record Kept : Type 0 where
 -- entries were inserted, the count of its compactions, which goes on by two at each, the version that the last tick found,
 -- and how many insertions found no room
 pub record Cache : Type 0 where
-  pub sources : Files
+  pub sources : Content
   pub newest_version : ℕ
   pub entries : List Kept
   pub used : ℕ
@@ -40,7 +41,7 @@ pub record Cache : Type 0 where
   pub add_failed : ℕ
 
 -- a new cache
-abbrev pub new_cache : Files → Cache
+abbrev pub new_cache : Content → Cache
 new_cache files = record { sources = files; newest_version = 0; entries = []; used = 0; epoch = 0; inserted = 0; cycle = 0; ticked_version = 0; add_failed = 0 }
 
 -- an event is done: the cache after it, and the records that it added, the newest first
@@ -55,7 +56,7 @@ pub record Stopped : Type 0 where
   pub adds : List Record
   pub count : ℕ
 
--- a look-up is done: the cache after it, its records, the newest first, and the reply
+-- a lookup is done: the cache after it, its records, the newest first, and the reply
 pub record Turn : Type 0 where
   pub cache : Cache
   pub adds : List Record
@@ -67,19 +68,19 @@ unchanged cache = record { cache = cache; adds = [] }
 abbrev pub stopped : Cache → Stopped
 stopped cache = record { cache = cache; adds = []; count = last_count }
 
--- an event goes on behind these records
-abbrev pub behind : List Record → Result Passed Stopped → Result Passed Stopped
-behind adds (Ok passed) = Ok (record { cache = passed.cache; adds = passed.adds ++ adds })
-behind adds (Err stop) = Err (record { cache = stop.cache; adds = stop.adds ++ adds; count = stop.count })
+-- an event goes on after these records
+abbrev pub after_adds : List Record → Result Passed Stopped → Result Passed Stopped
+after_adds adds (Ok passed) = Ok (record { cache = passed.cache; adds = passed.adds ++ adds })
+after_adds adds (Err stop) = Err (record { cache = stop.cache; adds = stop.adds ++ adds; count = stop.count })
 
 -- one part of an event, and then the next
 infixl 10 ◌>>=◌
 abbrev pub ◌>>=◌ : Result Passed Stopped → (Cache → Result Passed Stopped) → Result Passed Stopped
-(Ok passed) >>= next = behind passed.adds (next passed.cache)
+(Ok passed) >>= next = after_adds passed.adds (next passed.cache)
 (Err stop) >>= next = Err stop
 
 -- a poll: an equal content confirms the newest version, a different one is the next
-abbrev pub polled : Files → Cache → Result Passed Stopped
+abbrev pub polled : Content → Cache → Result Passed Stopped
 polled files cache =
     if same_files files cache.sources then Ok (record { cache = cache; adds = Poll cache.newest_version ∷ [] }) else (
     if cache.newest_version == last_count then Err (stopped cache) else
@@ -88,7 +89,7 @@ polled files cache =
 -- ---- insertions
 
 -- the words of an entry, and of all entries
-abbrev pub entry_words : Fixed → ℕ
+abbrev pub entry_words : Entry → ℕ
 entry_words e = node_words (length e.request.key) (length e.answer.bytes)
 
 abbrev pub all_words : List Kept → ℕ
@@ -99,11 +100,11 @@ abbrev pub room_of : DbConf → ℕ
 room_of settings = settings.size * 128
 
 -- for how many seconds an answer is kept
-abbrev pub life_of : DbConf → Marked → ℕ
+abbrev pub life_of : DbConf → Answer → ℕ
 life_of settings answer = if answer.not_found then settings.negative else settings.positive
 
 -- the entry of a request with its answer, by its number and its version; its time begins at this moment
-abbrev pub made_entry : DbConf → ℕ → ℕ → ℕ → Request → Marked → Fixed
+abbrev pub made_entry : DbConf → ℕ → ℕ → ℕ → Request → Answer → Entry
 made_entry settings now number version request answer =
     record { number = number; request = request; version = version; answer = answer; timeout = now + life_of settings answer }
 
@@ -138,18 +139,18 @@ abbrev pub overtaken : ℕ → Request → Cache → Option Refusal
 overtaken noted request cache = if nat_lt noted cache.epoch then Some (Discarded noted cache.epoch) else present_cause (live_entry request cache.entries)
 
 -- the first cause that holds, where the room has so many words and other callers overtook the insertion by this cause, or by none
-abbrev pub refusal_or : ℕ → Option Refusal → Fixed → Cache → Option Refusal
+abbrev pub refusal_or : ℕ → Option Refusal → Entry → Cache → Option Refusal
 refusal_or room others e cache =
     if nat_lt kept_limit (length e.answer.bytes) then Some (TooLarge (length e.answer.bytes)) else or_later others (
     if cache.inserted == last_count then Some (Spent last_count) else (
     if nat_lt (room - cache.used) (entry_words e) then Some (Full (entry_words e) (room - cache.used)) else None))
 
 -- the first cause that refuses the insertion of an entry, by the words of the room and the epoch that was noted
-abbrev pub refusal : ℕ → ℕ → Fixed → Cache → Option Refusal
+abbrev pub refusal : ℕ → ℕ → Entry → Cache → Option Refusal
 refusal room noted e cache = refusal_or room (overtaken noted e.request cache) e cache
 
 -- the same with one caller, which notes the present epoch and inserts no request that is live
-abbrev pub own_refusal : ℕ → Fixed → Cache → Option Refusal
+abbrev pub own_refusal : ℕ → Entry → Cache → Option Refusal
 own_refusal room e cache = refusal_or room None e cache
 
 -- a refused insertion leaves the cache as it was, but that a full one is counted; that count stays at its end
@@ -165,7 +166,7 @@ tried_by (Some (Full need free)) k cache = unchanged (record cache { add_failed 
 abbrev pub tried : DbConf → ℕ → Request → ℕ → Cache → Passed
 tried settings now request reloads cache = let k = new_entry settings now request reloads cache in tried_by (own_refusal (room_of settings) k.entry cache) k cache
 
--- ---- look-ups
+-- ---- lookups
 
 -- the live entry that answers a request, where the database is cached
 abbrev pub cached : DbConf → Request → Cache → Option Kept
@@ -178,7 +179,7 @@ used_by request k = if is_request request k.entry.request then record k { reload
 abbrev pub used_now : Request → List Kept → List Kept
 used_now request entries = map (used_by request) entries
 
--- behind a poll an insertion is tried, where the database is cached
+-- after a poll an insertion is tried, where the database is cached
 abbrev pub kept_answer : DbConf → ℕ → Request → Cache → Passed
 kept_answer settings now request cache = if settings.enabled then tried settings now request 0 cache else unchanged cache
 
@@ -189,13 +190,13 @@ loaded settings now request (Ok poll) =
     Ok (record { cache = after.cache; adds = after.adds ++ poll.adds; reply = (answer_of poll.cache.sources request).bytes })
 loaded settings now request (Err stop) = Err stop
 
-abbrev pub hit_or_load : Option Kept → DbConf → ℕ → Files → Request → Cache → Result Turn Stopped
+abbrev pub hit_or_load : Option Kept → DbConf → ℕ → Content → Request → Cache → Result Turn Stopped
 hit_or_load (Some k) settings now files request cache = Ok (record { cache = record cache { entries = used_now request cache.entries }; adds = []; reply = k.entry.answer.bytes })
 hit_or_load None settings now files request cache = loaded settings now request (polled files cache)
 
--- a look-up: the reply of the live entry of the request, whose time is not looked at, or else a poll and its answer
-unfoldable pub look_up : DbConf → ℕ → Files → Request → Cache → Result Turn Stopped
-look_up settings now files request cache = hit_or_load (cached settings request cache) settings now files request cache
+-- a lookup: the reply of the live entry of the request, whose time is not looked at, or else a poll and its answer
+unfoldable pub lookup : DbConf → ℕ → Content → Request → Cache → Result Turn Stopped
+lookup settings now files request cache = hit_or_load (cached settings request cache) settings now files request cache
 
 -- ---- ends
 
@@ -204,11 +205,11 @@ abbrev pub compacted : Cache → Result Passed Stopped
 compacted cache = if nat_lt cache.cycle last_count then Ok (unchanged (record cache { cycle = cache.cycle + 2; used = all_words cache.entries })) else Err (stopped cache)
 
 -- a compaction where any entry was ended
-abbrev pub compacted_behind : List Kept → Cache → Result Passed Stopped
-compacted_behind [] cache = Ok (unchanged cache)
-compacted_behind (k ∷ ended) cache = compacted cache
+abbrev pub compacted_after : List Kept → Cache → Result Passed Stopped
+compacted_after [] cache = Ok (unchanged cache)
+compacted_after (k ∷ ended) cache = compacted cache
 
--- the ends of entries, one after the other, each by its cause, behind these records
+-- the ends of entries, one after the other, each by its cause, after these records
 abbrev pub ends_of : (Kept → Ending) → List Kept → List Record → List Record
 ends_of cause [] before = before
 ends_of cause (k ∷ entries) before = ends_of cause entries (End k.entry.number (cause k) ∷ before)
@@ -227,7 +228,7 @@ emptied cache = record {
 unfoldable pub invalidated : Cache → Result Passed Stopped
 invalidated cache =
     if cache.epoch == last_count then Err (stopped cache) else (
-    let ends = emptied cache in behind ends.adds (compacted_behind cache.entries ends.cache))
+    let ends = emptied cache in after_adds ends.adds (compacted_after cache.entries ends.cache))
 
 -- ---- ticks
 
@@ -281,7 +282,7 @@ abbrev pub pruned : DbConf → Option ℕ → ℕ → Cache → Result Passed St
 pruned settings reloads now cache =
     let due = due_of now cache.entries in
     let ends = due_ended reloads now cache in
-    behind ends.adds (compacted_behind due ends.cache >>= λ after. Ok (reloaded settings now (reloaded_of reloads due) after))
+    after_adds ends.adds (compacted_after due ends.cache >>= λ after. Ok (reloaded settings now (reloaded_of reloads due) after))
 
 -- the version that a tick found is kept
 abbrev pub ticked : Cache → Cache
@@ -291,12 +292,12 @@ ticked cache = record cache { ticked_version = cache.newest_version }
 abbrev pub is_outdated : DbConf → ℕ → ℕ → Bool
 is_outdated settings newest ticked = settings.check_files && not (newest == ticked)
 
--- behind the poll of a tick: an invalidation where the files changed, after which nothing is left to prune
+-- after the poll of a tick: an invalidation where the files changed, after which nothing is left to prune
 abbrev pub checked : DbConf → Option ℕ → ℕ → Cache → Result Passed Stopped
 checked settings reloads now cache =
     if is_outdated settings cache.newest_version cache.ticked_version then (invalidated cache >>= λ after. Ok (unchanged (ticked after))) else
     pruned settings reloads now (ticked cache)
 
 -- a tick of a database; one that is not cached does nothing
-unfoldable pub tick : DbConf → Option ℕ → ℕ → Files → Cache → Result Passed Stopped
+unfoldable pub tick : DbConf → Option ℕ → ℕ → Content → Cache → Result Passed Stopped
 tick settings reloads now files cache = if settings.enabled then (polled files cache >>= checked settings reloads now) else Ok (unchanged cache)

@@ -1,4 +1,4 @@
--- What is replied to the outcome of a look-up.
+-- What is replied to the outcome of a lookup.
 use Rattle.nsc_model.specs.declared.row.Looked.{Looked}
 use Rattle.nsc_model.specs.declared.row.Looked.TheVariants.{Found, NotFound, Unavail}
 use Rattle.nsc_model.specs.declared.row.Reply.{Reply}

@@ -5,19 +5,21 @@ use Rattle.nsc_model.specs.declared.kind.Db.TheVariants as db
 use Rattle.nsc_model.specs.declared.kind.FileId.{FileId}
 use Rattle.nsc_model.specs.declared.answer.Request.{Request}
 use Rattle.nsc_model.specs.Kinds.{database_of}
-use Rattle.nsc_model.specs.Files.{Files, no_files, with_file, part_of}
+use Rattle.nsc_model.specs.Content.{Content}
+use Rattle.nsc_model.specs.Files.{no_files, with_file, part_of}
 use Rattle.nsc_model.specs.declared.conf.Conf.{Conf}
 use Rattle.nsc_model.specs.Settings.{settings_of}
 use Rattle.nsc_model.specs.Wire.{Asked, Look, Shutdown, Stat, Invalidate, Descriptor, Netgroup, Short, BadVersion, BadType, BadLength, request_of, field}
-use Rattle.nsc_model.specs.Machine.{Cache, new_cache, Passed, Stopped, Turn, last_count, look_up, tick, invalidated}
-use Rattle.nsc_model.specs.Frames.{Frame, Ask, Become, Reach, Clear, Stop, Finish, Spent, cut_at}
+use Rattle.nsc_model.specs.Machine.{Cache, new_cache, Passed, Stopped, Turn, last_count, lookup, tick, invalidated}
+use Rattle.nsc_model.specs.Frames as frame
+use Rattle.nsc_model.specs.Frames.{Frame, Finish, Spent, cut_at}
 
 -- the files as they are, the moment in seconds, and the cache of each database
 pub record State : Type 0 where
-  pub files : Files
+  pub files : Content
   pub moment : ℕ
-  pub users : Cache
-  pub groups : Cache
+  pub passwd : Cache
+  pub group : Cache
   pub hosts : Cache
   pub services : Cache
 
@@ -25,21 +27,21 @@ abbrev pub first_state : State
 first_state = record {
   files = no_files;
   moment = 0;
-  users = new_cache (part_of db.Passwd no_files);
-  groups = new_cache (part_of db.Group no_files);
+  passwd = new_cache (part_of db.Passwd no_files);
+  group = new_cache (part_of db.Group no_files);
   hosts = new_cache (part_of db.Hosts no_files);
   services = new_cache (part_of db.Services no_files);
 }
 
 abbrev pub cache_of : State → Db → Cache
-cache_of s db.Passwd = s.users
-cache_of s db.Group = s.groups
+cache_of s db.Passwd = s.passwd
+cache_of s db.Group = s.group
 cache_of s db.Hosts = s.hosts
 cache_of s db.Services = s.services
 
 abbrev pub with_cache : State → Db → Cache → State
-with_cache s db.Passwd cache = record s { users = cache }
-with_cache s db.Group cache = record s { groups = cache }
+with_cache s db.Passwd cache = record s { passwd = cache }
+with_cache s db.Group cache = record s { group = cache }
 with_cache s db.Hosts cache = record s { hosts = cache }
 with_cache s db.Services cache = record s { services = cache }
 
@@ -48,7 +50,7 @@ pub record Went : Type 0 where
   pub state : State
   pub writes : List ℕ
 
--- a reply is written behind its length
+-- a reply is written after its length
 abbrev pub framed : List ℕ → List ℕ
 framed reply = field (length reply) ++ reply
 
@@ -56,39 +58,39 @@ abbrev pub looked_at : State → Db → Result Turn Stopped → Result Went Fini
 looked_at s db (Ok turn) = Ok (record { state = with_cache s db turn.cache; writes = framed turn.reply })
 looked_at s db (Err stop) = Err (Spent stop.count)
 
--- a look-up, in the database of its kind
+-- a lookup, in the database of its kind
 abbrev pub look_in : Db → Conf → State → Request → Result Went Finish
-look_in db settings s request = looked_at s db (look_up (settings_of settings db) s.moment (part_of db s.files) request (cache_of s db))
+look_in db settings s request = looked_at s db (lookup (settings_of settings db) s.moment (part_of db s.files) request (cache_of s db))
 
 abbrev pub look_frame : Conf → State → Request → Result Went Finish
 look_frame settings s request = look_in (database_of request.kind) settings s request
 
--- an input that asks for no look-up gets no reply: an empty one is written
+-- an input that asks for no lookup gets no reply: an empty one is written
 abbrev pub unanswered : State → Result Went Finish
 unanswered s = Ok (record { state = s; writes = framed [] })
 
 -- the input of a connection
-abbrev pub ask_frame : Conf → State → Asked → Result Went Finish
-ask_frame settings s (Look request) = look_frame settings s request
-ask_frame settings s Shutdown = unanswered s
-ask_frame settings s Stat = unanswered s
-ask_frame settings s (Invalidate name) = unanswered s
-ask_frame settings s Descriptor = unanswered s
-ask_frame settings s Netgroup = unanswered s
-ask_frame settings s (Short have) = unanswered s
-ask_frame settings s (BadVersion version) = unanswered s
-ask_frame settings s (BadType type) = unanswered s
-ask_frame settings s (BadLength length) = unanswered s
+abbrev pub request_frame : Conf → State → Asked → Result Went Finish
+request_frame settings s (Look request) = look_frame settings s request
+request_frame settings s Shutdown = unanswered s
+request_frame settings s Stat = unanswered s
+request_frame settings s (Invalidate name) = unanswered s
+request_frame settings s Descriptor = unanswered s
+request_frame settings s Netgroup = unanswered s
+request_frame settings s (Short have) = unanswered s
+request_frame settings s (BadVersion version) = unanswered s
+request_frame settings s (BadType type) = unanswered s
+request_frame settings s (BadLength length) = unanswered s
 
 -- a frame for which nothing is written
 abbrev pub silent : State → Result Went Finish
 silent s = Ok (record { state = s; writes = [] })
 
 -- a file becomes this
-abbrev pub become_frame : State → FileId → Option (List ℕ) → Result Went Finish
-become_frame s file held = silent (record s { files = with_file s.files file held })
+abbrev pub set_file_frame : State → FileId → Option (List ℕ) → Result Went Finish
+set_file_frame s file held = silent (record s { files = with_file s.files file held })
 
--- one database did this, and the next part goes on behind it
+-- one database did this, and the next part goes on after it
 abbrev pub then_on : State → Db → Result Passed Stopped → (State → Result Went Finish) → Result Went Finish
 then_on s db (Ok passed) next = next (with_cache s db passed.cache)
 then_on s db (Err stop) next = Err (Spent stop.count)
@@ -107,31 +109,31 @@ last_moment = last_count - 1
 
 -- the moment becomes this one, or the greatest moment if that is earlier, unless it is later already; and every database is
 -- ticked, also where the moment stays
-abbrev pub reach_frame : Conf → State → ℕ → Result Went Finish
-reach_frame settings s moment = ticks settings (record s { moment = max s.moment (min moment last_moment) })
+abbrev pub time_frame : Conf → State → ℕ → Result Went Finish
+time_frame settings s moment = ticks settings (record s { moment = max s.moment (min moment last_moment) })
 
 -- a database is invalidated
-abbrev pub clear_frame : State → Db → Result Went Finish
-clear_frame s db = then_on s db (invalidated (cache_of s db)) silent
+abbrev pub invalidate_frame : State → Db → Result Went Finish
+invalidate_frame s db = then_on s db (invalidated (cache_of s db)) silent
 
 -- one frame through the machines. The first E is cut off before.
 abbrev pub turn_of : Conf → State → Frame → Result Went Finish
-turn_of settings s (Ask input) = ask_frame settings s (request_of input)
-turn_of settings s (Become file held) = become_frame s file held
-turn_of settings s (Reach moment) = reach_frame settings s moment
-turn_of settings s (Clear db) = clear_frame s db
-turn_of settings s Stop = silent s
+turn_of settings s (frame.Request input) = request_frame settings s (request_of input)
+turn_of settings s (frame.SetFile file held) = set_file_frame s file held
+turn_of settings s (frame.Time moment) = time_frame settings s moment
+turn_of settings s (frame.Invalidate db) = invalidate_frame s db
+turn_of settings s frame.End = silent s
 
 -- what a replay writes, and how it ends
 pub record Replayed : Type 0 where
   pub output : List ℕ
   pub finish : Finish
 
-abbrev pub behind_output : List ℕ → Replayed → Replayed
-behind_output front replayed = record { output = front ++ replayed.output; finish = replayed.finish }
+abbrev pub after_output : List ℕ → Replayed → Replayed
+after_output front replayed = record { output = front ++ replayed.output; finish = replayed.finish }
 
 abbrev pub play_on : (State → Replayed) → Result Went Finish → Replayed
-play_on next (Ok went) = behind_output went.writes (next went.state)
+play_on next (Ok went) = after_output went.writes (next went.state)
 play_on next (Err finish) = record { output = []; finish = finish }
 
 -- frames through the machines, one after another, up to one that ends the replay

@@ -6,7 +6,7 @@ use Rattle.std.specs.Str.{bytes_eq, str_to_ascii_lowercase}
 use Rattle.nsc_base.specs.Text.{before_remark, is_white, lines_of}
 use Rattle.nsc_model.specs.declared.kind.Db.{Db}
 use Rattle.nsc_model.specs.declared.kind.Db.TheVariants as db
-use Rattle.nsc_model.specs.Files.{Files}
+use Rattle.nsc_model.specs.Content.{Content}
 use Rattle.nsc_model.specs.Entries.{first_of}
 use Rattle.nsc_model.specs.Users.{◌>>=◌, trimmed}
 use Rattle.nsc_model.specs.declared.switch.DbName.{DbName}
@@ -29,19 +29,19 @@ name_text list.Services = codes "services"
 name_text list.PasswdCompat = codes "passwd_compat"
 name_text list.GroupCompat = codes "group_compat"
 
--- what stands behind a text that bytes begin with
-abbrev pub behind_text : List ℕ → List ℕ → Option (List ℕ)
-behind_text [] bytes = Some bytes
-behind_text (x ∷ text) [] = None
-behind_text (x ∷ text) (b ∷ bytes) = if x == b then behind_text text bytes else None
+-- what stands after a text that bytes begin with
+abbrev pub after_text : List ℕ → List ℕ → Option (List ℕ)
+after_text [] bytes = Some bytes
+after_text (x ∷ text) [] = None
+after_text (x ∷ text) (b ∷ bytes) = if x == b then after_text text bytes else None
 
-abbrev pub behind_colon : List ℕ → Option (List ℕ)
-behind_colon [] = None
-behind_colon (b ∷ bytes) = if b == 58 then Some bytes else None
+abbrev pub after_colon : List ℕ → Option (List ℕ)
+after_colon [] = None
+after_colon (b ∷ bytes) = if b == 58 then Some bytes else None
 
--- what stands behind the name and the colon of a line of this list, white space around the name aside
+-- what stands after the name and the colon of a line of this list, white space around the name aside
 abbrev pub own_part : DbName → List ℕ → Option (List ℕ)
-own_part name line = behind_text (name_text name) (trimmed (before_remark line)) >>= λ rest. behind_colon (trimmed rest)
+own_part name line = after_text (name_text name) (trimmed (before_remark line)) >>= λ rest. after_colon (trimmed rest)
 
 -- the first line of a list counts alone
 abbrev pub first_line : DbName → List ℕ → Option (List ℕ)
@@ -58,8 +58,8 @@ pub data Token : Type 0 where
   Equals : Token
   Gap : Token
 
-abbrev pub mark_of : ℕ → Option Token
-mark_of b =
+abbrev pub sign_of : ℕ → Option Token
+sign_of b =
     if is_white b then Some Gap else (
     if b == 91 then Some Open else (
     if b == 93 then Some Close else (
@@ -77,12 +77,12 @@ onto_word b (Equals ∷ tokens) = Word (b ∷ []) ∷ Equals ∷ tokens
 onto_word b (Gap ∷ tokens) = Word (b ∷ []) ∷ Gap ∷ tokens
 
 abbrev pub put_token : Option Token → ℕ → List Token → List Token
-put_token (Some mark) b tokens = mark ∷ tokens
+put_token (Some sign) b tokens = sign ∷ tokens
 put_token None b tokens = onto_word b tokens
 
 unfoldable pub tokens_of : List ℕ → List Token
 tokens_of [] = []
-tokens_of (b ∷ bytes) = put_token (mark_of b) b (tokens_of bytes)
+tokens_of (b ∷ bytes) = put_token (sign_of b) b (tokens_of bytes)
 
 -- ---- services, statuses and actions by their names
 
@@ -197,26 +197,26 @@ Writes (Service word ∷ items) tokens = (gaps : List Token) × (rest : List Tok
 Writes (Group rules ∷ items) tokens =
     (gaps : List Token) × (group : List Token) × (rest : List Token) × AllGaps gaps × WritesGroup rules group × (tokens ≡ gaps ++ group ++ rest) × Writes items rest
 
--- the steps of a list from a service on, to which the groups behind it apply
-abbrev pub steps_behind : SwitchStep → List Item → List SwitchStep
-steps_behind step [] = step ∷ []
-steps_behind step (Service word ∷ items) = step ∷ steps_behind (plain_step (service_of_word word)) items
-steps_behind step (Group rules ∷ items) = steps_behind (ruled_by rules step) items
+-- the steps of a list from a service on, to which the groups after it apply
+abbrev pub steps_after : SwitchStep → List Item → List SwitchStep
+steps_after step [] = step ∷ []
+steps_after step (Service word ∷ items) = step ∷ steps_after (plain_step (service_of_word word)) items
+steps_after step (Group rules ∷ items) = steps_after (ruled_by rules step) items
 
 -- a list has a service at least, and begins with one
 abbrev pub steps_of : List Item → Option (List SwitchStep)
 steps_of [] = None
-steps_of (Service word ∷ items) = Some (steps_behind (plain_step (service_of_word word)) items)
+steps_of (Service word ∷ items) = Some (steps_after (plain_step (service_of_word word)) items)
 steps_of (Group rules ∷ items) = None
 
 -- the text spells these steps
-abbrev pub Spells : List ℕ → List SwitchStep → Type 0
-Spells text steps = (items : List Item) × Writes items (tokens_of text) × (steps_of items ≡ Some steps)
+abbrev pub WritesSteps : List ℕ → List SwitchStep → Type 0
+WritesSteps text steps = (items : List Item) × Writes items (tokens_of text) × (steps_of items ≡ Some steps)
 
 -- ---- the same, token by token
 
--- where a list goes on: before its first service; behind an item; in brackets before the first rule, behind a `!`, behind a
--- status, behind its `=`, behind a rule, and behind white space behind a rule
+-- where a list goes on: before its first service; after an item; in brackets before the first rule, after a `!`, after a
+-- status, after its `=`, after a rule, and after white space after a rule
 pub data Place : Type 0 where
   First : Place
   Between : Place
@@ -234,13 +234,13 @@ Rest = Place → SwitchStep → Option (List SwitchStep)
 abbrev pub onto_steps : SwitchStep → Option (List SwitchStep) → Option (List SwitchStep)
 onto_steps step steps = option_map (λ more. step ∷ more) steps
 
-abbrev pub behind_status : Bool → Option Status → SwitchStep → Rest → Option (List SwitchStep)
-behind_status negated None step rest = None
-behind_status negated (Some status) step rest = rest (Named negated status) step
+abbrev pub after_status : Bool → Option Status → SwitchStep → Rest → Option (List SwitchStep)
+after_status negated None step rest = None
+after_status negated (Some status) step rest = rest (Named negated status) step
 
-abbrev pub behind_action : Bool → Status → Option SwitchAction → SwitchStep → Rest → Option (List SwitchStep)
-behind_action negated status None step rest = None
-behind_action negated status (Some action) step rest = rest Ruled (ruled (record { negated = negated; status = status; action = action }) step)
+abbrev pub after_action : Bool → Status → Option SwitchAction → SwitchStep → Rest → Option (List SwitchStep)
+after_action negated status None step rest = None
+after_action negated status (Some action) step rest = rest Ruled (ruled (record { negated = negated; status = status; action = action }) step)
 
 abbrev pub at_first : Token → SwitchStep → Rest → Option (List SwitchStep)
 at_first (Word bytes) step rest = rest Between (plain_step (service_of_word bytes))
@@ -259,7 +259,7 @@ at_between Not step rest = None
 at_between Equals step rest = None
 
 abbrev pub at_begin : Token → SwitchStep → Rest → Option (List SwitchStep)
-at_begin (Word bytes) step rest = behind_status false (status_named bytes) step rest
+at_begin (Word bytes) step rest = after_status false (status_named bytes) step rest
 at_begin Gap step rest = rest Begin step
 at_begin Not step rest = rest Negated step
 at_begin Open step rest = None
@@ -267,7 +267,7 @@ at_begin Close step rest = None
 at_begin Equals step rest = None
 
 abbrev pub at_negated : Token → SwitchStep → Rest → Option (List SwitchStep)
-at_negated (Word bytes) step rest = behind_status true (status_named bytes) step rest
+at_negated (Word bytes) step rest = after_status true (status_named bytes) step rest
 at_negated Gap step rest = None
 at_negated Not step rest = None
 at_negated Open step rest = None
@@ -283,7 +283,7 @@ at_named negated status Open step rest = None
 at_named negated status Close step rest = None
 
 abbrev pub at_equated : Bool → Status → Token → SwitchStep → Rest → Option (List SwitchStep)
-at_equated negated status (Word bytes) step rest = behind_action negated status (action_named bytes) step rest
+at_equated negated status (Word bytes) step rest = after_action negated status (action_named bytes) step rest
 at_equated negated status Gap step rest = rest (Equated negated status) step
 at_equated negated status Equals step rest = None
 at_equated negated status Not step rest = None
@@ -302,7 +302,7 @@ abbrev pub at_next : Token → SwitchStep → Rest → Option (List SwitchStep)
 at_next Gap step rest = rest Next step
 at_next Close step rest = rest Between step
 at_next Not step rest = rest Negated step
-at_next (Word bytes) step rest = behind_status false (status_named bytes) step rest
+at_next (Word bytes) step rest = after_status false (status_named bytes) step rest
 at_next Open step rest = None
 at_next Equals step rest = None
 
@@ -316,7 +316,7 @@ at_place (Equated negated status) token step rest = at_equated negated status to
 at_place Ruled token step rest = at_ruled token step rest
 at_place Next token step rest = at_next token step rest
 
--- a list ends behind an item
+-- a list ends after an item
 abbrev pub at_end : Place → SwitchStep → Option (List SwitchStep)
 at_end First step = None
 at_end Between step = Some (step ∷ [])
@@ -363,7 +363,7 @@ list_name db.Hosts = list.Hosts
 list_name db.Services = list.Services
 
 -- the service list of a database over a content
-unfoldable pub service_list : Files → Db → List SwitchStep
+unfoldable pub service_list : Content → Db → List SwitchStep
 service_list files db = list_of (text_of files.switch) (list_name db)
 
 -- the list that compat lines ask; hosts and services have no compat, so any will do for them
@@ -371,5 +371,5 @@ abbrev pub compat_name : Db → DbName
 compat_name db.Group = list.GroupCompat
 compat_name _ = list.PasswdCompat
 
-unfoldable pub compat_list : Files → Db → List SwitchStep
+unfoldable pub compat_list : Content → Db → List SwitchStep
 compat_list files db = list_of (text_of files.switch) (compat_name db)

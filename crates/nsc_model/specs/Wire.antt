@@ -17,8 +17,8 @@ use Rattle.nsc_model.specs.declared.row.Reply.TheVariants.{Found, Absent, Disabl
 use Rattle.nsc_model.specs.Kinds.{kind_numbered}
 use Rattle.nsc_model.specs.Hosts.{ipv4, ipv6}
 use Rattle.nsc_model.specs.ServiceLines.{exchanged}
-use Rattle.nsc_model.specs.Marked.{reply_limit}
-use Rattle.nsc_model.specs.Fixed.{key_limit}
+use Rattle.nsc_model.specs.Answer.{reply_limit}
+use Rattle.nsc_model.specs.Entry.{key_limit}
 
 -- ---- requests
 
@@ -52,7 +52,7 @@ stored_key kind.HostAddr key = key
 stored_key kind.HostAddr6 key = key
 stored_key _ key = text_key key
 
--- a type up to 21 that is no look-up
+-- a type up to 21 that is no lookup
 abbrev pub asked_otherwise : ℕ → List ℕ → Asked
 asked_otherwise type key =
     if type == 8 then Shutdown else (
@@ -65,7 +65,7 @@ abbrev pub asked_look : Option Kind → ℕ → List ℕ → Asked
 asked_look (Some k) type key = Look (record { kind = k; key = stored_key k key })
 asked_look None type key = asked_otherwise type key
 
--- the three fields version, type and key length, and then the key; what stands behind the key is not looked at.
+-- the three fields version, type and key length, and then the key; what stands after the key is not looked at.
 -- A negative number is one of 2 ^ 31 or more without its sign, and so above every limit.
 abbrev pub request_of : List ℕ → Asked
 request_of bytes =

@@ -2,7 +2,7 @@ use crate::kind::Kind;
 use nsc_base::Bytes;
 use std::marker::Model;
 
-/// A request of a look-up: its kind, and the key as an entry stores it, without a zero byte behind a text.
+/// A request of a lookup: its kind, and the key as an entry stores it, without a zero byte after a text.
 #[derive(Debug, Drop)]
 pub struct Request {
     /// What is asked.
@@ -20,9 +20,9 @@ pub struct Answer {
 
 impl Model for Answer {
     ghost use Rattle.std.specs.Prelude.{◌≤◌, ◌^◌, length};
-    ghost use Rattle.nsc_model.specs.Marked.{Marked, reply_limit};
+    ghost use Rattle.nsc_model.specs.Answer.{Answer, reply_limit};
 
-    ghost Value = { Marked };
+    ghost Value = { Answer };
 
     ghost view = { λ a. record { bytes = a.bytes; not_found = a.not_found } };
 
@@ -31,7 +31,7 @@ impl Model for Answer {
 
 impl Answer {
     ghost use Rattle.std.specs.Prelude.{◌≡◌, ◌≤◌, length};
-    ghost use Rattle.nsc_model.specs.Marked.{reply_limit};
+    ghost use Rattle.nsc_model.specs.Answer.{reply_limit};
 
     /// The answer of these reply bytes and this mark.
     pub fn new(bytes: Bytes, not_found: bool) -> Answer

@@ -1,6 +1,6 @@
 ghost use Rattle.std.specs.Prelude.{◌≡◌, ◌≤◌, IfOk, length};
 ghost use Rattle.std.specs.Arc.{arc_value};
-ghost use Rattle.nsc_model.specs.Files.{Files};
+ghost use Rattle.nsc_model.specs.Content.{Content};
 ghost use Rattle.nsc_model.specs.Answers.{answer_of};
 
 use crate::answer::Answer;
@@ -16,7 +16,7 @@ pub trait Answerer {
     type Ready: Drop;
 
     /// The content that something was prepared from.
-    ghost prepared_from: { Self.Ready → Files };
+    ghost prepared_from: { Self.Ready → Content };
 
     /// Makes ready to answer over this content. Fails only for want of memory.
     fn prepare(&self, alloc: Global, content: Arc<Content>) -> Result<Self::Ready, NoMemory>

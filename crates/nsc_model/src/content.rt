@@ -78,9 +78,10 @@ pub struct Content {
 }
 
 impl Model for Content {
-    ghost use Rattle.nsc_model.specs.Files.{Files, files_in, FilesFit};
+    ghost use Rattle.nsc_model.specs.Content.{Content};
+    ghost use Rattle.nsc_model.specs.Files.{files_in, FilesFit};
 
-    ghost Value = { Files };
+    ghost Value = { Content };
 
     ghost view = { λ c. files_in c.files };
 

@@ -14,7 +14,7 @@ pub enum Db {
     Services,
 }
 
-/// What a look-up asks, by the request types of protocol version 2 in glibc's nscd-client.h. Each kind has the
+/// What a lookup asks, by the request types of protocol version 2 in glibc's nscd-client.h. Each kind has the
 /// number of its request type.
 #[derive(Clone, Copy, Debug, PartialEq, Eq)]
 pub enum Kind {
@@ -77,7 +77,7 @@ impl Db {
         }
     }
 
-    /// The database that answers look-ups of this kind.
+    /// The database that answers lookups of this kind.
     pub fn of(kind: Kind) -> Db
         ensures { result ≡ database_of kind }
     {
@@ -92,7 +92,7 @@ impl Db {
 }
 
 impl Kind {
-    /// The kind of a request type's number; `None` where the type is no look-up.
+    /// The kind of a request type's number; `None` where the type is no lookup.
     pub fn numbered(number: u32) -> Option<Kind>
         ensures { result ≡ kind_numbered number }
     {

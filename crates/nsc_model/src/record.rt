@@ -28,9 +28,9 @@ pub struct Entry {
 
 impl Model for Entry {
     ghost use Rattle.std.specs.Prelude.{◌≤◌, length};
-    ghost use Rattle.nsc_model.specs.Fixed.{Fixed, key_limit, kept_limit};
+    ghost use Rattle.nsc_model.specs.Entry.{Entry, key_limit, kept_limit};
 
-    ghost Value = { Fixed };
+    ghost Value = { Entry };
 
     ghost view = { λ e. record { number = e.number; request = e.request; version = e.version; answer = e.answer; timeout = e.timeout } };
 
@@ -39,7 +39,7 @@ impl Model for Entry {
 
 impl Entry {
     ghost use Rattle.std.specs.Prelude.{◌≡◌, ◌≤◌, length};
-    ghost use Rattle.nsc_model.specs.Fixed.{key_limit, kept_limit};
+    ghost use Rattle.nsc_model.specs.Entry.{key_limit, kept_limit};
 
     /// The entry of these parts: its number in its database, the request that it answers, the source version
     /// that the answer was made over, the answer, and the last moment, in seconds, at which it is not yet

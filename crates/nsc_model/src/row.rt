@@ -124,7 +124,7 @@ pub struct Ai {
     pub canon: Bytes,
 }
 
-/// What a look-up that succeeds has found.
+/// What a lookup that succeeds has found.
 #[derive(Debug, Drop)]
 pub enum Row {
     /// A user.

@@ -30,7 +30,7 @@ range-drop xs a n b l =
 pub range-length : (xs : List ℕ) (a b : ℕ) → b ≤ length xs → length (slice_range xs a b) ≡ b - a
 range-length xs a b l = omega (arith, length-take (b - a) (drop a xs), length-drop a xs)
 
--- what stands before the byte and what stands behind it, in a part of a text
+-- what stands before the byte and what stands after it, in a part of a text
 pub part-before : (test : ℕ → Bool) (text : List ℕ) (from to n : ℕ) → to ≤ length text → IsFirstByte test (slice_range text from to) (Some n) → slice_range text from (from + n) ≡ before_first test (slice_range text from to)
 part-before test text from to n inside found =
     let size = range-length text from to inside in
@@ -40,12 +40,12 @@ part-before test text from to n inside found =
 pub part-whole : (test : ℕ → Bool) (bytes : List ℕ) → IsFirstByte test bytes None → bytes ≡ before_first test bytes
 part-whole test bytes missing = sym (ap (λ k. take k bytes) (cut-missing test bytes missing) ∙ take_all (length bytes) bytes (omega arith))
 
-pub part-behind : (test : ℕ → Bool) (text : List ℕ) (from to n : ℕ) → to ≤ length text → IsFirstByte test (slice_range text from to) (Some n) → slice_range text (from + n + 1) to ≡ after_first test (slice_range text from to)
-part-behind test text from to n inside found =
+pub part-after : (test : ℕ → Bool) (text : List ℕ) (from to n : ℕ) → to ≤ length text → IsFirstByte test (slice_range text from to) (Some n) → slice_range text (from + n + 1) to ≡ after_first test (slice_range text from to)
+part-after test text from to n inside found =
     let size = range-length text from to inside in
     let stops : from + (n + 1) ≤ to = omega (arith, size, found.0.high) in
     let place : from + n + 1 ≡ from + (n + 1) = omega arith in
     ap (λ k. slice_range text k to) place ∙ range-drop text from (n + 1) to stops ∙ ap (λ k. drop (k + 1) (slice_range text from to)) (sym (cut-found test (slice_range text from to) n found))
 
-pub none-behind : (test : ℕ → Bool) (bytes : List ℕ) → IsFirstByte test bytes None → after_first test bytes ≡ []
-none-behind test bytes missing = ap (λ k. drop (k + 1) bytes) (cut-missing test bytes missing) ∙ drop_all (length bytes + 1) bytes (omega arith)
+pub none-after : (test : ℕ → Bool) (bytes : List ℕ) → IsFirstByte test bytes None → after_first test bytes ≡ []
+none-after test bytes missing = ap (λ k. drop (k + 1) bytes) (cut-missing test bytes missing) ∙ drop_all (length bytes + 1) bytes (omega arith)

@@ -157,17 +157,17 @@ made : (text : List ℕ) (first : HostAt) (other : Option HostAt) → Some (reco
 made text first None = refl
 made text first (Some other) = refl
 
--- the first host of the name, and the first behind it of the other family
+-- the first host of the name, and the first after it of the other family
 pub addresses_are : (name text : List ℕ) (from : ℕ) (line : Line) (first : HostAt) (other : Option HostAt) → IsLine text from line → Some (host_at text first) ≡ if_named (host_has_name name) (host_of_line (part text line.span)) → option_map (host_at text) other ≡ first_named host_of_line (of_other_family first.family name) (drop line.next text) → named_in host_of_line (host_has_name name) (drop from text) ≡ named_in host_of_line (host_has_name name) text → Some (record { list = found_at first ∷ founds_at other; canon = part text first.name }) ≡ addresses_of name text
 addresses_are name text from line first other is here there left =
     let h = host_at text first in
-    let behind = drop line.next text in
-    let rest = named_in host_of_line (host_has_name name) behind in
+    let below = drop line.next text in
+    let rest = named_in host_of_line (host_has_name name) below in
     let step : named_in host_of_line (host_has_name name) (drop from text) ≡ h ∷ rest = named_step host_of_line (host_has_name name) text from line (Some h) is here in
     let known : AreFamilies (h ∷ rest) = subst AreFamilies step (file_families name (drop from text)) in
     made text first other
     ∙ ap (λ o. all_addresses (h ∷ at_most_one o)) there
-    ∙ ap all_addresses (sym (once_found name behind h known.0))
+    ∙ ap all_addresses (sym (once_found name below h known.0))
     ∙ ap (λ (hs : List Host). all_addresses (family_once hs)) (sym step ∙ left)
 
 pub no_addresses : (name text : List ℕ) → named_in host_of_line (host_has_name name) text ≡ [] → None ≡ addresses_of name text

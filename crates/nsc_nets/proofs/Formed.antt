@@ -1,4 +1,4 @@
--- The entry of a line, from its first two words and those behind them.
+-- The entry of a line, from its first two words and those after them.
 use Rattle.std.proofs.Common.{◌≡◌, ℕ, true, false, if◌then◌else◌, List, [], ◌∷◌, Some, None, refl, sym, ap}
 use Rattle.nsc_base.specs.Text.{before_remark, words_of}
 use Rattle.nsc_model.specs.Hosts.{host_of_line, host_of_words}

@@ -6,7 +6,7 @@ use Rattle.nsc_base.specs.Text.{is_filled}
 use Rattle.nsc_model.specs.ServiceLines.{is_slash, port_of}
 use Rattle.nsc_model.specs.Users.{◌>>=◌}
 use Rattle.nsc_nets.specs.Services.{Port, port_of_word}
-use Rattle.nsc_nets.proofs.Cuts.{none-behind, part-before, part-behind, range-length}
+use Rattle.nsc_nets.proofs.Cuts.{none-after, part-before, part-after, range-length}
 
 -- a port with the text that is to be its protocol
 abbrev port_with : Option ℕ → List ℕ → Option Port
@@ -29,17 +29,17 @@ filled_is (b ∷ bytes) h = refl
 
 -- a word without a slash
 pub no_slash : (word : List ℕ) → IsFirstByte is_slash word None → port_of_word word ≡ None
-no_slash word missing = without_proto (port_of (before_first is_slash word)) (after_first is_slash word) (none-behind is_slash word missing)
+no_slash word missing = without_proto (port_of (before_first is_slash word)) (after_first is_slash word) (none-after is_slash word missing)
 
 -- a word with a slash, at a place that is found
 pub at_slash : (text : List ℕ) (from to n : ℕ) → to ≤ length text → IsFirstByte is_slash (slice_range text from to) (Some n) → port_of_word (slice_range text from to) ≡ port_with (port_of (slice_range text from (from + n))) (slice_range text (from + n + 1) to)
 at_slash text from to n inside found =
     let before = part-before is_slash text from to n inside found in
-    let behind = part-behind is_slash text from to n inside found in
-    ap (λ (proto : List ℕ). port_with (port_of (before_first is_slash (slice_range text from to))) proto) (sym behind)
+    let later = part-after is_slash text from to n inside found in
+    ap (λ (proto : List ℕ). port_with (port_of (before_first is_slash (slice_range text from to))) proto) (sym later)
     ∙ ap (λ (digits : List ℕ). port_with (port_of digits) (slice_range text (from + n + 1) to)) (sym before)
 
--- with no protocol behind it
+-- with no protocol after it
 pub no_proto : (text : List ℕ) (from to n : ℕ) → to ≤ length text → IsFirstByte is_slash (slice_range text from to) (Some n) → from + n + 1 ≡ to → port_of_word (slice_range text from to) ≡ None
 no_proto text from to n inside found ends =
     at_slash text from to n inside found ∙ without_proto _ (slice_range text (from + n + 1) to) (empty_is _ (omega (arith, range-length text (from + n + 1) to inside)))

@@ -27,14 +27,14 @@ named_end entry_of names text from last =
     ap (λ (n : ℕ). named_in entry_of names (drop n text)) last ∙ ap (named_in entry_of names) (drop-length text)
 
 -- a line that names nothing is passed over
-pub named_behind : {A : Type 0} (entry_of : List ℕ → Option A) (names : A → Bool) (text : List ℕ) (from : ℕ) (line : Line) → IsLine text from line → None ≡ if_named names (entry_of (part text line.span)) → named_in entry_of names (drop line.next text) ≡ named_in entry_of names (drop from text)
-named_behind entry_of names text from line is gives = sym (named_step entry_of names text from line None is gives)
+pub named_after : {A : Type 0} (entry_of : List ℕ → Option A) (names : A → Bool) (text : List ℕ) (from : ℕ) (line : Line) → IsLine text from line → None ≡ if_named names (entry_of (part text line.span)) → named_in entry_of names (drop line.next text) ≡ named_in entry_of names (drop from text)
+named_after entry_of names text from line is gives = sym (named_step entry_of names text from line None is gives)
 
 pub first_here : {A : Type 0} (entry_of : List ℕ → Option A) (names : A → Bool) (text : List ℕ) (from : ℕ) (line : Line) (x : A) → IsLine text from line → Some x ≡ if_named names (entry_of (part text line.span)) → Some x ≡ first_named entry_of names (drop from text)
 first_here entry_of names text from line x is gives = sym (ap first_of (named_step entry_of names text from line (Some x) is gives))
 
-pub first_behind : {A : Type 0} (entry_of : List ℕ → Option A) (names : A → Bool) (text : List ℕ) (from : ℕ) (line : Line) → IsLine text from line → None ≡ if_named names (entry_of (part text line.span)) → first_named entry_of names (drop line.next text) ≡ first_named entry_of names (drop from text)
-first_behind entry_of names text from line is gives = ap first_of (named_behind entry_of names text from line is gives)
+pub first_after : {A : Type 0} (entry_of : List ℕ → Option A) (names : A → Bool) (text : List ℕ) (from : ℕ) (line : Line) → IsLine text from line → None ≡ if_named names (entry_of (part text line.span)) → first_named entry_of names (drop line.next text) ≡ first_named entry_of names (drop from text)
+first_after entry_of names text from line is gives = ap first_of (named_after entry_of names text from line is gives)
 
 pub first_nowhere : {A : Type 0} (entry_of : List ℕ → Option A) (names : A → Bool) (text : List ℕ) (from : ℕ) → from ≡ length text → None ≡ first_named entry_of names (drop from text)
 first_nowhere entry_of names text from last = sym (ap first_of (named_end entry_of names text from last))

@@ -7,7 +7,7 @@ use Rattle.nsc_nets.specs.declared.words.Case.{Case}
 use Rattle.nsc_nets.specs.declared.words.Case.TheVariants.{Counts, Ignored}
 use Rattle.nsc_nets.specs.declared.words.WordsAt.{WordsAt}
 
--- two words, and the words behind them
+-- two words, and the words after them
 pub record TwoWords : Type 0 where
   pub first : List ℕ
   pub second : List ℕ

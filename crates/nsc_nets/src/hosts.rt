@@ -117,7 +117,7 @@ fn read_address(text: &[u8]) -> Option<Address>
     })
 }
 
-// The bytes of an IPv4 address, and zeros behind them.
+// The bytes of an IPv4 address, and zeros after them.
 fn widened(v4: [u8; 4]) -> [u8; 16]
     ensures address { take 4 result ≡ v4 }
     ensures zeros { drop 4 result ≡ replicate 12 0 }

@@ -22,7 +22,7 @@ pub struct ServiceAt {
     pub aliases: Span,
 }
 
-/// A port, and where the protocol behind it stands.
+/// A port, and where the protocol after it stands.
 #[derive(Clone, Copy, Debug)]
 pub struct PortAt {
     /// The port, as a number.

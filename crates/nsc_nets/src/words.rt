@@ -16,18 +16,18 @@ pub enum Case {
     Ignored,
 }
 
-/// Where the first two words of a line stand, and the text behind them, up to the remark.
+/// Where the first two words of a line stand, and the text after them, up to the remark.
 #[derive(Clone, Copy, Debug)]
 pub struct WordsAt {
     /// The first word.
     pub first: Span,
     /// The second word.
     pub second: Span,
-    /// The text behind the second word.
+    /// The text after the second word.
     pub others: Span,
 }
 
-/// The first two words of a line before its remark, and the text behind them. `None` where the line has fewer words.
+/// The first two words of a line before its remark, and the text after them. `None` where the line has fewer words.
 pub fn line_words(text: &[u8], line: Span) -> Option<WordsAt>
     requires ordered { line.from ≤ line.to }
     requires inside { line.to ≤ length text.now }
@@ -90,7 +90,7 @@ fn up_to_remark(text: &[u8], line: Span) -> Span
     }
 }
 
-// The first two words of a part of the text, and what is behind them in that part.
+// The first two words of a part of the text, and what is after them in that part.
 fn two_words(text: &[u8], within: Span) -> Option<WordsAt>
     requires ordered { within.from ≤ within.to }
     requires inside { within.to ≤ length text.now }

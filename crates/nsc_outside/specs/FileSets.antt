@@ -1,7 +1,8 @@
 -- Sets of files: what a read answers, and what a set counts.
 use Rattle.std.specs.Prelude.{◌≡◌, ◌≢◌, ℕ, ◌<◌, List, [], ◌∷◌, ◌++◌, length, slice_index_or, replicate, Option, Some, None, IfSome, IsSomeAnd, option_map, find, codes}
 use Rattle.std.specs.Str.{bytes_eq}
-use Rattle.nsc_model.specs.Files.{Files, file_of, file_limit, no_files}
+use Rattle.nsc_model.specs.Content.{Content}
+use Rattle.nsc_model.specs.Files.{file_of, file_limit, no_files}
 use Rattle.nsc_model.specs.Kinds.{file_number}
 use Rattle.nsc_model.specs.declared.kind.FileId.{FileId}
 use Rattle.nsc_model.specs.declared.kind.FileId.TheVariants as file
@@ -10,7 +11,7 @@ use Rattle.nsc_outside.specs.declared.files.ReadCause.{ReadCause}
 use Rattle.nsc_outside.specs.declared.files.ReadCause.TheVariants as causes
 
 -- one file of those that a set holds, where it tells them
-abbrev pub told_of : Option Files → FileId → Option (Option (List ℕ))
+abbrev pub told_of : Option Content → FileId → Option (Option (List ℕ))
 told_of held file = option_map (λ files. file_of files file) held
 
 -- a file, absent or its bytes, is the one that is told, where one is told
@@ -52,7 +53,7 @@ system_path file.Services = codes "/etc/services"
 system_path file.ExtraPasswd = codes "/var/lib/extrausers/passwd"
 system_path file.ExtraGroup = codes "/var/lib/extrausers/group"
 
--- where a folder keeps them, behind its own path and a slash
+-- where a folder keeps them, after its own path and a slash
 abbrev pub folder_path : FileId → List ℕ
 folder_path file.Switch = codes "nsswitch.conf"
 folder_path file.Passwd = codes "passwd"

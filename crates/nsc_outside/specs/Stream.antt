@@ -22,7 +22,7 @@ MovesFewer before after room = (front : List ℕ) × (length front < room) × Mo
 abbrev pub IsDrained : Option (List ℕ) → Type 0
 IsDrained left = IfSome left (λ rest. rest ≡ [])
 
--- a sink took bytes behind those that it had, where it tells them
+-- a sink took bytes after those that it had, where it tells them
 abbrev pub Grows : Option (List ℕ) → Option (List ℕ) → List ℕ → Type 0
 Grows None after added = after ≡ None
 Grows (Some had) after added = after ≡ Some (had ++ added)

@@ -1,5 +1,6 @@
 ghost use Rattle.std.specs.Prelude.{◌≡◌, ℕ, List, Option, None, IfOk, IfErr, OnOk, OnErr};
-ghost use Rattle.nsc_model.specs.Files.{Files, FileFits};
+ghost use Rattle.nsc_model.specs.Content.{Content};
+ghost use Rattle.nsc_model.specs.Files.{FileFits};
 ghost use Rattle.nsc_model.specs.declared.kind.FileId.{FileId};
 ghost use Rattle.nsc_outside.specs.Stream.{Rose};
 ghost use Rattle.nsc_outside.specs.FileSets.{told_of, IsAsTold, IsCause, RoseBy, ChangesOnly};
@@ -67,7 +68,7 @@ pub trait FileSet: Sized {
     ghost latest: { Self → FileId → Option (Option (List ℕ)) };
 
     // The files that the set holds, where it tells them.
-    ghost held: { Self → Option Files };
+    ghost held: { Self → Option Content };
 
     // The same of a configuration file at a path: absent or its bytes.
     ghost conf_held: { Self → List ℕ → Option (Option (List ℕ)) };

@@ -13,7 +13,7 @@ use Rattle.std.proofs.lemmas.List.Quantifiers.{position-Some}
 use Rattle.std.proofs.lemmas.Slice.Eq.{bytes_eq-Decides}
 use Rattle.nsc_model.specs.declared.answer.Request.{Request}
 use Rattle.nsc_model.specs.Kinds.{type_number, is_request}
-use Rattle.nsc_model.specs.Files.{Files}
+use Rattle.nsc_model.specs.Content.{Content}
 use Rattle.nsc_model.specs.Machine.{Kept, last_count, entry_words, used_now, is_due, is_dropped, due_of, others_of, reloaded_of}
 use Rattle.nsc_model.proofs.Contents.{both_true, same_bytes}
 use Rattle.nsc_plain.specs.Answered.{Answered, anew}
@@ -187,13 +187,13 @@ apart_others now entries apart = λ request. let both = both_counts request now 
 pub apart_due : (now : ℕ) (entries : List Kept) → AreApart entries → (request : Request) → entries_for request (others_of now entries) + entries_for request (due_of now entries) ≤ 1
 apart_due now entries apart request = let both = both_counts request now entries in let few = apart request in omega arith
 
-answered_again : (request : Request) (files : Files) (entries : List Kept) → answered_for request (map (anew files) entries) ≡ entries_for request entries
+answered_again : (request : Request) (files : Content) (entries : List Kept) → answered_for request (map (anew files) entries) ≡ entries_for request entries
 answered_again request files [] = refl
 answered_again request files (k ∷ ks) =
     counted (is_of request) (anew files k) (map (anew files) ks) ∙ (ap (λ n. cond (asks request k) 1 0 + n) (answered_again request files ks) ∙ sym (counted (asks request) k ks))
 
 -- what is inserted for the entries that ended stays apart from the others
-pub reloads_stay_apart : (files : Files) (reloads : Option ℕ) (others due : List Kept) → ((request : Request) → entries_for request others + entries_for request due ≤ 1) → StayApart others (map (anew files) (reloaded_of reloads due))
+pub reloads_stay_apart : (files : Content) (reloads : Option ℕ) (others due : List Kept) → ((request : Request) → entries_for request others + entries_for request due ≤ 1) → StayApart others (map (anew files) (reloaded_of reloads due))
 reloads_stay_apart files reloads others due apart = λ request.
     let again = answered_again request files (reloaded_of reloads due) in
     let both : entries_for request (reloaded_of reloads due) + entries_for request (filter (λ k. not (not (is_dropped reloads k))) due) ≡ entries_for request due

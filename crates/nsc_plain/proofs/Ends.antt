@@ -4,7 +4,7 @@ use Rattle.std.proofs.lemmas.List.{length-map}
 use Rattle.std.specs.Prelude.{sum_by}
 use Rattle.std.proofs.lemmas.List.Sums.{length-filter, count_by-le-length}
 use Rattle.std.proofs.lemmas.List.Filters.{sum_by-filter_both, length-filter_both}
-use Rattle.nsc_model.specs.Files.{Files}
+use Rattle.nsc_model.specs.Content.{Content}
 use Rattle.nsc_model.specs.Machine.{Kept, entry_words, all_words, is_due, is_dropped, due_of, others_of, reloaded_of}
 use Rattle.nsc_plain.specs.Answered.{anew}
 
@@ -39,7 +39,7 @@ all_length now entries =
     omega arith
 
 -- there is one answer at most for each entry that ends
-pub anew_length : (files : Files) (reloads : Option ℕ) (due : List Kept) → length (map (anew files) (reloaded_of reloads due)) ≤ length due
+pub anew_length : (files : Content) (reloads : Option ℕ) (due : List Kept) → length (map (anew files) (reloaded_of reloads due)) ≤ length due
 anew_length files reloads due =
     let some : length (reloaded_of reloads due) ≤ length due = filter_length (λ (k : Kept). not (is_dropped reloads k)) due in
     rw length-map some

@@ -8,10 +8,10 @@ use Rattle.nsc_model.specs.declared.answer.Request.{Request}
 use Rattle.nsc_model.specs.declared.record.Record.{Record}
 use Rattle.nsc_model.specs.declared.record.Record.TheVariants.{Invalid}
 use Rattle.nsc_model.specs.Kinds.{is_request}
-use Rattle.nsc_model.specs.Files.{Files}
+use Rattle.nsc_model.specs.Content.{Content}
 use Rattle.nsc_model.specs.declared.conf.DbConf.{DbConf}
 use Rattle.nsc_model.specs.Answers.{answer_of}
-use Rattle.nsc_model.specs.Machine.{Kept, Cache, Passed, Stopped, Turn, Refusal, TooLarge, Discarded, Present, Spent as Uncounted, Full, last_count, behind, ◌>>=◌, own_refusal, room_of, tried, tried_by, new_entry, polled, cached, kept_answer, loaded, hit_or_load, look_up, compacted, compacted_behind, invalidated, ends_of, by_invalidation, due_cause, stopped, unchanged, is_due, due_of, others_of, reloaded_of, reloaded, next_reloads, pruned, ticked, checked, tick}
+use Rattle.nsc_model.specs.Machine.{Kept, Cache, Passed, Stopped, Turn, Refusal, TooLarge, Discarded, Present, Spent as Uncounted, Full, last_count, after_adds, ◌>>=◌, own_refusal, room_of, tried, tried_by, new_entry, polled, cached, kept_answer, loaded, hit_or_load, lookup, compacted, compacted_after, invalidated, ends_of, by_invalidation, due_cause, stopped, unchanged, is_due, due_of, others_of, reloaded_of, reloaded, next_reloads, pruned, ticked, checked, tick}
 use Rattle.nsc_plain.specs.PlainCache.{TurnsTo, PassesTo, StopsAt, StopsBy, FaultsBy, GivesUpBy, HitsBy}
 use Rattle.nsc_plain.specs.Answered.{anew}
 use Rattle.nsc_plain.specs.Table.{put, put_all}
@@ -27,21 +27,21 @@ other_number : (a b : ℕ) → a ≢ b → (a == b) ≡ false
 other_number a b ne = elim (eqb_tells a b) [ inl p ↦ absurd (ne p.1) | inr p ↦ p.0 ]
 
 -- a cache with no entries, and no counts of its entries
-abbrev pub bare : Files → ℕ → ℕ → ℕ → Cache
+abbrev pub bare : Content → ℕ → ℕ → ℕ → Cache
 bare files version epoch ticked = record { sources = files; newest_version = version; entries = []; used = 0; epoch = epoch; inserted = 0; cycle = 0; ticked_version = ticked; add_failed = 0 }
 
 -- ---- one part after another
 
-pub passes_behind : (adds : List Record) (r : Result Passed Stopped) (after : Cache) → PassesTo r after → PassesTo (behind adds r) after
-passes_behind adds (Ok passed) after h = h
-passes_behind adds (Err stop) after h = absurd h
+pub passes_after : (adds : List Record) (r : Result Passed Stopped) (after : Cache) → PassesTo r after → PassesTo (after_adds adds r) after
+passes_after adds (Ok passed) after h = h
+passes_after adds (Err stop) after h = absurd h
 
-pub stops_behind : (adds : List Record) (r : Result Passed Stopped) (after : Cache) (n : ℕ) → StopsAt r after n → StopsAt (behind adds r) after n
-stops_behind adds (Ok passed) after n h = absurd h
-stops_behind adds (Err stop) after n h = h
+pub stops_after : (adds : List Record) (r : Result Passed Stopped) (after : Cache) (n : ℕ) → StopsAt r after n → StopsAt (after_adds adds r) after n
+stops_after adds (Ok passed) after n h = absurd h
+stops_after adds (Err stop) after n h = h
 
 pub passes_then : (r : Result Passed Stopped) (next : Cache → Result Passed Stopped) (mid after : Cache) → PassesTo r mid → PassesTo (next mid) after → PassesTo (r >>= next) after
-passes_then (Ok passed) next mid after h k = passes_behind passed.adds (next passed.cache) after (subst (λ (c : Cache). PassesTo (next c) after) (sym h) k)
+passes_then (Ok passed) next mid after h k = passes_after passed.adds (next passed.cache) after (subst (λ (c : Cache). PassesTo (next c) after) (sym h) k)
 passes_then (Err stop) next mid after h k = absurd h
 
 pub stops_first : (r : Result Passed Stopped) (next : Cache → Result Passed Stopped) (after : Cache) (n : ℕ) → StopsAt r after n → StopsAt (r >>= next) after n
@@ -49,7 +49,7 @@ stops_first (Ok passed) next after n h = absurd h
 stops_first (Err stop) next after n h = h
 
 pub stops_then : (r : Result Passed Stopped) (next : Cache → Result Passed Stopped) (mid after : Cache) (n : ℕ) → PassesTo r mid → StopsAt (next mid) after n → StopsAt (r >>= next) after n
-stops_then (Ok passed) next mid after n h k = stops_behind passed.adds (next passed.cache) after n (subst (λ (c : Cache). StopsAt (next c) after n) (sym h) k)
+stops_then (Ok passed) next mid after n h k = stops_after passed.adds (next passed.cache) after n (subst (λ (c : Cache). StopsAt (next c) after n) (sym h) k)
 stops_then (Err stop) next mid after n h k = absurd h
 
 -- ---- invalidations
@@ -57,7 +57,7 @@ stops_then (Err stop) next mid after n h k = absurd h
 abbrev emptied : Cache → Cache
 emptied cache = record cache { entries = []; epoch = cache.epoch + 1 }
 
-goes_on : (cache : Cache) → (cache.epoch == last_count) ≡ false → invalidated cache ≡ behind (Invalid (cache.epoch + 1) ∷ ends_of by_invalidation cache.entries []) (compacted_behind cache.entries (emptied cache))
+goes_on : (cache : Cache) → (cache.epoch == last_count) ≡ false → invalidated cache ≡ after_adds (Invalid (cache.epoch + 1) ∷ ends_of by_invalidation cache.entries []) (compacted_after cache.entries (emptied cache))
 unfolding invalidated
 goes_on cache e = at_false _ _ e
 
@@ -67,18 +67,18 @@ invalidation_stops cache e =
     let at : invalidated cache ≡ Err (stopped cache) = at_true _ _ (eq-eqb cache.epoch last_count e) in
     subst (λ (r : Result Passed Stopped). StopsAt r cache last_count) (sym at) (refl, refl)
 
-pub invalidation_passes : (cache after : Cache) → cache.epoch ≢ last_count → PassesTo (compacted_behind cache.entries (emptied cache)) after → PassesTo (invalidated cache) after
+pub invalidation_passes : (cache after : Cache) → cache.epoch ≢ last_count → PassesTo (compacted_after cache.entries (emptied cache)) after → PassesTo (invalidated cache) after
 invalidation_passes cache after ne h =
     let adds = Invalid (cache.epoch + 1) ∷ ends_of by_invalidation cache.entries [] in
-    subst (λ (r : Result Passed Stopped). PassesTo r after) (sym (goes_on cache (other_number cache.epoch last_count ne))) (passes_behind adds (compacted_behind cache.entries (emptied cache)) after h)
+    subst (λ (r : Result Passed Stopped). PassesTo r after) (sym (goes_on cache (other_number cache.epoch last_count ne))) (passes_after adds (compacted_after cache.entries (emptied cache)) after h)
 
-pub invalidation_faults : (cache after : Cache) (fault : PlainFault) → cache.epoch ≢ last_count → StopsBy (compacted_behind cache.entries (emptied cache)) after fault → StopsBy (invalidated cache) after fault
+pub invalidation_faults : (cache after : Cache) (fault : PlainFault) → cache.epoch ≢ last_count → StopsBy (compacted_after cache.entries (emptied cache)) after fault → StopsBy (invalidated cache) after fault
 invalidation_faults cache after NoMemory ne h = absurd h
 invalidation_faults cache after (Spent n) ne h =
     let adds = Invalid (cache.epoch + 1) ∷ ends_of by_invalidation cache.entries [] in
-    subst (λ (r : Result Passed Stopped). StopsAt r after n) (sym (goes_on cache (other_number cache.epoch last_count ne))) (stops_behind adds (compacted_behind cache.entries (emptied cache)) after n h)
+    subst (λ (r : Result Passed Stopped). StopsAt r after n) (sym (goes_on cache (other_number cache.epoch last_count ne))) (stops_after adds (compacted_after cache.entries (emptied cache)) after n h)
 
--- ---- look-ups
+-- ---- lookups
 
 pub keeps : (settings : DbConf) (now : ℕ) (request : Request) (cache after : Cache) → settings.enabled ≡ true
     → put settings now cache.newest_version (record { request = request; answer = answer_of cache.sources request; reloads = 0 }) cache ≡ after → (kept_answer settings now request cache).cache ≡ after
@@ -94,18 +94,18 @@ searched settings request before after hit on h =
     subst (λ (o : Option Kept). HitsBy o request before after hit) (sym at) h
 
 -- a hit is the machine's
-hit_turns : (o : Option Kept) (settings : DbConf) (now : ℕ) (files : Files) (request : Request) (before after : Cache) (reply : List ℕ) → HitsBy o request before after (Some reply)
+hit_turns : (o : Option Kept) (settings : DbConf) (now : ℕ) (files : Content) (request : Request) (before after : Cache) (reply : List ℕ) → HitsBy o request before after (Some reply)
     → TurnsTo (hit_or_load o settings now files request before) after reply
 hit_turns None settings now files request before after reply h = absurd cc
 hit_turns (Some k) settings now files request before after reply h = let e : k.entry.answer.bytes ≡ reply = cc in (sym h.1, e)
 
-pub hits : (settings : DbConf) (now : ℕ) (files : Files) (request : Request) (before after : Cache) (hit : Option (List ℕ)) (reply : List ℕ) → hit ≡ Some reply
-    → HitsBy (cached settings request before) request before after hit → TurnsTo (look_up settings now files request before) after reply
-unfolding look_up
+pub hits : (settings : DbConf) (now : ℕ) (files : Content) (request : Request) (before after : Cache) (hit : Option (List ℕ)) (reply : List ℕ) → hit ≡ Some reply
+    → HitsBy (cached settings request before) request before after hit → TurnsTo (lookup settings now files request before) after reply
+unfolding lookup
 hits settings now files request before after hit reply e h =
     hit_turns (cached settings request before) settings now files request before after reply (subst (λ (o : Option (List ℕ)). HitsBy (cached settings request before) request before after o) e h)
 
--- a look-up that finds nothing changes nothing
+-- a lookup that finds nothing changes nothing
 nothing_hit : (o : Option Kept) (request : Request) (before mid : Cache) → HitsBy o request before mid None → (o ≡ None) × (mid ≡ before)
 nothing_hit None request before mid h = (refl, h.1)
 nothing_hit (Some k) request before mid h = absurd cc
@@ -115,9 +115,9 @@ pub misses : (settings : DbConf) (request : Request) (before mid : Cache) (hit :
 misses settings request before mid hit e h =
     nothing_hit (cached settings request before) request before mid (subst (λ (o : Option (List ℕ)). HitsBy (cached settings request before) request before mid o) e h)
 
-looks_on : (settings : DbConf) (now : ℕ) (files : Files) (request : Request) (before : Cache) → cached settings request before ≡ None
-    → look_up settings now files request before ≡ loaded settings now request (polled files before)
-unfolding look_up
+looks_on : (settings : DbConf) (now : ℕ) (files : Content) (request : Request) (before : Cache) → cached settings request before ≡ None
+    → lookup settings now files request before ≡ loaded settings now request (polled files before)
+unfolding lookup
 looks_on settings now files request before none = ap (λ (o : Option Kept). hit_or_load o settings now files request before) none
 
 load_turns : (settings : DbConf) (now : ℕ) (request : Request) (r : Result Passed Stopped) (mid after : Cache) (reply : List ℕ) → PassesTo r mid
@@ -126,8 +126,8 @@ load_turns settings now request (Ok poll) mid after reply p k a =
     (subst (λ (c : Cache). (kept_answer settings now request c).cache ≡ after) (sym p) k, subst (λ (c : Cache). (answer_of c.sources request).bytes ≡ reply) (sym p) a)
 load_turns settings now request (Err stop) mid after reply p k a = absurd p
 
-pub loads : (settings : DbConf) (now : ℕ) (files : Files) (request : Request) (before mid after : Cache) (reply : List ℕ) → cached settings request before ≡ None → PassesTo (polled files before) mid
-    → (kept_answer settings now request mid).cache ≡ after → (answer_of mid.sources request).bytes ≡ reply → TurnsTo (look_up settings now files request before) after reply
+pub loads : (settings : DbConf) (now : ℕ) (files : Content) (request : Request) (before mid after : Cache) (reply : List ℕ) → cached settings request before ≡ None → PassesTo (polled files before) mid
+    → (kept_answer settings now request mid).cache ≡ after → (answer_of mid.sources request).bytes ≡ reply → TurnsTo (lookup settings now files request before) after reply
 loads settings now files request before mid after reply none p k a =
     subst (λ (r : Result Turn Stopped). TurnsTo r after reply) (sym (looks_on settings now files request before none)) (load_turns settings now request (polled files before) mid after reply p k a)
 
@@ -135,10 +135,10 @@ load_stops : (settings : DbConf) (now : ℕ) (request : Request) (r : Result Pas
 load_stops settings now request (Ok poll) after n h = absurd h
 load_stops settings now request (Err stop) after n h = h
 
-pub look_up_faults : (settings : DbConf) (now : ℕ) (files : Files) (request : Request) (before after : Cache) (fault : PlainFault) → cached settings request before ≡ None
-    → GivesUpBy (polled files before) before after fault → FaultsBy (look_up settings now files request before) files before after fault
-look_up_faults settings now files request before after NoMemory none h = inl h
-look_up_faults settings now files request before after (Spent n) none h =
+pub lookup_faults : (settings : DbConf) (now : ℕ) (files : Content) (request : Request) (before after : Cache) (fault : PlainFault) → cached settings request before ≡ None
+    → GivesUpBy (polled files before) before after fault → FaultsBy (lookup settings now files request before) files before after fault
+lookup_faults settings now files request before after NoMemory none h = inl h
+lookup_faults settings now files request before after (Spent n) none h =
     subst (λ (r : Result Turn Stopped). StopsAt r after n) (sym (looks_on settings now files request before none)) (load_stops settings now request (polled files before) after n h)
 
 -- ---- insertions, one after the other
@@ -158,7 +158,7 @@ put_is_reloaded settings now [] cache = refl
 put_is_reloaded settings now (k ∷ entries) cache =
     let first = (tried settings now k.entry.request (next_reloads k.reloads) cache).cache in
     let same = tried_sources (own_refusal (room_of settings) (new_entry settings now k.entry.request (next_reloads k.reloads) cache).entry cache) (new_entry settings now k.entry.request (next_reloads k.reloads) cache) cache in
-    subst (λ (files : Files). put_all settings now cache.newest_version (map (anew files) entries) first ≡ (reloaded settings now entries first).cache) same.0
+    subst (λ (files : Content). put_all settings now cache.newest_version (map (anew files) entries) first ≡ (reloaded settings now entries first).cache) same.0
     (subst (λ (version : ℕ). put_all settings now version (map (anew first.sources) entries) first ≡ (reloaded settings now entries first).cache) same.1 (put_is_reloaded settings now entries first))
 
 -- ---- ticks
@@ -167,14 +167,14 @@ put_is_reloaded settings now (k ∷ entries) cache =
 abbrev pub left : ℕ → Cache → Cache
 left now cache = record cache { entries = others_of now cache.entries }
 
-compacted_some : (due : List Kept) (cache : Cache) → 0 < length due → compacted_behind due cache ≡ compacted cache
+compacted_some : (due : List Kept) (cache : Cache) → 0 < length due → compacted_after due cache ≡ compacted cache
 compacted_some [] cache h = absurd (omega arith)
 compacted_some (k ∷ due) cache h = refl
 
 -- where none is due, nothing changes
 pub prunes_nothing : (settings : DbConf) (reloads : Option ℕ) (now : ℕ) (cache : Cache) → due_of now cache.entries ≡ [] → PassesTo (pruned settings reloads now cache) cache
 prunes_nothing settings reloads now cache none =
-    subst (λ (due : List Kept). PassesTo (behind (ends_of (due_cause reloads now) due []) (compacted_behind due (left now cache) >>= λ after. Ok (reloaded settings now (reloaded_of reloads due) after))) cache) (sym none)
+    subst (λ (due : List Kept). PassesTo (after_adds (ends_of (due_cause reloads now) due []) (compacted_after due (left now cache) >>= λ after. Ok (reloaded settings now (reloaded_of reloads due) after))) cache) (sym none)
     (ap (λ (ks : List Kept). record cache { entries = ks }) (none_left (is_due now) cache.entries none))
 
 pub prunes : (settings : DbConf) (reloads : Option ℕ) (now : ℕ) (cache mid after : Cache) → 0 < length (due_of now cache.entries) → PassesTo (compacted (left now cache)) mid
@@ -182,8 +182,8 @@ pub prunes : (settings : DbConf) (reloads : Option ℕ) (now : ℕ) (cache mid a
 prunes settings reloads now cache mid after some h k =
     let due = due_of now cache.entries in
     let next : Cache → Result Passed Stopped = λ c. Ok (reloaded settings now (reloaded_of reloads due) c) in
-    let first : PassesTo (compacted_behind due (left now cache)) mid = subst (λ (r : Result Passed Stopped). PassesTo r mid) (sym (compacted_some due (left now cache) some)) h in
-    passes_behind (ends_of (due_cause reloads now) due []) (compacted_behind due (left now cache) >>= next) after (passes_then (compacted_behind due (left now cache)) next mid after first k)
+    let first : PassesTo (compacted_after due (left now cache)) mid = subst (λ (r : Result Passed Stopped). PassesTo r mid) (sym (compacted_some due (left now cache) some)) h in
+    passes_after (ends_of (due_cause reloads now) due []) (compacted_after due (left now cache) >>= next) after (passes_then (compacted_after due (left now cache)) next mid after first k)
 
 pub prune_faults : (settings : DbConf) (reloads : Option ℕ) (now : ℕ) (cache before after : Cache) (fault : PlainFault) → 0 < length (due_of now cache.entries)
     → StopsBy (compacted (left now cache)) after fault → GivesUpBy (pruned settings reloads now cache) before after fault
@@ -191,34 +191,34 @@ prune_faults settings reloads now cache before after NoMemory some h = absurd h
 prune_faults settings reloads now cache before after (Spent n) some h =
     let due = due_of now cache.entries in
     let next : Cache → Result Passed Stopped = λ c. Ok (reloaded settings now (reloaded_of reloads due) c) in
-    let first : StopsAt (compacted_behind due (left now cache)) after n = subst (λ (r : Result Passed Stopped). StopsAt r after n) (sym (compacted_some due (left now cache) some)) h in
-    stops_behind (ends_of (due_cause reloads now) due []) (compacted_behind due (left now cache) >>= next) after n (stops_first (compacted_behind due (left now cache)) next after n first)
+    let first : StopsAt (compacted_after due (left now cache)) after n = subst (λ (r : Result Passed Stopped). StopsAt r after n) (sym (compacted_some due (left now cache) some)) h in
+    stops_after (ends_of (due_cause reloads now) due []) (compacted_after due (left now cache) >>= next) after n (stops_first (compacted_after due (left now cache)) next after n first)
 
-pub tick_rests : (settings : DbConf) (reloads : Option ℕ) (now : ℕ) (files : Files) (cache : Cache) → settings.enabled ≡ false → PassesTo (tick settings reloads now files cache) cache
+pub tick_rests : (settings : DbConf) (reloads : Option ℕ) (now : ℕ) (files : Content) (cache : Cache) → settings.enabled ≡ false → PassesTo (tick settings reloads now files cache) cache
 unfolding tick
 tick_rests settings reloads now files cache off =
     let at : tick settings reloads now files cache ≡ Ok (unchanged cache) = at_false _ _ off in
     subst (λ (r : Result Passed Stopped). PassesTo r cache) (sym at) refl
 
-tick_runs : (settings : DbConf) (reloads : Option ℕ) (now : ℕ) (files : Files) (cache : Cache) → settings.enabled ≡ true
+tick_runs : (settings : DbConf) (reloads : Option ℕ) (now : ℕ) (files : Content) (cache : Cache) → settings.enabled ≡ true
     → tick settings reloads now files cache ≡ (polled files cache >>= checked settings reloads now)
 unfolding tick
 tick_runs settings reloads now files cache on = at_true _ _ on
 
-pub tick_passes : (settings : DbConf) (reloads : Option ℕ) (now : ℕ) (files : Files) (before mid after : Cache) → settings.enabled ≡ true → PassesTo (polled files before) mid
+pub tick_passes : (settings : DbConf) (reloads : Option ℕ) (now : ℕ) (files : Content) (before mid after : Cache) → settings.enabled ≡ true → PassesTo (polled files before) mid
     → PassesTo (checked settings reloads now mid) after → PassesTo (tick settings reloads now files before) after
 tick_passes settings reloads now files before mid after on h k =
     subst (λ (r : Result Passed Stopped). PassesTo r after) (sym (tick_runs settings reloads now files before on)) (passes_then (polled files before) (checked settings reloads now) mid after h k)
 
 -- the poll of a tick gave up
-pub tick_unpolled : (settings : DbConf) (reloads : Option ℕ) (now : ℕ) (files : Files) (before after : Cache) (fault : PlainFault) → settings.enabled ≡ true
+pub tick_unpolled : (settings : DbConf) (reloads : Option ℕ) (now : ℕ) (files : Content) (before after : Cache) (fault : PlainFault) → settings.enabled ≡ true
     → GivesUpBy (polled files before) before after fault → FaultsBy (tick settings reloads now files before) files before after fault
 tick_unpolled settings reloads now files before after NoMemory on h = inl h
 tick_unpolled settings reloads now files before after (Spent n) on h =
     subst (λ (r : Result Passed Stopped). StopsAt r after n) (sym (tick_runs settings reloads now files before on)) (stops_first (polled files before) (checked settings reloads now) after n h)
 
 -- what came after its poll gave up
-pub tick_faults : (settings : DbConf) (reloads : Option ℕ) (now : ℕ) (files : Files) (before mid after : Cache) (fault : PlainFault) → settings.enabled ≡ true → PassesTo (polled files before) mid
+pub tick_faults : (settings : DbConf) (reloads : Option ℕ) (now : ℕ) (files : Content) (before mid after : Cache) (fault : PlainFault) → settings.enabled ≡ true → PassesTo (polled files before) mid
     → GivesUpBy (checked settings reloads now mid) mid after fault → FaultsBy (tick settings reloads now files before) files before after fault
 tick_faults settings reloads now files before mid after NoMemory on h k = inr (subst (λ (c : Cache). PassesTo (polled files before) c) (sym k) h)
 tick_faults settings reloads now files before mid after (Spent n) on h k =

@@ -3,7 +3,7 @@ use Rattle.std.specs.Prelude.{◌≡◌, ℕ, List, Option, Some, None, Result, 
 use Rattle.nsc_plain.specs.declared.fault.PlainFault.{PlainFault}
 use Rattle.nsc_plain.specs.declared.fault.PlainFault.TheVariants.{NoMemory, Spent}
 use Rattle.nsc_model.specs.declared.answer.Request.{Request}
-use Rattle.nsc_model.specs.Files.{Files}
+use Rattle.nsc_model.specs.Content.{Content}
 use Rattle.nsc_model.specs.declared.conf.DbConf.{DbConf}
 use Rattle.nsc_model.specs.Machine.{Kept, Cache, Passed, Stopped, Turn, used_now, polled}
 
@@ -12,7 +12,7 @@ pub record PlainCache : Type 0 where
   pub reloads : Option ℕ
   pub cache : Cache
 
--- a look-up of the machine gives this cache and this reply
+-- a lookup of the machine gives this cache and this reply
 abbrev pub TurnsTo : Result Turn Stopped → Cache → List ℕ → Type 0
 TurnsTo (Ok turn) cache reply = (turn.cache ≡ cache) × (turn.reply ≡ reply)
 TurnsTo (Err stop) cache reply = ⊥
@@ -28,11 +28,11 @@ StopsAt (Ok done) cache count = ⊥
 StopsAt (Err stop) cache count = (stop.cache ≡ cache) × (stop.count ≡ count)
 
 -- the cache is as before, or a poll was made and nothing else
-abbrev pub IsPolledAtMost : Files → Cache → Cache → Type 0
+abbrev pub IsPolledAtMost : Content → Cache → Cache → Type 0
 IsPolledAtMost files before after = (after ≡ before) ⊎ PassesTo (polled files before) after
 
 -- an event gave up: memory was wanting, and at most a poll was made; or the machine stops there
-abbrev pub FaultsBy : {A : Type 0} → Result A Stopped → Files → Cache → Cache → PlainFault → Type 0
+abbrev pub FaultsBy : {A : Type 0} → Result A Stopped → Content → Cache → Cache → PlainFault → Type 0
 FaultsBy event files before after NoMemory = IsPolledAtMost files before after
 FaultsBy event files before after (Spent count) = StopsAt event after count
 

@@ -1,14 +1,13 @@
 ghost use Rattle.std.specs.Prelude.{◌≡◌, ◌≤◌, ◌<◌, ◌+◌, ◌^◌, [], length, map, IfOk, IfSome, MatchOption};
 ghost use Rattle.nsc_base.specs.Nodes.{node_words};
-ghost use Rattle.nsc_model.specs.Fixed.{key_limit, kept_limit};
+ghost use Rattle.nsc_model.specs.Entry.{key_limit, kept_limit};
 ghost use Rattle.nsc_model.specs.Machine.{life_of, due_of, reloaded_of};
 ghost use Rattle.nsc_plain.specs.Answered.{anew};
 
-use crate::held::Held;
+use crate::kept::Kept;
 use crate::prepared::Prepared;
 use nsc_base::{Bytes, NoMemory};
-use nsc_daemonconf::DbConf;
-use nsc_model::{Answer, Answerer, Entry, Request};
+use nsc_model::{Answer, Answerer, DbConf, Entry, Request};
 use nsc_words::node_words;
 use std::alloc::Global;
 use std::marker::Model;
@@ -24,7 +23,7 @@ pub struct Answered {
 
 impl Model for Answered {
     ghost use Rattle.std.specs.Prelude.{◌≤◌, length};
-    ghost use Rattle.nsc_model.specs.Fixed.{key_limit};
+    ghost use Rattle.nsc_model.specs.Entry.{key_limit};
     ghost use Rattle.nsc_plain.specs.Answered.{Answered};
 
     ghost Value = { Answered };
@@ -63,14 +62,14 @@ impl Answered {
     }
 
     /// Its entry, of this number and over this version, from this moment on.
-    pub fn into_held(self, conf: &DbConf, now: u64, version: u64, number: u64) -> Held
+    pub fn into_held(self, conf: &DbConf, now: u64, version: u64, number: u64) -> Kept
         requires reply { length self.answer.bytes ≤ kept_limit }
         requires moment { now < 2 ^ 62 }
         ensures { result ≡ record { entry = record { number = number; request = self.request; version = version; answer = self.answer; timeout = now + life_of conf.now self.answer }; reloads = self.reloads } }
     {
         let timeout = now + life_of(conf, &self.answer);
         let entry = Entry::new(number, self.request, version, self.answer, timeout);
-        Held::new(entry, self.reloads)
+        Kept::new(entry, self.reloads)
     }
 }
 
@@ -92,7 +91,7 @@ pub fn answer_due<A: Answerer>(
     alloc: Global,
     files: &mut Prepared<A>,
     answers: &A,
-    entries: &[Held],
+    entries: &[Kept],
     limit: Option<u32>,
     now: u64,
 ) -> Result<Option<Vec<Answered>>, NoMemory>
@@ -118,7 +117,7 @@ fn answer_again<A: Answerer>(
     alloc: Global,
     files: &mut Prepared<A>,
     answers: &A,
-    held: &Held,
+    held: &Kept,
 ) -> Result<Answered, NoMemory>
     ensures stays { files.new ≡ files.old }
     ensures again { IfOk result (λ again. again ≡ anew files.old.files held.now) }

@@ -2,20 +2,19 @@ ghost use Rattle.std.specs.Prelude.{◌≡◌, ◌≤◌, ◌<◌, ◌^◌, None
 ghost use Rattle.std.specs.Bool.{OnTrue};
 ghost use Rattle.std.specs.Arc.{arc_value};
 ghost use Rattle.nsc_model.specs.Files.{no_files};
-ghost use Rattle.nsc_model.specs.Fixed.{key_limit};
-ghost use Rattle.nsc_model.specs.Marked.{reply_limit};
+ghost use Rattle.nsc_model.specs.Entry.{key_limit};
+ghost use Rattle.nsc_model.specs.Answer.{reply_limit};
 ghost use Rattle.nsc_model.specs.Answers.{answer_of};
-ghost use Rattle.nsc_model.specs.Machine.{new_cache, cached, polled, kept_answer, look_up, pruned, ticked, is_outdated, checked, tick, invalidated};
+ghost use Rattle.nsc_model.specs.Machine.{new_cache, cached, polled, kept_answer, lookup, pruned, ticked, is_outdated, checked, tick, invalidated};
 ghost use Rattle.nsc_plain.specs.PlainCache.{TurnsTo, PassesTo, FaultsBy, StopsBy, GivesUpBy, HitsBy};
 
 use crate::answered::{Answered, answer_due};
 use crate::fault::PlainFault;
-use crate::held::LAST_COUNT;
+use crate::kept::LAST_COUNT;
 use crate::prepared::Prepared;
 use crate::table::Table;
 use nsc_base::{Bytes, NoMemory};
-use nsc_daemonconf::DbConf;
-use nsc_model::{Answer, Answerer, Content, Kind, Request};
+use nsc_model::{Answer, Answerer, Content, DbConf, Kind, Request};
 use std::alloc::Global;
 use std::marker::Model;
 use std::sync::Arc;
@@ -68,7 +67,7 @@ impl PlainCache {
         })
     }
 
-    /// A look-up of this kind and key at this moment, in seconds, over the files as they are now: the machine's. The
+    /// A lookup of this kind and key at this moment, in seconds, over the files as they are now: the machine's. The
     /// reply is that of the live entry of the request, or else the answer over these files, which is then kept where
     /// nothing refuses it. It has at most 2^30 bytes.
     ///
@@ -88,8 +87,8 @@ impl PlainCache {
         ensures settings { self.new.settings ≡ self.old.settings }
         ensures limit { self.new.reloads ≡ self.old.reloads }
         ensures bound { IfOk result (λ reply. length reply ≤ reply_limit) }
-        ensures turn { IfOk result (λ reply. TurnsTo (look_up self.old.settings now (arc_value content.now) (record { kind = kind; key = key.now }) self.old.cache) self.new.cache reply) }
-        ensures fault { IfErr result (FaultsBy (look_up self.old.settings now (arc_value content.now) (record { kind = kind; key = key.now }) self.old.cache) (arc_value content.now) self.old.cache self.new.cache) }
+        ensures turn { IfOk result (λ reply. TurnsTo (lookup self.old.settings now (arc_value content.now) (record { kind = kind; key = key.now }) self.old.cache) self.new.cache reply) }
+        ensures fault { IfErr result (FaultsBy (lookup self.old.settings now (arc_value content.now) (record { kind = kind; key = key.now }) self.old.cache) (arc_value content.now) self.old.cache self.new.cache) }
     {
         let mut files = Prepared::new(content.clone()?);
         self.lookup_prepared(alloc, &mut files, answers, kind, key, now)
@@ -114,8 +113,8 @@ impl PlainCache {
         ensures files { files.new.files ≡ files.old.files }
         ensures polled { OnTrue files.new.is_polled (self.new.cache.sources ≡ files.new.files) }
         ensures bound { IfOk result (λ reply. length reply ≤ reply_limit) }
-        ensures turn { IfOk result (λ reply. TurnsTo (look_up self.old.settings now files.old.files (record { kind = kind; key = key.now }) self.old.cache) self.new.cache reply) }
-        ensures fault { IfErr result (FaultsBy (look_up self.old.settings now files.old.files (record { kind = kind; key = key.now }) self.old.cache) files.old.files self.old.cache self.new.cache) }
+        ensures turn { IfOk result (λ reply. TurnsTo (lookup self.old.settings now files.old.files (record { kind = kind; key = key.now }) self.old.cache) self.new.cache reply) }
+        ensures fault { IfErr result (FaultsBy (lookup self.old.settings now files.old.files (record { kind = kind; key = key.now }) self.old.cache) files.old.files self.old.cache self.new.cache) }
     {
         if let Some(reply) = self.hit(alloc, kind, key)? {
             return Ok(reply);

@@ -5,7 +5,7 @@ mod answered;
 mod cache;
 mod entries;
 mod fault;
-mod held;
+mod kept;
 mod prepared;
 mod table;
 

@@ -1,25 +1,24 @@
 ghost use Rattle.std.specs.Prelude.{◌≡◌, ◌≤◌, ◌<◌, ◌+◌, ◌^◌, [], ◌∷◌, None, find, length, min, IfOk, IfErr, IfSome, OnOk, OnErr};
 ghost use Rattle.nsc_model.specs.declared.answer.Request.{Request};
 ghost use Rattle.nsc_model.specs.Kinds.{is_request};
-ghost use Rattle.nsc_model.specs.Marked.{reply_limit};
-ghost use Rattle.nsc_model.specs.Machine.{Cache, due_of, others_of, compacted, compacted_behind, room_of, last_count};
+ghost use Rattle.nsc_model.specs.Answer.{reply_limit};
+ghost use Rattle.nsc_model.specs.Machine.{Cache, due_of, others_of, compacted, compacted_after, room_of, last_count};
 ghost use Rattle.nsc_plain.specs.PlainCache.{HitsBy, PassesTo, StopsBy};
 ghost use Rattle.nsc_plain.specs.Table.{StayApart, answered_for, entries_for, over, put, put_all};
 
 use crate::answered::Answered;
 use crate::entries::{drop_due, find_entry, words_of};
 use crate::fault::PlainFault;
-use crate::held::{Held, LAST_COUNT};
+use crate::kept::{Kept, LAST_COUNT};
 use nsc_base::{Bytes, NoMemory};
-use nsc_daemonconf::DbConf;
-use nsc_model::Kind;
+use nsc_model::{DbConf, Kind};
 use std::alloc::Global;
 use std::marker::Model;
 
 /// The live entries of a cache from the oldest on, with their counts; it knows of no content.
 #[derive(Drop)]
 pub struct Table {
-    entries: Vec<Held>,
+    entries: Vec<Kept>,
     used: usize,
     inserted: u64,
     cycle: u64,
@@ -55,7 +54,7 @@ impl Table {
     }
 
     /// The entries.
-    pub fn entries(&self) -> &[Held]
+    pub fn entries(&self) -> &[Kept]
         ensures { result.now ≡ self.now.entries }
     {
         self.entries.as_slice()
@@ -154,8 +153,8 @@ impl Table {
 
     /// Every entry leaves, and where there was any, the table is compacted.
     pub fn end_all(&mut self) -> Result<(), PlainFault>
-        ensures turn { OnOk result ((cache : Cache) → PassesTo (compacted_behind self.old.entries (over cache (record self.old { entries = [] }))) (over cache self.new)) }
-        ensures fault { IfErr result (λ fault. (cache : Cache) → StopsBy (compacted_behind self.old.entries (over cache (record self.old { entries = [] }))) (over cache self.new) fault) }
+        ensures turn { OnOk result ((cache : Cache) → PassesTo (compacted_after self.old.entries (over cache (record self.old { entries = [] }))) (over cache self.new)) }
+        ensures fault { IfErr result (λ fault. (cache : Cache) → StopsBy (compacted_after self.old.entries (over cache (record self.old { entries = [] }))) (over cache self.new) fault) }
     {
         if self.entries.is_empty() {
             return Ok(());

@@ -4,7 +4,7 @@ use Rattle.std.proofs.lemmas.List.{length-append}
 use Rattle.nsc_outside.proofs.Streams.{Moves-then, Grows-then}
 use Rattle.nsc_model.specs.Frames.{Finish, Done, Bad, Long, Spent}
 use Rattle.nsc_model.specs.declared.conf.Conf.{Conf}
-use Rattle.nsc_model.specs.Replay.{State, Replayed, behind_output, replay_from}
+use Rattle.nsc_model.specs.Replay.{State, Replayed, after_output, replay_from}
 use Rattle.nsc_replay.specs.declared.ended.Ended.{Ended}
 use Rattle.nsc_replay.specs.declared.ended.Ended.TheVariants as ended
 use Rattle.nsc_replay.specs.Streams.{StreamsAt}
@@ -12,8 +12,8 @@ use Rattle.nsc_replay.specs.Runs.{FinishesBy, EndsBy, Run, GoesOn}
 
 module _ (settings : Conf) (s next : State) (place next_place : ℕ) (before mid after : StreamsAt) (a : GoesOn settings s place next next_place (record { before = before; after = mid })) where
   -- what the replay of two parts is, by the replay of the second
-  joined : (xs : List ℕ) (r : Replayed) → replay_from settings next next_place xs ≡ r → replay_from settings s place (a.front ++ xs) ≡ behind_output a.out r
-  joined xs r e = a.goes xs ∙ ap (behind_output a.out) e
+  joined : (xs : List ℕ) (r : Replayed) → replay_from settings next next_place xs ≡ r → replay_from settings s place (a.front ++ xs) ≡ after_output a.out r
+  joined xs r e = a.goes xs ∙ ap (after_output a.out) e
 
   regrouped : (xs more : List ℕ) → replay_from settings s place ((a.front ++ xs) ++ more) ≡ replay_from settings s place (a.front ++ (xs ++ more))
   regrouped xs more = ap (λ (bytes : List ℕ). replay_from settings s place bytes) (append_assoc a.front xs more)

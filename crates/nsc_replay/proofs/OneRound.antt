@@ -3,9 +3,10 @@ use Rattle.std.proofs.Common.{◌≡◌, ℕ, ◌+◌, ◌<◌, ◌≤◌, List,
 use Rattle.std.proofs.lemmas.List.{append-nil}
 use Rattle.nsc_outside.specs.Stream.{Grows}
 use Rattle.nsc_outside.proofs.Streams.{Moves-nothing, Grows-nothing}
-use Rattle.nsc_model.specs.Frames.{Frame, Ask, Become, Reach, Clear, Stop, NoFrame, LongFile, frame_at, frame_size, Finish, Spent, place_limit, cut_by}
+use Rattle.nsc_model.specs.Frames as frame
+use Rattle.nsc_model.specs.Frames.{Frame, NoFrame, LongFile, frame_at, frame_size, Finish, Spent, place_limit, cut_by}
 use Rattle.nsc_model.specs.declared.conf.Conf.{Conf}
-use Rattle.nsc_model.specs.Replay.{State, Went, turn_of, Replayed, behind_output, replay_from, play}
+use Rattle.nsc_model.specs.Replay.{State, Went, turn_of, Replayed, after_output, replay_from, play}
 use Rattle.nsc_model.proofs.Parsers.{front_size}
 use Rattle.nsc_model.proofs.Rounds.{Goes, round_goes, round_ends, round_stops, round_refused, round_partial, round_late}
 use Rattle.nsc_replay.specs.declared.ended.Ended.{Ended}
@@ -20,11 +21,11 @@ use Rattle.nsc_replay.specs.Streams.{Streams, StreamsAt}
 use Rattle.nsc_replay.specs.Runs.{EndsBy, Run, GoesOn}
 
 followed : (f : Frame) → IsFollowed f → Goes f
-followed (Ask input) h = tt
-followed (Become file held) h = tt
-followed (Reach moment) h = tt
-followed (Clear db) h = tt
-followed Stop h = h
+followed (frame.Request input) h = tt
+followed (frame.SetFile file held) h = tt
+followed (frame.Time moment) h = tt
+followed (frame.Invalidate db) h = tt
+followed frame.End h = h
 
 -- nothing is written for no byte
 pub no_output : (settings : Conf) (s : State) (place : ℕ) → (replay_from settings s place []).output ≡ []
@@ -50,7 +51,7 @@ goes_on settings s next place next_place frame streams lt found follows done siz
         let n : length found.front ≡ frame_size frame = front_size found.front frame found.finds in
         let p : place + length found.front ≡ next_place = omega arith in
         round_goes settings s place found.front more frame went lt found.finds (followed frame follows) e
-        ∙ (ap (λ k. behind_output went.writes (replay_from settings went.state k more)) p ∙ ap (λ t. behind_output went.writes (replay_from settings t next_place more)) d.0);
+        ∙ (ap (λ k. after_output went.writes (replay_from settings went.state k more)) p ∙ ap (λ t. after_output went.writes (replay_from settings t next_place more)) d.0);
   }
 
 -- ---- a frame ends the replay
@@ -61,7 +62,7 @@ cut_short settings s place frame streams (Err finish) lt found follows e c = abs
 cut_short settings s place frame streams (Ok went) lt found follows e c =
     let rest = (replay_from settings went.state (place + length found.front) []).output in
     let whole = round_goes settings s place found.front [] frame went lt found.finds (followed frame follows) e in
-    let here : replay_from settings s place found.front ≡ behind_output went.writes (replay_from settings went.state (place + length found.front) []) = ap (λ (bytes : List ℕ). replay_from settings s place bytes) (sym (append-nil found.front)) ∙ whole in
+    let here : replay_from settings s place found.front ≡ after_output went.writes (replay_from settings went.state (place + length found.front) []) = ap (λ (bytes : List ℕ). replay_from settings s place bytes) (sym (append-nil found.front)) ∙ whole in
     record {
       front = found.front;
       out = c.0;
@@ -91,7 +92,7 @@ does_not settings s place frame streams _ lt found follows d = absurd d
 
 -- nothing was written
 module _ (settings : Conf) (s : State) (place : ℕ) (streams : Streams) (same : streams.after.taken ≡ streams.before.taken) where
-  pub stops : place < place_limit → Gets frame_at streams.before.left streams.after.left Stop → Run settings s place streams ended.Done
+  pub stops : place < place_limit → Gets frame_at streams.before.left streams.after.left frame.End → Run settings s place streams ended.Done
   stops lt found = record {
     front = found.front;
     out = [];

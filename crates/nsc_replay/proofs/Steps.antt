@@ -4,7 +4,7 @@ use Rattle.std.proofs.lemmas.Bool.{eqb-true}
 use Rattle.nsc_outside.specs.Stream.{Moves}
 use Rattle.nsc_outside.proofs.Streams.{Moves-then}
 use Rattle.nsc_model.specs.declared.kind.Db.{Db}
-use Rattle.nsc_model.specs.Frames.{Fault, NoFrame, LongFile, chunk, cleared, present_at, marked_at, made}
+use Rattle.nsc_model.specs.Frames.{Fault, NoFrame, LongFile, chunk, known_db, present_at, presence_at, made}
 use Rattle.nsc_model.specs.Fronts.{Finds}
 use Rattle.nsc_model.proofs.Parsers.{Parser, then, chunk_finds, chunk_partial, finds_then, refuses_then, partial_then, refuses_first, partial_first, finds_now}
 use Rattle.nsc_replay.specs.declared.halt.Halt.{Halt}
@@ -85,11 +85,11 @@ guard_gets b fault p a c x e h = subst (λ (t : Bool). Gets (guarded t fault p) 
 
 -- ---- options after a number
 
-pub cleared_some : (o : Option Db) (a : Told) (db : Db) → o ≡ Some db → Gets (cleared o) a a db
-cleared_some o a db e = subst (λ (x : Option Db). Gets (cleared x) a a db) (sym e) (gets_now a db)
+pub cleared_some : (o : Option Db) (a : Told) (db : Db) → o ≡ Some db → Gets (known_db o) a a db
+cleared_some o a db e = subst (λ (x : Option Db). Gets (known_db x) a a db) (sym e) (gets_now a db)
 
-pub cleared_none : (o : Option Db) (a : Told) → o ≡ None → Halts (cleared o) a a halts.NoFrame
-cleared_none o a e = subst (λ (x : Option Db). Halts (cleared x) a a halts.NoFrame) (sym e) (refuses_now {A = Db} a)
+pub cleared_none : (o : Option Db) (a : Told) → o ≡ None → Halts (known_db o) a a halts.NoFrame
+cleared_none o a e = subst (λ (x : Option Db). Halts (known_db x) a a halts.NoFrame) (sym e) (refuses_now {A = Db} a)
 
 -- no room for a piece that is not empty
 pub no_room : (size : ℕ) (a : Told) → 0 < size → Halts (chunk size) a a halts.NoMemory
@@ -103,21 +103,21 @@ eqb_off m n d = by_test (eqb m n) refl where
   by_test true e = absurd (d (eqb-true m n e))
   by_test false e = refl
 
-pub marked_none : (mark : ℕ) (a : Told) → mark ≡ 0 → Gets (marked_at mark) a a None
-unfolding marked_at
-marked_none mark a e = subst (λ m. Gets (marked_at m) a a None) (sym e) (gets_now a None)
+pub presence_none : (presence : ℕ) (a : Told) → presence ≡ 0 → Gets (presence_at presence) a a None
+unfolding presence_at
+presence_none presence a e = subst (λ m. Gets (presence_at m) a a None) (sym e) (gets_now a None)
 
-pub marked_some : (mark : ℕ) (a b : Told) (x : List ℕ) → mark ≡ 1 → Gets present_at a b x → Gets (marked_at mark) a b (Some x)
-unfolding marked_at
-marked_some mark a b x e h = subst (λ m. Gets (marked_at m) a b (Some x)) (sym e) (gets_made present_at (λ (held : List ℕ). Some held) a b x h)
+pub presence_some : (presence : ℕ) (a b : Told) (x : List ℕ) → presence ≡ 1 → Gets present_at a b x → Gets (presence_at presence) a b (Some x)
+unfolding presence_at
+presence_some presence a b x e h = subst (λ m. Gets (presence_at m) a b (Some x)) (sym e) (gets_made present_at (λ (held : List ℕ). Some held) a b x h)
 
-pub marked_halts : (mark : ℕ) (a b : Told) (halt : Halt) → mark ≡ 1 → Halts present_at a b halt → Halts (marked_at mark) a b halt
-unfolding marked_at
-marked_halts mark a b halt e h = subst (λ m. Halts (marked_at m) a b halt) (sym e) (halts_first present_at (λ held bytes. Ok (Some held, bytes)) a b halt h)
+pub presence_halts : (presence : ℕ) (a b : Told) (halt : Halt) → presence ≡ 1 → Halts present_at a b halt → Halts (presence_at presence) a b halt
+unfolding presence_at
+presence_halts presence a b halt e h = subst (λ m. Halts (presence_at m) a b halt) (sym e) (halts_first present_at (λ held bytes. Ok (Some held, bytes)) a b halt h)
 
-pub marked_bad : (mark : ℕ) (a : Told) → mark ≢ 0 → mark ≢ 1 → Halts (marked_at mark) a a halts.NoFrame
-unfolding marked_at
-marked_bad mark a n0 n1 = record { front = []; moved = nothing a; stops = record { whatever = λ more. rw (eqb_off mark 0 n0, eqb_off mark 1 n1) refl } }
+pub presence_bad : (presence : ℕ) (a : Told) → presence ≢ 0 → presence ≢ 1 → Halts (presence_at presence) a a halts.NoFrame
+unfolding presence_at
+presence_bad presence a n0 n1 = record { front = []; moved = nothing a; stops = record { whatever = λ more. rw (eqb_off presence 0 n0, eqb_off presence 1 n1) refl } }
 
 -- an empty piece
 pub gets_empty : (size : ℕ) (a : Told) → size ≡ 0 → Gets (chunk size) a a []

@@ -2,7 +2,8 @@
 use Rattle.std.specs.Prelude.{◌≡◌, ℕ, ◌≤◌}
 use Rattle.nsc_model.specs.declared.kind.Db.{Db}
 use Rattle.nsc_model.specs.declared.kind.Db.TheVariants as db
-use Rattle.nsc_model.specs.Files.{Files, part_of}
+use Rattle.nsc_model.specs.Content.{Content}
+use Rattle.nsc_model.specs.Files.{part_of}
 use Rattle.nsc_model.specs.declared.conf.Conf.{Conf}
 use Rattle.nsc_model.specs.Settings.{settings_of}
 use Rattle.nsc_model.specs.Replay.{State, last_moment}
@@ -14,24 +15,24 @@ pub record Machine : Type 0 where
   pub state : State
 
 -- the state of these files and databases, at this moment
-abbrev pub state_of : Files → ℕ → Databases Cached → State
+abbrev pub state_of : Content → ℕ → Databases Cached → State
 state_of files moment databases = record {
   files = files;
   moment = moment;
-  users = databases.passwd.cache.cache;
-  groups = databases.group.cache.cache;
+  passwd = databases.passwd.cache.cache;
+  group = databases.group.cache.cache;
   hosts = databases.hosts.cache.cache;
   services = databases.services.cache.cache;
 }
 
 -- a database has its settings, and reads its part of the files
-pub record HasOwn (which : Db) (settings : Conf) (files : Files) (cached : Cached) : Type 0 where
+pub record HasOwn (which : Db) (settings : Conf) (files : Content) (cached : Cached) : Type 0 where
   pub own : cached.cache.settings ≡ settings_of settings which
   pub limit : cached.cache.reloads ≡ settings.reloads
   pub part : cached.files ≡ part_of which files
 
 -- so does each of them, and the moment is not later than the last one
-pub record Agrees (settings : Conf) (files : Files) (moment : ℕ) (databases : Databases Cached) : Type 0 where
+pub record Agrees (settings : Conf) (files : Content) (moment : ℕ) (databases : Databases Cached) : Type 0 where
   pub passwd : HasOwn db.Passwd settings files databases.passwd
   pub group : HasOwn db.Group settings files databases.group
   pub hosts : HasOwn db.Hosts settings files databases.hosts

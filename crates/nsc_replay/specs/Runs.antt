@@ -4,7 +4,7 @@ use Rattle.nsc_outside.specs.Stream.{IsDrained}
 use Rattle.nsc_model.specs.Frames.{Frame, frame_at, Finish, Done, Bad, Long, Spent}
 use Rattle.nsc_model.specs.Fronts.{Finds}
 use Rattle.nsc_model.specs.declared.conf.Conf.{Conf}
-use Rattle.nsc_model.specs.Replay.{State, behind_output, replay_from}
+use Rattle.nsc_model.specs.Replay.{State, after_output, replay_from}
 use Rattle.nsc_replay.specs.declared.ended.Ended.{Ended}
 use Rattle.nsc_replay.specs.declared.ended.Ended.TheVariants as ended
 use Rattle.nsc_replay.specs.Streams.{Streams, Transfers}
@@ -49,4 +49,4 @@ pub record GoesOn (settings : Conf) (s : State) (place : ℕ) (next : State) (ne
   pub out : List ℕ
   pub transfers : Transfers streams front out
   pub place_is : next_place ≡ place + length front
-  pub goes : (more : List ℕ) → replay_from settings s place (front ++ more) ≡ behind_output out (replay_from settings next next_place more)
+  pub goes : (more : List ℕ) → replay_from settings s place (front ++ more) ≡ after_output out (replay_from settings next next_place more)

@@ -1,14 +1,13 @@
 ghost use Rattle.std.specs.Prelude.{◌≡◌, ◌≤◌, ◌<◌, ◌^◌, length, unwrap_or, option_map, IfOk, IfErr, OnOk};
 ghost use Rattle.std.specs.Arc.{arc_value};
 ghost use Rattle.nsc_model.specs.Files.{no_files};
-ghost use Rattle.nsc_model.specs.Fixed.{key_limit};
-ghost use Rattle.nsc_model.specs.Marked.{reply_limit};
-ghost use Rattle.nsc_model.specs.Machine.{new_cache, look_up, tick, invalidated};
+ghost use Rattle.nsc_model.specs.Entry.{key_limit};
+ghost use Rattle.nsc_model.specs.Answer.{reply_limit};
+ghost use Rattle.nsc_model.specs.Machine.{new_cache, lookup, tick, invalidated};
 ghost use Rattle.nsc_plain.specs.PlainCache.{FaultsBy, PassesTo, StopsBy, TurnsTo};
 
 use nsc_base::{Bytes, NoMemory};
-use nsc_daemonconf::DbConf;
-use nsc_model::{Answerer, Content, Kind};
+use nsc_model::{Answerer, Content, DbConf, Kind};
 use nsc_plain::{PlainCache, PlainFault, Prepared};
 use std::alloc::Global;
 use std::marker::Model;
@@ -55,7 +54,7 @@ impl<A: Answerer> Cached<A> {
         }
     }
 
-    /// A look-up over the files as they are, at this moment in seconds. The reply has at most 2^30 bytes.
+    /// A lookup over the files as they are, at this moment in seconds. The reply has at most 2^30 bytes.
     pub fn lookup(
         &mut self,
         alloc: Global,
@@ -70,8 +69,8 @@ impl<A: Answerer> Cached<A> {
         ensures settings { self.new.cache.settings ≡ self.old.cache.settings }
         ensures limit { self.new.cache.reloads ≡ self.old.cache.reloads }
         ensures bound { IfOk result (λ reply. length reply ≤ reply_limit) }
-        ensures turn { IfOk result (λ reply. TurnsTo (look_up self.old.cache.settings now self.old.files (record { kind = kind; key = key.now }) self.old.cache.cache) self.new.cache.cache reply) }
-        ensures fault { IfErr result (FaultsBy (look_up self.old.cache.settings now self.old.files (record { kind = kind; key = key.now }) self.old.cache.cache) self.old.files self.old.cache.cache self.new.cache.cache) }
+        ensures turn { IfOk result (λ reply. TurnsTo (lookup self.old.cache.settings now self.old.files (record { kind = kind; key = key.now }) self.old.cache.cache) self.new.cache.cache reply) }
+        ensures fault { IfErr result (FaultsBy (lookup self.old.cache.settings now self.old.files (record { kind = kind; key = key.now }) self.old.cache.cache) self.old.files self.old.cache.cache self.new.cache.cache) }
     {
         self.cache
             .lookup_prepared(alloc, &mut self.files, answers, kind, key, now)

@@ -36,7 +36,7 @@ pub enum Frame<'a> {
 impl Frame<'_> {
     ghost use Rattle.std.specs.Prelude.{◌≡◌, ◌≤◌, ◌<◌};
     ghost use Rattle.std.specs.Bool.{OnFalse, OnTrue};
-    ghost use Rattle.nsc_model.specs.Frames.{Stop, frame_size};
+    ghost use Rattle.nsc_model.specs.Frames.{End, frame_size};
     ghost use Rattle.nsc_replay.specs.Frame.{FrameFits, IsFollowed, said};
 
     /// How many bytes the frame took.
@@ -61,7 +61,7 @@ impl Frame<'_> {
 
     /// Whether this is the frame that ends a replay.
     pub fn is_end(&self) -> bool
-        ensures end { OnTrue result (said self.now ≡ Stop) }
+        ensures end { OnTrue result (said self.now ≡ End) }
         ensures others { OnFalse result (IsFollowed (said self.now)) }
     {
         matches!(self, Frame::End)

@@ -1,10 +1,10 @@
 ghost use Rattle.std.specs.Prelude.{◌≡◌, ◌≤◌, length, Some, None, IfOk, IfErr, IfSome, OnOk};
-ghost use Rattle.nsc_model.specs.Marked.{reply_limit};
+ghost use Rattle.nsc_model.specs.Answer.{reply_limit};
 ghost use Rattle.nsc_model.specs.Files.{FileFits, with_file};
-ghost use Rattle.nsc_model.specs.Fixed.{key_limit};
+ghost use Rattle.nsc_model.specs.Entry.{key_limit};
 ghost use Rattle.nsc_model.specs.Wire.{request_of};
-ghost use Rattle.nsc_model.specs.Replay.{ask_frame, clear_frame, first_state, look_frame, reach_frame, turn_of};
-ghost use Rattle.nsc_daemonconf.specs.Sizes.{SizesFit};
+ghost use Rattle.nsc_model.specs.Replay.{request_frame, invalidate_frame, first_state, look_frame, time_frame, turn_of};
+ghost use Rattle.nsc_model.specs.Sizes.{SizesFit};
 ghost use Rattle.nsc_replay.specs.Frame.{FrameFits, said};
 ghost use Rattle.nsc_replay.specs.Turns.{TurnsTo, TurnFaults};
 
@@ -13,8 +13,7 @@ use crate::databases::Databases;
 use crate::frame::Frame;
 use crate::sources::{Shared, Sources};
 use nsc_base::{Bytes, NoMemory};
-use nsc_daemonconf::Conf;
-use nsc_model::{Answerer, Db, FileId, Kind};
+use nsc_model::{Answerer, Conf, Db, FileId, Kind};
 use nsc_plain::PlainFault;
 use nsc_wire::{Wire, read_request};
 use std::alloc::Global;
@@ -63,7 +62,7 @@ impl<A: Answerer> Machine<A> {
     }
 
     /// One frame through the machine: the reply that is to be written, if the frame is an input of a connection, of at
-    /// most 2^30 bytes; an empty one where the input asks for no look-up.
+    /// most 2^30 bytes; an empty one where the input asks for no lookup.
     ///
     /// `Spent` comes where a count stands at its end.
     pub fn turn(
@@ -100,8 +99,8 @@ impl<A: Answerer> Machine<A> {
     fn request(&mut self, alloc: Global, answers: &A, input: &[u8]) -> Result<Bytes, PlainFault>
         ensures settings { self.new.settings ≡ self.old.settings }
         ensures bound { IfOk result (λ reply. length reply ≤ reply_limit) }
-        ensures turn { IfOk result (λ reply. TurnsTo (ask_frame self.old.settings self.old.state (request_of input.now)) self.new.state (Some reply)) }
-        ensures fault { IfErr result (TurnFaults (ask_frame self.old.settings self.old.state (request_of input.now))) }
+        ensures turn { IfOk result (λ reply. TurnsTo (request_frame self.old.settings self.old.state (request_of input.now)) self.new.state (Some reply)) }
+        ensures fault { IfErr result (TurnFaults (request_frame self.old.settings self.old.state (request_of input.now))) }
     {
         match read_request(input) {
             Wire::Request { kind, key } => self.lookup(
@@ -122,7 +121,7 @@ impl<A: Answerer> Machine<A> {
         }
     }
 
-    // A look-up, in the database of its kind.
+    // A lookup, in the database of its kind.
     fn lookup(
         &mut self,
         alloc: Global,
@@ -168,8 +167,8 @@ impl<A: Answerer> Machine<A> {
     // The moment becomes this one, unless it is later already, and every database is ticked.
     fn advance(&mut self, alloc: Global, answers: &A, moment: u64) -> Result<(), PlainFault>
         ensures settings { self.new.settings ≡ self.old.settings }
-        ensures turn { OnOk result (TurnsTo (reach_frame self.old.settings self.old.state moment) self.new.state None) }
-        ensures fault { IfErr result (TurnFaults (reach_frame self.old.settings self.old.state moment)) }
+        ensures turn { OnOk result (TurnsTo (time_frame self.old.settings self.old.state moment) self.new.state None) }
+        ensures fault { IfErr result (TurnFaults (time_frame self.old.settings self.old.state moment)) }
     {
         self.moment = max(self.moment, min(moment, LAST_MOMENT));
         self.databases.passwd.tick(alloc, answers, self.moment)?;
@@ -181,8 +180,8 @@ impl<A: Answerer> Machine<A> {
     // A database is invalidated.
     fn invalidate(&mut self, db: Db) -> Result<(), PlainFault>
         ensures settings { self.new.settings ≡ self.old.settings }
-        ensures turn { OnOk result (TurnsTo (clear_frame self.old.state db) self.new.state None) }
-        ensures fault { IfErr result (TurnFaults (clear_frame self.old.state db)) }
+        ensures turn { OnOk result (TurnsTo (invalidate_frame self.old.state db) self.new.state None) }
+        ensures fault { IfErr result (TurnFaults (invalidate_frame self.old.state db)) }
     {
         self.databases.of_mut(db).invalidate()
     }

@@ -1,7 +1,7 @@
 ghost use Rattle.std.specs.Prelude.{◌≡◌, ◌≤◌, length, IfOk};
 ghost use Rattle.nsc_model.specs.Kinds.{file_numbered};
 ghost use Rattle.nsc_model.specs.Files.{file_limit, FileFits};
-ghost use Rattle.nsc_model.specs.Frames.{ask_at, become, bytes_at, chunk, clear_at, cleared, file_at, held_at, input_at, input_limit, marked_at, number_at, present_at};
+ghost use Rattle.nsc_model.specs.Frames.{request_at, set_file, bytes_at, chunk, invalidate_at, known_db, file_at, held_at, input_at, input_limit, presence_at, number_at, present_at};
 ghost use Rattle.nsc_replay.specs.Reading.{Counts, Reads};
 
 use crate::frame::INPUT_LIMIT;
@@ -57,7 +57,7 @@ pub fn request<'a, R: Source>(
     input: &mut R,
     room: &'a mut [u8; INPUT_LIMIT],
 ) -> Result<&'a [u8], Halt>
-    ensures reads { Reads (λ bytes. bytes.now) ask_at (R.left input.old) (R.left input.new) result }
+    ensures reads { Reads (λ bytes. bytes.now) request_at (R.left input.old) (R.left input.new) result }
     ensures fits { IfOk result (λ bytes. length bytes.now ≤ input_limit) }
     ensures counts { Counts (R.faults input.old) (R.faults input.new) result }
 {
@@ -116,7 +116,7 @@ fn held<R: Source>(alloc: Global, input: &mut R, size: u32) -> Result<Bytes, Hal
 
 // What a file becomes, by the byte that says whether it is present.
 fn by_presence<R: Source>(alloc: Global, input: &mut R, presence: u8) -> Result<Option<Bytes>, Halt>
-    ensures reads { Reads (λ bytes. bytes) (marked_at presence) (R.left input.old) (R.left input.new) result }
+    ensures reads { Reads (λ bytes. bytes) (presence_at presence) (R.left input.old) (R.left input.new) result }
     ensures fits { IfOk result FileFits }
     ensures counts { Counts (R.faults input.old) (R.faults input.new) result }
 {
@@ -143,7 +143,7 @@ fn numbered_file<R: Source>(
     input: &mut R,
     number: u8,
 ) -> Result<(FileId, Option<Bytes>), Halt>
-    ensures reads { Reads (λ p. p) (become (file_numbered number)) (R.left input.old) (R.left input.new) result }
+    ensures reads { Reads (λ p. p) (set_file (file_numbered number)) (R.left input.old) (R.left input.new) result }
     ensures fits { IfOk result (λ p. FileFits p.1) }
     ensures counts { Counts (R.faults input.old) (R.faults input.new) result }
 {
@@ -165,7 +165,7 @@ pub fn file<R: Source>(alloc: Global, input: &mut R) -> Result<(FileId, Option<B
 
 /// A database, by its number.
 pub fn database<R: Source>(input: &mut R) -> Result<Db, Halt>
-    ensures reads { Reads (λ db. db) clear_at (R.left input.old) (R.left input.new) result }
+    ensures reads { Reads (λ db. db) invalidate_at (R.left input.old) (R.left input.new) result }
     ensures counts { Counts (R.faults input.old) (R.faults input.new) result }
 {
     let number = byte(input)?;

@@ -1,5 +1,5 @@
 ghost use Rattle.std.specs.Prelude.{IfOk};
-ghost use Rattle.nsc_model.specs.Frames.{behind, frame_at};
+ghost use Rattle.nsc_model.specs.Frames.{frame_after, frame_at};
 ghost use Rattle.nsc_replay.specs.Frame.{FrameFits, said};
 ghost use Rattle.nsc_replay.specs.Reading.{Counts, Reads};
 
@@ -30,7 +30,7 @@ fn after_first<'a, R: Source>(
     room: &'a mut [u8; INPUT_LIMIT],
     first: u8,
 ) -> Result<Frame<'a>, Halt>
-    ensures reads { Reads said (behind first) (R.left input.old) (R.left input.new) result }
+    ensures reads { Reads said (frame_after first) (R.left input.old) (R.left input.new) result }
     ensures fits { IfOk result FrameFits }
     ensures counts { Counts (R.faults input.old) (R.faults input.new) result }
 {

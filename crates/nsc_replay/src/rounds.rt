@@ -1,7 +1,7 @@
 ghost use Rattle.std.specs.Prelude.{◌≡◌, ◌<◌, IfOk, IfErr, OnOk};
 ghost use Rattle.nsc_model.specs.Frames.{place_limit};
 ghost use Rattle.nsc_model.specs.Replay.{first_state, turn_of};
-ghost use Rattle.nsc_daemonconf.specs.Sizes.{SizesFit};
+ghost use Rattle.nsc_model.specs.Sizes.{SizesFit};
 ghost use Rattle.nsc_replay.specs.Frame.{FrameFits, said};
 ghost use Rattle.nsc_replay.specs.Turns.{CountsOutput, DoesNot, IsDone};
 ghost use Rattle.nsc_replay.specs.Streams.{Calm, Counted, streams};
@@ -12,8 +12,7 @@ use crate::frame::{Frame, INPUT_LIMIT};
 use crate::machine::Machine;
 use crate::reading::read_frame;
 use crate::reply::put_reply;
-use nsc_daemonconf::Conf;
-use nsc_model::Answerer;
+use nsc_model::{Answerer, Conf};
 use nsc_outside::{Sink, Source};
 use std::alloc::Global;
 

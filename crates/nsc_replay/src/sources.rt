@@ -56,9 +56,10 @@ pub struct Sources {
 }
 
 impl Model for Sources {
-    ghost use Rattle.nsc_model.specs.Files.{Files, files_in, FilesFit};
+    ghost use Rattle.nsc_model.specs.Content.{Content};
+    ghost use Rattle.nsc_model.specs.Files.{files_in, FilesFit};
 
-    ghost Value = { Files };
+    ghost Value = { Content };
 
     ghost view = { λ s. files_in s.files };
 

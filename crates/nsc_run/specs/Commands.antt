@@ -16,9 +16,8 @@ use Rattle.nsc_model.specs.declared.conf.Conf.{Conf}
 use Rattle.nsc_model.specs.Replay.{first_state, replay}
 use Rattle.nsc_daemonconf.specs.declared.lines.ConfFault.{ConfFault}
 use Rattle.nsc_model.specs.Settings.{default_settings}
-use Rattle.nsc_daemonconf.specs.Lines.{Refused, conf_of}
-use Rattle.nsc_daemonconf.specs.Sizes.{SizesFit}
-use Rattle.nsc_daemonconf.specs.Told.{refused}
+use Rattle.nsc_daemonconf.specs.Lines.{conf_of}
+use Rattle.nsc_model.specs.Sizes.{SizesFit}
 use Rattle.nsc_replay.specs.declared.ended.Ended.{Ended}
 use Rattle.nsc_replay.specs.Streams.{Streams, Calm, InputFailed, OutputFailed}
 use Rattle.nsc_replay.specs.Runs.{Run}
@@ -75,13 +74,13 @@ config_told held (Some path) = held path
 abbrev pub named_config : (List ℕ → Option (Option (List ℕ))) → List (List ℕ) → Option (Option (List ℕ))
 named_config held words = config_told held (config_of words)
 
--- the settings that a configuration gives, or the line that it is refused for; an absent one gives the defaults
-abbrev pub settings_by : Option (List ℕ) → Result Conf Refused
+-- the settings that a configuration gives, or why it is refused; an absent one gives the defaults
+abbrev pub settings_by : Option (List ℕ) → Result Conf ConfFault
 settings_by None = Ok default_settings
 settings_by (Some text) = conf_of text
 
 -- a configuration was read, the one that is told where one is told, and this is what it gives
-pub record Gives (told : Option (Option (List ℕ))) (outcome : Result Conf Refused) : Type 0 where
+pub record Gives (told : Option (Option (List ℕ))) (outcome : Result Conf ConfFault) : Type 0 where
   pub config : Option (List ℕ)
   pub as_told : IsAsTold told config
   pub gives : settings_by config ≡ outcome
@@ -94,7 +93,7 @@ pub record IsSet (told : Option (Option (List ℕ))) (before after : ℕ) (setti
 
 -- why no settings were read, by the exit, with the set's count of faults
 abbrev pub NotSet : Option (Option (List ℕ)) → ℕ → ℕ → Exit → Type 0
-NotSet told before after (exits.BadConf fault) = Gives told (Err (refused fault)) × (after ≡ before)
+NotSet told before after (exits.BadConf fault) = Gives told (Err fault) × (after ≡ before)
 NotSet told before after exits.SourceFault = Rose before after
 NotSet told before after (exits.TooLong size) = IsPastLimit told size × Rose before after
 NotSet told before after exits.NoMemory = after ≡ before
@@ -137,9 +136,9 @@ Counted exits.ReadFault streams = InputFailed streams
 Counted exits.WriteFault streams = OutputFailed streams
 Counted _ streams = Calm streams
 
--- the exit tells that line, unless memory was wanting
-abbrev pub TellsRefused : Refused → Exit → Type 0
-TellsRefused line exit = ((fault : ConfFault) × (refused fault ≡ line) × (exit ≡ exits.BadConf fault)) ⊎ (exit ≡ exits.NoMemory)
+-- the exit tells why a line is refused, unless memory was wanting
+abbrev pub TellsFault : ConfFault → Exit → Type 0
+TellsFault fault exit = (exit ≡ exits.BadConf fault) ⊎ (exit ≡ exits.NoMemory)
 
 -- Nothing was read and nothing written.
 pub record Untouched (streams : Streams) : Type 0 where
@@ -177,7 +176,7 @@ pub record IsReplayedBy (told : Option (Option (List ℕ))) (streams : Streams) 
   pub of_config : Gives told (Ok settings)
   pub replayed : IfSome streams.before.left (λ bytes. IsReplayed settings bytes streams)
 
--- the exit tells how the replay of the source ends with these settings, or the line that is refused
-abbrev pub TellsAll : Option (List ℕ) → Result Conf Refused → Exit → Type 0
+-- the exit tells how the replay of the source ends with these settings, or why a line is refused
+abbrev pub TellsAll : Option (List ℕ) → Result Conf ConfFault → Exit → Type 0
 TellsAll before (Ok settings) exit = IfSome before (λ bytes. TellsEnd (replay settings bytes).finish exit)
-TellsAll before (Err line) exit = TellsRefused line exit
+TellsAll before (Err fault) exit = TellsFault fault exit

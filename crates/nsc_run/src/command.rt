@@ -1,17 +1,16 @@
 ghost use Rattle.std.specs.Prelude.{◌≡◌, ◌⊎◌, Err, false, true, ℕ, option_map, IfErr, IfSome};
 ghost use Rattle.nsc_outside.specs.Stream.{Rose};
 ghost use Rattle.nsc_model.specs.Replay.{replay};
-ghost use Rattle.nsc_daemonconf.specs.Sizes.{SizesFit};
-ghost use Rattle.nsc_daemonconf.specs.Told.{refused};
+ghost use Rattle.nsc_model.specs.Sizes.{SizesFit};
 ghost use Rattle.nsc_daemonconf.specs.declared.lines.ConfFault.{ConfFault};
 ghost use Rattle.nsc_replay.specs.Streams.{streams};
-ghost use Rattle.nsc_run.specs.Commands.{ComesBefore, Counted, Course, Gives, IsLongConf, IsReplayed, IsReplayedBy, NoFault, Ran, Replays, TellsAll, TellsEnd, TellsRefused, Untouched, config_told, is_replay, named_config, settings_by, texts};
+ghost use Rattle.nsc_run.specs.Commands.{ComesBefore, Counted, Course, Gives, IsLongConf, IsReplayed, IsReplayedBy, NoFault, Ran, Replays, TellsAll, TellsEnd, TellsFault, Untouched, config_told, is_replay, named_config, settings_by, texts};
 
 use crate::config::conf_at;
 use crate::exit::Exit;
 use crate::words::read_words;
 use nsc_answer::Plain;
-use nsc_daemonconf::Conf;
+use nsc_model::Conf;
 use nsc_outside::{FileSet, Sink, Source};
 
 /// Replays the frames of the input with these settings: from every file absent, at moment 0, up to and with the first E.
@@ -66,9 +65,9 @@ pub fn run<RT: AllocGlobal, R: Source, K: Sink, F: FileSet>(
     ensures untouched { ComesBefore result → Untouched (streams R.Source K.Sink input.old input.new output.old output.new) }
 
     // A line is told only where a configuration that is read is refused for it, and where one is told that is, so it is.
-    ensures bad_conf { (fault : ConfFault) → result ≡ Exit.BadConf fault → Gives (named_config (F.conf_held files.old) (texts words.now)) (Err (refused fault)) }
+    ensures bad_conf { (fault : ConfFault) → result ≡ Exit.BadConf fault → Gives (named_config (F.conf_held files.old) (texts words.now)) (Err fault) }
     ensures refused_conf { is_replay (texts words.now) ≡ true → (Rose (F.faults files.old) (F.faults files.new) → ⊥) →
-        IfSome (named_config (F.conf_held files.old) (texts words.now)) (λ config. IfErr (settings_by config) (λ line. TellsRefused line result)) }
+        IfSome (named_config (F.conf_held files.old) (texts words.now)) (λ config. IfErr (settings_by config) (λ fault. TellsFault fault result)) }
 
     // A length is told of a configuration only where that is longer than a file may be, and else of a file in a frame.
     ensures too_long { (size : ℕ) → result ≡ Exit.TooLong size →

@@ -2,7 +2,8 @@ ghost use Rattle.std.specs.Prelude.{IfOk, IfErr, option_map};
 ghost use Rattle.nsc_run.specs.Commands.{IsSet, NotSet, config_told};
 
 use crate::exit::Exit;
-use nsc_daemonconf::{Conf, read_conf};
+use nsc_daemonconf::read_conf;
+use nsc_model::Conf;
 use nsc_outside::FileSet;
 use std::alloc::Global;
 

@@ -33,11 +33,11 @@ line_pairs user text from line r is gives =
     ∙ pair_step (has_member user) (group_of_line (part text line.span)) (filter_map group_of_line (lines_of (drop line.next text)))
     ∙ ap (λ (o : Option (List ℕ × ℕ)). cons_option o (pairs_left user (drop line.next text))) (sym gives)
 
--- behind a line that gives no group
+-- after a line that gives no group
 pub none_more : (user text : List ℕ) (from : ℕ) (line : Line) (groups all : List (List ℕ × ℕ)) → IsLine text from line → None ≡ option_map named_id (if_named (has_member user) (group_of_line (part text line.span))) → groups ++ pairs_left user (drop from text) ≡ all → groups ++ pairs_left user (drop line.next text) ≡ all
 none_more user text from line groups all is gives left = ap (λ (more : List (List ℕ × ℕ)). groups ++ more) (sym (line_pairs user text from line None is gives)) ∙ left
 
--- and behind one that gives a group
+-- and after one that gives a group
 pub one_more : (user text : List ℕ) (from : ℕ) (line : Line) (groups all : List (List ℕ × ℕ)) (pair : List ℕ × ℕ) → IsLine text from line → Some pair ≡ option_map named_id (if_named (has_member user) (group_of_line (part text line.span))) → groups ++ pairs_left user (drop from text) ≡ all → (groups ++ pair ∷ []) ++ pairs_left user (drop line.next text) ≡ all
 one_more user text from line groups all pair is gives left =
     append_assoc groups (pair ∷ []) (pairs_left user (drop line.next text))

@@ -3,7 +3,7 @@ use Rattle.std.specs.Prelude.{List}
 use Rattle.nsc_model.specs.declared.kind.Db.{Db}
 use Rattle.nsc_model.specs.declared.kind.Db.TheVariants as db
 use Rattle.nsc_model.specs.declared.switch.SwitchStep.{SwitchStep}
-use Rattle.nsc_model.specs.Files.{Files}
+use Rattle.nsc_model.specs.Content.{Content}
 use Rattle.nsc_model.specs.Switches.{service_list}
 
 pub record ServiceLists : Type 0 where
@@ -13,7 +13,7 @@ pub record ServiceLists : Type 0 where
   pub services : List SwitchStep
 
 -- those of a content
-abbrev pub lists_of : Files → ServiceLists
+abbrev pub lists_of : Content → ServiceLists
 lists_of files = record {
   passwd = service_list files db.Passwd;
   group = service_list files db.Group;

@@ -1,6 +1,6 @@
 ghost use Rattle.std.specs.Prelude.{◌≡◌, IfOk};
 ghost use Rattle.nsc_model.specs.Answers.{service_answer};
-ghost use Rattle.nsc_model.specs.Files.{Files};
+ghost use Rattle.nsc_model.specs.Content.{Content};
 
 use crate::compat::CompatServices;
 use crate::decided::Outcomes;
@@ -13,7 +13,7 @@ use std::alloc::Global;
 /// The services over one content.
 pub trait ServiceLook {
     /// The content that the services answer over.
-    ghost content: { Self → Files };
+    ghost content: { Self → Content };
 
     /// The outcome of a service for the request of this kind and key. Fails only for want of memory.
     fn look(

@@ -1,4 +1,4 @@
--- What a line has behind its name and its colon: the remark may be cut off at the end as well as first.
+-- What a line has after its name and its colon: the remark may be cut off at the end as well as first.
 use Rattle.std.proofs.Common.{◌≡◌, ◌≢◌, ℕ, ◌+◌, Bool, true, false, not, ◌||◌, if◌then◌else◌, ◌==◌, List, [], ◌∷◌, ◌++◌, length, take, drop, get_or, Option, Some, None, MatchOption, Bor, refl, sym, ◌∙◌, ap, arith}
 use Rattle.std.specs.Cmp.Lexicographic.{pointwise}
 use Rattle.std.specs.List.{list_any, prefix_len}
@@ -13,7 +13,7 @@ use Rattle.nsc_base.specs.Text.{before_remark, is_white}
 use Rattle.nsc_model.specs.Users.{◌>>=◌, trimmed}
 use Rattle.nsc_model.specs.declared.switch.DbName.{DbName}
 use Rattle.nsc_model.specs.declared.switch.DbName.TheVariants as list
-use Rattle.nsc_model.specs.Switches.{behind_colon, behind_text, name_text, own_part}
+use Rattle.nsc_model.specs.Switches.{after_colon, after_text, name_text, own_part}
 
 -- ---- remarks
 
@@ -37,7 +37,7 @@ remark-missing bytes missing =
     let place : prefix_len (λ b. not (b == 35)) bytes ≡ length bytes = prefix_len_is (λ b. not (b == 35)) bytes (length bytes) 0 (omega arith) (λ k l. kept _ (not_true _ (missing k (omega arith) l))) (λ l. absurd (omega arith)) in
     sym (ap (λ k. take k bytes) place ∙ take_all (length bytes) bytes (omega arith))
 
--- a remark begins at once, or behind a byte
+-- a remark begins at once, or after a byte
 begins : (b : ℕ) (bytes : List ℕ) → (b == 35) ≡ true → before_remark (b ∷ bytes) ≡ []
 begins b bytes is = take_while-cons (λ x. not (x == 35)) b bytes ∙ rw is refl
 
@@ -74,34 +74,34 @@ or_false false b h = (refl, h)
 abbrev HasNone : List ℕ → Type 0
 HasNone text = list_any (λ b. b == 35) text ≡ false
 
-pub behind_text-remark : (text bytes : List ℕ) → HasNone text → behind_text text (before_remark bytes) ≡ option_map before_remark (behind_text text bytes)
-behind_text-remark [] bytes none = refl
-behind_text-remark (x ∷ text) [] none = refl
-behind_text-remark (x ∷ text) (b ∷ bytes) none =
+pub after_text-remark : (text bytes : List ℕ) → HasNone text → after_text text (before_remark bytes) ≡ option_map before_remark (after_text text bytes)
+after_text-remark [] bytes none = refl
+after_text-remark (x ∷ text) [] none = refl
+after_text-remark (x ∷ text) (b ∷ bytes) none =
     let parts = or_false (x == 35) (list_any (λ c. c == 35) text) none in
-    elim (x == b) as (λ s. (x == b) ≡ s → behind_text (x ∷ text) (before_remark (b ∷ bytes)) ≡ option_map before_remark (if s then behind_text text bytes else None)) [
+    elim (x == b) as (λ s. (x == b) ≡ s → after_text (x ∷ text) (before_remark (b ∷ bytes)) ≡ option_map before_remark (if s then after_text text bytes else None)) [
       | true ↦ λ same.
           let is : x ≡ b = eqb-true x b same in
           let more : (b == 35) ≡ false = rw (← is) (parts.0) in
-          ap (behind_text (x ∷ text)) (goes_on b bytes more) ∙ rw same (behind_text-remark text bytes parts.1)
+          ap (after_text (x ∷ text)) (goes_on b bytes more) ∙ rw same (after_text-remark text bytes parts.1)
       | false ↦ λ other.
-          elim (b == 35) as (λ r. (b == 35) ≡ r → behind_text (x ∷ text) (before_remark (b ∷ bytes)) ≡ None) [
-            | true ↦ λ is. ap (behind_text (x ∷ text)) (begins b bytes is)
-            | false ↦ λ is. ap (behind_text (x ∷ text)) (goes_on b bytes is) ∙ rw other refl
+          elim (b == 35) as (λ r. (b == 35) ≡ r → after_text (x ∷ text) (before_remark (b ∷ bytes)) ≡ None) [
+            | true ↦ λ is. ap (after_text (x ∷ text)) (begins b bytes is)
+            | false ↦ λ is. ap (after_text (x ∷ text)) (goes_on b bytes is) ∙ rw other refl
           ] refl
     ] refl
 
-pub behind_colon-remark : (bytes : List ℕ) → behind_colon (before_remark bytes) ≡ option_map before_remark (behind_colon bytes)
-behind_colon-remark [] = refl
-behind_colon-remark (b ∷ bytes) =
-    elim (b == 58) as (λ s. (b == 58) ≡ s → behind_colon (before_remark (b ∷ bytes)) ≡ option_map before_remark (if s then Some bytes else None)) [
+pub after_colon-remark : (bytes : List ℕ) → after_colon (before_remark bytes) ≡ option_map before_remark (after_colon bytes)
+after_colon-remark [] = refl
+after_colon-remark (b ∷ bytes) =
+    elim (b == 58) as (λ s. (b == 58) ≡ s → after_colon (before_remark (b ∷ bytes)) ≡ option_map before_remark (if s then Some bytes else None)) [
       | true ↦ λ same.
           let more : (b == 35) ≡ false = grind (arith, nat_tests) in
-          ap behind_colon (goes_on b bytes more) ∙ rw same refl
+          ap after_colon (goes_on b bytes more) ∙ rw same refl
       | false ↦ λ other.
-          elim (b == 35) as (λ r. (b == 35) ≡ r → behind_colon (before_remark (b ∷ bytes)) ≡ None) [
-            | true ↦ λ is. ap behind_colon (begins b bytes is)
-            | false ↦ λ is. ap behind_colon (goes_on b bytes is) ∙ rw other refl
+          elim (b == 35) as (λ r. (b == 35) ≡ r → after_colon (before_remark (b ∷ bytes)) ≡ None) [
+            | true ↦ λ is. ap after_colon (begins b bytes is)
+            | false ↦ λ is. ap after_colon (goes_on b bytes is) ∙ rw other refl
           ] refl
     ] refl
 
@@ -109,42 +109,42 @@ name_has_none : (name : DbName) → HasNone (name_text name)
 name_has_none list.Passwd = refl
 name_has_none _ = refl
 
-behind_name : (o : Option (List ℕ)) → (option_map before_remark o >>= λ rest. behind_colon (trimmed rest)) ≡ option_map before_remark (o >>= λ rest. behind_colon (trimmed rest))
-behind_name None = refl
-behind_name (Some rest) = ap behind_colon (trimmed-remark rest) ∙ behind_colon-remark (trimmed rest)
+after_name : (o : Option (List ℕ)) → (option_map before_remark o >>= λ rest. after_colon (trimmed rest)) ≡ option_map before_remark (o >>= λ rest. after_colon (trimmed rest))
+after_name None = refl
+after_name (Some rest) = ap after_colon (trimmed-remark rest) ∙ after_colon-remark (trimmed rest)
 
 -- the remark is cut off at the end
-pub own_part-remark : (name : DbName) (line : List ℕ) → own_part name line ≡ option_map before_remark (behind_text (name_text name) (trimmed line) >>= λ rest. behind_colon (trimmed rest))
+pub own_part-remark : (name : DbName) (line : List ℕ) → own_part name line ≡ option_map before_remark (after_text (name_text name) (trimmed line) >>= λ rest. after_colon (trimmed rest))
 own_part-remark name line =
-    ap (λ bytes. behind_text (name_text name) bytes >>= λ rest. behind_colon (trimmed rest)) (trimmed-remark line)
-    ∙ ap (λ o. o >>= λ rest. behind_colon (trimmed rest)) (behind_text-remark (name_text name) (trimmed line) (name_has_none name))
-    ∙ behind_name (behind_text (name_text name) (trimmed line))
+    ap (λ bytes. after_text (name_text name) bytes >>= λ rest. after_colon (trimmed rest)) (trimmed-remark line)
+    ∙ ap (λ o. o >>= λ rest. after_colon (trimmed rest)) (after_text-remark (name_text name) (trimmed line) (name_has_none name))
+    ∙ after_name (after_text (name_text name) (trimmed line))
 
 -- ---- what `strip_prefix` gives
 
-behind-front : (text rest : List ℕ) → behind_text text (text ++ rest) ≡ Some rest
-behind-front [] rest = refl
-behind-front (x ∷ text) rest =
+after-front : (text rest : List ℕ) → after_text text (text ++ rest) ≡ Some rest
+after-front [] rest = refl
+after-front (x ∷ text) rest =
     let same : (x == x) ≡ true = (Decides-eqb x x).1 refl in
-    rw same (behind-front text rest)
+    rw same (after-front text rest)
 
-behind-lacks : (text bytes : List ℕ) → ((rest : List ℕ) → bytes ≢ text ++ rest) → behind_text text bytes ≡ None
-behind-lacks [] bytes lacks = absurd (lacks bytes refl)
-behind-lacks (x ∷ text) [] lacks = refl
-behind-lacks (x ∷ text) (b ∷ bytes) lacks =
-    elim (x == b) as (λ s. (x == b) ≡ s → (if s then behind_text text bytes else None) ≡ None) [
-      | true ↦ λ same. behind-lacks text bytes (λ rest is. lacks rest (ap (λ c. c ∷ bytes) (sym (eqb-true x b same)) ∙ ap (λ (ys : List ℕ). x ∷ ys) is))
+after-lacks : (text bytes : List ℕ) → ((rest : List ℕ) → bytes ≢ text ++ rest) → after_text text bytes ≡ None
+after-lacks [] bytes lacks = absurd (lacks bytes refl)
+after-lacks (x ∷ text) [] lacks = refl
+after-lacks (x ∷ text) (b ∷ bytes) lacks =
+    elim (x == b) as (λ s. (x == b) ≡ s → (if s then after_text text bytes else None) ≡ None) [
+      | true ↦ λ same. after-lacks text bytes (λ rest is. lacks rest (ap (λ c. c ∷ bytes) (sym (eqb-true x b same)) ∙ ap (λ (ys : List ℕ). x ∷ ys) is))
       | false ↦ λ other. refl
     ] refl
 
 abbrev pub Strips : List ℕ → List ℕ → Option (Bor (List ℕ)) → Type 0
 Strips bytes text r = MatchOption r (pointwise (λ a b. a == b) (take (length text) bytes) text ≡ false) (λ x. (pointwise (λ a b. a == b) (take (length text) bytes) text ≡ true) × (x.now ≡ drop (length text) bytes) × (length x.now + length text ≡ length bytes))
 
-pub stripped : (bytes text : List ℕ) (r : Option (Bor (List ℕ))) → Strips bytes text r → behind_text text bytes ≡ option_copied r
-stripped bytes text None h = behind-lacks text bytes (strip_prefix_is Decides-eqb bytes text None h)
-stripped bytes text (Some x) h = ap (behind_text text) (strip_prefix_is Decides-eqb bytes text (Some x) h) ∙ behind-front text x.now
+pub stripped : (bytes text : List ℕ) (r : Option (Bor (List ℕ))) → Strips bytes text r → after_text text bytes ≡ option_copied r
+stripped bytes text None h = after-lacks text bytes (strip_prefix_is Decides-eqb bytes text None h)
+stripped bytes text (Some x) h = ap (after_text text) (strip_prefix_is Decides-eqb bytes text (Some x) h) ∙ after-front text x.now
 
-colon : (bytes : List ℕ) → behind_text (58 ∷ []) bytes ≡ behind_colon bytes
+colon : (bytes : List ℕ) → after_text (58 ∷ []) bytes ≡ after_colon bytes
 colon [] = refl
 colon (b ∷ bytes) =
     elim (b == 58) as (λ s. (b == 58) ≡ s → (if 58 == b then Some bytes else None) ≡ (if s then Some bytes else None)) [
@@ -158,15 +158,15 @@ colon (b ∷ bytes) =
 
 -- ---- the part of a line, as it is read
 
-named : (name : DbName) (line bytes text : List ℕ) (r : Option (Bor (List ℕ))) → bytes ≡ trimmed line → text ≡ name_text name → Strips bytes text r → behind_text (name_text name) (trimmed line) ≡ option_copied r
-named name line bytes text r is word strips = sym (ap (behind_text (name_text name)) is) ∙ sym (ap (λ t. behind_text t bytes) word) ∙ stripped bytes text r strips
+named : (name : DbName) (line bytes text : List ℕ) (r : Option (Bor (List ℕ))) → bytes ≡ trimmed line → text ≡ name_text name → Strips bytes text r → after_text (name_text name) (trimmed line) ≡ option_copied r
+named name line bytes text r is word strips = sym (ap (after_text (name_text name)) is) ∙ sym (ap (λ t. after_text t bytes) word) ∙ stripped bytes text r strips
 
 pub unnamed : (name : DbName) (line bytes text : List ℕ) → bytes ≡ trimmed line → text ≡ name_text name → Strips bytes text None → own_part name line ≡ None
 unnamed name line bytes text is word strips =
-    own_part-remark name line ∙ ap (λ o. option_map before_remark (o >>= λ rest. behind_colon (trimmed rest))) (named name line bytes text None is word strips)
+    own_part-remark name line ∙ ap (λ o. option_map before_remark (o >>= λ rest. after_colon (trimmed rest))) (named name line bytes text None is word strips)
 
-pub part_is : (name : DbName) (line bytes text : List ℕ) (behind : Bor (List ℕ)) (more : List ℕ) (r : Option (Bor (List ℕ))) → bytes ≡ trimmed line → text ≡ name_text name → Strips bytes text (Some behind) → more ≡ trimmed behind.now → Strips more (58 ∷ []) r → own_part name line ≡ option_map before_remark (option_copied r)
-part_is name line bytes text behind more r is word strips goes ends =
+pub part_is : (name : DbName) (line bytes text : List ℕ) (left : Bor (List ℕ)) (more : List ℕ) (r : Option (Bor (List ℕ))) → bytes ≡ trimmed line → text ≡ name_text name → Strips bytes text (Some left) → more ≡ trimmed left.now → Strips more (58 ∷ []) r → own_part name line ≡ option_map before_remark (option_copied r)
+part_is name line bytes text left more r is word strips goes ends =
     own_part-remark name line
-    ∙ ap (λ o. option_map before_remark (o >>= λ rest. behind_colon (trimmed rest))) (named name line bytes text (Some behind) is word strips)
-    ∙ ap (option_map before_remark) (ap behind_colon (sym goes) ∙ sym (colon more) ∙ stripped more (58 ∷ []) r ends)
+    ∙ ap (λ o. option_map before_remark (o >>= λ rest. after_colon (trimmed rest))) (named name line bytes text (Some left) is word strips)
+    ∙ ap (option_map before_remark) (ap after_colon (sym goes) ∙ sym (colon more) ∙ stripped more (58 ∷ []) r ends)

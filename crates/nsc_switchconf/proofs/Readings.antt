@@ -34,7 +34,7 @@ moving answer front place token step left rest moves does falls is =
     is ∙ ap (λ tokens. ahead front (list_from place step tokens)) falls
     ∙ ap (ahead front) (read-token place step token (tokens_of rest) ∙ does step (λ next now. list_from next now (tokens_of rest)))
 
--- a list ends behind an item alone
+-- a list ends after an item alone
 pub ends-between : (place : Place) (step : SwitchStep) → (place ≡ places.Between → ⊥) → at_end (place_of place) step ≡ None
 ends-between places.First step not = refl
 ends-between places.Between step not = absurd (not refl)

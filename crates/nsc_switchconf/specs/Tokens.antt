@@ -15,4 +15,4 @@ token_of Gap = switches.Gap
 
 -- the bytes of words
 abbrev pub in_word : ℕ → Bool
-in_word b = is_none (switches.mark_of b)
+in_word b = is_none (switches.sign_of b)

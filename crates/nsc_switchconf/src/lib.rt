@@ -9,4 +9,4 @@ mod rule;
 mod token;
 
 pub use list::service_list;
-pub use nsc_model::{DbName, SwitchAction as Action, SwitchService as Service, SwitchStep as Step};
+

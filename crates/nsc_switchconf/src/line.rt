@@ -8,7 +8,7 @@ use memchr::memchr;
 use nsc_base::line_at;
 use nsc_model::DbName;
 
-/// What the first line of this list has behind its colon, up to a remark. `None` where the text has no such line.
+/// What the first line of this list has after its colon, up to a remark. `None` where the text has no such line.
 pub fn first_part(text: &[u8], name: DbName) -> Option<&[u8]>
     ensures { option_copied result ≡ first_line name text.now }
 {
@@ -22,18 +22,18 @@ pub fn first_part(text: &[u8], name: DbName) -> Option<&[u8]>
     None
 }
 
-// What a line of this list has behind its colon, up to a remark. White space around the name is passed over. `None` where
+// What a line of this list has after its colon, up to a remark. White space around the name is passed over. `None` where
 // the line is not one of this list.
 fn list_part(line: &[u8], name: DbName) -> Option<&[u8]>
     ensures { option_copied result ≡ own_part name line.now }
 {
-    let behind_name = behind_white(line).strip_prefix(name_bytes(name))?;
-    let behind_colon = behind_white(behind_name).strip_prefix(b":")?;
-    Some(up_to_remark(behind_colon))
+    let after_name = after_white(line).strip_prefix(name_bytes(name))?;
+    let after_colon = after_white(after_name).strip_prefix(b":")?;
+    Some(up_to_remark(after_colon))
 }
 
-// The bytes behind the blanks and tabs at the front.
-fn behind_white(bytes: &[u8]) -> &[u8]
+// The bytes after the blanks and tabs at the front.
+fn after_white(bytes: &[u8]) -> &[u8]
     ensures { result.now ≡ trimmed bytes.now }
 {
     let mut rest = bytes;

@@ -14,29 +14,29 @@ use nsc_model::SwitchService;
 pub enum Place {
     /// Before the first service.
     First,
-    /// Behind a service, or behind its rules.
+    /// After a service, or after its rules.
     Between,
     /// In brackets, before the first rule.
     Begin,
-    /// Behind a `!`.
+    /// After a `!`.
     Negated,
-    /// Behind a status.
+    /// After a status.
     Named {
         /// Whether a `!` stands before it.
         negated: bool,
         /// The status.
         status: Status,
     },
-    /// Behind the `=` of a status.
+    /// After the `=` of a status.
     Equated {
         /// Whether a `!` stands before it.
         negated: bool,
         /// The status.
         status: Status,
     },
-    /// Behind a rule.
+    /// After a rule.
     Ruled,
-    /// Behind a rule and white space.
+    /// After a rule and white space.
     Next,
 }
 
@@ -80,7 +80,7 @@ fn first(token: Token<'_>) -> Option<Move>
     }
 }
 
-// Behind an item: a service, or rules on the one before.
+// After an item: a service, or rules on the one before.
 fn between(token: Token<'_>) -> Option<Move>
     ensures { (step : SwitchStep) (rest : Rest) → at_between (token_of token.entry) step rest ≡ moved step rest result }
 {
@@ -107,7 +107,7 @@ fn begin(token: Token<'_>) -> Option<Move>
     }
 }
 
-// Behind a `!`, where no white space may stand.
+// After a `!`, where no white space may stand.
 fn negated(token: Token<'_>) -> Option<Move>
     ensures { (step : SwitchStep) (rest : Rest) → at_negated (token_of token.entry) step rest ≡ moved step rest result }
 {
@@ -120,7 +120,7 @@ fn negated(token: Token<'_>) -> Option<Move>
     }
 }
 
-// Behind a status.
+// After a status.
 fn named(negated: bool, status: Status, token: Token<'_>) -> Option<Move>
     ensures { (step : SwitchStep) (rest : Rest) → at_named negated (status_of status) (token_of token.entry) step rest ≡ moved step rest result }
 {
@@ -131,7 +131,7 @@ fn named(negated: bool, status: Status, token: Token<'_>) -> Option<Move>
     }
 }
 
-// Behind the `=` of a status.
+// After the `=` of a status.
 fn equated(negated: bool, status: Status, token: Token<'_>) -> Option<Move>
     ensures { (step : SwitchStep) (rest : Rest) → at_equated negated (status_of status) (token_of token.entry) step rest ≡ moved step rest result }
 {
@@ -146,7 +146,7 @@ fn equated(negated: bool, status: Status, token: Token<'_>) -> Option<Move>
     }
 }
 
-// Behind a rule.
+// After a rule.
 fn ruled(token: Token<'_>) -> Option<Move>
     ensures { (step : SwitchStep) (rest : Rest) → at_ruled (token_of token.entry) step rest ≡ moved step rest result }
 {
@@ -157,7 +157,7 @@ fn ruled(token: Token<'_>) -> Option<Move>
     }
 }
 
-// Behind a rule and white space.
+// After a rule and white space.
 fn next(token: Token<'_>) -> Option<Move>
     ensures { (step : SwitchStep) (rest : Rest) → at_next (token_of token.entry) step rest ≡ moved step rest result }
 {

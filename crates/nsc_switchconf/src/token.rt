@@ -1,7 +1,7 @@
 ghost use Rattle.std.specs.Prelude.{◌≡◌, ◌<◌, ◌≤◌, ◌∷◌, [], length, MatchOption, IfSome};
 ghost use Rattle.std.specs.List.{prefix_len};
 ghost use Rattle.std.specs.Option.{option_map};
-ghost use Rattle.nsc_model.specs.Switches.{mark_of, tokens_of};
+ghost use Rattle.nsc_model.specs.Switches.{sign_of, tokens_of};
 ghost use Rattle.nsc_switchconf.specs.Tokens.{in_word, token_of};
 
 /// A token of a service list.
@@ -21,24 +21,24 @@ pub enum Token<'a> {
     Gap,
 }
 
-/// The first token of a text, and the text behind it. `None` where the text is empty.
+/// The first token of a text, and the text after it. `None` where the text is empty.
 pub fn next_token(text: &[u8]) -> Option<(Token<'_>, &[u8])>
     ensures token { MatchOption result (tokens_of text.now ≡ []) (λ t. tokens_of text.now ≡ token_of t.0 ∷ tokens_of t.1.now) }
     ensures onward { IfSome result (λ t. length t.1.now < length text.now) }
 {
     let (first, rest) = text.split_first()?;
-    match mark(*first) {
+    match sign(*first) {
         Some(token) => Some((token, rest)),
         None => {
-            let (word, behind) = text.split_at(word_length(text));
-            Some((Token::Word(word), behind))
+            let (word, rest) = text.split_at(word_length(text));
+            Some((Token::Word(word), rest))
         }
     }
 }
 
 // The token that a byte is by itself. `None` for a byte of a word.
-fn mark(byte: u8) -> Option<Token<'static>>
-    ensures { option_map token_of result ≡ mark_of byte }
+fn sign(byte: u8) -> Option<Token<'static>>
+    ensures { option_map token_of result ≡ sign_of byte }
 {
     match byte {
         b' ' | b'\t' => Some(Token::Gap),
@@ -56,7 +56,7 @@ fn word_length(bytes: &[u8]) -> usize
     ensures within { result ≤ length bytes.now }
 {
     for (i, byte) in bytes.iter().enumerate() {
-        if mark(*byte).is_some() {
+        if sign(*byte).is_some() {
             return i;
         }
     }

@@ -1,7 +1,6 @@
 use super::answers::{NO_USER, ROOT, users};
 use nsc_answer::Plain;
-use nsc_daemonconf::Conf;
-use nsc_model::{Content, Kind};
+use nsc_model::{Conf, Content, Kind};
 use nsc_plain::{PlainCache, Prepared};
 use std::sync::Arc;
 use std::test::Fail;

@@ -7,10 +7,12 @@ use nsc_accounts::{
 use nsc_base::{Bytes, NoMemory};
 use nsc_compat::{NamedId, SubLookup, compat_lookup};
 use nsc_files::{extra_lookup, files_lookup};
-use nsc_model::{Content, FileId, Kind, Looked, Row};
+use nsc_model::{
+    Content, FileId, Kind, Looked, Row, SwitchAction, SwitchService, SwitchStep,
+};
 use nsc_nets::ai_of;
 use nsc_switch::{Lists, PlainServices, switch, switch_by, switch_over};
-use nsc_switchconf::{Action, Service, Step};
+
 use std::alloc::Global;
 use std::test::Fail;
 
@@ -162,7 +164,7 @@ fn by_switch(alloc: Global, content: &Content, name: &[u8]) -> Result<Outcome, N
 fn by_steps(
     alloc: Global,
     content: &Content,
-    steps: &[Step],
+    steps: &[SwitchStep],
     name: &[u8],
 ) -> Result<Outcome, NoMemory> {
     let services = PlainServices { content };
@@ -171,13 +173,13 @@ fn by_steps(
 }
 
 // A step of this service that goes on at every status.
-const fn passed(service: Service) -> Step {
-    Step {
+const fn passed(service: SwitchService) -> SwitchStep {
+    SwitchStep {
         service,
-        success: Action::Continue,
-        notfound: Action::Continue,
-        unavail: Action::Continue,
-        tryagain: Action::Continue,
+        success: SwitchAction::Continue,
+        notfound: SwitchAction::Continue,
+        unavail: SwitchAction::Continue,
+        tryagain: SwitchAction::Continue,
     }
 }
 
@@ -187,7 +189,7 @@ fn switches(rt: HostRuntime) -> Result<(), Fail> {
     let content = content(rt.alloc())?;
     let ann = by_switch(rt.alloc(), &content, b"ann")?;
     assert_eq!(rt; ann, Outcome::User(1));
-    let steps = [passed(Service::Files), passed(Service::Extrausers)];
+    let steps = [passed(SwitchService::Files), passed(SwitchService::Extrausers)];
     let eve = by_steps(rt.alloc(), &content, &steps, b"eve")?;
     assert_eq!(rt; eve, Outcome::User(3));
     Ok(())

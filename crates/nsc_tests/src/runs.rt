@@ -1,13 +1,14 @@
 ghost use Rattle.std.specs.Prelude.{◌<◌};
 
 use nsc_base::Bytes;
-use nsc_daemonconf::{Conf, ConfFault};
+use nsc_daemonconf::ConfFault;
+use nsc_model::Conf;
 use nsc_outside::{MemFiles, MemSink, MemSource};
 use nsc_run::{Exit, replay, run};
 use std::alloc::Global;
 use std::test::Fail;
 
-// A user, a look-up of her and one of nobody, and the end; and the two replies.
+// A user, a lookup of her and one of nobody, and the end; and the two replies.
 const FRAMES: &[u8] =
     b"F\x01\x01\x0c\0\0\0ann:x:1:2:::Q\x10\0\0\0\x02\0\0\0\0\0\0\0\x04\0\0\0ann\0Q\x0e\0\0\0\x02\0\0\0\0\0\0\0\x02\0\0\0x\0E";
 

@@ -1,6 +1,6 @@
-use nsc_daemonconf::{Conf, ConfFault, read_conf};
-use nsc_model::Db;
-use nsc_switchconf::{Action, DbName, Service, Step, service_list};
+use nsc_daemonconf::{ConfFault, read_conf};
+use nsc_model::{Conf, Db, DbName, SwitchAction, SwitchService, SwitchStep};
+use nsc_switchconf::service_list;
 use std::test::Fail;
 
 // The lines that distributions ship for one database, with settings that no replay shows.
@@ -71,10 +71,10 @@ fn faults_of_lines(rt: HostRuntime) -> Result<(), Fail> {
     Ok(())
 }
 
-const fn step(service: Service, notfound: Action, unavail: Action, tryagain: Action) -> Step {
-    Step {
+const fn step(service: SwitchService, notfound: SwitchAction, unavail: SwitchAction, tryagain: SwitchAction) -> SwitchStep {
+    SwitchStep {
         service,
-        success: Action::Return,
+        success: SwitchAction::Return,
         notfound,
         unavail,
         tryagain,
@@ -87,25 +87,25 @@ fn rules_in_their_order(rt: HostRuntime) -> Result<(), Fail> {
     let text = b"passwd: files [!SUCCESS=return TRYAGAIN=continue] extrausers";
     let list = service_list(rt.alloc(), text, DbName::Passwd)?;
     let files = step(
-        Service::Files,
-        Action::Return,
-        Action::Return,
-        Action::Continue,
+        SwitchService::Files,
+        SwitchAction::Return,
+        SwitchAction::Return,
+        SwitchAction::Continue,
     );
     let extra = step(
-        Service::Extrausers,
-        Action::Continue,
-        Action::Continue,
-        Action::Continue,
+        SwitchService::Extrausers,
+        SwitchAction::Continue,
+        SwitchAction::Continue,
+        SwitchAction::Continue,
     );
     assert_eq!(rt; list.as_slice(), [files, extra].as_slice());
     let text = b"passwd: files [TRYAGAIN=continue !SUCCESS=return] extrausers";
     let list = service_list(rt.alloc(), text, DbName::Passwd)?;
     let files = step(
-        Service::Files,
-        Action::Return,
-        Action::Return,
-        Action::Return,
+        SwitchService::Files,
+        SwitchAction::Return,
+        SwitchAction::Return,
+        SwitchAction::Return,
     );
     assert_eq!(rt; list.as_slice(), [files, extra].as_slice());
     Ok(())

@@ -2,7 +2,7 @@
 use Rattle.std.proofs.Common.{◌≡◌, ℕ, ◌+◌, ◌*◌, ◌<◌, ◌≤◌, zero, suc, List, [], ◌∷◌, length, get_or, take, sym, subst, arith, length-append}
 use Rattle.std.specs.List.{flat_map}
 use Rattle.nsc_model.specs.declared.row.Found6.{Found6}
-use Rattle.nsc_model.specs.Marked.{reply_limit}
+use Rattle.nsc_model.specs.Answer.{reply_limit}
 use Rattle.nsc_model.specs.Wire.{field, text, text_len}
 
 -- the parts before a place and the part at it are no more than all

@@ -1,4 +1,4 @@
--- Several fields of a reply, one behind the other.
+-- Several fields of a reply, one after the other.
 use Rattle.std.specs.Prelude.{ℕ, List}
 use Rattle.std.specs.List.{flat_map}
 use Rattle.nsc_model.specs.Wire.{field}

@@ -3,7 +3,7 @@ use Rattle.std.specs.Prelude.{◌≡◌, ℕ, ◌≤◌, List, length}
 use Rattle.nsc_base.specs.declared.span.Span.{Span}
 use Rattle.nsc_base.specs.Text.{part}
 use Rattle.nsc_model.specs.Wire.{Asked, Look, Shutdown, Stat, Invalidate, Descriptor, Netgroup, Short, BadVersion, BadType, BadLength}
-use Rattle.nsc_model.specs.Fixed.{key_limit}
+use Rattle.nsc_model.specs.Entry.{key_limit}
 use Rattle.nsc_wire.specs.declared.request.Wire.{Wire}
 use Rattle.nsc_wire.specs.declared.request.Wire.TheVariants as wire
 
@@ -20,7 +20,7 @@ asked_by bytes (wire.BadVersion version) = BadVersion version
 asked_by bytes (wire.BadType type) = BadType type
 asked_by bytes (wire.BadLength length) = BadLength length
 
--- a key begins behind the three fields of a request, and ends within the bytes
+-- a key begins after the three fields of a request, and ends within the bytes
 pub record IsKeyIn (bytes : List ℕ) (key : Span) : Type 0 where
   pub begins : key.from ≡ 12
   pub ordered : 12 ≤ key.to
@@ -39,7 +39,7 @@ KeyIsIn bytes (wire.BadVersion version) = Unit {0}
 KeyIsIn bytes (wire.BadType type) = Unit {0}
 KeyIsIn bytes (wire.BadLength length) = Unit {0}
 
--- the key of a look-up is no longer than a key may be
+-- the key of a lookup is no longer than a key may be
 abbrev pub KeyFits : List ℕ → Wire → Type 0
 KeyFits bytes (wire.Request kind key) = length (part bytes key) ≤ key_limit
 KeyFits bytes wire.Descriptor = Unit {0}

@@ -1,7 +1,7 @@
-//! The replies to look-ups of all addresses of a host.
+//! The replies to lookups of all addresses of a host.
 
 ghost use Rattle.std.specs.Prelude.{◌≡◌, ◌≤◌, ◌++◌, length, map, flat_map, IfOk, OnOk};
-ghost use Rattle.nsc_model.specs.Marked.{reply_limit};
+ghost use Rattle.nsc_model.specs.Answer.{reply_limit};
 ghost use Rattle.nsc_model.specs.Wire.{addresses_found};
 
 use crate::reply::{VERSION, put_fields, put_text, text_len};
@@ -42,7 +42,7 @@ fn addresses_size(list: &[Found6]) -> usize
     size
 }
 
-// Puts addresses behind the bytes that are there.
+// Puts addresses after the bytes that are there.
 fn put_addresses(out: &mut Vec<u8>, list: &[Found6]) -> Result<(), NoMemory>
     ensures { OnOk result (out.new.items ≡ out.old.items ++ flat_map (λ f. f.address) list.now) }
 {
@@ -52,7 +52,7 @@ fn put_addresses(out: &mut Vec<u8>, list: &[Found6]) -> Result<(), NoMemory>
     Ok(())
 }
 
-// Puts the family of each address behind the bytes that are there, a byte each.
+// Puts the family of each address after the bytes that are there, a byte each.
 fn put_families(out: &mut Vec<u8>, list: &[Found6]) -> Result<(), NoMemory>
     ensures { OnOk result (out.new.items ≡ out.old.items ++ map (λ f. f.family) list.now) }
 {

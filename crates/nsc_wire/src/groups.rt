@@ -1,7 +1,7 @@
-//! The replies to look-ups of a group, and of the groups of a user.
+//! The replies to lookups of a group, and of the groups of a user.
 
 ghost use Rattle.std.specs.Prelude.{◌≡◌, ◌≤◌, length, IfOk};
-ghost use Rattle.nsc_model.specs.Marked.{reply_limit};
+ghost use Rattle.nsc_model.specs.Answer.{reply_limit};
 ghost use Rattle.nsc_model.specs.Wire.{group_found, ids_found};
 
 use crate::reply::{FIELD, VERSION, put_fields, put_text, text_len};

@@ -1,7 +1,7 @@
-//! The replies to look-ups of a host by name or by address.
+//! The replies to lookups of a host by name or by address.
 
 ghost use Rattle.std.specs.Prelude.{◌≡◌, ◌≤◌, length, IfOk};
-ghost use Rattle.nsc_model.specs.Marked.{reply_limit};
+ghost use Rattle.nsc_model.specs.Answer.{reply_limit};
 ghost use Rattle.nsc_model.specs.Wire.{host_found};
 
 use crate::reply::{VERSION, put_fields, put_text, text_len};

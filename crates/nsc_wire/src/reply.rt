@@ -1,5 +1,5 @@
 ghost use Rattle.std.specs.Prelude.{◌≡◌, ◌+◌, ◌<◌, ◌≤◌, ◌++◌, length, IfOk, OnOk};
-ghost use Rattle.nsc_model.specs.Marked.{reply_limit};
+ghost use Rattle.nsc_model.specs.Answer.{reply_limit};
 ghost use Rattle.nsc_model.specs.Wire.{IsReplyOf, Spells, field, lacking, row_found, shape_of, spelled, text};
 ghost use Rattle.nsc_wire.specs.Fields.{fields};
 
@@ -95,7 +95,7 @@ pub(crate) fn text_len(text: &Bytes) -> u32
     (text.len() + 1) as u32
 }
 
-// Puts fields behind the bytes that are there.
+// Puts fields after the bytes that are there.
 pub(crate) fn put_fields(out: &mut Vec<u8>, numbers: &[u32]) -> Result<(), NoMemory>
     ensures { OnOk result (out.new.items ≡ out.old.items ++ fields numbers.now) }
 {
@@ -105,7 +105,7 @@ pub(crate) fn put_fields(out: &mut Vec<u8>, numbers: &[u32]) -> Result<(), NoMem
     Ok(())
 }
 
-// Puts a field of four bytes behind the bytes that are there.
+// Puts a field of four bytes after the bytes that are there.
 pub(crate) fn put_field(out: &mut Vec<u8>, number: u32) -> Result<(), NoMemory>
     ensures { OnOk result (out.new.items ≡ out.old.items ++ field number) }
 {
@@ -114,7 +114,7 @@ pub(crate) fn put_field(out: &mut Vec<u8>, number: u32) -> Result<(), NoMemory>
     Ok(out.extend_from_slice(&bytes)?)
 }
 
-// Puts a text and its zero byte behind the bytes that are there.
+// Puts a text and its zero byte after the bytes that are there.
 pub(crate) fn put_text(out: &mut Vec<u8>, bytes: &[u8]) -> Result<(), NoMemory>
     ensures { OnOk result (out.new.items ≡ out.old.items ++ text bytes.now) }
 {

@@ -1,6 +1,6 @@
 ghost use Rattle.std.specs.Prelude.{◌≡◌, ◌+◌, ◌≤◌, length};
 ghost use Rattle.nsc_base.specs.Text.{part};
-ghost use Rattle.nsc_model.specs.Fixed.{key_limit};
+ghost use Rattle.nsc_model.specs.Entry.{key_limit};
 ghost use Rattle.nsc_model.specs.Kinds.{kind_numbered};
 ghost use Rattle.nsc_model.specs.Wire.{asked_look, asked_otherwise, request_of, stored_key, text_key};
 ghost use Rattle.nsc_wire.specs.Request.{IsKeyIn, KeyFits, KeyIsIn, asked_by};
@@ -13,7 +13,7 @@ use nsc_model::Kind;
 /// What the input of a connection asks. Spans are places in the input, in bytes.
 #[derive(Clone, Copy, Debug, PartialEq, Eq)]
 pub enum Wire {
-    /// A look-up.
+    /// A lookup.
     Request {
         /// What is asked.
         kind: Kind,
@@ -22,7 +22,7 @@ pub enum Wire {
     },
     /// The descriptor of a database's memory: GETFDPW, GETFDGR, GETFDHST, GETFDSERV and GETFDNETGR.
     Descriptor,
-    /// A look-up in the netgroups, which are not cached: GETNETGRENT and INNETGR.
+    /// A lookup in the netgroups, which are not cached: GETNETGRENT and INNETGR.
     Netgroup,
     /// SHUTDOWN: the daemon is to end.
     Shutdown,
@@ -53,7 +53,7 @@ const LAST_TYPE: u32 = 21;
 
 const KEY_LIMIT: u32 = 1024;
 
-/// Reads a request: its version, its type and the length of its key, and then the key. What stands behind the key is
+/// Reads a request: its version, its type and the length of its key, and then the key. What stands after the key is
 /// not looked at. Of several faults the first is told, in the order of the fields: fewer than 12 bytes, the version,
 /// the type, the length, and last a key that passes the end of the bytes.
 pub fn read_request(bytes: &[u8]) -> Wire
@@ -106,7 +106,7 @@ fn asked(bytes: &[u8], number: u32, key: Span) -> Wire
     }
 }
 
-// The part of a look-up's key that is stored.
+// The part of a lookup's key that is stored.
 fn stored(bytes: &[u8], kind: Kind, key: Span) -> Span
     requires key { IsKeyIn bytes.now key }
     ensures key { IsKeyIn bytes.now result }
@@ -144,7 +144,7 @@ fn text(bytes: &[u8], key: Span) -> Span
     }
 }
 
-// Request types that are no look-ups.
+// Request types that are no lookups.
 const SHUTDOWN: u32 = 8;
 
 const STAT: u32 = 9;
@@ -155,7 +155,7 @@ const NETGROUP_ENTRIES: u32 = 19;
 
 const IN_NETGROUP: u32 = 20;
 
-// What a type that is no look-up asks.
+// What a type that is no lookup asks.
 fn other(bytes: &[u8], number: u32, key: Span) -> Wire
     requires key { IsKeyIn bytes.now key }
     requires limit { length (part bytes.now key) ≤ key_limit }

@@ -1,7 +1,7 @@
-//! The replies to look-ups of a service by name or by port.
+//! The replies to lookups of a service by name or by port.
 
 ghost use Rattle.std.specs.Prelude.{◌≡◌, ◌≤◌, length, IfOk};
-ghost use Rattle.nsc_model.specs.Marked.{reply_limit};
+ghost use Rattle.nsc_model.specs.Answer.{reply_limit};
 ghost use Rattle.nsc_model.specs.ServiceLines.{exchanged};
 ghost use Rattle.nsc_model.specs.Wire.{service_found};
 

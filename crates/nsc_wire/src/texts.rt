@@ -1,7 +1,7 @@
 //! Lists of texts in a reply: a field for the length of each, and the texts.
 
 ghost use Rattle.std.specs.Prelude.{◌≡◌, ◌+◌, ◌≤◌, ◌++◌, length, flat_map, OnOk};
-ghost use Rattle.nsc_model.specs.Marked.{reply_limit};
+ghost use Rattle.nsc_model.specs.Answer.{reply_limit};
 ghost use Rattle.nsc_model.specs.Wire.{text, text_len};
 
 use crate::reply::{FIELD, put_field, put_text, text_len};
@@ -27,7 +27,7 @@ pub(crate) fn texts_count(texts: &[Bytes]) -> u32
     texts.len() as u32
 }
 
-// Puts the length of each text behind the bytes that are there.
+// Puts the length of each text after the bytes that are there.
 pub(crate) fn put_lengths(out: &mut Vec<u8>, texts: &[Bytes]) -> Result<(), NoMemory>
     requires { length (flat_map text texts.now) ≤ reply_limit }
     ensures { OnOk result (out.new.items ≡ out.old.items ++ flat_map text_len texts.now) }
@@ -38,7 +38,7 @@ pub(crate) fn put_lengths(out: &mut Vec<u8>, texts: &[Bytes]) -> Result<(), NoMe
     Ok(())
 }
 
-// Puts texts behind the bytes that are there, each with its zero byte.
+// Puts texts after the bytes that are there, each with its zero byte.
 pub(crate) fn put_texts(out: &mut Vec<u8>, texts: &[Bytes]) -> Result<(), NoMemory>
     ensures { OnOk result (out.new.items ≡ out.old.items ++ flat_map text texts.now) }
 {

@@ -1,5 +1,5 @@
 ghost use Rattle.std.specs.Prelude.{◌≡◌, ◌≤◌, length, IfOk};
-ghost use Rattle.nsc_model.specs.Marked.{reply_limit};
+ghost use Rattle.nsc_model.specs.Answer.{reply_limit};
 ghost use Rattle.nsc_model.specs.Wire.{passwd_found};
 
 use crate::reply::{VERSION, put_fields, put_text, text_len};

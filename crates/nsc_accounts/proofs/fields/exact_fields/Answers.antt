@@ -8,9 +8,9 @@ loop-span-preserved g c =
     let size : c.loop-span.span-index < length c.loop-span.span-items = omega (arith, c.loop-span-test.true, c.loop-span.invariant.size) in
     record {
       size = length-set c.loop-span.span-items c.loop-span.span-index c.in_ok-field.field.span ∙ c.loop-span.invariant.size;
-      behind = omega (arith, c.in_ok-field.ensures.field.begins, c.in_ok-field.ensures.field.ordered, c.in_ok-field.ensures.field.next_is);
+      no_earlier = omega (arith, c.in_ok-field.ensures.field.begins, c.in_ok-field.ensures.field.ordered, c.in_ok-field.ensures.field.next_is);
       cut = cut_more c.args.text.now c.args.within c.loop-span.from c.loop-span.span-items c.loop-span.span-index c.in_ok-field.field (fields_of 58 (part c.args.text.now c.args.within)) size c.loop-span.invariant.cut c.in_ok-field.ensures.field;
-      lie = lie_more c.args.text.now c.args.within c.loop-span.from c.loop-span.span-items c.loop-span.span-index c.in_ok-field.field size c.loop-span.invariant.behind c.loop-span.invariant.lie c.in_ok-field.ensures.field;
+      lie = lie_more c.args.text.now c.args.within c.loop-span.from c.loop-span.span-items c.loop-span.span-index c.in_ok-field.field size c.loop-span.invariant.no_earlier c.loop-span.invariant.lie c.in_ok-field.ensures.field;
     }
 
 pub returns-then-from-within-clause-fields : goal.returns-then-from-within-clause-fields

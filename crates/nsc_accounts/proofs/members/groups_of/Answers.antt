@@ -1,6 +1,6 @@
 use Rattle.std.proofs.Common.{refl, ap, ◌∙◌, arith}
 use Rattle.nsc_accounts.specs.Once.{all_ids}
-use Rattle.nsc_accounts.proofs.Collected.{ids_behind, ids_end, ids_more, ids_start, member_ids}
+use Rattle.nsc_accounts.proofs.Collected.{ids_after, ids_end, ids_more, ids_start, member_ids}
 use Rattle.nsc_accounts.proofs.members.groups_of.Goals as goal
 
 pub loop-line-init : goal.loop-line-init
@@ -12,7 +12,7 @@ loop-line-init c = record {
 pub loop-line-preserved : goal.loop-line-preserved
 loop-line-preserved c = record {
   inside = c.in-Some.ensures.line.next_ends;
-  left = ids_behind c.args.user.now c.args.text.now c.loop-line.from c.in-Some.line c.loop-line.ids _ c.in-Some.ensures.line c.in_default-gid_of_member.ensures c.loop-line.invariant.left;
+  left = ids_after c.args.user.now c.args.text.now c.loop-line.from c.in-Some.line c.loop-line.ids _ c.in-Some.ensures.line c.in_default-gid_of_member.ensures c.loop-line.invariant.left;
 }
 
 pub returns : goal.returns

@@ -2,7 +2,7 @@ use Rattle.std.proofs.Common.{◌∙◌, [], ap, arith}
 use Rattle.nsc_base.specs.Text.{lines_of}
 use Rattle.nsc_model.specs.Answers.{id_scan}
 use Rattle.nsc_model.specs.Compat.{gathered}
-use Rattle.nsc_compat.proofs.Ids.{all_left, behind_ids, line_gathered, netgroup_reached}
+use Rattle.nsc_compat.proofs.Ids.{all_left, after_ids, line_gathered, netgroup_reached}
 use Rattle.nsc_compat.proofs.member_ids.gather.Goals as goal
 
 pub loop-line-init : goal.loop-line-init
@@ -11,7 +11,7 @@ loop-line-init g c =
     let lines = lines_of c.args.text.now in
     record {
       inside = omega arith;
-      left = ap (λ ids. behind_ids scan ids lines c.new-excluded.result) c.new-ids.ensures ∙ ap (λ names. behind_ids scan [] lines names) c.new-excluded.ensures ∙ all_left (gathered scan lines []);
+      left = ap (λ ids. after_ids scan ids lines c.new-excluded.result) c.new-ids.ensures ∙ ap (λ names. after_ids scan [] lines names) c.new-excluded.ensures ∙ all_left (gathered scan lines []);
     }
 
 pub returns-then-not-branch : goal.returns-then-not-branch

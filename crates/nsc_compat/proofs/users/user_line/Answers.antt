@@ -3,12 +3,12 @@ use Rattle.nsc_base.specs.Text.{fields_of, part}
 use Rattle.nsc_model.specs.Answers.{sub_looked, user_in}
 use Rattle.nsc_model.specs.Compat.{answers_or, replaced_user, scanned}
 use Rattle.nsc_compat.specs.Wanted.{users_asked}
-use Rattle.nsc_compat.proofs.Scans.{asked_line, behind_excluded, ok_weaker}
+use Rattle.nsc_compat.proofs.Scans.{asked_line, after_excluded, ok_weaker}
 use Rattle.nsc_compat.proofs.users.user_line.Goals as goal
 
 pub returns-in_ok-add-in-Excludes : goal.returns-in_ok-add-in-Excludes
 returns-in_ok-add-in-Excludes g c =
-    behind_excluded (users_asked c.args.asking.now) (part c.args.text.now c.args.line) (part c.args.text.now c.in-Excludes.name) c.args.excluded.now c.add.new.self c.in-Excludes.ensures.users c.in_ok-add-in-Excludes.ensures
+    after_excluded (users_asked c.args.asking.now) (part c.args.text.now c.args.line) (part c.args.text.now c.in-Excludes.name) c.args.excluded.now c.add.new.self c.in-Excludes.ensures.users c.in_ok-add-in-Excludes.ensures
 
 pub returns-in_ok-found-in-AsksAll : goal.returns-in_ok-found-in-AsksAll
 returns-in_ok-found-in-AsksAll g c =

@@ -1,7 +1,7 @@
 use Rattle.std.proofs.Common.{◌≡◌, ◌+◌, ◌-◌, ◌≤◌, length, drop}
 use Rattle.nsc_base.specs.Text.{lines_of}
 use Rattle.nsc_daemonconf.specs.Lines.{conf_from, conf_of}
-use Rattle.nsc_daemonconf.specs.Sizes.{SizesFit}
+use Rattle.nsc_model.specs.Sizes.{SizesFit}
 use Rattle.nsc_daemonconf.proofs.lines.read_conf.Given as goal
 
 abbrev pub invariant-loop-line : goal.invariant-loop-line

@@ -2,7 +2,7 @@ use Rattle.std.proofs.Common.{Some, ◌∙◌, ap}
 use Rattle.nsc_model.specs.declared.row.Ai.{Ai}
 use Rattle.nsc_model.specs.Hosts.{host_has_name, host_of_line}
 use Rattle.nsc_nets.proofs.Families.{addresses_are}
-use Rattle.nsc_nets.proofs.Remaining.{named_behind}
+use Rattle.nsc_nets.proofs.Remaining.{named_after}
 use Rattle.nsc_nets.proofs.addresses.ai_of.Goals as goal
 
 pub returns-in-Some-called_host : goal.returns-in-Some-called_host
@@ -13,5 +13,5 @@ returns-in-Some-called_host c =
 pub loop-line-preserved : goal.loop-line-preserved
 loop-line-preserved c = record {
   inside = c.in-Some.ensures.line.next_ends;
-  left = named_behind host_of_line (host_has_name c.args.name.now) c.args.text.now c.loop-line.from c.in-Some.line c.in-Some.ensures.line c.in_default-called_host.ensures.entry ∙ c.loop-line.invariant.left;
+  left = named_after host_of_line (host_has_name c.args.name.now) c.args.text.now c.loop-line.from c.in-Some.line c.in-Some.ensures.line c.in_default-called_host.ensures.entry ∙ c.loop-line.invariant.left;
 }

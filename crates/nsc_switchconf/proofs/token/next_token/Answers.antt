@@ -1,7 +1,7 @@
 use Rattle.std.proofs.Common.{◌≡◌, [], ◌∷◌, drop, sym, ap, ◌∙◌}
 use Rattle.std.proofs.lemmas.List.{nil_from_length}
 use Rattle.nsc_model.specs.Switches.{Word, tokens_of}
-use Rattle.nsc_switchconf.proofs.Words.{tokens-mark, tokens-none, tokens-word}
+use Rattle.nsc_switchconf.proofs.Words.{tokens-sign, tokens-none, tokens-word}
 use Rattle.nsc_switchconf.proofs.token.next_token.Goals as goal
 
 pub returns-in_err-first-clause-token : goal.returns-in_err-first-clause-token
@@ -11,7 +11,7 @@ returns-in_err-first-clause-token c =
 
 pub returns-in-Some-clause-token : goal.returns-in-Some-clause-token
 returns-in-Some-clause-token c =
-    ap tokens_of c.in_ok-first.ensures.cases.0 ∙ tokens-mark c.in_ok-first.first.now c.in_ok-first.rest.now _ c.in-Some.ensures
+    ap tokens_of c.in_ok-first.ensures.cases.0 ∙ tokens-sign c.in_ok-first.first.now c.in_ok-first.rest.now _ c.in-Some.ensures
 
 pub returns-in-None-clause-token : goal.returns-in-None-clause-token
 returns-in-None-clause-token c =

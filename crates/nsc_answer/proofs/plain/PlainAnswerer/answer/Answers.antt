@@ -2,18 +2,19 @@ use Rattle.std.proofs.Common.{◌≡◌, ◌≤◌, ℕ, List, length, IfOk, sym
 use Rattle.nsc_model.specs.declared.answer.Request.{Request}
 use Rattle.nsc_model.specs.declared.row.Looked.{Looked}
 use Rattle.nsc_model.specs.Answers.{answer_of, looked_up, marked}
-use Rattle.nsc_model.specs.Files.{Files, FilesFit}
-use Rattle.nsc_model.specs.Marked.{Marked, reply_limit}
+use Rattle.nsc_model.specs.Content.{Content}
+use Rattle.nsc_model.specs.Files.{FilesFit}
+use Rattle.nsc_model.specs.Answer.{Answer, reply_limit}
 use Rattle.nsc_model.specs.Outcomes.{reply_to}
 use Rattle.nsc_model.specs.Wire.{IsReplyOf, spelled}
 use Rattle.nsc_laws.proofs.Spelled.{answer_spells}
 use Rattle.nsc_answer.proofs.plain.PlainAnswerer.answer.Goals as goal
 
 -- the outcome of the switch is of the request's kind, and has a reply that is not too long
-of_kind : (files : Files) (request : Request) (looked : Looked) → FilesFit files → looked ≡ looked_up files request → IsReplyOf request.kind (reply_to looked)
+of_kind : (files : Content) (request : Request) (looked : Looked) → FilesFit files → looked ≡ looked_up files request → IsReplyOf request.kind (reply_to looked)
 of_kind files request looked fit is = subst (λ (l : Looked). IsReplyOf request.kind (reply_to l)) (sym is) (answer_spells files request fit).of_kind
 
-reply_fits : (files : Files) (request : Request) (looked : Looked) → FilesFit files → looked ≡ looked_up files request → length (spelled request.kind (reply_to looked)) ≤ reply_limit
+reply_fits : (files : Content) (request : Request) (looked : Looked) → FilesFit files → looked ≡ looked_up files request → length (spelled request.kind (reply_to looked)) ≤ reply_limit
 reply_fits files request looked fit is =
     let spells = answer_spells files request fit in
     let found = subst (λ (bytes : List ℕ). length bytes ≤ reply_limit) spells.spelling spells.bound in
@@ -30,4 +31,4 @@ unfolding answer_of
 returns c =
     let request : Request = record { kind = c.args.kind; key = c.args.key.now } in
     let is = ap (marked c.args.kind) c.in_ok-looked.ensures.outcome in
-    subst (λ (m : Marked). IfOk c.answer_with.result (λ answer. answer ≡ m)) is c.answer_with.ensures
+    subst (λ (m : Answer). IfOk c.answer_with.result (λ answer. answer ≡ m)) is c.answer_with.ensures

@@ -4,7 +4,7 @@ use Rattle.nsc_model.specs.declared.answer.Request.{Request}
 use Rattle.nsc_model.specs.declared.conf.DbConf.{DbConf}
 use Rattle.nsc_model.specs.Machine.{Cache, kept_answer, polled}
 use Rattle.nsc_plain.specs.PlainCache.{PassesTo, GivesUpBy}
-use Rattle.nsc_plain.proofs.Events.{hits, misses, loads, look_up_faults}
+use Rattle.nsc_plain.proofs.Events.{hits, misses, loads, lookup_faults}
 use Rattle.nsc_plain.proofs.cache.PlainCache.lookup_prepared.Goals as goal
 
 pub returns-in-Some-clause-turn : goal.returns-in-Some-clause-turn
@@ -21,7 +21,7 @@ returns-in_err-poll-clause-fault g c =
     let missed = misses c.args.self.now.settings request before c.hit.new.self.cache _ c.in_default.is c.in_ok-reply.ensures.hit in
     let p = err_from_is_err_and c.from_residual-in_err-poll.result c.from_residual-in_err-poll.ensures.1 in
     rw (p.1, p.2)
-    (look_up_faults c.args.self.now.settings c.args.now files request before c.poll.new.self.cache c.in_err-poll.field-0.0 missed.0
+    (lookup_faults c.args.self.now.settings c.args.now files request before c.poll.new.self.cache c.in_err-poll.field-0.0 missed.0
     (subst (λ (mid : Cache). GivesUpBy (polled files mid) mid c.poll.new.self.cache c.in_err-poll.field-0.0) missed.1 c.in_err-poll.ensures.fault))
 
 pub returns-in_err-load-clause-fault : goal.returns-in_err-load-clause-fault

@@ -2,8 +2,8 @@ use Rattle.std.proofs.Common.{◌≡◌, ℕ, List, get_or, set, find, Some, Non
 use Rattle.std.specs.Prelude.{position}
 use Rattle.std.proofs.lemmas.List.Quantifiers.{position-Some}
 use Rattle.nsc_model.specs.declared.answer.Request.{Request}
-use Rattle.nsc_model.specs.Fixed.{Fixed}
-use Rattle.nsc_model.specs.Marked.{Marked}
+use Rattle.nsc_model.specs.Entry.{Entry}
+use Rattle.nsc_model.specs.Answer.{Answer}
 use Rattle.nsc_model.specs.Machine.{Kept}
 use Rattle.nsc_plain.specs.PlainCache.{HitsBy}
 use Rattle.nsc_plain.specs.Table.{Table, over}
@@ -40,7 +40,7 @@ returns-clause-hit c = λ cache.
     let reply : c.in_ok-reply.reply ≡ (get_or items c.in-Some.at held).entry.answer.bytes =
     c.in_ok-reply.ensures
     ∙ (c.bytes.ensures.value
-    ∙ (ap (λ (a : Marked). a.bytes) c.answer.ensures.value ∙ (ap (λ (e : Fixed). e.answer.bytes) c.entry.ensures ∙ ap (λ (k : Kept). k.entry.answer.bytes) c.index_mut-held.ensures.value))) in
+    ∙ (ap (λ (a : Answer). a.bytes) c.answer.ensures.value ∙ (ap (λ (e : Entry). e.answer.bytes) c.entry.ensures ∙ ap (λ (k : Kept). k.entry.answer.bytes) c.index_mut-held.ensures.value))) in
     let with = λ (entries : List Kept). let t : Table = record { entries = entries; used = c.self.inside.used; inserted = c.self.inside.inserted; cycle = c.self.inside.cycle; add_failed = c.self.inside.add_failed; capacity = 0 } in t in
     subst (λ (t : Table). HitsBy (find (asks request) t.entries) request (over cache t) (over cache (with (set items c.in-Some.at c.restart.new.self))) (Some c.in_ok-reply.reply)) c.self.view_is
     (subst (λ (o : Option Kept). HitsBy o request (over cache (with items)) (over cache (with (set items c.in-Some.at c.restart.new.self))) (Some c.in_ok-reply.reply)) (sym found)

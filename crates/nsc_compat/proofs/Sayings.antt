@@ -28,9 +28,9 @@ first_piece cuts (b ∷ bytes) first later h =
           rw is (front ∙ ap (λ (bs : List ℕ). b ∷ bs) next ∙ ap (λ (n : ℕ). take n (b ∷ bytes)) more)
     ] refl h
 
-pub name_is : (text : List ℕ) (behind : Span) (field : Line) → behind.from ≤ behind.to → IsField 58 text behind behind.from field → part text field.span ≡ first_field (part text behind)
-name_is text behind field ordered is =
-    first_piece (λ b. b == 58) (part text behind) (part text field.span) (fields_between 58 text field.next behind.to) (let all : fields_between 58 text behind.from behind.to ≡ fields_of 58 (part text behind) = rw (not_below behind.to behind.from ordered) refl in sym all ∙ is.cut_is)
+pub name_is : (text : List ℕ) (rest : Span) (field : Line) → rest.from ≤ rest.to → IsField 58 text rest rest.from field → part text field.span ≡ first_field (part text rest)
+name_is text rest field ordered is =
+    first_piece (λ b. b == 58) (part text rest) (part text field.span) (fields_between 58 text field.next rest.to) (let all : fields_between 58 text rest.from rest.to ≡ fields_of 58 (part text rest) = rw (not_below rest.to rest.from ordered) refl in sym all ∙ is.cut_is)
 
 -- a part begins with its first byte
 part_first : (text : List ℕ) (black : Span) → black.from < black.to → black.to ≤ length text → part text black ≡ get_or text black.from 0 ∷ part text (record { from = black.from + 1; to = black.to })
@@ -42,15 +42,15 @@ part_first text black filled inside =
 pub plus_said : {A : Type 0} (text : List ℕ) (black : Span) (entry : Option A) → black.from < black.to → black.to ≤ length text → get_or text black.from 0 ≡ 43
     → says_plus (fields_of 58 (part text black)) (first_field (part text (record { from = black.from + 1; to = black.to }))) ≡ says_by entry (part text black)
 plus_said text black entry filled inside sign =
-    let behind = part text (record { from = black.from + 1; to = black.to }) in
-    let e : part text black ≡ 43 ∷ behind = part_first text black filled inside ∙ ap (λ b. b ∷ behind) sign in
-    ap (λ bs. says_plus (fields_of 58 bs) (first_field behind)) e ∙ sym (ap (says_by entry) e)
+    let rest = part text (record { from = black.from + 1; to = black.to }) in
+    let e : part text black ≡ 43 ∷ rest = part_first text black filled inside ∙ ap (λ b. b ∷ rest) sign in
+    ap (λ bs. says_plus (fields_of 58 bs) (first_field rest)) e ∙ sym (ap (says_by entry) e)
 
 pub minus_said : {A : Type 0} (text : List ℕ) (black : Span) (entry : Option A) → black.from < black.to → black.to ≤ length text → get_or text black.from 0 ≡ 45
     → says_minus (first_field (part text (record { from = black.from + 1; to = black.to }))) ≡ says_by entry (part text black)
 minus_said text black entry filled inside sign =
-    let behind = part text (record { from = black.from + 1; to = black.to }) in
-    let e : part text black ≡ 45 ∷ behind = part_first text black filled inside ∙ ap (λ b. b ∷ behind) sign in
+    let rest = part text (record { from = black.from + 1; to = black.to }) in
+    let e : part text black ≡ 45 ∷ rest = part_first text black filled inside ∙ ap (λ b. b ∷ rest) sign in
     sym (ap (says_by entry) e)
 
 entry_by_first : {A : Type 0} (b : ℕ) (bytes : List ℕ) (entry : Option A) → b ≢ 43 → b ≢ 45 → says_entry entry ≡ says_by entry (b ∷ bytes)
@@ -63,8 +63,8 @@ pub entry_said : {A : Type 0} (text : List ℕ) (black : Span) (entry : Option A
 entry_said text black entry filled inside plus minus =
     entry_by_first (get_or text black.from 0) (part text (record { from = black.from + 1; to = black.to })) entry plus minus ∙ sym (ap (says_by entry) (part_first text black filled inside))
 
--- a line says what stands behind its white space, where it has no zero byte
-pub said_behind : {A : Type 0} (entry_of : List ℕ → Option A) (text : List ℕ) (line : Span) (w : ℕ) → has_zero (part text line) ≡ false → w ≤ length (part text line) → drop w (part text line) ≡ trimmed (part text line)
+-- a line says what stands after its white space, where it has no zero byte
+pub said_after : {A : Type 0} (entry_of : List ℕ → Option A) (text : List ℕ) (line : Span) (w : ℕ) → has_zero (part text line) ≡ false → w ≤ length (part text line) → drop w (part text line) ≡ trimmed (part text line)
     → says_by (entry_of (part text line)) (part text (record { from = line.from + w; to = line.to })) ≡ says entry_of (part text line)
-said_behind entry_of text line w clean l rest =
+said_after entry_of text line w clean l rest =
     rw clean (ap (says_by (entry_of (part text line))) (sym (part-drop text line w l) ∙ rest))

@@ -1,13 +1,13 @@
 -- What never changes of an entry of a cache.
 use Rattle.std.specs.Prelude.{ℕ}
 use Rattle.nsc_model.specs.declared.answer.Request.{Request}
-use Rattle.nsc_model.specs.Marked.{Marked}
+use Rattle.nsc_model.specs.Answer.{Answer}
 
-pub record Fixed : Type 0 where
+pub record Entry : Type 0 where
   pub number : ℕ
   pub request : Request
   pub version : ℕ
-  pub answer : Marked
+  pub answer : Answer
   pub timeout : ℕ
 
 -- a key has at most so many bytes (nscd-client.h)

@@ -2,6 +2,6 @@
 use Rattle.std.specs.Prelude.{ℕ, List}
 
 -- what a buffer holds, and how many bytes it can hold
-pub record Room : Type 0 where
+pub record Buf : Type 0 where
   pub content : List ℕ
   pub limit : ℕ

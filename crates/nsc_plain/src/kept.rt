@@ -11,12 +11,12 @@ pub const LAST_COUNT: u64 = 4_611_686_018_427_387_904;
 
 /// A live entry, and how often it was reloaded since it was last used.
 #[derive(Drop)]
-pub struct Held {
+pub struct Kept {
     entry: Entry,
     reloads: u64,
 }
 
-impl Model for Held {
+impl Model for Kept {
     ghost use Rattle.nsc_model.specs.Machine.{Kept};
 
     ghost Value = { Kept };
@@ -24,12 +24,12 @@ impl Model for Held {
     ghost view = { λ h. record { entry = h.entry; reloads = h.reloads } };
 }
 
-impl Held {
+impl Kept {
     /// The entry, reloaded so often.
-    pub fn new(entry: Entry, reloads: u64) -> Held
+    pub fn new(entry: Entry, reloads: u64) -> Kept
         ensures { result ≡ record { entry = entry; reloads = reloads } }
     {
-        Held { entry, reloads }
+        Kept { entry, reloads }
     }
 
     /// The entry.

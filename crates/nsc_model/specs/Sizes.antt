@@ -10,7 +10,7 @@ pub record SizeFits (settings : DbConf) : Type 0 where
 
 -- each database has one
 pub record SizesFit (settings : Conf) : Type 0 where
-  pub users : SizeFits settings.passwd
-  pub groups : SizeFits settings.group
+  pub passwd : SizeFits settings.passwd
+  pub group : SizeFits settings.group
   pub hosts : SizeFits settings.hosts
   pub services : SizeFits settings.services

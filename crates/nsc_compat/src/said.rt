@@ -5,14 +5,14 @@ ghost use Rattle.nsc_model.specs.declared.row.Group.{Group};
 ghost use Rattle.nsc_model.specs.Compat.{first_field, says, says_by, says_minus, says_plus};
 ghost use Rattle.nsc_model.specs.Users.{user_of_line};
 ghost use Rattle.nsc_model.specs.Groups.{group_of_line};
-ghost use Rattle.nsc_compat.specs.Said.{MarkIn, said_as};
+ghost use Rattle.nsc_compat.specs.Said.{SaidIn, said_as};
 
 use nsc_accounts::white_front;
 use nsc_base::{Span, field_at, has_zero_byte};
 
 /// What a line of a passwd or group file says, as places in the text.
 #[derive(Clone, Copy, Debug, PartialEq, Eq)]
-pub enum Mark {
+pub enum Said {
     /// An entry, where the line has the form of one.
     Plain,
     /// A name is excluded.
@@ -21,12 +21,12 @@ pub enum Mark {
     Asks {
         /// The name.
         name: Span,
-        /// The line behind its white space.
+        /// The line after its white space.
         all: Span,
     },
     /// The request itself is asked of further services.
     AsksAll {
-        /// The line behind its white space.
+        /// The line after its white space.
         all: Span,
     },
     /// A netgroup, whose names are not known.
@@ -35,88 +35,88 @@ pub enum Mark {
     Nothing,
 }
 
-/// What a line says, by its first byte behind blanks and tabs: `+` and `-` stand before a name that ends at a colon or
+/// What a line says, by its first byte after blanks and tabs: `+` and `-` stand before a name that ends at a colon or
 /// with the line, nsswitch.conf(5). A line with a zero byte says nothing. Takes no memory.
-pub fn mark_of(text: &[u8], line: Span) -> Mark
+pub fn line_says(text: &[u8], line: Span) -> Said
     requires ordered { line.from ≤ line.to }
     requires inside { line.to ≤ length text.now }
     ensures users { said_as text.now (user_of_line (part text.now line)) result ≡ says user_of_line (part text.now line) }
     ensures groups { said_as text.now (group_of_line (part text.now line)) result ≡ says group_of_line (part text.now line) }
-    ensures inside { MarkIn line result }
+    ensures inside { SaidIn line result }
 {
     let bytes = &text[line.from..line.to];
     if has_zero_byte(bytes) {
-        return Mark::Nothing;
+        return Said::Nothing;
     }
     let black = Span {
         from: line.from + white_front(bytes),
         to: line.to,
     };
-    mark_behind(text, black)
+    black_says(text, black)
 }
 
 // What a line says that has no white space at its front and no zero byte.
-fn mark_behind(text: &[u8], black: Span) -> Mark
+fn black_says(text: &[u8], black: Span) -> Said
     requires ordered { black.from ≤ black.to }
     requires inside { black.to ≤ length text.now }
     ensures users { (entry : Option Passwd) → said_as text.now entry result ≡ says_by entry (part text.now black) }
     ensures groups { (entry : Option Group) → said_as text.now entry result ≡ says_by entry (part text.now black) }
-    ensures inside { MarkIn black result }
+    ensures inside { SaidIn black result }
 {
     if black.from == black.to {
-        return Mark::Nothing;
+        return Said::Nothing;
     }
     match text[black.from] {
-        b'+' => plus_mark(text, name_behind(text, black), black),
-        b'-' => minus_mark(text, name_behind(text, black)),
-        _ => Mark::Plain,
+        b'+' => plus_says(text, name_after(text, black), black),
+        b'-' => minus_says(text, name_after(text, black)),
+        _ => Said::Plain,
     }
 }
 
-// The name behind a sign: up to the first colon, or to the end.
-fn name_behind(text: &[u8], black: Span) -> Span
+// The name after a sign: up to the first colon, or to the end.
+fn name_after(text: &[u8], black: Span) -> Span
     requires filled { black.from < black.to }
     requires inside { black.to ≤ length text.now }
     ensures name { part text.now result ≡ first_field (part text.now (record { from = black.from + 1; to = black.to })) }
     ensures inside { LiesIn black result }
 {
-    let behind = Span {
+    let rest = Span {
         from: black.from + 1,
         to: black.to,
     };
-    match field_at(text, behind, behind.from, b':') {
+    match field_at(text, rest, rest.from, b':') {
         Some(field) => field.span,
-        None => behind,
+        None => rest,
     }
 }
 
-// What a plus line says, by the name behind the plus.
-fn plus_mark(text: &[u8], name: Span, all: Span) -> Mark
+// What a plus line says, by the name after the plus.
+fn plus_says(text: &[u8], name: Span, all: Span) -> Said
     requires ordered { all.from ≤ all.to }
     requires inside { all.to ≤ length text.now }
     requires name_in { LiesIn all name }
     ensures users { (entry : Option Passwd) → said_as text.now entry result ≡ says_plus (fields_of 58 (part text.now all)) (part text.now name) }
     ensures groups { (entry : Option Group) → said_as text.now entry result ≡ says_plus (fields_of 58 (part text.now all)) (part text.now name) }
-    ensures inside { MarkIn all result }
+    ensures inside { SaidIn all result }
 {
     match &text[name.from..name.to] {
-        [] => Mark::AsksAll { all },
-        [b'@', ..] => Mark::Netgroup,
-        _ => Mark::Asks { name, all },
+        [] => Said::AsksAll { all },
+        [b'@', ..] => Said::Netgroup,
+        _ => Said::Asks { name, all },
     }
 }
 
-// What a minus line says, by the name behind the minus.
-fn minus_mark(text: &[u8], name: Span) -> Mark
+// What a minus line says, by the name after the minus.
+fn minus_says(text: &[u8], name: Span) -> Said
     requires ordered { name.from ≤ name.to }
     requires inside { name.to ≤ length text.now }
     ensures users { (entry : Option Passwd) → said_as text.now entry result ≡ says_minus (part text.now name) }
     ensures groups { (entry : Option Group) → said_as text.now entry result ≡ says_minus (part text.now name) }
-    ensures inside { MarkIn name result }
+    ensures inside { SaidIn name result }
 {
     match &text[name.from..name.to] {
-        [] => Mark::Nothing,
-        [b'@', ..] => Mark::Netgroup,
-        _ => Mark::Excludes(name),
+        [] => Said::Nothing,
+        [b'@', ..] => Said::Netgroup,
+        _ => Said::Excludes(name),
     }
 }

@@ -1,7 +1,7 @@
 -- An answer: the bytes of a reply, with the mark of a not-found reply.
 use Rattle.std.specs.Prelude.{ℕ, Bool, List}
 
-pub record Marked : Type 0 where
+pub record Answer : Type 0 where
   pub bytes : List ℕ
   pub not_found : Bool
 
