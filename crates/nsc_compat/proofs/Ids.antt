@@ -2,17 +2,16 @@
 use Rattle.std.proofs.Common.{◌≡◌, ℕ, ◌+◌, ◌<◌, Bool, true, false, not, cond, ◌&&◌, if◌then◌else◌, List, [], ◌∷◌, ◌++◌, drop, filter, get_or, length, map, Option, Some, None, refl, sym, ◌∙◌, ap}
 use Rattle.std.specs.Option.{option_map}
 use Rattle.std.proofs.lemmas.List.{at_drop_more}
-use Rattle.std.proofs.Math.Seq.{drop-length}
-use Rattle.nsc_base.specs.declared.span.Line.{Line}
-use Rattle.nsc_base.specs.Text.{IsLine, lines_of, part}
 use Rattle.nsc_model.specs.declared.row.Group.{Group}
+use Rattle.nsc_model.specs.declared.row.Looked.{Looked}
 use Rattle.nsc_model.specs.declared.row.Looked.TheVariants.{Unavail}
 use Rattle.nsc_model.specs.Answers.{each_once, found_ids, found_or_unavail}
-use Rattle.nsc_model.specs.Compat.{IdScan, Says, Entry, Excludes, Asks, AsksAll, Netgroup, Nothing, before_ids, gather_line, gathered, id_of_group, ids_of_pairs, is_excluded, says, says_entry}
+use Rattle.nsc_model.specs.Compat.{IdScan, Says, Own, Excludes, Asks, AsksAll, Netgroup, Nothing, before_ids, gather_line, gathered, id_of_group, ids_of_pairs, is_excluded, says}
 use Rattle.nsc_accounts.specs.Once.{all_ids, with_id}
 use Rattle.nsc_accounts.proofs.Collected.{all_once}
 use Rattle.nsc_compat.specs.declared.sub.NamedId.{NamedId}
-use Rattle.nsc_compat.specs.Gathered.{unless_excluded, where_on}
+use Rattle.nsc_compat.specs.Gathered.{unless_excluded}
+use Rattle.nsc_compat.specs.Lines.{ids_or_unavail}
 use Rattle.nsc_compat.specs.Names.{SameNames}
 use Rattle.nsc_compat.specs.Pairs.{pair_of}
 use Rattle.nsc_compat.proofs.Scans.{with_name}
@@ -66,90 +65,61 @@ pairs_same these those same (p ∷ pairs) =
 before_same : (these those : List ℕ) (o p : Option (List ℕ)) → these ≡ those → o ≡ p → before_ids these o ≡ before_ids those p
 before_same these those o p e f = ap (λ (ids : List ℕ). before_ids ids o) e ∙ ap (before_ids those) f
 
-line_same : (scan : IdScan) (said : Says Group) (these those : List (List ℕ)) (next : List (List ℕ) → Option (List ℕ)) → ((a b : List (List ℕ)) → SameNames a b → next a ≡ next b) → SameNames these those → gather_line scan these said next ≡ gather_line scan those said next
-line_same scan (Entry g) these those next each same = before_same (id_of_group scan these (Some g)) (id_of_group scan those (Some g)) (next these) (next those) (group_same scan these those same (Some g)) (each these those same)
-line_same scan (Excludes name) these those next each same = each (name ∷ these) (name ∷ those) (with_name name these those same)
-line_same scan (Asks name fields) these those next each same =
+line_same : (scan : IdScan) (line : List ℕ) (said : Says) (these those : List (List ℕ)) (next : List (List ℕ) → Option (List ℕ)) → ((a b : List (List ℕ)) → SameNames a b → next a ≡ next b) → SameNames these those → gather_line scan these line said next ≡ gather_line scan those line said next
+line_same scan line Own these those next each same = before_same (id_of_group scan these (scan.group_of line)) (id_of_group scan those (scan.group_of line)) (next these) (next those) (group_same scan these those same (scan.group_of line)) (each these those same)
+line_same scan line (Excludes name) these those next each same = each (name ∷ these) (name ∷ those) (with_name name these those same)
+line_same scan line (Asks name fields) these those next each same =
     before_same (id_of_group scan these (scan.by_name name)) (id_of_group scan those (scan.by_name name)) (next these) (next those) (group_same scan these those same (scan.by_name name)) (each these those same)
-line_same scan (AsksAll fields) these those next each same = before_same (ids_of_pairs these scan.pairs) (ids_of_pairs those scan.pairs) (next these) (next those) (pairs_same these those same scan.pairs) (each these those same)
-line_same scan Netgroup these those next each same = refl
-line_same scan Nothing these those next each same = each these those same
+line_same scan line (AsksAll fields) these those next each same = before_same (ids_of_pairs these scan.pairs) (ids_of_pairs those scan.pairs) (next these) (next those) (pairs_same these those same scan.pairs) (each these those same)
+line_same scan line Netgroup these those next each same = refl
+line_same scan line Nothing these those next each same = each these those same
 
 gathered_same : (scan : IdScan) (lines : List (List ℕ)) (these those : List (List ℕ)) → SameNames these those → gathered scan lines these ≡ gathered scan lines those
 gathered_same scan [] these those same = refl
-gathered_same scan (line ∷ lines) these those same = line_same scan (says scan.group_of line) these those (gathered scan lines) (gathered_same scan lines) same
+gathered_same scan (line ∷ lines) these those same = line_same scan line (says line) these those (gathered scan lines) (gathered_same scan lines) same
 
 -- ---- line by line
 
 -- what is gathered from some lines on, after these ids
-abbrev pub after_ids : IdScan → List ℕ → List (List ℕ) → List (List ℕ) → Option (List ℕ)
+abbrev after_ids : IdScan → List ℕ → List (List ℕ) → List (List ℕ) → Option (List ℕ)
 after_ids scan ids lines excluded = option_map (all_ids ids) (gathered scan lines excluded)
 
-pub name_excluded : (scan : IdScan) (line name : List ℕ) (excluded more : List (List ℕ)) (ids : List ℕ) → Excludes name ≡ says scan.group_of line → SameNames more (name ∷ excluded) → (lines : List (List ℕ)) → after_ids scan ids lines more ≡ after_ids scan ids (line ∷ lines) excluded
+-- and its outcome
+abbrev pub outcome_after : IdScan → List ℕ → List (List ℕ) → List (List ℕ) → Looked
+outcome_after scan ids lines excluded = ids_or_unavail (after_ids scan ids lines excluded)
+
+pub name_excluded : (scan : IdScan) (line name : List ℕ) (excluded more : List (List ℕ)) (ids : List ℕ) → Excludes name ≡ says line → SameNames more (name ∷ excluded) → (lines : List (List ℕ)) → outcome_after scan ids lines more ≡ outcome_after scan ids (line ∷ lines) excluded
 name_excluded scan line name excluded more ids is same lines =
-    ap (option_map (all_ids ids)) (gathered_same scan lines more (name ∷ excluded) same ∙ ap (λ said. gather_line scan excluded said (gathered scan lines)) is)
+    ap (λ o. ids_or_unavail (option_map (all_ids ids) o)) (gathered_same scan lines more (name ∷ excluded) same ∙ ap (λ said. gather_line scan excluded line said (gathered scan lines)) is)
 
 -- a line that adds ids
-ids_added : (scan : IdScan) (line : List ℕ) (excluded : List (List ℕ)) (ids now added : List ℕ) (said : Says Group) → ((next : List (List ℕ) → Option (List ℕ)) → before_ids added (next excluded) ≡ gather_line scan excluded said next) → said ≡ says scan.group_of line
-    → now ≡ all_ids ids added → (lines : List (List ℕ)) → after_ids scan now lines excluded ≡ after_ids scan ids (line ∷ lines) excluded
+ids_added : (scan : IdScan) (line : List ℕ) (excluded : List (List ℕ)) (ids now added : List ℕ) (said : Says) → ((next : List (List ℕ) → Option (List ℕ)) → before_ids added (next excluded) ≡ gather_line scan excluded line said next) → said ≡ says line
+    → now ≡ all_ids ids added → (lines : List (List ℕ)) → outcome_after scan now lines excluded ≡ outcome_after scan ids (line ∷ lines) excluded
 ids_added scan line excluded ids now added said adds is e lines =
-    ap (λ (those : List ℕ). after_ids scan those lines excluded) e ∙ sym (before_added ids added (gathered scan lines excluded))
-    ∙ ap (option_map (all_ids ids)) (adds (gathered scan lines) ∙ ap (λ s. gather_line scan excluded s (gathered scan lines)) is)
+    ap (λ (those : List ℕ). outcome_after scan those lines excluded) e ∙ ap ids_or_unavail (sym (before_added ids added (gathered scan lines excluded))
+    ∙ ap (option_map (all_ids ids)) (adds (gathered scan lines) ∙ ap (λ s. gather_line scan excluded line s (gathered scan lines)) is))
 
-none_before : (o : Option (List ℕ)) → before_ids [] o ≡ o
-none_before None = refl
-none_before (Some ids) = refl
+pub own_added : (scan : IdScan) (line : List ℕ) (excluded : List (List ℕ)) (ids now : List ℕ) → Own ≡ says line → now ≡ all_ids ids (id_of_group scan excluded (scan.group_of line))
+    → (lines : List (List ℕ)) → outcome_after scan now lines excluded ≡ outcome_after scan ids (line ∷ lines) excluded
+own_added scan line excluded ids now is e = ids_added scan line excluded ids now (id_of_group scan excluded (scan.group_of line)) Own (λ next. refl) is e
 
-entry_adds : (scan : IdScan) (excluded : List (List ℕ)) (o : Option Group) (next : List (List ℕ) → Option (List ℕ)) → before_ids (id_of_group scan excluded o) (next excluded) ≡ gather_line scan excluded (says_entry o) next
-entry_adds scan excluded None next = none_before (next excluded)
-entry_adds scan excluded (Some g) next = refl
-
-pub entry_added : (scan : IdScan) (line : List ℕ) (excluded : List (List ℕ)) (ids now : List ℕ) (o : Option Group) → says_entry o ≡ says scan.group_of line → now ≡ all_ids ids (id_of_group scan excluded o)
-    → (lines : List (List ℕ)) → after_ids scan now lines excluded ≡ after_ids scan ids (line ∷ lines) excluded
-entry_added scan line excluded ids now o is e = ids_added scan line excluded ids now (id_of_group scan excluded o) (says_entry o) (entry_adds scan excluded o) is e
-
-pub found_added : (scan : IdScan) (line name : List ℕ) (fields : List (List ℕ)) (excluded : List (List ℕ)) (ids now : List ℕ) → Asks name fields ≡ says scan.group_of line → now ≡ all_ids ids (id_of_group scan excluded (scan.by_name name))
-    → (lines : List (List ℕ)) → after_ids scan now lines excluded ≡ after_ids scan ids (line ∷ lines) excluded
+pub found_added : (scan : IdScan) (line name : List ℕ) (fields : List (List ℕ)) (excluded : List (List ℕ)) (ids now : List ℕ) → Asks name fields ≡ says line → now ≡ all_ids ids (id_of_group scan excluded (scan.by_name name))
+    → (lines : List (List ℕ)) → outcome_after scan now lines excluded ≡ outcome_after scan ids (line ∷ lines) excluded
 found_added scan line name fields excluded ids now is e = ids_added scan line excluded ids now (id_of_group scan excluded (scan.by_name name)) (Asks name fields) (λ next. refl) is e
 
-pub pairs_added : (scan : IdScan) (line : List ℕ) (fields : List (List ℕ)) (excluded : List (List ℕ)) (ids now : List ℕ) → AsksAll fields ≡ says scan.group_of line → now ≡ all_ids ids (ids_of_pairs excluded scan.pairs)
-    → (lines : List (List ℕ)) → after_ids scan now lines excluded ≡ after_ids scan ids (line ∷ lines) excluded
+pub pairs_added : (scan : IdScan) (line : List ℕ) (fields : List (List ℕ)) (excluded : List (List ℕ)) (ids now : List ℕ) → AsksAll fields ≡ says line → now ≡ all_ids ids (ids_of_pairs excluded scan.pairs)
+    → (lines : List (List ℕ)) → outcome_after scan now lines excluded ≡ outcome_after scan ids (line ∷ lines) excluded
 pairs_added scan line fields excluded ids now is e = ids_added scan line excluded ids now (ids_of_pairs excluded scan.pairs) (AsksAll fields) (λ next. refl) is e
+
+-- a netgroup leaves nothing
+pub netgroup_reached : (scan : IdScan) (line : List ℕ) (excluded : List (List ℕ)) (ids : List ℕ) → Netgroup ≡ says line → (lines : List (List ℕ)) → Unavail ≡ outcome_after scan ids (line ∷ lines) excluded
+netgroup_reached scan line excluded ids is lines = ap (λ said. ids_or_unavail (option_map (all_ids ids) (gather_line scan excluded line said (gathered scan lines)))) is
+
+pub nothing_added : (scan : IdScan) (line : List ℕ) (excluded : List (List ℕ)) (ids : List ℕ) → Nothing ≡ says line → (lines : List (List ℕ)) → outcome_after scan ids lines excluded ≡ outcome_after scan ids (line ∷ lines) excluded
+nothing_added scan line excluded ids is lines = ap (λ said. ids_or_unavail (option_map (all_ids ids) (gather_line scan excluded line said (gathered scan lines)))) is
 
 -- ---- the whole file
 
--- what a line comes to
-abbrev pub LineGathers : IdScan → List ℕ → Bool → List ℕ → List ℕ → List (List ℕ) → List (List ℕ) → Type 0
-LineGathers scan line on ids now excluded more = (lines : List (List ℕ)) → where_on on (after_ids scan now lines more) ≡ after_ids scan ids (line ∷ lines) excluded
-
-pub all_left : (o : Option (List ℕ)) → option_map (all_ids []) o ≡ option_map each_once o
+pub all_left : (o : Option (List ℕ)) → ids_or_unavail (option_map (all_ids []) o) ≡ found_or_unavail o
 all_left None = refl
-all_left (Some ids) = ap Some (all_once ids)
-
-rest_cut : (scan : IdScan) (text : List ℕ) (from : ℕ) (line : Line) (ids : List ℕ) (excluded : List (List ℕ)) → IsLine text from line → after_ids scan ids (lines_of (drop from text)) excluded ≡ after_ids scan ids (part text line.span ∷ lines_of (drop line.next text)) excluded
-rest_cut scan text from line ids excluded is = ap (λ (lines : List (List ℕ)). after_ids scan ids lines excluded) is.cut
-
-pub line_gathered : (scan : IdScan) (text : List ℕ) (from : ℕ) (line : Line) (on : Bool) (ids now : List ℕ) (excluded more : List (List ℕ)) (answer : Option (List ℕ)) → IsLine text from line → LineGathers scan (part text line.span) on ids now excluded more
-    → on ≡ true → after_ids scan ids (lines_of (drop from text)) excluded ≡ answer → after_ids scan now (lines_of (drop line.next text)) more ≡ answer
-line_gathered scan text from line on ids now excluded more answer is gathers goes left =
-    let rest = lines_of (drop line.next text) in
-    sym (ap (λ v. where_on v (after_ids scan now rest more)) goes) ∙ gathers rest ∙ sym (rest_cut scan text from line ids excluded is) ∙ left
-
-none_gathered : (o : Option (List ℕ)) → None ≡ option_map each_once o → Unavail ≡ found_or_unavail o
-none_gathered None e = refl
-none_gathered (Some ids) e = absurd cc
-
-pub netgroup_reached : (scan : IdScan) (text : List ℕ) (from : ℕ) (line : Line) (on : Bool) (ids now : List ℕ) (excluded more : List (List ℕ)) (whole : Option (List ℕ)) → IsLine text from line → LineGathers scan (part text line.span) on ids now excluded more
-    → on ≡ false → after_ids scan ids (lines_of (drop from text)) excluded ≡ option_map each_once whole → Unavail ≡ found_or_unavail whole
-netgroup_reached scan text from line on ids now excluded more whole is gathers stops left =
-    let rest = lines_of (drop line.next text) in
-    none_gathered whole (sym (ap (λ v. where_on v (after_ids scan now rest more)) stops) ∙ gathers rest ∙ sym (rest_cut scan text from line ids excluded is) ∙ left)
-
-some_gathered : (ids : List ℕ) (o : Option (List ℕ)) → Some ids ≡ option_map each_once o → found_ids ids ≡ found_or_unavail o
-some_gathered ids None e = absurd cc
-some_gathered ids (Some all) e = ap found_ids (let same : ids ≡ each_once all = cc in same)
-
-pub all_gathered : (scan : IdScan) (text : List ℕ) (from : ℕ) (ids : List ℕ) (excluded : List (List ℕ)) (whole : Option (List ℕ)) → from ≡ length text → after_ids scan ids (lines_of (drop from text)) excluded ≡ option_map each_once whole → found_ids ids ≡ found_or_unavail whole
-all_gathered scan text from ids excluded whole last left =
-    let none : drop from text ≡ [] = ap (λ (n : ℕ). drop n text) last ∙ drop-length text in
-    some_gathered ids whole (sym (ap (λ (bytes : List ℕ). after_ids scan ids (lines_of bytes) excluded) none) ∙ left)
+all_left (Some ids) = ap found_ids (all_once ids)

@@ -1,5 +1,5 @@
 -- What a line says, by its first bytes.
-use Rattle.std.proofs.Common.{◌≡◌, ◌≢◌, ℕ, ◌+◌, ◌-◌, ◌<◌, ◌≤◌, suc, Bool, true, false, nat_eq, ◌==◌, if◌then◌else◌, List, [], ◌∷◌, length, get_or, take, drop, Option, refl, sym, ◌∙◌, ap, arith, add-one}
+use Rattle.std.proofs.Common.{◌≡◌, ◌≢◌, ℕ, ◌+◌, ◌-◌, ◌<◌, ◌≤◌, suc, Bool, true, false, nat_eq, ◌==◌, if◌then◌else◌, List, [], ◌∷◌, length, get_or, take, drop, refl, sym, ◌∙◌, ap, arith, add-one}
 use Rattle.std.specs.List.{before_first, position_or_len}
 use Rattle.std.proofs.Math.Seq.{drop-cons}
 use Rattle.std.proofs.lemmas.Bool.Decides.{nat_tests}
@@ -8,7 +8,7 @@ use Rattle.nsc_base.specs.declared.span.Line.{Line}
 use Rattle.nsc_base.specs.Text.{IsField, fields_between, fields_of, onto_first, part, pieces}
 use Rattle.nsc_base.proofs.Compare.{not_below}
 use Rattle.nsc_base.proofs.Pieces.{pieces-some}
-use Rattle.nsc_model.specs.Compat.{first_field, says, says_by, says_entry, says_minus, says_plus}
+use Rattle.nsc_model.specs.Compat.{Own, first_field, says, says_by, says_minus, says_plus}
 use Rattle.nsc_model.specs.Users.{has_zero, trimmed}
 use Rattle.nsc_accounts.proofs.Entries.{part-drop}
 
@@ -39,32 +39,32 @@ part_first text black filled inside =
     let bytes : drop black.from text ≡ get_or text black.from 0 ∷ drop (black.from + 1) text = rw add-one (drop-cons text black.from 0 (omega arith)) in
     ap (λ (n : ℕ). take n (drop black.from text)) size ∙ ap (λ (bs : List ℕ). take (suc (black.to - (black.from + 1))) bs) bytes
 
-pub plus_said : {A : Type 0} (text : List ℕ) (black : Span) (entry : Option A) → black.from < black.to → black.to ≤ length text → get_or text black.from 0 ≡ 43
-    → says_plus (fields_of 58 (part text black)) (first_field (part text (record { from = black.from + 1; to = black.to }))) ≡ says_by entry (part text black)
-plus_said text black entry filled inside sign =
+pub plus_said : (text : List ℕ) (black : Span) → black.from < black.to → black.to ≤ length text → get_or text black.from 0 ≡ 43
+    → says_plus (fields_of 58 (part text black)) (first_field (part text (record { from = black.from + 1; to = black.to }))) ≡ says_by (part text black)
+plus_said text black filled inside sign =
     let rest = part text (record { from = black.from + 1; to = black.to }) in
     let e : part text black ≡ 43 ∷ rest = part_first text black filled inside ∙ ap (λ b. b ∷ rest) sign in
-    ap (λ bs. says_plus (fields_of 58 bs) (first_field rest)) e ∙ sym (ap (says_by entry) e)
+    ap (λ bs. says_plus (fields_of 58 bs) (first_field rest)) e ∙ sym (ap says_by e)
 
-pub minus_said : {A : Type 0} (text : List ℕ) (black : Span) (entry : Option A) → black.from < black.to → black.to ≤ length text → get_or text black.from 0 ≡ 45
-    → says_minus (first_field (part text (record { from = black.from + 1; to = black.to }))) ≡ says_by entry (part text black)
-minus_said text black entry filled inside sign =
+pub minus_said : (text : List ℕ) (black : Span) → black.from < black.to → black.to ≤ length text → get_or text black.from 0 ≡ 45
+    → says_minus (first_field (part text (record { from = black.from + 1; to = black.to }))) ≡ says_by (part text black)
+minus_said text black filled inside sign =
     let rest = part text (record { from = black.from + 1; to = black.to }) in
     let e : part text black ≡ 45 ∷ rest = part_first text black filled inside ∙ ap (λ b. b ∷ rest) sign in
-    sym (ap (says_by entry) e)
+    sym (ap says_by e)
 
-entry_by_first : {A : Type 0} (b : ℕ) (bytes : List ℕ) (entry : Option A) → b ≢ 43 → b ≢ 45 → says_entry entry ≡ says_by entry (b ∷ bytes)
-entry_by_first b bytes entry plus minus =
+own_by_first : (b : ℕ) (bytes : List ℕ) → b ≢ 43 → b ≢ 45 → Own ≡ says_by (b ∷ bytes)
+own_by_first b bytes plus minus =
     let no_plus : nat_eq b 43 ≡ false = grind (arith, nat_tests) in
     let no_minus : nat_eq b 45 ≡ false = grind (arith, nat_tests) in
     rw (no_plus, no_minus) refl
 
-pub entry_said : {A : Type 0} (text : List ℕ) (black : Span) (entry : Option A) → black.from < black.to → black.to ≤ length text → get_or text black.from 0 ≢ 43 → get_or text black.from 0 ≢ 45 → says_entry entry ≡ says_by entry (part text black)
-entry_said text black entry filled inside plus minus =
-    entry_by_first (get_or text black.from 0) (part text (record { from = black.from + 1; to = black.to })) entry plus minus ∙ sym (ap (says_by entry) (part_first text black filled inside))
+pub own_said : (text : List ℕ) (black : Span) → black.from < black.to → black.to ≤ length text → get_or text black.from 0 ≢ 43 → get_or text black.from 0 ≢ 45 → Own ≡ says_by (part text black)
+own_said text black filled inside plus minus =
+    own_by_first (get_or text black.from 0) (part text (record { from = black.from + 1; to = black.to })) plus minus ∙ sym (ap says_by (part_first text black filled inside))
 
 -- a line says what stands after its white space, where it has no zero byte
-pub said_after : {A : Type 0} (entry_of : List ℕ → Option A) (text : List ℕ) (line : Span) (w : ℕ) → has_zero (part text line) ≡ false → w ≤ length (part text line) → drop w (part text line) ≡ trimmed (part text line)
-    → says_by (entry_of (part text line)) (part text (record { from = line.from + w; to = line.to })) ≡ says entry_of (part text line)
-said_after entry_of text line w clean l rest =
-    rw clean (ap (says_by (entry_of (part text line))) (sym (part-drop text line w l) ∙ rest))
+pub said_after : (text : List ℕ) (line : Span) (w : ℕ) → has_zero (part text line) ≡ false → w ≤ length (part text line) → drop w (part text line) ≡ trimmed (part text line)
+    → says_by (part text (record { from = line.from + w; to = line.to })) ≡ says (part text line)
+said_after text line w clean l rest =
+    rw clean (ap says_by (sym (part-drop text line w l) ∙ rest))

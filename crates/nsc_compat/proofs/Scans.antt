@@ -1,12 +1,14 @@
 -- Scans go by which names are excluded, and not by how they are listed.
-use Rattle.std.proofs.Common.{◌≡◌, ℕ, Bool, true, not, ◌&&◌, ◌||◌, if◌then◌else◌, List, [], ◌∷◌, drop, Option, Some, None, Result, Ok, Err, IfOk, refl, sym, ◌∙◌, ap}
+use Rattle.std.proofs.Common.{◌≡◌, ℕ, Bool, true, false, not, ◌&&◌, ◌||◌, if◌then◌else◌, List, [], ◌∷◌, Option, Some, None, refl, sym, ◌∙◌, ap}
 use Rattle.std.specs.Str.{bytes_eq}
+use Rattle.nsc_model.specs.declared.kind.Db.{Db}
 use Rattle.nsc_model.specs.declared.row.Looked.{Looked}
-use Rattle.nsc_model.specs.Compat.{Says, Entry, Excludes, Asks, AsksAll, Netgroup, Nothing, Scan, answers_or, is_excluded, says, scan_line, scanned}
-use Rattle.nsc_base.specs.declared.span.Line.{Line}
-use Rattle.nsc_base.specs.Text.{IsLine, lines_of, part}
+use Rattle.nsc_model.specs.Compat.{Says, Own, Excludes, Asks, AsksAll, Netgroup, Nothing, Scan, answers_or, is_excluded, says, scan_line, scanned}
+use Rattle.nsc_model.specs.Content.{Content}
+use Rattle.nsc_compat.specs.declared.asking.Asking.{Asking}
+use Rattle.nsc_compat.specs.Accounts.{Accounts, is_wanted, outcome_by, scan_of}
 use Rattle.nsc_compat.specs.Names.{SameNames}
-use Rattle.nsc_compat.specs.Wanted.{looked_or}
+use Rattle.nsc_compat.specs.Lines.{looked_or}
 
 pub with_name : (name : List ℕ) (these those : List (List ℕ)) → SameNames these those → SameNames (name ∷ these) (name ∷ those)
 with_name name these those same = λ q. ap (λ v. bytes_eq name q || v) (same q)
@@ -18,49 +20,54 @@ answers_same scan names these those same (Some entry) replaced next later e =
     ap (λ v. if names entry && not v then scan.found (replaced entry) else next) (same (scan.name_of entry))
     ∙ ap (λ (n : Looked). if names entry && not (is_excluded those (scan.name_of entry)) then scan.found (replaced entry) else n) e
 
-line_same : {A : Type 0} (scan : Scan A) (said : Says A) (these those : List (List ℕ)) (next : List (List ℕ) → Looked) → ((a b : List (List ℕ)) → SameNames a b → next a ≡ next b) → SameNames these those
-    → scan_line scan these said next ≡ scan_line scan those said next
-line_same scan (Entry e) these those next each same = answers_same scan scan.names these those same (Some e) (λ x. x) (next these) (next those) (each these those same)
-line_same scan (Excludes name) these those next each same = each (name ∷ these) (name ∷ those) (with_name name these those same)
-line_same scan (Asks name fields) these those next each same = answers_same scan scan.names these those same (scan.by_name name) (scan.replaced fields) (next these) (next those) (each these those same)
-line_same scan (AsksAll fields) these those next each same = answers_same scan (λ e. true) these those same scan.asked (scan.replaced fields) (next these) (next those) (each these those same)
-line_same scan Netgroup these those next each same = refl
-line_same scan Nothing these those next each same = each these those same
+line_same : {A : Type 0} (scan : Scan A) (line : List ℕ) (said : Says) (these those : List (List ℕ)) (next : List (List ℕ) → Looked) → ((a b : List (List ℕ)) → SameNames a b → next a ≡ next b) → SameNames these those
+    → scan_line scan these line said next ≡ scan_line scan those line said next
+line_same scan line Own these those next each same = answers_same scan scan.names these those same (scan.entry_of line) (λ x. x) (next these) (next those) (each these those same)
+line_same scan line (Excludes name) these those next each same = each (name ∷ these) (name ∷ those) (with_name name these those same)
+line_same scan line (Asks name fields) these those next each same = answers_same scan scan.names these those same (scan.by_name name) (scan.replaced fields) (next these) (next those) (each these those same)
+line_same scan line (AsksAll fields) these those next each same = answers_same scan (λ e. true) these those same scan.asked (scan.replaced fields) (next these) (next those) (each these those same)
+line_same scan line Netgroup these those next each same = refl
+line_same scan line Nothing these those next each same = each these those same
 
-pub scanned_same : {A : Type 0} (scan : Scan A) (lines : List (List ℕ)) (these those : List (List ℕ)) → SameNames these those → scanned scan lines these ≡ scanned scan lines those
+scanned_same : {A : Type 0} (scan : Scan A) (lines : List (List ℕ)) (these those : List (List ℕ)) → SameNames these those → scanned scan lines these ≡ scanned scan lines those
 scanned_same scan [] these those same = refl
-scanned_same scan (line ∷ lines) these those same = line_same scan (says scan.entry_of line) these those (scanned scan lines) (scanned_same scan lines) same
-
--- after a line that excludes a name
-pub after_excluded : {A : Type 0} (scan : Scan A) (line name : List ℕ) (excluded more : List (List ℕ)) → Excludes name ≡ says scan.entry_of line → SameNames more (name ∷ excluded) → (lines : List (List ℕ)) → scanned scan lines more ≡ scanned scan (line ∷ lines) excluded
-after_excluded scan line name excluded more is same lines =
-    scanned_same scan lines more (name ∷ excluded) same ∙ ap (λ said. scan_line scan excluded said (scanned scan lines)) is
-
--- a line that asks for the request itself comes to what is asked
-pub asked_line : {A : Type 0} (scan : Scan A) (line : List ℕ) (fields : List (List ℕ)) (excluded : List (List ℕ)) → AsksAll fields ≡ says scan.entry_of line → (lines : List (List ℕ))
-    → answers_or scan (λ e. true) excluded scan.asked (scan.replaced fields) (scanned scan lines excluded) ≡ scanned scan (line ∷ lines) excluded
-asked_line scan line fields excluded is lines = ap (λ said. scan_line scan excluded said (scanned scan lines)) is
-
-pub ok_weaker : {A E : Type 0} {P Q : A → Type 0} (r : Result A E) → ((x : A) → P x → Q x) → IfOk r P → IfOk r Q
-ok_weaker (Ok x) each h = each x h
-ok_weaker (Err e) each h = tt
+scanned_same scan (line ∷ lines) these those same = line_same scan line (says line) these those (scanned scan lines) (scanned_same scan lines) same
 
 -- ---- line by line
 
--- what a line comes to, where the lines after it are looked at with these names excluded
-abbrev pub ComesTo : {A : Type 0} → Scan A → List ℕ → List (List ℕ) → List (List ℕ) → Option Looked → Type 0
-ComesTo scan line excluded more outcome = (lines : List (List ℕ)) → looked_or outcome (scanned scan lines more) ≡ scanned scan (line ∷ lines) excluded
+-- a line comes to what it says
+said_line : {A : Type 0} (scan : Scan A) (line : List ℕ) (said : Says) (excluded : List (List ℕ)) (lines : List (List ℕ)) → said ≡ says line → scan_line scan excluded line said (scanned scan lines) ≡ scanned scan (line ∷ lines) excluded
+said_line scan line said excluded lines is = ap (λ s. scan_line scan excluded line s (scanned scan lines)) is
 
--- a line that answers decides
-pub line_answers : {A : Type 0} (scan : Scan A) (text : List ℕ) (from : ℕ) (line : Line) (excluded more : List (List ℕ)) (outcome : Option Looked) (looked : Looked) → IsLine text from line → ComesTo scan (part text line.span) excluded more outcome
-    → outcome ≡ Some looked → scanned scan (lines_of (drop from text)) excluded ≡ scanned scan (lines_of text) [] → looked ≡ scanned scan (lines_of text) []
-line_answers scan text from line excluded more outcome looked is comes answers left =
-    let rest = lines_of (drop line.next text) in
-    sym (ap (λ o. looked_or o (scanned scan rest more)) answers) ∙ comes rest ∙ sym (ap (λ (lines : List (List ℕ)). scanned scan lines excluded) is.cut) ∙ left
+pub name_excluded : {A : Type 0} (scan : Scan A) (line name : List ℕ) (excluded more : List (List ℕ)) → Excludes name ≡ says line → SameNames more (name ∷ excluded) → (lines : List (List ℕ)) → scanned scan lines more ≡ scanned scan (line ∷ lines) excluded
+name_excluded scan line name excluded more is same lines = scanned_same scan lines more (name ∷ excluded) same ∙ said_line scan line (Excludes name) excluded lines is
 
--- and another one leaves the decision to the lines after it
-pub line_passed : {A : Type 0} (scan : Scan A) (text : List ℕ) (from : ℕ) (line : Line) (excluded more : List (List ℕ)) (outcome : Option Looked) → IsLine text from line → ComesTo scan (part text line.span) excluded more outcome
-    → outcome ≡ None → scanned scan (lines_of (drop from text)) excluded ≡ scanned scan (lines_of text) [] → scanned scan (lines_of (drop line.next text)) more ≡ scanned scan (lines_of text) []
-line_passed scan text from line excluded more outcome is comes passes left =
-    let rest = lines_of (drop line.next text) in
-    sym (ap (λ o. looked_or o (scanned scan rest more)) passes) ∙ comes rest ∙ sym (ap (λ (lines : List (List ℕ)). scanned scan lines excluded) is.cut) ∙ left
+module _ {A : Type 0} (accounts : Accounts A) (content : Content) (asking : Asking) (line : List ℕ) (excluded : List (List ℕ)) where
+  -- an entry that answers, or the lines after it
+  entry_or : (names : A → Bool) (o : Option A) (replaced : A → A) (next : Looked) → looked_or (outcome_by accounts names excluded o replaced) next ≡ answers_or (scan_of accounts content asking) names excluded o replaced next
+  entry_or names None replaced next = refl
+  entry_or names (Some a) replaced next =
+      elim (names a && not (is_excluded excluded (accounts.name_of a))) as (λ v. looked_or (if v then Some (accounts.found (replaced a)) else None) next ≡ (if v then accounts.found (replaced a) else next)) [ true ↦ refl | false ↦ refl ]
+
+  pub own_answers : (outcome : Option Looked) → Own ≡ says line → outcome ≡ outcome_by accounts (is_wanted accounts asking.wanted) excluded (accounts.entry_of line) (λ a. a)
+      → (lines : List (List ℕ)) → looked_or outcome (scanned (scan_of accounts content asking) lines excluded) ≡ scanned (scan_of accounts content asking) (line ∷ lines) excluded
+  own_answers outcome is gives lines =
+      let scan = scan_of accounts content asking in
+      let next = scanned scan lines excluded in
+      ap (λ o. looked_or o next) gives ∙ entry_or (is_wanted accounts asking.wanted) (accounts.entry_of line) (λ a. a) next ∙ said_line scan line Own excluded lines is
+
+  pub named_answers : (outcome : Option Looked) (name : List ℕ) (fields : List (List ℕ)) (o : Option A) → Asks name fields ≡ says line → o ≡ (scan_of accounts content asking).by_name name
+      → outcome ≡ outcome_by accounts (is_wanted accounts asking.wanted) excluded o (accounts.replaced fields) → (lines : List (List ℕ)) → looked_or outcome (scanned (scan_of accounts content asking) lines excluded) ≡ scanned (scan_of accounts content asking) (line ∷ lines) excluded
+  named_answers outcome name fields o is found gives lines =
+      let scan = scan_of accounts content asking in
+      let next = scanned scan lines excluded in
+      ap (λ p. looked_or p next) (gives ∙ ap (λ p. outcome_by accounts (is_wanted accounts asking.wanted) excluded p (accounts.replaced fields)) found)
+      ∙ entry_or (is_wanted accounts asking.wanted) (scan.by_name name) (accounts.replaced fields) next ∙ said_line scan line (Asks name fields) excluded lines is
+
+  pub asked_answers : (outcome : Option Looked) (fields : List (List ℕ)) (o : Option A) → AsksAll fields ≡ says line → o ≡ (scan_of accounts content asking).asked
+      → outcome ≡ outcome_by accounts (λ a. true) excluded o (accounts.replaced fields) → (lines : List (List ℕ)) → looked_or outcome (scanned (scan_of accounts content asking) lines excluded) ≡ scanned (scan_of accounts content asking) (line ∷ lines) excluded
+  asked_answers outcome fields o is found gives lines =
+      let scan = scan_of accounts content asking in
+      let next = scanned scan lines excluded in
+      ap (λ p. looked_or p next) (gives ∙ ap (λ p. outcome_by accounts (λ a. true) excluded p (accounts.replaced fields)) found)
+      ∙ entry_or (λ a. true) scan.asked (accounts.replaced fields) next ∙ said_line scan line (AsksAll fields) excluded lines is

@@ -1,5 +1,5 @@
 -- The ids of a user's groups, line by line.
-use Rattle.std.specs.Prelude.{ℕ, Bool, true, false, not, ◌&&◌, if◌then◌else◌, List, [], ◌∷◌, Option, Some, None}
+use Rattle.std.specs.Prelude.{ℕ, not, ◌&&◌, if◌then◌else◌, List, [], ◌∷◌, Option, Some, None}
 use Rattle.nsc_model.specs.declared.row.Group.{Group}
 use Rattle.nsc_model.specs.Compat.{is_excluded}
 use Rattle.nsc_model.specs.Groups.{has_member}
@@ -12,8 +12,3 @@ unless_excluded excluded name id = if is_excluded excluded name then [] else id 
 abbrev pub member_id : List ℕ → List (List ℕ) → Option Group → List ℕ
 member_id user excluded None = []
 member_id user excluded (Some g) = if has_member user g && not (is_excluded excluded g.name) then g.gid ∷ [] else []
-
--- what the lines come to, where they may be looked at
-abbrev pub where_on : Bool → Option (List ℕ) → Option (List ℕ)
-where_on true ids = ids
-where_on false ids = None

@@ -1,23 +1,21 @@
 ghost use Rattle.std.specs.Prelude.{◌≡◌};
-ghost use Rattle.nsc_compat.specs.Wanted.{names_entry};
+ghost use Rattle.nsc_compat.specs.Accounts.{names_entry};
 
 use nsc_base::equal;
-use nsc_model::{Content, Kind};
+use nsc_model::Kind;
 
 /// What a request names: an entry by its name, or by its id. No id names no entry.
 #[derive(Clone, Copy)]
-pub enum Wanted<'a> {
+pub enum Wanted<'k> {
     /// The entry of this name.
-    Name(&'a [u8]),
+    Name(&'k [u8]),
     /// The entry of this id.
     Id(Option<u32>),
 }
 
-/// A request for one entry, and the content that it is asked over.
+/// A request for one entry.
 #[derive(Clone, Copy)]
-pub struct Asking<'c, 'k> {
-    /// The content.
-    pub content: &'c Content,
+pub struct Asking<'k> {
     /// The kind of the request.
     pub kind: Kind,
     /// The key of the request.

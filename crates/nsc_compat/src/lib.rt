@@ -1,12 +1,15 @@
 //! The service compat of nsswitch.conf(5): the plus and minus lines of passwd and group files.
 #![tactic(auto)]
 
+mod account;
 mod asking;
+mod entries;
 mod excluded;
 mod groups;
+mod lines;
 mod lookup;
-mod said;
 mod member_ids;
+mod said;
 mod sub;
 mod users;
 

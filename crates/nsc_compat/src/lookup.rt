@@ -1,34 +1,42 @@
 ghost use Rattle.std.specs.Prelude.{◌≡◌, IfOk};
 ghost use Rattle.nsc_model.specs.Answers.{compat_answer};
 
-use crate::asking::Wanted;
-use crate::groups::groups;
+use crate::asking::{Asking, Wanted};
+use crate::entries::entry;
 use crate::member_ids::ids_of_user;
 use crate::sub::SubLookup;
-use crate::users::users;
 use nsc_base::{NoMemory, decimal};
-use nsc_model::{Content, Kind, Looked};
+use nsc_model::{Group, Kind, Looked, Passwd};
 use std::alloc::Global;
 
-/// The outcome of the service compat for the request of this kind and key: the lines of the database's file in turn, with
-/// the names that are excluded so far. Unavailable where the file is absent, where a netgroup is reached, and for hosts and
-/// services, which have no compat. Fails only for want of memory.
+/// The outcome of the service compat for the request of this kind and key, over the content that the sub-lookup stands
+/// for: the lines of the database's file in turn, with the names that are excluded so far. Unavailable where the file is
+/// absent, where a netgroup is reached, and for hosts and services, which have no compat. Fails only for want of memory.
 #[tactic(auto, unfolding(nsc_model::specs::Answers::compat_answer))]
 pub fn compat_lookup<S: SubLookup>(
     alloc: Global,
-    content: &Content,
     kind: Kind,
     key: &[u8],
     sub: &S,
 ) -> Result<Looked, NoMemory>
-    ensures { IfOk result (λ looked. looked ≡ compat_answer content.now (record { kind = kind; key = key.now })) }
+    ensures { IfOk result (λ looked. looked ≡ compat_answer (S.content sub.now) (record { kind = kind; key = key.now })) }
 {
+    let by_name = Asking {
+        kind,
+        key,
+        wanted: Wanted::Name(key),
+    };
+    let by_id = Asking {
+        kind,
+        key,
+        wanted: Wanted::Id(decimal(key)),
+    };
     match kind {
-        Kind::PwName => users(alloc, content, kind, key, Wanted::Name(key), sub),
-        Kind::PwUid => users(alloc, content, kind, key, Wanted::Id(decimal(key)), sub),
-        Kind::GrName => groups(alloc, content, kind, key, Wanted::Name(key), sub),
-        Kind::GrGid => groups(alloc, content, kind, key, Wanted::Id(decimal(key)), sub),
-        Kind::InitGroups => ids_of_user(alloc, content, key, sub),
+        Kind::PwName => entry::<Passwd, S>(alloc, by_name, sub),
+        Kind::PwUid => entry::<Passwd, S>(alloc, by_id, sub),
+        Kind::GrName => entry::<Group, S>(alloc, by_name, sub),
+        Kind::GrGid => entry::<Group, S>(alloc, by_id, sub),
+        Kind::InitGroups => ids_of_user(alloc, key, sub),
         Kind::HostName
         | Kind::HostName6
         | Kind::HostAddr

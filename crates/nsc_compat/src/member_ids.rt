@@ -1,105 +1,89 @@
 ghost use Rattle.std.specs.Prelude.{◌≡◌, ◌≤◌, ◌∷◌, ℕ, List, [], IfOk, OnOk, length, map};
 ghost use Rattle.std.specs.Option.{option_map};
-ghost use Rattle.nsc_base.specs.Text.{lines_of, part};
-ghost use Rattle.nsc_model.specs.Answers.{found_ids, found_or_unavail, gathered_file, group_in as group_found, id_scan};
+ghost use Rattle.nsc_base.specs.Text.{part};
+ghost use Rattle.nsc_model.specs.Answers.{found_ids, gathered_file, group_in as group_found, id_scan};
 ghost use Rattle.nsc_model.specs.Compat.{gathered, ids_of_pairs};
 ghost use Rattle.nsc_model.specs.Groups.{group_of_line, has_member as is_member};
 ghost use Rattle.nsc_accounts.specs.Once.{all_ids};
-ghost use Rattle.nsc_compat.specs.Gathered.{member_id, unless_excluded, where_on};
+ghost use Rattle.nsc_compat.specs.Gathered.{member_id, unless_excluded};
+ghost use Rattle.nsc_compat.specs.Lines.{ids_or_unavail};
 ghost use Rattle.nsc_compat.specs.Pairs.{pair_of};
 
 use crate::excluded::Excluded;
-use crate::groups::group_in;
+use crate::account::Account;
+use crate::lines::{LineScan, scan_lines};
 use crate::said::{Said, line_says};
 use crate::sub::{NamedId, SubLookup};
 use nsc_accounts::{OnceIds, group_line, has_member};
-use nsc_base::{Ids, NoMemory, Span, equal, line_at};
-use nsc_model::{Content, FileId, Group, Kind, Looked, Row};
+use nsc_base::{Ids, NoMemory, Span, equal};
+use nsc_model::{FileId, Group, Kind, Looked, Row};
 use std::alloc::Global;
-
-/// A user whose groups are asked for, and the content that they are asked over.
-#[derive(Clone, Copy)]
-struct Member<'c, 'u> {
-    /// The content.
-    content: &'c Content,
-    /// The user's name.
-    user: &'u [u8],
-}
 
 /// The outcome of compat for the groups of a user: their ids in the order of the lines, each once, and not found where there
 /// is none. Unavailable where the group file is absent, or a netgroup is reached. Fails only for want of memory.
 pub fn ids_of_user<S: SubLookup>(
     alloc: Global,
-    content: &Content,
     user: &[u8],
     sub: &S,
 ) -> Result<Looked, NoMemory>
-    ensures { IfOk result (λ looked. looked ≡ gathered_file (id_scan content.now user.now) content.now.group) }
+    ensures { IfOk result (λ looked. looked ≡ gathered_file (id_scan (S.content sub.now) user.now) (S.content sub.now).group) }
 {
-    let member = Member { content, user };
-    match content.file(FileId::Group) {
-        Some(text) => gather(alloc, &member, sub, text),
-        None => Ok(Looked::Unavail),
-    }
+    let Some(text) = sub.content().file(FileId::Group) else {
+        return Ok(Looked::Unavail);
+    };
+    let scan = MemberScan {
+        sub,
+        user,
+        excluded: Excluded::new(alloc),
+        ids: OnceIds::new(alloc),
+    };
+    scan_lines(alloc, scan, text)
 }
 
-// The outcome over the text of a group file.
-fn gather<S: SubLookup>(
-    alloc: Global,
-    member: &Member,
-    sub: &S,
-    text: &[u8],
-) -> Result<Looked, NoMemory>
-    ensures { IfOk result (λ looked. looked ≡ found_or_unavail (gathered (id_scan member.now.content.now member.now.user.now) (lines_of text.now) [])) }
-{
-    let mut excluded = Excluded::new(alloc);
-    let mut ids = OnceIds::new(alloc);
-    let mut from = 0;
-    while let Some(line) = line_at(text, from) {
-        if !add_line(alloc, member, sub, text, line.span, &mut excluded, &mut ids)? {
-            return Ok(Looked::Unavail);
-        }
-        from = line.next;
-    }
-    Ok(outcome_of(ids.into_ids()))
+// A scan for the groups of a user: who is asked, the user's name, the names that are excluded and the ids so far.
+#[derive(Drop)]
+struct MemberScan<'s, 'u, 't, S: SubLookup> {
+    sub: &'s S,
+    user: &'u [u8],
+    excluded: Excluded<'t>,
+    ids: OnceIds,
 }
 
-// Adds the ids of a line, or excludes its name. False at a netgroup, after which no line is looked at.
-fn add_line<'t, S: SubLookup>(
-    alloc: Global,
-    member: &Member,
-    sub: &S,
-    text: &'t [u8],
-    line: Span,
-    excluded: &mut Excluded<'t>,
-    ids: &mut OnceIds,
-) -> Result<bool, NoMemory>
-    requires ordered { line.from ≤ line.to }
-    requires inside { line.to ≤ length text.now }
-    ensures { IfOk result (λ on. (lines : List (List ℕ)) → where_on on (option_map (all_ids ids.new) (gathered (id_scan member.now.content.now member.now.user.now) lines excluded.new)) ≡ option_map (all_ids ids.old) (gathered (id_scan member.now.content.now member.now.user.now) (part text.now line ∷ lines) excluded.old)) }
-{
-    match line_says(text, line) {
-        Said::Plain => {
-            add_own(text, line, member.user, excluded, ids)?;
-            Ok(true)
+impl<'s, 'u, 't, S: SubLookup> LineScan<'t> for MemberScan<'s, 'u, 't, S> {
+    ghost comes = { λ s lines. ids_or_unavail (option_map (all_ids s.ids) (gathered (id_scan (S.content s.sub.now) s.user.now) lines s.excluded)) };
+
+    fn take(
+        &mut self,
+        alloc: Global,
+        text: &'t [u8],
+        line: Span,
+    ) -> Result<Option<Looked>, NoMemory> {
+        match line_says(text, line) {
+            Said::Own => {
+                add_own(text, line, self.user, &self.excluded, &mut self.ids)?;
+                Ok(None)
+            }
+            Said::Excludes(name) => {
+                self.excluded.add(&text[name.from..name.to])?;
+                Ok(None)
+            }
+            Said::Asks { name, .. } => {
+                let found = self.sub.look(alloc, Kind::GrName, &text[name.from..name.to])?;
+                add_found(found, self.user, &self.excluded, &mut self.ids)?;
+                Ok(None)
+            }
+            Said::AsksAll { .. } => {
+                let groups = self.sub.named_groups(alloc, self.user)?;
+                add_all(&groups, &self.excluded, &mut self.ids)?;
+                Ok(None)
+            }
+            Said::Netgroup => Ok(Some(Looked::Unavail)),
+            Said::Nothing => Ok(None),
         }
-        Said::Excludes(name) => {
-            excluded.add(&text[name.from..name.to])?;
-            Ok(true)
-        }
-        Said::Asks { name, .. } => {
-            let name = &text[name.from..name.to];
-            let found = sub.look(alloc, member.content, Kind::GrName, name)?;
-            add_found(found, member.user, excluded, ids)?;
-            Ok(true)
-        }
-        Said::AsksAll { .. } => {
-            let groups = sub.named_groups(alloc, member.content, member.user)?;
-            add_all(&groups, excluded, ids)?;
-            Ok(true)
-        }
-        Said::Netgroup => Ok(false),
-        Said::Nothing => Ok(true),
+    }
+
+    fn end(self) -> Looked {
+        outcome_of(self.ids.into_ids())
     }
 }
 
@@ -133,7 +117,7 @@ fn add_found(
 ) -> Result<(), NoMemory>
     ensures { OnOk result (ids.new ≡ all_ids ids.old (member_id user.now excluded.now (group_found found))) }
 {
-    let Some(group) = group_in(found) else {
+    let Some(group) = Group::in_outcome(found) else {
         return Ok(());
     };
     if !is_member(&group, user) {

@@ -1,10 +1,6 @@
-ghost use Rattle.std.specs.Prelude.{◌≡◌, ◌+◌, ◌<◌, ◌≤◌, Option, length};
+ghost use Rattle.std.specs.Prelude.{◌≡◌, ◌+◌, ◌<◌, ◌≤◌, length};
 ghost use Rattle.nsc_base.specs.Text.{LiesIn, fields_of, part};
-ghost use Rattle.nsc_model.specs.declared.row.Passwd.{Passwd};
-ghost use Rattle.nsc_model.specs.declared.row.Group.{Group};
 ghost use Rattle.nsc_model.specs.Compat.{first_field, says, says_by, says_minus, says_plus};
-ghost use Rattle.nsc_model.specs.Users.{user_of_line};
-ghost use Rattle.nsc_model.specs.Groups.{group_of_line};
 ghost use Rattle.nsc_compat.specs.Said.{SaidIn, said_as};
 
 use nsc_accounts::white_front;
@@ -13,8 +9,8 @@ use nsc_base::{Span, field_at, has_zero_byte};
 /// What a line of a passwd or group file says, as places in the text.
 #[derive(Clone, Copy, Debug, PartialEq, Eq)]
 pub enum Said {
-    /// An entry, where the line has the form of one.
-    Plain,
+    /// Its own entry, where the line has the form of one.
+    Own,
     /// A name is excluded.
     Excludes(Span),
     /// The entry of a name is asked of further services.
@@ -40,8 +36,7 @@ pub enum Said {
 pub fn line_says(text: &[u8], line: Span) -> Said
     requires ordered { line.from ≤ line.to }
     requires inside { line.to ≤ length text.now }
-    ensures users { said_as text.now (user_of_line (part text.now line)) result ≡ says user_of_line (part text.now line) }
-    ensures groups { said_as text.now (group_of_line (part text.now line)) result ≡ says group_of_line (part text.now line) }
+    ensures says { said_as text.now result ≡ says (part text.now line) }
     ensures inside { SaidIn line result }
 {
     let bytes = &text[line.from..line.to];
@@ -59,8 +54,7 @@ pub fn line_says(text: &[u8], line: Span) -> Said
 fn black_says(text: &[u8], black: Span) -> Said
     requires ordered { black.from ≤ black.to }
     requires inside { black.to ≤ length text.now }
-    ensures users { (entry : Option Passwd) → said_as text.now entry result ≡ says_by entry (part text.now black) }
-    ensures groups { (entry : Option Group) → said_as text.now entry result ≡ says_by entry (part text.now black) }
+    ensures says { said_as text.now result ≡ says_by (part text.now black) }
     ensures inside { SaidIn black result }
 {
     if black.from == black.to {
@@ -69,7 +63,7 @@ fn black_says(text: &[u8], black: Span) -> Said
     match text[black.from] {
         b'+' => plus_says(text, name_after(text, black), black),
         b'-' => minus_says(text, name_after(text, black)),
-        _ => Said::Plain,
+        _ => Said::Own,
     }
 }
 
@@ -95,8 +89,7 @@ fn plus_says(text: &[u8], name: Span, all: Span) -> Said
     requires ordered { all.from ≤ all.to }
     requires inside { all.to ≤ length text.now }
     requires name_in { LiesIn all name }
-    ensures users { (entry : Option Passwd) → said_as text.now entry result ≡ says_plus (fields_of 58 (part text.now all)) (part text.now name) }
-    ensures groups { (entry : Option Group) → said_as text.now entry result ≡ says_plus (fields_of 58 (part text.now all)) (part text.now name) }
+    ensures says { said_as text.now result ≡ says_plus (fields_of 58 (part text.now all)) (part text.now name) }
     ensures inside { SaidIn all result }
 {
     match &text[name.from..name.to] {
@@ -110,8 +103,7 @@ fn plus_says(text: &[u8], name: Span, all: Span) -> Said
 fn minus_says(text: &[u8], name: Span) -> Said
     requires ordered { name.from ≤ name.to }
     requires inside { name.to ≤ length text.now }
-    ensures users { (entry : Option Passwd) → said_as text.now entry result ≡ says_minus (part text.now name) }
-    ensures groups { (entry : Option Group) → said_as text.now entry result ≡ says_minus (part text.now name) }
+    ensures says { said_as text.now result ≡ says_minus (part text.now name) }
     ensures inside { SaidIn name result }
 {
     match &text[name.from..name.to] {

@@ -1,4 +1,6 @@
-ghost use Rattle.std.specs.Prelude.{◌≡◌, IfOk, map};
+ghost use Rattle.std.specs.Prelude.{◌≡◌, true, IfOk, map};
+ghost use Rattle.nsc_model.specs.Content.{Content};
+ghost use Rattle.nsc_model.specs.Compat.{has_compat};
 ghost use Rattle.nsc_model.specs.Answers.{named_groups, sub_looked};
 ghost use Rattle.nsc_model.specs.Kinds.{database_of};
 ghost use Rattle.nsc_compat.specs.Pairs.{pair_of};
@@ -16,26 +18,24 @@ pub struct NamedId {
     pub gid: u32,
 }
 
-/// The services that compat lines ask: those of the list `passwd_compat` or `group_compat` of a content's
+/// A content with the services that its compat lines ask: those of the list `passwd_compat` or `group_compat` of its
 /// nsswitch.conf(5), within which compat itself is unavailable.
 pub trait SubLookup {
-    /// The outcome of these services for the request of this kind and key. Fails only for want of memory.
-    fn look(
-        &self,
-        alloc: Global,
-        content: &Content,
-        kind: Kind,
-        key: &[u8],
-    ) -> Result<Looked, NoMemory>
-        ensures { IfOk result (λ looked. looked ≡ sub_looked content.now (database_of kind) kind key.now) };
+    /// The content.
+    ghost content: { Self → Content };
+
+    /// The content.
+    fn content(&self) -> &Content
+        ensures { result.now ≡ content self.now };
+
+    /// The outcome of these services for the request of this kind, which is one of passwd or group, and key. Fails only
+    /// for want of memory.
+    fn look(&self, alloc: Global, kind: Kind, key: &[u8]) -> Result<Looked, NoMemory>
+        requires { has_compat (database_of kind) ≡ true }
+        ensures { IfOk result (λ looked. looked ≡ sub_looked (content self.now) (database_of kind) kind key.now) };
 
     /// The names and ids of all groups that have the user as a member, in the order of the file, none dropped: those of
     /// the service whose outcome the list takes, and so none where that is not SUCCESS. Fails only for want of memory.
-    fn named_groups(
-        &self,
-        alloc: Global,
-        content: &Content,
-        user: &[u8],
-    ) -> Result<Vec<NamedId>, NoMemory>
-        ensures { IfOk result (λ groups. map pair_of groups.items ≡ named_groups content.now user.now) };
+    fn named_groups(&self, alloc: Global, user: &[u8]) -> Result<Vec<NamedId>, NoMemory>
+        ensures { IfOk result (λ groups. map pair_of groups.items ≡ named_groups (content self.now) user.now) };
 }

@@ -1,203 +1,80 @@
-ghost use Rattle.std.specs.Prelude.{◌≡◌, ◌≤◌, ◌∷◌, ℕ, List, [], All, IfOk, length, map, if◌then◌else◌, true, Some};
-ghost use Rattle.nsc_base.specs.Text.{LiesIn, fields_of, lines_of, part};
-ghost use Rattle.nsc_model.specs.declared.kind.Db.TheVariants as db;
-ghost use Rattle.nsc_model.specs.Answers.{sub_looked, user_in, user_scan};
-ghost use Rattle.nsc_model.specs.Compat.{answers_or, is_excluded, own_or, replaced_user, scanned, scanned_file};
-ghost use Rattle.nsc_model.specs.Kinds.{database_of};
-ghost use Rattle.nsc_model.specs.Users.{user_of_line};
-ghost use Rattle.nsc_compat.specs.Wanted.{looked_or, users_asked, wanted_user};
+ghost use Rattle.std.specs.Prelude.{◌≡◌, ◌≤◌, All, IfOk, length, map, refl};
+ghost use Rattle.nsc_base.specs.Text.{LiesIn, fields_of, part};
+ghost use Rattle.nsc_model.specs.Answers.{user_in};
+ghost use Rattle.nsc_model.specs.Compat.{own_or, replaced_user};
+ghost use Rattle.nsc_compat.specs.Accounts.{passwd_accounts};
 
-use crate::asking::{Asking, Wanted, names_entry};
+use crate::account::Account;
+use crate::asking::{Wanted, names_entry};
 use crate::excluded::Excluded;
-use crate::said::{Said, line_says};
-use crate::sub::SubLookup;
 use nsc_accounts::{exact_fields, passwd_line, user_row};
-use nsc_base::{Bytes, NoMemory, Span, line_at};
-use nsc_model::{Content, FileId, Kind, Looked, Passwd, Row};
+use nsc_base::{Bytes, NoMemory, Span};
+use nsc_model::{FileId, Kind, Looked, Passwd, Row};
 use std::alloc::Global;
 
-/// The outcome of compat for a request for a user: the lines of the passwd file in turn, with the names that are excluded
-/// so far, up to the first one that answers. Unavailable where the file is absent. Fails only for want of memory.
-pub fn users<S: SubLookup>(
-    alloc: Global,
-    content: &Content,
-    kind: Kind,
-    key: &[u8],
-    wanted: Wanted,
-    sub: &S,
-) -> Result<Looked, NoMemory>
-    requires { database_of kind ≡ db.Passwd }
-    ensures { IfOk result (λ looked. looked ≡ scanned_file (user_scan content.now kind key.now (wanted_user wanted.entry)) content.now.passwd) }
-{
-    let asking = Asking {
-        content,
-        kind,
-        key,
-        wanted,
-    };
-    match content.file(FileId::Passwd) {
-        Some(text) => scan_users(alloc, &asking, sub, text),
-        None => Ok(Looked::Unavail),
-    }
-}
+impl Account for Passwd {
+    ghost accounts = { passwd_accounts };
 
-// The outcome over the text of a passwd file.
-fn scan_users<S: SubLookup>(
-    alloc: Global,
-    asking: &Asking,
-    sub: &S,
-    text: &[u8],
-) -> Result<Looked, NoMemory>
-    requires { database_of asking.now.kind ≡ db.Passwd }
-    ensures { IfOk result (λ looked. looked ≡ scanned (users_asked asking.now) (lines_of text.now) []) }
-{
-    let mut excluded = Excluded::new(alloc);
-    let mut from = 0;
-    while let Some(line) = line_at(text, from) {
-        if let Some(outcome) = user_line(alloc, asking, sub, text, line.span, &mut excluded)? {
-            return Ok(outcome);
+    ghost has = { refl };
+
+    ghost asks = { refl };
+
+    fn file() -> FileId {
+        FileId::Passwd
+    }
+
+    fn by_name() -> Kind {
+        Kind::PwName
+    }
+
+    fn own(
+        alloc: Global,
+        text: &[u8],
+        line: Span,
+        wanted: &Wanted,
+        excluded: &Excluded,
+    ) -> Result<Option<Looked>, NoMemory> {
+        let Some(at) = passwd_line(text, line) else {
+            return Ok(None);
+        };
+        let name = &text[at.name.from..at.name.to];
+        if !names_entry(wanted, name, at.uid) {
+            return Ok(None);
         }
-        from = line.next;
-    }
-    Ok(Looked::NotFound)
-}
-
-// The outcome of a line, where it answers; else the names that it excludes are there.
-fn user_line<'t, S: SubLookup>(
-    alloc: Global,
-    asking: &Asking,
-    sub: &S,
-    text: &'t [u8],
-    line: Span,
-    excluded: &mut Excluded<'t>,
-) -> Result<Option<Looked>, NoMemory>
-    requires database { database_of asking.now.kind ≡ db.Passwd }
-    requires ordered { line.from ≤ line.to }
-    requires inside { line.to ≤ length text.now }
-    ensures { IfOk result (λ outcome. (lines : List (List ℕ)) → looked_or outcome (scanned (users_asked asking.now) lines excluded.new) ≡ scanned (users_asked asking.now) (part text.now line ∷ lines) excluded.old) }
-{
-    match line_says(text, line) {
-        Said::Plain => own_user(alloc, asking, text, line, excluded),
-        Said::Excludes(name) => {
-            excluded.add(&text[name.from..name.to])?;
-            Ok(None)
+        if excluded.has(name) {
+            return Ok(None);
         }
-        Said::Asks { name, all } => {
-            let found = sub.look(
-                alloc,
-                asking.content,
-                Kind::PwName,
-                &text[name.from..name.to],
-            )?;
-            named_user(alloc, asking, found, text, all, excluded)
+        Ok(Some(Looked::Found(Row::Passwd(user_row(alloc, text, &at)?))))
+    }
+
+    fn in_outcome(looked: Looked) -> Option<Passwd> {
+        match looked {
+            Looked::Found(Row::Passwd(user)) => Some(user),
+            _ => None,
         }
-        Said::AsksAll { all } => {
-            let found = sub.look(alloc, asking.content, asking.kind, asking.key)?;
-            asked_user(alloc, found, text, all, excluded)
+    }
+
+    fn name(&self) -> &[u8] {
+        self.name.as_slice()
+    }
+
+    fn id(&self) -> u32 {
+        self.uid
+    }
+
+    fn replaced(self, alloc: Global, text: &[u8], all: Span) -> Result<Passwd, NoMemory> {
+        match exact_fields::<7>(text, all) {
+            Some(fields) => with_fields(alloc, self, text, fields),
+            None => Ok(self),
         }
-        Said::Netgroup => Ok(Some(Looked::Unavail)),
-        Said::Nothing => Ok(None),
+    }
+
+    fn found(self) -> Looked {
+        Looked::Found(Row::Passwd(self))
     }
 }
 
-// What the entry of a line comes to: it answers where the request names it and its name is not excluded.
-fn own_user(
-    alloc: Global,
-    asking: &Asking,
-    text: &[u8],
-    line: Span,
-    excluded: &Excluded,
-) -> Result<Option<Looked>, NoMemory>
-    requires ordered { line.from ≤ line.to }
-    requires inside { line.to ≤ length text.now }
-    ensures { IfOk result (λ outcome. (next : Looked) → looked_or outcome next ≡ answers_or (users_asked asking.now) (users_asked asking.now).names excluded.now (user_of_line (part text.now line)) (λ p. p) next) }
-{
-    let Some(at) = passwd_line(text, line) else {
-        return Ok(None);
-    };
-    let name = &text[at.name.from..at.name.to];
-    if !names_entry(&asking.wanted, name, at.uid) {
-        return Ok(None);
-    }
-    if excluded.has(name) {
-        return Ok(None);
-    }
-    Ok(Some(Looked::Found(Row::Passwd(user_row(alloc, text, &at)?))))
-}
-
-// What further services found for the name of a plus line comes to: as in the line itself, it answers where the request
-// names it.
-fn named_user(
-    alloc: Global,
-    asking: &Asking,
-    found: Looked,
-    text: &[u8],
-    all: Span,
-    excluded: &Excluded,
-) -> Result<Option<Looked>, NoMemory>
-    requires ordered { all.from ≤ all.to }
-    requires inside { all.to ≤ length text.now }
-    ensures { IfOk result (λ outcome. (next : Looked) → looked_or outcome next ≡ answers_or (users_asked asking.now) (users_asked asking.now).names excluded.now (user_in found) (replaced_user (fields_of 58 (part text.now all))) next) }
-{
-    let Some(user) = user_in(found) else {
-        return Ok(None);
-    };
-    if !names_entry(&asking.wanted, user.name.as_slice(), user.uid) {
-        return Ok(None);
-    }
-    replaced_unless_excluded(alloc, user, text, all, excluded)
-}
-
-// What further services found for the request itself comes to: it answers where its name is not excluded.
-fn asked_user(
-    alloc: Global,
-    found: Looked,
-    text: &[u8],
-    all: Span,
-    excluded: &Excluded,
-) -> Result<Option<Looked>, NoMemory>
-    requires ordered { all.from ≤ all.to }
-    requires inside { all.to ≤ length text.now }
-    ensures { IfOk result (λ outcome. (asking : Asking) (next : Looked) → looked_or outcome next ≡ answers_or (users_asked asking) (λ p. true) excluded.now (user_in found) (replaced_user (fields_of 58 (part text.now all))) next) }
-{
-    match user_in(found) {
-        Some(user) => replaced_unless_excluded(alloc, user, text, all, excluded),
-        None => Ok(None),
-    }
-}
-
-// A user with the fields of a plus line, where the user's name is not excluded.
-fn replaced_unless_excluded(
-    alloc: Global,
-    user: Passwd,
-    text: &[u8],
-    all: Span,
-    excluded: &Excluded,
-) -> Result<Option<Looked>, NoMemory>
-    requires ordered { all.from ≤ all.to }
-    requires inside { all.to ≤ length text.now }
-    ensures { IfOk result (λ outcome. (next : Looked) → looked_or outcome next ≡ (if is_excluded excluded.now user.name then next else Looked.Found (Row.Passwd (replaced_user (fields_of 58 (part text.now all)) user)))) }
-{
-    if excluded.has(user.name.as_slice()) {
-        return Ok(None);
-    }
-    Ok(Some(Looked::Found(Row::Passwd(replaced(alloc, user, text, all)?))))
-}
-
-// A user with those fields of a plus line in their place that are not empty. The ids are never replaced, and a line that
-// has more or fewer than seven fields replaces nothing.
-fn replaced(alloc: Global, user: Passwd, text: &[u8], all: Span) -> Result<Passwd, NoMemory>
-    requires ordered { all.from ≤ all.to }
-    requires inside { all.to ≤ length text.now }
-    ensures { IfOk result (λ replaced. replaced ≡ replaced_user (fields_of 58 (part text.now all)) user) }
-{
-    match exact_fields::<7>(text, all) {
-        Some(fields) => with_fields(alloc, user, text, fields),
-        None => Ok(user),
-    }
-}
-
-// A user with those of seven fields of a plus line in their place that are not empty.
+// A user with those of seven fields of a plus line in their place that are not empty. The ids are never replaced.
 fn with_fields(
     alloc: Global,
     user: Passwd,
@@ -227,15 +104,5 @@ fn own_or(alloc: Global, own: &[u8], other: Bytes) -> Result<Bytes, NoMemory>
         Ok(other)
     } else {
         Bytes::copy(alloc, own)
-    }
-}
-
-// The user of an outcome, where it has one.
-fn user_in(looked: Looked) -> Option<Passwd>
-    ensures { result ≡ user_in looked }
-{
-    match looked {
-        Looked::Found(Row::Passwd(user)) => Some(user),
-        _ => None,
     }
 }

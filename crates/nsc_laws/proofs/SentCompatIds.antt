@@ -42,8 +42,8 @@ gathered_keeps P scan named pairs (line ∷ lines) all excluded =
     let front = front_keeps (λ g. P g.gid) (scan.group_of line) (filter_map scan.group_of lines) all in
     let later = gathered_keeps P scan named pairs lines front.1 in
     let next = gathered scan lines excluded in
-    line_case (λ said. IfSome (gather_line scan excluded said (gathered scan lines)) (AllByRecursion P)) (later excluded) tt (λ name. later (name ∷ excluded)) scan.group_of line
-    (IfSome_then (scan.group_of line) front.0 (λ g kept. before_keeps P (id_of_group scan excluded (Some g)) next (id_keeps P scan excluded (Some g) kept) (later excluded)))
+    line_case (λ said. IfSome (gather_line scan excluded line said (gathered scan lines)) (AllByRecursion P)) (later excluded)
+    (before_keeps P (id_of_group scan excluded (scan.group_of line)) next (id_keeps P scan excluded (scan.group_of line) front.0) (later excluded)) tt (λ name. later (name ∷ excluded)) line
     (λ clean. before_keeps P (ids_of_pairs excluded scan.pairs) next (map_keeps P (λ p. p.1) (filter (λ p. not (is_excluded excluded p.0)) scan.pairs) (filter_keeps (λ p. P p.1) (λ p. not (is_excluded excluded p.0)) scan.pairs pairs)) (later excluded))
     (λ clean name. before_keeps P (id_of_group scan excluded (scan.by_name name)) next (id_keeps P scan excluded (scan.by_name name) (named name)) (later excluded))
 

@@ -37,8 +37,8 @@ lines_keep {A} P Q scan scans (line ∷ lines) short all excluded =
     let later = lines_keep P Q scan scans lines (omega (arith, short)) front.1 in
     let next = scanned scan lines excluded in
     let fields = fields_of 58 (trimmed line) in
-    line_case (λ said. P (scan_line scan excluded said (scanned scan lines))) (later excluded) scans.lacking (λ name. later (name ∷ excluded)) scan.entry_of line
-    (IfSome_then (scan.entry_of line) front.0 (λ x kept. answers_keep P scan scan.names excluded (Some x) (λ e. e) next (scans.own x kept) (later excluded)))
+    line_case (λ said. P (scan_line scan excluded line said (scanned scan lines))) (later excluded)
+    (answers_keep P scan scan.names excluded (scan.entry_of line) (λ e. e) next (IfSome_then (scan.entry_of line) front.0 scans.own) (later excluded)) scans.lacking (λ name. later (name ∷ excluded)) line
     (λ clean. answers_keep P scan (λ x. true) excluded scan.asked (scan.replaced fields) next (IfSome_then scan.asked scans.asked (λ x kept. scans.replaced fields x (line_fields line clean (omega (arith, short))) kept)) (later excluded))
     (λ clean name. answers_keep P scan scan.names excluded (scan.by_name name) (scan.replaced fields) next (IfSome_then (scan.by_name name) (scans.named name) (λ x kept. scans.replaced fields x (line_fields line clean (omega (arith, short))) kept)) (later excluded))
 

@@ -1,38 +1,43 @@
 -- The service compat of nsswitch.conf(5): lines of passwd and group that exclude names, or ask further services for entries.
-use Rattle.std.specs.Prelude.{ℕ, Bool, true, not, ◌==◌, ◌&&◌, if◌then◌else◌, List, [], ◌∷◌, ◌++◌, map, filter, Option, Some, None}
+use Rattle.std.specs.Prelude.{ℕ, Bool, true, false, not, ◌==◌, ◌&&◌, if◌then◌else◌, List, [], ◌∷◌, ◌++◌, map, filter, Option, Some, None}
 use Rattle.std.specs.List.{before_first, list_any}
 use Rattle.std.specs.Option.{option_map}
 use Rattle.std.specs.Str.{bytes_eq}
 use Rattle.nsc_base.specs.Text.{fields_of, is_filled, lines_of}
+use Rattle.nsc_model.specs.declared.kind.Db.{Db}
+use Rattle.nsc_model.specs.declared.kind.Db.TheVariants as db
 use Rattle.nsc_model.specs.declared.row.Passwd.{Passwd}
 use Rattle.nsc_model.specs.declared.row.Group.{Group}
 use Rattle.nsc_model.specs.declared.row.Looked.{Looked}
 use Rattle.nsc_model.specs.declared.row.Looked.TheVariants.{NotFound, Unavail}
 use Rattle.nsc_model.specs.Users.{has_zero, trimmed}
 
+-- the databases that have it
+abbrev pub has_compat : Db → Bool
+has_compat db.Passwd = true
+has_compat db.Group = true
+has_compat db.Hosts = false
+has_compat db.Services = false
+
 -- ---- lines
 
--- what a line says: an entry; that a name is excluded; that the entry of a name is asked of further services, or that the
--- request itself is; or a netgroup, whose names are not known. The fields are those of the line.
-pub data Says (A : Type 0) : Type 0 where
-  Entry : (entry : A) → Says A
-  Excludes : (name : List ℕ) → Says A
-  Asks : (name : List ℕ) (fields : List (List ℕ)) → Says A
-  AsksAll : (fields : List (List ℕ)) → Says A
-  Netgroup : Says A
-  Nothing : Says A
-
-abbrev pub says_entry : {A : Type 0} → Option A → Says A
-says_entry None = Nothing
-says_entry (Some entry) = Entry entry
+-- what a line says: its own entry, where it has the form of one; that a name is excluded; that the entry of a name is asked of
+-- further services, or that the request itself is; or a netgroup, whose names are not known. The fields are those of the line.
+pub data Says : Type 0 where
+  Own : Says
+  Excludes : (name : List ℕ) → Says
+  Asks : (name : List ℕ) (fields : List (List ℕ)) → Says
+  AsksAll : (fields : List (List ℕ)) → Says
+  Netgroup : Says
+  Nothing : Says
 
 -- after a minus: the name up to the first colon
-abbrev pub says_minus : {A : Type 0} → List ℕ → Says A
+abbrev pub says_minus : List ℕ → Says
 says_minus [] = Nothing
 says_minus (b ∷ name) = if b == 64 then Netgroup else Excludes (b ∷ name)
 
 -- after a plus
-abbrev pub says_plus : {A : Type 0} → List (List ℕ) → List ℕ → Says A
+abbrev pub says_plus : List (List ℕ) → List ℕ → Says
 says_plus fields [] = AsksAll fields
 says_plus fields (b ∷ name) = if b == 64 then Netgroup else Asks (b ∷ name) fields
 
@@ -40,16 +45,16 @@ says_plus fields (b ∷ name) = if b == 64 then Netgroup else Asks (b ∷ name) 
 abbrev pub first_field : List ℕ → List ℕ
 first_field bytes = before_first (λ b. b == 58) bytes
 
--- by the first byte after the white space at the front: a plus, a minus, or an entry
-abbrev pub says_by : {A : Type 0} → Option A → List ℕ → Says A
-says_by entry [] = Nothing
-says_by entry (b ∷ bytes) =
+-- by the first byte after the white space at the front: a plus, a minus, or that of an entry
+abbrev pub says_by : List ℕ → Says
+says_by [] = Nothing
+says_by (b ∷ bytes) =
     if b == 43 then says_plus (fields_of 58 (b ∷ bytes)) (first_field bytes) else (
-    if b == 45 then says_minus (first_field bytes) else says_entry entry)
+    if b == 45 then says_minus (first_field bytes) else Own)
 
 -- a line with a zero byte says nothing
-abbrev pub says : {A : Type 0} → (List ℕ → Option A) → List ℕ → Says A
-says entry_of line = if has_zero line then Nothing else says_by (entry_of line) (trimmed line)
+abbrev pub says : List ℕ → Says
+says line = if has_zero line then Nothing else says_by (trimmed line)
 
 -- ---- fields of a plus line
 
@@ -85,18 +90,18 @@ answers_or scan names excluded (Some entry) replaced next =
     if names entry && not (is_excluded excluded (scan.name_of entry)) then scan.found (replaced entry) else next
 
 -- what a line comes to, where `next` is what the lines after it come to with these names excluded
-abbrev pub scan_line : {A : Type 0} → Scan A → List (List ℕ) → Says A → (List (List ℕ) → Looked) → Looked
-scan_line scan excluded (Entry entry) next = answers_or scan scan.names excluded (Some entry) (λ e. e) (next excluded)
-scan_line scan excluded (Excludes name) next = next (name ∷ excluded)
-scan_line scan excluded (Asks name fields) next = answers_or scan scan.names excluded (scan.by_name name) (scan.replaced fields) (next excluded)
-scan_line scan excluded (AsksAll fields) next = answers_or scan (λ e. true) excluded scan.asked (scan.replaced fields) (next excluded)
-scan_line scan excluded Netgroup next = Unavail
-scan_line scan excluded Nothing next = next excluded
+abbrev pub scan_line : {A : Type 0} → Scan A → List (List ℕ) → List ℕ → Says → (List (List ℕ) → Looked) → Looked
+scan_line scan excluded line Own next = answers_or scan scan.names excluded (scan.entry_of line) (λ e. e) (next excluded)
+scan_line scan excluded line (Excludes name) next = next (name ∷ excluded)
+scan_line scan excluded line (Asks name fields) next = answers_or scan scan.names excluded (scan.by_name name) (scan.replaced fields) (next excluded)
+scan_line scan excluded line (AsksAll fields) next = answers_or scan (λ e. true) excluded scan.asked (scan.replaced fields) (next excluded)
+scan_line scan excluded line Netgroup next = Unavail
+scan_line scan excluded line Nothing next = next excluded
 
 -- the lines from the first on, where these names are excluded so far: the first that answers decides
 abbrev pub scanned : {A : Type 0} → Scan A → List (List ℕ) → List (List ℕ) → Looked
 scanned scan [] excluded = NotFound
-scanned scan (line ∷ lines) excluded = scan_line scan excluded (says scan.entry_of line) (scanned scan lines)
+scanned scan (line ∷ lines) excluded = scan_line scan excluded line (says line) (scanned scan lines)
 
 -- over a file; an absent one is unavailable
 abbrev pub scanned_file : {A : Type 0} → Scan A → Option (List ℕ) → Looked
@@ -126,14 +131,14 @@ abbrev pub before_ids : List ℕ → Option (List ℕ) → Option (List ℕ)
 before_ids ids others = option_map (λ more. ids ++ more) others
 
 -- the ids that a line adds to those of the lines after it; none where a netgroup is reached
-abbrev pub gather_line : IdScan → List (List ℕ) → Says Group → (List (List ℕ) → Option (List ℕ)) → Option (List ℕ)
-gather_line scan excluded (Entry g) next = before_ids (id_of_group scan excluded (Some g)) (next excluded)
-gather_line scan excluded (Excludes name) next = next (name ∷ excluded)
-gather_line scan excluded (Asks name fields) next = before_ids (id_of_group scan excluded (scan.by_name name)) (next excluded)
-gather_line scan excluded (AsksAll fields) next = before_ids (ids_of_pairs excluded scan.pairs) (next excluded)
-gather_line scan excluded Netgroup next = None
-gather_line scan excluded Nothing next = next excluded
+abbrev pub gather_line : IdScan → List (List ℕ) → List ℕ → Says → (List (List ℕ) → Option (List ℕ)) → Option (List ℕ)
+gather_line scan excluded line Own next = before_ids (id_of_group scan excluded (scan.group_of line)) (next excluded)
+gather_line scan excluded line (Excludes name) next = next (name ∷ excluded)
+gather_line scan excluded line (Asks name fields) next = before_ids (id_of_group scan excluded (scan.by_name name)) (next excluded)
+gather_line scan excluded line (AsksAll fields) next = before_ids (ids_of_pairs excluded scan.pairs) (next excluded)
+gather_line scan excluded line Netgroup next = None
+gather_line scan excluded line Nothing next = next excluded
 
 abbrev pub gathered : IdScan → List (List ℕ) → List (List ℕ) → Option (List ℕ)
 gathered scan [] excluded = Some []
-gathered scan (line ∷ lines) excluded = gather_line scan excluded (says scan.group_of line) (gathered scan lines)
+gathered scan (line ∷ lines) excluded = gather_line scan excluded line (says line) (gathered scan lines)

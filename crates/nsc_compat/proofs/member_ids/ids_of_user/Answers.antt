@@ -1,8 +1,20 @@
-use Rattle.std.proofs.Common.{◌∙◌, ap}
+use Rattle.std.proofs.Common.{[], ◌∙◌, ap}
+use Rattle.std.specs.Option.{option_map}
+use Rattle.std.proofs.lemmas.Result.{IfOk-weaker}
+use Rattle.nsc_base.specs.Text.{lines_of}
+use Rattle.nsc_model.specs.declared.kind.FileId.TheVariants as file
 use Rattle.nsc_model.specs.Answers.{gathered_file, id_scan}
-use Rattle.nsc_compat.proofs.Scans.{ok_weaker}
+use Rattle.nsc_model.specs.Compat.{gathered}
+use Rattle.nsc_model.specs.Files.{file_of}
+use Rattle.nsc_accounts.specs.Once.{all_ids}
+use Rattle.nsc_compat.specs.Lines.{ids_or_unavail}
+use Rattle.nsc_compat.proofs.Ids.{all_left}
 use Rattle.nsc_compat.proofs.member_ids.ids_of_user.Goals as goal
 
-pub returns-in-Some : goal.returns-in-Some
-returns-in-Some g c =
-    ok_weaker c.gather.result (λ looked is. is ∙ ap (gathered_file (id_scan c.args.content.now c.args.user.now)) c.in-Some.ensures.value) c.gather.ensures
+pub returns : goal.returns
+returns g c =
+    let scan = id_scan (g.S.SubLookup.content c.args.sub.now) c.args.user.now in
+    let lines = lines_of c.in-Some.text.now in
+    let begins = ap (λ ids. ids_or_unavail (option_map (all_ids ids) (gathered scan lines c.new.result))) c.new-2.ensures ∙ ap (λ names. ids_or_unavail (option_map (all_ids []) (gathered scan lines names))) c.new.ensures in
+    let file = c.in-Some.ensures.value ∙ ap (λ content. file_of content file.Group) c.content.ensures in
+    IfOk-weaker c.scan_lines.result _ _ (λ looked is. is ∙ begins ∙ all_left (gathered scan lines []) ∙ ap (gathered_file scan) file) c.scan_lines.ensures

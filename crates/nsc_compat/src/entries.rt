@@ -1,0 +1,127 @@
+ghost use Rattle.std.specs.Prelude.{◌≡◌, ◌≤◌, ◌∷◌, ℕ, List, [], IfOk, length, true};
+ghost use Rattle.nsc_base.specs.Text.{LiesIn, fields_of, part};
+ghost use Rattle.nsc_model.specs.Compat.{scanned, scanned_file};
+ghost use Rattle.nsc_model.specs.Files.{file_of};
+ghost use Rattle.nsc_model.specs.Kinds.{database_of};
+ghost use Rattle.nsc_compat.specs.Accounts.{is_wanted, outcome_by, scan_of};
+
+use crate::account::Account;
+use crate::asking::{Asking, Wanted, names_entry};
+use crate::excluded::Excluded;
+use crate::lines::{LineScan, scan_lines};
+use crate::said::{Said, line_says};
+use crate::sub::SubLookup;
+use nsc_base::{NoMemory, Span};
+use nsc_model::Looked;
+use std::alloc::Global;
+use std::marker::PhantomData;
+
+/// The outcome of compat for a request for one entry: the lines of the database's file in turn, with the names that are
+/// excluded so far, up to the first one that answers. Unavailable where the file is absent. Fails only for want of memory.
+pub fn entry<E: Account, S: SubLookup>(
+    alloc: Global,
+    asking: Asking,
+    sub: &S,
+) -> Result<Looked, NoMemory>
+    requires { database_of asking.kind ≡ E.accounts.database }
+    ensures { IfOk result (λ looked. looked ≡ scanned_file (scan_of E.accounts (S.content sub.now) asking.entry) (file_of (S.content sub.now) E.accounts.file)) }
+{
+    let Some(text) = sub.content().file(E::file()) else {
+        return Ok(Looked::Unavail);
+    };
+    let scan: EntryScan<E, S> = EntryScan {
+        sub,
+        asking,
+        excluded: Excluded::new(alloc),
+        of: PhantomData,
+    };
+    scan_lines(alloc, scan, text)
+}
+
+// A scan for one entry: who is asked, what is asked, and the names that are excluded so far.
+#[derive(Drop)]
+struct EntryScan<'s, 'k, 't, E: Account, S: SubLookup> {
+    sub: &'s S,
+    asking: Asking<'k>,
+    excluded: Excluded<'t>,
+    of: PhantomData<E>,
+    ghost own_database: { database_of asking.kind ≡ E.accounts.database },
+}
+
+impl<'s, 'k, 't, E: Account, S: SubLookup> LineScan<'t> for EntryScan<'s, 'k, 't, E, S> {
+    ghost comes = { λ s lines. scanned (scan_of E.accounts (S.content s.sub.now) s.asking) lines s.excluded };
+
+    fn take(
+        &mut self,
+        alloc: Global,
+        text: &'t [u8],
+        line: Span,
+    ) -> Result<Option<Looked>, NoMemory> {
+        match line_says(text, line) {
+            Said::Own => E::own(alloc, text, line, &self.asking.wanted, &self.excluded),
+            Said::Excludes(name) => {
+                self.excluded.add(&text[name.from..name.to])?;
+                Ok(None)
+            }
+            Said::Asks { name, all } => {
+                let found = self.sub.look(alloc, E::by_name(), &text[name.from..name.to])?;
+                let found = E::in_outcome(found);
+                named(alloc, &self.asking.wanted, found, text, all, &self.excluded)
+            }
+            Said::AsksAll { all } => {
+                let found = self.sub.look(alloc, self.asking.kind, self.asking.key)?;
+                asked(alloc, E::in_outcome(found), text, all, &self.excluded)
+            }
+            Said::Netgroup => Ok(Some(Looked::Unavail)),
+            Said::Nothing => Ok(None),
+        }
+    }
+
+    fn end(self) -> Looked {
+        Looked::NotFound
+    }
+}
+
+// What further services found for the name of a plus line comes to: as in the line itself, it answers where the request
+// names it.
+fn named<E: Account>(
+    alloc: Global,
+    wanted: &Wanted,
+    found: Option<E>,
+    text: &[u8],
+    all: Span,
+    excluded: &Excluded,
+) -> Result<Option<Looked>, NoMemory>
+    requires ordered { all.from ≤ all.to }
+    requires inside { all.to ≤ length text.now }
+    ensures { IfOk result (λ outcome. outcome ≡ outcome_by E.accounts (is_wanted E.accounts wanted.now) excluded.now found (E.accounts.replaced (fields_of 58 (part text.now all)))) }
+{
+    let Some(entry) = found else {
+        return Ok(None);
+    };
+    if !names_entry(wanted, entry.name(), entry.id()) {
+        return Ok(None);
+    }
+    asked(alloc, Some(entry), text, all, excluded)
+}
+
+// What further services found for the request itself comes to: it answers where its name is not excluded.
+fn asked<E: Account>(
+    alloc: Global,
+    found: Option<E>,
+    text: &[u8],
+    all: Span,
+    excluded: &Excluded,
+) -> Result<Option<Looked>, NoMemory>
+    requires ordered { all.from ≤ all.to }
+    requires inside { all.to ≤ length text.now }
+    ensures { IfOk result (λ outcome. outcome ≡ outcome_by E.accounts (λ a. true) excluded.now found (E.accounts.replaced (fields_of 58 (part text.now all)))) }
+{
+    let Some(entry) = found else {
+        return Ok(None);
+    };
+    if excluded.has(entry.name()) {
+        return Ok(None);
+    }
+    Ok(Some(entry.replaced(alloc, text, all)?.found()))
+}
