@@ -5,3 +5,4 @@ pub mod Named
 pub mod Pieces
 pub mod Collected
 pub mod Gathered
+pub mod NamedGroups

@@ -2,3 +2,4 @@ pub mod Fields
 pub mod Passwd
 pub mod Group
 pub mod Once
+pub mod NamedId

@@ -9,11 +9,11 @@ use Rattle.nsc_model.specs.Answers.{each_once, found_ids, found_or_unavail}
 use Rattle.nsc_model.specs.Compat.{IdScan, Says, Own, Excludes, Asks, AsksAll, Netgroup, Nothing, before_ids, gather_line, gathered, id_of_group, ids_of_pairs, is_excluded, says}
 use Rattle.nsc_accounts.specs.Once.{all_ids, with_id}
 use Rattle.nsc_accounts.proofs.Collected.{all_once}
-use Rattle.nsc_compat.specs.declared.sub.NamedId.{NamedId}
+use Rattle.nsc_accounts.specs.declared.named_id.NamedId.{NamedId}
 use Rattle.nsc_compat.specs.Gathered.{unless_excluded}
 use Rattle.nsc_compat.specs.Lines.{ids_or_unavail}
 use Rattle.nsc_compat.specs.Names.{SameNames}
-use Rattle.nsc_compat.specs.Pairs.{pair_of}
+use Rattle.nsc_accounts.specs.NamedId.{pair_of}
 use Rattle.nsc_compat.proofs.Scans.{with_name}
 
 -- ---- ids after others

@@ -14,4 +14,4 @@ mod sub;
 mod users;
 
 pub use lookup::compat_lookup;
-pub use sub::{NamedId, SubLookup};
+pub use sub::SubLookup;

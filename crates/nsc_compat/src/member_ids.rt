@@ -7,14 +7,14 @@ ghost use Rattle.nsc_model.specs.Groups.{group_of_line, has_member as is_member}
 ghost use Rattle.nsc_accounts.specs.Once.{all_ids};
 ghost use Rattle.nsc_compat.specs.Gathered.{member_id, unless_excluded};
 ghost use Rattle.nsc_compat.specs.Lines.{ids_or_unavail};
-ghost use Rattle.nsc_compat.specs.Pairs.{pair_of};
+ghost use Rattle.nsc_accounts.specs.NamedId.{pair_of};
 
 use crate::excluded::Excluded;
 use crate::account::Account;
 use crate::lines::{LineScan, scan_lines};
 use crate::said::{Said, line_says};
-use crate::sub::{NamedId, SubLookup};
-use nsc_accounts::{OnceIds, group_line, has_member};
+use crate::sub::SubLookup;
+use nsc_accounts::{NamedId, OnceIds, group_line, has_member};
 use nsc_base::{Ids, NoMemory, Span, equal};
 use nsc_model::{FileId, Group, Kind, Looked, Row};
 use std::alloc::Global;

@@ -3,20 +3,12 @@ ghost use Rattle.nsc_model.specs.Content.{Content};
 ghost use Rattle.nsc_model.specs.Compat.{has_compat};
 ghost use Rattle.nsc_model.specs.Answers.{named_groups, sub_looked};
 ghost use Rattle.nsc_model.specs.Kinds.{database_of};
-ghost use Rattle.nsc_compat.specs.Pairs.{pair_of};
+ghost use Rattle.nsc_accounts.specs.NamedId.{pair_of};
 
-use nsc_base::{Bytes, NoMemory};
+use nsc_accounts::NamedId;
+use nsc_base::NoMemory;
 use nsc_model::{Content, Kind, Looked};
 use std::alloc::Global;
-
-/// A group of a user: its name and its id.
-#[derive(Debug, Drop)]
-pub struct NamedId {
-    /// The group's name.
-    pub name: Bytes,
-    /// The group's id.
-    pub gid: u32,
-}
 
 /// A content with the services that its compat lines ask: those of the list `passwd_compat` or `group_compat` of its
 /// nsswitch.conf(5), within which compat itself is unavailable.

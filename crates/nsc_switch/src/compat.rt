@@ -1,64 +1,33 @@
 //! The services that compat lines ask.
 
-ghost use Rattle.std.specs.Prelude.{◌≡◌, ◌≤◌, IfOk, Some, length, map};
-ghost use Rattle.std.specs.Option.{option_map};
-ghost use Rattle.nsc_base.specs.Text.{part};
-ghost use Rattle.nsc_model.specs.Answers.{pairs_of, service_pairs, sub_answer};
-ghost use Rattle.nsc_model.specs.Groups.{group_of_line, has_member as is_member};
-ghost use Rattle.nsc_model.specs.Entries.{if_named};
-ghost use Rattle.nsc_model.specs.Switches.{compat_list, compat_name};
-ghost use Rattle.nsc_compat.specs.Pairs.{pair_of};
+ghost use Rattle.std.specs.Prelude.{◌≡◌, IfOk, map};
+ghost use Rattle.nsc_model.specs.Answers.{service_pairs, sub_answer};
+ghost use Rattle.nsc_accounts.specs.NamedId.{pair_of};
+ghost use Rattle.nsc_switch.specs.Lists.{lists_of};
 
-use crate::decided::{Outcomes, decide};
-use crate::lists::switch_text;
-use nsc_accounts::{group_line, has_member};
-use nsc_base::{Bytes, NoMemory, Span, line_at};
-use nsc_compat::{NamedId, SubLookup};
+use crate::decided::decide;
+use crate::lists::Lists;
+use crate::services::ServiceLook;
+use nsc_accounts::NamedId;
+use nsc_base::NoMemory;
+use nsc_compat::SubLookup;
 use nsc_files::{extra_lookup, files_lookup};
-use nsc_model::{Content, Db, DbName, FileId, Kind, Looked, SwitchService, SwitchStep};
-use nsc_switchconf::service_list;
+use nsc_model::{Content, Db, FileId, Kind, Looked, SwitchService};
 use std::alloc::Global;
 
-/// The services of the lists `passwd_compat` and `group_compat`.
+/// The services of the lists `passwd_compat` and `group_compat`, over a content whose lists were read before: compat
+/// itself is unavailable there.
 #[derive(Drop)]
-pub(crate) struct CompatServices;
+pub(crate) struct SubServices<'a> {
+    pub content: &'a Content,
+    pub lists: &'a Lists,
+    pub ghost read: { lists.now ≡ lists_of content.now },
+}
 
-impl SubLookup for CompatServices {
+impl<'a> ServiceLook for SubServices<'a> {
+    ghost outcome = { λ services. sub_answer services.content.now };
+
     fn look(
-        &self,
-        alloc: Global,
-        content: &Content,
-        kind: Kind,
-        key: &[u8],
-    ) -> Result<Looked, NoMemory> {
-        let steps = compat_steps(alloc, content, Db::of(kind))?;
-        let decided = decide(alloc, &Listed { content }, &steps, kind, key)?;
-        Ok(decided.outcome)
-    }
-
-    fn named_groups(
-        &self,
-        alloc: Global,
-        content: &Content,
-        user: &[u8],
-    ) -> Result<Vec<NamedId>, NoMemory> {
-        let steps = compat_steps(alloc, content, Db::Group)?;
-        let services = Listed { content };
-        let decided = decide(alloc, &services, &steps, Kind::InitGroups, user)?;
-        groups_by(alloc, content, decided.service, user)
-    }
-}
-
-/// The services of a compat list: compat itself is unavailable there.
-#[derive(Drop)]
-struct Listed<'a> {
-    content: &'a Content,
-}
-
-impl<'a> Outcomes for Listed<'a> {
-    ghost outcome = { λ listed. sub_answer listed.content.now };
-
-    fn outcome(
         &self,
         alloc: Global,
         service: SwitchService,
@@ -73,21 +42,22 @@ impl<'a> Outcomes for Listed<'a> {
     }
 }
 
-// The compat list of a database over a content.
-#[tactic(auto, unfolding(nsc_model::specs::Switches::compat_list))]
-fn compat_steps(alloc: Global, content: &Content, db: Db) -> Result<Vec<SwitchStep>, NoMemory>
-    ensures { IfOk result (λ list. list.items ≡ compat_list content.now db) }
-{
-    service_list(alloc, switch_text(content), compat_name(db))
-}
+impl<'a> SubLookup for SubServices<'a> {
+    ghost content = { λ services. services.content.now };
 
-// The name of the compat list of a database. Hosts and services have no compat, so theirs is never asked.
-fn compat_name(db: Db) -> DbName
-    ensures { result ≡ compat_name db }
-{
-    match db {
-        Db::Group => DbName::GroupCompat,
-        Db::Passwd | Db::Hosts | Db::Services => DbName::PasswdCompat,
+    fn content(&self) -> &Content {
+        self.content
+    }
+
+    fn look(&self, alloc: Global, kind: Kind, key: &[u8]) -> Result<Looked, NoMemory> {
+        let steps = self.lists.compat_list(Db::of(kind));
+        Ok(decide(alloc, self, steps, kind, key)?.outcome)
+    }
+
+    fn named_groups(&self, alloc: Global, user: &[u8]) -> Result<Vec<NamedId>, NoMemory> {
+        let steps = self.lists.compat_list(Db::Group);
+        let decided = decide(alloc, self, steps, Kind::InitGroups, user)?;
+        groups_by(alloc, self.content, decided.service, user)
     }
 }
 
@@ -106,45 +76,7 @@ fn groups_by(
         SwitchService::Compat | SwitchService::Other => None,
     };
     match file {
-        Some(text) => groups_in(alloc, text, user),
+        Some(text) => nsc_accounts::named_groups(alloc, text, user),
         None => Ok(Vec::new(alloc)),
     }
-}
-
-// The groups of a user in the text of a group file, in its order.
-fn groups_in(alloc: Global, text: &[u8], user: &[u8]) -> Result<Vec<NamedId>, NoMemory>
-    ensures { IfOk result (λ groups. map pair_of groups.items ≡ pairs_of user.now (Some text.now)) }
-{
-    let mut groups = Vec::new(alloc);
-    let mut from = 0;
-    while let Some(line) = line_at(text, from) {
-        if let Some(group) = group_of_member(alloc, text, line.span, user)? {
-            groups.push(group)?;
-        }
-        from = line.next;
-    }
-    Ok(groups)
-}
-
-// The group of a line that has the form and has the user as a member.
-fn group_of_member(
-    alloc: Global,
-    text: &[u8],
-    line: Span,
-    user: &[u8],
-) -> Result<Option<NamedId>, NoMemory>
-    requires ordered { line.from ≤ line.to }
-    requires inside { line.to ≤ length text.now }
-    ensures { IfOk result (λ group. option_map pair_of group ≡ option_map (λ g. (g.name, g.gid)) (if_named (is_member user.now) (group_of_line (part text.now line)))) }
-{
-    let Some(at) = group_line(text, line) else {
-        return Ok(None);
-    };
-    if !has_member(text, at.members, user) {
-        return Ok(None);
-    }
-    Ok(Some(NamedId {
-        name: Bytes::copy(alloc, &text[at.name.from..at.name.to])?,
-        gid: at.gid,
-    }))
 }

@@ -1,12 +1,12 @@
 ghost use Rattle.std.specs.Prelude.{◌≡◌, IfOk};
-ghost use Rattle.nsc_model.specs.Answers.{looked_up, service_answer, switched};
+ghost use Rattle.nsc_model.specs.Answers.{looked_up, switched};
 ghost use Rattle.nsc_model.specs.Files.{FilesFit};
 ghost use Rattle.nsc_model.specs.Kinds.{database_of};
 ghost use Rattle.nsc_switch.specs.Lists.{lists_of};
 
 use crate::decided::decide;
-use crate::lists::{Lists, steps_for};
-use crate::services::{PlainServices, ServiceLook, Whole};
+use crate::lists::Lists;
+use crate::services::{PlainServices, ServiceLook};
 use nsc_base::NoMemory;
 use nsc_model::{Content, Db, Kind, Looked, SwitchStep};
 use std::alloc::Global;
@@ -18,12 +18,12 @@ pub fn switch(alloc: Global, content: &Content, kind: Kind, key: &[u8]) -> Resul
     ensures outcome { IfOk result (λ looked. looked ≡ looked_up content.now (record { kind = kind; key = key.now })) }
     ensures fits { FilesFit content.now }
 {
-    let steps = steps_for(alloc, content, Db::of(kind))?;
-    switch_over(alloc, &PlainServices { content }, &steps, kind, key)
+    let lists = Lists::of(alloc, content)?;
+    switch_by(alloc, content, &lists, kind, key)
 }
 
 /// The outcome of the switch for the request of this kind and key, over a content whose service lists were read before:
-/// what `switch` gives, and no list of a database is read anew. Fails only for want of memory.
+/// what `switch` gives, and no list is read anew. Fails only for want of memory.
 pub fn switch_by(
     alloc: Global,
     content: &Content,
@@ -34,8 +34,8 @@ pub fn switch_by(
     requires { lists.now ≡ lists_of content.now }
     ensures { IfOk result (λ looked. looked ≡ looked_up content.now (record { kind = kind; key = key.now })) }
 {
-    let steps = lists.list(Db::of(kind));
-    switch_over(alloc, &PlainServices { content }, steps, kind, key)
+    let services = PlainServices { content, lists };
+    switch_over(alloc, &services, lists.list(Db::of(kind)), kind, key)
 }
 
 /// The outcome of the switch over these steps and these services, for the request of this kind and key: that of the
@@ -48,8 +48,7 @@ pub fn switch_over<V: ServiceLook>(
     kind: Kind,
     key: &[u8],
 ) -> Result<Looked, NoMemory>
-    ensures { IfOk result (λ looked. looked ≡ switched (service_answer (V.content services.now) (record { kind = kind; key = key.now })) steps.now) }
+    ensures { IfOk result (λ looked. looked ≡ switched (V.outcome services.now (record { kind = kind; key = key.now })) steps.now) }
 {
-    let decided = decide(alloc, &Whole { services }, steps, kind, key)?;
-    Ok(decided.outcome)
+    Ok(decide(alloc, services, steps, kind, key)?.outcome)
 }

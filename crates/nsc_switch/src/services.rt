@@ -1,19 +1,22 @@
 ghost use Rattle.std.specs.Prelude.{◌≡◌, IfOk};
+ghost use Rattle.nsc_model.specs.declared.answer.Request.{Request};
+ghost use Rattle.nsc_model.specs.declared.row.Looked.{Looked};
+ghost use Rattle.nsc_model.specs.declared.switch.SwitchService.{SwitchService};
 ghost use Rattle.nsc_model.specs.Answers.{service_answer};
-ghost use Rattle.nsc_model.specs.Content.{Content};
+ghost use Rattle.nsc_switch.specs.Lists.{lists_of};
 
-use crate::compat::CompatServices;
-use crate::decided::Outcomes;
+use crate::compat::SubServices;
+use crate::lists::Lists;
 use nsc_base::NoMemory;
 use nsc_compat::compat_lookup;
 use nsc_files::{extra_lookup, files_lookup};
 use nsc_model::{Content, Kind, Looked, SwitchService};
 use std::alloc::Global;
 
-/// The services over one content.
+/// The services of a list, over one content.
 pub trait ServiceLook {
-    /// The content that the services answer over.
-    ghost content: { Self → Content };
+    /// The outcome of a service for a request.
+    ghost outcome: { Self → Request → SwitchService → Looked };
 
     /// The outcome of a service for the request of this kind and key. Fails only for want of memory.
     fn look(
@@ -23,18 +26,22 @@ pub trait ServiceLook {
         kind: Kind,
         key: &[u8],
     ) -> Result<Looked, NoMemory>
-        ensures { IfOk result (λ looked. looked ≡ service_answer (content self.now) (record { kind = kind; key = key.now }) service) };
+        ensures { IfOk result (λ looked. looked ≡ outcome self.now (record { kind = kind; key = key.now }) service) };
 }
 
-/// The services that read a content as it is: each request goes over its files anew.
+/// The services of a database's own list, over a content as it is, whose lists were read before: each request goes over
+/// its files anew.
 #[derive(Drop)]
 pub struct PlainServices<'a> {
     /// The content.
     pub content: &'a Content,
+    /// Its service lists.
+    pub lists: &'a Lists,
+    pub ghost read: { lists.now ≡ lists_of content.now },
 }
 
 impl<'a> ServiceLook for PlainServices<'a> {
-    ghost content = { λ services. services.content.now };
+    ghost outcome = { λ services. service_answer services.content.now };
 
     fn look(
         &self,
@@ -46,28 +53,14 @@ impl<'a> ServiceLook for PlainServices<'a> {
         match service {
             SwitchService::Files => files_lookup(alloc, self.content, kind, key),
             SwitchService::Extrausers => extra_lookup(alloc, self.content, kind, key),
-            SwitchService::Compat => compat_lookup(alloc, self.content, kind, key, &CompatServices),
+            SwitchService::Compat => {
+                let sub = SubServices {
+                    content: self.content,
+                    lists: self.lists,
+                };
+                compat_lookup(alloc, kind, key, &sub)
+            }
             SwitchService::Other => Ok(Looked::Unavail),
         }
-    }
-}
-
-/// The services of a database's own list.
-#[derive(Drop)]
-pub(crate) struct Whole<'a, V> {
-    pub services: &'a V,
-}
-
-impl<'a, V: ServiceLook> Outcomes for Whole<'a, V> {
-    ghost outcome = { λ whole. service_answer (V.content whole.services.now) };
-
-    fn outcome(
-        &self,
-        alloc: Global,
-        service: SwitchService,
-        kind: Kind,
-        key: &[u8],
-    ) -> Result<Looked, NoMemory> {
-        self.services.look(alloc, service, kind, key)
     }
 }

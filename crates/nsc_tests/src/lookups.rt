@@ -2,10 +2,10 @@ ghost use Rattle.std.specs.Prelude.{◌≤◌, length, IfOk};
 ghost use Rattle.nsc_model.specs.Files.{file_limit};
 
 use nsc_accounts::{
-    OnceIds, find_group_by_name, find_passwd_by_name, group_row, groups_of, user_row,
+    NamedId, OnceIds, find_group_by_name, find_passwd_by_name, group_row, groups_of, user_row,
 };
 use nsc_base::{Bytes, NoMemory};
-use nsc_compat::{NamedId, SubLookup, compat_lookup};
+use nsc_compat::{SubLookup, compat_lookup};
 use nsc_files::{extra_lookup, files_lookup};
 use nsc_model::{
     Content, FileId, Kind, Looked, Row, SwitchAction, SwitchService, SwitchStep,
@@ -117,31 +117,29 @@ fn files_and_extra_users(rt: HostRuntime) -> Result<(), Fail> {
 }
 
 // Services that find no memory: lines without a plus ask none.
-struct NoServices;
+#[derive(Drop)]
+struct NoServices<'a> {
+    content: &'a Content,
+}
 
-impl SubLookup for NoServices {
-    fn look(
-        &self,
-        _alloc: Global,
-        _content: &Content,
-        _kind: Kind,
-        _key: &[u8],
-    ) -> Result<Looked, NoMemory> {
+impl<'a> SubLookup for NoServices<'a> {
+    ghost content = { λ services. services.content.now };
+
+    fn content(&self) -> &Content {
+        self.content
+    }
+
+    fn look(&self, _alloc: Global, _kind: Kind, _key: &[u8]) -> Result<Looked, NoMemory> {
         Err(NoMemory)
     }
 
-    fn named_groups(
-        &self,
-        _alloc: Global,
-        _content: &Content,
-        _user: &[u8],
-    ) -> Result<Vec<NamedId>, NoMemory> {
+    fn named_groups(&self, _alloc: Global, _user: &[u8]) -> Result<Vec<NamedId>, NoMemory> {
         Err(NoMemory)
     }
 }
 
 fn in_compat(alloc: Global, content: &Content, name: &[u8]) -> Result<Outcome, NoMemory> {
-    let looked = compat_lookup(alloc, content, Kind::PwName, name, &NoServices)?;
+    let looked = compat_lookup(alloc, Kind::PwName, name, &NoServices { content })?;
     Ok(told(&looked))
 }
 
@@ -167,7 +165,11 @@ fn by_steps(
     steps: &[SwitchStep],
     name: &[u8],
 ) -> Result<Outcome, NoMemory> {
-    let services = PlainServices { content };
+    let lists = Lists::of(alloc, content)?;
+    let services = PlainServices {
+        content,
+        lists: &lists,
+    };
     let looked = switch_over(alloc, &services, steps, Kind::PwName, name)?;
     Ok(told(&looked))
 }

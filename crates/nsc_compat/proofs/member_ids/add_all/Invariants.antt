@@ -1,7 +1,7 @@
 use Rattle.std.proofs.Common.{◌≡◌, drop, map}
 use Rattle.nsc_model.specs.Compat.{ids_of_pairs}
 use Rattle.nsc_accounts.specs.Once.{all_ids}
-use Rattle.nsc_compat.specs.Pairs.{pair_of}
+use Rattle.nsc_accounts.specs.NamedId.{pair_of}
 use Rattle.nsc_compat.proofs.member_ids.add_all.Given as goal
 
 -- the groups that are left add the rest

@@ -7,7 +7,7 @@ use Rattle.nsc_switch.proofs.decided.decide.Given as goal
 -- the steps that are left decide, and what was decided so far where none is left
 abbrev pub invariant-loop-step : goal.invariant-loop-step
 invariant-loop-step g l =
-    let look = g.O.Outcomes.outcome l.outcomes (record { kind = l.kind; key = l.key }) in
+    let look = g.V.ServiceLook.outcome l.services (record { kind = l.kind; key = l.key }) in
     record {
       decide : picked (ends_at look) (λ s. look s.service) l.decided.outcome (drop l.step-index l.steps) ≡ picked (ends_at look) (λ s. look s.service) Unavail l.steps;
       service : picked (ends_at look) (λ s. s.service) l.decided.service (drop l.step-index l.steps) ≡ picked (ends_at look) (λ s. s.service) Other l.steps;

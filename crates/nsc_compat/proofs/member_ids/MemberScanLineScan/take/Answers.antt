@@ -3,7 +3,7 @@ use Rattle.nsc_base.specs.Text.{fields_of, part}
 use Rattle.nsc_model.specs.Answers.{id_scan}
 use Rattle.nsc_model.specs.Compat.{ids_of_pairs}
 use Rattle.nsc_accounts.specs.Once.{all_ids}
-use Rattle.nsc_compat.specs.Pairs.{pair_of}
+use Rattle.nsc_accounts.specs.NamedId.{pair_of}
 use Rattle.nsc_compat.proofs.Ids.{name_excluded, pairs_added}
 use Rattle.nsc_compat.proofs.member_ids.MemberScanLineScan.take.Goals as goal
 

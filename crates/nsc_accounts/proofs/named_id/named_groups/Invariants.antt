@@ -1,8 +1,8 @@
 use Rattle.std.proofs.Common.{◌≡◌, ◌≤◌, ◌-◌, ◌++◌, Some, drop, length, map}
 use Rattle.nsc_model.specs.Answers.{pairs_of}
-use Rattle.nsc_compat.specs.Pairs.{pair_of}
-use Rattle.nsc_switch.proofs.Members.{pairs_left}
-use Rattle.nsc_switch.proofs.compat.groups_in.Given as goal
+use Rattle.nsc_accounts.specs.NamedId.{pair_of}
+use Rattle.nsc_accounts.proofs.NamedGroups.{pairs_left}
+use Rattle.nsc_accounts.proofs.named_id.named_groups.Given as goal
 
 -- those that were collected, and those from this place on
 abbrev pub invariant-loop-line : goal.invariant-loop-line
