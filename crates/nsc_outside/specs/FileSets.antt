@@ -1,8 +1,7 @@
 -- Sets of files: what a read answers, and what a set counts.
-use Rattle.std.specs.Prelude.{◌≡◌, ◌≢◌, ℕ, ◌<◌, List, [], ◌∷◌, ◌++◌, length, slice_index_or, replicate, Option, Some, None, IfSome, IsSomeAnd, option_map, find, codes}
-use Rattle.std.specs.Str.{bytes_eq}
+use Rattle.std.specs.Prelude.{◌≡◌, ◌≢◌, ℕ, ◌<◌, List, [], ◌∷◌, ◌++◌, length, slice_index_or, Bool, true, false, Option, Some, None, Result, Ok, Err, IfSome, IsSomeAnd, option_map, codes}
 use Rattle.nsc_model.specs.Content.{Content}
-use Rattle.nsc_model.specs.Files.{file_of, file_limit, no_files}
+use Rattle.nsc_model.specs.Files.{file_of, file_limit}
 use Rattle.nsc_model.specs.Kinds.{file_number}
 use Rattle.nsc_model.specs.declared.kind.FileId.{FileId}
 use Rattle.nsc_model.specs.declared.kind.FileId.TheVariants as file
@@ -28,6 +27,13 @@ abbrev pub IsCause : Option (Option (List ℕ)) → ReadCause → Type 0
 IsCause told causes.NoMemory = Unit {0}
 IsCause told causes.Failed = Unit {0}
 IsCause told (causes.TooLong size) = IsPastLimit told size
+
+-- a read gave no answer because it failed
+abbrev pub is_failed : {A : Type 0} → Result A ReadCause → Bool
+is_failed (Ok got) = false
+is_failed (Err causes.NoMemory) = false
+is_failed (Err causes.Failed) = true
+is_failed (Err (causes.TooLong size)) = false
 
 -- what a read with no answer does to a count of faults: that memory was wanting is no fault
 abbrev pub RoseBy : ReadCause → ℕ → ℕ → Type 0

@@ -6,5 +6,7 @@ pub mod MemSink
 pub mod FileSets
 pub mod Tally
 pub mod ConfFile
+pub mod Numbers
+pub mod ReadPlan
 pub mod MemFiles
 pub mod HostFiles

@@ -7,6 +7,7 @@ mod host_files;
 mod mem_files;
 mod mem_sink;
 mod mem_source;
+mod numbers;
 mod paths;
 mod plan;
 mod read_plan;

@@ -1,13 +1,14 @@
-ghost use Rattle.std.specs.Prelude.{◌≡◌, ◌<◌, ◌∷◌, length, Some, None, IfOk, IfErr, OnOk, OnErr};
+ghost use Rattle.std.specs.Prelude.{◌≡◌, ◌∷◌, Some, None, IfOk, IfErr, OnOk, OnErr};
 ghost use Rattle.std.specs.Option.{option_copied};
 ghost use Rattle.std.specs.Str.{bytes_eq};
 ghost use Rattle.nsc_model.specs.Files.{FileFits, file_of, with_file};
 ghost use Rattle.nsc_model.specs.declared.kind.FileId.{FileId};
 ghost use Rattle.nsc_outside.specs.Stream.{Rose};
-ghost use Rattle.nsc_outside.specs.FileSets.{IsAsTold, IsCause, RoseBy, ChangesOnly, latest_of};
+ghost use Rattle.nsc_outside.specs.FileSets.{IsAsTold, IsCause, is_failed, RoseBy, ChangesOnly, latest_of};
 ghost use Rattle.nsc_outside.specs.ConfFile.{conf_of};
 ghost use Rattle.nsc_outside.specs.Tally.{count_of};
-ghost use Rattle.nsc_outside.specs.MemFiles.{empty_set};
+ghost use Rattle.nsc_outside.specs.MemFiles.{empty_set, unread};
+ghost use Rattle.nsc_outside.specs.ReadPlan.{new_plan, FailsAsPlanned};
 
 use crate::files::{FileSet, ReadCause};
 use crate::read_plan::ReadPlan;
@@ -85,7 +86,8 @@ fn conf_bytes<'a>(confs: &'a [ConfFile], path: &str) -> Option<&'a [u8]>
 }
 
 /// A set of files in memory, seen in contracts as what it holds, which reads fail, and what was read. The sets that were
-/// split from one share their bytes, and number their reads together. A read gives a copy.
+/// split from one share their bytes, and number their reads together: the n-th read of them all has the number n, and
+/// fails exactly where the plan says so. After a read its set tells which number it had. A read gives a copy.
 #[derive(Drop)]
 pub struct MemFiles {
     files: [Option<Shared>; 7],
@@ -101,13 +103,13 @@ impl Model for MemFiles {
 
     ghost Value = { MemFiles };
 
-    ghost view = { λ s. record { files = files_in s.files; confs = s.confs.items; failing = s.plan; latest = s.latest; counts = s.tally } };
+    ghost view = { λ s. record { files = files_in s.files; confs = s.confs.items; plan = s.plan; latest = s.latest; counts = s.tally } };
 }
 
 impl MemFiles {
     /// A set that holds nothing: every file is absent, at every path too. No read fails. Fails only for want of memory.
     pub fn new(alloc: Global) -> Result<MemFiles, NoMemory>
-        ensures { IfOk result (λ set. set ≡ empty_set) }
+        ensures { IfOk result (λ set. set ≡ empty_set set.plan.numbering) }
     {
         Ok(MemFiles {
             files: [None, None, None, None, None, None, None],
@@ -148,10 +150,11 @@ impl MemFiles {
         Ok(self)
     }
 
-    /// The same set, at which the reads with these numbers fail. They are numbered from 1 on, those of configuration
-    /// files too, over this set and all that are split from it from now on. Fails only for want of memory.
+    /// The same set, at which the reads with these numbers fail, and no others. They are numbered from 1 on, those of
+    /// configuration files too, and those that find no memory, over this set and all that are split from it from now
+    /// on. Fails only for want of memory.
     pub fn failing_at(mut self, alloc: Global, reads: Vec<u64>) -> Result<MemFiles, NoMemory>
-        ensures { IfOk result (λ set. set ≡ record self { failing = reads.items }) }
+        ensures { IfOk result (λ set. set ≡ record self { plan = new_plan reads.items set.plan.numbering }) }
     {
         self.plan = ReadPlan::new(alloc, reads)?;
         Ok(self)
@@ -180,15 +183,16 @@ impl MemFiles {
 
     // One read of a file: a copy, and another holder of the same.
     fn fetch(
-        &self,
+        &mut self,
         alloc: Global,
         file: FileId,
     ) -> Result<(Option<Bytes>, Option<Shared>), ReadCause>
-        ensures copy { IfOk result (λ got. got.0 ≡ file_of self.now.files file) }
-        ensures shared { IfOk result (λ got. got.1 ≡ file_of self.now.files file) }
+        ensures copy { IfOk result (λ got. got.0 ≡ file_of self.old.files file) }
+        ensures shared { IfOk result (λ got. got.1 ≡ file_of self.old.files file) }
         ensures fits { IfOk result (λ got. FileFits got.0) }
-        ensures cause { IfErr result (λ cause. IsCause (Some (file_of self.now.files file)) cause) }
-        ensures planned { IfErr result (λ cause. cause ≡ ReadCause.Failed → 0 < length self.now.failing) }
+        ensures cause { IfErr result (λ cause. IsCause (Some (file_of self.old.files file)) cause) }
+        ensures planned { FailsAsPlanned self.old.plan self.new.plan (is_failed result) }
+        ensures rest { self.new ≡ record self.old { plan = self.new.plan } }
     {
         self.plan.begin()?;
         let held = &self.files[file as usize];
@@ -197,11 +201,12 @@ impl MemFiles {
     }
 
     // One read of a configuration file.
-    fn fetch_conf(&self, alloc: Global, path: &str) -> Result<Option<Bytes>, ReadCause>
-        ensures copy { IfOk result (λ copy. copy ≡ conf_of self.now.confs path.now) }
+    fn fetch_conf(&mut self, alloc: Global, path: &str) -> Result<Option<Bytes>, ReadCause>
+        ensures copy { IfOk result (λ copy. copy ≡ conf_of self.old.confs path.now) }
         ensures fits { IfOk result (λ copy. FileFits copy) }
-        ensures cause { IfErr result (λ cause. IsCause (Some (conf_of self.now.confs path.now)) cause) }
-        ensures planned { IfErr result (λ cause. cause ≡ ReadCause.Failed → 0 < length self.now.failing) }
+        ensures cause { IfErr result (λ cause. IsCause (Some (conf_of self.old.confs path.now)) cause) }
+        ensures planned { FailsAsPlanned self.old.plan self.new.plan (is_failed result) }
+        ensures rest { self.new ≡ record self.old { plan = self.new.plan } }
     {
         self.plan.begin()?;
         copy_file(alloc, conf_bytes(self.confs.as_slice(), path))
@@ -235,7 +240,7 @@ impl FileSet for MemFiles {
 
     /// A set with the same files, of which nothing was read. It numbers its reads together with this one.
     fn split(&self, alloc: Global) -> Result<MemFiles, NoMemory>
-        ensures { IfOk result (λ set. set ≡ record empty_set { files = self.now.files; confs = self.now.confs; failing = self.now.failing }) }
+        ensures { IfOk result (λ set. set ≡ unread self.now) }
     {
         let files = &self.files;
         let tally = Tally::new();
@@ -256,12 +261,12 @@ impl FileSet for MemFiles {
         })
     }
 
-    /// Gives a copy of the file. Fails where it is to fail.
+    /// Gives a copy of the file. Its number is the next one, and it fails exactly where that is to fail.
     fn read(&mut self, alloc: Global, file: FileId) -> Result<Option<Bytes>, ReadCause>
         ensures answer { IfOk result (λ f. f ≡ file_of self.old.files file) }
         ensures fits { IfOk result (λ f. FileFits f) }
         ensures cause { IfErr result (λ cause. IsCause (Some (file_of self.old.files file)) cause) }
-        ensures planned { IfErr result (λ cause. cause ≡ ReadCause.Failed → 0 < length self.old.failing) }
+        ensures planned { FailsAsPlanned self.old.plan self.new.plan (is_failed result) }
 
         // The counts.
         ensures calm { OnOk result (self.new.counts.faults ≡ self.old.counts.faults) }
@@ -277,7 +282,7 @@ impl FileSet for MemFiles {
         ensures latest { IfOk result (λ f. latest_of self.new.latest file ≡ Some f) }
         ensures latest_stays { OnErr result (self.new.latest ≡ self.old.latest) }
         ensures other_latest { ChangesOnly file (latest_of self.old.latest) (latest_of self.new.latest) }
-        ensures held { self.new ≡ record self.old { latest = self.new.latest; counts = self.new.counts } }
+        ensures held { self.new ≡ record self.old { plan = self.new.plan; latest = self.new.latest; counts = self.new.counts } }
     {
         match self.fetch(alloc, file) {
             Ok((copy, shared)) => {
@@ -292,16 +297,16 @@ impl FileSet for MemFiles {
         }
     }
 
-    /// Gives a copy of the configuration file. Fails where it is to fail.
+    /// Gives a copy of the configuration file. Its number is the next one, and it fails exactly where that is to fail.
     fn read_conf(&mut self, alloc: Global, path: &str) -> Result<Option<Bytes>, ReadCause>
         ensures answer { IfOk result (λ f. f ≡ conf_of self.old.confs path.now) }
         ensures fits { IfOk result (λ f. FileFits f) }
         ensures cause { IfErr result (λ cause. IsCause (Some (conf_of self.old.confs path.now)) cause) }
-        ensures planned { IfErr result (λ cause. cause ≡ ReadCause.Failed → 0 < length self.old.failing) }
+        ensures planned { FailsAsPlanned self.old.plan self.new.plan (is_failed result) }
 
-        ensures calm { OnOk result (self.new ≡ self.old) }
+        ensures calm { OnOk result (self.new.counts ≡ self.old.counts) }
         ensures faults { IfErr result (λ cause. RoseBy cause self.old.counts.faults self.new.counts.faults) }
-        ensures held { self.new ≡ record self.old { counts = record self.old.counts { faults = self.new.counts.faults } } }
+        ensures held { self.new ≡ record self.old { plan = self.new.plan; counts = record self.old.counts { faults = self.new.counts.faults } } }
     {
         let outcome = self.fetch_conf(alloc, path);
         if let Err(cause) = outcome {
