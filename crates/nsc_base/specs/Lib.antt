@@ -1,3 +1,4 @@
+pub mod Span
 pub mod Text
 pub mod Found
 pub mod Decimal
