@@ -2,8 +2,8 @@
 use Rattle.std.proofs.Common.{◌≡◌, ℕ, ◌+◌, ◌-◌, ◌≤◌, true, false, nat_eq, if◌then◌else◌, List, [], ◌∷◌, length, All, IfSome, take, drop, Option, Some, None, refl, sym, ◌∙◌, ap, arith, length-take}
 use Rattle.std.proofs.lemmas.List.{drop-drop, drop-take}
 use Rattle.nsc_base.specs.declared.span.Span.{Span}
-use Rattle.nsc_base.specs.Text.{LiesIn, fields_of, part}
-use Rattle.nsc_model.specs.Users.{has_zero, trimmed, user_of_fields, user_of_line}
+use Rattle.nsc_base.specs.Text.{LiesIn, fields_of, part, trimmed}
+use Rattle.nsc_model.specs.Users.{has_zero, user_of_fields, user_of_line}
 use Rattle.nsc_model.specs.Groups.{group_of_fields, group_of_line}
 use Rattle.nsc_accounts.specs.Fields.{exactly, fields_of_line}
 

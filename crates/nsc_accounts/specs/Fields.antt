@@ -1,7 +1,7 @@
 -- The fields of a line.
 use Rattle.std.specs.Prelude.{ℕ, ◌==◌, if◌then◌else◌, List, length, Option, Some, None}
-use Rattle.nsc_base.specs.Text.{fields_of}
-use Rattle.nsc_model.specs.Users.{has_zero, trimmed}
+use Rattle.nsc_base.specs.Text.{fields_of, trimmed}
+use Rattle.nsc_model.specs.Users.{has_zero}
 
 -- a list of exactly so many items, and no other
 abbrev pub exactly : {A : Type 0} → ℕ → List A → Option (List A)

@@ -1,7 +1,7 @@
 ghost use Rattle.std.specs.Prelude.{◌≡◌, ◌≤◌, All, IfSome, drop, length, map};
 ghost use Rattle.std.specs.Option.{option_map};
-ghost use Rattle.nsc_base.specs.Text.{LiesIn, fields_of, part};
-ghost use Rattle.nsc_model.specs.Users.{is_name, trimmed};
+ghost use Rattle.nsc_base.specs.Text.{LiesIn, fields_of, part, trimmed};
+ghost use Rattle.nsc_model.specs.Users.{is_name};
 ghost use Rattle.nsc_accounts.specs.Fields.{exactly, fields_of_line};
 
 use nsc_base::{Span, field_at, has_zero_byte};

@@ -1,5 +1,5 @@
 -- What the places that a search gives say of the lines, fields and words of a text.
-use Rattle.std.proofs.Common.{◌≡◌, ℕ, ◌+◌, ◌-◌, ◌<◌, ◌≤◌, Bool, true, false, ◌==◌, List, [], ◌∷◌, ◌++◌, length, take, drop, slice_range, get_or, Some, None, refl, sym, ◌∙◌, ap, subst, arith, add-one, length-drop}
+use Rattle.std.proofs.Common.{◌≡◌, ℕ, ◌+◌, ◌-◌, ◌<◌, ◌≤◌, Bool, true, false, ◌==◌, List, [], ◌∷◌, ◌++◌, length, map, take, drop, slice_range, get_or, Some, None, refl, sym, ◌∙◌, ap, subst, arith, add-one, length-drop}
 use Rattle.std.specs.List.{list_any}
 use Rattle.std.proofs.lemmas.List.{take-append-drop, take-take, drop_all, drop-take, drop-drop, length-take, length-take-le, get_or-take, get_or-drop, take_rest}
 use Rattle.std.proofs.Math.Seq.{drop-cons, drop-length}
@@ -7,9 +7,10 @@ use Rattle.std.proofs.lemmas.Bool.{eqb-true}
 use Rattle.memchr.specs.Find.{IsFirstByte, Passes, Nowhere, is_byte}
 use Rattle.nsc_base.specs.declared.span.Span.{Span}
 use Rattle.nsc_base.specs.declared.span.Line.{Line}
-use Rattle.nsc_base.specs.Text.{pieces, lines_of, is_white, words_of, part, spans_of, fields_between, IsLine, IsField, IsWord}
+use Rattle.nsc_base.specs.Text.{pieces, lines_of, is_white, words_of, part, spans_of, fields_between, IsLine, IsField, IsWord, word_spans}
 use Rattle.nsc_base.proofs.Compare.{not_below, is_below}
-use Rattle.nsc_base.proofs.Pieces.{none_cuts, pieces-last, pieces-first, lines-last, lines-first, words-skip, words-first}
+use Rattle.nsc_base.proofs.Pieces.{none_cuts, pieces-last, pieces-first, lines-last, lines-first}
+use Rattle.nsc_base.proofs.Spans.{word_spans-parts, worded, worded-first, worded-skip, words-are}
 
 pub not_true : (b : Bool) → (b ≡ true → ⊥) → b ≡ false
 not_true true h = absurd (h refl)
@@ -151,12 +152,12 @@ field-last cut text within from field spans onward before missing =
     }
 
 -- the words of a text do not change where the white space at its front is dropped
-words_after : (xs : List ℕ) (n : ℕ) → n ≤ length xs → ((k : ℕ) → k < n → is_white (get_or xs k 0) ≡ true) → words_of xs ≡ words_of (drop n xs)
-words_after xs n l white =
+worded_after : (a : ℕ) (xs : List ℕ) (n : ℕ) → n ≤ length xs → ((k : ℕ) → k < n → is_white (get_or xs k 0) ≡ true) → worded a xs ≡ worded (a + n) (drop n xs)
+worded_after a xs n l white =
     let len = length-take-le n xs l in
-    ap words_of (sym (take-append-drop n xs)) ∙ words-skip (take n xs) (drop n xs) (λ k h.
+    ap (worded a) (sym (take-append-drop n xs)) ∙ worded-skip a (take n xs) (drop n xs) (λ k h.
     let below : k < n = omega (arith, len) in
-    rw (get_or-take n xs k 0 below) (white k below))
+    rw (get_or-take n xs k 0 below) (white k below)) ∙ ap (λ m. worded (a + m) (drop n xs)) len
 
 not_below_le : (xs : List ℕ) (n : ℕ) → (n < length xs → ⊥) → length xs ≤ n
 not_below_le xs n h = omega arith
@@ -172,38 +173,43 @@ pub words-none : (xs ys : List ℕ) (n m : ℕ) → m ≡ 0 → ys ≡ drop n xs
 words-none xs ys n m zero_is is l white stop none =
     let P : List ℕ → ℕ → Type 0 = λ zs k. k < length zs → is_white (get_or zs k 0) ≡ false → ⊥ in
     let here : P (drop n xs) 0 = subst (λ (zs : List ℕ). P zs 0) is (subst (P ys) zero_is none) in
-    words_after xs n l white ∙ ap words_of (drop_all n xs (at_end xs n stop here))
+    let past : drop n xs ≡ [] = drop_all n xs (at_end xs n stop here) in
+    let nothing : worded (0 + n) [] ≡ [] = rw (not_below (0 + n) (0 + n + 0) (omega arith)) refl in
+    words-are xs ∙ ap (map (part xs)) (worded_after 0 xs n l white ∙ ap (worded (0 + n)) past ∙ nothing)
 
 -- the first word after the white space, and what follows it
-words-found : (xs : List ℕ) (m : ℕ) → m ≤ length xs → 0 < m → ((k : ℕ) → k < m → is_white (get_or xs k 0) ≡ false) → (m < length xs → is_white (get_or xs m 0) ≡ false → ⊥) → words_of xs ≡ take m xs ∷ words_of (drop m xs)
-words-found xs m l filled black stop =
+worded_found : (a : ℕ) (xs : List ℕ) (m : ℕ) → m ≤ length xs → 0 < m → ((k : ℕ) → k < m → is_white (get_or xs k 0) ≡ false) → (m < length xs → is_white (get_or xs m 0) ≡ false → ⊥) → worded a xs ≡ record { from = a; to = a + m } ∷ worded (a + m) (drop m xs)
+worded_found a xs m l filled black stop =
     let len = length-take-le m xs l in
     let none : list_any is_white (take m xs) ≡ false = none_cuts is_white (take m xs) (λ k h.
     let below : k < m = omega (arith, len) in
     rw (get_or-take m xs k 0 below) (black k below)) in
-    ap words_of (sym (take-append-drop m xs)) ∙ words-first (take m xs) (drop m xs) (omega (arith, len)) none (λ h.
+    ap (worded a) (sym (take-append-drop m xs)) ∙ worded-first a (take m xs) (drop m xs) (omega (arith, len)) none (λ h.
     let bound : m < length xs = omega (arith, length-drop m xs) in
     let same : get_or (drop m xs) 0 0 ≡ get_or xs m 0 = get_or-drop m xs 0 0 ∙ ap (λ k. get_or xs k 0) (omega arith) in
-    ap is_white same ∙ not_false _ (stop bound))
+    ap is_white same ∙ not_false _ (stop bound)) ∙ ap (λ k. record { from = a; to = a + k } ∷ worded (a + k) (drop m xs)) len
 
 -- the white space at the front, the first word, and what follows it
-pub word-some : (xs ys : List ℕ) (n m : ℕ) → ys ≡ drop n xs → n ≤ length xs → ((k : ℕ) → k < n → is_white (get_or xs k 0) ≡ true) → m ≤ length ys → 0 < m → ((k : ℕ) → k < m → is_white (get_or ys k 0) ≡ false) → (m < length ys → is_white (get_or ys m 0) ≡ false → ⊥) → words_of xs ≡ take m ys ∷ words_of (drop m ys)
-word-some xs ys n m is skips white reads filled black stop =
-    words_after xs n skips white ∙ ap words_of (sym is) ∙ words-found ys m reads filled black stop
+pub word-some : (a : ℕ) (xs ys : List ℕ) (n m : ℕ) → ys ≡ drop n xs → n ≤ length xs → ((k : ℕ) → k < n → is_white (get_or xs k 0) ≡ true) → m ≤ length ys → 0 < m → ((k : ℕ) → k < m → is_white (get_or ys k 0) ≡ false) → (m < length ys → is_white (get_or ys m 0) ≡ false → ⊥) → worded a xs ≡ record { from = a + n; to = a + n + m } ∷ worded (a + n + m) (drop m ys)
+word-some a xs ys n m is skips white reads filled black stop =
+    worded_after a xs n skips white ∙ ap (worded (a + n)) (sym is) ∙ worded_found (a + n) ys m reads filled black stop
 
 pub word-found : (text : List ℕ) (within : Span) (from to n m : ℕ) (ys : List ℕ) (word : Line) → word.span ≡ record { from = from + n; to = from + n + m } → word.next ≡ from + n + m → within.to ≡ to → ys ≡ drop n (slice_range text from to) → to ≤ length text → from ≤ to → n ≤ length (slice_range text from to) → ((k : ℕ) → k < n → is_white (get_or (slice_range text from to) k 0) ≡ true) → m ≤ length ys → 0 < m → ((k : ℕ) → k < m → is_white (get_or ys k 0) ≡ false) → (m < length ys → is_white (get_or ys m 0) ≡ false → ⊥) → IsWord text within from word
 word-found text within from to n m ys word spans onward end is inside before skips white reads filled black stop =
     let size : length (slice_range text from to) ≡ to - from = range-length text from to inside in
     let left : length ys ≡ to - from - n = ap length is ∙ length-drop n (slice_range text from to) ∙ ap (λ l. l - n) size in
-    let stops : from + n + m ≤ to = omega (arith, size, left) in
+    let ends_by : from + n + m ≤ to = omega (arith, size, left) in
     let rest : slice_range text (from + n) to ≡ ys = range-drop text from n to (omega arith) ∙ sym is in
-    let bytes : part text word.span ≡ take m ys = ap (part text) spans ∙ range-take text (from + n) m to stops ∙ ap (take m) rest in
-    let later : slice_range text word.next to ≡ drop m ys = ap (λ k. slice_range text k to) onward ∙ range-drop text (from + n) m to stops ∙ ap (drop m) rest in
-    let found = word-some (slice_range text from to) ys n m is skips white reads filled black stop in
+    let later : slice_range text word.next to ≡ drop m ys = ap (λ k. slice_range text k to) onward ∙ range-drop text (from + n) m to ends_by ∙ ap (drop m) rest in
+    let found : word_spans text (record { from = from; to = to }) ≡ word.span ∷ word_spans text (record { from = word.next; to = to }) =
+    word-some from (slice_range text from to) ys n m is skips white reads filled black stop ∙ ap (λ (s : Span). s ∷ worded (from + n + m) (drop m ys)) (sym spans) ∙ ap (λ zs. word.span ∷ worded (from + n + m) zs) (sym later) ∙ ap (λ k. word.span ∷ worded k (slice_range text word.next to)) (sym onward) in
+    let words : words_of (slice_range text from to) ≡ part text word.span ∷ words_of (slice_range text word.next to) =
+    sym (word_spans-parts text (record { from = from; to = to })) ∙ ap (map (part text)) found ∙ ap (λ (ws : List (List ℕ)). part text word.span ∷ ws) (word_spans-parts text (record { from = word.next; to = to })) in
     record {
       no_earlier = omega (arith, ap (λ (s : Span). s.from) spans);
       filled = omega (arith, ap (λ (s : Span). s.from) spans, ap (λ (s : Span). s.to) spans);
       ends = omega (arith, end, ap (λ (s : Span). s.to) spans);
       next_is = omega (arith, onward, ap (λ (s : Span). s.to) spans);
-      cut = rw end (found ∙ ap (λ zs. zs ∷ words_of (drop m ys)) (sym bytes) ∙ ap (λ zs. part text word.span ∷ words_of zs) (sym later));
+      cut = rw end words;
+      stands = rw end found;
     }

@@ -111,3 +111,4 @@ pub record IsWord (text : List ℕ) (within : Span) (from : ℕ) (word : Line) :
   pub ends : word.span.to ≤ within.to
   pub next_is : word.next ≡ word.span.to
   pub cut : words_of (slice_range text from within.to) ≡ part text word.span ∷ words_of (slice_range text word.next within.to)
+  pub stands : word_spans text (record { from = from; to = within.to }) ≡ word.span ∷ word_spans text (record { from = word.next; to = within.to })

@@ -1,5 +1,7 @@
-ghost use Rattle.std.specs.Prelude.{◌<◌, ◌≤◌, ◌↔◌, length, IfSome, IsNone};
-ghost use Rattle.nsc_base.specs.Text.{IsField};
+ghost use Rattle.std.specs.Prelude.{◌≡◌, ◌<◌, ◌≤◌, ◌↔◌, All, length, map, IfSome, IsNone};
+ghost use Rattle.std.specs.Option.{option_map};
+ghost use Rattle.nsc_base.specs.Fields.{exactly};
+ghost use Rattle.nsc_base.specs.Text.{IsField, LiesIn, field_spans, fields_of, part};
 
 use crate::span::{Line, Span};
 use memchr::memchr;
@@ -24,4 +26,25 @@ pub fn field_at(text: &[u8], within: Span, from: usize, cut: u8) -> Option<Line>
         span: Span::new(from, to),
         next: to + 1,
     })
+}
+
+/// The fields of a part of a text, between its separators `cut`, where there are exactly `N`. `None` where there are more
+/// or fewer.
+pub fn exact_fields<const N: usize>(text: &[u8], within: Span, cut: u8) -> Option<[Span; N]>
+    requires { within.to ≤ length text.now }
+    ensures places { result ≡ exactly N (field_spans cut text.now within) }
+    ensures fields { option_map (map (part text.now)) result ≡ exactly N (fields_of cut (part text.now within)) }
+    ensures inside { IfSome result (All (LiesIn within)) }
+{
+    let mut spans = [Span::new(0, 0); N];
+    let mut from = within.from();
+    for span in spans.iter_mut() {
+        let field = field_at(text, within, from, cut)?;
+        *span = field.span;
+        from = field.next;
+    }
+    if from <= within.to() {
+        return None;
+    }
+    Some(spans)
 }

@@ -5,11 +5,11 @@ use Rattle.std.proofs.Math.Seq.{drop-cons}
 use Rattle.std.proofs.lemmas.Bool.Decides.{nat_tests}
 use Rattle.nsc_base.specs.declared.span.Span.{Span}
 use Rattle.nsc_base.specs.declared.span.Line.{Line}
-use Rattle.nsc_base.specs.Text.{IsField, fields_between, fields_of, onto_first, part, pieces}
+use Rattle.nsc_base.specs.Text.{IsField, fields_between, fields_of, onto_first, part, pieces, trimmed}
 use Rattle.nsc_base.proofs.Compare.{not_below}
 use Rattle.nsc_base.proofs.Pieces.{pieces-some}
 use Rattle.nsc_model.specs.Compat.{first_field, says, says_by, says_entry, says_minus, says_plus}
-use Rattle.nsc_model.specs.Users.{has_zero, trimmed}
+use Rattle.nsc_model.specs.Users.{has_zero}
 use Rattle.nsc_accounts.proofs.Entries.{part-drop}
 
 -- the first piece is what stands before the first byte that cuts

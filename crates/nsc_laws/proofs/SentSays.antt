@@ -1,8 +1,8 @@
 -- What a compat line may say, case by case: its entry, its name, or its fields.
 use Rattle.std.proofs.Common.{◌≡◌, ℕ, true, false, ◌==◌, if◌then◌else◌, List, [], ◌∷◌, Option, Some, None, IfSome, refl}
-use Rattle.nsc_base.specs.Text.{fields_of}
+use Rattle.nsc_base.specs.Text.{fields_of, trimmed}
 use Rattle.nsc_model.specs.Compat.{Says, Entry, Excludes, Asks, AsksAll, Netgroup, Nothing, first_field, says, says_by, says_entry, says_minus, says_plus}
-use Rattle.nsc_model.specs.Users.{has_zero, trimmed}
+use Rattle.nsc_model.specs.Users.{has_zero}
 
 module _ {A : Type 0} (P : Says A → Type 0) (nothing : P Nothing) (netgroup : P Netgroup) (excludes : (name : List ℕ) → P (Excludes name)) where
   minus_case : (name : List ℕ) → P (says_minus name)

@@ -9,8 +9,8 @@ use Rattle.std.proofs.lemmas.List.{take_all}
 use Rattle.std.proofs.lemmas.List.Sums.{prefix_len_is, take_while-cons}
 use Rattle.std.proofs.lemmas.Slice.Eq.{strip_prefix_is}
 use Rattle.memchr.specs.Find.{IsFirstByte, is_byte}
-use Rattle.nsc_base.specs.Text.{before_remark, is_white}
-use Rattle.nsc_model.specs.Users.{◌>>=◌, trimmed}
+use Rattle.nsc_base.specs.Text.{before_remark, is_white, trimmed}
+use Rattle.nsc_model.specs.Users.{◌>>=◌}
 use Rattle.nsc_model.specs.declared.switch.DbName.{DbName}
 use Rattle.nsc_model.specs.declared.switch.DbName.TheVariants as list
 use Rattle.nsc_model.specs.Switches.{after_colon, after_text, name_text, own_part}

@@ -1,7 +1,6 @@
 ghost use Rattle.std.specs.Prelude.{◌≡◌, length};
 ghost use Rattle.std.specs.Option.{option_copied};
-ghost use Rattle.nsc_model.specs.Users.{trimmed};
-ghost use Rattle.nsc_base.specs.Text.{before_remark};
+ghost use Rattle.nsc_base.specs.Text.{before_remark, trimmed};
 ghost use Rattle.nsc_model.specs.Switches.{first_line, name_text, own_part};
 
 use memchr::memchr;

@@ -1,5 +1,5 @@
 use Rattle.std.proofs.Common.{◌≡◌, drop}
-use Rattle.nsc_model.specs.Users.{trimmed}
+use Rattle.nsc_base.specs.Text.{trimmed}
 use Rattle.nsc_accounts.proofs.fields.white_front.Given as goal
 
 abbrev pub invariant-loop-i : goal.invariant-loop-i

@@ -1,7 +1,8 @@
-use Rattle.std.proofs.Common.{refl, sym, ap, ◌∙◌, ◌≡◌, [], slice_range, arith}
+use Rattle.std.proofs.Common.{refl, sym, map, ap, ◌∙◌, ◌≡◌, [], slice_range, arith}
 use Rattle.std.proofs.lemmas.List.{take_rest}
-use Rattle.nsc_base.specs.Text.{words_of}
+use Rattle.nsc_base.specs.Text.{part, words_of}
 use Rattle.nsc_base.proofs.Places.{word-found, word-some, words-none}
+use Rattle.nsc_base.proofs.Spans.{words-are}
 use Rattle.nsc_base.proofs.words.word_at.Goals as goal
 
 pub returns-then-word-eq0-clause-none : goal.returns-then-word-eq0-clause-none
@@ -13,11 +14,11 @@ returns-then-word-eq0-clause-none c =
 
 pub returns-clause-none : goal.returns-clause-none
 returns-clause-none c =
-    let part = slice_range c.args.text.now c.args.from c.to.result in
-    let cut = word-some part _ c.run_length-white.result c.run_length-word.result (take_rest part c.run_length-white.result)
+    let rest = slice_range c.args.text.now c.args.from c.to.result in
+    let cut = words-are rest ∙ ap (map (part rest)) (word-some 0 rest _ c.run_length-white.result c.run_length-word.result (take_rest rest c.run_length-white.result)
     c.run_length-white.ensures.within c.run_length-white.ensures.run
-    c.run_length-word.ensures.within (omega arith) c.run_length-word.ensures.run c.run_length-word.ensures.stop in
-    let there : words_of (slice_range c.args.text.now c.args.from c.args.within.to) ≡ words_of part = ap (λ n. words_of (slice_range c.args.text.now c.args.from n)) (sym c.to.ensures.place) in
+    c.run_length-word.ensures.within (omega arith) c.run_length-word.ensures.run c.run_length-word.ensures.stop) in
+    let there : words_of (slice_range c.args.text.now c.args.from c.args.within.to) ≡ words_of rest = ap (λ n. words_of (slice_range c.args.text.now c.args.from n)) (sym c.to.ensures.place) in
     (λ no. cc, λ empty. cc)
 
 pub returns-clause-word : goal.returns-clause-word

@@ -1,5 +1,5 @@
 use Rattle.std.proofs.Common.{◌≡◌, length}
-use Rattle.nsc_model.specs.Users.{trimmed}
+use Rattle.nsc_base.specs.Text.{trimmed}
 use Rattle.nsc_switchconf.proofs.line.after_white.Given as goal
 
 abbrev pub invariant-loop-rest : goal.invariant-loop-rest
