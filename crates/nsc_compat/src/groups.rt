@@ -72,14 +72,13 @@ fn line_outcome<'t, S: SubLookup>(
     excluded: &mut Excluded<'t>,
 ) -> Result<Option<Looked>, NoMemory>
     requires database { database_of asking.now.kind ≡ db.Group }
-    requires ordered { line.from ≤ line.to }
     requires inside { line.to ≤ length text.now }
     ensures { IfOk result (λ outcome. (lines : List (List ℕ)) → looked_or outcome (scanned (groups_asked asking.now) lines excluded.new) ≡ scanned (groups_asked asking.now) (part text.now line ∷ lines) excluded.old) }
 {
     match line_says(text, line) {
         Said::Plain => own_group(alloc, asking, text, line, excluded),
         Said::Excludes(name) => {
-            excluded.add(&text[name.from..name.to])?;
+            excluded.add(name.of(text))?;
             Ok(None)
         }
         Said::Asks { name, .. } => {
@@ -87,7 +86,7 @@ fn line_outcome<'t, S: SubLookup>(
                 alloc,
                 asking.content,
                 Kind::GrName,
-                &text[name.from..name.to],
+                name.of(text),
             )?;
             Ok(named_group(asking, found, excluded))
         }
@@ -108,14 +107,13 @@ fn own_group(
     line: Span,
     excluded: &Excluded,
 ) -> Result<Option<Looked>, NoMemory>
-    requires ordered { line.from ≤ line.to }
-    requires inside { line.to ≤ length text.now }
+    requires { line.to ≤ length text.now }
     ensures { IfOk result (λ outcome. (next : Looked) → looked_or outcome next ≡ answers_or (groups_asked asking.now) (groups_asked asking.now).names excluded.now (group_of_line (part text.now line)) (λ g. g) next) }
 {
     let Some(at) = group_line(text, line) else {
         return Ok(None);
     };
-    let name = &text[at.name.from..at.name.to];
+    let name = at.name.of(text);
     if !names_entry(&asking.wanted, name, at.gid) {
         return Ok(None);
     }

@@ -74,8 +74,7 @@ fn add_line<'t, S: SubLookup>(
     excluded: &mut Excluded<'t>,
     ids: &mut OnceIds,
 ) -> Result<bool, NoMemory>
-    requires ordered { line.from ≤ line.to }
-    requires inside { line.to ≤ length text.now }
+    requires { line.to ≤ length text.now }
     ensures { IfOk result (λ on. (lines : List (List ℕ)) → where_on on (option_map (all_ids ids.new) (gathered (id_scan member.now.content.now member.now.user.now) lines excluded.new)) ≡ option_map (all_ids ids.old) (gathered (id_scan member.now.content.now member.now.user.now) (part text.now line ∷ lines) excluded.old)) }
 {
     match line_says(text, line) {
@@ -84,11 +83,11 @@ fn add_line<'t, S: SubLookup>(
             Ok(true)
         }
         Said::Excludes(name) => {
-            excluded.add(&text[name.from..name.to])?;
+            excluded.add(name.of(text))?;
             Ok(true)
         }
         Said::Asks { name, .. } => {
-            let name = &text[name.from..name.to];
+            let name = name.of(text);
             let found = sub.look(alloc, member.content, Kind::GrName, name)?;
             add_found(found, member.user, excluded, ids)?;
             Ok(true)
@@ -111,8 +110,7 @@ fn add_own(
     excluded: &Excluded,
     ids: &mut OnceIds,
 ) -> Result<(), NoMemory>
-    requires ordered { line.from ≤ line.to }
-    requires inside { line.to ≤ length text.now }
+    requires { line.to ≤ length text.now }
     ensures { OnOk result (ids.new ≡ all_ids ids.old (member_id user.now excluded.now (group_of_line (part text.now line)))) }
 {
     let Some(at) = group_line(text, line) else {
@@ -121,7 +119,7 @@ fn add_own(
     if !has_member(text, at.members, user) {
         return Ok(());
     }
-    add_id(&text[at.name.from..at.name.to], at.gid, excluded, ids)
+    add_id(at.name.of(text), at.gid, excluded, ids)
 }
 
 // Adds the id of a group that further services found, where it has the user as a member and its name is not excluded.

@@ -38,13 +38,12 @@ pub enum Said {
 /// What a line says, by its first byte after blanks and tabs: `+` and `-` stand before a name that ends at a colon or
 /// with the line, nsswitch.conf(5). A line with a zero byte says nothing. Takes no memory.
 pub fn line_says(text: &[u8], line: Span) -> Said
-    requires ordered { line.from ≤ line.to }
-    requires inside { line.to ≤ length text.now }
+    requires { line.to ≤ length text.now }
     ensures users { said_as text.now (user_of_line (part text.now line)) result ≡ says user_of_line (part text.now line) }
     ensures groups { said_as text.now (group_of_line (part text.now line)) result ≡ says group_of_line (part text.now line) }
     ensures inside { SaidIn line result }
 {
-    let bytes = &text[line.from..line.to];
+    let bytes = line.of(text);
     if has_zero_byte(bytes) {
         return Said::Nothing;
     }
@@ -57,8 +56,7 @@ pub fn line_says(text: &[u8], line: Span) -> Said
 
 // What a line says that has no white space at its front and no zero byte.
 fn black_says(text: &[u8], black: Span) -> Said
-    requires ordered { black.from ≤ black.to }
-    requires inside { black.to ≤ length text.now }
+    requires { black.to ≤ length text.now }
     ensures users { (entry : Option Passwd) → said_as text.now entry result ≡ says_by entry (part text.now black) }
     ensures groups { (entry : Option Group) → said_as text.now entry result ≡ says_by entry (part text.now black) }
     ensures inside { SaidIn black result }
@@ -92,14 +90,13 @@ fn name_after(text: &[u8], black: Span) -> Span
 
 // What a plus line says, by the name after the plus.
 fn plus_says(text: &[u8], name: Span, all: Span) -> Said
-    requires ordered { all.from ≤ all.to }
     requires inside { all.to ≤ length text.now }
     requires name_in { LiesIn all name }
     ensures users { (entry : Option Passwd) → said_as text.now entry result ≡ says_plus (fields_of 58 (part text.now all)) (part text.now name) }
     ensures groups { (entry : Option Group) → said_as text.now entry result ≡ says_plus (fields_of 58 (part text.now all)) (part text.now name) }
     ensures inside { SaidIn all result }
 {
-    match &text[name.from..name.to] {
+    match name.of(text) {
         [] => Said::AsksAll { all },
         [b'@', ..] => Said::Netgroup,
         _ => Said::Asks { name, all },
@@ -108,13 +105,12 @@ fn plus_says(text: &[u8], name: Span, all: Span) -> Said
 
 // What a minus line says, by the name after the minus.
 fn minus_says(text: &[u8], name: Span) -> Said
-    requires ordered { name.from ≤ name.to }
-    requires inside { name.to ≤ length text.now }
+    requires { name.to ≤ length text.now }
     ensures users { (entry : Option Passwd) → said_as text.now entry result ≡ says_minus (part text.now name) }
     ensures groups { (entry : Option Group) → said_as text.now entry result ≡ says_minus (part text.now name) }
     ensures inside { SaidIn name result }
 {
-    match &text[name.from..name.to] {
+    match name.of(text) {
         [] => Said::Nothing,
         [b'@', ..] => Said::Netgroup,
         _ => Said::Excludes(name),

@@ -72,14 +72,13 @@ fn user_line<'t, S: SubLookup>(
     excluded: &mut Excluded<'t>,
 ) -> Result<Option<Looked>, NoMemory>
     requires database { database_of asking.now.kind ≡ db.Passwd }
-    requires ordered { line.from ≤ line.to }
     requires inside { line.to ≤ length text.now }
     ensures { IfOk result (λ outcome. (lines : List (List ℕ)) → looked_or outcome (scanned (users_asked asking.now) lines excluded.new) ≡ scanned (users_asked asking.now) (part text.now line ∷ lines) excluded.old) }
 {
     match line_says(text, line) {
         Said::Plain => own_user(alloc, asking, text, line, excluded),
         Said::Excludes(name) => {
-            excluded.add(&text[name.from..name.to])?;
+            excluded.add(name.of(text))?;
             Ok(None)
         }
         Said::Asks { name, all } => {
@@ -87,7 +86,7 @@ fn user_line<'t, S: SubLookup>(
                 alloc,
                 asking.content,
                 Kind::PwName,
-                &text[name.from..name.to],
+                name.of(text),
             )?;
             named_user(alloc, asking, found, text, all, excluded)
         }
@@ -108,14 +107,13 @@ fn own_user(
     line: Span,
     excluded: &Excluded,
 ) -> Result<Option<Looked>, NoMemory>
-    requires ordered { line.from ≤ line.to }
-    requires inside { line.to ≤ length text.now }
+    requires { line.to ≤ length text.now }
     ensures { IfOk result (λ outcome. (next : Looked) → looked_or outcome next ≡ answers_or (users_asked asking.now) (users_asked asking.now).names excluded.now (user_of_line (part text.now line)) (λ p. p) next) }
 {
     let Some(at) = passwd_line(text, line) else {
         return Ok(None);
     };
-    let name = &text[at.name.from..at.name.to];
+    let name = at.name.of(text);
     if !names_entry(&asking.wanted, name, at.uid) {
         return Ok(None);
     }
@@ -135,8 +133,7 @@ fn named_user(
     all: Span,
     excluded: &Excluded,
 ) -> Result<Option<Looked>, NoMemory>
-    requires ordered { all.from ≤ all.to }
-    requires inside { all.to ≤ length text.now }
+    requires { all.to ≤ length text.now }
     ensures { IfOk result (λ outcome. (next : Looked) → looked_or outcome next ≡ answers_or (users_asked asking.now) (users_asked asking.now).names excluded.now (user_in found) (replaced_user (fields_of 58 (part text.now all))) next) }
 {
     let Some(user) = user_in(found) else {
@@ -156,8 +153,7 @@ fn asked_user(
     all: Span,
     excluded: &Excluded,
 ) -> Result<Option<Looked>, NoMemory>
-    requires ordered { all.from ≤ all.to }
-    requires inside { all.to ≤ length text.now }
+    requires { all.to ≤ length text.now }
     ensures { IfOk result (λ outcome. (asking : Asking) (next : Looked) → looked_or outcome next ≡ answers_or (users_asked asking) (λ p. true) excluded.now (user_in found) (replaced_user (fields_of 58 (part text.now all))) next) }
 {
     match user_in(found) {
@@ -174,8 +170,7 @@ fn replaced_unless_excluded(
     all: Span,
     excluded: &Excluded,
 ) -> Result<Option<Looked>, NoMemory>
-    requires ordered { all.from ≤ all.to }
-    requires inside { all.to ≤ length text.now }
+    requires { all.to ≤ length text.now }
     ensures { IfOk result (λ outcome. (next : Looked) → looked_or outcome next ≡ (if is_excluded excluded.now user.name then next else Looked.Found (Row.Passwd (replaced_user (fields_of 58 (part text.now all)) user)))) }
 {
     if excluded.has(user.name.as_slice()) {
@@ -187,8 +182,7 @@ fn replaced_unless_excluded(
 // A user with those fields of a plus line in their place that are not empty. The ids are never replaced, and a line that
 // has more or fewer than seven fields replaces nothing.
 fn replaced(alloc: Global, user: Passwd, text: &[u8], all: Span) -> Result<Passwd, NoMemory>
-    requires ordered { all.from ≤ all.to }
-    requires inside { all.to ≤ length text.now }
+    requires { all.to ≤ length text.now }
     ensures { IfOk result (λ replaced. replaced ≡ replaced_user (fields_of 58 (part text.now all)) user) }
 {
     match exact_fields::<7>(text, all) {
@@ -210,12 +204,12 @@ fn with_fields(
     let [_, passwd, _, _, gecos, dir, shell] = fields;
     Ok(Passwd {
         name: user.name,
-        passwd: own_or(alloc, &text[passwd.from..passwd.to], user.passwd)?,
+        passwd: own_or(alloc, passwd.of(text), user.passwd)?,
         uid: user.uid,
         gid: user.gid,
-        gecos: own_or(alloc, &text[gecos.from..gecos.to], user.gecos)?,
-        dir: own_or(alloc, &text[dir.from..dir.to], user.dir)?,
-        shell: own_or(alloc, &text[shell.from..shell.to], user.shell)?,
+        gecos: own_or(alloc, gecos.of(text), user.gecos)?,
+        dir: own_or(alloc, dir.of(text), user.dir)?,
+        shell: own_or(alloc, shell.of(text), user.shell)?,
     })
 }
 

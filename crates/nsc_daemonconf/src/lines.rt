@@ -46,7 +46,7 @@ pub fn read_conf(text: &[u8]) -> Result<Conf, ConfFault>
     let mut number = 1;
     let mut from = 0;
     while let Some(line) = line_at(text, from) {
-        conf = with_line(conf, &text[line.span.from..line.span.to], number)?;
+        conf = with_line(conf, line.span.of(text), number)?;
         number += 1;
         from = line.next;
     }

@@ -24,7 +24,7 @@ pub fn next_word(text: &[u8]) -> Option<(&[u8], &[u8])>
         to: text.len(),
     };
     let word = word_at(text, whole, 0)?;
-    Some((&text[word.span.from..word.span.to], &text[word.next..]))
+    Some((word.span.of(text), &text[word.next..]))
 }
 
 /// The only word of a text. `None` where it has another number of words.

@@ -29,8 +29,7 @@ pub struct WordsAt {
 
 /// The first two words of a line before its remark, and the text after them. `None` where the line has fewer words.
 pub fn line_words(text: &[u8], line: Span) -> Option<WordsAt>
-    requires ordered { line.from ≤ line.to }
-    requires inside { line.to ≤ length text.now }
+    requires { line.to ≤ length text.now }
     ensures words { option_map (words_at text.now) result ≡ two_of (words_of (before_remark (part text.now line))) }
     ensures inside { IfSome result (WordsLieIn line) }
 {
@@ -39,24 +38,21 @@ pub fn line_words(text: &[u8], line: Span) -> Option<WordsAt>
 
 /// Whether a name is the wanted one, or one of the aliases between white space is.
 pub fn has_name(text: &[u8], name: Span, aliases: Span, wanted: &[u8], case: Case) -> bool
-    requires name_ordered { name.from ≤ name.to }
     requires name_inside { name.to ≤ length text.now }
-    requires aliases_ordered { aliases.from ≤ aliases.to }
     requires aliases_inside { aliases.to ≤ length text.now }
     ensures { result ≡ list_any (λ n. same_by case n wanted.now) (part text.now name ∷ words_of (part text.now aliases)) }
 {
-    same(&text[name.from..name.to], wanted, case) || has_word(text, aliases, wanted, case)
+    same(name.of(text), wanted, case) || has_word(text, aliases, wanted, case)
 }
 
 // Whether one of the words of a part of the text is the wanted one.
 fn has_word(text: &[u8], within: Span, wanted: &[u8], case: Case) -> bool
-    requires ordered { within.from ≤ within.to }
-    requires inside { within.to ≤ length text.now }
+    requires { within.to ≤ length text.now }
     ensures { result ≡ list_any (λ n. same_by case n wanted.now) (words_of (part text.now within)) }
 {
     let mut from = within.from;
     while let Some(word) = word_at(text, within, from) {
-        if same(&text[word.span.from..word.span.to], wanted, case) {
+        if same(word.span.of(text), wanted, case) {
             return true;
         }
         from = word.next;
@@ -76,12 +72,11 @@ fn same(name: &[u8], wanted: &[u8], case: Case) -> bool
 
 // The part of a line before its remark.
 fn up_to_remark(text: &[u8], line: Span) -> Span
-    requires ordered { line.from ≤ line.to }
-    requires inside { line.to ≤ length text.now }
+    requires { line.to ≤ length text.now }
     ensures bytes { part text.now result ≡ before_remark (part text.now line) }
     ensures inside { LiesIn line result }
 {
-    match memchr(b'#', &text[line.from..line.to]) {
+    match memchr(b'#', line.of(text)) {
         Some(n) => Span {
             from: line.from,
             to: line.from + n,
@@ -92,8 +87,7 @@ fn up_to_remark(text: &[u8], line: Span) -> Span
 
 // The first two words of a part of the text, and what is after them in that part.
 fn two_words(text: &[u8], within: Span) -> Option<WordsAt>
-    requires ordered { within.from ≤ within.to }
-    requires inside { within.to ≤ length text.now }
+    requires { within.to ≤ length text.now }
     ensures words { option_map (words_at text.now) result ≡ two_of (words_of (part text.now within)) }
     ensures inside { IfSome result (WordsLieIn within) }
 {

@@ -13,7 +13,7 @@ pub fn first_part(text: &[u8], name: DbName) -> Option<&[u8]>
 {
     let mut from = 0;
     while let Some(line) = line_at(text, from) {
-        if let Some(part) = list_part(&text[line.span.from..line.span.to], name) {
+        if let Some(part) = list_part(line.span.of(text), name) {
             return Some(part);
         }
         from = line.next;
