@@ -7,7 +7,7 @@ use Rattle.std.proofs.lemmas.List.Sums.{fails_before_first, passes_at_first, pos
 use Rattle.memchr.specs.Find.{IsFirstByte}
 use Rattle.nsc_base.specs.declared.span.Span.{Span}
 use Rattle.nsc_base.specs.Text.{IsSplit, LiesIn, is_white, part, trimmed}
-use Rattle.nsc_base.proofs.Pieces.{none_cuts}
+use Rattle.nsc_base.proofs.Pieces.{none_cuts, or_false}
 use Rattle.nsc_base.proofs.Places.{not_true, range-drop, range-length}
 
 -- the place that a search gives is where the text is cut
@@ -76,3 +76,11 @@ trimmed_part text within rest ordered inside from_is to_is =
     let size = range-length text within.from within.to inside in
     let place : rest.from ≡ within.from + known.0 = omega (arith, from_is, known.1.0, size) in
     ap (slice_range text rest.from) to_is ∙ ap (λ k. slice_range text k within.to) place ∙ range-drop text within.from known.0 within.to (omega (arith, known.1.0, size)) ∙ known.1.1
+
+-- where there is no such byte, nothing stands after it
+pub after-none : (test : ℕ → Bool) (bytes : List ℕ) → list_any test bytes ≡ false → after_first test bytes ≡ []
+after-none test [] none = refl
+after-none test (b ∷ bytes) none =
+    let parts = or_false (test b) (list_any test bytes) none in
+    let place : 1 + position_or_len test bytes + 1 ≡ suc (position_or_len test bytes + 1) = omega arith in
+    rw parts.0 (ap (λ n. drop n (b ∷ bytes)) place ∙ after-none test bytes parts.1)

@@ -69,8 +69,8 @@ fn addresses(
     requires inside { first.name.to ≤ length text.now }
     ensures { IfOk result (λ ai. ai ≡ record { list = found_at first ∷ founds_at other; canon = part text.now first.name }) }
 {
-    let list = listed(alloc, first, other)?;
     let canon = Bytes::copy(alloc, first.name.of(text))?;
+    let list = listed(alloc, first, other)?;
     Ok(Ai { list, canon })
 }
 

@@ -11,8 +11,8 @@ ghost use Rattle.nsc_nets.specs.Services.{ServiceLiesIn, service_at};
 
 use crate::hosts::{HostAt, formed_host, spells};
 use crate::services::{ServiceAt, formed_service, service_line};
-use crate::words::{Case, has_name, line_words};
-use nsc_base::{Span, equal, first_line};
+use crate::words::{has_name, line_words};
+use nsc_base::{Case, Span, equal, first_line};
 
 /// The first line of a hosts file, hosts(5), that has the form of an entry, this name or alias, and an address of this
 /// family, 2 for IPv4 and 10 for IPv6, as places in the file. The case of ASCII letters in names does not count. `None`
@@ -104,7 +104,7 @@ fn named_service(text: &[u8], line: Span, name: &[u8], proto: &[u8]) -> Option<S
         return None;
     }
     let service = formed_service(text, line, words)?;
-    if has_proto(service.proto.of(text), proto) {
+    if has_proto(text, service.proto, proto) {
         Some(service)
     } else {
         None
@@ -118,7 +118,7 @@ fn ported_service(text: &[u8], line: Span, port: u16, proto: &[u8]) -> Option<Se
     ensures inside { IfSome result (ServiceLiesIn line) }
 {
     let service = service_line(text, line)?;
-    if service.port == port && has_proto(service.proto.of(text), proto) {
+    if service.port == port && has_proto(text, service.proto, proto) {
         Some(service)
     } else {
         None
@@ -126,8 +126,9 @@ fn ported_service(text: &[u8], line: Span, port: u16, proto: &[u8]) -> Option<Se
 }
 
 // Whether a protocol is the one that is asked for. Any will do where none is asked for.
-fn has_proto(proto: &[u8], asked: &[u8]) -> bool
-    ensures { result ≡ (not (is_filled asked.now) || bytes_eq proto.now asked.now) }
+fn has_proto(text: &[u8], proto: Span, asked: &[u8]) -> bool
+    requires { proto.to ≤ length text.now }
+    ensures { result ≡ (not (is_filled asked.now) || bytes_eq (part text.now proto) asked.now) }
 {
-    asked.is_empty() || equal(proto, asked)
+    asked.is_empty() || equal(proto.of(text), asked)
 }

@@ -4,11 +4,11 @@ ghost use Rattle.std.specs.Str.{bytes_eq};
 ghost use Rattle.nsc_base.specs.Text.{part};
 ghost use Rattle.nsc_model.specs.Hosts.{addressed_of, host_of_line};
 ghost use Rattle.nsc_nets.specs.Hosts.{HostLiesIn, addressed_at, host_at, host_of_formed, own_bytes};
-ghost use Rattle.nsc_nets.specs.Words.{WordsLieIn, words_at};
+ghost use Rattle.nsc_base.specs.Words.{WordsLieIn, words_at};
 
-use crate::words::{WordsAt, line_words};
+use crate::words::line_words;
 use nsc_addr::{read_v4, read_v6};
-use nsc_base::{Span, has_zero_byte};
+use nsc_base::{Span, WordsAt, has_zero_byte};
 
 // The address family of IPv4.
 const IPV4: u8 = 2;

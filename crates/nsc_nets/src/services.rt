@@ -3,11 +3,10 @@ ghost use Rattle.std.specs.Option.{option_map};
 ghost use Rattle.nsc_base.specs.Text.{LiesIn, part};
 ghost use Rattle.nsc_model.specs.ServiceLines.{port_of, service_of_line};
 ghost use Rattle.nsc_nets.specs.Services.{ServiceLiesIn, port_at, port_of_word, service_at, service_of_formed, service_of_two};
-ghost use Rattle.nsc_nets.specs.Words.{WordsLieIn, words_at};
+ghost use Rattle.nsc_base.specs.Words.{WordsLieIn, words_at};
 
-use crate::words::{WordsAt, line_words};
-use memchr::memchr;
-use nsc_base::{Span, decimal, has_zero_byte};
+use crate::words::line_words;
+use nsc_base::{Span, WordsAt, decimal, has_zero_byte};
 
 /// Where the texts of a service's entry stand in a text, and its port.
 #[derive(Clone, Copy, Debug, PartialEq, Eq)]
@@ -67,15 +66,11 @@ pub fn port_and_proto(text: &[u8], word: Span) -> Option<PortAt>
     ensures port { option_map (port_at text.now) result ≡ port_of_word (part text.now word) }
     ensures inside { IfSome result (λ at. LiesIn word at.proto) }
 {
-    let slash = word.from + memchr(b'/', word.of(text))?;
-    let proto = Span {
-        from: slash + 1,
-        to: word.to,
-    };
-    if proto.from == proto.to {
+    let (digits, proto) = word.split_at_byte(text, b'/')?;
+    if proto.is_empty() {
         return None;
     }
-    let port = port_number(&text[word.from..slash])?;
+    let port = port_number(digits.of(text))?;
     Some(PortAt { port, proto })
 }
 
