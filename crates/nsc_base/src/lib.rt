@@ -23,4 +23,4 @@ pub use memory::NoMemory;
 pub use number::{i32_at, u32_at, u64_at};
 pub use search::{Case, first_line_with, line_with};
 pub use span::{Line, Span};
-pub use words::{WordsAt, has_word, two_words, word_at};
+pub use words::{WordsAt, has_word, next_word, two_words, word_at};

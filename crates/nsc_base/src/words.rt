@@ -1,4 +1,4 @@
-ghost use Rattle.std.specs.Prelude.{◌≡◌, ◌≢◌, ◌<◌, ◌≤◌, ◌↔◌, ◌∷◌, ℕ, [], length, slice_index, slice_range, IfSome, IsNone};
+ghost use Rattle.std.specs.Prelude.{◌≡◌, ◌≢◌, ◌<◌, ◌≤◌, ◌↔◌, ◌∷◌, ℕ, [], length, slice_index, slice_range, IfSome, IsNone, MatchOption};
 ghost use Rattle.std.specs.List.{list_any};
 ghost use Rattle.std.specs.Option.{option_map};
 ghost use Rattle.nsc_base.specs.Found.{same_by};
@@ -38,6 +38,14 @@ pub fn word_at(text: &[u8], within: Span, from: usize) -> Option<Line>
         span: Span::new(start, start + word),
         next: start + word,
     })
+}
+
+/// The first word of a text, and the text after it. `None` where it has no word.
+pub fn next_word(text: &[u8]) -> Option<(&[u8], &[u8])>
+    ensures { MatchOption result (words_of text.now ≡ []) (λ w. words_of text.now ≡ w.0.now ∷ words_of w.1.now) }
+{
+    let word = word_at(text, Span::whole(text), 0)?;
+    Some((word.span.of(text), &text[word.next..]))
 }
 
 /// The first two words of a part of a text, and the text after them. `None` where it has fewer words.

@@ -10,7 +10,7 @@ pub fn words(alloc: Global, text: &[u8], within: Span) -> Result<Texts, NoMemory
     ensures { IfOk result (λ words. words ≡ words_of (part text.now within)) }
 {
     let mut words = Vec::new(alloc);
-    let mut from = within.from;
+    let mut from = within.from();
     while let Some(word) = word_at(text, within, from) {
         words.push(Bytes::copy(alloc, word.span.of(text))?)?;
         from = word.next;
