@@ -39,7 +39,8 @@ impl Span {
 
     /// The whole of a text.
     pub fn whole(text: &[u8]) -> Span
-        ensures { result ≡ record { from = 0; to = length text.now } }
+        ensures places { result ≡ record { from = 0; to = length text.now } }
+        ensures bytes { part text.now result ≡ text.now }
     {
         Span::new(0, text.len())
     }

@@ -78,16 +78,11 @@ fn line_outcome<'t, S: SubLookup>(
     match line_says(text, line) {
         Said::Plain => own_group(alloc, asking, text, line, excluded),
         Said::Excludes(name) => {
-            excluded.add(name.of(text))?;
+            excluded.add(name)?;
             Ok(None)
         }
         Said::Asks { name, .. } => {
-            let found = sub.look(
-                alloc,
-                asking.content,
-                Kind::GrName,
-                name.of(text),
-            )?;
+            let found = sub.look(alloc, asking.content, Kind::GrName, name)?;
             Ok(named_group(asking, found, excluded))
         }
         Said::AsksAll { .. } => {

@@ -83,11 +83,10 @@ fn add_line<'t, S: SubLookup>(
             Ok(true)
         }
         Said::Excludes(name) => {
-            excluded.add(name.of(text))?;
+            excluded.add(name)?;
             Ok(true)
         }
         Said::Asks { name, .. } => {
-            let name = name.of(text);
             let found = sub.look(alloc, member.content, Kind::GrName, name)?;
             add_found(found, member.user, excluded, ids)?;
             Ok(true)

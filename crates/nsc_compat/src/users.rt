@@ -11,8 +11,8 @@ use crate::asking::{Asking, Wanted, names_entry};
 use crate::excluded::Excluded;
 use crate::said::{Said, line_says};
 use crate::sub::SubLookup;
-use nsc_accounts::{exact_fields, passwd_line, user_row};
-use nsc_base::{Bytes, NoMemory, Span, line_at};
+use nsc_accounts::{passwd_line, user_row};
+use nsc_base::{Bytes, NoMemory, Span, line_at, exact_fields};
 use nsc_model::{Content, FileId, Kind, Looked, Passwd, Row};
 use std::alloc::Global;
 
@@ -78,21 +78,16 @@ fn user_line<'t, S: SubLookup>(
     match line_says(text, line) {
         Said::Plain => own_user(alloc, asking, text, line, excluded),
         Said::Excludes(name) => {
-            excluded.add(name.of(text))?;
+            excluded.add(name)?;
             Ok(None)
         }
         Said::Asks { name, all } => {
-            let found = sub.look(
-                alloc,
-                asking.content,
-                Kind::PwName,
-                name.of(text),
-            )?;
-            named_user(alloc, asking, found, text, all, excluded)
+            let found = sub.look(alloc, asking.content, Kind::PwName, name)?;
+            named_user(alloc, asking, found, all, excluded)
         }
         Said::AsksAll { all } => {
             let found = sub.look(alloc, asking.content, asking.kind, asking.key)?;
-            asked_user(alloc, found, text, all, excluded)
+            asked_user(alloc, found, all, excluded)
         }
         Said::Netgroup => Ok(Some(Looked::Unavail)),
         Said::Nothing => Ok(None),
@@ -129,12 +124,10 @@ fn named_user(
     alloc: Global,
     asking: &Asking,
     found: Looked,
-    text: &[u8],
-    all: Span,
+    all: &[u8],
     excluded: &Excluded,
 ) -> Result<Option<Looked>, NoMemory>
-    requires { all.to ≤ length text.now }
-    ensures { IfOk result (λ outcome. (next : Looked) → looked_or outcome next ≡ answers_or (users_asked asking.now) (users_asked asking.now).names excluded.now (user_in found) (replaced_user (fields_of 58 (part text.now all))) next) }
+    ensures { IfOk result (λ outcome. (next : Looked) → looked_or outcome next ≡ answers_or (users_asked asking.now) (users_asked asking.now).names excluded.now (user_in found) (replaced_user (fields_of 58 all.now)) next) }
 {
     let Some(user) = user_in(found) else {
         return Ok(None);
@@ -142,22 +135,20 @@ fn named_user(
     if !names_entry(&asking.wanted, user.name.as_slice(), user.uid) {
         return Ok(None);
     }
-    replaced_unless_excluded(alloc, user, text, all, excluded)
+    replaced_unless_excluded(alloc, user, all, excluded)
 }
 
 // What further services found for the request itself comes to: it answers where its name is not excluded.
 fn asked_user(
     alloc: Global,
     found: Looked,
-    text: &[u8],
-    all: Span,
+    all: &[u8],
     excluded: &Excluded,
 ) -> Result<Option<Looked>, NoMemory>
-    requires { all.to ≤ length text.now }
-    ensures { IfOk result (λ outcome. (asking : Asking) (next : Looked) → looked_or outcome next ≡ answers_or (users_asked asking) (λ p. true) excluded.now (user_in found) (replaced_user (fields_of 58 (part text.now all))) next) }
+    ensures { IfOk result (λ outcome. (asking : Asking) (next : Looked) → looked_or outcome next ≡ answers_or (users_asked asking) (λ p. true) excluded.now (user_in found) (replaced_user (fields_of 58 all.now)) next) }
 {
     match user_in(found) {
-        Some(user) => replaced_unless_excluded(alloc, user, text, all, excluded),
+        Some(user) => replaced_unless_excluded(alloc, user, all, excluded),
         None => Ok(None),
     }
 }
@@ -166,27 +157,24 @@ fn asked_user(
 fn replaced_unless_excluded(
     alloc: Global,
     user: Passwd,
-    text: &[u8],
-    all: Span,
+    all: &[u8],
     excluded: &Excluded,
 ) -> Result<Option<Looked>, NoMemory>
-    requires { all.to ≤ length text.now }
-    ensures { IfOk result (λ outcome. (next : Looked) → looked_or outcome next ≡ (if is_excluded excluded.now user.name then next else Looked.Found (Row.Passwd (replaced_user (fields_of 58 (part text.now all)) user)))) }
+    ensures { IfOk result (λ outcome. (next : Looked) → looked_or outcome next ≡ (if is_excluded excluded.now user.name then next else Looked.Found (Row.Passwd (replaced_user (fields_of 58 all.now) user)))) }
 {
     if excluded.has(user.name.as_slice()) {
         return Ok(None);
     }
-    Ok(Some(Looked::Found(Row::Passwd(replaced(alloc, user, text, all)?))))
+    Ok(Some(Looked::Found(Row::Passwd(replaced(alloc, user, all)?))))
 }
 
 // A user with those fields of a plus line in their place that are not empty. The ids are never replaced, and a line that
 // has more or fewer than seven fields replaces nothing.
-fn replaced(alloc: Global, user: Passwd, text: &[u8], all: Span) -> Result<Passwd, NoMemory>
-    requires { all.to ≤ length text.now }
-    ensures { IfOk result (λ replaced. replaced ≡ replaced_user (fields_of 58 (part text.now all)) user) }
+fn replaced(alloc: Global, user: Passwd, all: &[u8]) -> Result<Passwd, NoMemory>
+    ensures { IfOk result (λ replaced. replaced ≡ replaced_user (fields_of 58 all.now) user) }
 {
-    match exact_fields::<7>(text, all) {
-        Some(fields) => with_fields(alloc, user, text, fields),
+    match exact_fields::<7>(all, Span::whole(all), b':') {
+        Some(fields) => with_fields(alloc, user, all, fields),
         None => Ok(user),
     }
 }
@@ -195,28 +183,30 @@ fn replaced(alloc: Global, user: Passwd, text: &[u8], all: Span) -> Result<Passw
 fn with_fields(
     alloc: Global,
     user: Passwd,
-    text: &[u8],
+    all: &[u8],
     fields: [Span; 7],
 ) -> Result<Passwd, NoMemory>
-    requires { All (LiesIn (record { from = 0; to = length text.now })) fields }
-    ensures { IfOk result (λ replaced. replaced ≡ replaced_user (map (part text.now) fields) user) }
+    requires { All (LiesIn (record { from = 0; to = length all.now })) fields }
+    ensures { IfOk result (λ replaced. replaced ≡ replaced_user (map (part all.now) fields) user) }
 {
     let [_, passwd, _, _, gecos, dir, shell] = fields;
     Ok(Passwd {
         name: user.name,
-        passwd: own_or(alloc, passwd.of(text), user.passwd)?,
+        passwd: own_or(alloc, all, passwd, user.passwd)?,
         uid: user.uid,
         gid: user.gid,
-        gecos: own_or(alloc, gecos.of(text), user.gecos)?,
-        dir: own_or(alloc, dir.of(text), user.dir)?,
-        shell: own_or(alloc, shell.of(text), user.shell)?,
+        gecos: own_or(alloc, all, gecos, user.gecos)?,
+        dir: own_or(alloc, all, dir, user.dir)?,
+        shell: own_or(alloc, all, shell, user.shell)?,
     })
 }
 
 // A line's own field, where it is not empty, and else the other.
-fn own_or(alloc: Global, own: &[u8], other: Bytes) -> Result<Bytes, NoMemory>
-    ensures { IfOk result (λ field. field ≡ own_or own.now other) }
+fn own_or(alloc: Global, all: &[u8], own: Span, other: Bytes) -> Result<Bytes, NoMemory>
+    requires { own.to ≤ length all.now }
+    ensures { IfOk result (λ field. field ≡ own_or (part all.now own) other) }
 {
+    let own = own.of(all);
     if own.is_empty() {
         Ok(other)
     } else {

@@ -8,7 +8,7 @@ use Rattle.nsc_compat.proofs.groups.line_outcome.Goals as goal
 
 pub returns-in_ok-add-in-Excludes : goal.returns-in_ok-add-in-Excludes
 returns-in_ok-add-in-Excludes g c =
-    after_excluded (groups_asked c.args.asking.now) (part c.args.text.now c.args.line) (part c.args.text.now c.in-Excludes.name) c.args.excluded.now c.add.new.self c.in-Excludes.ensures.groups c.in_ok-add-in-Excludes.ensures
+    after_excluded (groups_asked c.args.asking.now) (part c.args.text.now c.args.line) c.in-Excludes.name.now c.args.excluded.now c.add.new.self c.in-Excludes.ensures.groups c.in_ok-add-in-Excludes.ensures
 
 pub returns-in_ok-found-in-AsksAll : goal.returns-in_ok-found-in-AsksAll
 returns-in_ok-found-in-AsksAll g c =

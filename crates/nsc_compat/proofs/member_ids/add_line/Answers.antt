@@ -9,10 +9,10 @@ use Rattle.nsc_compat.proofs.member_ids.add_line.Goals as goal
 
 pub returns-in_ok-add-in-Excludes : goal.returns-in_ok-add-in-Excludes
 returns-in_ok-add-in-Excludes g c =
-    name_excluded (id_scan c.args.member.now.content.now c.args.member.now.user.now) (part c.args.text.now c.args.line) (part c.args.text.now c.in-Excludes.name) c.args.excluded.now c.add.new.self c.args.ids.now c.in-Excludes.ensures.groups c.in_ok-add-in-Excludes.ensures
+    name_excluded (id_scan c.args.member.now.content.now c.args.member.now.user.now) (part c.args.text.now c.args.line) c.in-Excludes.name.now c.args.excluded.now c.add.new.self c.args.ids.now c.in-Excludes.ensures.groups c.in_ok-add-in-Excludes.ensures
 
 pub returns-in_ok-add_all-in-AsksAll : goal.returns-in_ok-add_all-in-AsksAll
 returns-in_ok-add_all-in-AsksAll g c =
     let pairs = ap (map pair_of) c.deref.ensures.value ∙ c.in_ok-groups-in-AsksAll.ensures in
-    pairs_added (id_scan c.args.member.now.content.now c.args.member.now.user.now) (part c.args.text.now c.args.line) (fields_of 58 (part c.args.text.now c.in-AsksAll.all)) c.args.excluded.now c.args.ids.now c.add_all.new.ids c.in-AsksAll.ensures.groups
+    pairs_added (id_scan c.args.member.now.content.now c.args.member.now.user.now) (part c.args.text.now c.args.line) (fields_of 58 c.in-AsksAll.all.now) c.args.excluded.now c.args.ids.now c.add_all.new.ids c.in-AsksAll.ensures.groups
     (c.in_ok-add_all-in-AsksAll.ensures ∙ ap (λ those. all_ids c.args.ids.now (ids_of_pairs c.args.excluded.now those)) pairs)

@@ -8,9 +8,9 @@ use Rattle.nsc_compat.proofs.said.line_says.Goals as goal
 pub returns-clause-users : goal.returns-clause-users
 returns-clause-users c =
     c.black_says.ensures.users (user_of_line (part c.args.text.now c.args.line))
-    ∙ said_after user_of_line c.args.text.now c.args.line c.white_front.result (sym c.if-has_zero_byte.ensures) c.white_front.ensures.within c.white_front.ensures.rest
+    ∙ said_after user_of_line (part c.args.text.now c.args.line) _ _ c.of-bytes.ensures.bytes (sym c.if-has_zero_byte.ensures) c.trim_front.ensures.rest
 
 pub returns-clause-groups : goal.returns-clause-groups
 returns-clause-groups c =
     c.black_says.ensures.groups (group_of_line (part c.args.text.now c.args.line))
-    ∙ said_after group_of_line c.args.text.now c.args.line c.white_front.result (sym c.if-has_zero_byte.ensures) c.white_front.ensures.within c.white_front.ensures.rest
+    ∙ said_after group_of_line (part c.args.text.now c.args.line) _ _ c.of-bytes.ensures.bytes (sym c.if-has_zero_byte.ensures) c.trim_front.ensures.rest

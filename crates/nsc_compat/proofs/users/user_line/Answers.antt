@@ -8,13 +8,13 @@ use Rattle.nsc_compat.proofs.users.user_line.Goals as goal
 
 pub returns-in_ok-add-in-Excludes : goal.returns-in_ok-add-in-Excludes
 returns-in_ok-add-in-Excludes g c =
-    after_excluded (users_asked c.args.asking.now) (part c.args.text.now c.args.line) (part c.args.text.now c.in-Excludes.name) c.args.excluded.now c.add.new.self c.in-Excludes.ensures.users c.in_ok-add-in-Excludes.ensures
+    after_excluded (users_asked c.args.asking.now) (part c.args.text.now c.args.line) c.in-Excludes.name.now c.args.excluded.now c.add.new.self c.in-Excludes.ensures.users c.in_ok-add-in-Excludes.ensures
 
 pub returns-in_ok-found-in-AsksAll : goal.returns-in_ok-found-in-AsksAll
 returns-in_ok-found-in-AsksAll g c =
     let asking = c.args.asking.now in
     let scan = users_asked asking in
-    let fields = fields_of 58 (part c.args.text.now c.in-AsksAll.all) in
+    let fields = fields_of 58 c.in-AsksAll.all.now in
     let found = ap user_in (c.in_ok-found-in-AsksAll.ensures ∙ ap (λ database. sub_looked asking.content.now database asking.kind asking.key.now) c.requires.database) in
     ok_weaker c.asked_user.result
     (λ outcome comes lines.
