@@ -2,24 +2,11 @@
 use Rattle.std.proofs.Common.{◌≡◌, ℕ, ◌+◌, ◌-◌, ◌≤◌, true, false, nat_eq, if◌then◌else◌, List, [], ◌∷◌, length, All, IfSome, take, drop, Option, Some, None, refl, sym, ◌∙◌, ap, arith, length-take}
 use Rattle.std.proofs.lemmas.List.{drop-drop, drop-take}
 use Rattle.nsc_base.specs.declared.span.Span.{Span}
-use Rattle.nsc_base.specs.Text.{LiesIn, fields_of, part}
-use Rattle.nsc_model.specs.Users.{has_zero, trimmed, user_of_fields, user_of_line}
+use Rattle.nsc_base.specs.Text.{LiesIn, fields_of, part, trimmed}
+use Rattle.nsc_model.specs.Users.{has_zero, user_of_fields, user_of_line}
 use Rattle.nsc_model.specs.Groups.{group_of_fields, group_of_line}
-use Rattle.nsc_accounts.specs.Fields.{exactly, fields_of_line}
-
--- a part without its first bytes
-pub part-drop : (text : List ℕ) (line : Span) (w : ℕ) → w ≤ length (part text line) → drop w (part text line) ≡ part text (record { from = line.from + w; to = line.to })
-part-drop text line w l =
-    let all = drop line.from text in
-    let m = line.to - (line.from + w) in
-    let size : length (part text line) ≤ line.to - line.from = omega (arith, length-take (line.to - line.from) all) in
-    let whole : line.to - line.from ≡ w + m = omega arith in
-    ap (λ (n : ℕ). drop w (take n all)) whole ∙ drop-take w m all ∙ ap (λ (xs : List ℕ). take m xs) (drop-drop w line.from text)
-
--- the fields of a line are those after the white space
-pub fields_after : (n : ℕ) (text : List ℕ) (line : Span) (w : ℕ) → w ≤ length (part text line) → has_zero (part text line) ≡ false → drop w (part text line) ≡ trimmed (part text line) → fields_of_line n (part text line) ≡ exactly n (fields_of 58 (part text (record { from = line.from + w; to = line.to })))
-fields_after n text line w l clean rest =
-    rw clean (ap (λ (bytes : List ℕ). exactly n (fields_of 58 bytes)) (sym rest ∙ part-drop text line w l))
+use Rattle.nsc_accounts.specs.Fields.{fields_of_line}
+use Rattle.nsc_base.specs.Fields.{exactly}
 
 -- exactly so many
 exactly_is : {A : Type 0} (n : ℕ) (items found : List A) → Some found ≡ exactly n items → items ≡ found
@@ -80,12 +67,6 @@ no_group line h = sym (unformed_line 4 group_of_fields unformed_group line h)
 
 pub group_is : (line : List ℕ) (fields : List (List ℕ)) → Some fields ≡ fields_of_line 4 line → group_of_fields fields ≡ group_of_line line
 group_is line fields h = formed_line 4 group_of_fields line fields h
-
--- what lies after the white space lies in the line
-pub lies_in_line : (line : Span) (w : ℕ) (spans : List Span) → All (LiesIn (record { from = line.from + w; to = line.to })) spans → All (LiesIn line) spans
-lies_in_line line w spans lie = λ k d l.
-    let there = lie k d l in
-    record { begins = omega (arith, there.begins); ordered = there.ordered; ends = there.ends }
 
 -- what lies in a line lies in the text
 pub lies_in_text : (text : List ℕ) (line : Span) (spans : List Span) → line.to ≤ length text → All (LiesIn line) spans → All (LiesIn (record { from = 0; to = length text })) spans

@@ -1,5 +1,4 @@
 pub mod Begins
-pub mod Counts
 pub mod Entries
 pub mod Named
 pub mod Pieces

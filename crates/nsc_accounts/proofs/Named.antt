@@ -5,12 +5,12 @@ use Rattle.std.specs.Str.{bytes_eq}
 use Rattle.std.proofs.lemmas.Slice.Eq.{bytes_eq-Decides}
 use Rattle.std.proofs.lemmas.Bool.{false_from_ne_true}
 use Rattle.std.proofs.lemmas.Bool.Decides.{Decides-eqb}
-use Rattle.nsc_base.specs.Text.{fields_of, onto_first, pieces}
+use Rattle.nsc_base.specs.Text.{fields_of, onto_first, pieces, trimmed}
 use Rattle.nsc_base.specs.Decimal.{decimal_of}
 use Rattle.nsc_base.proofs.Pieces.{pieces-some}
 use Rattle.nsc_model.specs.declared.row.Group.{Group}
 use Rattle.nsc_model.specs.declared.row.Passwd.{Passwd}
-use Rattle.nsc_model.specs.Users.{has_zero, is_name, trimmed, user_of_fields, user_of_line}
+use Rattle.nsc_model.specs.Users.{has_zero, is_name, user_of_fields, user_of_line}
 use Rattle.nsc_model.specs.Groups.{group_of_fields, group_of_line, members_of}
 use Rattle.nsc_model.specs.Entries.{if_named}
 use Rattle.nsc_accounts.proofs.Entries.{entry_by}

@@ -9,7 +9,7 @@ use Rattle.nsc_base.proofs.Compare.{is_below, not_below}
 use Rattle.nsc_model.specs.Groups.{members_of}
 
 -- whether a user is a member by the pieces from a place on
-abbrev member_from : List ℕ → List ℕ → ℕ → ℕ → Bool
+abbrev pub member_from : List ℕ → List ℕ → ℕ → ℕ → Bool
 member_from user text from to = list_any (λ m. bytes_eq m user) (filter is_filled (fields_between 44 text from to))
 
 pub members_left : (user text : List ℕ) (members : Span) → members.from ≤ members.to → member_from user text members.from members.to ≡ list_any (λ m. bytes_eq m user) (members_of (part text members))

@@ -1,11 +1,8 @@
 -- The fields of a line.
-use Rattle.std.specs.Prelude.{ℕ, ◌==◌, if◌then◌else◌, List, length, Option, Some, None}
-use Rattle.nsc_base.specs.Text.{fields_of}
-use Rattle.nsc_model.specs.Users.{has_zero, trimmed}
-
--- a list of exactly so many items, and no other
-abbrev pub exactly : {A : Type 0} → ℕ → List A → Option (List A)
-exactly count items = if length items == count then Some items else None
+use Rattle.std.specs.Prelude.{ℕ, if◌then◌else◌, List, Option, None}
+use Rattle.nsc_base.specs.Fields.{exactly}
+use Rattle.nsc_base.specs.Text.{fields_of, trimmed}
+use Rattle.nsc_model.specs.Users.{has_zero}
 
 -- the fields of a line after its white space, where there are exactly so many and no byte is zero
 abbrev pub fields_of_line : ℕ → List ℕ → Option (List (List ℕ))

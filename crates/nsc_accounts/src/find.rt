@@ -1,18 +1,17 @@
 ghost use Rattle.std.specs.Prelude.{◌≡◌, ◌≤◌, ◌↔◌, ◌++◌, ◌∷◌, ◌==◌, ℕ, List, IfSome, IsTrue, length};
 ghost use Rattle.std.specs.Option.{option_map};
 ghost use Rattle.std.specs.Str.{bytes_eq};
-ghost use Rattle.nsc_base.specs.Text.{part};
+ghost use Rattle.nsc_base.specs.Text.{part, trimmed};
 ghost use Rattle.nsc_base.specs.declared.span.Span.{Span};
-ghost use Rattle.nsc_model.specs.Users.{trimmed, user_of_line};
+ghost use Rattle.nsc_model.specs.Users.{user_of_line};
 ghost use Rattle.nsc_model.specs.Groups.{group_of_line};
 ghost use Rattle.nsc_model.specs.Entries.{first_named, if_named};
 ghost use Rattle.nsc_accounts.specs.Group.{GroupLiesIn, group_at};
 ghost use Rattle.nsc_accounts.specs.Passwd.{UserLiesIn, user_at};
 
-use crate::fields::white_front;
 use crate::group::{GroupAt, group_line};
 use crate::passwd::{PasswdAt, passwd_line};
-use nsc_base::{Span, equal, first_line};
+use nsc_base::{Span, equal, first_line, trim_front};
 
 /// The first line of a passwd file, passwd(5), that has the form of an entry and this name, as places in the file.
 /// `None` where there is none. Takes no memory.
@@ -53,16 +52,15 @@ pub fn find_group_by_gid(text: &[u8], gid: u32) -> Option<GroupAt>
 // The entry of a line of a passwd file that has the form and this name. A line that does not begin with the name and a
 // colon is given up before its fields are read.
 fn user_named(text: &[u8], line: Span, name: &[u8]) -> Option<PasswdAt>
-    requires ordered { line.from ≤ line.to }
-    requires inside { line.to ≤ length text.now }
+    requires { line.to ≤ length text.now }
     ensures entry { option_map (user_at text.now) result ≡ if_named (λ p. bytes_eq p.name name.now) (user_of_line (part text.now line)) }
     ensures inside { IfSome result (UserLiesIn line) }
 {
-    if !begins_with_name(&text[line.from..line.to], name) {
+    if !begins_with_name(line.of(text), name) {
         return None;
     }
     let entry = passwd_line(text, line)?;
-    if equal(&text[entry.name.from..entry.name.to], name) {
+    if equal(entry.name.of(text), name) {
         Some(entry)
     } else {
         None
@@ -72,16 +70,15 @@ fn user_named(text: &[u8], line: Span, name: &[u8]) -> Option<PasswdAt>
 // The entry of a line of a group file that has the form and this name. A line that does not begin with the name and a
 // colon is given up before its fields are read.
 fn group_named(text: &[u8], line: Span, name: &[u8]) -> Option<GroupAt>
-    requires ordered { line.from ≤ line.to }
-    requires inside { line.to ≤ length text.now }
+    requires { line.to ≤ length text.now }
     ensures entry { option_map (group_at text.now) result ≡ if_named (λ g. bytes_eq g.name name.now) (group_of_line (part text.now line)) }
     ensures inside { IfSome result (GroupLiesIn line) }
 {
-    if !begins_with_name(&text[line.from..line.to], name) {
+    if !begins_with_name(line.of(text), name) {
         return None;
     }
     let group = group_line(text, line)?;
-    if equal(&text[group.name.from..group.name.to], name) {
+    if equal(group.name.of(text), name) {
         Some(group)
     } else {
         None
@@ -90,8 +87,7 @@ fn group_named(text: &[u8], line: Span, name: &[u8]) -> Option<GroupAt>
 
 // The entry of a line of a passwd file that has the form and this user id.
 fn user_numbered(text: &[u8], line: Span, uid: u32) -> Option<PasswdAt>
-    requires ordered { line.from ≤ line.to }
-    requires inside { line.to ≤ length text.now }
+    requires { line.to ≤ length text.now }
     ensures entry { option_map (user_at text.now) result ≡ if_named (λ p. p.uid == uid) (user_of_line (part text.now line)) }
     ensures inside { IfSome result (UserLiesIn line) }
 {
@@ -101,8 +97,7 @@ fn user_numbered(text: &[u8], line: Span, uid: u32) -> Option<PasswdAt>
 
 // The entry of a line of a group file that has the form and this group id.
 fn group_numbered(text: &[u8], line: Span, gid: u32) -> Option<GroupAt>
-    requires ordered { line.from ≤ line.to }
-    requires inside { line.to ≤ length text.now }
+    requires { line.to ≤ length text.now }
     ensures entry { option_map (group_at text.now) result ≡ if_named (λ g. g.gid == gid) (group_of_line (part text.now line)) }
     ensures inside { IfSome result (GroupLiesIn line) }
 {
@@ -114,7 +109,7 @@ fn group_numbered(text: &[u8], line: Span, gid: u32) -> Option<GroupAt>
 fn begins_with_name(line: &[u8], name: &[u8]) -> bool
     ensures { IsTrue result ↔ ((rest : List ℕ) × (trimmed line.now ≡ name.now ++ 58 ∷ rest)) }
 {
-    begins_with_field(&line[white_front(line)..], name)
+    begins_with_field(trim_front(line), name)
 }
 
 // Whether the bytes begin with this field and a colon.

@@ -5,8 +5,8 @@ ghost use Rattle.nsc_base.specs.Text.{LiesIn, part};
 ghost use Rattle.nsc_model.specs.Groups.{group_of_fields, group_of_line};
 ghost use Rattle.nsc_accounts.specs.Group.{GroupLiesIn, group_at};
 
-use crate::fields::{line_fields, may_be_name};
-use nsc_base::{Span, decimal};
+use crate::fields::{is_name, line_fields, number};
+use nsc_base::Span;
 
 /// Where the texts of a group's entry stand in a text, and its id.
 #[derive(Clone, Copy, Debug, PartialEq, Eq)]
@@ -26,8 +26,7 @@ pub struct GroupAt {
 /// zero byte, an id that is not a decimal number below 2^32, or a name that is empty or begins with `#`, `+` or `-`.
 /// Takes no memory.
 pub fn group_line(text: &[u8], line: Span) -> Option<GroupAt>
-    requires ordered { line.from ≤ line.to }
-    requires inside { line.to ≤ length text.now }
+    requires { line.to ≤ length text.now }
     ensures entry { option_map (group_at text.now) result ≡ group_of_line (part text.now line) }
     ensures inside { IfSome result (GroupLiesIn line) }
 {
@@ -42,10 +41,10 @@ fn group_entry(text: &[u8], fields: [Span; 4]) -> Option<GroupAt>
     ensures inside { IfSome result (λ at. (within : Span) → All (LiesIn within) fields → GroupLiesIn within at) }
 {
     let [name, passwd, gid, members] = fields;
-    if !may_be_name(&text[name.from..name.to]) {
+    if !is_name(text, name) {
         return None;
     }
-    let gid = decimal(&text[gid.from..gid.to])?;
+    let gid = number(text, gid)?;
     Some(GroupAt {
         name,
         passwd,

@@ -11,7 +11,6 @@ mod once;
 mod passwd;
 mod rows;
 
-pub use fields::{exact_fields, white_front};
 pub use find::{find_group_by_gid, find_group_by_name, find_passwd_by_name, find_passwd_by_uid};
 pub use group::{GroupAt, group_line};
 pub use members::{groups_of, has_member};

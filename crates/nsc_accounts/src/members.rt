@@ -30,8 +30,7 @@ pub fn groups_of(alloc: Global, text: &[u8], user: &[u8]) -> Result<Ids, NoMemor
 
 // The id of the group of a line that has the form and has the user as a member.
 fn gid_of_member(text: &[u8], line: Span, user: &[u8]) -> Option<u32>
-    requires ordered { line.from ≤ line.to }
-    requires inside { line.to ≤ length text.now }
+    requires { line.to ≤ length text.now }
     ensures { result ≡ option_map (λ g. g.gid) (if_named (is_member user.now) (group_of_line (part text.now line))) }
 {
     let group = group_line(text, line)?;
@@ -46,13 +45,12 @@ fn gid_of_member(text: &[u8], line: Span, user: &[u8]) -> Option<u32>
 /// them, group(5). A name counts whole, and between two commas with nothing between them no member stands. Takes no
 /// memory.
 pub fn has_member(text: &[u8], members: Span, user: &[u8]) -> bool
-    requires ordered { members.from ≤ members.to }
-    requires inside { members.to ≤ length text.now }
+    requires { members.to ≤ length text.now }
     ensures { result ≡ list_any (λ m. bytes_eq m user.now) (members_of (part text.now members)) }
 {
-    let mut from = members.from;
+    let mut from = members.from();
     while let Some(member) = field_at(text, members, from, b',') {
-        if names_user(&text[member.span.from..member.span.to], user) {
+        if names_user(member.span.of(text), user) {
             return true;
         }
         from = member.next;

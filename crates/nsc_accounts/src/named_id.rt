@@ -43,8 +43,7 @@ fn group_of_member(
     line: Span,
     user: &[u8],
 ) -> Result<Option<NamedId>, NoMemory>
-    requires ordered { line.from ≤ line.to }
-    requires inside { line.to ≤ length text.now }
+    requires { line.to ≤ length text.now }
     ensures { IfOk result (λ group. option_map pair_of group ≡ option_map (λ g. (g.name, g.gid)) (if_named (is_member user.now) (group_of_line (part text.now line)))) }
 {
     let Some(at) = group_line(text, line) else {
@@ -54,7 +53,7 @@ fn group_of_member(
         return Ok(None);
     }
     Ok(Some(NamedId {
-        name: Bytes::copy(alloc, &text[at.name.from..at.name.to])?,
+        name: Bytes::copy(alloc, at.name.of(text))?,
         gid: at.gid,
     }))
 }

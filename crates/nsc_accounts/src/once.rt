@@ -1,4 +1,4 @@
-ghost use Rattle.std.specs.Prelude.{◌≡◌, [], OnOk};
+ghost use Rattle.std.specs.Prelude.{◌≡◌, [], OnErr, OnOk};
 ghost use Rattle.nsc_accounts.specs.Once.{with_id};
 
 use nsc_base::{Ids, NoMemory};
@@ -36,13 +36,14 @@ impl OnceIds {
         }
     }
 
-    /// Adds an id at the end, unless it is there. Fails only for want of memory.
+    /// Adds an id at the end, unless it is there. Fails only for want of memory, and the ids are then as before.
     pub fn add(&mut self, id: u32) -> Result<(), NoMemory>
-        ensures { OnOk result (self.new ≡ with_id self.old id) }
+        ensures ok { OnOk result (self.new ≡ with_id self.old id) }
+        ensures err { OnErr result (self.new ≡ self.old) }
     {
         self.ids.reserve(1)?;
         if self.seen.insert(id)? {
-            self.ids.push(id)?;
+            self.ids.push(id).unwrap();
         }
         Ok(())
     }

@@ -5,8 +5,8 @@ ghost use Rattle.nsc_base.specs.Text.{LiesIn, part};
 ghost use Rattle.nsc_model.specs.Users.{user_of_fields, user_of_line};
 ghost use Rattle.nsc_accounts.specs.Passwd.{UserLiesIn, user_at};
 
-use crate::fields::{line_fields, may_be_name};
-use nsc_base::{Span, decimal};
+use crate::fields::{is_name, line_fields, number};
+use nsc_base::Span;
 
 /// Where the texts of a user's entry stand in a text, and its ids.
 #[derive(Clone, Copy, Debug, PartialEq, Eq)]
@@ -32,8 +32,7 @@ pub struct PasswdAt {
 /// fields, a zero byte, an id that is not a decimal number below 2^32, or a name that is empty or begins with `#`, `+`
 /// or `-`. Takes no memory.
 pub fn passwd_line(text: &[u8], line: Span) -> Option<PasswdAt>
-    requires ordered { line.from ≤ line.to }
-    requires inside { line.to ≤ length text.now }
+    requires { line.to ≤ length text.now }
     ensures entry { option_map (user_at text.now) result ≡ user_of_line (part text.now line) }
     ensures inside { IfSome result (UserLiesIn line) }
 {
@@ -48,11 +47,11 @@ fn entry_of(text: &[u8], fields: [Span; 7]) -> Option<PasswdAt>
     ensures inside { IfSome result (λ at. (within : Span) → All (LiesIn within) fields → UserLiesIn within at) }
 {
     let [name, passwd, uid, gid, gecos, dir, shell] = fields;
-    if !may_be_name(&text[name.from..name.to]) {
+    if !is_name(text, name) {
         return None;
     }
-    let uid = decimal(&text[uid.from..uid.to])?;
-    let gid = decimal(&text[gid.from..gid.to])?;
+    let uid = number(text, uid)?;
+    let gid = number(text, gid)?;
     Some(PasswdAt {
         name,
         passwd,

@@ -16,13 +16,13 @@ pub fn user_row(alloc: Global, text: &[u8], at: &PasswdAt) -> Result<Passwd, NoM
     ensures { IfOk result (λ user. user ≡ user_at text.now at.now) }
 {
     Ok(Passwd {
-        name: Bytes::copy(alloc, &text[at.name.from..at.name.to])?,
-        passwd: Bytes::copy(alloc, &text[at.passwd.from..at.passwd.to])?,
+        name: Bytes::copy(alloc, at.name.of(text))?,
+        passwd: Bytes::copy(alloc, at.passwd.of(text))?,
         uid: at.uid,
         gid: at.gid,
-        gecos: Bytes::copy(alloc, &text[at.gecos.from..at.gecos.to])?,
-        dir: Bytes::copy(alloc, &text[at.dir.from..at.dir.to])?,
-        shell: Bytes::copy(alloc, &text[at.shell.from..at.shell.to])?,
+        gecos: Bytes::copy(alloc, at.gecos.of(text))?,
+        dir: Bytes::copy(alloc, at.dir.of(text))?,
+        shell: Bytes::copy(alloc, at.shell.of(text))?,
     })
 }
 
@@ -32,8 +32,8 @@ pub fn group_row(alloc: Global, text: &[u8], at: &GroupAt) -> Result<Group, NoMe
     ensures { IfOk result (λ group. group ≡ group_at text.now at.now) }
 {
     Ok(Group {
-        name: Bytes::copy(alloc, &text[at.name.from..at.name.to])?,
-        passwd: Bytes::copy(alloc, &text[at.passwd.from..at.passwd.to])?,
+        name: Bytes::copy(alloc, at.name.of(text))?,
+        passwd: Bytes::copy(alloc, at.passwd.of(text))?,
         gid: at.gid,
         members: members(alloc, text, at.members)?,
     })
@@ -41,14 +41,13 @@ pub fn group_row(alloc: Global, text: &[u8], at: &GroupAt) -> Result<Group, NoMe
 
 // The members that a part of a text names: the pieces between commas that are not empty.
 fn members(alloc: Global, text: &[u8], within: Span) -> Result<Texts, NoMemory>
-    requires ordered { within.from ≤ within.to }
-    requires inside { within.to ≤ length text.now }
+    requires { within.to ≤ length text.now }
     ensures { IfOk result (λ members. members ≡ members_of (part text.now within)) }
 {
     let mut members = Vec::new(alloc);
-    let mut from = within.from;
+    let mut from = within.from();
     while let Some(piece) = field_at(text, within, from, b',') {
-        let member = &text[piece.span.from..piece.span.to];
+        let member = piece.span.of(text);
         if !member.is_empty() {
             members.push(Bytes::copy(alloc, member)?)?;
         }

@@ -1,6 +1,12 @@
 pub mod Compare
 pub mod Pieces
 pub mod Places
+pub mod FirstBytes
+pub mod Spans
+pub mod FieldCounts
+pub mod Wanted
+pub mod LineStarts
+pub mod AnyCase
 pub mod Digits
 pub mod Zeros
 pub mod Options

@@ -4,7 +4,7 @@ use Rattle.std.specs.List.{list_any}
 use Rattle.std.proofs.lemmas.List.{append-nil}
 use Rattle.nsc_base.specs.Text.{pieces, lines_of, onto_first, is_filled, is_white, words_of}
 
-or_false : (a b : Bool) → (a || b) ≡ false → (a ≡ false) × (b ≡ false)
+pub or_false : (a b : Bool) → (a || b) ≡ false → (a ≡ false) × (b ≡ false)
 or_false true b h = cc
 or_false false b h = (refl, h)
 
@@ -56,23 +56,3 @@ lines-first [] ys h = refl
 lines-first (x ∷ xs) ys h =
     let parts = or_false (x == 10) (list_any (λ b. b == 10) xs) h in
     rw (parts.0, lines-first xs ys parts.1) refl
-
--- white space at the front changes no word
-pub words-skip : (xs ys : List ℕ) → ((k : ℕ) → k < length xs → is_white (get_or xs k 0) ≡ true) → words_of (xs ++ ys) ≡ words_of ys
-words-skip [] ys h = refl
-words-skip (x ∷ xs) ys h =
-    let first : is_white x ≡ true = h 0 (omega arith) in
-    rw first (words-skip xs ys (λ k l. h (suc k) (omega arith)))
-
--- a word ends at white space, or at the end of the text
-pub words-first : (word ys : List ℕ) → 0 < length word → list_any is_white word ≡ false → (0 < length ys → is_white (get_or ys 0 0) ≡ true) → words_of (word ++ ys) ≡ word ∷ words_of ys
-words-first [] ys filled h ends = absurd (omega arith)
-words-first (x ∷ xs) [] filled h ends =
-    let whole = append-nil (x ∷ xs) in
-    let alone = pieces-last is_white (x ∷ xs) h in
-    ap words_of whole ∙ ap (filter is_filled) alone
-words-first (x ∷ xs) (y ∷ ys) filled h ends =
-    let white : is_white y ≡ true = ends (omega arith) in
-    let cut = pieces-first is_white (x ∷ xs) y ys h white in
-    let skip : words_of (y ∷ ys) ≡ words_of ys = rw white refl in
-    ap (filter is_filled) cut ∙ ap (λ words. (x ∷ xs) ∷ words) (sym skip)

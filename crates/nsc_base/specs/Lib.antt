@@ -1,5 +1,8 @@
+pub mod Span
 pub mod Text
 pub mod Found
+pub mod Fields
+pub mod Words
 pub mod Decimal
 pub mod Addresses
 pub mod Buf

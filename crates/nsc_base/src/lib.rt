@@ -3,16 +3,24 @@
 
 mod buf;
 mod bytes;
+mod cuts;
 mod decimals;
+mod fields;
+mod lines;
 mod memory;
 mod number;
+mod search;
 mod span;
-mod text;
+mod words;
 
 pub use buf::Buf;
 pub use bytes::{Bytes, Ids, Texts, equal};
+pub use cuts::{before_byte, before_remark, has_zero_byte, trim_front};
 pub use decimals::decimal;
+pub use fields::{exact_fields, field_at};
+pub use lines::{first_line, line_at};
 pub use memory::NoMemory;
 pub use number::{i32_at, u32_at, u64_at};
+pub use search::{Case, first_line_with, line_with};
 pub use span::{Line, Span};
-pub use text::{field_at, first_line, has_zero_byte, line_at, word_at};
+pub use words::{WordsAt, has_word, next_word, two_words, word_at};

@@ -32,8 +32,7 @@ pub trait Account: Sized + Drop {
         wanted: &Wanted,
         excluded: &Excluded,
     ) -> Result<Option<Looked>, NoMemory>
-        requires ordered { line.from ≤ line.to }
-        requires inside { line.to ≤ length text.now }
+        requires { line.to ≤ length text.now }
         ensures { IfOk result (λ outcome. outcome ≡ outcome_by accounts (is_wanted accounts wanted.now) excluded.now (accounts.entry_of (part text.now line)) (λ a. a)) };
 
     /// The entry of an outcome, where it has one.
@@ -49,10 +48,8 @@ pub trait Account: Sized + Drop {
         ensures { result ≡ accounts.id_of self.now };
 
     /// The entry with what the fields of a plus line replace of it. Fails only for want of memory.
-    fn replaced(self, alloc: Global, text: &[u8], all: Span) -> Result<Self, NoMemory>
-        requires ordered { all.from ≤ all.to }
-        requires inside { all.to ≤ length text.now }
-        ensures { IfOk result (λ replaced. replaced ≡ accounts.replaced (fields_of 58 (part text.now all)) self) };
+    fn replaced(self, alloc: Global, all: &[u8]) -> Result<Self, NoMemory>
+        ensures { IfOk result (λ replaced. replaced ≡ accounts.replaced (fields_of 58 all.now) self) };
 
     /// The entry as an outcome.
     fn found(self) -> Looked

@@ -1,5 +1,5 @@
 ghost use Rattle.std.specs.Prelude.{◌≡◌, ◌≤◌, ◌∷◌, ℕ, List, [], IfOk, length, true};
-ghost use Rattle.nsc_base.specs.Text.{LiesIn, fields_of, part};
+ghost use Rattle.nsc_base.specs.Text.{fields_of, part};
 ghost use Rattle.nsc_model.specs.Compat.{scanned, scanned_file};
 ghost use Rattle.nsc_model.specs.Files.{file_of};
 ghost use Rattle.nsc_model.specs.Kinds.{database_of};
@@ -60,17 +60,17 @@ impl<'s, 'k, 't, E: Account, S: SubLookup> LineScan<'t> for EntryScan<'s, 'k, 't
         match line_says(text, line) {
             Said::Own => E::own(alloc, text, line, &self.asking.wanted, &self.excluded),
             Said::Excludes(name) => {
-                self.excluded.add(&text[name.from..name.to])?;
+                self.excluded.add(name)?;
                 Ok(None)
             }
             Said::Asks { name, all } => {
-                let found = self.sub.look(alloc, E::by_name(), &text[name.from..name.to])?;
+                let found = self.sub.look(alloc, E::by_name(), name)?;
                 let found = E::in_outcome(found);
-                named(alloc, &self.asking.wanted, found, text, all, &self.excluded)
+                named(alloc, &self.asking.wanted, found, all, &self.excluded)
             }
             Said::AsksAll { all } => {
                 let found = self.sub.look(alloc, self.asking.kind, self.asking.key)?;
-                asked(alloc, E::in_outcome(found), text, all, &self.excluded)
+                asked(alloc, E::in_outcome(found), all, &self.excluded)
             }
             Said::Netgroup => Ok(Some(Looked::Unavail)),
             Said::Nothing => Ok(None),
@@ -88,13 +88,10 @@ fn named<E: Account>(
     alloc: Global,
     wanted: &Wanted,
     found: Option<E>,
-    text: &[u8],
-    all: Span,
+    all: &[u8],
     excluded: &Excluded,
 ) -> Result<Option<Looked>, NoMemory>
-    requires ordered { all.from ≤ all.to }
-    requires inside { all.to ≤ length text.now }
-    ensures { IfOk result (λ outcome. outcome ≡ outcome_by E.accounts (is_wanted E.accounts wanted.now) excluded.now found (E.accounts.replaced (fields_of 58 (part text.now all)))) }
+    ensures { IfOk result (λ outcome. outcome ≡ outcome_by E.accounts (is_wanted E.accounts wanted.now) excluded.now found (E.accounts.replaced (fields_of 58 all.now))) }
 {
     let Some(entry) = found else {
         return Ok(None);
@@ -102,20 +99,17 @@ fn named<E: Account>(
     if !names_entry(wanted, entry.name(), entry.id()) {
         return Ok(None);
     }
-    asked(alloc, Some(entry), text, all, excluded)
+    asked(alloc, Some(entry), all, excluded)
 }
 
 // What further services found for the request itself comes to: it answers where its name is not excluded.
 fn asked<E: Account>(
     alloc: Global,
     found: Option<E>,
-    text: &[u8],
-    all: Span,
+    all: &[u8],
     excluded: &Excluded,
 ) -> Result<Option<Looked>, NoMemory>
-    requires ordered { all.from ≤ all.to }
-    requires inside { all.to ≤ length text.now }
-    ensures { IfOk result (λ outcome. outcome ≡ outcome_by E.accounts (λ a. true) excluded.now found (E.accounts.replaced (fields_of 58 (part text.now all)))) }
+    ensures { IfOk result (λ outcome. outcome ≡ outcome_by E.accounts (λ a. true) excluded.now found (E.accounts.replaced (fields_of 58 all.now))) }
 {
     let Some(entry) = found else {
         return Ok(None);
@@ -123,5 +117,5 @@ fn asked<E: Account>(
     if excluded.has(entry.name()) {
         return Ok(None);
     }
-    Ok(Some(entry.replaced(alloc, text, all)?.found()))
+    Ok(Some(entry.replaced(alloc, all)?.found()))
 }

@@ -34,7 +34,7 @@ impl Account for Group {
         let Some(at) = group_line(text, line) else {
             return Ok(None);
         };
-        let name = &text[at.name.from..at.name.to];
+        let name = at.name.of(text);
         if !names_entry(wanted, name, at.gid) {
             return Ok(None);
         }
@@ -60,7 +60,7 @@ impl Account for Group {
     }
 
     // Nothing of a group is replaced.
-    fn replaced(self, _alloc: Global, _text: &[u8], _all: Span) -> Result<Group, NoMemory> {
+    fn replaced(self, _alloc: Global, _all: &[u8]) -> Result<Group, NoMemory> {
         Ok(self)
     }
 

@@ -20,8 +20,7 @@ pub trait LineScan<'t> {
         text: &'t [u8],
         line: Span,
     ) -> Result<Option<Looked>, NoMemory>
-        requires ordered { line.from ≤ line.to }
-        requires inside { line.to ≤ length text.now }
+        requires { line.to ≤ length text.now }
         ensures { IfOk result (λ outcome. (lines : List (List ℕ)) → looked_or outcome (comes self.new lines) ≡ comes self.old (part text.now line ∷ lines)) };
 
     /// The outcome where no line is left.

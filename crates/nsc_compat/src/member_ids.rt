@@ -64,11 +64,11 @@ impl<'s, 'u, 't, S: SubLookup> LineScan<'t> for MemberScan<'s, 'u, 't, S> {
                 Ok(None)
             }
             Said::Excludes(name) => {
-                self.excluded.add(&text[name.from..name.to])?;
+                self.excluded.add(name)?;
                 Ok(None)
             }
             Said::Asks { name, .. } => {
-                let found = self.sub.look(alloc, Kind::GrName, &text[name.from..name.to])?;
+                let found = self.sub.look(alloc, Kind::GrName, name)?;
                 add_found(found, self.user, &self.excluded, &mut self.ids)?;
                 Ok(None)
             }
@@ -95,8 +95,7 @@ fn add_own(
     excluded: &Excluded,
     ids: &mut OnceIds,
 ) -> Result<(), NoMemory>
-    requires ordered { line.from ≤ line.to }
-    requires inside { line.to ≤ length text.now }
+    requires { line.to ≤ length text.now }
     ensures { OnOk result (ids.new ≡ all_ids ids.old (member_id user.now excluded.now (group_of_line (part text.now line)))) }
 {
     let Some(at) = group_line(text, line) else {
@@ -105,7 +104,7 @@ fn add_own(
     if !has_member(text, at.members, user) {
         return Ok(());
     }
-    add_id(&text[at.name.from..at.name.to], at.gid, excluded, ids)
+    add_id(at.name.of(text), at.gid, excluded, ids)
 }
 
 // Adds the id of a group that further services found, where it has the user as a member and its name is not excluded.

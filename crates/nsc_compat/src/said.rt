@@ -1,29 +1,28 @@
-ghost use Rattle.std.specs.Prelude.{◌≡◌, ◌+◌, ◌<◌, ◌≤◌, length};
-ghost use Rattle.nsc_base.specs.Text.{LiesIn, fields_of, part};
-ghost use Rattle.nsc_model.specs.Compat.{first_field, says, says_by, says_minus, says_plus};
-ghost use Rattle.nsc_compat.specs.Said.{SaidIn, said_as};
+ghost use Rattle.std.specs.Prelude.{◌≡◌, ◌≤◌, length};
+ghost use Rattle.nsc_base.specs.Text.{fields_of, part};
+ghost use Rattle.nsc_model.specs.Compat.{says, says_by, says_minus, says_plus};
+ghost use Rattle.nsc_compat.specs.Said.{said_as};
 
-use nsc_accounts::white_front;
-use nsc_base::{Span, field_at, has_zero_byte};
+use nsc_base::{Span, before_byte, has_zero_byte, trim_front};
 
-/// What a line of a passwd or group file says, as places in the text.
-#[derive(Clone, Copy, Debug, PartialEq, Eq)]
-pub enum Said {
+/// What a line of a passwd or group file says.
+#[derive(Clone, Copy, Debug)]
+pub enum Said<'t> {
     /// Its own entry, where the line has the form of one.
     Own,
     /// A name is excluded.
-    Excludes(Span),
+    Excludes(&'t [u8]),
     /// The entry of a name is asked of further services.
     Asks {
         /// The name.
-        name: Span,
+        name: &'t [u8],
         /// The line after its white space.
-        all: Span,
+        all: &'t [u8],
     },
     /// The request itself is asked of further services.
     AsksAll {
         /// The line after its white space.
-        all: Span,
+        all: &'t [u8],
     },
     /// A netgroup, whose names are not known.
     Netgroup,
@@ -33,66 +32,34 @@ pub enum Said {
 
 /// What a line says, by its first byte after blanks and tabs: `+` and `-` stand before a name that ends at a colon or
 /// with the line, nsswitch.conf(5). A line with a zero byte says nothing. Takes no memory.
-pub fn line_says(text: &[u8], line: Span) -> Said
-    requires ordered { line.from ≤ line.to }
-    requires inside { line.to ≤ length text.now }
-    ensures says { said_as text.now result ≡ says (part text.now line) }
-    ensures inside { SaidIn line result }
+pub fn line_says(text: &[u8], line: Span) -> Said<'_>
+    requires { line.to ≤ length text.now }
+    ensures { said_as result ≡ says (part text.now line) }
 {
-    let bytes = &text[line.from..line.to];
+    let bytes = line.of(text);
     if has_zero_byte(bytes) {
         return Said::Nothing;
     }
-    let black = Span {
-        from: line.from + white_front(bytes),
-        to: line.to,
-    };
-    black_says(text, black)
+    black_says(trim_front(bytes))
 }
 
 // What a line says that has no white space at its front and no zero byte.
-fn black_says(text: &[u8], black: Span) -> Said
-    requires ordered { black.from ≤ black.to }
-    requires inside { black.to ≤ length text.now }
-    ensures says { said_as text.now result ≡ says_by (part text.now black) }
-    ensures inside { SaidIn black result }
+fn black_says(all: &[u8]) -> Said<'_>
+    ensures { said_as result ≡ says_by all.now }
 {
-    if black.from == black.to {
-        return Said::Nothing;
-    }
-    match text[black.from] {
-        b'+' => plus_says(text, name_after(text, black), black),
-        b'-' => minus_says(text, name_after(text, black)),
+    match all {
+        [] => Said::Nothing,
+        [b'+', rest @ ..] => plus_says(before_byte(rest, b':'), all),
+        [b'-', rest @ ..] => minus_says(before_byte(rest, b':')),
         _ => Said::Own,
     }
 }
 
-// The name after a sign: up to the first colon, or to the end.
-fn name_after(text: &[u8], black: Span) -> Span
-    requires filled { black.from < black.to }
-    requires inside { black.to ≤ length text.now }
-    ensures name { part text.now result ≡ first_field (part text.now (record { from = black.from + 1; to = black.to })) }
-    ensures inside { LiesIn black result }
-{
-    let rest = Span {
-        from: black.from + 1,
-        to: black.to,
-    };
-    match field_at(text, rest, rest.from, b':') {
-        Some(field) => field.span,
-        None => rest,
-    }
-}
-
 // What a plus line says, by the name after the plus.
-fn plus_says(text: &[u8], name: Span, all: Span) -> Said
-    requires ordered { all.from ≤ all.to }
-    requires inside { all.to ≤ length text.now }
-    requires name_in { LiesIn all name }
-    ensures says { said_as text.now result ≡ says_plus (fields_of 58 (part text.now all)) (part text.now name) }
-    ensures inside { SaidIn all result }
+fn plus_says<'t>(name: &'t [u8], all: &'t [u8]) -> Said<'t>
+    ensures { said_as result ≡ says_plus (fields_of 58 all.now) name.now }
 {
-    match &text[name.from..name.to] {
+    match name {
         [] => Said::AsksAll { all },
         [b'@', ..] => Said::Netgroup,
         _ => Said::Asks { name, all },
@@ -100,13 +67,10 @@ fn plus_says(text: &[u8], name: Span, all: Span) -> Said
 }
 
 // What a minus line says, by the name after the minus.
-fn minus_says(text: &[u8], name: Span) -> Said
-    requires ordered { name.from ≤ name.to }
-    requires inside { name.to ≤ length text.now }
-    ensures says { said_as text.now result ≡ says_minus (part text.now name) }
-    ensures inside { SaidIn name result }
+fn minus_says(name: &[u8]) -> Said<'_>
+    ensures { said_as result ≡ says_minus name.now }
 {
-    match &text[name.from..name.to] {
+    match name {
         [] => Said::Nothing,
         [b'@', ..] => Said::Netgroup,
         _ => Said::Excludes(name),

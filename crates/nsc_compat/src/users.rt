@@ -7,8 +7,8 @@ ghost use Rattle.nsc_compat.specs.Accounts.{passwd_accounts};
 use crate::account::Account;
 use crate::asking::{Wanted, names_entry};
 use crate::excluded::Excluded;
-use nsc_accounts::{exact_fields, passwd_line, user_row};
-use nsc_base::{Bytes, NoMemory, Span};
+use nsc_accounts::{passwd_line, user_row};
+use nsc_base::{Bytes, NoMemory, Span, exact_fields};
 use nsc_model::{FileId, Kind, Looked, Passwd, Row};
 use std::alloc::Global;
 
@@ -37,7 +37,7 @@ impl Account for Passwd {
         let Some(at) = passwd_line(text, line) else {
             return Ok(None);
         };
-        let name = &text[at.name.from..at.name.to];
+        let name = at.name.of(text);
         if !names_entry(wanted, name, at.uid) {
             return Ok(None);
         }
@@ -62,9 +62,9 @@ impl Account for Passwd {
         self.uid
     }
 
-    fn replaced(self, alloc: Global, text: &[u8], all: Span) -> Result<Passwd, NoMemory> {
-        match exact_fields::<7>(text, all) {
-            Some(fields) => with_fields(alloc, self, text, fields),
+    fn replaced(self, alloc: Global, all: &[u8]) -> Result<Passwd, NoMemory> {
+        match exact_fields::<7>(all, Span::whole(all), b':') {
+            Some(fields) => with_fields(alloc, self, all, fields),
             None => Ok(self),
         }
     }
@@ -74,32 +74,34 @@ impl Account for Passwd {
     }
 }
 
-// A user with those of seven fields of a plus line in their place that are not empty. The ids are never replaced.
+// A user with those of seven fields of a plus line in their place that are not empty.
 fn with_fields(
     alloc: Global,
     user: Passwd,
-    text: &[u8],
+    all: &[u8],
     fields: [Span; 7],
 ) -> Result<Passwd, NoMemory>
-    requires { All (LiesIn (record { from = 0; to = length text.now })) fields }
-    ensures { IfOk result (λ replaced. replaced ≡ replaced_user (map (part text.now) fields) user) }
+    requires { All (LiesIn (record { from = 0; to = length all.now })) fields }
+    ensures { IfOk result (λ replaced. replaced ≡ replaced_user (map (part all.now) fields) user) }
 {
     let [_, passwd, _, _, gecos, dir, shell] = fields;
     Ok(Passwd {
         name: user.name,
-        passwd: own_or(alloc, &text[passwd.from..passwd.to], user.passwd)?,
+        passwd: own_or(alloc, all, passwd, user.passwd)?,
         uid: user.uid,
         gid: user.gid,
-        gecos: own_or(alloc, &text[gecos.from..gecos.to], user.gecos)?,
-        dir: own_or(alloc, &text[dir.from..dir.to], user.dir)?,
-        shell: own_or(alloc, &text[shell.from..shell.to], user.shell)?,
+        gecos: own_or(alloc, all, gecos, user.gecos)?,
+        dir: own_or(alloc, all, dir, user.dir)?,
+        shell: own_or(alloc, all, shell, user.shell)?,
     })
 }
 
 // A line's own field, where it is not empty, and else the other.
-fn own_or(alloc: Global, own: &[u8], other: Bytes) -> Result<Bytes, NoMemory>
-    ensures { IfOk result (λ field. field ≡ own_or own.now other) }
+fn own_or(alloc: Global, all: &[u8], own: Span, other: Bytes) -> Result<Bytes, NoMemory>
+    requires { own.to ≤ length all.now }
+    ensures { IfOk result (λ field. field ≡ own_or (part all.now own) other) }
 {
+    let own = own.of(all);
     if own.is_empty() {
         Ok(other)
     } else {

@@ -1,4 +1,3 @@
 pub mod Hexadecimals
 pub mod Tables
-pub mod Remarks
 pub mod Effects

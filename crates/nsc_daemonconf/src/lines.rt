@@ -1,11 +1,11 @@
-ghost use Rattle.std.specs.Prelude.{◌≡◌, IfOk};
-ghost use Rattle.nsc_base.specs.Text.{words_of};
+ghost use Rattle.std.specs.Prelude.{◌≡◌, ◌≤◌, IfOk, length};
+ghost use Rattle.nsc_base.specs.Text.{part, words_of};
 ghost use Rattle.nsc_daemonconf.specs.Lines.{after_line, attribute_does, conf_of, line_does, with_database};
 ghost use Rattle.nsc_model.specs.Sizes.{SizeFits, SizesFit};
 
 use crate::attributes::{Attribute, DaemonAttribute, DbAttribute, ServiceName};
-use crate::words::{next_word, only_word, two_words, up_to_remark};
-use nsc_base::line_at;
+use crate::words::{only_word, two_words};
+use nsc_base::{Span, line_at, next_word};
 use nsc_model::{Conf, Db, DbConf};
 use thiserror::Error;
 
@@ -46,7 +46,7 @@ pub fn read_conf(text: &[u8]) -> Result<Conf, ConfFault>
     let mut number = 1;
     let mut from = 0;
     while let Some(line) = line_at(text, from) {
-        conf = with_line(conf, &text[line.span.from..line.span.to], number)?;
+        conf = with_line(conf, text, line.span, number)?;
         number += 1;
         from = line.next;
     }
@@ -54,11 +54,12 @@ pub fn read_conf(text: &[u8]) -> Result<Conf, ConfFault>
 }
 
 // The settings with what a line of this number says.
-fn with_line(conf: Conf, line: &[u8], number: u64) -> Result<Conf, ConfFault>
-    ensures told { result ≡ after_line number conf (line_does line.now) }
+fn with_line(conf: Conf, text: &[u8], line: Span, number: u64) -> Result<Conf, ConfFault>
+    requires { line.to ≤ length text.now }
+    ensures told { result ≡ after_line number conf (line_does (part text.now line)) }
     ensures sizes { IfOk result (λ later. SizesFit conf → SizesFit later) }
 {
-    let Some((word, rest)) = next_word(up_to_remark(line)) else {
+    let Some((word, rest)) = next_word(line.before_remark(text).of(text)) else {
         return Ok(conf);
     };
     let unknown = ConfFault::UnknownAttribute { line: number };

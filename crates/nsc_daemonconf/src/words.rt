@@ -1,31 +1,7 @@
-ghost use Rattle.std.specs.Prelude.{◌≡◌, ◌≢◌, ◌==◌, ◌∷◌, [], length, MatchOption};
-ghost use Rattle.std.specs.List.{before_first};
+ghost use Rattle.std.specs.Prelude.{◌≡◌, ◌≢◌, ◌∷◌, [], length, MatchOption};
 ghost use Rattle.nsc_base.specs.Text.{words_of};
 
-use memchr::memchr;
-use nsc_base::{Span, word_at};
-
-/// The bytes of a line up to its remark, which begins with the first `#`.
-pub fn up_to_remark(line: &[u8]) -> &[u8]
-    ensures { result.now ≡ before_first (λ b. b == 35) line.now }
-{
-    match memchr(b'#', line) {
-        Some(n) => &line[..n],
-        None => line,
-    }
-}
-
-/// The first word of a text, and the text after it. `None` where it has no word.
-pub fn next_word(text: &[u8]) -> Option<(&[u8], &[u8])>
-    ensures { MatchOption result (words_of text.now ≡ []) (λ w. words_of text.now ≡ w.0.now ∷ words_of w.1.now) }
-{
-    let whole = Span {
-        from: 0,
-        to: text.len(),
-    };
-    let word = word_at(text, whole, 0)?;
-    Some((&text[word.span.from..word.span.to], &text[word.next..]))
-}
+use nsc_base::next_word;
 
 /// The only word of a text. `None` where it has another number of words.
 pub fn only_word(text: &[u8]) -> Option<&[u8]>

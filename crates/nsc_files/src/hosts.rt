@@ -55,7 +55,7 @@ fn host_row(alloc: Global, text: &[u8], at: &HostAt) -> Result<Row, NoMemory>
     ensures { IfOk result (λ row. row ≡ Row.Host (host_at text.now at.now)) }
 {
     Ok(Row::Host(Host {
-        name: Bytes::copy(alloc, &text[at.name.from..at.name.to])?,
+        name: Bytes::copy(alloc, at.name.of(text))?,
         aliases: words(alloc, text, at.aliases)?,
         family: u32::from(at.family),
         address: Bytes::copy(alloc, at.address_bytes())?,

@@ -71,8 +71,8 @@ fn service_row(alloc: Global, text: &[u8], at: &ServiceAt) -> Result<Row, NoMemo
     ensures { IfOk result (λ row. row ≡ Row.Service (service_at text.now at.now)) }
 {
     Ok(Row::Service(Service {
-        name: Bytes::copy(alloc, &text[at.name.from..at.name.to])?,
-        proto: Bytes::copy(alloc, &text[at.proto.from..at.proto.to])?,
+        name: Bytes::copy(alloc, at.name.of(text))?,
+        proto: Bytes::copy(alloc, at.proto.of(text))?,
         aliases: words(alloc, text, at.aliases)?,
         port: at.port,
     }))

@@ -6,14 +6,13 @@ use std::alloc::Global;
 
 /// The words of a part of a text, which blanks and tabs part. Fails only for want of memory.
 pub fn words(alloc: Global, text: &[u8], within: Span) -> Result<Texts, NoMemory>
-    requires ordered { within.from ≤ within.to }
-    requires inside { within.to ≤ length text.now }
+    requires { within.to ≤ length text.now }
     ensures { IfOk result (λ words. words ≡ words_of (part text.now within)) }
 {
     let mut words = Vec::new(alloc);
-    let mut from = within.from;
+    let mut from = within.from();
     while let Some(word) = word_at(text, within, from) {
-        words.push(Bytes::copy(alloc, &text[word.span.from..word.span.to])?)?;
+        words.push(Bytes::copy(alloc, word.span.of(text))?)?;
         from = word.next;
     }
     Ok(Texts::from_vec(words))

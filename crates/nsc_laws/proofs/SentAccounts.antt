@@ -3,7 +3,7 @@ use Rattle.std.proofs.Common.{◌≡◌, ℕ, ◌+◌, ◌^◌, ◌<◌, ◌≤�
 use Rattle.std.specs.List.{AllByRecursion}
 use Rattle.std.proofs.lemmas.Bool.Decides.{Decides-ltb}
 use Rattle.nsc_base.specs.Decimal.{decimal_of, is_decimal, value_of}
-use Rattle.nsc_base.specs.Text.{fields_of, is_filled}
+use Rattle.nsc_base.specs.Text.{fields_of, is_filled, trimmed}
 use Rattle.nsc_base.proofs.Options.{then_keeps, when_false, when_true}
 use Rattle.nsc_model.specs.declared.kind.Kind.TheVariants.{PwName, GrName}
 use Rattle.nsc_model.specs.declared.row.Group.{Group}
@@ -14,7 +14,7 @@ use Rattle.nsc_model.specs.Compat.{own_or, replaced_user}
 use Rattle.nsc_model.specs.Files.{file_limit}
 use Rattle.nsc_model.specs.Groups.{group_of_fields, group_of_line, members_of}
 use Rattle.nsc_model.specs.Answer.{reply_limit}
-use Rattle.nsc_model.specs.Users.{has_zero, is_name, trimmed, user_of_fields, user_of_line}
+use Rattle.nsc_model.specs.Users.{has_zero, is_name, user_of_fields, user_of_line}
 use Rattle.nsc_model.specs.Wire.{IsText, group_found, passwd_found, text, text_len}
 use Rattle.nsc_laws.proofs.Sent.{IsSent, entry_limit}
 use Rattle.nsc_laws.proofs.SentSizes.{filled_size, pieces_size, sent_lengths, sent_texts, size_of, trimmed_short}

@@ -1,8 +1,8 @@
 -- What a compat line may say, case by case: its name, or its fields.
 use Rattle.std.proofs.Common.{◌≡◌, ℕ, true, false, ◌==◌, if◌then◌else◌, List, [], ◌∷◌, refl}
-use Rattle.nsc_base.specs.Text.{fields_of}
+use Rattle.nsc_base.specs.Text.{fields_of, trimmed}
 use Rattle.nsc_model.specs.Compat.{Says, Own, Excludes, Asks, AsksAll, Netgroup, Nothing, first_field, says, says_by, says_minus, says_plus}
-use Rattle.nsc_model.specs.Users.{has_zero, trimmed}
+use Rattle.nsc_model.specs.Users.{has_zero}
 
 module _ (P : Says → Type 0) (nothing : P Nothing) (own : P Own) (netgroup : P Netgroup) (excludes : (name : List ℕ) → P (Excludes name)) where
   minus_case : (name : List ℕ) → P (says_minus name)

@@ -2,12 +2,11 @@
 use Rattle.std.proofs.Common.{ℕ, ◌+◌, ◌≤◌, Bool, true, false, not, ◌&&◌, if◌then◌else◌, List, [], ◌∷◌, Option, Some, None, IfSome, arith}
 use Rattle.std.specs.List.{AllByRecursion, filter_map}
 use Rattle.std.proofs.lemmas.Option.{IfSome_then}
-use Rattle.nsc_base.specs.Text.{fields_of, lines_of}
+use Rattle.nsc_base.specs.Text.{fields_of, lines_of, trimmed}
 use Rattle.nsc_model.specs.declared.row.Looked.{Looked}
 use Rattle.nsc_model.specs.declared.row.Looked.TheVariants.{NotFound, Unavail}
 use Rattle.nsc_model.specs.Compat.{Scan, answers_or, is_excluded, scan_line, scanned, scanned_file}
 use Rattle.nsc_model.specs.Files.{FileFits, file_limit}
-use Rattle.nsc_model.specs.Users.{trimmed}
 use Rattle.nsc_laws.proofs.SentAccounts.{AreFields, line_fields}
 use Rattle.nsc_laws.proofs.SentEntries.{entries_in}
 use Rattle.nsc_laws.proofs.SentLists.{front_keeps}

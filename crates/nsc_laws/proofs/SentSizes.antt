@@ -1,8 +1,7 @@
 -- How much room the parts of a text take, each with a separator, and how much what is sent of them.
 use Rattle.std.proofs.Common.{◌≡◌, ℕ, ◌+◌, ◌*◌, ◌≤◌, Bool, true, false, cond, ◌==◌, if◌then◌else◌, List, [], ◌∷◌, filter, flat_map, Option, Some, None, length, refl, arith, length-append}
 use Rattle.std.specs.List.{cons_option, filter_map}
-use Rattle.nsc_base.specs.Text.{is_filled, is_white, lines_of, onto_first, pieces}
-use Rattle.nsc_model.specs.Users.{trimmed}
+use Rattle.nsc_base.specs.Text.{is_filled, is_white, lines_of, onto_first, pieces, trimmed}
 use Rattle.nsc_model.specs.Wire.{text, text_len}
 
 abbrev pub size_of : List (List ℕ) → ℕ

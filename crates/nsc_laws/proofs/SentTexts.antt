@@ -3,8 +3,8 @@ use Rattle.std.proofs.Common.{◌≡◌, ◌≢◌, ℕ, zero, suc, Bool, true, 
 use Rattle.std.specs.List.{AllByRecursion}
 use Rattle.std.proofs.lemmas.Bool.Decides.{nat_tests}
 use Rattle.std.proofs.lemmas.List.Elements.{All-from_recursion}
-use Rattle.nsc_base.specs.Text.{is_filled, is_white, onto_first, pieces}
-use Rattle.nsc_model.specs.Users.{has_zero, trimmed}
+use Rattle.nsc_base.specs.Text.{is_filled, is_white, onto_first, pieces, trimmed}
+use Rattle.nsc_model.specs.Users.{has_zero}
 use Rattle.nsc_model.specs.Wire.{IsText}
 use Rattle.nsc_laws.proofs.SentLists.{all_weaker, filter_keeps}
 

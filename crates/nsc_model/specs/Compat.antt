@@ -3,14 +3,14 @@ use Rattle.std.specs.Prelude.{ℕ, Bool, true, false, not, ◌==◌, ◌&&◌, i
 use Rattle.std.specs.List.{before_first, list_any}
 use Rattle.std.specs.Option.{option_map}
 use Rattle.std.specs.Str.{bytes_eq}
-use Rattle.nsc_base.specs.Text.{fields_of, is_filled, lines_of}
+use Rattle.nsc_base.specs.Text.{fields_of, is_filled, lines_of, trimmed}
 use Rattle.nsc_model.specs.declared.kind.Db.{Db}
 use Rattle.nsc_model.specs.declared.kind.Db.TheVariants as db
 use Rattle.nsc_model.specs.declared.row.Passwd.{Passwd}
 use Rattle.nsc_model.specs.declared.row.Group.{Group}
 use Rattle.nsc_model.specs.declared.row.Looked.{Looked}
 use Rattle.nsc_model.specs.declared.row.Looked.TheVariants.{NotFound, Unavail}
-use Rattle.nsc_model.specs.Users.{has_zero, trimmed}
+use Rattle.nsc_model.specs.Users.{has_zero}
 
 -- the databases that have it
 abbrev pub has_compat : Db → Bool

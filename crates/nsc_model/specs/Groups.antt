@@ -2,10 +2,10 @@
 use Rattle.std.specs.Prelude.{ℕ, Bool, if◌then◌else◌, List, [], ◌∷◌, filter, Option, Some, None}
 use Rattle.std.specs.List.{list_any}
 use Rattle.std.specs.Str.{bytes_eq}
-use Rattle.nsc_base.specs.Text.{fields_of, is_filled}
+use Rattle.nsc_base.specs.Text.{fields_of, is_filled, trimmed}
 use Rattle.nsc_base.specs.Decimal.{decimal_of}
 use Rattle.nsc_model.specs.declared.row.Group.{Group}
-use Rattle.nsc_model.specs.Users.{◌>>=◌, has_zero, is_name, trimmed}
+use Rattle.nsc_model.specs.Users.{◌>>=◌, has_zero, is_name}
 
 -- the members are the pieces between commas that are not empty
 abbrev pub members_of : List ℕ → List (List ℕ)

@@ -3,12 +3,12 @@ use Rattle.std.specs.Prelude.{◌≡◌, ℕ, ◌==◌, Bool, true, false, if◌
 use Rattle.std.specs.List.{filter_map}
 use Rattle.std.specs.Option.{option_map}
 use Rattle.std.specs.Str.{bytes_eq, str_to_ascii_lowercase}
-use Rattle.nsc_base.specs.Text.{before_remark, is_white, lines_of}
+use Rattle.nsc_base.specs.Text.{before_remark, is_white, lines_of, trimmed}
 use Rattle.nsc_model.specs.declared.kind.Db.{Db}
 use Rattle.nsc_model.specs.declared.kind.Db.TheVariants as db
 use Rattle.nsc_model.specs.Content.{Content}
 use Rattle.nsc_model.specs.Entries.{first_of}
-use Rattle.nsc_model.specs.Users.{◌>>=◌, trimmed}
+use Rattle.nsc_model.specs.Users.{◌>>=◌}
 use Rattle.nsc_model.specs.declared.switch.DbName.{DbName}
 use Rattle.nsc_model.specs.declared.switch.DbName.TheVariants as list
 use Rattle.nsc_model.specs.declared.switch.SwitchService.{SwitchService}

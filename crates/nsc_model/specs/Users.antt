@@ -1,14 +1,9 @@
 -- The entries of a passwd file, passwd(5).
 use Rattle.std.specs.Prelude.{ℕ, Bool, false, not, ◌==◌, ◌||◌, if◌then◌else◌, List, [], ◌∷◌, Option, Some, None, option_and_then}
 use Rattle.std.specs.List.{list_any}
-use Rattle.nsc_base.specs.Text.{fields_of, is_white}
+use Rattle.nsc_base.specs.Text.{fields_of, trimmed}
 use Rattle.nsc_base.specs.Decimal.{decimal_of}
 use Rattle.nsc_model.specs.declared.row.Passwd.{Passwd}
-
--- white space at the front of a line does not count
-abbrev pub trimmed : List ℕ → List ℕ
-trimmed [] = []
-trimmed (b ∷ bytes) = if is_white b then trimmed bytes else b ∷ bytes
 
 abbrev pub has_zero : List ℕ → Bool
 has_zero line = list_any (λ b. b == 0) line

@@ -8,9 +8,10 @@ use Rattle.nsc_model.specs.declared.row.Host.{Host}
 use Rattle.nsc_model.specs.Entries.{if_named}
 use Rattle.nsc_model.specs.Hosts.{Addressed, addressed_of, host_addressed, host_has_name, host_of_line}
 use Rattle.nsc_model.specs.Users.{has_zero}
-use Rattle.nsc_nets.specs.declared.words.Case.TheVariants.{Ignored}
+use Rattle.nsc_base.specs.declared.search.Case.TheVariants.{Ignored}
 use Rattle.nsc_nets.specs.Hosts.{host_of_formed, host_with}
-use Rattle.nsc_nets.specs.Words.{TwoWords, same_by, two_of}
+use Rattle.nsc_base.specs.Found.{same_by}
+use Rattle.nsc_base.specs.Words.{TwoWords, two_of}
 use Rattle.nsc_nets.proofs.Formed.{host_is}
 
 -- two tests are one after the other

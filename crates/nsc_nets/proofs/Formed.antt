@@ -4,7 +4,7 @@ use Rattle.nsc_base.specs.Text.{before_remark, words_of}
 use Rattle.nsc_model.specs.Hosts.{host_of_line, host_of_words}
 use Rattle.nsc_model.specs.Users.{has_zero}
 use Rattle.nsc_nets.specs.Hosts.{host_of_formed, host_of_two}
-use Rattle.nsc_nets.specs.Words.{TwoWords, two_of}
+use Rattle.nsc_base.specs.Words.{TwoWords, two_of}
 
 -- fewer words than two make no entry
 few_words : (words : List (List ℕ)) → None ≡ two_of words → host_of_words words ≡ None

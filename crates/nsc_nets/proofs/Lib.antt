@@ -1,5 +1,3 @@
-pub mod Cuts
-pub mod Wanted
 pub mod Ports
 pub mod Formed
 pub mod Lengths

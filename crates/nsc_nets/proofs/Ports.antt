@@ -1,12 +1,13 @@
 -- The port and the protocol of a word, cut at its first slash.
-use Rattle.std.proofs.Common.{◌≡◌, ◌≢◌, ℕ, ◌+◌, ◌<◌, ◌≤◌, true, if◌then◌else◌, List, [], ◌∷◌, length, slice_range, Option, Some, None, refl, sym, ◌∙◌, ap, arith}
-use Rattle.std.specs.List.{after_first, before_first}
-use Rattle.memchr.specs.Find.{IsFirstByte}
-use Rattle.nsc_base.specs.Text.{is_filled}
+use Rattle.std.proofs.Common.{◌≡◌, ◌≢◌, ℕ, ◌+◌, ◌<◌, ◌≤◌, true, false, if◌then◌else◌, List, [], ◌∷◌, length, slice_range, Option, Some, None, refl, sym, ◌∙◌, ap, arith}
+use Rattle.std.specs.List.{after_first, before_first, list_any}
+use Rattle.nsc_base.specs.declared.span.Span.{Span}
+use Rattle.nsc_base.specs.Text.{IsSplit, is_filled, part}
+use Rattle.nsc_base.proofs.FirstBytes.{after-none}
+use Rattle.nsc_base.proofs.Places.{range-length}
 use Rattle.nsc_model.specs.ServiceLines.{is_slash, port_of}
 use Rattle.nsc_model.specs.Users.{◌>>=◌}
 use Rattle.nsc_nets.specs.Services.{Port, port_of_word}
-use Rattle.nsc_nets.proofs.Cuts.{none-after, part-before, part-after, range-length}
 
 -- a port with the text that is to be its protocol
 abbrev port_with : Option ℕ → List ℕ → Option Port
@@ -28,32 +29,27 @@ filled_is [] h = absurd (omega arith)
 filled_is (b ∷ bytes) h = refl
 
 -- a word without a slash
-pub no_slash : (word : List ℕ) → IsFirstByte is_slash word None → port_of_word word ≡ None
-no_slash word missing = without_proto (port_of (before_first is_slash word)) (after_first is_slash word) (none-after is_slash word missing)
+pub no_slash : (word : List ℕ) → list_any is_slash word ≡ false → port_of_word word ≡ None
+no_slash word none = without_proto (port_of (before_first is_slash word)) (after_first is_slash word) (after-none is_slash word none)
 
--- a word with a slash, at a place that is found
-pub at_slash : (text : List ℕ) (from to n : ℕ) → to ≤ length text → IsFirstByte is_slash (slice_range text from to) (Some n) → port_of_word (slice_range text from to) ≡ port_with (port_of (slice_range text from (from + n))) (slice_range text (from + n + 1) to)
-at_slash text from to n inside found =
-    let before = part-before is_slash text from to n inside found in
-    let later = part-after is_slash text from to n inside found in
-    ap (λ (proto : List ℕ). port_with (port_of (before_first is_slash (slice_range text from to))) proto) (sym later)
-    ∙ ap (λ (digits : List ℕ). port_with (port_of digits) (slice_range text (from + n + 1) to)) (sym before)
+-- a word with a slash: what stands before it, and after it
+pub at_slash : (text : List ℕ) (word digits proto : Span) → IsSplit 47 text word digits proto → port_of_word (part text word) ≡ port_with (port_of (part text digits)) (part text proto)
+at_slash text word digits proto is =
+    ap (λ (after : List ℕ). port_with (port_of (before_first is_slash (part text word))) after) (sym is.rest_is)
+    ∙ ap (λ (before : List ℕ). port_with (port_of before) (part text proto)) (sym is.front_is)
 
 -- with no protocol after it
-pub no_proto : (text : List ℕ) (from to n : ℕ) → to ≤ length text → IsFirstByte is_slash (slice_range text from to) (Some n) → from + n + 1 ≡ to → port_of_word (slice_range text from to) ≡ None
-no_proto text from to n inside found ends =
-    at_slash text from to n inside found ∙ without_proto _ (slice_range text (from + n + 1) to) (empty_is _ (omega (arith, range-length text (from + n + 1) to inside)))
+pub no_proto : (text : List ℕ) (word digits proto : Span) → word.to ≤ length text → IsSplit 47 text word digits proto → proto.from ≡ proto.to → port_of_word (part text word) ≡ None
+no_proto text word digits proto inside is ends =
+    at_slash text word digits proto is ∙ without_proto _ (part text proto) (empty_is _ (omega (arith, is.rest_in.ends, range-length text proto.from proto.to (omega (arith, is.rest_in.ends)))))
 
 -- with no port before it
-pub no_port : (text : List ℕ) (from to n : ℕ) → to ≤ length text → IsFirstByte is_slash (slice_range text from to) (Some n) → None ≡ port_of (slice_range text from (from + n)) → port_of_word (slice_range text from to) ≡ None
-no_port text from to n inside found none =
-    at_slash text from to n inside found ∙ ap (λ o. port_with o (slice_range text (from + n + 1) to)) (sym none)
+pub no_port : (text : List ℕ) (word digits proto : Span) → IsSplit 47 text word digits proto → None ≡ port_of (part text digits) → port_of_word (part text word) ≡ None
+no_port text word digits proto is none = at_slash text word digits proto is ∙ ap (λ o. port_with o (part text proto)) (sym none)
 
 -- with both
-pub both : (text : List ℕ) (from to n port : ℕ) → to ≤ length text → IsFirstByte is_slash (slice_range text from to) (Some n) → from + n + 1 ≢ to → Some port ≡ port_of (slice_range text from (from + n)) → port_of_word (slice_range text from to) ≡ Some (record { port = port; proto = slice_range text (from + n + 1) to })
-both text from to n port inside found more is =
-    let size = range-length text from to inside in
-    let rest = range-length text (from + n + 1) to inside in
-    at_slash text from to n inside found
-    ∙ ap (λ o. port_with o (slice_range text (from + n + 1) to)) (sym is)
-    ∙ with_proto port (slice_range text (from + n + 1) to) (filled_is _ (omega (arith, size, rest, found.0.high)))
+pub both : (text : List ℕ) (word digits proto : Span) (port : ℕ) → word.to ≤ length text → IsSplit 47 text word digits proto → proto.from ≢ proto.to → Some port ≡ port_of (part text digits) → port_of_word (part text word) ≡ Some (record { port = port; proto = part text proto })
+both text word digits proto port inside is more known =
+    at_slash text word digits proto is
+    ∙ ap (λ o. port_with o (part text proto)) (sym known)
+    ∙ with_proto port (part text proto) (filled_is _ (omega (arith, more, is.rest_in.ordered, is.rest_in.ends, range-length text proto.from proto.to (omega (arith, is.rest_in.ends)))))

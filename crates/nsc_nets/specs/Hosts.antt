@@ -8,7 +8,7 @@ use Rattle.nsc_model.specs.Hosts.{Addressed, addressed_of, ipv4}
 use Rattle.nsc_model.specs.Users.{has_zero}
 use Rattle.nsc_nets.specs.declared.hosts.Address.{Address}
 use Rattle.nsc_nets.specs.declared.hosts.HostAt.{HostAt}
-use Rattle.nsc_nets.specs.Words.{TwoWords}
+use Rattle.nsc_base.specs.Words.{TwoWords}
 
 -- an address of IPv4 is in the first four bytes
 abbrev pub own_bytes : ℕ → List ℕ → List ℕ

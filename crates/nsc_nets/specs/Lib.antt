@@ -1,4 +1,3 @@
-pub mod Words
 pub mod Services
 pub mod Hosts
 pub mod Addresses

@@ -8,7 +8,7 @@ use Rattle.nsc_model.specs.ServiceLines.{is_slash, port_of}
 use Rattle.nsc_model.specs.Users.{◌>>=◌, has_zero}
 use Rattle.nsc_nets.specs.declared.services.PortAt.{PortAt}
 use Rattle.nsc_nets.specs.declared.services.ServiceAt.{ServiceAt}
-use Rattle.nsc_nets.specs.Words.{TwoWords}
+use Rattle.nsc_base.specs.Words.{TwoWords}
 
 -- the entry whose texts stand in these places
 abbrev pub service_at : List ℕ → ServiceAt → Service

@@ -47,8 +47,7 @@ fn other_from(text: &[u8], start: usize, name: &[u8], family: u8) -> Option<Host
 
 // The entry of a line of a hosts file that has the form, this name and an address of another family than this one.
 fn other_host(text: &[u8], line: Span, name: &[u8], family: u8) -> Option<HostAt>
-    requires ordered { line.from ≤ line.to }
-    requires inside { line.to ≤ length text.now }
+    requires { line.to ≤ length text.now }
     ensures { option_map (host_at text.now) result ≡ if_named (of_other_family family name.now) (host_of_line (part text.now line)) }
 {
     let host = called_host(text, line, name)?;
@@ -70,8 +69,8 @@ fn addresses(
     requires inside { first.name.to ≤ length text.now }
     ensures { IfOk result (λ ai. ai ≡ record { list = found_at first ∷ founds_at other; canon = part text.now first.name }) }
 {
+    let canon = Bytes::copy(alloc, first.name.of(text))?;
     let list = listed(alloc, first, other)?;
-    let canon = Bytes::copy(alloc, &text[first.name.from..first.name.to])?;
     Ok(Ai { list, canon })
 }
 

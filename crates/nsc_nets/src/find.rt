@@ -11,8 +11,8 @@ ghost use Rattle.nsc_nets.specs.Services.{ServiceLiesIn, service_at};
 
 use crate::hosts::{HostAt, formed_host, spells};
 use crate::services::{ServiceAt, formed_service, service_line};
-use crate::words::{Case, has_name, line_words};
-use nsc_base::{Span, equal, first_line};
+use crate::words::{has_name, line_words};
+use nsc_base::{Case, Span, equal, first_line};
 
 /// The first line of a hosts file, hosts(5), that has the form of an entry, this name or alias, and an address of this
 /// family, 2 for IPv4 and 10 for IPv6, as places in the file. The case of ASCII letters in names does not count. `None`
@@ -54,8 +54,7 @@ pub fn find_service_by_port(text: &[u8], port: u16, proto: &[u8]) -> Option<Serv
 /// The entry of a line of a hosts file that has the form and this name or alias. A line without the name is given up
 /// before its address is read.
 pub fn called_host(text: &[u8], line: Span, name: &[u8]) -> Option<HostAt>
-    requires ordered { line.from ≤ line.to }
-    requires inside { line.to ≤ length text.now }
+    requires { line.to ≤ length text.now }
     ensures entry { option_map (host_at text.now) result ≡ if_named (host_has_name name.now) (host_of_line (part text.now line)) }
     ensures inside { IfSome result (HostLiesIn line) }
 {
@@ -68,8 +67,7 @@ pub fn called_host(text: &[u8], line: Span, name: &[u8]) -> Option<HostAt>
 
 // The entry of a line of a hosts file that has the form, this name and an address of this family.
 fn named_host(text: &[u8], line: Span, name: &[u8], family: u8) -> Option<HostAt>
-    requires ordered { line.from ≤ line.to }
-    requires inside { line.to ≤ length text.now }
+    requires { line.to ≤ length text.now }
     ensures entry { option_map (host_at text.now) result ≡ if_named (host_named family name.now) (host_of_line (part text.now line)) }
     ensures inside { IfSome result (HostLiesIn line) }
 {
@@ -83,13 +81,12 @@ fn named_host(text: &[u8], line: Span, name: &[u8], family: u8) -> Option<HostAt
 
 // The entry of a line of a hosts file that has the form and this address.
 fn addressed_host(text: &[u8], line: Span, address: &[u8]) -> Option<HostAt>
-    requires ordered { line.from ≤ line.to }
-    requires inside { line.to ≤ length text.now }
+    requires { line.to ≤ length text.now }
     ensures entry { option_map (host_at text.now) result ≡ if_named (host_addressed address.now) (host_of_line (part text.now line)) }
     ensures inside { IfSome result (HostLiesIn line) }
 {
     let words = line_words(text, line)?;
-    if !spells(&text[words.first.from..words.first.to], address) {
+    if !spells(words.first.of(text), address) {
         return None;
     }
     formed_host(text, line, words)
@@ -98,8 +95,7 @@ fn addressed_host(text: &[u8], line: Span, address: &[u8]) -> Option<HostAt>
 // The entry of a line of a services file that has the form, this name and this protocol. A line without the name is given
 // up before its port is read.
 fn named_service(text: &[u8], line: Span, name: &[u8], proto: &[u8]) -> Option<ServiceAt>
-    requires ordered { line.from ≤ line.to }
-    requires inside { line.to ≤ length text.now }
+    requires { line.to ≤ length text.now }
     ensures entry { option_map (service_at text.now) result ≡ if_named (service_named name.now proto.now) (service_of_line (part text.now line)) }
     ensures inside { IfSome result (ServiceLiesIn line) }
 {
@@ -108,7 +104,7 @@ fn named_service(text: &[u8], line: Span, name: &[u8], proto: &[u8]) -> Option<S
         return None;
     }
     let service = formed_service(text, line, words)?;
-    if has_proto(&text[service.proto.from..service.proto.to], proto) {
+    if has_proto(text, service.proto, proto) {
         Some(service)
     } else {
         None
@@ -117,13 +113,12 @@ fn named_service(text: &[u8], line: Span, name: &[u8], proto: &[u8]) -> Option<S
 
 // The entry of a line of a services file that has the form, this port and this protocol.
 fn ported_service(text: &[u8], line: Span, port: u16, proto: &[u8]) -> Option<ServiceAt>
-    requires ordered { line.from ≤ line.to }
-    requires inside { line.to ≤ length text.now }
+    requires { line.to ≤ length text.now }
     ensures entry { option_map (service_at text.now) result ≡ if_named (service_ported port proto.now) (service_of_line (part text.now line)) }
     ensures inside { IfSome result (ServiceLiesIn line) }
 {
     let service = service_line(text, line)?;
-    if service.port == port && has_proto(&text[service.proto.from..service.proto.to], proto) {
+    if service.port == port && has_proto(text, service.proto, proto) {
         Some(service)
     } else {
         None
@@ -131,8 +126,9 @@ fn ported_service(text: &[u8], line: Span, port: u16, proto: &[u8]) -> Option<Se
 }
 
 // Whether a protocol is the one that is asked for. Any will do where none is asked for.
-fn has_proto(proto: &[u8], asked: &[u8]) -> bool
-    ensures { result ≡ (not (is_filled asked.now) || bytes_eq proto.now asked.now) }
+fn has_proto(text: &[u8], proto: Span, asked: &[u8]) -> bool
+    requires { proto.to ≤ length text.now }
+    ensures { result ≡ (not (is_filled asked.now) || bytes_eq (part text.now proto) asked.now) }
 {
-    asked.is_empty() || equal(proto, asked)
+    asked.is_empty() || equal(proto.of(text), asked)
 }

@@ -4,11 +4,11 @@ ghost use Rattle.std.specs.Str.{bytes_eq};
 ghost use Rattle.nsc_base.specs.Text.{part};
 ghost use Rattle.nsc_model.specs.Hosts.{addressed_of, host_of_line};
 ghost use Rattle.nsc_nets.specs.Hosts.{HostLiesIn, addressed_at, host_at, host_of_formed, own_bytes};
-ghost use Rattle.nsc_nets.specs.Words.{WordsLieIn, words_at};
+ghost use Rattle.nsc_base.specs.Words.{WordsLieIn, words_at};
 
-use crate::words::{WordsAt, line_words};
+use crate::words::line_words;
 use nsc_addr::{read_v4, read_v6};
-use nsc_base::{Span, has_zero_byte};
+use nsc_base::{Span, WordsAt, has_zero_byte};
 
 // The address family of IPv4.
 const IPV4: u8 = 2;
@@ -53,8 +53,7 @@ struct Address {
 /// between the words, and a remark from a `#` on. `None` where the line lacks the form: it has fewer than two words, a
 /// zero byte, or a first word that spells no address. Takes no memory.
 pub fn host_line(text: &[u8], line: Span) -> Option<HostAt>
-    requires ordered { line.from ≤ line.to }
-    requires inside { line.to ≤ length text.now }
+    requires { line.to ≤ length text.now }
     ensures entry { option_map (host_at text.now) result ≡ host_of_line (part text.now line) }
     ensures inside { IfSome result (HostLiesIn line) }
 {
@@ -63,16 +62,15 @@ pub fn host_line(text: &[u8], line: Span) -> Option<HostAt>
 
 /// The entry of a line whose words are known. `None` where the line lacks the form.
 pub fn formed_host(text: &[u8], line: Span, words: WordsAt) -> Option<HostAt>
-    requires ordered { line.from ≤ line.to }
     requires inside { line.to ≤ length text.now }
     requires words_in { WordsLieIn line words }
     ensures entry { option_map (host_at text.now) result ≡ host_of_formed (part text.now line) (words_at text.now words) }
     ensures inside { IfSome result (HostLiesIn line) }
 {
-    if has_zero_byte(&text[line.from..line.to]) {
+    if has_zero_byte(line.of(text)) {
         return None;
     }
-    let found = read_address(&text[words.first.from..words.first.to])?;
+    let found = read_address(words.first.of(text))?;
     let address = found.bytes;
     Some(HostAt {
         family: found.family,

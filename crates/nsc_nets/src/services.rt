@@ -3,11 +3,10 @@ ghost use Rattle.std.specs.Option.{option_map};
 ghost use Rattle.nsc_base.specs.Text.{LiesIn, part};
 ghost use Rattle.nsc_model.specs.ServiceLines.{port_of, service_of_line};
 ghost use Rattle.nsc_nets.specs.Services.{ServiceLiesIn, port_at, port_of_word, service_at, service_of_formed, service_of_two};
-ghost use Rattle.nsc_nets.specs.Words.{WordsLieIn, words_at};
+ghost use Rattle.nsc_base.specs.Words.{WordsLieIn, words_at};
 
-use crate::words::{WordsAt, line_words};
-use memchr::memchr;
-use nsc_base::{Span, decimal, has_zero_byte};
+use crate::words::line_words;
+use nsc_base::{Span, WordsAt, decimal, has_zero_byte};
 
 /// Where the texts of a service's entry stand in a text, and its port.
 #[derive(Clone, Copy, Debug, PartialEq, Eq)]
@@ -35,8 +34,7 @@ pub struct PortAt {
 /// or tabs between the words, and a remark from a `#` on. `None` where the line lacks the form: it has fewer than two
 /// words, a zero byte, a port that is not a decimal number below 2^16, or no protocol. Takes no memory.
 pub fn service_line(text: &[u8], line: Span) -> Option<ServiceAt>
-    requires ordered { line.from ≤ line.to }
-    requires inside { line.to ≤ length text.now }
+    requires { line.to ≤ length text.now }
     ensures entry { option_map (service_at text.now) result ≡ service_of_line (part text.now line) }
     ensures inside { IfSome result (ServiceLiesIn line) }
 {
@@ -45,13 +43,12 @@ pub fn service_line(text: &[u8], line: Span) -> Option<ServiceAt>
 
 /// The entry of a line whose words are known. `None` where the line lacks the form.
 pub fn formed_service(text: &[u8], line: Span, words: WordsAt) -> Option<ServiceAt>
-    requires ordered { line.from ≤ line.to }
     requires inside { line.to ≤ length text.now }
     requires words_in { WordsLieIn line words }
     ensures entry { option_map (service_at text.now) result ≡ service_of_formed (part text.now line) (words_at text.now words) }
     ensures inside { IfSome result (ServiceLiesIn line) }
 {
-    if has_zero_byte(&text[line.from..line.to]) {
+    if has_zero_byte(line.of(text)) {
         return None;
     }
     let port = port_and_proto(text, words.second)?;
@@ -65,20 +62,15 @@ pub fn formed_service(text: &[u8], line: Span, words: WordsAt) -> Option<Service
 
 /// The port and the protocol that a word spells, with a slash between them.
 pub fn port_and_proto(text: &[u8], word: Span) -> Option<PortAt>
-    requires ordered { word.from ≤ word.to }
-    requires inside { word.to ≤ length text.now }
+    requires { word.to ≤ length text.now }
     ensures port { option_map (port_at text.now) result ≡ port_of_word (part text.now word) }
     ensures inside { IfSome result (λ at. LiesIn word at.proto) }
 {
-    let slash = word.from + memchr(b'/', &text[word.from..word.to])?;
-    let proto = Span {
-        from: slash + 1,
-        to: word.to,
-    };
-    if proto.from == proto.to {
+    let (digits, proto) = word.split_at_byte(text, b'/')?;
+    if proto.is_empty() {
         return None;
     }
-    let port = port_number(&text[word.from..slash])?;
+    let port = port_number(digits.of(text))?;
     Some(PortAt { port, proto })
 }
 

@@ -9,33 +9,13 @@ use Rattle.std.proofs.lemmas.List.{take_all}
 use Rattle.std.proofs.lemmas.List.Sums.{prefix_len_is, take_while-cons}
 use Rattle.std.proofs.lemmas.Slice.Eq.{strip_prefix_is}
 use Rattle.memchr.specs.Find.{IsFirstByte, is_byte}
-use Rattle.nsc_base.specs.Text.{before_remark, is_white}
-use Rattle.nsc_model.specs.Users.{◌>>=◌, trimmed}
+use Rattle.nsc_base.specs.Text.{before_remark, is_white, trimmed}
+use Rattle.nsc_model.specs.Users.{◌>>=◌}
 use Rattle.nsc_model.specs.declared.switch.DbName.{DbName}
 use Rattle.nsc_model.specs.declared.switch.DbName.TheVariants as list
 use Rattle.nsc_model.specs.Switches.{after_colon, after_text, name_text, own_part}
 
 -- ---- remarks
-
-not_true : (b : Bool) → (b ≡ true → ⊥) → b ≡ false
-not_true true h = absurd (h refl)
-not_true false h = refl
-
-kept : (b : Bool) → b ≡ false → not b ≡ true
-kept true h = cc
-kept false h = refl
-
--- a `#` that a search found begins the remark
-pub remark-found : (bytes : List ℕ) (n : ℕ) → IsFirstByte (is_byte 35) bytes (Some n) → take n bytes ≡ before_remark bytes
-remark-found bytes n found =
-    let stops : not (get_or bytes n 0 == 35) ≡ false = rw found.1 refl in
-    let place : prefix_len (λ b. not (b == 35)) bytes ≡ n = prefix_len_is (λ b. not (b == 35)) bytes n 0 (omega (arith, found.0.high)) (λ k l. kept _ (not_true _ (found.0.before k (omega arith) l))) (λ l. stops) in
-    ap (λ k. take k bytes) (sym place)
-
-pub remark-missing : (bytes : List ℕ) → IsFirstByte (is_byte 35) bytes None → bytes ≡ before_remark bytes
-remark-missing bytes missing =
-    let place : prefix_len (λ b. not (b == 35)) bytes ≡ length bytes = prefix_len_is (λ b. not (b == 35)) bytes (length bytes) 0 (omega arith) (λ k l. kept _ (not_true _ (missing k (omega arith) l))) (λ l. absurd (omega arith)) in
-    sym (ap (λ k. take k bytes) place ∙ take_all (length bytes) bytes (omega arith))
 
 -- a remark begins at once, or after a byte
 begins : (b : ℕ) (bytes : List ℕ) → (b == 35) ≡ true → before_remark (b ∷ bytes) ≡ []

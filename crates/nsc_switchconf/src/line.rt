@@ -1,11 +1,8 @@
 ghost use Rattle.std.specs.Prelude.{◌≡◌, length};
 ghost use Rattle.std.specs.Option.{option_copied};
-ghost use Rattle.nsc_model.specs.Users.{trimmed};
-ghost use Rattle.nsc_base.specs.Text.{before_remark};
 ghost use Rattle.nsc_model.specs.Switches.{first_line, name_text, own_part};
 
-use memchr::memchr;
-use nsc_base::line_at;
+use nsc_base::{before_remark, line_at, trim_front};
 use nsc_model::DbName;
 
 /// What the first line of this list has after its colon, up to a remark. `None` where the text has no such line.
@@ -14,7 +11,7 @@ pub fn first_part(text: &[u8], name: DbName) -> Option<&[u8]>
 {
     let mut from = 0;
     while let Some(line) = line_at(text, from) {
-        if let Some(part) = list_part(&text[line.span.from..line.span.to], name) {
+        if let Some(part) = list_part(line.span.of(text), name) {
             return Some(part);
         }
         from = line.next;
@@ -27,30 +24,9 @@ pub fn first_part(text: &[u8], name: DbName) -> Option<&[u8]>
 fn list_part(line: &[u8], name: DbName) -> Option<&[u8]>
     ensures { option_copied result ≡ own_part name line.now }
 {
-    let after_name = after_white(line).strip_prefix(name_bytes(name))?;
-    let after_colon = after_white(after_name).strip_prefix(b":")?;
-    Some(up_to_remark(after_colon))
-}
-
-// The bytes after the blanks and tabs at the front.
-fn after_white(bytes: &[u8]) -> &[u8]
-    ensures { result.now ≡ trimmed bytes.now }
-{
-    let mut rest = bytes;
-    while let [b' ' | b'\t', more @ ..] = rest {
-        rest = more;
-    }
-    rest
-}
-
-// The bytes up to the first `#`.
-fn up_to_remark(bytes: &[u8]) -> &[u8]
-    ensures { result.now ≡ before_remark bytes.now }
-{
-    match memchr(b'#', bytes) {
-        Some(n) => &bytes[..n],
-        None => bytes,
-    }
+    let after_name = trim_front(line).strip_prefix(name_bytes(name))?;
+    let after_colon = trim_front(after_name).strip_prefix(b":")?;
+    Some(before_remark(after_colon))
 }
 
 // The word that begins a line of this list.

@@ -6,7 +6,6 @@ ghost use Rattle.nsc_model.specs.Wire.{asked_look, asked_otherwise, request_of, 
 ghost use Rattle.nsc_wire.specs.Request.{IsKeyIn, KeyFits, KeyIsIn, asked_by};
 
 use crate::reply::VERSION;
-use memchr::memchr;
 use nsc_base::{Span, i32_at, u32_at};
 use nsc_model::Kind;
 
@@ -79,14 +78,7 @@ pub fn read_request(bytes: &[u8]) -> Wire
     if bytes.len() < end {
         return Wire::Short { have: bytes.len() };
     }
-    asked(
-        bytes,
-        number,
-        Span {
-            from: HEADER,
-            to: end,
-        },
-    )
+    asked(bytes, number, Span::new(HEADER, end))
 }
 
 // What a request of this type and this key asks.
@@ -135,13 +127,7 @@ fn text(bytes: &[u8], key: Span) -> Span
     ensures within { length (part bytes.now result) ≤ length (part bytes.now key) }
     ensures text { part bytes.now result ≡ text_key (part bytes.now key) }
 {
-    match memchr(0, &bytes[key.from..key.to]) {
-        Some(len) => Span {
-            from: key.from,
-            to: key.from + len,
-        },
-        None => key,
-    }
+    key.before_byte(bytes, 0)
 }
 
 // Request types that are no lookups.

@@ -21,5 +21,5 @@ returns c = c.into_ids.ensures ∙ ids_end c.args.user.now c.args.text.now c.loo
 pub loop-line-preserved-in_ok-add : goal.loop-line-preserved-in_ok-add
 loop-line-preserved-in_ok-add c = record {
   inside = c.in-Some.ensures.line.next_ends;
-  left = ids_more c.args.user.now c.args.text.now c.loop-line.from c.in-Some.line c.loop-line.ids _ c.in-Some-gid_of_member.gid _ c.in-Some.ensures.line c.in-Some-gid_of_member.ensures c.in_ok-add.ensures c.loop-line.invariant.left;
+  left = ids_more c.args.user.now c.args.text.now c.loop-line.from c.in-Some.line c.loop-line.ids _ c.in-Some-gid_of_member.gid _ c.in-Some.ensures.line c.in-Some-gid_of_member.ensures c.in_ok-add.ensures.ok c.loop-line.invariant.left;
 }

@@ -5,7 +5,7 @@ use Rattle.nsc_model.proofs.Firsts.{first_has, first_is}
 use Rattle.nsc_nets.proofs.find.find_service.Goals as goal
 
 pub returns-clause-entry : goal.returns-clause-entry
-returns-clause-entry c = first_is _ c.args.text.now (service_at c.args.text.now) service_of_line (service_named c.args.name.now c.args.proto.now) (λ span r ordered ends gives. search rules) 0 c.first_line.result c.first_line.ensures
+returns-clause-entry c = first_is _ c.args.text.now (service_at c.args.text.now) service_of_line (service_named c.args.name.now c.args.proto.now) (λ span r ordered ends gives. search rules) c.first_line.result c.first_line.ensures
 
 pub returns-clause-inside : goal.returns-clause-inside
-returns-clause-inside c = first_has _ c.args.text.now _ (λ span r ordered ends gives. search rules) 0 c.first_line.result c.first_line.ensures
+returns-clause-inside c = first_has _ c.args.text.now _ (λ span r ordered ends gives. search rules) c.first_line.result c.first_line.ensures
