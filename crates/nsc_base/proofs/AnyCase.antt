@@ -1,5 +1,5 @@
 -- A needle that is looked for without regard to the case of ASCII letters, by its first byte in either case.
-use Rattle.std.proofs.Common.{◌≡◌, ℕ, ◌+◌, ◌-◌, ◌<◌, ◌≤◌, Bool, true, false, ◌&&◌, nat_le, List, [], ◌∷◌, length, take, drop, map, slice_range, get_or, None, Some, refl, sym, ◌∙◌, ap, arith, length-drop, length-take}
+use Rattle.std.proofs.Common.{◌≡◌, ℕ, ◌+◌, ◌-◌, ◌<◌, ◌≤◌, Bool, true, false, ◌&&◌, nat_le, List, [], ◌∷◌, length, take, drop, map, slice_range, get_or, None, Some, sym, ◌∙◌, ap, arith}
 use Rattle.std.specs.Char.{to_ascii_lowercase, to_ascii_uppercase}
 use Rattle.std.specs.Str.{str_eq_ignore_ascii_case}
 use Rattle.std.proofs.lemmas.Bool.Decides.{nat_tests}
@@ -8,7 +8,7 @@ use Rattle.std.proofs.lemmas.Slice.Eq.{bytes_eq-Decides}
 use Rattle.memchr.specs.Find.{IsFirstByte, is_byte2}
 use Rattle.nsc_base.specs.declared.search.Case.TheVariants.{Ignored}
 use Rattle.nsc_base.specs.declared.span.Span.{Span}
-use Rattle.nsc_base.specs.Found.{Lacks, NoneBefore, StandsAt}
+use Rattle.nsc_base.specs.Found.{Lacks, StandsAt}
 use Rattle.nsc_base.specs.Text.{part}
 use Rattle.nsc_base.proofs.Places.{range-length}
 

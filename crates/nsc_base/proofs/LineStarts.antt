@@ -1,5 +1,5 @@
 -- Where lines begin: the lines of a text from one place on, and those from a later one on.
-use Rattle.std.proofs.Common.{◌≡◌, ℕ, suc, ◌+◌, ◌-◌, ◌<◌, ◌≤◌, Bool, true, false, if◌then◌else◌, ◌==◌, List, [], ◌∷◌, ◌++◌, length, take, drop, slice_range, get_or, Option, Some, None, IfSome, IsNone, MatchOption, ◌↔◌, refl, sym, ◌∙◌, ap, subst, arith, length-drop, length-take}
+use Rattle.std.proofs.Common.{◌≡◌, ℕ, suc, ◌+◌, ◌-◌, ◌<◌, ◌≤◌, true, false, if◌then◌else◌, ◌==◌, List, [], ◌∷◌, ◌++◌, length, take, drop, slice_range, get_or, Option, Some, None, IfSome, IsNone, MatchOption, ◌↔◌, refl, sym, ◌∙◌, ap, subst, arith, length-drop, length-take}
 use Rattle.std.proofs.lemmas.List.{append-nil, drop-drop, get_or-drop, get_or-take, length-take-le}
 use Rattle.std.proofs.lemmas.Bool.{eqb-true}
 use Rattle.std.proofs.lemmas.Slice.Eq.{bytes_eq-Decides}
@@ -89,7 +89,7 @@ start_after text from n inside newline =
     record {
       before = spans_of from (lines_of (ys ++ 10 ∷ []));
       lines = ap (λ bytes. spans_of from (lines_of bytes)) cut ∙ ap (spans_of from) (lines-append ys zs) ∙ spans-append from (lines_of (ys ++ 10 ∷ [])) (lines_of zs)
-        ∙ ap (λ m. spans_of from (lines_of (ys ++ 10 ∷ [])) ++ spans_of m (lines_of zs)) reached ∙ ap (λ bytes. spans_of from (lines_of (ys ++ 10 ∷ [])) ++ spans_of (from + n + 1) (lines_of bytes)) rest;
+          ∙ ap (λ m. spans_of from (lines_of (ys ++ 10 ∷ [])) ++ spans_of m (lines_of zs)) reached ∙ ap (λ bytes. spans_of from (lines_of (ys ++ 10 ∷ [])) ++ spans_of (from + n + 1) (lines_of bytes)) rest;
       ends = spans-between from from (from + n + 1) (lines_of (ys ++ 10 ∷ [])) (omega arith) (omega (arith, reached));
     }
 
@@ -189,8 +189,8 @@ occurs needle bytes at stands =
     record {
       fits = omega (arith, size, stands.ordered, stands.ends);
       reads = λ j below.
-        let short : j < at.to - at.from = omega (arith, size) in
-        sym (get_or-drop at.from bytes j 0) ∙ sym (get_or-take (at.to - at.from) (drop at.from bytes) j 0 short) ∙ ap (λ piece. get_or piece j 0) is;
+          let short : j < at.to - at.from = omega (arith, size) in
+          sym (get_or-drop at.from bytes j 0) ∙ sym (get_or-take (at.to - at.from) (drop at.from bytes) j 0 short) ∙ ap (λ piece. get_or piece j 0) is;
     }
 
 pub none_before : (needle bytes : List ℕ) (found : Option ℕ) → FindsNeedle bytes needle 0 found → NoneBefore Counts needle bytes found

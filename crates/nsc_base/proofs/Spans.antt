@@ -1,11 +1,11 @@
 -- Where lines, fields and words stand, and what stands there.
-use Rattle.std.proofs.Common.{◌≡◌, ℕ, suc, ◌+◌, ◌-◌, ◌<◌, ◌≤◌, Bool, true, false, cond, if◌then◌else◌, ◌==◌, nat_lt, List, [], ◌∷◌, ◌++◌, length, take, drop, map, filter, slice_range, get_or, refl, sym, ◌∙◌, ap, arith}
+use Rattle.std.proofs.Common.{◌≡◌, ℕ, suc, ◌+◌, ◌-◌, ◌<◌, Bool, true, false, if◌then◌else◌, ◌==◌, nat_lt, List, [], ◌∷◌, ◌++◌, length, take, drop, map, filter, slice_range, get_or, refl, sym, ◌∙◌, ap, arith}
 use Rattle.std.specs.List.{list_any}
 use Rattle.std.proofs.lemmas.List.{append-nil, drop-drop, take-append-drop}
 use Rattle.nsc_base.specs.declared.span.Span.{Span}
 use Rattle.nsc_base.specs.Text.{field_spans, fields_of, is_filled, is_white, line_spans, lines_of, onto_first, part, pieces, spans_of, word_spans, words_of}
 use Rattle.nsc_base.proofs.Compare.{is_below, not_below}
-use Rattle.nsc_base.proofs.Pieces.{pieces-first, pieces-last, pieces-some}
+use Rattle.nsc_base.proofs.Pieces.{pieces-first, pieces-last}
 
 -- a part that begins with its first byte
 part-cons : (text : List ℕ) (a n b : ℕ) (rest : List ℕ) → drop a text ≡ b ∷ rest → drop (a + 1) text ≡ rest → part text (record { from = a; to = a + suc n }) ≡ b ∷ part text (record { from = a + 1; to = a + 1 + n })

@@ -119,9 +119,3 @@ groups_text groups run =
 
 abbrev pub v6_text : List ℕ → List ℕ
 v6_text address = groups_text (segments_of address) (longest_run (segments_of address))
-
--- ---- either
-
--- the address that a text spells
-abbrev pub address_of : List ℕ → Option (List ℕ)
-address_of text = option_or (v4_of text) (v6_of text)

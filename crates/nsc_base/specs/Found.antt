@@ -1,5 +1,5 @@
 -- The first line of a text that gives something, and the lines in which something stands.
-use Rattle.std.specs.Prelude.{◌≡◌, ℕ, ◌<◌, ◌≤◌, Bool, true, length, drop, List, [], ◌∷◌, ◌++◌, Option, Some, None, MatchOption}
+use Rattle.std.specs.Prelude.{◌≡◌, ℕ, ◌<◌, ◌≤◌, Bool, true, length, List, [], ◌∷◌, ◌++◌, Option, Some, None, MatchOption}
 use Rattle.std.specs.Str.{bytes_eq, str_eq_ignore_ascii_case}
 use Rattle.nsc_base.specs.declared.search.Case.{Case}
 use Rattle.nsc_base.specs.declared.search.Case.TheVariants.{Counts, Ignored}

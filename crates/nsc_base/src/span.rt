@@ -30,7 +30,7 @@ impl Span {
     ghost use Rattle.nsc_base.specs.Text.{IsSplit, LiesIn, before_remark, part, trimmed};
 
     /// The part from one place up to, and without, another.
-    pub fn new(from: usize, to: usize) -> Span
+    pub const fn new(from: usize, to: usize) -> Span
         requires { from ≤ to }
         ensures { result ≡ record { from = from; to = to } }
     {

@@ -8,7 +8,6 @@ use Rattle.std.proofs.lemmas.Bool.Decides.{Decides-eqb, nat_tests}
 use Rattle.std.proofs.lemmas.List.{take_all}
 use Rattle.std.proofs.lemmas.List.Sums.{prefix_len_is, take_while-cons}
 use Rattle.std.proofs.lemmas.Slice.Eq.{strip_prefix_is}
-use Rattle.memchr.specs.Find.{IsFirstByte, is_byte}
 use Rattle.nsc_base.specs.Text.{before_remark, is_white, trimmed}
 use Rattle.nsc_model.specs.Users.{◌>>=◌}
 use Rattle.nsc_model.specs.declared.switch.DbName.{DbName}

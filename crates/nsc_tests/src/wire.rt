@@ -88,7 +88,7 @@ const UNANSWERED: [(&[u8], Wire); 10] = [
     (
         b"\x02\0\0\0\x0a\0\0\0\x07\0\0\0passwd\0",
         Wire::Invalidate {
-            key: Span { from: 12, to: 18 },
+            key: Span::new(12, 18),
         },
     ),
     (b"\x02\0\0\0\x0b\0\0\0\0\0\0\0", Wire::Descriptor),

@@ -1,4 +1,4 @@
-use Rattle.std.proofs.Common.{◌≡◌, ◌≤◌, ◌+◌, ◌∙◌, Some, None, slice_range, arith, refl, ap}
+use Rattle.std.proofs.Common.{◌≤◌, ◌+◌, ◌∙◌, Some, None, slice_range, arith, ap}
 use Rattle.memchr.specs.Find.{IsFirstByte, is_byte}
 use Rattle.nsc_base.proofs.Places.{field-found, field-last, same_span}
 use Rattle.nsc_base.proofs.fields.field_at.Goals as goal

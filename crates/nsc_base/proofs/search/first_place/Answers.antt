@@ -1,4 +1,4 @@
-use Rattle.std.proofs.Common.{◌≡◌, sym, subst}
+use Rattle.std.proofs.Common.{sym, subst}
 use Rattle.nsc_base.specs.declared.search.Case.{Case}
 use Rattle.nsc_base.specs.Found.{NoneBefore}
 use Rattle.nsc_base.proofs.LineStarts.{none_before}

@@ -1,4 +1,3 @@
-use Rattle.std.proofs.Common.{arith}
 use Rattle.nsc_base.proofs.LineStarts.{pass_all, pass_before, with_line}
 use Rattle.nsc_base.proofs.search.line_with.Goals as goal
 

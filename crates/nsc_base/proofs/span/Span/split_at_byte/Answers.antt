@@ -1,4 +1,4 @@
-use Rattle.std.proofs.Common.{◌≢◌, ◌+◌, ap, arith, sym, ◌∙◌}
+use Rattle.std.proofs.Common.{◌≢◌, ◌+◌, ap, sym, ◌∙◌}
 use Rattle.nsc_base.specs.declared.span.Span.{Span}
 use Rattle.nsc_base.proofs.FirstBytes.{no_split, split}
 use Rattle.nsc_base.proofs.span.Span.split_at_byte.Goals as goal
