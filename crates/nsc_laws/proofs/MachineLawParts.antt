@@ -15,7 +15,7 @@ use Rattle.nsc_laws.specs.Core.{Caller, Core, Insert, Empty, IsPoll, Among, ende
 use Rattle.nsc_model.specs.Machine.{last_count, Kept, Cache, unchanged, stopped, after_adds, polled, new_entry, Refusal, TooLarge, Discarded, Present, Spent, Full, own_refusal, room_of, tried_by, tried, entry_words, all_words, compacted_after, emptied, by_invalidation, invalidated}
 use Rattle.nsc_laws.specs.Calls.{entries_of, Tells}
 use Rattle.nsc_model.proofs.Contents.{one_content}
-use Rattle.nsc_laws.proofs.Requests.{content_same}
+use Rattle.nsc_model.proofs.Contents.{content_same}
 use Rattle.nsc_laws.proofs.Prefixes.{load_below}
 use Rattle.nsc_laws.proofs.CoreLawRecords.{ended_or_not, same_invalidations, none_left, all_ended}
 use Rattle.nsc_laws.proofs.CoreLawLive.{among_more, among_first, among_last, rise_last, new_live}

@@ -13,6 +13,12 @@ both_true false b e = absurd cc
 pub same_bytes : (a b : List ℕ) → bytes_eq a b ≡ true → a ≡ b
 same_bytes a b e = (bytes_eq-Decides a b).0 e
 
+pub true_both : (a b : Bool) → a ≡ true → b ≡ true → (a && b) ≡ true
+true_both a b e f = rw (e, f) refl
+
+pub bytes_same : (a : List ℕ) → bytes_eq a a ≡ true
+bytes_same a = (bytes_eq-Decides a a).1 refl
+
 one_file : (a b : Option (List ℕ)) → same_file a b ≡ true → a ≡ b
 one_file None None e = refl
 one_file None (Some b) e = absurd cc
@@ -46,3 +52,12 @@ one_content a b e =
     let p0 = both_true (same_file a.switch b.switch) (same_file a.passwd b.passwd) p1.0 in
     files_from a b (one_file a.switch b.switch p0.0) (one_file a.passwd b.passwd p0.1) (one_file a.group b.group p1.1) (one_file a.hosts b.hosts p2.1)
     (one_file a.services b.services p3.1) (one_file a.extra_passwd b.extra_passwd p4.1) (one_file a.extra_group b.extra_group p5.1)
+
+-- a content is the same as itself
+file_same : (a : Option (List ℕ)) → same_file a a ≡ true
+file_same None = refl
+file_same (Some a) = bytes_same a
+
+pub content_same : (a : Content) → same_files a a ≡ true
+content_same a =
+    true_both _ _ (true_both _ _ (true_both _ _ (true_both _ _ (true_both _ _ (true_both _ _ (file_same a.switch) (file_same a.passwd)) (file_same a.group)) (file_same a.hosts)) (file_same a.services)) (file_same a.extra_passwd)) (file_same a.extra_group)

@@ -1,5 +1,5 @@
 -- The files of a content, one by one and as those of a database.
-use Rattle.std.specs.Prelude.{ℕ, ◌≤◌, Bool, true, false, ◌&&◌, List, Option, Some, None, length, IfSome}
+use Rattle.std.specs.Prelude.{ℕ, ◌≤◌, Bool, true, false, ◌&&◌, if◌then◌else◌, List, Option, Some, None, length, IfSome}
 use Rattle.std.specs.List.{slice_index_or}
 use Rattle.std.specs.Str.{bytes_eq}
 use Rattle.nsc_model.specs.Content.{Content}
@@ -63,12 +63,31 @@ with_file files file.Services f = record files { services = f }
 with_file files file.ExtraPasswd f = record files { extra_passwd = f }
 with_file files file.ExtraGroup f = record files { extra_group = f }
 
+-- whether a database reads a file
+abbrev pub is_read : Db → FileId → Bool
+is_read which file.Switch = true
+is_read db.Passwd file.Passwd = true
+is_read db.Passwd file.ExtraPasswd = true
+is_read db.Group file.Group = true
+is_read db.Group file.ExtraGroup = true
+is_read db.Hosts file.Hosts = true
+is_read db.Services file.Services = true
+is_read _ _ = false
+
+abbrev read_file : Db → Content → FileId → Option (List ℕ)
+read_file which files id = if is_read which id then file_of files id else None
+
 -- what a database reads: the files that it does not read count as absent
 abbrev pub part_of : Db → Content → Content
-part_of db.Passwd files = record no_files { switch = files.switch; passwd = files.passwd; extra_passwd = files.extra_passwd }
-part_of db.Group files = record no_files { switch = files.switch; group = files.group; extra_group = files.extra_group }
-part_of db.Hosts files = record no_files { switch = files.switch; hosts = files.hosts }
-part_of db.Services files = record no_files { switch = files.switch; services = files.services }
+part_of which files = record {
+  switch = read_file which files file.Switch;
+  passwd = read_file which files file.Passwd;
+  group = read_file which files file.Group;
+  hosts = read_file which files file.Hosts;
+  services = read_file which files file.Services;
+  extra_passwd = read_file which files file.ExtraPasswd;
+  extra_group = read_file which files file.ExtraGroup;
+}
 
 -- whether two files are the same, and whether two contents are
 abbrev pub same_file : Option (List ℕ) → Option (List ℕ) → Bool

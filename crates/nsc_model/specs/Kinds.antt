@@ -1,5 +1,5 @@
 -- Databases, kinds of lookups and files, with their numbers (glibc's nscd-client.h, protocol version 2).
-use Rattle.std.specs.Prelude.{ℕ, Bool, ◌==◌, ◌&&◌, if◌then◌else◌, Option, Some, None}
+use Rattle.std.specs.Prelude.{ℕ, Bool, ◌==◌, ◌&&◌, if◌then◌else◌, List, [], ◌∷◌, Option, Some, None}
 use Rattle.std.specs.Str.{bytes_eq}
 use Rattle.nsc_model.specs.declared.kind.Db.{Db}
 use Rattle.nsc_model.specs.declared.kind.Db.TheVariants as db
@@ -62,6 +62,10 @@ kind_numbered n =
     if n == 15 then Some InitGroups else (
     if n == 16 then Some ServName else (
     if n == 17 then Some ServPort else None)))))))))))
+
+-- every file, in the order of their numbers
+abbrev pub all_files : List FileId
+all_files = file.Switch ∷ file.Passwd ∷ file.Group ∷ file.Hosts ∷ file.Services ∷ file.ExtraPasswd ∷ file.ExtraGroup ∷ []
 
 -- the number of a file in replay frames
 abbrev pub file_number : FileId → ℕ

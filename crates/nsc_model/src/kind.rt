@@ -1,4 +1,5 @@
 ghost use Rattle.std.specs.Prelude.{◌≡◌};
+ghost use Rattle.nsc_model.specs.Files.{is_read};
 ghost use Rattle.nsc_model.specs.Kinds.{database_of, db_numbered, file_numbered, file_number, kind_numbered, type_number};
 
 /// A database of the name service: each has its own files, cache and settings.
@@ -122,6 +123,30 @@ impl Kind {
 }
 
 impl FileId {
+    /// Every file, in the order of their numbers.
+    pub const ALL: [FileId; 7] = [
+        FileId::Switch,
+        FileId::Passwd,
+        FileId::Group,
+        FileId::Hosts,
+        FileId::Services,
+        FileId::ExtraPasswd,
+        FileId::ExtraGroup,
+    ];
+
+    /// Whether a database reads the file.
+    pub fn is_read_by(self, db: Db) -> bool
+        ensures { result ≡ is_read db self }
+    {
+        match self {
+            FileId::Switch => true,
+            FileId::Passwd | FileId::ExtraPasswd => db == Db::Passwd,
+            FileId::Group | FileId::ExtraGroup => db == Db::Group,
+            FileId::Hosts => db == Db::Hosts,
+            FileId::Services => db == Db::Services,
+        }
+    }
+
     /// The file of this number; `None` above 6.
     pub fn numbered(number: u8) -> Option<FileId>
         ensures { result ≡ file_numbered number }

@@ -1,22 +1,14 @@
--- Which files a database reads.
-use Rattle.std.specs.Prelude.{Bool, true, false, if◌then◌else◌}
+-- The files that a database reads, one after the other.
+use Rattle.std.specs.Prelude.{if◌then◌else◌, List, [], ◌∷◌}
 use Rattle.nsc_model.specs.declared.kind.Db.{Db}
-use Rattle.nsc_model.specs.declared.kind.Db.TheVariants as db
 use Rattle.nsc_model.specs.declared.kind.FileId.{FileId}
-use Rattle.nsc_model.specs.declared.kind.FileId.TheVariants as file
 use Rattle.nsc_model.specs.Content.{Content}
-use Rattle.nsc_model.specs.Files.{file_of, with_file}
-
-abbrev pub is_read : Db → FileId → Bool
-is_read which file.Switch = true
-is_read db.Passwd file.Passwd = true
-is_read db.Passwd file.ExtraPasswd = true
-is_read db.Group file.Group = true
-is_read db.Group file.ExtraGroup = true
-is_read db.Hosts file.Hosts = true
-is_read db.Services file.Services = true
-is_read _ _ = false
+use Rattle.nsc_model.specs.Files.{file_of, is_read, with_file}
 
 -- files with one of these, where the database reads it
 abbrev pub lent : Db → Content → FileId → Content → Content
 lent which files file part = if is_read which file then with_file part file (file_of files file) else part
+
+abbrev pub all_lent : Db → Content → List FileId → Content → Content
+all_lent which files [] part = part
+all_lent which files (file ∷ others) part = all_lent which files others (lent which files file part)

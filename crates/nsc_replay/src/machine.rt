@@ -106,7 +106,7 @@ impl<A: Answerer> Machine<A> {
                 alloc,
                 answers,
                 kind,
-                &input[key.from..key.to],
+                key.of(input),
             ),
             Wire::Descriptor
             | Wire::Netgroup

@@ -2,7 +2,7 @@ ghost use Rattle.std.specs.Prelude.{◌≡◌, unwrap_or, IfOk, OnOk};
 ghost use Rattle.std.specs.Arc.{arc_value};
 ghost use Rattle.std.specs.Option.{option_map};
 ghost use Rattle.nsc_model.specs.Files.{FileFits, no_files, part_of, with_file};
-ghost use Rattle.nsc_replay.specs.Parts.{is_read, lent};
+ghost use Rattle.nsc_replay.specs.Parts.{lent};
 
 use nsc_base::{Bytes, NoMemory};
 use nsc_model::{Content, Db, FileId};
@@ -49,10 +49,10 @@ impl Shared {
     }
 }
 
-/// The seven files as they are, whose bytes the contents of the databases share.
+/// All files as they are, whose bytes the contents of the databases share.
 #[derive(Drop)]
 pub struct Sources {
-    files: [Shared; 7],
+    files: [Shared; FileId::ALL.len()],
 }
 
 impl Model for Sources {
@@ -99,7 +99,7 @@ impl Sources {
         requires { FileFits held.now }
         ensures { IfOk result (λ part. unwrap_or (option_map (λ c. arc_value c) part) (part_of db self.now) ≡ part_of db (with_file self.now file held.now)) }
     {
-        if !reads(db, file) {
+        if !file.is_read_by(db) {
             return Ok(None);
         }
         let mut part = self.part(db)?;
@@ -112,13 +112,10 @@ impl Sources {
         ensures { IfOk result (λ content. content ≡ part_of db self.now) }
     {
         let mut part = Content::none();
-        self.lend(&mut part, db, FileId::Switch)?;
-        self.lend(&mut part, db, FileId::Passwd)?;
-        self.lend(&mut part, db, FileId::Group)?;
-        self.lend(&mut part, db, FileId::Hosts)?;
-        self.lend(&mut part, db, FileId::Services)?;
-        self.lend(&mut part, db, FileId::ExtraPasswd)?;
-        self.lend(&mut part, db, FileId::ExtraGroup)?;
+        let files: &[FileId] = &FileId::ALL;
+        for file in files {
+            self.lend(&mut part, db, *file)?;
+        }
         Ok(part)
     }
 
@@ -126,22 +123,9 @@ impl Sources {
     fn lend(&self, part: &mut Content, db: Db, file: FileId) -> Result<(), NoMemory>
         ensures { OnOk result (part.new ≡ lent db self.now file part.old) }
     {
-        if reads(db, file) {
+        if file.is_read_by(db) {
             part.share(file, self.files[file as usize].handle()?);
         }
         Ok(())
-    }
-}
-
-// Whether a database reads a file.
-fn reads(db: Db, file: FileId) -> bool
-    ensures { result ≡ is_read db file }
-{
-    match file {
-        FileId::Switch => true,
-        FileId::Passwd | FileId::ExtraPasswd => db == Db::Passwd,
-        FileId::Group | FileId::ExtraGroup => db == Db::Group,
-        FileId::Hosts => db == Db::Hosts,
-        FileId::Services => db == Db::Services,
     }
 }
