@@ -21,6 +21,7 @@ pub mod Sizes
 pub mod Machine
 pub mod Databases
 pub mod Events
+pub mod Faults
 pub mod Frames
 pub mod Replay
 pub mod Fronts

@@ -1,9 +1,9 @@
 -- The parts of the machine's events, one after the other.
-use Rattle.std.proofs.Common.{◌≡◌, ◌≢◌, ℕ, ◌<◌, ◌+◌, ◌==◌, inl, inr, Bool, true, false, cond, List, [], ◌∷◌, length, find, map, Option, Some, None, Result, Ok, Err, refl, ap, sym, ◌∙◌, subst, arith}
+use Rattle.std.proofs.Common.{◌≡◌, ◌≢◌, ℕ, ◌<◌, ◌==◌, inl, inr, Bool, true, false, cond, List, [], ◌∷◌, length, find, map, Option, Some, None, Result, Ok, Err, refl, ap, sym, ◌∙◌, subst, arith}
 use Rattle.std.proofs.lemmas.Bool.{eq-eqb}
 use Rattle.std.proofs.lemmas.Bool.Decides.{eqb_tells}
-use Rattle.nsc_plain.specs.declared.fault.PlainFault.{PlainFault}
-use Rattle.nsc_plain.specs.declared.fault.PlainFault.TheVariants.{NoMemory, Spent}
+use Rattle.nsc_model.specs.declared.fault.CacheFault.{CacheFault}
+use Rattle.nsc_model.specs.declared.fault.CacheFault.TheVariants.{NoMemory, Spent}
 use Rattle.nsc_model.specs.declared.answer.Request.{Request}
 use Rattle.nsc_model.specs.declared.record.Record.{Record}
 use Rattle.nsc_model.specs.Kinds.{is_request}
@@ -12,7 +12,8 @@ use Rattle.nsc_model.specs.declared.conf.DbConf.{DbConf}
 use Rattle.nsc_model.specs.Answers.{answer_of}
 use Rattle.nsc_model.specs.Machine.{Kept, Cache, Passed, Stopped, Turn, Refusal, TooLarge, Discarded, Present, Spent as Uncounted, Full, last_count, after_adds, ◌>>=◌, own_refusal, room_of, tried, tried_by, new_entry, polled, cached, kept_answer, loaded, hit_or_load, lookup, compacted, compacted_after, emptied, invalidated, ends_of, due_cause, stopped, unchanged, is_due, due_of, others_of, reloaded_of, reloaded, next_reloads, pruned, checked, tick}
 use Rattle.nsc_model.specs.Events.{TurnsTo, PassesTo, StopsAt}
-use Rattle.nsc_plain.specs.PlainCache.{StopsBy, FaultsBy, GivesUpBy, HitsBy}
+use Rattle.nsc_model.specs.Faults.{StopsBy, FaultsBy, GivesUpBy}
+use Rattle.nsc_plain.specs.PlainCache.{HitsBy}
 use Rattle.nsc_plain.specs.Answered.{anew}
 use Rattle.nsc_plain.specs.Table.{put, put_all}
 use Rattle.nsc_plain.proofs.Ends.{none_left}
@@ -68,7 +69,7 @@ pub invalidation_passes : (cache after : Cache) → cache.epoch ≢ last_count �
 invalidation_passes cache after ne h =
     subst (λ (r : Result Passed Stopped). PassesTo r after) (sym (goes_on cache (other_number cache.epoch last_count ne))) (passes_after (emptied cache).adds (compacted_after cache.entries (emptied cache).cache) after h)
 
-pub invalidation_faults : (cache after : Cache) (fault : PlainFault) → cache.epoch ≢ last_count → StopsBy (compacted_after cache.entries (emptied cache).cache) after fault → StopsBy (invalidated cache) after fault
+pub invalidation_faults : (cache after : Cache) (fault : CacheFault) → cache.epoch ≢ last_count → StopsBy (compacted_after cache.entries (emptied cache).cache) after fault → StopsBy (invalidated cache) after fault
 invalidation_faults cache after NoMemory ne h = absurd h
 invalidation_faults cache after (Spent n) ne h =
     subst (λ (r : Result Passed Stopped). StopsAt r after n) (sym (goes_on cache (other_number cache.epoch last_count ne))) (stops_after (emptied cache).adds (compacted_after cache.entries (emptied cache).cache) after n h)
@@ -130,7 +131,7 @@ load_stops : (settings : DbConf) (now : ℕ) (request : Request) (r : Result Pas
 load_stops settings now request (Ok poll) after n h = absurd h
 load_stops settings now request (Err stop) after n h = h
 
-pub lookup_faults : (settings : DbConf) (now : ℕ) (files : Content) (request : Request) (before after : Cache) (fault : PlainFault) → cached settings request before ≡ None
+pub lookup_faults : (settings : DbConf) (now : ℕ) (files : Content) (request : Request) (before after : Cache) (fault : CacheFault) → cached settings request before ≡ None
     → GivesUpBy (polled files before) before after fault → FaultsBy (lookup settings now files request before) files before after fault
 lookup_faults settings now files request before after NoMemory none h = inl h
 lookup_faults settings now files request before after (Spent n) none h =
@@ -180,7 +181,7 @@ prunes settings reloads now cache mid after some h k =
     let first : PassesTo (compacted_after due (left now cache)) mid = subst (λ (r : Result Passed Stopped). PassesTo r mid) (sym (compacted_some due (left now cache) some)) h in
     passes_after (ends_of (due_cause reloads now) due []) (compacted_after due (left now cache) >>= next) after (passes_then (compacted_after due (left now cache)) next mid after first k)
 
-pub prune_faults : (settings : DbConf) (reloads : Option ℕ) (now : ℕ) (cache before after : Cache) (fault : PlainFault) → 0 < length (due_of now cache.entries)
+pub prune_faults : (settings : DbConf) (reloads : Option ℕ) (now : ℕ) (cache before after : Cache) (fault : CacheFault) → 0 < length (due_of now cache.entries)
     → StopsBy (compacted (left now cache)) after fault → GivesUpBy (pruned settings reloads now cache) before after fault
 prune_faults settings reloads now cache before after NoMemory some h = absurd h
 prune_faults settings reloads now cache before after (Spent n) some h =
@@ -206,14 +207,14 @@ tick_passes settings reloads now files ticked before mid after on h k =
     subst (λ (r : Result Passed Stopped). PassesTo r after) (sym (tick_runs settings reloads now files ticked before on)) (passes_then (polled files before) (checked settings reloads now ticked) mid after h k)
 
 -- the poll of a tick gave up
-pub tick_unpolled : (settings : DbConf) (reloads : Option ℕ) (now : ℕ) (files : Content) (ticked : ℕ) (before after : Cache) (fault : PlainFault) → settings.enabled ≡ true
+pub tick_unpolled : (settings : DbConf) (reloads : Option ℕ) (now : ℕ) (files : Content) (ticked : ℕ) (before after : Cache) (fault : CacheFault) → settings.enabled ≡ true
     → GivesUpBy (polled files before) before after fault → FaultsBy (tick settings reloads now files ticked before) files before after fault
 tick_unpolled settings reloads now files ticked before after NoMemory on h = inl h
 tick_unpolled settings reloads now files ticked before after (Spent n) on h =
     subst (λ (r : Result Passed Stopped). StopsAt r after n) (sym (tick_runs settings reloads now files ticked before on)) (stops_first (polled files before) (checked settings reloads now ticked) after n h)
 
 -- what came after its poll gave up
-pub tick_faults : (settings : DbConf) (reloads : Option ℕ) (now : ℕ) (files : Content) (ticked : ℕ) (before mid after : Cache) (fault : PlainFault) → settings.enabled ≡ true → PassesTo (polled files before) mid
+pub tick_faults : (settings : DbConf) (reloads : Option ℕ) (now : ℕ) (files : Content) (ticked : ℕ) (before mid after : Cache) (fault : CacheFault) → settings.enabled ≡ true → PassesTo (polled files before) mid
     → GivesUpBy (checked settings reloads now ticked mid) mid after fault → FaultsBy (tick settings reloads now files ticked before) files before after fault
 tick_faults settings reloads now files ticked before mid after NoMemory on h k = inr (subst (λ (c : Cache). PassesTo (polled files before) c) (sym k) h)
 tick_faults settings reloads now files ticked before mid after (Spent n) on h k =

@@ -7,15 +7,15 @@ ghost use Rattle.nsc_model.specs.Answer.{reply_limit};
 ghost use Rattle.nsc_model.specs.Answers.{answer_of};
 ghost use Rattle.nsc_model.specs.Machine.{new_cache, cached, polled, kept_answer, lookup, pruned, is_outdated, checked, tick, ticked_by, invalidated};
 ghost use Rattle.nsc_model.specs.Events.{TurnsTo, PassesTo};
-ghost use Rattle.nsc_plain.specs.PlainCache.{FaultsBy, StopsBy, GivesUpBy, HitsBy};
+ghost use Rattle.nsc_model.specs.Faults.{FaultsBy, StopsBy, GivesUpBy};
+ghost use Rattle.nsc_plain.specs.PlainCache.{HitsBy};
 
 use crate::answered::{Answered, answer_due};
-use crate::fault::PlainFault;
 use crate::kept::LAST_COUNT;
 use crate::prepared::Prepared;
 use crate::table::Table;
 use nsc_base::{Bytes, NoMemory};
-use nsc_model::{Answer, Answerer, Content, DbConf, Kind, Request};
+use nsc_model::{Answer, Answerer, CacheFault, Content, DbConf, Kind, Request};
 use std::alloc::Global;
 use std::marker::Model;
 use std::sync::Arc;
@@ -83,7 +83,7 @@ impl PlainCache {
         kind: Kind,
         key: &[u8],
         now: u64,
-    ) -> Result<Bytes, PlainFault>
+    ) -> Result<Bytes, CacheFault>
         requires key { length key.now ≤ key_limit }
         requires moment { now < 2 ^ 62 }
         ensures settings { self.new.settings ≡ self.old.settings }
@@ -107,7 +107,7 @@ impl PlainCache {
         kind: Kind,
         key: &[u8],
         now: u64,
-    ) -> Result<Bytes, PlainFault>
+    ) -> Result<Bytes, CacheFault>
         requires key { length key.now ≤ key_limit }
         requires moment { now < 2 ^ 62 }
         requires polled { OnTrue files.old.is_polled (self.old.cache.sources ≡ files.old.files) }
@@ -144,7 +144,7 @@ impl PlainCache {
 
     // Makes the files the newest version, or confirms it where they are the same; where the cache is known to have polled
     // them, nothing is compared.
-    fn poll<A: Answerer>(&mut self, files: &mut Prepared<A>) -> Result<(), PlainFault>
+    fn poll<A: Answerer>(&mut self, files: &mut Prepared<A>) -> Result<(), CacheFault>
         requires polled { OnTrue files.old.is_polled (self.old.cache.sources ≡ files.old.files) }
         ensures settings { self.new.settings ≡ self.old.settings }
         ensures limit { self.new.reloads ≡ self.old.reloads }
@@ -164,7 +164,7 @@ impl PlainCache {
             return Ok(());
         }
         if self.newest_version == LAST_COUNT {
-            return Err(PlainFault::Spent { count: LAST_COUNT });
+            return Err(CacheFault::Spent { count: LAST_COUNT });
         }
         self.content = files.content().clone()?;
         self.newest_version += 1;
@@ -245,7 +245,7 @@ impl PlainCache {
         content: &Arc<Content>,
         answers: &A,
         now: u64,
-    ) -> Result<(), PlainFault>
+    ) -> Result<(), CacheFault>
         requires moment { now < 2 ^ 62 }
         ensures settings { self.new.settings ≡ self.old.settings }
         ensures limit { self.new.reloads ≡ self.old.reloads }
@@ -265,7 +265,7 @@ impl PlainCache {
         files: &mut Prepared<A>,
         answers: &A,
         now: u64,
-    ) -> Result<(), PlainFault>
+    ) -> Result<(), CacheFault>
         requires moment { now < 2 ^ 62 }
         requires polled { OnTrue files.old.is_polled (self.old.cache.sources ≡ files.old.files) }
         ensures settings { self.new.settings ≡ self.old.settings }
@@ -293,7 +293,7 @@ impl PlainCache {
         files: &mut Prepared<A>,
         answers: &A,
         now: u64,
-    ) -> Result<(), PlainFault>
+    ) -> Result<(), CacheFault>
         requires moment { now < 2 ^ 62 }
         requires sources { self.old.cache.sources ≡ files.old.files }
         ensures settings { self.new.settings ≡ self.old.settings }
@@ -325,7 +325,7 @@ impl PlainCache {
         files: &mut Prepared<A>,
         answers: &A,
         now: u64,
-    ) -> Result<(), PlainFault>
+    ) -> Result<(), CacheFault>
         requires moment { now < 2 ^ 62 }
         requires sources { self.old.cache.sources ≡ files.old.files }
         ensures settings { self.new.settings ≡ self.old.settings }
@@ -349,7 +349,7 @@ impl PlainCache {
 
     /// An invalidation: every live entry ends. It takes no memory. At `Spent` the cache is as the machine leaves it
     /// where a count stands at its end.
-    pub fn invalidate(&mut self) -> Result<(), PlainFault>
+    pub fn invalidate(&mut self) -> Result<(), CacheFault>
         ensures settings { self.new.settings ≡ self.old.settings }
         ensures limit { self.new.reloads ≡ self.old.reloads }
         ensures ticked { self.new.ticked ≡ self.old.ticked }
@@ -358,7 +358,7 @@ impl PlainCache {
         ensures fault { IfErr result (StopsBy (invalidated self.old.cache) self.new.cache) }
     {
         if self.epoch == LAST_COUNT {
-            return Err(PlainFault::Spent { count: LAST_COUNT });
+            return Err(CacheFault::Spent { count: LAST_COUNT });
         }
         self.epoch += 1;
         self.table.end_all()

@@ -4,11 +4,9 @@
 mod answered;
 mod cache;
 mod entries;
-mod fault;
 mod kept;
 mod prepared;
 mod table;
 
 pub use cache::PlainCache;
-pub use fault::PlainFault;
 pub use prepared::Prepared;

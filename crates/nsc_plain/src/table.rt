@@ -4,15 +4,15 @@ ghost use Rattle.nsc_model.specs.Kinds.{is_request};
 ghost use Rattle.nsc_model.specs.Answer.{reply_limit};
 ghost use Rattle.nsc_model.specs.Machine.{Cache, due_of, others_of, compacted, compacted_after, room_of, last_count};
 ghost use Rattle.nsc_model.specs.Events.{PassesTo};
-ghost use Rattle.nsc_plain.specs.PlainCache.{HitsBy, StopsBy};
+ghost use Rattle.nsc_model.specs.Faults.{StopsBy};
+ghost use Rattle.nsc_plain.specs.PlainCache.{HitsBy};
 ghost use Rattle.nsc_plain.specs.Table.{StayApart, answered_for, entries_for, over, put, put_all};
 
 use crate::answered::Answered;
 use crate::entries::{drop_due, find_entry, words_of};
-use crate::fault::PlainFault;
 use crate::kept::{Kept, LAST_COUNT};
 use nsc_base::{Bytes, NoMemory};
-use nsc_model::{DbConf, Kind};
+use nsc_model::{CacheFault, DbConf, Kind};
 use std::alloc::Global;
 use std::marker::Model;
 
@@ -126,14 +126,14 @@ impl Table {
     }
 
     // A compaction: the words of ended entries are free again.
-    fn compact(&mut self) -> Result<(), PlainFault>
+    fn compact(&mut self) -> Result<(), CacheFault>
         ensures turn { OnOk result ((cache : Cache) → PassesTo (compacted (over cache self.old)) (over cache self.new)) }
         ensures fault { IfErr result (λ fault. (cache : Cache) → StopsBy (compacted (over cache self.old)) (over cache self.new) fault) }
         ensures entries { self.new.entries ≡ self.old.entries }
         ensures capacity { self.new.capacity ≡ self.old.capacity }
     {
         if self.cycle >= LAST_COUNT {
-            return Err(PlainFault::Spent { count: LAST_COUNT });
+            return Err(CacheFault::Spent { count: LAST_COUNT });
         }
         self.cycle += 2;
         self.used = words_of(&self.entries);
@@ -141,7 +141,7 @@ impl Table {
     }
 
     /// The entries whose time is over leave, and then the table is compacted. Their memory stays.
-    pub fn end_due(&mut self, now: u64) -> Result<(), PlainFault>
+    pub fn end_due(&mut self, now: u64) -> Result<(), CacheFault>
         ensures turn { OnOk result ((cache : Cache) → PassesTo (compacted (over cache (record self.old { entries = others_of now self.old.entries }))) (over cache self.new)) }
         ensures fault { IfErr result (λ fault. (cache : Cache) → StopsBy (compacted (over cache (record self.old { entries = others_of now self.old.entries }))) (over cache self.new) fault) }
         ensures memory { length self.new.entries + length (due_of now self.old.entries) ≤ self.new.capacity }
@@ -153,7 +153,7 @@ impl Table {
     }
 
     /// Every entry leaves, and where there was any, the table is compacted.
-    pub fn end_all(&mut self) -> Result<(), PlainFault>
+    pub fn end_all(&mut self) -> Result<(), CacheFault>
         ensures turn { OnOk result ((cache : Cache) → PassesTo (compacted_after self.old.entries (over cache (record self.old { entries = [] }))) (over cache self.new)) }
         ensures fault { IfErr result (λ fault. (cache : Cache) → StopsBy (compacted_after self.old.entries (over cache (record self.old { entries = [] }))) (over cache self.new) fault) }
     {

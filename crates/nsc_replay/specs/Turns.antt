@@ -3,8 +3,8 @@ use Rattle.std.specs.Prelude.{◌≡◌, ℕ, List, [], Option, Some, None, Resu
 use Rattle.nsc_outside.specs.Stream.{Rose, Grows, GrowsByFront}
 use Rattle.nsc_model.specs.Frames.{Finish, Spent}
 use Rattle.nsc_model.specs.Replay.{State, Went, framed}
-use Rattle.nsc_plain.specs.declared.fault.PlainFault.{PlainFault}
-use Rattle.nsc_plain.specs.declared.fault.PlainFault.TheVariants as faults
+use Rattle.nsc_model.specs.declared.fault.CacheFault.{CacheFault}
+use Rattle.nsc_model.specs.declared.fault.CacheFault.TheVariants as faults
 use Rattle.nsc_replay.specs.declared.ended.Ended.{Ended}
 use Rattle.nsc_replay.specs.declared.ended.Ended.TheVariants as ended
 
@@ -19,7 +19,7 @@ TurnsTo (Ok went) state reply = (went.state ≡ state) × (went.writes ≡ writt
 TurnsTo (Err finish) state reply = ⊥
 
 -- the machine ends so; nothing is claimed where memory was wanting
-abbrev pub TurnFaults : Result Went Finish → PlainFault → Type 0
+abbrev pub TurnFaults : Result Went Finish → CacheFault → Type 0
 TurnFaults turn faults.NoMemory = Unit {0}
 TurnFaults turn (faults.Spent count) = turn ≡ Err (Spent count)
 

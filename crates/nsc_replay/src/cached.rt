@@ -5,11 +5,11 @@ ghost use Rattle.nsc_model.specs.Entry.{key_limit};
 ghost use Rattle.nsc_model.specs.Answer.{reply_limit};
 ghost use Rattle.nsc_model.specs.Machine.{new_cache, lookup, tick, ticked_by, invalidated};
 ghost use Rattle.nsc_model.specs.Events.{PassesTo, TurnsTo};
-ghost use Rattle.nsc_plain.specs.PlainCache.{FaultsBy, StopsBy};
+ghost use Rattle.nsc_model.specs.Faults.{FaultsBy, StopsBy};
 
 use nsc_base::{Bytes, NoMemory};
-use nsc_model::{Answerer, Content, DbConf, Kind};
-use nsc_plain::{PlainCache, PlainFault, Prepared};
+use nsc_model::{Answerer, CacheFault, Content, DbConf, Kind};
+use nsc_plain::{PlainCache, Prepared};
 use std::alloc::Global;
 use std::marker::Model;
 use std::sync::Arc;
@@ -63,7 +63,7 @@ impl<A: Answerer> Cached<A> {
         kind: Kind,
         key: &[u8],
         now: u64,
-    ) -> Result<Bytes, PlainFault>
+    ) -> Result<Bytes, CacheFault>
         requires key { length key.now ≤ key_limit }
         requires moment { now < 2 ^ 62 }
         ensures files { self.new.files ≡ self.old.files }
@@ -79,7 +79,7 @@ impl<A: Answerer> Cached<A> {
     }
 
     /// A tick over the files as they are, at this moment in seconds.
-    pub fn tick(&mut self, alloc: Global, answers: &A, now: u64) -> Result<(), PlainFault>
+    pub fn tick(&mut self, alloc: Global, answers: &A, now: u64) -> Result<(), CacheFault>
         requires moment { now < 2 ^ 62 }
         ensures files { self.new.files ≡ self.old.files }
         ensures settings { self.new.cache.settings ≡ self.old.cache.settings }
@@ -94,7 +94,7 @@ impl<A: Answerer> Cached<A> {
     }
 
     /// An invalidation.
-    pub fn invalidate(&mut self) -> Result<(), PlainFault>
+    pub fn invalidate(&mut self) -> Result<(), CacheFault>
         ensures files { self.new.files ≡ self.old.files }
         ensures settings { self.new.cache.settings ≡ self.old.cache.settings }
         ensures limit { self.new.cache.reloads ≡ self.old.cache.reloads }

@@ -1,6 +1,6 @@
 ghost use Rattle.std.specs.Prelude.{◌≡◌};
 
-use nsc_plain::PlainFault;
+use nsc_model::CacheFault;
 
 /// How a replay ended.
 #[derive(Clone, Copy, Debug, PartialEq, Eq)]
@@ -30,15 +30,15 @@ pub enum Ended {
     NoMemory,
 }
 
-impl From<PlainFault> for Ended {
+impl From<CacheFault> for Ended {
     ghost use Rattle.nsc_replay.specs.Ended.{ended_by};
 
     ghost from_gives = { λ fault ended. ended ≡ ended_by fault };
 
-    fn from(fault: PlainFault) -> Ended {
+    fn from(fault: CacheFault) -> Ended {
         match fault {
-            PlainFault::NoMemory => Ended::NoMemory,
-            PlainFault::Spent { count } => Ended::Spent { count },
+            CacheFault::NoMemory => Ended::NoMemory,
+            CacheFault::Spent { count } => Ended::Spent { count },
         }
     }
 }

@@ -12,8 +12,7 @@ use crate::cached::Cached;
 use crate::frame::Frame;
 use crate::sources::{Shared, Sources};
 use nsc_base::{Bytes, NoMemory};
-use nsc_model::{Answerer, Conf, Databases, Db, FileId, Kind};
-use nsc_plain::PlainFault;
+use nsc_model::{Answerer, CacheFault, Conf, Databases, Db, FileId, Kind};
 use nsc_wire::{Wire, read_request};
 use std::alloc::Global;
 use std::cmp::{max, min};
@@ -69,7 +68,7 @@ impl<A: Answerer> Machine<A> {
         alloc: Global,
         answers: &A,
         frame: Frame<'_>,
-    ) -> Result<Option<Bytes>, PlainFault>
+    ) -> Result<Option<Bytes>, CacheFault>
         requires { FrameFits frame }
         ensures settings { self.new.settings ≡ self.old.settings }
         ensures bound { IfOk result (λ reply. IfSome reply (λ bytes. length bytes ≤ reply_limit)) }
@@ -95,7 +94,7 @@ impl<A: Answerer> Machine<A> {
     }
 
     // The input of one connection.
-    fn request(&mut self, alloc: Global, answers: &A, input: &[u8]) -> Result<Bytes, PlainFault>
+    fn request(&mut self, alloc: Global, answers: &A, input: &[u8]) -> Result<Bytes, CacheFault>
         ensures settings { self.new.settings ≡ self.old.settings }
         ensures bound { IfOk result (λ reply. length reply ≤ reply_limit) }
         ensures turn { IfOk result (λ reply. TurnsTo (request_frame self.old.settings self.old.state (request_of input.now)) self.new.state (Some reply)) }
@@ -127,7 +126,7 @@ impl<A: Answerer> Machine<A> {
         answers: &A,
         kind: Kind,
         key: &[u8],
-    ) -> Result<Bytes, PlainFault>
+    ) -> Result<Bytes, CacheFault>
         requires { length key.now ≤ key_limit }
         ensures settings { self.new.settings ≡ self.old.settings }
         ensures bound { IfOk result (λ reply. length reply ≤ reply_limit) }
@@ -164,7 +163,7 @@ impl<A: Answerer> Machine<A> {
     }
 
     // The moment becomes this one, unless it is later already, and every database is ticked.
-    fn advance(&mut self, alloc: Global, answers: &A, moment: u64) -> Result<(), PlainFault>
+    fn advance(&mut self, alloc: Global, answers: &A, moment: u64) -> Result<(), CacheFault>
         ensures settings { self.new.settings ≡ self.old.settings }
         ensures turn { OnOk result (TurnsTo (time_frame self.old.settings self.old.state moment) self.new.state None) }
         ensures fault { IfErr result (TurnFaults (time_frame self.old.settings self.old.state moment)) }
@@ -177,7 +176,7 @@ impl<A: Answerer> Machine<A> {
     }
 
     // A database is invalidated.
-    fn invalidate(&mut self, db: Db) -> Result<(), PlainFault>
+    fn invalidate(&mut self, db: Db) -> Result<(), CacheFault>
         ensures settings { self.new.settings ≡ self.old.settings }
         ensures turn { OnOk result (TurnsTo (invalidate_frame self.old.state db) self.new.state None) }
         ensures fault { IfErr result (TurnFaults (invalidate_frame self.old.state db)) }

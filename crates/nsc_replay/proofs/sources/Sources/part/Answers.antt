@@ -1,4 +1,4 @@
-use Rattle.std.proofs.Common.{◌≡◌, ◌+◌, List, drop, sym, ◌∙◌, ap}
+use Rattle.std.proofs.Common.{◌+◌, List, drop, sym, ◌∙◌, ap}
 use Rattle.std.proofs.lemmas.List.{at_drop_all, at_drop_more}
 use Rattle.nsc_model.specs.declared.kind.FileId.{FileId}
 use Rattle.nsc_model.specs.Content.{Content}

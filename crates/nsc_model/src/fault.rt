@@ -1,12 +1,12 @@
 ghost use Rattle.std.specs.Prelude.{◌≡◌};
-ghost use Rattle.nsc_plain.specs.declared.fault.PlainFault.TheVariants.{NoMemory as Memory};
+ghost use Rattle.nsc_model.specs.declared.fault.CacheFault.TheVariants.{NoMemory as Memory};
 
 use nsc_base::NoMemory;
 use std::alloc::{AllocError, AllocFailed};
 
-/// Why a call of a plain cache gave up.
+/// Why a call of a cache gave up.
 #[derive(Clone, Copy, Debug, PartialEq, Eq)]
-pub enum PlainFault {
+pub enum CacheFault {
     /// Memory was wanting.
     NoMemory,
     /// A count that the call needed stands at its end.
@@ -16,26 +16,26 @@ pub enum PlainFault {
     },
 }
 
-impl From<NoMemory> for PlainFault {
+impl From<NoMemory> for CacheFault {
     ghost from_gives = { λ _ fault. fault ≡ Memory };
 
-    fn from(_e: NoMemory) -> PlainFault {
-        PlainFault::NoMemory
+    fn from(_e: NoMemory) -> CacheFault {
+        CacheFault::NoMemory
     }
 }
 
-impl From<AllocError> for PlainFault {
+impl From<AllocError> for CacheFault {
     ghost from_gives = { λ _ fault. fault ≡ Memory };
 
-    fn from(_e: AllocError) -> PlainFault {
-        PlainFault::NoMemory
+    fn from(_e: AllocError) -> CacheFault {
+        CacheFault::NoMemory
     }
 }
 
-impl<T: Drop> From<AllocFailed<T>> for PlainFault {
+impl<T: Drop> From<AllocFailed<T>> for CacheFault {
     ghost from_gives = { λ _ fault. fault ≡ Memory };
 
-    fn from(_e: AllocFailed<T>) -> PlainFault {
-        PlainFault::NoMemory
+    fn from(_e: AllocFailed<T>) -> CacheFault {
+        CacheFault::NoMemory
     }
 }
