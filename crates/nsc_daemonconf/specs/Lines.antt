@@ -105,8 +105,8 @@ daemon_sets daemon.ServerUser w = no_effect (Some w)
 daemon_sets daemon.StatUser w = no_effect (Some w)
 
 -- the service of a name
-abbrev pub service_named : List ℕ → Option ServiceName
-service_named word =
+abbrev pub service_by_name : List ℕ → Option ServiceName
+service_by_name word =
     if bytes_eq word (codes "passwd") then Some (Database db.Passwd) else (
     if bytes_eq word (codes "group") then Some (Database db.Group) else (
     if bytes_eq word (codes "hosts") then Some (Database db.Hosts) else (
@@ -114,12 +114,12 @@ service_named word =
     if bytes_eq word (codes "netgroup") then Some Netgroup else None))))
 
 -- the settings with those of one database changed so; netgroups are not cached, and a line about them changes nothing
-abbrev pub with_database : ServiceName → (DbConf → DbConf) → Conf → Conf
-with_database Netgroup change s = s
-with_database (Database db.Passwd) change s = record s { passwd = change s.passwd }
-with_database (Database db.Group) change s = record s { group = change s.group }
-with_database (Database db.Hosts) change s = record s { hosts = change s.hosts }
-with_database (Database db.Services) change s = record s { services = change s.services }
+abbrev pub with_service : ServiceName → (DbConf → DbConf) → Conf → Conf
+with_service Netgroup change s = s
+with_service (Database db.Passwd) change s = record s { passwd = change s.passwd }
+with_service (Database db.Group) change s = record s { group = change s.group }
+with_service (Database db.Hosts) change s = record s { hosts = change s.hosts }
+with_service (Database db.Services) change s = record s { services = change s.services }
 
 -- ---- lines
 
@@ -140,9 +140,9 @@ abbrev ◌>>=◌ : {A B E : Type 0} → Result A E → (A → Result B E) → Re
 -- what an attribute with these words after it does
 abbrev pub attribute_does : Attribute → List (List ℕ) → Result (Conf → Conf) LineFault
 attribute_does (OfDatabase attribute) (service ∷ value ∷ []) = do
-  which ← or_fault BadLine (service_named service)
+  which ← or_fault BadLine (service_by_name service)
   change ← or_fault BadValue (database_sets attribute value)
-  Ok (with_database which change)
+  Ok (with_service which change)
 attribute_does (OfDaemon attribute) (value ∷ []) = or_fault BadValue (daemon_sets attribute value)
 attribute_does _ _ = Err BadLine
 

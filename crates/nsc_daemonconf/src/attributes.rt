@@ -1,6 +1,6 @@
 ghost use Rattle.std.specs.Prelude.{◌≡◌, IfSome};
 ghost use Rattle.std.specs.Option.{option_map};
-ghost use Rattle.nsc_daemonconf.specs.Lines.{attribute_named, daemon_sets, database_sets, service_named};
+ghost use Rattle.nsc_daemonconf.specs.Lines.{attribute_named, daemon_sets, database_sets, service_by_name};
 ghost use Rattle.nsc_daemonconf.specs.Tables.{found};
 ghost use Rattle.nsc_model.specs.Sizes.{SizeFits, SizesFit};
 
@@ -174,7 +174,7 @@ impl DaemonAttribute {
 impl ServiceName {
     /// The service of this name. `None` where there is none.
     pub fn named(word: &[u8]) -> Option<ServiceName>
-        ensures { result ≡ service_named word.now }
+        ensures { result ≡ service_by_name word.now }
     {
         named(&SERVICES, word)
     }

@@ -1,6 +1,6 @@
 ghost use Rattle.std.specs.Prelude.{◌≡◌, ◌≤◌, IfOk, length};
 ghost use Rattle.nsc_base.specs.Text.{part, words_of};
-ghost use Rattle.nsc_daemonconf.specs.Lines.{after_line, attribute_does, conf_of, line_does, with_database};
+ghost use Rattle.nsc_daemonconf.specs.Lines.{after_line, attribute_does, conf_of, line_does, with_service};
 ghost use Rattle.nsc_model.specs.Sizes.{SizeFits, SizesFit};
 
 use crate::attributes::{Attribute, DaemonAttribute, DbAttribute, ServiceName};
@@ -97,7 +97,7 @@ fn with_database_line(
 
 // The settings with those of one database replaced.
 fn with_settings(mut conf: Conf, db: Db, changed: DbConf) -> Conf
-    ensures with { result ≡ with_database (ServiceName.Database db) (λ _. changed) conf }
+    ensures with { result ≡ with_service (ServiceName.Database db) (λ _. changed) conf }
     ensures sizes { SizesFit conf → SizeFits changed → SizesFit result }
 {
     match db {

@@ -1,5 +1,5 @@
 -- The cores of the four databases: one of them moves on, and the others stay.
-use Rattle.std.proofs.Common.{◌≡◌, ℕ, List, [], ◌∷◌, ◌++◌, refl, sym, ap, subst, ◌∙◌}
+use Rattle.std.proofs.Common.{◌≡◌, ℕ, List, [], ◌∷◌, ◌++◌, refl, ap, ◌∙◌}
 use Rattle.std.specs.Prelude.{None}
 use Rattle.std.proofs.lemmas.List.Elements.{All-nil, All-cons, All-append, All-weaker}
 use Rattle.nsc_model.specs.declared.kind.Db.{Db}
@@ -11,8 +11,8 @@ use Rattle.nsc_model.specs.History.{invalidations}
 use Rattle.nsc_laws.specs.Core.{Caller, Core, Note, opening}
 use Rattle.nsc_model.specs.Machine.{Cache}
 use Rattle.nsc_laws.specs.Calls.{IsOwn, IsBy, MovesOver, Drives, IsMoved}
-use Rattle.nsc_model.specs.declared.conf.Conf.{Conf}
-use Rattle.nsc_model.specs.Replay.{State, first_state, cache_of, with_cache, with_ticked}
+use Rattle.nsc_model.specs.declared.databases.Databases.{Databases}
+use Rattle.nsc_model.specs.Replay.{State, first_state, cache_of, with_cache}
 use Rattle.nsc_laws.specs.Replies.{AllDrive, each_of, with_at, none_add, AllMove}
 use Rattle.nsc_laws.proofs.CoreLaw.{changed, noting}
 use Rattle.nsc_laws.proofs.MachineLaw.{opening_drives, files_drive}
@@ -141,9 +141,9 @@ set_file_drive s cores f d =
 
 -- ---- moves of one of them
 
--- the version that a tick found says nothing of the caches
-pub ticked_moves : (settings : Conf) (old : Db → Core) (adds : Db → List Record) (db : Db) (s : State) (new : Db → Core) → AllMove old adds s new → AllMove old adds (with_ticked settings db s) new
-ticked_moves settings old adds db s new g =
+-- the versions that ticks found say nothing of the caches
+pub ticked_moves : (old : Db → Core) (adds : Db → List Record) (ticked : Databases ℕ) (s : State) (new : Db → Core) → AllMove old adds s new → AllMove old adds (record s { ticked = ticked }) new
+ticked_moves old adds ticked s new g =
     record { drive = record { drives = g.drive.drives; sources_are = g.drive.sources_are; none_fetched = g.drive.none_fetched }; gained = g.gained; over = g.over }
 
 -- one of the cores, which gained nothing so far, moves on

@@ -13,7 +13,8 @@ use Rattle.nsc_model.specs.Content.{Content}
 use Rattle.nsc_model.specs.Files.{no_files, with_file, part_of}
 use Rattle.nsc_model.specs.declared.conf.Conf.{Conf}
 use Rattle.nsc_model.specs.Settings.{settings_of}
-use Rattle.nsc_model.specs.Databases.{database_in}
+use Rattle.nsc_model.specs.declared.databases.Databases.{Databases}
+use Rattle.nsc_model.specs.Databases.{database_in, with_database}
 use Rattle.nsc_model.specs.Wire.{Asked, Look, Shutdown, Stat, Invalidate, Descriptor, Netgroup, Short, BadVersion, BadType, BadLength, request_of}
 use Rattle.nsc_model.specs.History.{invalidations}
 use Rattle.nsc_model.specs.Machine.{Cache, Passed, Stopped, Turn, lookup, tick, invalidated}
@@ -22,7 +23,7 @@ use Rattle.nsc_model.specs.Frames.{Frame, Finish, Spent, cut_at}
 use Rattle.nsc_model.specs.Replay.{State, first_state, cache_of, with_cache, Went, framed, looked_at, look_frame, unanswered, request_frame, silent, then_on, tick_in, with_ticked, ticked_in, ticks, turn_of, Replayed, play_on, play, replay}
 use Rattle.nsc_laws.specs.Core.{Caller, Core, opening}
 use Rattle.nsc_laws.specs.Calls.{IsBy, IsMoved, IsTurned, PassesBy, TurnsBy}
-use Rattle.nsc_laws.specs.Replies.{AllDrive, IsGiven, IsReplied, each_of, with_at, none_add, adds_alone, adds_of, look_adds_of, asked_adds, unless_stopped, tick_adds, frame_adds, reached_moment, AllMove, left_on, left_looked, left_ticked, left_ticks, left_look, left_asked, left_by, stopped_in, IsPlayed, IsStopped, PlayedThen, EachReplied, IsReplayed}
+use Rattle.nsc_laws.specs.Replies.{AllDrive, IsGiven, IsReplied, each_of, with_at, none_add, adds_alone, adds_of, look_adds_of, asked_adds, unless_stopped, tick_adds, frame_adds, reached_moment, AllMove, left_on, left_looked, left_tick, left_ticked, left_ticks, left_look, left_asked, left_by, stopped_in, IsPlayed, IsStopped, PlayedThen, EachReplied, WritesInTurn}
 use Rattle.nsc_laws.proofs.CoreLaw.{noting}
 use Rattle.nsc_laws.proofs.MachineLaw.{lookup_turns, tick_passes, invalidation_passes}
 use Rattle.nsc_laws.proofs.MachineLawSteps.{at_own}
@@ -55,13 +56,13 @@ tick_passes_in settings s cores db d =
 
 -- what the ticks from a database on come to, once it was ticked itself
 abbrev left_after_hosts : Conf → State → State
-left_after_hosts settings s = left_ticked settings Services (with_ticked settings Hosts s) (λ s4. s4)
+left_after_hosts settings s = left_ticked settings Services s (λ s4. s4)
 
 abbrev left_after_group : Conf → State → State
-left_after_group settings s = left_ticked settings Hosts (with_ticked settings Group s) (λ t. left_ticked settings Services t (λ s4. s4))
+left_after_group settings s = left_ticked settings Hosts s (left_after_hosts settings)
 
 abbrev left_after_passwd : Conf → State → State
-left_after_passwd settings s = left_ticked settings Group (with_ticked settings Passwd s) (λ t. left_ticked settings Hosts t (λ u. left_ticked settings Services u (λ s4. s4)))
+left_after_passwd settings s = left_ticked settings Group s (left_after_group settings)
 
 abbrev after_hosts : Conf → State → Result Went Finish
 after_hosts settings s = ticked_in settings Services (with_ticked settings Hosts s) silent
@@ -73,42 +74,42 @@ abbrev after_passwd : Conf → State → Result Went Finish
 after_passwd settings s = ticked_in settings Group (with_ticked settings Passwd s) (λ t. ticked_in settings Hosts t (λ u. ticked_in settings Services u silent))
 
 -- one database was ticked, which gained nothing so far
-moves_ticked : (settings : Conf) (old : Db → Core) (adds : Db → List Record) (s : State) (cores : Db → Core) (db : Db) (core : Core) (more : List Record) (after : Cache) → AllMove old adds s cores → adds db ≡ [] → IsMoved db 0 (cores db) more after core
-    → AllMove old (with_at adds db more) (with_ticked settings db (with_cache s db after)) (with_at cores db (settled core))
-moves_ticked settings old adds s cores db core more after g none m = ticked_moves settings old (with_at adds db more) db (with_cache s db after) (with_at cores db (settled core)) (one_moves old adds s cores db core more after g none m)
+moves_ticked : (ticked : Databases ℕ) (old : Db → Core) (adds : Db → List Record) (s : State) (cores : Db → Core) (db : Db) (core : Core) (more : List Record) (after : Cache) → AllMove old adds s cores → adds db ≡ [] → IsMoved db 0 (cores db) more after core
+    → AllMove old (with_at adds db more) (record s { caches = with_database s.caches db after; ticked = ticked }) (with_at cores db (settled core))
+moves_ticked ticked old adds s cores db core more after g none m = ticked_moves old (with_at adds db more) ticked (with_cache s db after) (with_at cores db (settled core)) (one_moves old adds s cores db core more after g none m)
 
 services_ticked : (settings : Conf) (old : Db → Core) (a b c : List Record) (s : State) (cores : Db → Core) (r : Result Passed Stopped) → AllMove old (each_of a b c []) s cores → PassesBy Services 0 (cores Services) r
-    → Silently old (each_of a b c (adds_of r)) (left_on s Services r (with_ticked settings Services)) s.files s.moment (then_on s Services r (λ t. silent (with_ticked settings Services t)))
-services_ticked settings old a b c s cores (Ok passed) g w = (with_at cores Services (settled w.0), moves_ticked settings old (each_of a b c []) s cores Services w.0 passed.adds passed.cache g refl w.1, refl, refl, refl)
-services_ticked settings old a b c s cores (Err stop) g w = (with_at cores Services (settled w.0), one_moves old (each_of a b c []) s cores Services w.0 stop.adds stop.cache g refl w.1, record { count = stop.count; is = refl })
+    → Silently old (each_of a b c (adds_of r)) (left_tick settings Services s r (λ s4. s4)) s.files s.moment (then_on s Services r (λ t. silent (with_ticked settings Services t)))
+services_ticked settings old a b c s cores (Ok passed) g w = (with_at cores Services (settled w.0), moves_ticked _ old (each_of a b c []) s cores Services w.0 passed.adds passed.cache g refl w.1, refl, refl, refl)
+services_ticked settings old a b c s cores (Err stop) g w = (with_at cores Services (settled w.0), moves_ticked _ old (each_of a b c []) s cores Services w.0 stop.adds stop.cache g refl w.1, record { count = stop.count; is = refl })
 
 hosts_ticked : (settings : Conf) (old : Db → Core) (a b : List Record) (s : State) (cores : Db → Core) (r : Result Passed Stopped) → AllMove old (each_of a b [] []) s cores → PassesBy Hosts 0 (cores Hosts) r
-    → Silently old (each_of a b (adds_of r) (unless_stopped r (adds_of (tick_in settings Services s)))) (left_on s Hosts r (left_after_hosts settings)) s.files s.moment (then_on s Hosts r (after_hosts settings))
+    → Silently old (each_of a b (adds_of r) (unless_stopped r (adds_of (tick_in settings Services s)))) (left_tick settings Hosts s r (left_after_hosts settings)) s.files s.moment (then_on s Hosts r (after_hosts settings))
 hosts_ticked settings old a b s cores (Ok passed) g w =
     let t = with_ticked settings Hosts (with_cache s Hosts passed.cache) in
     let new = with_at cores Hosts (settled w.0) in
-    let moved = moves_ticked settings old (each_of a b [] []) s cores Hosts w.0 passed.adds passed.cache g refl w.1 in
+    let moved = moves_ticked t.ticked old (each_of a b [] []) s cores Hosts w.0 passed.adds passed.cache g refl w.1 in
     services_ticked settings old a b passed.adds t new (tick_in settings Services t) moved (tick_passes_in settings t new Services moved.drive)
-hosts_ticked settings old a b s cores (Err stop) g w = (with_at cores Hosts (settled w.0), one_moves old (each_of a b [] []) s cores Hosts w.0 stop.adds stop.cache g refl w.1, record { count = stop.count; is = refl })
+hosts_ticked settings old a b s cores (Err stop) g w = (with_at cores Hosts (settled w.0), moves_ticked _ old (each_of a b [] []) s cores Hosts w.0 stop.adds stop.cache g refl w.1, record { count = stop.count; is = refl })
 
 group_ticked : (settings : Conf) (old : Db → Core) (a : List Record) (s : State) (cores : Db → Core) (r : Result Passed Stopped) → AllMove old (each_of a [] [] []) s cores → PassesBy Group 0 (cores Group) r
-    → Silently old (each_of a (adds_of r) (unless_stopped r (adds_of (tick_in settings Hosts s))) (unless_stopped r (unless_stopped (tick_in settings Hosts s) (adds_of (tick_in settings Services s))))) (left_on s Group r (left_after_group settings)) s.files s.moment (then_on s Group r (after_group settings))
+    → Silently old (each_of a (adds_of r) (unless_stopped r (adds_of (tick_in settings Hosts s))) (unless_stopped r (unless_stopped (tick_in settings Hosts s) (adds_of (tick_in settings Services s))))) (left_tick settings Group s r (left_after_group settings)) s.files s.moment (then_on s Group r (after_group settings))
 group_ticked settings old a s cores (Ok passed) g w =
     let t = with_ticked settings Group (with_cache s Group passed.cache) in
     let new = with_at cores Group (settled w.0) in
-    let moved = moves_ticked settings old (each_of a [] [] []) s cores Group w.0 passed.adds passed.cache g refl w.1 in
+    let moved = moves_ticked t.ticked old (each_of a [] [] []) s cores Group w.0 passed.adds passed.cache g refl w.1 in
     hosts_ticked settings old a passed.adds t new (tick_in settings Hosts t) moved (tick_passes_in settings t new Hosts moved.drive)
-group_ticked settings old a s cores (Err stop) g w = (with_at cores Group (settled w.0), one_moves old (each_of a [] [] []) s cores Group w.0 stop.adds stop.cache g refl w.1, record { count = stop.count; is = refl })
+group_ticked settings old a s cores (Err stop) g w = (with_at cores Group (settled w.0), moves_ticked _ old (each_of a [] [] []) s cores Group w.0 stop.adds stop.cache g refl w.1, record { count = stop.count; is = refl })
 
 passwd_ticked : (settings : Conf) (old : Db → Core) (s : State) (cores : Db → Core) (r : Result Passed Stopped) → AllMove old none_add s cores → PassesBy Passwd 0 (cores Passwd) r
     → Silently old (each_of (adds_of r) (unless_stopped r (adds_of (tick_in settings Group s))) (unless_stopped r (unless_stopped (tick_in settings Group s) (adds_of (tick_in settings Hosts s))))
-    (unless_stopped r (unless_stopped (tick_in settings Group s) (unless_stopped (tick_in settings Hosts s) (adds_of (tick_in settings Services s)))))) (left_on s Passwd r (left_after_passwd settings)) s.files s.moment (then_on s Passwd r (after_passwd settings))
+    (unless_stopped r (unless_stopped (tick_in settings Group s) (unless_stopped (tick_in settings Hosts s) (adds_of (tick_in settings Services s)))))) (left_tick settings Passwd s r (left_after_passwd settings)) s.files s.moment (then_on s Passwd r (after_passwd settings))
 passwd_ticked settings old s cores (Ok passed) g w =
     let t = with_ticked settings Passwd (with_cache s Passwd passed.cache) in
     let new = with_at cores Passwd (settled w.0) in
-    let moved = moves_ticked settings old none_add s cores Passwd w.0 passed.adds passed.cache g refl w.1 in
+    let moved = moves_ticked t.ticked old none_add s cores Passwd w.0 passed.adds passed.cache g refl w.1 in
     group_ticked settings old passed.adds t new (tick_in settings Group t) moved (tick_passes_in settings t new Group moved.drive)
-passwd_ticked settings old s cores (Err stop) g w = (with_at cores Passwd (settled w.0), one_moves old none_add s cores Passwd w.0 stop.adds stop.cache g refl w.1, record { count = stop.count; is = refl })
+passwd_ticked settings old s cores (Err stop) g w = (with_at cores Passwd (settled w.0), moves_ticked _ old none_add s cores Passwd w.0 stop.adds stop.cache g refl w.1, record { count = stop.count; is = refl })
 
 all_ticked : (settings : Conf) (s : State) (cores : Db → Core) → AllDrive s cores → Silently cores (tick_adds settings s) (left_ticks settings s) s.files s.moment (ticks settings s)
 all_ticked settings s cores d = passwd_ticked settings cores s cores (tick_in settings Passwd s) (all_stay s cores d) (tick_passes_in settings s cores Passwd d)
@@ -233,21 +234,21 @@ record Turned (settings : Conf) (frame : Frame) (frames : List Frame) (last : Fi
   output_is : replayed.output ≡ concat pieces
 
 turned : (settings : Conf) (frame : Frame) (frames : List Frame) (last : Finish) (s : State) (cores : Db → Core) (r : Result Went Finish) → Comes settings s cores frame r
-    → ((t : State) (new : Db → Core) → AllDrive t new → IsReplayed settings frames last t new (play settings frames last t)) → Turned settings frame frames last s cores r (play_on (play settings frames last) r)
+    → ((t : State) (new : Db → Core) → AllDrive t new → WritesInTurn settings frames last t new (play settings frames last t)) → Turned settings frame frames last s cores r (play_on (play settings frames last) r)
 turned settings frame frames last s cores (Ok went) w others =
     let rest = others went.state w.0 w.1.moves.drive in
     record { pieces = went.writes ∷ rest.pieces; played = (w.0, rest.pieces, w.1, refl, rest.each_replied); output_is = ap (λ (xs : List ℕ). went.writes ++ xs) rest.output_is }
 turned settings frame frames last s cores (Err finish) w others = record { pieces = []; played = (w.0, w.1, refl, refl); output_is = refl }
 
-all_replayed : (settings : Conf) (frames : List Frame) (last : Finish) (s : State) (cores : Db → Core) → AllDrive s cores → IsReplayed settings frames last s cores (play settings frames last s)
+all_replayed : (settings : Conf) (frames : List Frame) (last : Finish) (s : State) (cores : Db → Core) → AllDrive s cores → WritesInTurn settings frames last s cores (play settings frames last s)
 unfolding play
 all_replayed settings [] last s cores d = record { pieces = []; each_replied = (d, refl, refl); output_is = refl }
 all_replayed settings (frame ∷ frames) last s cores d =
     let t = turned settings frame frames last s cores (turn_of settings s frame) (frame_comes settings s cores frame d) (λ t new e. all_replayed settings frames last t new e) in
     record { pieces = t.pieces; each_replied = (d, t.played); output_is = t.output_is }
 
-pub frames_law : (settings : Conf) (frames : List Frame) (last : Finish) → IsReplayed settings frames last first_state (λ db. opening db no_files) (play settings frames last first_state)
+pub frames_law : (settings : Conf) (frames : List Frame) (last : Finish) → WritesInTurn settings frames last first_state (λ db. opening db no_files) (play settings frames last first_state)
 frames_law settings frames last = all_replayed settings frames last first_state (λ db. opening db no_files) all_begin
 
-pub bytes_law : (settings : Conf) (bytes : List ℕ) → IsReplayed settings (cut_at 0 bytes).frames (cut_at 0 bytes).finish first_state (λ db. opening db no_files) (replay settings bytes)
+pub bytes_law : (settings : Conf) (bytes : List ℕ) → WritesInTurn settings (cut_at 0 bytes).frames (cut_at 0 bytes).finish first_state (λ db. opening db no_files) (replay settings bytes)
 bytes_law settings bytes = frames_law settings (cut_at 0 bytes).frames (cut_at 0 bytes).finish

@@ -103,8 +103,7 @@ pub data Event : Type 0 where
   Tick : (content : Content) → (now : ℕ) → Event
   Invalidation : Event
 
--- in every run of events the history stays legal, and each reply is an answer to its request whose caller had seen the whole
--- history before it; a run ends where an event stops. The number is the version that the last tick found
+-- a lookup is answered, and what comes after it holds; an event that stops leaves a legal history
 abbrev pub AnsweredThen : (Cache → List Record → Type 0) → List Record → Request → Result Turn Stopped → Type 0
 AnsweredThen others history request (Ok turn) = Answered history (turn.adds ++ history) request turn.reply × others turn.cache (turn.adds ++ history)
 AnsweredThen others history request (Err stop) = Legal (stop.adds ++ history)
@@ -113,6 +112,8 @@ abbrev pub LegalThen : (Cache → List Record → Type 0) → List Record → Re
 LegalThen others history (Ok passed) = others passed.cache (passed.adds ++ history)
 LegalThen others history (Err stop) = Legal (stop.adds ++ history)
 
+-- in every run of events the history stays legal, and each reply is an answer to its request whose caller had seen the whole
+-- history before it; a run ends where an event stops. The number is the version that the last tick found
 abbrev pub EachAnswered : Db → DbConf → Option ℕ → List Event → ℕ → Cache → List Record → Type 0
 EachAnswered db settings reloads [] ticked cache history = Legal history
 EachAnswered db settings reloads (Lookup content now request ∷ events) ticked cache history =

@@ -14,7 +14,8 @@ use Rattle.nsc_model.specs.Settings.{settings_of}
 use Rattle.nsc_model.specs.Wire.{Asked, Look, Shutdown, Stat, Invalidate, Descriptor, Netgroup, Short, BadVersion, BadType, BadLength, request_of}
 use Rattle.nsc_model.specs.History.{IsLive, Answered}
 use Rattle.nsc_laws.specs.Core.{Core, Replies}
-use Rattle.nsc_model.specs.Machine.{Passed, Stopped, Turn, lookup, invalidated}
+use Rattle.nsc_model.specs.Machine.{Passed, Stopped, Turn, lookup, invalidated, polled, ticked_after}
+use Rattle.nsc_model.specs.Databases.{database_in, with_database}
 use Rattle.nsc_laws.specs.Calls.{Drives, MovesOver}
 use Rattle.nsc_model.specs.Frames as frame
 use Rattle.nsc_model.specs.Frames.{Frame, Finish, Done, Bad, Long, Spent}
@@ -145,9 +146,17 @@ abbrev pub left_looked : State → Db → Result Turn Stopped → State
 left_looked s db (Ok turn) = with_cache s db turn.cache
 left_looked s db (Err stop) = with_cache s db stop.cache
 
+-- a tick that stops keeps a version, too
+abbrev pub kept_in : Conf → Db → State → ℕ
+kept_in settings db s = ticked_after (settings_of settings db) (database_in s.ticked db) (polled (part_of db s.files) (cache_of s db))
+
+abbrev pub left_tick : Conf → Db → State → Result Passed Stopped → (State → State) → State
+left_tick settings db s (Ok passed) next = next (with_ticked settings db (with_cache s db passed.cache))
+left_tick settings db s (Err stop) next = record s { caches = with_database s.caches db stop.cache; ticked = with_database s.ticked db (kept_in settings db s) }
+
 -- what the ticks of all databases leave, or those up to one that stops
 abbrev pub left_ticked : Conf → Db → State → (State → State) → State
-left_ticked settings db s next = left_on s db (tick_in settings db s) (λ t. next (with_ticked settings db t))
+left_ticked settings db s next = left_tick settings db s (tick_in settings db s) next
 
 abbrev pub left_ticks : Conf → State → State
 left_ticks settings s = left_ticked settings Passwd s (λ s1. left_ticked settings Group s1 (λ s2. left_ticked settings Hosts s2 (λ s3. left_ticked settings Services s3 (λ s4. s4))))
@@ -171,7 +180,7 @@ left_asked settings s (BadLength length) = s
 abbrev pub left_by : Conf → State → Frame → State
 left_by settings s (frame.Request input) = left_asked settings s (request_of input)
 left_by settings s (frame.SetFile file held) = s
-left_by settings s (frame.Time moment) = left_ticks settings (record s { moment = max s.moment (min moment last_moment) })
+left_by settings s (frame.Time moment) = left_ticks settings (record s { moment = reached_moment s moment })
 left_by settings s (frame.Invalidate db) = left_on s db (invalidated (cache_of s db)) (λ t. t)
 left_by settings s frame.End = s
 
@@ -184,7 +193,7 @@ stopped_in s left (Spent count) = left
 
 -- ---- whole replays
 
--- the files and the moment after a frame
+-- the files after a frame
 abbrev pub files_after : Frame → Content → Content
 files_after (frame.Request input) files = files
 files_after (frame.SetFile file held) files = with_file files file held
@@ -192,6 +201,7 @@ files_after (frame.Time moment) files = files
 files_after (frame.Invalidate db) files = files
 files_after frame.End files = files
 
+-- and the moment
 abbrev pub moment_after : Frame → State → ℕ
 moment_after (frame.Request input) s = s.moment
 moment_after (frame.SetFile file held) s = s.moment
@@ -222,7 +232,7 @@ EachReplied settings (frame ∷ frames) last s cores pieces finish =
     AllDrive s cores × PlayedThen (λ t new later. EachReplied settings frames last t new later finish) settings s cores frame pieces finish (turn_of settings s frame)
 
 -- what a replay of frames wrote, from a state and these cores on, is what its frames write in turn
-pub record IsReplayed (settings : Conf) (frames : List Frame) (last : Finish) (s : State) (cores : Db → Core) (replayed : Replayed) : Type 0 where
+pub record WritesInTurn (settings : Conf) (frames : List Frame) (last : Finish) (s : State) (cores : Db → Core) (replayed : Replayed) : Type 0 where
   pub pieces : List (List ℕ)
   pub each_replied : EachReplied settings frames last s cores pieces replayed.finish
   pub output_is : replayed.output ≡ concat pieces

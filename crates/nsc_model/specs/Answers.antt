@@ -138,7 +138,8 @@ extra_file db.Group files = files.extra_group
 extra_file db.Hosts files = None
 extra_file db.Services files = None
 
--- the outcome of a service of a compat list: `compat` within it is unavailable, as is what is not built in
+-- the outcome of a service that reads one file, whichever list it stands in; within a compat list `compat` is unavailable, as
+-- is what is not built in
 abbrev pub sub_answer : Content → Request → SwitchService → Looked
 sub_answer files request service.Files = file_answer (own_file (database_of request.kind) files) request
 sub_answer files request service.Compat = Unavail

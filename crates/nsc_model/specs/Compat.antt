@@ -61,7 +61,8 @@ says line = if has_zero line then Nothing else says_by (trimmed line)
 abbrev pub own_or : List ℕ → List ℕ → List ℕ
 own_or own other = if is_filled own then own else other
 
--- the fields of a plus line of passwd that are not empty stand in the place of the entry's; its ids are never replaced
+-- of a plus line of passwd with seven fields those of password, gecos, directory and shell stand in the place of the entry's
+-- where they are not empty; its name and its ids are never replaced, and another number of fields replaces nothing
 abbrev pub replaced_user : List (List ℕ) → Passwd → Passwd
 replaced_user (name ∷ passwd ∷ uid ∷ gid ∷ gecos ∷ dir ∷ shell ∷ []) p =
     record p { passwd = own_or passwd p.passwd; gecos = own_or gecos p.gecos; dir = own_or dir p.dir; shell = own_or shell p.shell }

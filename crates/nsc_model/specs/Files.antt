@@ -8,9 +8,6 @@ use Rattle.nsc_model.specs.declared.kind.Db.TheVariants as db
 use Rattle.nsc_model.specs.declared.kind.FileId.{FileId}
 use Rattle.nsc_model.specs.declared.kind.FileId.TheVariants as file
 
-abbrev pub File : Type 0
-File = Option (List ℕ)
-
 -- a file has at most so many bytes
 abbrev pub file_limit : ℕ
 file_limit = 16777216
@@ -74,6 +71,7 @@ is_read db.Hosts file.Hosts = true
 is_read db.Services file.Services = true
 is_read _ _ = false
 
+-- a file of a content, where the database reads it
 abbrev read_file : Db → Content → FileId → Option (List ℕ)
 read_file which files id = if is_read which id then file_of files id else None
 

@@ -1,6 +1,6 @@
 -- The machine that the cache of a database is: its events, each with the records that it adds to the history. One caller
--- drives it, so no other caller overtakes an insertion: none comes after an invalidation that it did not note, and none finds
--- its request live. The parts of the events stand apart, over what each of them needs.
+-- drives it, so its insertions are refused by three causes alone: none comes after an invalidation that it did not note, and
+-- none finds its request live. The parts of the events stand apart, over what each of them needs, also for many callers.
 use Rattle.std.specs.Prelude.{ℕ, ◌+◌, ◌-◌, ◌*◌, ◌^◌, ◌==◌, nat_lt, nat_le, min, Bool, false, not, ◌&&◌, ◌||◌, if◌then◌else◌, List, [], ◌∷◌, ◌++◌, length, map, filter, find, sum_by, Option, Some, None, Result, Ok, Err}
 use Rattle.nsc_base.specs.Nodes.{node_words}
 use Rattle.nsc_model.specs.declared.answer.Request.{Request}
@@ -298,3 +298,9 @@ tick settings reloads now files ticked cache = if settings.enabled then (polled 
 -- the version that a tick found which left this cache: the newest one; where the database is not cached, that of the last tick
 abbrev pub ticked_by : DbConf → ℕ → Cache → ℕ
 ticked_by settings ticked after = if settings.enabled then after.newest_version else ticked
+
+-- the version that a tick keeps which stops after this poll: the newest one where it stops at its pruning, and that of the last
+-- tick where it stops before
+abbrev pub ticked_after : DbConf → ℕ → Result Passed Stopped → ℕ
+ticked_after settings ticked (Ok poll) = if is_outdated settings poll.cache.newest_version ticked then ticked else poll.cache.newest_version
+ticked_after settings ticked (Err stop) = ticked

@@ -39,7 +39,7 @@ abbrev pub after_colon : List ℕ → Option (List ℕ)
 after_colon [] = None
 after_colon (b ∷ bytes) = if b == 58 then Some bytes else None
 
--- what stands after the name and the colon of a line of this list, white space around the name aside
+-- what stands after the name and the colon of a line of this list and before its remark, white space around the name aside
 abbrev pub own_part : DbName → List ℕ → Option (List ℕ)
 own_part name line = after_text (name_text name) (trimmed (before_remark line)) >>= λ rest. after_colon (trimmed rest)
 

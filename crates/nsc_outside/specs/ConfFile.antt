@@ -8,5 +8,5 @@ pub record ConfFile : Type 0 where
   pub bytes : List ℕ
 
 -- the bytes of the first configuration file with this path; absent where there is none
-abbrev pub conf_of : List ConfFile → List ℕ → Option (List ℕ)
-conf_of confs path = option_map (λ conf. conf.bytes) (find (λ conf. bytes_eq conf.path path) confs)
+abbrev pub conf_at_path : List ConfFile → List ℕ → Option (List ℕ)
+conf_at_path confs path = option_map (λ conf. conf.bytes) (find (λ conf. bytes_eq conf.path path) confs)

@@ -5,7 +5,7 @@ ghost use Rattle.nsc_model.specs.Files.{FileFits, file_of, with_file};
 ghost use Rattle.nsc_model.specs.declared.kind.FileId.{FileId};
 ghost use Rattle.nsc_outside.specs.Stream.{Rose};
 ghost use Rattle.nsc_outside.specs.FileSets.{IsAsTold, IsCause, is_failed, RoseBy, ChangesOnly, latest_of};
-ghost use Rattle.nsc_outside.specs.ConfFile.{conf_of};
+ghost use Rattle.nsc_outside.specs.ConfFile.{conf_at_path};
 ghost use Rattle.nsc_outside.specs.Tally.{count_of};
 ghost use Rattle.nsc_outside.specs.MemFiles.{empty_set, unread};
 ghost use Rattle.nsc_outside.specs.ReadPlan.{new_plan, FailsAsPlanned};
@@ -79,7 +79,7 @@ fn share_confs(alloc: Global, confs: &[ConfFile]) -> Result<Vec<ConfFile>, NoMem
 
 // The bytes of the first with this path; `None` where none has it.
 fn conf_bytes<'a>(confs: &'a [ConfFile], path: &str) -> Option<&'a [u8]>
-    ensures { option_copied result ≡ conf_of confs.now path.now }
+    ensures { option_copied result ≡ conf_at_path confs.now path.now }
 {
     let conf = confs.iter().find(|conf| conf.is_at(path));
     conf.map(|conf| conf.as_slice())
@@ -202,9 +202,9 @@ impl MemFiles {
 
     // One read of a configuration file.
     fn fetch_conf(&mut self, alloc: Global, path: &str) -> Result<Option<Bytes>, ReadCause>
-        ensures copy { IfOk result (λ copy. copy ≡ conf_of self.old.confs path.now) }
+        ensures copy { IfOk result (λ copy. copy ≡ conf_at_path self.old.confs path.now) }
         ensures fits { IfOk result (λ copy. FileFits copy) }
-        ensures cause { IfErr result (λ cause. IsCause (Some (conf_of self.old.confs path.now)) cause) }
+        ensures cause { IfErr result (λ cause. IsCause (Some (conf_at_path self.old.confs path.now)) cause) }
         ensures planned { FailsAsPlanned self.old.plan self.new.plan (is_failed result) }
         ensures rest { self.new ≡ record self.old { plan = self.new.plan } }
     {
@@ -215,7 +215,7 @@ impl MemFiles {
 
 impl FileSet for MemFiles {
     ghost use Rattle.std.specs.Prelude.{Some};
-    ghost use Rattle.nsc_outside.specs.ConfFile.{conf_of};
+    ghost use Rattle.nsc_outside.specs.ConfFile.{conf_at_path};
     ghost use Rattle.nsc_outside.specs.Tally.{count_of};
     ghost use Rattle.nsc_outside.specs.FileSets.{latest_of};
 
@@ -229,7 +229,7 @@ impl FileSet for MemFiles {
 
     ghost held = { λ s. Some s.files };
 
-    ghost conf_held = { λ s path. Some (conf_of s.confs path) };
+    ghost conf_held = { λ s path. Some (conf_at_path s.confs path) };
 
     /// Changes nothing.
     fn under(&mut self, _alloc: Global, _dir: &str) -> Result<(), NoMemory>
@@ -299,9 +299,9 @@ impl FileSet for MemFiles {
 
     /// Gives a copy of the configuration file. Its number is the next one, and it fails exactly where that is to fail.
     fn read_conf(&mut self, alloc: Global, path: &str) -> Result<Option<Bytes>, ReadCause>
-        ensures answer { IfOk result (λ f. f ≡ conf_of self.old.confs path.now) }
+        ensures answer { IfOk result (λ f. f ≡ conf_at_path self.old.confs path.now) }
         ensures fits { IfOk result (λ f. FileFits f) }
-        ensures cause { IfErr result (λ cause. IsCause (Some (conf_of self.old.confs path.now)) cause) }
+        ensures cause { IfErr result (λ cause. IsCause (Some (conf_at_path self.old.confs path.now)) cause) }
         ensures planned { FailsAsPlanned self.old.plan self.new.plan (is_failed result) }
 
         ensures calm { OnOk result (self.new.counts ≡ self.old.counts) }

@@ -16,8 +16,8 @@ use Rattle.nsc_model.specs.Kinds.{type_number, is_request}
 use Rattle.nsc_model.specs.Content.{Content}
 use Rattle.nsc_model.specs.Machine.{Kept, last_count, entry_words, used_now, is_due, is_dropped, due_of, others_of, reloaded_of}
 use Rattle.nsc_model.proofs.Contents.{both_true, same_bytes}
-use Rattle.nsc_plain.specs.Answered.{Answered, anew}
-use Rattle.nsc_plain.specs.Table.{entries_for, answered_for, AreApart, StayApart, IsKept}
+use Rattle.nsc_plain.specs.Insertion.{Insertion, anew}
+use Rattle.nsc_plain.specs.Table.{entries_for, insertions_for, AreApart, StayApart, IsKept}
 
 -- ---- tests of requests
 
@@ -156,18 +156,18 @@ insert_keeps entries k used inserted kept some none =
     let counted = kept.counted in
     record { words = omega arith; counted = omega arith; apart = apart_more entries k kept.apart none }
 
-abbrev is_of : Request → Answered → Bool
+abbrev is_of : Request → Insertion → Bool
 is_of request a = is_request request a.request
 
 -- the first of those that are to be inserted has no live entry
-pub first_is_new : (entries : List Kept) (one : Answered) (rest : List Answered) → StayApart entries (one ∷ rest) → find (asks one.request) entries ≡ None
+pub first_is_new : (entries : List Kept) (one : Insertion) (rest : List Insertion) → StayApart entries (one ∷ rest) → find (asks one.request) entries ≡ None
 first_is_new entries one rest apart =
     let all = counted (is_of one.request) one rest in
     let first : tally (is_of one.request one) ≡ 1 = ap tally (request_same one.request) in
     let few = apart one.request in
     counted_none (asks one.request) entries (omega (arith, first, all, few))
 
-pub others_stay_apart : (before after : List Kept) (one : Answered) (rest : List Answered) → StayApart before (one ∷ rest) → ((request : Request) → entries_for request after ≤ entries_for request before + answered_for request (one ∷ []))
+pub others_stay_apart : (before after : List Kept) (one : Insertion) (rest : List Insertion) → StayApart before (one ∷ rest) → ((request : Request) → entries_for request after ≤ entries_for request before + insertions_for request (one ∷ []))
     → StayApart after rest
 others_stay_apart before after one rest apart adds = λ request.
     let all = counted (is_of request) one rest in
@@ -187,7 +187,7 @@ apart_others now entries apart = λ request. let both = both_counts request now 
 pub apart_due : (now : ℕ) (entries : List Kept) → AreApart entries → (request : Request) → entries_for request (others_of now entries) + entries_for request (due_of now entries) ≤ 1
 apart_due now entries apart request = let both = both_counts request now entries in let few = apart request in omega arith
 
-answered_again : (request : Request) (files : Content) (entries : List Kept) → answered_for request (map (anew files) entries) ≡ entries_for request entries
+answered_again : (request : Request) (files : Content) (entries : List Kept) → insertions_for request (map (anew files) entries) ≡ entries_for request entries
 answered_again request files [] = refl
 answered_again request files (k ∷ ks) =
     counted (is_of request) (anew files k) (map (anew files) ks) ∙ (ap (λ n. cond (asks request k) 1 0 + n) (answered_again request files ks) ∙ sym (counted (asks request) k ks))

@@ -6,7 +6,7 @@ use Rattle.std.proofs.lemmas.List.Sums.{length-filter, count_by-le-length}
 use Rattle.std.proofs.lemmas.List.Filters.{sum_by-filter_both, length-filter_both}
 use Rattle.nsc_model.specs.Content.{Content}
 use Rattle.nsc_model.specs.Machine.{Kept, entry_words, all_words, is_due, is_dropped, due_of, others_of, reloaded_of}
-use Rattle.nsc_plain.specs.Answered.{anew}
+use Rattle.nsc_plain.specs.Insertion.{anew}
 
 -- a list that is not empty
 pub some_first : {X : Type 0} (xs : List X) → (length xs == 0) ≡ false → (x : X) × (rest : List X) × (xs ≡ x ∷ rest)

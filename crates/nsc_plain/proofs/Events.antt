@@ -10,11 +10,11 @@ use Rattle.nsc_model.specs.Kinds.{is_request}
 use Rattle.nsc_model.specs.Content.{Content}
 use Rattle.nsc_model.specs.declared.conf.DbConf.{DbConf}
 use Rattle.nsc_model.specs.Answers.{answer_of}
-use Rattle.nsc_model.specs.Machine.{Kept, Cache, Passed, Stopped, Turn, Refusal, TooLarge, Discarded, Present, Spent as Uncounted, Full, last_count, after_adds, ◌>>=◌, own_refusal, room_of, tried, tried_by, new_entry, polled, cached, kept_answer, loaded, hit_or_load, lookup, compacted, compacted_after, emptied, invalidated, ends_of, due_cause, stopped, unchanged, is_due, due_of, others_of, reloaded_of, reloaded, next_reloads, pruned, checked, tick}
+use Rattle.nsc_model.specs.Machine.{Kept, Cache, Passed, Stopped, Turn, Refusal, TooLarge, Discarded, Present, Spent as Uncounted, Full, last_count, after_adds, ◌>>=◌, own_refusal, room_of, tried, tried_by, new_entry, polled, cached, kept_answer, loaded, hit_or_load, lookup, compacted, compacted_after, emptied, invalidated, ends_of, due_cause, stopped, unchanged, is_due, due_of, others_of, reloaded_of, reloaded, next_reloads, pruned, checked, tick, ticked_after}
 use Rattle.nsc_model.specs.Events.{TurnsTo, PassesTo, StopsAt}
 use Rattle.nsc_model.specs.Faults.{StopsBy, FaultsBy, GivesUpBy}
 use Rattle.nsc_plain.specs.PlainCache.{HitsBy}
-use Rattle.nsc_plain.specs.Answered.{anew}
+use Rattle.nsc_plain.specs.Insertion.{anew}
 use Rattle.nsc_plain.specs.Table.{put, put_all}
 use Rattle.nsc_plain.proofs.Ends.{none_left}
 
@@ -219,3 +219,8 @@ pub tick_faults : (settings : DbConf) (reloads : Option ℕ) (now : ℕ) (files 
 tick_faults settings reloads now files ticked before mid after NoMemory on h k = inr (subst (λ (c : Cache). PassesTo (polled files before) c) (sym k) h)
 tick_faults settings reloads now files ticked before mid after (Spent n) on h k =
     subst (λ (r : Result Passed Stopped). StopsAt r after n) (sym (tick_runs settings reloads now files ticked before on)) (stops_then (polled files before) (checked settings reloads now ticked) mid after n h k)
+
+-- what a tick keeps goes by the cache after its poll
+pub kept_after : (settings : DbConf) (ticked : ℕ) (r : Result Passed Stopped) (mid : Cache) → PassesTo r mid → ticked_after settings ticked (Ok (unchanged mid)) ≡ ticked_after settings ticked r
+kept_after settings ticked (Ok poll) mid h = ap (λ (c : Cache). ticked_after settings ticked (Ok (unchanged c))) (sym h)
+kept_after settings ticked (Err stop) mid h = absurd h

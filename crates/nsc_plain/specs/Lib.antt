@@ -1,4 +1,4 @@
-pub mod Answered
+pub mod Insertion
 pub mod Prepared
 pub mod Table
 pub mod PlainCache

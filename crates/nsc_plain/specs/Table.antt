@@ -4,7 +4,7 @@ use Rattle.nsc_model.specs.declared.answer.Request.{Request}
 use Rattle.nsc_model.specs.Kinds.{is_request}
 use Rattle.nsc_model.specs.declared.conf.DbConf.{DbConf}
 use Rattle.nsc_model.specs.Machine.{Kept, Cache, all_words, last_count, made_entry, own_refusal, room_of, tried_by}
-use Rattle.nsc_plain.specs.Answered.{Answered}
+use Rattle.nsc_plain.specs.Insertion.{Insertion}
 
 -- the live entries, the counts that their insertions and ends change, and for how many entries there is memory
 pub record Table : Type 0 where
@@ -23,16 +23,16 @@ over cache table = record cache { entries = table.entries; used = table.used; in
 abbrev pub entries_for : Request → List Kept → ℕ
 entries_for request entries = count_by (λ k. is_request request k.entry.request) entries
 
-abbrev pub answered_for : Request → List Answered → ℕ
-answered_for request all = count_by (λ a. is_request request a.request) all
+abbrev pub insertions_for : Request → List Insertion → ℕ
+insertions_for request all = count_by (λ a. is_request request a.request) all
 
 -- the entries have different requests
 abbrev pub AreApart : List Kept → Type 0
 AreApart entries = (request : Request) → entries_for request entries ≤ 1
 
 -- and so have they with those that are to be inserted
-abbrev pub StayApart : List Kept → List Answered → Type 0
-StayApart entries all = (request : Request) → entries_for request entries + answered_for request all ≤ 1
+abbrev pub StayApart : List Kept → List Insertion → Type 0
+StayApart entries all = (request : Request) → entries_for request entries + insertions_for request all ≤ 1
 
 -- what a table keeps: the words of its entries are used, its count of insertions has an end, and no request has two entries
 pub record IsKept (entries : List Kept) (used inserted : ℕ) : Type 0 where
@@ -41,15 +41,15 @@ pub record IsKept (entries : List Kept) (used inserted : ℕ) : Type 0 where
   pub apart : AreApart entries
 
 -- the entry of an answered request in this cache, over this version
-abbrev pub answered_entry : DbConf → ℕ → ℕ → Answered → Cache → Kept
-answered_entry settings now version answered cache =
+abbrev pub inserted_entry : DbConf → ℕ → ℕ → Insertion → Cache → Kept
+inserted_entry settings now version answered cache =
     record { entry = made_entry settings now cache.inserted version answered.request answered.answer; reloads = answered.reloads }
 
 -- the cache once its insertion was tried
-abbrev pub put : DbConf → ℕ → ℕ → Answered → Cache → Cache
-put settings now version answered cache = let k = answered_entry settings now version answered cache in (tried_by (own_refusal (room_of settings) k.entry cache) k cache).cache
+abbrev pub put : DbConf → ℕ → ℕ → Insertion → Cache → Cache
+put settings now version answered cache = let k = inserted_entry settings now version answered cache in (tried_by (own_refusal (room_of settings) k.entry cache) k cache).cache
 
 -- the cache once all were tried, one after the other
-abbrev pub put_all : DbConf → ℕ → ℕ → List Answered → Cache → Cache
+abbrev pub put_all : DbConf → ℕ → ℕ → List Insertion → Cache → Cache
 put_all settings now version [] cache = cache
 put_all settings now version (answered ∷ others) cache = put_all settings now version others (put settings now version answered cache)

@@ -1,16 +1,16 @@
-ghost use Rattle.std.specs.Prelude.{◌≡◌, ◌≤◌, ◌<◌, ◌^◌, None, length, IfOk, IfErr, IfSome, OnOk, OnErr};
+ghost use Rattle.std.specs.Prelude.{◌≡◌, ◌≤◌, ◌<◌, ◌^◌, None, Ok, length, IfOk, IfErr, IfSome, OnOk, OnErr};
 ghost use Rattle.std.specs.Bool.{OnTrue};
 ghost use Rattle.std.specs.Arc.{arc_value};
 ghost use Rattle.nsc_model.specs.Files.{no_files};
 ghost use Rattle.nsc_model.specs.Entry.{key_limit};
 ghost use Rattle.nsc_model.specs.Answer.{reply_limit};
 ghost use Rattle.nsc_model.specs.Answers.{answer_of};
-ghost use Rattle.nsc_model.specs.Machine.{new_cache, cached, polled, kept_answer, lookup, pruned, is_outdated, checked, tick, ticked_by, invalidated};
+ghost use Rattle.nsc_model.specs.Machine.{new_cache, cached, polled, kept_answer, lookup, pruned, is_outdated, checked, tick, ticked_after, ticked_by, invalidated, unchanged};
 ghost use Rattle.nsc_model.specs.Events.{TurnsTo, PassesTo};
 ghost use Rattle.nsc_model.specs.Faults.{FaultsBy, StopsBy, GivesUpBy};
-ghost use Rattle.nsc_plain.specs.PlainCache.{HitsBy};
+ghost use Rattle.nsc_plain.specs.PlainCache.{HitsBy, ticked_at};
 
-use crate::answered::{Answered, answer_due};
+use crate::insertion::{Insertion, answer_due};
 use crate::kept::LAST_COUNT;
 use crate::prepared::Prepared;
 use crate::table::Table;
@@ -228,7 +228,7 @@ impl PlainCache {
         }
         let key = Bytes::copy(alloc, key)?;
         self.table.reserve(1)?;
-        let fresh = Answered::new(Request { kind, key }, answer, 0);
+        let fresh = Insertion::new(Request { kind, key }, answer, 0);
         self.table.insert(&conf, now, self.newest_version, fresh);
         Ok(())
     }
@@ -250,7 +250,7 @@ impl PlainCache {
         ensures settings { self.new.settings ≡ self.old.settings }
         ensures limit { self.new.reloads ≡ self.old.reloads }
         ensures ticked { OnOk result (self.new.ticked ≡ ticked_by self.old.settings self.old.ticked self.new.cache) }
-        ensures ticked_stays { OnErr result (self.new.ticked ≡ self.old.ticked) }
+        ensures kept { IfErr result (λ fault. self.new.ticked ≡ ticked_at fault self.old.ticked (ticked_after self.old.settings self.old.ticked (polled (arc_value content.now) self.old.cache))) }
         ensures turn { OnOk result (PassesTo (tick self.old.settings self.old.reloads now (arc_value content.now) self.old.ticked self.old.cache) self.new.cache) }
         ensures fault { IfErr result (FaultsBy (tick self.old.settings self.old.reloads now (arc_value content.now) self.old.ticked self.old.cache) (arc_value content.now) self.old.cache self.new.cache) }
     {
@@ -271,7 +271,7 @@ impl PlainCache {
         ensures settings { self.new.settings ≡ self.old.settings }
         ensures limit { self.new.reloads ≡ self.old.reloads }
         ensures ticked { OnOk result (self.new.ticked ≡ ticked_by self.old.settings self.old.ticked self.new.cache) }
-        ensures ticked_stays { OnErr result (self.new.ticked ≡ self.old.ticked) }
+        ensures kept { IfErr result (λ fault. self.new.ticked ≡ ticked_at fault self.old.ticked (ticked_after self.old.settings self.old.ticked (polled files.old.files self.old.cache))) }
         ensures files { files.new.files ≡ files.old.files }
         ensures polled { OnTrue files.new.is_polled (self.new.cache.sources ≡ files.new.files) }
         ensures turn { OnOk result (PassesTo (tick self.old.settings self.old.reloads now files.old.files self.old.ticked self.old.cache) self.new.cache) }
@@ -281,9 +281,18 @@ impl PlainCache {
             return Ok(());
         }
         self.poll(files)?;
-        self.check(alloc, files, answers, now)?;
-        self.ticked = self.newest_version;
-        Ok(())
+        let kept = self.ticked_after();
+        match self.check(alloc, files, answers, now) {
+            Ok(()) => {
+                self.ticked = self.newest_version;
+                Ok(())
+            }
+            Err(CacheFault::NoMemory) => Err(CacheFault::NoMemory),
+            Err(CacheFault::Spent { count }) => {
+                self.ticked = kept;
+                Err(CacheFault::Spent { count })
+            }
+        }
     }
 
     // After the poll of a tick: an invalidation where the files changed since the last one, and else a pruning.
@@ -315,6 +324,17 @@ impl PlainCache {
         ensures { result ≡ is_outdated self.now.settings self.now.cache.newest_version self.now.ticked }
     {
         self.conf.check_files && self.newest_version != self.ticked
+    }
+
+    // The version that a tick keeps which stops from here on: its pruning comes once the newest version is kept.
+    fn ticked_after(&self) -> u64
+        ensures { result ≡ ticked_after self.now.settings self.now.ticked (Ok (unchanged self.now.cache)) }
+    {
+        if self.is_outdated() {
+            self.ticked
+        } else {
+            self.newest_version
+        }
     }
 
     // The entries whose time is over end, and those of them that are not dropped are loaded anew. All memory is taken

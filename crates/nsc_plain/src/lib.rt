@@ -1,7 +1,7 @@
 //! A cache of one database as a list of entries: the machine of the model, call by call.
 #![tactic(auto)]
 
-mod answered;
+mod insertion;
 mod cache;
 mod entries;
 mod kept;

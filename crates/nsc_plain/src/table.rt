@@ -6,9 +6,9 @@ ghost use Rattle.nsc_model.specs.Machine.{Cache, due_of, others_of, compacted, c
 ghost use Rattle.nsc_model.specs.Events.{PassesTo};
 ghost use Rattle.nsc_model.specs.Faults.{StopsBy};
 ghost use Rattle.nsc_plain.specs.PlainCache.{HitsBy};
-ghost use Rattle.nsc_plain.specs.Table.{StayApart, answered_for, entries_for, over, put, put_all};
+ghost use Rattle.nsc_plain.specs.Table.{StayApart, insertions_for, entries_for, over, put, put_all};
 
-use crate::answered::Answered;
+use crate::insertion::Insertion;
 use crate::entries::{drop_due, find_entry, words_of};
 use crate::kept::{Kept, LAST_COUNT};
 use nsc_base::{Bytes, NoMemory};
@@ -87,14 +87,14 @@ impl Table {
     }
 
     /// An insertion is tried, with memory that was taken before.
-    pub fn insert(&mut self, conf: &DbConf, now: u64, version: u64, fresh: Answered)
+    pub fn insert(&mut self, conf: &DbConf, now: u64, version: u64, fresh: Insertion)
         requires moment { now < 2 ^ 62 }
         requires memory { length self.old.entries < self.old.capacity }
         requires new { find (λ k. is_request fresh.request k.entry.request) self.old.entries ≡ None }
         ensures inserted { (cache : Cache) → put conf.now now version fresh (over cache self.old) ≡ over cache self.new }
         ensures capacity { self.old.capacity ≤ self.new.capacity }
         ensures length { length self.new.entries ≤ length self.old.entries + 1 }
-        ensures requests { (request : Request) → entries_for request self.new.entries ≤ entries_for request self.old.entries + answered_for request (fresh ∷ []) }
+        ensures requests { (request : Request) → entries_for request self.new.entries ≤ entries_for request self.old.entries + insertions_for request (fresh ∷ []) }
     {
         if fresh.reply_len() > KEPT_LIMIT || self.inserted == LAST_COUNT {
             return;
@@ -114,7 +114,7 @@ impl Table {
     }
 
     /// Insertions are tried, one after the other, with memory that was taken before.
-    pub fn insert_all(&mut self, conf: &DbConf, now: u64, version: u64, fresh: Vec<Answered>)
+    pub fn insert_all(&mut self, conf: &DbConf, now: u64, version: u64, fresh: Vec<Insertion>)
         requires moment { now < 2 ^ 62 }
         requires memory { length self.old.entries + length fresh.items ≤ self.old.capacity }
         requires apart { StayApart self.old.entries fresh.items }

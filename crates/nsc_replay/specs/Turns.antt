@@ -14,9 +14,9 @@ written None = []
 written (Some reply) = framed reply
 
 -- the machine goes on in this state, and this reply is to be written
-abbrev pub TurnsTo : Result Went Finish → State → Option (List ℕ) → Type 0
-TurnsTo (Ok went) state reply = (went.state ≡ state) × (went.writes ≡ written reply)
-TurnsTo (Err finish) state reply = ⊥
+abbrev pub GoesTo : Result Went Finish → State → Option (List ℕ) → Type 0
+GoesTo (Ok went) state reply = (went.state ≡ state) × (went.writes ≡ written reply)
+GoesTo (Err finish) state reply = ⊥
 
 -- the machine ends so; nothing is claimed where memory was wanting
 abbrev pub TurnFaults : Result Went Finish → CacheFault → Type 0

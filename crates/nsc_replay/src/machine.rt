@@ -6,7 +6,7 @@ ghost use Rattle.nsc_model.specs.Wire.{request_of};
 ghost use Rattle.nsc_model.specs.Replay.{request_frame, invalidate_frame, first_state, look_frame, time_frame, turn_of};
 ghost use Rattle.nsc_model.specs.Sizes.{SizesFit};
 ghost use Rattle.nsc_replay.specs.Frame.{FrameFits, said};
-ghost use Rattle.nsc_replay.specs.Turns.{TurnsTo, TurnFaults};
+ghost use Rattle.nsc_replay.specs.Turns.{GoesTo, TurnFaults};
 
 use crate::cached::Cached;
 use crate::frame::Frame;
@@ -72,7 +72,7 @@ impl<A: Answerer> Machine<A> {
         requires { FrameFits frame }
         ensures settings { self.new.settings ≡ self.old.settings }
         ensures bound { IfOk result (λ reply. IfSome reply (λ bytes. length bytes ≤ reply_limit)) }
-        ensures turn { IfOk result (λ reply. TurnsTo (turn_of self.old.settings self.old.state (said frame.entry)) self.new.state reply) }
+        ensures turn { IfOk result (λ reply. GoesTo (turn_of self.old.settings self.old.state (said frame.entry)) self.new.state reply) }
         ensures fault { IfErr result (TurnFaults (turn_of self.old.settings self.old.state (said frame.entry))) }
     {
         match frame {
@@ -97,7 +97,7 @@ impl<A: Answerer> Machine<A> {
     fn request(&mut self, alloc: Global, answers: &A, input: &[u8]) -> Result<Bytes, CacheFault>
         ensures settings { self.new.settings ≡ self.old.settings }
         ensures bound { IfOk result (λ reply. length reply ≤ reply_limit) }
-        ensures turn { IfOk result (λ reply. TurnsTo (request_frame self.old.settings self.old.state (request_of input.now)) self.new.state (Some reply)) }
+        ensures turn { IfOk result (λ reply. GoesTo (request_frame self.old.settings self.old.state (request_of input.now)) self.new.state (Some reply)) }
         ensures fault { IfErr result (TurnFaults (request_frame self.old.settings self.old.state (request_of input.now))) }
     {
         match read_request(input) {
@@ -130,7 +130,7 @@ impl<A: Answerer> Machine<A> {
         requires { length key.now ≤ key_limit }
         ensures settings { self.new.settings ≡ self.old.settings }
         ensures bound { IfOk result (λ reply. length reply ≤ reply_limit) }
-        ensures turn { IfOk result (λ reply. TurnsTo (look_frame self.old.settings self.old.state (record { kind = kind; key = key.now })) self.new.state (Some reply)) }
+        ensures turn { IfOk result (λ reply. GoesTo (look_frame self.old.settings self.old.state (record { kind = kind; key = key.now })) self.new.state (Some reply)) }
         ensures fault { IfErr result (TurnFaults (look_frame self.old.settings self.old.state (record { kind = kind; key = key.now }))) }
     {
         self.databases
@@ -165,7 +165,7 @@ impl<A: Answerer> Machine<A> {
     // The moment becomes this one, unless it is later already, and every database is ticked.
     fn advance(&mut self, alloc: Global, answers: &A, moment: u64) -> Result<(), CacheFault>
         ensures settings { self.new.settings ≡ self.old.settings }
-        ensures turn { OnOk result (TurnsTo (time_frame self.old.settings self.old.state moment) self.new.state None) }
+        ensures turn { OnOk result (GoesTo (time_frame self.old.settings self.old.state moment) self.new.state None) }
         ensures fault { IfErr result (TurnFaults (time_frame self.old.settings self.old.state moment)) }
     {
         self.moment = max(self.moment, min(moment, LAST_MOMENT));
@@ -178,7 +178,7 @@ impl<A: Answerer> Machine<A> {
     // A database is invalidated.
     fn invalidate(&mut self, db: Db) -> Result<(), CacheFault>
         ensures settings { self.new.settings ≡ self.old.settings }
-        ensures turn { OnOk result (TurnsTo (invalidate_frame self.old.state db) self.new.state None) }
+        ensures turn { OnOk result (GoesTo (invalidate_frame self.old.state db) self.new.state None) }
         ensures fault { IfErr result (TurnFaults (invalidate_frame self.old.state db)) }
     {
         self.databases.of_mut(db).invalidate()

@@ -80,20 +80,20 @@ settings_by None = Ok default_settings
 settings_by (Some text) = conf_of text
 
 -- a configuration was read, the one that is told where one is told, and this is what it gives
-pub record Gives (told : Option (Option (List ℕ))) (outcome : Result Conf ConfFault) : Type 0 where
+pub record ConfGives (told : Option (Option (List ℕ))) (outcome : Result Conf ConfFault) : Type 0 where
   pub config : Option (List ℕ)
   pub as_told : IsAsTold told config
   pub gives : settings_by config ≡ outcome
 
 -- Settings that were read, and the set's count of faults, which stays.
 pub record IsSet (told : Option (Option (List ℕ))) (before after : ℕ) (settings : Conf) : Type 0 where
-  pub of_config : Gives told (Ok settings)
+  pub of_config : ConfGives told (Ok settings)
   pub sizes : SizesFit settings
   pub calm : after ≡ before
 
 -- why no settings were read, by the exit, with the set's count of faults
 abbrev pub NotSet : Option (Option (List ℕ)) → ℕ → ℕ → Exit → Type 0
-NotSet told before after (exits.BadConf fault) = Gives told (Err fault) × (after ≡ before)
+NotSet told before after (exits.BadConf fault) = ConfGives told (Err fault) × (after ≡ before)
 NotSet told before after exits.SourceFault = Rose before after
 NotSet told before after (exits.TooLong size) = IsPastLimit told size × Rose before after
 NotSet told before after exits.NoMemory = after ≡ before
@@ -173,7 +173,7 @@ pub record IsLongConf (told : Option (Option (List ℕ))) (faults_before faults_
 -- the replay of what the source had is done, with settings that were read
 pub record IsReplayedBy (told : Option (Option (List ℕ))) (streams : Streams) : Type 0 where
   pub settings : Conf
-  pub of_config : Gives told (Ok settings)
+  pub of_config : ConfGives told (Ok settings)
   pub replayed : IfSome streams.before.left (λ bytes. IsReplayed settings bytes streams)
 
 -- the exit tells how the replay of the source ends with these settings, or why a line is refused

@@ -4,7 +4,7 @@ ghost use Rattle.nsc_model.specs.Replay.{replay};
 ghost use Rattle.nsc_model.specs.Sizes.{SizesFit};
 ghost use Rattle.nsc_daemonconf.specs.declared.lines.ConfFault.{ConfFault};
 ghost use Rattle.nsc_replay.specs.Streams.{streams};
-ghost use Rattle.nsc_run.specs.Commands.{ComesBefore, Counted, Course, Gives, IsLongConf, IsReplayed, IsReplayedBy, NoFault, Ran, Replays, TellsAll, TellsEnd, TellsFault, Untouched, config_told, is_replay, named_config, settings_by, texts};
+ghost use Rattle.nsc_run.specs.Commands.{ComesBefore, Counted, Course, ConfGives, IsLongConf, IsReplayed, IsReplayedBy, NoFault, Ran, Replays, TellsAll, TellsEnd, TellsFault, Untouched, config_told, is_replay, named_config, settings_by, texts};
 
 use crate::config::conf_at;
 use crate::exit::Exit;
@@ -65,7 +65,7 @@ pub fn run<RT: AllocGlobal, R: Source, K: Sink, F: FileSet>(
     ensures untouched { ComesBefore result → Untouched (streams R.Source K.Sink input.old input.new output.old output.new) }
 
     // A line is told only where a configuration that is read is refused for it, and where one is told that is, so it is.
-    ensures bad_conf { (fault : ConfFault) → result ≡ Exit.BadConf fault → Gives (named_config (F.conf_held files.old) (texts words.now)) (Err fault) }
+    ensures bad_conf { (fault : ConfFault) → result ≡ Exit.BadConf fault → ConfGives (named_config (F.conf_held files.old) (texts words.now)) (Err fault) }
     ensures refused_conf { is_replay (texts words.now) ≡ true → (Rose (F.faults files.old) (F.faults files.new) → ⊥) →
         IfSome (named_config (F.conf_held files.old) (texts words.now)) (λ config. IfErr (settings_by config) (λ fault. TellsFault fault result)) }
 

@@ -1,4 +1,4 @@
-use Rattle.std.proofs.Common.{◌≡◌, [], ◌∷◌, ap, ◌∙◌}
+use Rattle.std.proofs.Common.{◌≡◌, [], ◌∷◌, ◌∙◌}
 use Rattle.nsc_base.specs.Text.{words_of}
 use Rattle.nsc_daemonconf.proofs.Effects.{daemon_told}
 use Rattle.nsc_daemonconf.proofs.lines.with_daemon_line.Goals as goal

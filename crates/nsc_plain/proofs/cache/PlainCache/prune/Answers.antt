@@ -3,7 +3,7 @@ use Rattle.std.specs.Arc.{arc_value}
 use Rattle.std.proofs.lemmas.Result.{err_from_is_err_and}
 use Rattle.nsc_model.specs.Machine.{due_of, reloaded_of, reloaded}
 use Rattle.nsc_plain.specs.PlainCache.{PlainCache}
-use Rattle.nsc_plain.specs.Answered.{Answered}
+use Rattle.nsc_plain.specs.Insertion.{Insertion}
 use Rattle.nsc_plain.specs.Table.{over, put_all}
 use Rattle.nsc_plain.proofs.Events.{bare, put_is_reloaded, prunes, prunes_nothing, prune_faults}
 use Rattle.nsc_plain.proofs.Apart.{reloads_stay_apart}
@@ -45,7 +45,7 @@ returns-clause-turn g c =
     let some = rw (c.in-Some.is, c.entries-entries.ensures) at c.in_ok-due.ensures.due in
     let sources : c.args.files.now.files ≡ arc_value c.self.inside.content = sym c.requires.sources ∙ sym (ap (λ (s : PlainCache). s.cache.sources) c.self.view_is) in
     let anew_of = rw (c.in-Some.is, c.entries-entries.ensures, sources) at c.in_ok-due.ensures.all in
-    let put = subst (λ (all : List Answered). put_all settings c.args.now c.self.inside.newest_version all (over base c.end_due.new.self) ≡ over base c.insert_all.new.self) anew_of (c.insert_all.ensures base) in
+    let put = subst (λ (all : List Insertion). put_all settings c.args.now c.self.inside.newest_version all (over base c.end_due.new.self) ≡ over base c.insert_all.new.self) anew_of (c.insert_all.ensures base) in
     let done : (reloaded settings c.args.now again (over base c.end_due.new.self)).cache ≡ over base c.insert_all.new.self = sym (put_is_reloaded settings c.args.now again (over base c.end_due.new.self)) ∙ put in
     rw (← c.self.view_is)
     (prunes settings c.self.inside.reloads c.args.now (over base c.self.inside.table) (over base c.end_due.new.self) (over base c.insert_all.new.self) some (c.in_ok-end_due.ensures.turn base) done)

@@ -1,8 +1,8 @@
 use Rattle.std.proofs.Common.{◌≡◌, length, take, map}
 use Rattle.std.specs.Prelude.{nat_lt}
 use Rattle.nsc_model.specs.Machine.{due_of, reloaded_of}
-use Rattle.nsc_plain.specs.Answered.{anew}
-use Rattle.nsc_plain.proofs.answered.answer_due.Given as goal
+use Rattle.nsc_plain.specs.Insertion.{anew}
+use Rattle.nsc_plain.proofs.insertion.answer_due.Given as goal
 
 abbrev pub invariant-loop-kept : goal.invariant-loop-kept
 invariant-loop-kept g l = record {

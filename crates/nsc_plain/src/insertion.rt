@@ -2,7 +2,7 @@ ghost use Rattle.std.specs.Prelude.{◌≡◌, ◌≤◌, ◌<◌, ◌+◌, ◌^
 ghost use Rattle.nsc_base.specs.Nodes.{node_words};
 ghost use Rattle.nsc_model.specs.Entry.{key_limit, kept_limit};
 ghost use Rattle.nsc_model.specs.Machine.{life_of, made_entry, due_of, reloaded_of};
-ghost use Rattle.nsc_plain.specs.Answered.{anew};
+ghost use Rattle.nsc_plain.specs.Insertion.{anew};
 
 use crate::kept::Kept;
 use crate::prepared::Prepared;
@@ -15,31 +15,31 @@ use std::marker::Model;
 /// A request with its answer, that is to be inserted with this count of reloads. Its key has at most 1,024
 /// bytes.
 #[derive(Drop)]
-pub struct Answered {
+pub struct Insertion {
     request: Request,
     answer: Answer,
     reloads: u64,
 }
 
-impl Model for Answered {
+impl Model for Insertion {
     ghost use Rattle.std.specs.Prelude.{◌≤◌, length};
     ghost use Rattle.nsc_model.specs.Entry.{key_limit};
-    ghost use Rattle.nsc_plain.specs.Answered.{Answered};
+    ghost use Rattle.nsc_plain.specs.Insertion.{Insertion};
 
-    ghost Value = { Answered };
+    ghost Value = { Insertion };
 
     ghost view = { λ a. record { request = a.request; answer = a.answer; reloads = a.reloads } };
 
     ghost invariant = { λ a. length a.request.key ≤ key_limit };
 }
 
-impl Answered {
+impl Insertion {
     /// The request with its answer, reloaded so often.
-    pub fn new(request: Request, answer: Answer, reloads: u64) -> Answered
+    pub fn new(request: Request, answer: Answer, reloads: u64) -> Insertion
         requires { length request.key ≤ key_limit }
         ensures { result ≡ record { request = request; answer = answer; reloads = reloads } }
     {
-        Answered {
+        Insertion {
             request,
             answer,
             reloads,
@@ -94,7 +94,7 @@ pub fn answer_due<A: Answerer>(
     entries: &[Kept],
     limit: Option<u32>,
     now: u64,
-) -> Result<Option<Vec<Answered>>, NoMemory>
+) -> Result<Option<Vec<Insertion>>, NoMemory>
     ensures stays { files.new ≡ files.old }
     ensures due { IfOk result (λ due. MatchOption due (due_of now entries.now ≡ []) (λ all. 0 < length (due_of now entries.now))) }
     ensures all { IfOk result (λ due. IfSome due (λ all. all.items ≡ map (anew files.old.files) (reloaded_of limit (due_of now entries.now)))) }
@@ -118,7 +118,7 @@ fn answer_again<A: Answerer>(
     files: &mut Prepared<A>,
     answers: &A,
     kept: &Kept,
-) -> Result<Answered, NoMemory>
+) -> Result<Insertion, NoMemory>
     ensures stays { files.new ≡ files.old }
     ensures again { IfOk result (λ again. again ≡ anew files.old.files kept.now) }
 {
@@ -126,5 +126,5 @@ fn answer_again<A: Answerer>(
     let answer = files.answer(alloc, answers, request.kind, request.key.as_slice())?;
     let key = Bytes::copy(alloc, request.key.as_slice())?;
     let kind = request.kind;
-    Ok(Answered::new(Request { kind, key }, answer, kept.next_reloads()))
+    Ok(Insertion::new(Request { kind, key }, answer, kept.next_reloads()))
 }
