@@ -72,6 +72,10 @@ same_address address (Some b) a h =
     let same : a ≡ b = cc in
     ap (λ (x : Addressed). bytes_eq x.address address) same
 
+pub wordless : (names : Host → Bool) (line : List ℕ) → words_of (before_remark line) ≡ [] → if_named names (host_of_line line) ≡ None
+wordless names line none =
+    ap (λ (words : List (List ℕ)). if_named names (if has_zero line then None else host_of_words words)) none ∙ none_spoiled names (has_zero line)
+
 pub unaddressed : (address line first : List ℕ) (others : List (List ℕ)) → words_of (before_remark line) ≡ first ∷ others → option_map_or (λ (a : Addressed). bytes_eq a.address address) (addressed_of first) false ≡ false → if_named (host_addressed address) (host_of_line line) ≡ None
 unaddressed address line first [] is other =
     ap (λ (words : List (List ℕ)). if_named (host_addressed address) (if has_zero line then None else host_of_words words)) is ∙ none_spoiled (host_addressed address) (has_zero line)

@@ -48,7 +48,7 @@ words_lack case needle line lack =
     subst (AllLack case needle) (word_spans-parts line front ∙ ap words_of here) (parts_lack case needle line (word_spans line front) lack)
 
 -- so none of them is the needle
-is_other : (case : Case) (needle piece : List ℕ) → Lacks case needle piece → same_by case piece needle ≡ false
+pub is_other : (case : Case) (needle piece : List ℕ) → Lacks case needle piece → same_by case piece needle ≡ false
 is_other case needle piece lack =
     let size : length piece - 0 ≡ length piece = omega arith in
     let whole : take (length piece - 0) piece ≡ piece = ap (λ n. take n piece) size ∙ take_all (length piece) piece (omega arith) in

@@ -12,12 +12,12 @@ use Rattle.nsc_model.specs.Hosts.{Addressed, addressed_of}
 abbrev pub is_spelled : List ℕ → Option Addressed → Bool
 is_spelled address o = option_map_or (λ (a : Addressed). bytes_eq a.address address) o false
 
-other_bytes : (found address : List ℕ) (n : ℕ) → length found ≡ n → length address ≢ n → bytes_eq found address ≡ false
+pub other_bytes : (found address : List ℕ) (n : ℕ) → length found ≡ n → length address ≢ n → bytes_eq found address ≡ false
 other_bytes found address n size other =
     false_from_ne_true (bytes_eq found address) (λ same. other (sym (ap length ((bytes_eq-Decides found address).0 same)) ∙ size))
 
 -- of the two forms, the first that is spelled
-abbrev spelled_in : Option (List ℕ) → Option (List ℕ) → Option Addressed
+abbrev pub spelled_in : Option (List ℕ) → Option (List ℕ) → Option Addressed
 spelled_in v4 v6 = option_or (option_map (λ a. record { family = 2; address = a }) v4) (option_map (λ a. record { family = 10; address = a }) v6)
 
 other_length : (o : Option (List ℕ)) (address : List ℕ) → IfSome o (λ found. length found ≡ 16) → length address ≢ 16 → is_spelled address (spelled_in None o) ≡ false

@@ -5,6 +5,7 @@ pub mod Called
 pub mod Lacking
 pub mod Unnamed
 pub mod PortDigits
+pub mod DottedTexts
 pub mod Given
 pub mod Firsts
 pub mod Remaining

@@ -1,6 +1,7 @@
-ghost use Rattle.std.specs.Prelude.{◌≡◌, ◌≤◌, ◌||◌, ◌∷◌, ◌++◌, [], decimal, length, not, IfSome};
+ghost use Rattle.std.specs.Prelude.{◌≡◌, ◌+◌, ◌<◌, ◌≤◌, ◌||◌, ◌∷◌, ◌++◌, [], decimal, drop, length, not, IfSome};
 ghost use Rattle.std.specs.Option.{option_map};
 ghost use Rattle.std.specs.Str.{bytes_eq};
+ghost use Rattle.nsc_base.specs.Addresses.{v4_text};
 ghost use Rattle.nsc_base.specs.declared.span.Span.{Span};
 ghost use Rattle.nsc_base.specs.Found.{FirstOf};
 ghost use Rattle.nsc_base.specs.Text.{is_filled, line_spans, part};
@@ -38,7 +39,47 @@ pub fn find_host_by_addr(text: &[u8], address: &[u8]) -> Option<HostAt>
     ensures inside { IfSome result (HostLiesIn (record { from = 0; to = length text.now })) }
     ensures padded { IfSome result (λ at. IsPadded at.family at.address) }
 {
-    first_line(text, |line| addressed_host(text, line, address))
+    first_addressed(text, address)
+}
+
+// The first line with this address. One of IPv4 has one text, and lines that lack it are not read.
+fn first_addressed(text: &[u8], address: &[u8]) -> Option<HostAt>
+    ensures { FirstOf (GivesHost (host_addressed address.now) text.now) (line_spans text.now 0) result }
+{
+    let [a, b, c, d] = address else {
+        return first_line(text, |line| addressed_host(text, line, address));
+    };
+    let mut bytes = [0; 16];
+    let last = dotted_before(*d, &mut bytes, 16);
+    let third = dotted_before(*c, &mut bytes, last);
+    let second = dotted_before(*b, &mut bytes, third);
+    let first = dotted_before(*a, &mut bytes, second);
+    first_host_with(text, &bytes[first + 1..], address)
+}
+
+// The same where the only text of an IPv4 address is written down.
+fn first_host_with(text: &[u8], dotted: &[u8], address: &[u8]) -> Option<HostAt>
+    requires v4 { length address.now ≡ 4 }
+    requires spelled { dotted.now ≡ v4_text address.now }
+    ensures { FirstOf (GivesHost (host_addressed address.now) text.now) (line_spans text.now 0) result }
+{
+    first_line_with(text, dotted, Case::Counts, |line| {
+        addressed_host(text, line, address)
+    })
+}
+
+// Writes a number of an IPv4 address before a place, and a dot before it. Gives the place of the dot.
+fn dotted_before(number: u8, bytes: &mut [u8], end: usize) -> usize
+    requires room { 4 ≤ end }
+    requires inside { end ≤ length bytes.old }
+    ensures written { drop result bytes.new ≡ 46 ∷ decimal number ++ drop end bytes.old }
+    ensures size { length bytes.new ≡ length bytes.old }
+    ensures near { end ≤ result + 4 }
+    ensures before { result < end }
+{
+    let start = write_digits(u64::from(number), bytes, end);
+    bytes[start - 1] = b'.';
+    start - 1
 }
 
 /// The first line of a services file, services(5), that has the form of an entry, this name or alias, and this protocol,
