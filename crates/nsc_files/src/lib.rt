@@ -6,6 +6,5 @@ mod hosts;
 mod lookup;
 mod services;
 mod users;
-mod words;
 
 pub use lookup::{extra_lookup, files_lookup};

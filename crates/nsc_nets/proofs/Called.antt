@@ -1,12 +1,12 @@
 -- Hosts of a name or an address, from the words of their lines.
-use Rattle.std.proofs.Common.{◌≡◌, ℕ, Bool, true, false, ◌&&◌, if◌then◌else◌, List, ◌∷◌, Option, Some, None, refl, sym, ◌∙◌, ap}
+use Rattle.std.proofs.Common.{◌≡◌, ℕ, Bool, true, false, ◌&&◌, if◌then◌else◌, List, [], ◌∷◌, Option, Some, None, refl, sym, ◌∙◌, ap}
 use Rattle.std.specs.List.{list_any}
 use Rattle.std.specs.Option.{option_map, option_map_or}
 use Rattle.std.specs.Str.{bytes_eq}
 use Rattle.nsc_base.specs.Text.{before_remark, words_of}
 use Rattle.nsc_model.specs.declared.row.Host.{Host}
 use Rattle.nsc_model.specs.Entries.{if_named}
-use Rattle.nsc_model.specs.Hosts.{Addressed, addressed_of, host_addressed, host_has_name, host_of_line}
+use Rattle.nsc_model.specs.Hosts.{Addressed, addressed_of, host_addressed, host_has_name, host_of_line, host_of_words}
 use Rattle.nsc_model.specs.Users.{has_zero}
 use Rattle.nsc_base.specs.declared.search.Case.TheVariants.{Ignored}
 use Rattle.nsc_nets.specs.Hosts.{host_of_formed, host_with}
@@ -62,14 +62,25 @@ pub called : (name line : List ℕ) (two : TwoWords) → Some two ≡ two_of (wo
 called name line two is has = line_passes (host_has_name name) line two is (λ a spelled. has)
 
 -- by its address
+none_spoiled : (names : Host → Bool) (spoiled : Bool) → if_named names (if spoiled then None else None) ≡ None
+none_spoiled names true = refl
+none_spoiled names false = refl
+
 same_address : (address : List ℕ) (o : Option Addressed) (a : Addressed) → o ≡ Some a → bytes_eq a.address address ≡ option_map_or (λ (b : Addressed). bytes_eq b.address address) o false
 same_address address None a h = cc
 same_address address (Some b) a h =
     let same : a ≡ b = cc in
     ap (λ (x : Addressed). bytes_eq x.address address) same
 
-pub unaddressed : (address line : List ℕ) (two : TwoWords) → Some two ≡ two_of (words_of (before_remark line)) → option_map_or (λ (a : Addressed). bytes_eq a.address address) (addressed_of two.first) false ≡ false → if_named (host_addressed address) (host_of_line line) ≡ None
-unaddressed address line two is other = line_fails (host_addressed address) line two is (λ a spelled. same_address address (addressed_of two.first) a spelled ∙ other)
+pub wordless : (names : Host → Bool) (line : List ℕ) → words_of (before_remark line) ≡ [] → if_named names (host_of_line line) ≡ None
+wordless names line none =
+    ap (λ (words : List (List ℕ)). if_named names (if has_zero line then None else host_of_words words)) none ∙ none_spoiled names (has_zero line)
+
+pub unaddressed : (address line first : List ℕ) (others : List (List ℕ)) → words_of (before_remark line) ≡ first ∷ others → option_map_or (λ (a : Addressed). bytes_eq a.address address) (addressed_of first) false ≡ false → if_named (host_addressed address) (host_of_line line) ≡ None
+unaddressed address line first [] is other =
+    ap (λ (words : List (List ℕ)). if_named (host_addressed address) (if has_zero line then None else host_of_words words)) is ∙ none_spoiled (host_addressed address) (has_zero line)
+unaddressed address line first (second ∷ others) is other =
+    line_fails (host_addressed address) line (record { first = first; second = second; others = others }) (ap two_of (sym is)) (λ a spelled. same_address address (addressed_of first) a spelled ∙ other)
 
 pub addressed : (address line : List ℕ) (two : TwoWords) → Some two ≡ two_of (words_of (before_remark line)) → option_map_or (λ (a : Addressed). bytes_eq a.address address) (addressed_of two.first) false ≡ true → if_named (host_addressed address) (host_of_line line) ≡ host_of_formed line two
 addressed address line two is same = line_passes (host_addressed address) line two is (λ a spelled. same_address address (addressed_of two.first) a spelled ∙ same)

@@ -5,7 +5,9 @@ use Rattle.std.specs.Option.{option_map, option_or}
 use Rattle.std.proofs.lemmas.Bool.Decides.{Decides-eqb, nat_tests}
 use Rattle.nsc_base.specs.declared.span.Line.{Line}
 use Rattle.nsc_base.specs.Addresses.{v4_of, v6_of}
-use Rattle.nsc_base.specs.Text.{IsLine, before_remark, lines_of, part, words_of}
+use Rattle.nsc_base.specs.declared.search.Case.TheVariants.{Ignored}
+use Rattle.nsc_base.specs.Found.{IsLineWith}
+use Rattle.nsc_base.specs.Text.{before_remark, lines_of, part, words_of}
 use Rattle.nsc_model.specs.declared.row.Host.{Host}
 use Rattle.nsc_model.specs.Answers.{addresses_of, all_addresses}
 use Rattle.nsc_model.specs.Entries.{first_named, first_of, if_named, named_in}
@@ -15,6 +17,7 @@ use Rattle.nsc_nets.specs.declared.hosts.HostAt.{HostAt}
 use Rattle.nsc_nets.specs.Addresses.{found_at, founds_at, of_other_family}
 use Rattle.nsc_nets.specs.Hosts.{host_at}
 use Rattle.nsc_nets.proofs.Remaining.{named_step}
+use Rattle.nsc_nets.proofs.Unnamed.{no_host_called}
 
 -- ---- every host of a file is of one family or of the other
 
@@ -158,12 +161,12 @@ made text first None = refl
 made text first (Some other) = refl
 
 -- the first host of the name, and the first after it of the other family
-pub addresses_are : (name text : List ℕ) (from : ℕ) (line : Line) (first : HostAt) (other : Option HostAt) → IsLine text from line → Some (host_at text first) ≡ if_named (host_has_name name) (host_of_line (part text line.span)) → option_map (host_at text) other ≡ first_named host_of_line (of_other_family first.family name) (drop line.next text) → named_in host_of_line (host_has_name name) (drop from text) ≡ named_in host_of_line (host_has_name name) text → Some (record { list = found_at first ∷ founds_at other; canon = part text first.name }) ≡ addresses_of name text
+pub addresses_are : (name text : List ℕ) (from : ℕ) (line : Line) (first : HostAt) (other : Option HostAt) → IsLineWith Ignored name text from line → Some (host_at text first) ≡ if_named (host_has_name name) (host_of_line (part text line.span)) → option_map (host_at text) other ≡ first_named host_of_line (of_other_family first.family name) (drop line.next text) → named_in host_of_line (host_has_name name) (drop from text) ≡ named_in host_of_line (host_has_name name) text → Some (record { list = found_at first ∷ founds_at other; canon = part text first.name }) ≡ addresses_of name text
 addresses_are name text from line first other is here there left =
     let h = host_at text first in
     let below = drop line.next text in
     let rest = named_in host_of_line (host_has_name name) below in
-    let step : named_in host_of_line (host_has_name name) (drop from text) ≡ h ∷ rest = named_step host_of_line (host_has_name name) text from line (Some h) is here in
+    let step : named_in host_of_line (host_has_name name) (drop from text) ≡ h ∷ rest = named_step Ignored name host_of_line (host_has_name name) text from line (Some h) (no_host_called name) is here in
     let known : AreFamilies (h ∷ rest) = subst AreFamilies step (file_families name (drop from text)) in
     made text first other
     ∙ ap (λ o. all_addresses (h ∷ at_most_one o)) there

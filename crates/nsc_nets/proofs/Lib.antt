@@ -2,5 +2,11 @@ pub mod Ports
 pub mod Formed
 pub mod Lengths
 pub mod Called
+pub mod Lacking
+pub mod Unnamed
+pub mod PortDigits
+pub mod DottedTexts
+pub mod Given
+pub mod Firsts
 pub mod Remaining
 pub mod Families

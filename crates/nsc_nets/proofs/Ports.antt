@@ -1,5 +1,5 @@
 -- The port and the protocol of a word, cut at its first slash.
-use Rattle.std.proofs.Common.{◌≡◌, ◌≢◌, ℕ, ◌+◌, ◌<◌, ◌≤◌, true, false, if◌then◌else◌, List, [], ◌∷◌, length, slice_range, Option, Some, None, refl, sym, ◌∙◌, ap, arith}
+use Rattle.std.proofs.Common.{◌≡◌, ◌≢◌, ℕ, ◌<◌, ◌≤◌, true, false, if◌then◌else◌, List, [], ◌∷◌, length, Option, Some, None, refl, sym, ◌∙◌, ap, arith}
 use Rattle.std.specs.List.{after_first, before_first, list_any}
 use Rattle.nsc_base.specs.declared.span.Span.{Span}
 use Rattle.nsc_base.specs.Text.{IsSplit, is_filled, part}
@@ -20,7 +20,7 @@ without_proto (Some n) proto none = rw none refl
 with_proto : (n : ℕ) (proto : List ℕ) → is_filled proto ≡ true → port_with (Some n) proto ≡ Some (record { port = n; proto = proto })
 with_proto n proto filled = rw filled refl
 
-empty_is : (bytes : List ℕ) → length bytes ≡ 0 → bytes ≡ []
+pub empty_is : (bytes : List ℕ) → length bytes ≡ 0 → bytes ≡ []
 empty_is [] h = refl
 empty_is (b ∷ bytes) h = absurd (omega arith)
 

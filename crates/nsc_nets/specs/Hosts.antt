@@ -1,13 +1,15 @@
 -- The address of a host's entry, and where its names stand in its text.
-use Rattle.std.specs.Prelude.{ℕ, ◌==◌, List, Option, None, if◌then◌else◌, take}
+use Rattle.std.specs.Prelude.{◌≡◌, ℕ, ◌==◌, Bool, List, ◌∷◌, Option, None, IfSome, if◌then◌else◌, drop, replicate, take}
 use Rattle.std.specs.Option.{option_map}
 use Rattle.nsc_base.specs.declared.span.Span.{Span}
-use Rattle.nsc_base.specs.Text.{LiesIn, part, words_of}
+use Rattle.nsc_base.specs.Text.{LiesIn, part, word_spans, words_of}
 use Rattle.nsc_model.specs.declared.row.Host.{Host}
-use Rattle.nsc_model.specs.Hosts.{Addressed, addressed_of, ipv4}
+use Rattle.nsc_model.specs.Entries.{if_named}
+use Rattle.nsc_model.specs.Hosts.{Addressed, addressed_of, host_of_line, ipv4}
 use Rattle.nsc_model.specs.Users.{has_zero}
 use Rattle.nsc_nets.specs.declared.hosts.Address.{Address}
 use Rattle.nsc_nets.specs.declared.hosts.HostAt.{HostAt}
+use Rattle.nsc_nets.specs.Lines.{entry_part}
 use Rattle.nsc_base.specs.Words.{TwoWords}
 
 -- an address of IPv4 is in the first four bytes
@@ -30,6 +32,21 @@ host_at text at = record {
 pub record HostLiesIn (within : Span) (at : HostAt) : Type 0 where
   pub name_in : LiesIn within at.name
   pub aliases_in : LiesIn within at.aliases
+
+-- its names are the words of the line from the second on, in their places
+abbrev pub HostStands : List ℕ → Span → HostAt → Type 0
+HostStands text line at = drop 1 (word_spans text (entry_part text line)) ≡ at.name ∷ word_spans text at.aliases
+
+-- the twelve bytes after an address of IPv4 are 0
+abbrev pub IsPadded : ℕ → List ℕ → Type 0
+IsPadded family bytes = family ≡ ipv4 → drop 4 bytes ≡ replicate 12 0
+
+-- what a line gives to a request that names some hosts: its entry where it is named, in the places where its words stand
+pub record GivesHost (names : Host → Bool) (text : List ℕ) (line : Span) (given : Option HostAt) : Type 0 where
+  pub entry : option_map (host_at text) given ≡ if_named names (host_of_line (part text line))
+  pub inside : IfSome given (HostLiesIn line)
+  pub stands : IfSome given (HostStands text line)
+  pub padded : IfSome given (λ at. IsPadded at.family at.address)
 
 abbrev pub host_with : TwoWords → Addressed → Host
 host_with words a = record { name = words.second; aliases = words.others; family = a.family; address = a.address }

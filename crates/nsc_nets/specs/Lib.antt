@@ -1,3 +1,4 @@
+pub mod Lines
 pub mod Services
 pub mod Hosts
 pub mod Addresses

@@ -1,13 +1,16 @@
 -- Where an entry of a services file stands in its text.
-use Rattle.std.specs.Prelude.{ℕ, List, Option, Some, None, if◌then◌else◌}
+use Rattle.std.specs.Prelude.{◌≡◌, ℕ, ◌+◌, Bool, List, ◌∷◌, length, Option, Some, None, IfSome, if◌then◌else◌}
 use Rattle.std.specs.List.{after_first, before_first}
+use Rattle.std.specs.Option.{option_map}
 use Rattle.nsc_base.specs.declared.span.Span.{Span}
-use Rattle.nsc_base.specs.Text.{LiesIn, is_filled, part, words_of}
+use Rattle.nsc_base.specs.Text.{LiesIn, is_filled, part, word_spans, words_of}
 use Rattle.nsc_model.specs.declared.row.Service.{Service}
-use Rattle.nsc_model.specs.ServiceLines.{is_slash, port_of}
+use Rattle.nsc_model.specs.Entries.{if_named}
+use Rattle.nsc_model.specs.ServiceLines.{is_slash, port_of, service_of_line}
 use Rattle.nsc_model.specs.Users.{◌>>=◌, has_zero}
 use Rattle.nsc_nets.specs.declared.services.PortAt.{PortAt}
 use Rattle.nsc_nets.specs.declared.services.ServiceAt.{ServiceAt}
+use Rattle.nsc_nets.specs.Lines.{entry_part}
 use Rattle.nsc_base.specs.Words.{TwoWords}
 
 -- the entry whose texts stand in these places
@@ -24,6 +27,24 @@ pub record ServiceLiesIn (within : Span) (at : ServiceAt) : Type 0 where
   pub name_in : LiesIn within at.name
   pub proto_in : LiesIn within at.proto
   pub aliases_in : LiesIn within at.aliases
+
+-- a protocol is what stands after the first slash of a word
+pub record ProtoStands (text : List ℕ) (word proto : Span) : Type 0 where
+  pub begins : proto.from ≡ word.from + length (before_first is_slash (part text word)) + 1
+  pub ends : proto.to ≡ word.to
+
+-- its names are the words of the line but the second, in their places, and its protocol stands in the second
+pub record ServiceStands (text : List ℕ) (line : Span) (at : ServiceAt) : Type 0 where
+  pub second : Span
+  pub words : word_spans text (entry_part text line) ≡ at.name ∷ second ∷ word_spans text at.aliases
+  pub proto : ProtoStands text second at.proto
+
+-- what a line gives to a request that names some services: its entry where it is named, in the places where its words
+-- stand
+pub record GivesService (names : Service → Bool) (text : List ℕ) (line : Span) (given : Option ServiceAt) : Type 0 where
+  pub entry : option_map (service_at text) given ≡ if_named names (service_of_line (part text line))
+  pub inside : IfSome given (ServiceLiesIn line)
+  pub stands : IfSome given (ServiceStands text line)
 
 -- a port and a protocol
 pub record Port : Type 0 where

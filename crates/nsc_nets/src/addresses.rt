@@ -9,7 +9,7 @@ ghost use Rattle.nsc_nets.specs.Hosts.{host_at};
 
 use crate::find::called_host;
 use crate::hosts::HostAt;
-use nsc_base::{Bytes, NoMemory, Span, line_at};
+use nsc_base::{Bytes, Case, NoMemory, Span, line_with};
 use nsc_model::{Ai, Found6, Founds};
 use std::alloc::Global;
 
@@ -20,7 +20,7 @@ pub fn ai_of(alloc: Global, text: &[u8], name: &[u8]) -> Result<Option<Ai>, NoMe
     ensures { IfOk result (λ ai. ai ≡ addresses_of name.now text.now) }
 {
     let mut from = 0;
-    while let Some(line) = line_at(text, from) {
+    while let Some(line) = line_with(text, from, name, Case::Ignored) {
         if let Some(first) = called_host(text, line.span, name) {
             let other = other_from(text, line.next, name, first.family);
             return Ok(Some(addresses(alloc, text, first, other)?));
@@ -36,7 +36,7 @@ fn other_from(text: &[u8], start: usize, name: &[u8], family: u8) -> Option<Host
     ensures { option_map (host_at text.now) result ≡ first_named host_of_line (of_other_family family name.now) (drop start text.now) }
 {
     let mut from = start;
-    while let Some(line) = line_at(text, from) {
+    while let Some(line) = line_with(text, from, name, Case::Ignored) {
         if let Some(other) = other_host(text, line.span, name, family) {
             return Some(other);
         }

@@ -1,54 +1,119 @@
-ghost use Rattle.std.specs.Prelude.{◌≡◌, ◌≤◌, ◌||◌, length, not, IfSome};
+ghost use Rattle.std.specs.Prelude.{◌≡◌, ◌+◌, ◌<◌, ◌≤◌, ◌||◌, ◌∷◌, ◌++◌, [], decimal, drop, length, not, IfSome};
 ghost use Rattle.std.specs.Option.{option_map};
 ghost use Rattle.std.specs.Str.{bytes_eq};
+ghost use Rattle.nsc_base.specs.Addresses.{v4_text};
 ghost use Rattle.nsc_base.specs.declared.span.Span.{Span};
-ghost use Rattle.nsc_base.specs.Text.{is_filled, part};
+ghost use Rattle.nsc_base.specs.Found.{FirstOf};
+ghost use Rattle.nsc_base.specs.Text.{is_filled, line_spans, part};
 ghost use Rattle.nsc_model.specs.Entries.{first_named, if_named};
 ghost use Rattle.nsc_model.specs.Hosts.{host_addressed, host_has_name, host_named, host_of_line};
 ghost use Rattle.nsc_model.specs.ServiceLines.{service_named, service_of_line, service_ported};
-ghost use Rattle.nsc_nets.specs.Hosts.{HostLiesIn, host_at};
-ghost use Rattle.nsc_nets.specs.Services.{ServiceLiesIn, service_at};
+ghost use Rattle.nsc_nets.specs.Hosts.{GivesHost, HostLiesIn, HostStands, IsPadded, host_at};
+ghost use Rattle.nsc_nets.specs.Services.{GivesService, ServiceLiesIn, ServiceStands, service_at};
 
 use crate::hosts::{HostAt, formed_host, spells};
 use crate::services::{ServiceAt, formed_service, service_line};
-use crate::words::{has_name, line_words};
-use nsc_base::{Case, Span, equal, first_line};
+use crate::words::{before_line_remark, has_name, line_words, words_after};
+use itoa::write_digits;
+use nsc_base::{Case, Span, equal, first_line, first_line_with, word_at};
 
 /// The first line of a hosts file, hosts(5), that has the form of an entry, this name or alias, and an address of this
 /// family, 2 for IPv4 and 10 for IPv6, as places in the file. The case of ASCII letters in names does not count. `None`
 /// where there is none. Takes no memory.
 pub fn find_host(text: &[u8], name: &[u8], family: u8) -> Option<HostAt>
+    ensures first { FirstOf (GivesHost (host_named family name.now) text.now) (line_spans text.now 0) result }
     ensures entry { option_map (host_at text.now) result ≡ first_named host_of_line (host_named family name.now) text.now }
     ensures inside { IfSome result (HostLiesIn (record { from = 0; to = length text.now })) }
+    ensures padded { IfSome result (λ at. IsPadded at.family at.address) }
 {
-    first_line(text, |line| named_host(text, line, name, family))
+    first_line_with(text, name, Case::Ignored, |line| {
+        named_host(text, line, name, family)
+    })
 }
 
 /// The first line of a hosts file, hosts(5), that has the form of an entry and this address, of four bytes or of sixteen,
 /// as places in the file. `None` where there is none, and for an address of another length. Takes no memory.
 pub fn find_host_by_addr(text: &[u8], address: &[u8]) -> Option<HostAt>
+    ensures first { FirstOf (GivesHost (host_addressed address.now) text.now) (line_spans text.now 0) result }
     ensures entry { option_map (host_at text.now) result ≡ first_named host_of_line (host_addressed address.now) text.now }
     ensures inside { IfSome result (HostLiesIn (record { from = 0; to = length text.now })) }
+    ensures padded { IfSome result (λ at. IsPadded at.family at.address) }
 {
-    first_line(text, |line| addressed_host(text, line, address))
+    first_addressed(text, address)
+}
+
+// The first line with this address. One of IPv4 has one text, and lines that lack it are not read.
+fn first_addressed(text: &[u8], address: &[u8]) -> Option<HostAt>
+    ensures { FirstOf (GivesHost (host_addressed address.now) text.now) (line_spans text.now 0) result }
+{
+    let [a, b, c, d] = address else {
+        return first_line(text, |line| addressed_host(text, line, address));
+    };
+    let mut bytes = [0; 16];
+    let last = dotted_before(*d, &mut bytes, 16);
+    let third = dotted_before(*c, &mut bytes, last);
+    let second = dotted_before(*b, &mut bytes, third);
+    let first = dotted_before(*a, &mut bytes, second);
+    first_host_with(text, &bytes[first + 1..], address)
+}
+
+// The same where the only text of an IPv4 address is written down.
+fn first_host_with(text: &[u8], dotted: &[u8], address: &[u8]) -> Option<HostAt>
+    requires v4 { length address.now ≡ 4 }
+    requires spelled { dotted.now ≡ v4_text address.now }
+    ensures { FirstOf (GivesHost (host_addressed address.now) text.now) (line_spans text.now 0) result }
+{
+    first_line_with(text, dotted, Case::Counts, |line| {
+        addressed_host(text, line, address)
+    })
+}
+
+// Writes a number of an IPv4 address before a place, and a dot before it. Gives the place of the dot.
+fn dotted_before(number: u8, bytes: &mut [u8], end: usize) -> usize
+    requires room { 4 ≤ end }
+    requires inside { end ≤ length bytes.old }
+    ensures written { drop result bytes.new ≡ 46 ∷ decimal number ++ drop end bytes.old }
+    ensures size { length bytes.new ≡ length bytes.old }
+    ensures near { end ≤ result + 4 }
+    ensures before { result < end }
+{
+    let start = write_digits(u64::from(number), bytes, end);
+    bytes[start - 1] = b'.';
+    start - 1
 }
 
 /// The first line of a services file, services(5), that has the form of an entry, this name or alias, and this protocol,
 /// as places in the file. With an empty protocol any will do. `None` where there is none. Takes no memory.
 pub fn find_service(text: &[u8], name: &[u8], proto: &[u8]) -> Option<ServiceAt>
+    ensures first { FirstOf (GivesService (service_named name.now proto.now) text.now) (line_spans text.now 0) result }
     ensures entry { option_map (service_at text.now) result ≡ first_named service_of_line (service_named name.now proto.now) text.now }
     ensures inside { IfSome result (ServiceLiesIn (record { from = 0; to = length text.now })) }
 {
-    first_line(text, |line| named_service(text, line, name, proto))
+    first_line_with(text, name, Case::Counts, |line| {
+        named_service(text, line, name, proto)
+    })
 }
 
 /// The first line of a services file, services(5), that has the form of an entry, this port and this protocol, as places
 /// in the file. With an empty protocol any will do. `None` where there is none. Takes no memory.
 pub fn find_service_by_port(text: &[u8], port: u16, proto: &[u8]) -> Option<ServiceAt>
+    ensures first { FirstOf (GivesService (service_ported port proto.now) text.now) (line_spans text.now 0) result }
     ensures entry { option_map (service_at text.now) result ≡ first_named service_of_line (service_ported port proto.now) text.now }
     ensures inside { IfSome result (ServiceLiesIn (record { from = 0; to = length text.now })) }
 {
-    first_line(text, |line| ported_service(text, line, port, proto))
+    let mut bytes = [b'/'; 6];
+    let start = write_digits(u64::from(port), &mut bytes, 5);
+    first_service_with(text, &bytes[start..], port, proto)
+}
+
+// The same where the digits of the port are written down, with a slash after them. Zeros may stand before them in a line.
+fn first_service_with(text: &[u8], digits: &[u8], port: u16, proto: &[u8]) -> Option<ServiceAt>
+    requires { digits.now ≡ decimal port ++ 47 ∷ [] }
+    ensures { FirstOf (GivesService (service_ported port proto.now) text.now) (line_spans text.now 0) result }
+{
+    first_line_with(text, digits, Case::Counts, |line| {
+        ported_service(text, line, port, proto)
+    })
 }
 
 /// The entry of a line of a hosts file that has the form and this name or alias. A line without the name is given up
@@ -57,6 +122,8 @@ pub fn called_host(text: &[u8], line: Span, name: &[u8]) -> Option<HostAt>
     requires { line.to ≤ length text.now }
     ensures entry { option_map (host_at text.now) result ≡ if_named (host_has_name name.now) (host_of_line (part text.now line)) }
     ensures inside { IfSome result (HostLiesIn line) }
+    ensures stands { IfSome result (HostStands text.now line) }
+    ensures padded { IfSome result (λ at. IsPadded at.family at.address) }
 {
     let words = line_words(text, line)?;
     if !has_name(text, words.second, words.others, name, Case::Ignored) {
@@ -70,6 +137,8 @@ fn named_host(text: &[u8], line: Span, name: &[u8], family: u8) -> Option<HostAt
     requires { line.to ≤ length text.now }
     ensures entry { option_map (host_at text.now) result ≡ if_named (host_named family name.now) (host_of_line (part text.now line)) }
     ensures inside { IfSome result (HostLiesIn line) }
+    ensures stands { IfSome result (HostStands text.now line) }
+    ensures padded { IfSome result (λ at. IsPadded at.family at.address) }
 {
     let host = called_host(text, line, name)?;
     if host.family == family {
@@ -84,12 +153,15 @@ fn addressed_host(text: &[u8], line: Span, address: &[u8]) -> Option<HostAt>
     requires { line.to ≤ length text.now }
     ensures entry { option_map (host_at text.now) result ≡ if_named (host_addressed address.now) (host_of_line (part text.now line)) }
     ensures inside { IfSome result (HostLiesIn line) }
+    ensures stands { IfSome result (HostStands text.now line) }
+    ensures padded { IfSome result (λ at. IsPadded at.family at.address) }
 {
-    let words = line_words(text, line)?;
-    if !spells(words.first.of(text), address) {
+    let entry = before_line_remark(text, line);
+    let first = word_at(text, entry, entry.from())?;
+    if !spells(first.span.of(text), address) {
         return None;
     }
-    formed_host(text, line, words)
+    formed_host(text, line, words_after(text, entry, first)?)
 }
 
 // The entry of a line of a services file that has the form, this name and this protocol. A line without the name is given
@@ -98,6 +170,7 @@ fn named_service(text: &[u8], line: Span, name: &[u8], proto: &[u8]) -> Option<S
     requires { line.to ≤ length text.now }
     ensures entry { option_map (service_at text.now) result ≡ if_named (service_named name.now proto.now) (service_of_line (part text.now line)) }
     ensures inside { IfSome result (ServiceLiesIn line) }
+    ensures stands { IfSome result (ServiceStands text.now line) }
 {
     let words = line_words(text, line)?;
     if !has_name(text, words.first, words.others, name, Case::Counts) {
@@ -116,6 +189,7 @@ fn ported_service(text: &[u8], line: Span, port: u16, proto: &[u8]) -> Option<Se
     requires { line.to ≤ length text.now }
     ensures entry { option_map (service_at text.now) result ≡ if_named (service_ported port proto.now) (service_of_line (part text.now line)) }
     ensures inside { IfSome result (ServiceLiesIn line) }
+    ensures stands { IfSome result (ServiceStands text.now line) }
 {
     let service = service_line(text, line)?;
     if service.port == port && has_proto(text, service.proto, proto) {

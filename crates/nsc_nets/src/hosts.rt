@@ -1,9 +1,10 @@
-ghost use Rattle.std.specs.Prelude.{◌≡◌, ◌≤◌, false, drop, length, replicate, take, IfSome};
+ghost use Rattle.std.specs.Prelude.{◌≡◌, ◌≤◌, ◌∷◌, false, drop, length, replicate, take, IfSome};
 ghost use Rattle.std.specs.Option.{option_map, option_map_or};
 ghost use Rattle.std.specs.Str.{bytes_eq};
-ghost use Rattle.nsc_base.specs.Text.{part};
+ghost use Rattle.nsc_base.specs.Text.{part, word_spans};
 ghost use Rattle.nsc_model.specs.Hosts.{addressed_of, host_of_line};
-ghost use Rattle.nsc_nets.specs.Hosts.{HostLiesIn, addressed_at, host_at, host_of_formed, own_bytes};
+ghost use Rattle.nsc_nets.specs.Hosts.{HostLiesIn, HostStands, IsPadded, addressed_at, host_at, host_of_formed, own_bytes};
+ghost use Rattle.nsc_nets.specs.Lines.{entry_part};
 ghost use Rattle.nsc_base.specs.Words.{WordsLieIn, words_at};
 
 use crate::words::line_words;
@@ -56,6 +57,8 @@ pub fn host_line(text: &[u8], line: Span) -> Option<HostAt>
     requires { line.to ≤ length text.now }
     ensures entry { option_map (host_at text.now) result ≡ host_of_line (part text.now line) }
     ensures inside { IfSome result (HostLiesIn line) }
+    ensures stands { IfSome result (HostStands text.now line) }
+    ensures padded { IfSome result (λ at. IsPadded at.family at.address) }
 {
     formed_host(text, line, line_words(text, line)?)
 }
@@ -64,8 +67,11 @@ pub fn host_line(text: &[u8], line: Span) -> Option<HostAt>
 pub fn formed_host(text: &[u8], line: Span, words: WordsAt) -> Option<HostAt>
     requires inside { line.to ≤ length text.now }
     requires words_in { WordsLieIn line words }
+    requires words_stand { word_spans text.now (entry_part text.now line) ≡ words.first ∷ words.second ∷ word_spans text.now words.others }
     ensures entry { option_map (host_at text.now) result ≡ host_of_formed (part text.now line) (words_at text.now words) }
     ensures inside { IfSome result (HostLiesIn line) }
+    ensures stands { IfSome result (HostStands text.now line) }
+    ensures padded { IfSome result (λ at. IsPadded at.family at.address) }
 {
     if has_zero_byte(line.of(text)) {
         return None;
@@ -80,26 +86,35 @@ pub fn formed_host(text: &[u8], line: Span, words: WordsAt) -> Option<HostAt>
     })
 }
 
-/// Whether a text spells this address, of four bytes or of sixteen. A text is read in the form of IPv6 only where sixteen
-/// are wanted.
+/// Whether a text spells this address, of four bytes or of sixteen. A text is read only in the form of addresses of this
+/// length, and in the other form where it spells the address in this one.
 pub fn spells(text: &[u8], address: &[u8]) -> bool
     ensures { result ≡ option_map_or (λ a. bytes_eq a.address address.now) (addressed_of text.now) false }
 {
-    if let Some(v4) = read_v4(text) {
-        return v4.as_slice() == address;
+    if address.len() == 16 {
+        return spells_v6(text, address);
     }
-    if address.len() != 16 {
-        return false;
+    match read_v4(text) {
+        Some(v4) => v4.as_slice() == address,
+        None => false,
     }
+}
+
+// Whether a text spells this address of sixteen bytes. What spells an address of IPv4 spells no other.
+fn spells_v6(text: &[u8], address: &[u8]) -> bool
+    requires { length address.now ≡ 16 }
+    ensures { result ≡ option_map_or (λ a. bytes_eq a.address address.now) (addressed_of text.now) false }
+{
     match read_v6(text) {
-        Some(v6) => v6.as_slice() == address,
+        Some(v6) => v6.as_slice() == address && read_v4(text).is_none(),
         None => false,
     }
 }
 
 // The address that a text spells.
 fn read_address(text: &[u8]) -> Option<Address>
-    ensures { option_map addressed_at result ≡ addressed_of text.now }
+    ensures address { option_map addressed_at result ≡ addressed_of text.now }
+    ensures padded { IfSome result (λ found. IsPadded found.family found.bytes) }
 {
     if let Some(v4) = read_v4(text) {
         let bytes = widened(v4);

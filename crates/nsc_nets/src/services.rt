@@ -1,8 +1,9 @@
-ghost use Rattle.std.specs.Prelude.{◌≡◌, ◌≤◌, length, IfSome};
+ghost use Rattle.std.specs.Prelude.{◌≡◌, ◌≤◌, ◌∷◌, length, IfSome};
 ghost use Rattle.std.specs.Option.{option_map};
-ghost use Rattle.nsc_base.specs.Text.{LiesIn, part};
+ghost use Rattle.nsc_base.specs.Text.{LiesIn, part, word_spans};
 ghost use Rattle.nsc_model.specs.ServiceLines.{port_of, service_of_line};
-ghost use Rattle.nsc_nets.specs.Services.{ServiceLiesIn, port_at, port_of_word, service_at, service_of_formed, service_of_two};
+ghost use Rattle.nsc_nets.specs.Lines.{entry_part};
+ghost use Rattle.nsc_nets.specs.Services.{ProtoStands, ServiceLiesIn, ServiceStands, port_at, port_of_word, service_at, service_of_formed};
 ghost use Rattle.nsc_base.specs.Words.{WordsLieIn, words_at};
 
 use crate::words::line_words;
@@ -37,6 +38,7 @@ pub fn service_line(text: &[u8], line: Span) -> Option<ServiceAt>
     requires { line.to ≤ length text.now }
     ensures entry { option_map (service_at text.now) result ≡ service_of_line (part text.now line) }
     ensures inside { IfSome result (ServiceLiesIn line) }
+    ensures stands { IfSome result (ServiceStands text.now line) }
 {
     formed_service(text, line, line_words(text, line)?)
 }
@@ -45,8 +47,10 @@ pub fn service_line(text: &[u8], line: Span) -> Option<ServiceAt>
 pub fn formed_service(text: &[u8], line: Span, words: WordsAt) -> Option<ServiceAt>
     requires inside { line.to ≤ length text.now }
     requires words_in { WordsLieIn line words }
+    requires words_stand { word_spans text.now (entry_part text.now line) ≡ words.first ∷ words.second ∷ word_spans text.now words.others }
     ensures entry { option_map (service_at text.now) result ≡ service_of_formed (part text.now line) (words_at text.now words) }
     ensures inside { IfSome result (ServiceLiesIn line) }
+    ensures stands { IfSome result (ServiceStands text.now line) }
 {
     if has_zero_byte(line.of(text)) {
         return None;
@@ -65,6 +69,7 @@ pub fn port_and_proto(text: &[u8], word: Span) -> Option<PortAt>
     requires { word.to ≤ length text.now }
     ensures port { option_map (port_at text.now) result ≡ port_of_word (part text.now word) }
     ensures inside { IfSome result (λ at. LiesIn word at.proto) }
+    ensures stands { IfSome result (λ at. ProtoStands text.now word at.proto) }
 {
     let (digits, proto) = word.split_at_byte(text, b'/')?;
     if proto.is_empty() {

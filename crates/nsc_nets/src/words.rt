@@ -2,18 +2,47 @@ ghost use Rattle.std.specs.Prelude.{◌≡◌, ◌≤◌, ◌∷◌, length, IfS
 ghost use Rattle.std.specs.List.{list_any};
 ghost use Rattle.std.specs.Option.{option_map};
 ghost use Rattle.nsc_base.specs.Found.{same_by};
-ghost use Rattle.nsc_base.specs.Text.{before_remark, part, words_of};
+ghost use Rattle.nsc_base.specs.Text.{IsWord, LiesIn, before_remark, part, word_spans, words_of};
 ghost use Rattle.nsc_base.specs.Words.{WordsLieIn, two_of, words_at};
+ghost use Rattle.nsc_nets.specs.Lines.{entry_part};
 
-use nsc_base::{Case, Span, WordsAt, has_word, two_words};
+use nsc_base::{Case, Line, Span, WordsAt, has_word, two_words, word_at};
+
+/// A line up to its remark, where its entry stands.
+pub fn before_line_remark(text: &[u8], line: Span) -> Span
+    requires { line.to ≤ length text.now }
+    ensures place { result ≡ entry_part text.now line }
+    ensures bytes { part text.now result ≡ before_remark (part text.now line) }
+    ensures inside { LiesIn line result }
+{
+    line.before_remark(text)
+}
 
 /// The first two words of a line before its remark, and the text after them. `None` where the line has fewer words.
 pub fn line_words(text: &[u8], line: Span) -> Option<WordsAt>
     requires { line.to ≤ length text.now }
     ensures words { option_map (words_at text.now) result ≡ two_of (words_of (before_remark (part text.now line))) }
+    ensures places { IfSome result (λ at. word_spans text.now (entry_part text.now line) ≡ at.first ∷ at.second ∷ word_spans text.now at.others) }
     ensures inside { IfSome result (WordsLieIn line) }
 {
-    two_words(text, line.before_remark(text))
+    two_words(text, before_line_remark(text, line))
+}
+
+/// The same where the first word is known.
+pub fn words_after(text: &[u8], within: Span, first: Line) -> Option<WordsAt>
+    requires inside { within.to ≤ length text.now }
+    requires first { IsWord text.now within within.from first }
+    ensures words { option_map (words_at text.now) result ≡ two_of (words_of (part text.now within)) }
+    ensures places { IfSome result (λ at. word_spans text.now within ≡ at.first ∷ at.second ∷ word_spans text.now at.others) }
+    ensures inside { IfSome result (WordsLieIn within) }
+    ensures same { IfSome result (λ at. at.first ≡ first.span) }
+{
+    let second = word_at(text, within, first.next)?;
+    Some(WordsAt {
+        first: first.span,
+        second: second.span,
+        others: Span::new(second.next, within.to()),
+    })
 }
 
 /// Whether a name is the wanted one, or one of the aliases between white space is.

@@ -1,6 +1,6 @@
 use Rattle.std.proofs.Common.{◌≡◌, ◌-◌, ◌≤◌, ◌++◌, slice_range}
 use Rattle.nsc_base.specs.Text.{part, words_of}
-use Rattle.nsc_files.proofs.words.words.Given as goal
+use Rattle.nsc_nets.proofs.rows.words.Given as goal
 
 -- those that were gathered, and those from this place on
 abbrev pub invariant-loop-word : goal.invariant-loop-word

@@ -1,0 +1,19 @@
+use Rattle.std.proofs.Common.{rules, sym, subst}
+use Rattle.nsc_base.specs.declared.search.Case.TheVariants.{Counts}
+use Rattle.nsc_base.specs.Found.{Lacks}
+use Rattle.nsc_base.specs.Text.{part}
+use Rattle.nsc_model.specs.Hosts.{host_addressed}
+use Rattle.nsc_nets.specs.Hosts.{GivesHost}
+use Rattle.nsc_nets.proofs.DottedTexts.{no_host_addressed}
+use Rattle.nsc_nets.proofs.Given.{first_given, or_lacks}
+use Rattle.nsc_nets.proofs.find.first_host_with.Goals as goal
+
+pub returns : goal.returns
+returns c =
+    let text = c.args.text.now in
+    let given = GivesHost (host_addressed c.args.address.now) text in
+    first_given given text c.first_line_with.result
+    (or_lacks Counts c.args.dotted.now text given
+    (λ line r ordered ends gives. record { entry = search rules; inside = search rules; stands = search rules; padded = search rules })
+    (λ line lack. record { entry = sym (no_host_addressed c.args.address.now (part text line) c.requires.v4 (subst (λ n. Lacks Counts n (part text line)) c.requires.spelled lack)); inside = tt; stands = tt; padded = tt }))
+    c.first_line_with.ensures
