@@ -14,13 +14,16 @@ use Rattle.nsc_base.specs.Found.{Lacks}
 use Rattle.nsc_base.specs.Text.{fields_of, onto_first, part, pieces, trimmed}
 use Rattle.nsc_base.proofs.Pieces.{pieces-some}
 use Rattle.nsc_model.specs.declared.row.Group.{Group}
+use Rattle.nsc_model.specs.declared.row.Passwd.{Passwd}
 use Rattle.nsc_model.specs.Entries.{if_named}
 use Rattle.nsc_model.specs.Groups.{group_of_fields, group_of_line, has_member, members_of}
-use Rattle.nsc_model.specs.Users.{has_zero, is_name}
+use Rattle.nsc_model.specs.Users.{has_zero, is_name, user_of_line}
 use Rattle.nsc_accounts.specs.Fields.{line_fields, third_number}
-use Rattle.nsc_accounts.specs.Group.{group_of_spans, group_places}
-use Rattle.nsc_accounts.specs.Passwd.{user_of_spans, user_places}
-use Rattle.nsc_accounts.proofs.Entries.{fields_are}
+use Rattle.nsc_accounts.specs.Group.{GivesGroup, group_at, group_of_spans, group_places}
+use Rattle.nsc_accounts.specs.Passwd.{GivesUser, user_at, user_of_spans, user_places}
+use Rattle.nsc_accounts.specs.declared.group.GroupAt.{GroupAt}
+use Rattle.nsc_accounts.specs.declared.passwd.PasswdAt.{PasswdAt}
+use Rattle.nsc_accounts.proofs.Entries.{fields_are, group_stands, user_stands}
 use Rattle.nsc_accounts.proofs.Stands.{AllStand, StandsIn, any_stands, not_lacking, number_stands, pieces_stand, stands_within, trimmed_stands}
 
 -- the first field is the name of the entry, and the third spells its id
@@ -191,11 +194,21 @@ lacks_member user line lack =
       ] (group_members (fields_of 58 (trimmed line)))
     ]
 
--- ---- an entry by places is named where that of its texts is
-pub named_value : {A B : Type 0} (f : A → B) (names : B → Bool) (o : Option A) → option_map f (if_named (λ x. names (f x)) o) ≡ if_named names (option_map f o)
+-- ---- by places
+
+-- an entry by places is named where that of its texts is
+named_value : {A B : Type 0} (f : A → B) (names : B → Bool) (o : Option A) → option_map f (if_named (λ x. names (f x)) o) ≡ if_named names (option_map f o)
 named_value f names None = refl
 named_value f names (Some x) =
     elim (names (f x)) as (λ v. option_map f (if v then Some x else None) ≡ (if v then Some (f x) else None)) [
       | true ↦ refl
       | false ↦ refl
     ]
+
+pub user_given : (text : List ℕ) (names : Passwd → Bool) (line : Span) (given : Option PasswdAt) → line.from ≤ line.to → line.to ≤ length text → GivesUser text (λ at. names (user_at text at)) line given → option_map (user_at text) given ≡ if_named names (user_of_line (part text line))
+user_given text names line given ordered inside is =
+    ap (option_map (user_at text)) is ∙ named_value (user_at text) names (user_places text line) ∙ ap (if_named names) (user_stands text line ordered inside)
+
+pub group_given : (text : List ℕ) (names : Group → Bool) (line : Span) (given : Option GroupAt) → line.from ≤ line.to → line.to ≤ length text → GivesGroup text (λ at. names (group_at text at)) line given → option_map (group_at text) given ≡ if_named names (group_of_line (part text line))
+group_given text names line given ordered inside is =
+    ap (option_map (group_at text)) is ∙ named_value (group_at text) names (group_places text line) ∙ ap (if_named names) (group_stands text line ordered inside)

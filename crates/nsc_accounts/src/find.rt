@@ -60,12 +60,13 @@ pub fn find_group_by_gid(text: &[u8], gid: u32) -> Option<GroupAt>
     first_line_with(text, digits, Case::Counts, |line| group_numbered(text, line, gid))
 }
 
-// The entry of a line of a passwd file that has the form and this name. A line that does not begin with the name and a
-// colon is given up before its fields are read.
-fn user_named(text: &[u8], line: Span, name: &[u8]) -> Option<PasswdAt>
+/// The entry of a line of a passwd file, passwd(5), that has the form and this name, as places in the file. `None` for any
+/// other line; one that does not begin with the name and a colon is given up before its fields are read. Takes no memory.
+pub fn user_named(text: &[u8], line: Span, name: &[u8]) -> Option<PasswdAt>
     requires { line.to ≤ length text.now }
     ensures given { GivesUser text.now (λ at. bytes_eq (part text.now at.name) name.now) line result }
     ensures inside { IfSome result (UserLiesIn line) }
+    ensures ordered { line.from ≤ line.to }
 {
     if !begins_with_name(line.of(text), name) {
         return None;
@@ -78,12 +79,13 @@ fn user_named(text: &[u8], line: Span, name: &[u8]) -> Option<PasswdAt>
     }
 }
 
-// The entry of a line of a group file that has the form and this name. A line that does not begin with the name and a
-// colon is given up before its fields are read.
-fn group_named(text: &[u8], line: Span, name: &[u8]) -> Option<GroupAt>
+/// The entry of a line of a group file, group(5), that has the form and this name, as places in the file. `None` for any
+/// other line; one that does not begin with the name and a colon is given up before its fields are read. Takes no memory.
+pub fn group_named(text: &[u8], line: Span, name: &[u8]) -> Option<GroupAt>
     requires { line.to ≤ length text.now }
     ensures given { GivesGroup text.now (λ at. bytes_eq (part text.now at.name) name.now) line result }
     ensures inside { IfSome result (GroupLiesIn line) }
+    ensures ordered { line.from ≤ line.to }
 {
     if !begins_with_name(line.of(text), name) {
         return None;
@@ -96,23 +98,25 @@ fn group_named(text: &[u8], line: Span, name: &[u8]) -> Option<GroupAt>
     }
 }
 
-// The entry of a line of a passwd file that has the form and this user id. A line whose third field does not spell the
-// id is given up after that field.
-fn user_numbered(text: &[u8], line: Span, uid: u32) -> Option<PasswdAt>
+/// The entry of a line of a passwd file, passwd(5), that has the form and this user id, as places in the file. `None` for
+/// any other line; one whose third field does not spell the id is given up after that field. Takes no memory.
+pub fn user_numbered(text: &[u8], line: Span, uid: u32) -> Option<PasswdAt>
     requires { line.to ≤ length text.now }
     ensures given { GivesUser text.now (λ at. at.uid == uid) line result }
     ensures inside { IfSome result (UserLiesIn line) }
+    ensures ordered { line.from ≤ line.to }
 {
     let id = id_of_line(text, line)?;
     if id == uid { passwd_line(text, line) } else { None }
 }
 
-// The entry of a line of a group file that has the form and this group id. A line whose third field does not spell the
-// id is given up after that field.
-fn group_numbered(text: &[u8], line: Span, gid: u32) -> Option<GroupAt>
+/// The entry of a line of a group file, group(5), that has the form and this group id, as places in the file. `None` for
+/// any other line; one whose third field does not spell the id is given up after that field. Takes no memory.
+pub fn group_numbered(text: &[u8], line: Span, gid: u32) -> Option<GroupAt>
     requires { line.to ≤ length text.now }
     ensures given { GivesGroup text.now (λ at. at.gid == gid) line result }
     ensures inside { IfSome result (GroupLiesIn line) }
+    ensures ordered { line.from ≤ line.to }
 {
     let id = id_of_line(text, line)?;
     if id == gid { group_line(text, line) } else { None }

@@ -1,14 +1,11 @@
-use Rattle.std.proofs.Common.{IfSome, length, rules, sym, ap, ◌∙◌}
-use Rattle.std.specs.Option.{option_map}
+use Rattle.std.proofs.Common.{IfSome, length, rules, sym}
 use Rattle.std.specs.Str.{bytes_eq}
 use Rattle.nsc_base.specs.declared.search.Case.TheVariants.{Counts}
 use Rattle.nsc_base.specs.Text.{part}
-use Rattle.nsc_model.specs.Entries.{if_named}
 use Rattle.nsc_model.specs.Users.{user_of_line}
 use Rattle.nsc_model.proofs.Firsts.{first_gives, first_has, first_is, lacking_gives}
-use Rattle.nsc_accounts.specs.Passwd.{GivesUser, UserLiesIn, user_at, user_places}
-use Rattle.nsc_accounts.proofs.Entries.{user_stands}
-use Rattle.nsc_accounts.proofs.Named.{lacks_name, named_value, user_names}
+use Rattle.nsc_accounts.specs.Passwd.{GivesUser, UserLiesIn, user_at}
+use Rattle.nsc_accounts.proofs.Named.{lacks_name, user_given, user_names}
 use Rattle.nsc_accounts.proofs.find.find_passwd_by_name.Goals as goal
 
 pub returns : goal.returns
@@ -18,6 +15,6 @@ returns c =
     let first = first_gives _ text (GivesUser text (λ at. bytes_eq (part text at.name) name)) (lacking_gives Counts name _ text (GivesUser text (λ at. bytes_eq (part text at.name) name)) (λ span r ordered ends gives. search rules) (λ span ordered ends lack. sym (lacks_name (part text span) name _ _ (λ at. at.uid) (user_names text span ordered ends) lack))) _ c.first_line_with.ensures in
     record {
       first = first;
-      entry = first_is (GivesUser text (λ at. bytes_eq (part text at.name) name)) text (user_at text) user_of_line (λ p. bytes_eq p.name name) (λ span r ordered ends gives. ap (option_map (user_at text)) gives ∙ named_value (user_at text) (λ p. bytes_eq p.name name) (user_places text span) ∙ ap (if_named (λ p. bytes_eq p.name name)) (user_stands text span ordered ends)) _ first;
+      entry = first_is (GivesUser text (λ at. bytes_eq (part text at.name) name)) text (user_at text) user_of_line (λ p. bytes_eq p.name name) (λ span r ordered ends gives. user_given text (λ p. bytes_eq p.name name) span r ordered ends gives) _ first;
       inside = first_has _ text _ (lacking_gives Counts name _ text (λ span r. IfSome r (UserLiesIn (record { from = 0; to = length text }))) (λ span r ordered ends gives. search rules) (λ span ordered ends lack. tt)) _ c.first_line_with.ensures;
     }
