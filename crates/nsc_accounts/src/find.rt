@@ -23,7 +23,12 @@ pub fn find_passwd_by_name(text: &[u8], name: &[u8]) -> Option<PasswdAt>
     ensures entry { option_map (user_at text.now) result ≡ first_named user_of_line (λ p. bytes_eq p.name name.now) text.now }
     ensures inside { IfSome result (UserLiesIn (record { from = 0; to = length text.now })) }
 {
-    first_line_with(text, name, Case::Counts, |line| user_named(text, line, name))
+    first_line_with(
+        text,
+        name,
+        Case::Counts,
+        |line| user_named(text, line, name),
+    )
 }
 
 /// The first line of a passwd file, passwd(5), that has the form of an entry and this user id, as places in the file.
@@ -33,9 +38,15 @@ pub fn find_passwd_by_uid(text: &[u8], uid: u32) -> Option<PasswdAt>
     ensures entry { option_map (user_at text.now) result ≡ first_named user_of_line (λ p. p.uid == uid) text.now }
     ensures inside { IfSome result (UserLiesIn (record { from = 0; to = length text.now })) }
 {
+    // Whatever zeros stand before them, the digits of the id stand in each line that has it.
     let mut buffer = Buffer::new();
     let digits = buffer.format(uid).as_bytes();
-    first_line_with(text, digits, Case::Counts, |line| user_numbered(text, line, uid))
+    first_line_with(
+        text,
+        digits,
+        Case::Counts,
+        |line| user_numbered(text, line, uid),
+    )
 }
 
 /// The first line of a group file, group(5), that has the form of an entry and this name, as places in the file. `None`
@@ -45,7 +56,12 @@ pub fn find_group_by_name(text: &[u8], name: &[u8]) -> Option<GroupAt>
     ensures entry { option_map (group_at text.now) result ≡ first_named group_of_line (λ g. bytes_eq g.name name.now) text.now }
     ensures inside { IfSome result (GroupLiesIn (record { from = 0; to = length text.now })) }
 {
-    first_line_with(text, name, Case::Counts, |line| group_named(text, line, name))
+    first_line_with(
+        text,
+        name,
+        Case::Counts,
+        |line| group_named(text, line, name),
+    )
 }
 
 /// The first line of a group file, group(5), that has the form of an entry and this group id, as places in the file.
@@ -55,9 +71,15 @@ pub fn find_group_by_gid(text: &[u8], gid: u32) -> Option<GroupAt>
     ensures entry { option_map (group_at text.now) result ≡ first_named group_of_line (λ g. g.gid == gid) text.now }
     ensures inside { IfSome result (GroupLiesIn (record { from = 0; to = length text.now })) }
 {
+    // Whatever zeros stand before them, the digits of the id stand in each line that has it.
     let mut buffer = Buffer::new();
     let digits = buffer.format(gid).as_bytes();
-    first_line_with(text, digits, Case::Counts, |line| group_numbered(text, line, gid))
+    first_line_with(
+        text,
+        digits,
+        Case::Counts,
+        |line| group_numbered(text, line, gid),
+    )
 }
 
 /// The entry of a line of a passwd file, passwd(5), that has the form and this name, as places in the file. `None` for any
@@ -107,7 +129,11 @@ pub fn user_numbered(text: &[u8], line: Span, uid: u32) -> Option<PasswdAt>
     ensures ordered { line.from ≤ line.to }
 {
     let id = id_of_line(text, line)?;
-    if id == uid { passwd_line(text, line) } else { None }
+    if id == uid {
+        passwd_line(text, line)
+    } else {
+        None
+    }
 }
 
 /// The entry of a line of a group file, group(5), that has the form and this group id, as places in the file. `None` for
@@ -119,7 +145,11 @@ pub fn group_numbered(text: &[u8], line: Span, gid: u32) -> Option<GroupAt>
     ensures ordered { line.from ≤ line.to }
 {
     let id = id_of_line(text, line)?;
-    if id == gid { group_line(text, line) } else { None }
+    if id == gid {
+        group_line(text, line)
+    } else {
+        None
+    }
 }
 
 // Whether a line begins with the name and a colon, after white space.
