@@ -1,18 +1,21 @@
 -- The ids of a user's groups, collected line by line.
-use Rattle.std.proofs.Common.{◌≡◌, ℕ, Bool, true, false, not, cond, if◌then◌else◌, ◌&&◌, ◌||◌, ◌==◌, List, [], ◌∷◌, ◌++◌, drop, filter, length, map, Option, Some, None, refl, sym, ◌∙◌, ap, append_assoc}
-use Rattle.std.specs.List.{cons_option, filter_map, list_any}
+use Rattle.std.proofs.Common.{◌≡◌, ℕ, Bool, true, false, not, cond, if◌then◌else◌, ◌&&◌, ◌||◌, ◌==◌, List, [], ◌∷◌, ◌++◌, drop, filter, map, Option, Some, None, refl, sym, ◌∙◌, ap, append_assoc}
+use Rattle.std.specs.List.{cons_option, list_any}
 use Rattle.std.specs.Option.{option_map}
 use Rattle.std.proofs.lemmas.Bool.Decides.{Decides-eqb}
 use Rattle.std.proofs.lemmas.List.{append-nil}
 use Rattle.std.proofs.lemmas.List.Folds.{list_any-append}
-use Rattle.std.proofs.Math.Seq.{drop-length}
+use Rattle.nsc_base.specs.declared.search.Case.TheVariants.{Counts}
 use Rattle.nsc_base.specs.declared.span.Line.{Line}
-use Rattle.nsc_base.specs.Text.{IsLine, lines_of, part}
+use Rattle.nsc_base.specs.Found.{IsLineWith, PassesOver}
+use Rattle.nsc_base.specs.Text.{line_spans, part}
 use Rattle.nsc_model.specs.declared.row.Group.{Group}
 use Rattle.nsc_model.specs.Answers.{each_once, ids_of}
 use Rattle.nsc_model.specs.Entries.{if_named, named_in}
 use Rattle.nsc_model.specs.Groups.{group_of_line, has_member}
+use Rattle.nsc_model.proofs.Passed.{named_next, none_named}
 use Rattle.nsc_accounts.specs.Once.{all_ids, with_id}
+use Rattle.nsc_accounts.proofs.Named.{lacks_member}
 
 -- the ids of the groups that have the user as a member, with repeats
 abbrev pub member_ids : List ℕ → List ℕ → List ℕ
@@ -84,32 +87,29 @@ all_once more = all_are [] more ∙ filter_all (each_once more)
 pub ids_start : (user text : List ℕ) → all_ids [] (member_ids user (drop 0 text)) ≡ ids_of user text
 ids_start user text = all_once (member_ids user text)
 
--- at the end of the text nothing is left
-pub ids_end : (user text : List ℕ) (from : ℕ) (ids answer : List ℕ) → from ≡ length text → all_ids ids (member_ids user (drop from text)) ≡ answer → ids ≡ answer
-ids_end user text from ids answer last left =
-    sym (ap (λ (n : ℕ). all_ids ids (member_ids user (drop n text))) last ∙ ap (λ (rest : List ℕ). all_ids ids (member_ids user rest)) (drop-length text)) ∙ left
+-- where no line is left in which the user's name stands, no id is left
+pub ids_end : (user text : List ℕ) (from : ℕ) (ids answer : List ℕ) → PassesOver Counts user text [] (line_spans text from) → all_ids ids (member_ids user (drop from text)) ≡ answer → ids ≡ answer
+ids_end user text from ids answer none left =
+    sym (ap (λ (groups : List Group). all_ids ids (map (λ g. g.gid) groups)) (none_named Counts user group_of_line (has_member user) (lacks_member user) text from none)) ∙ left
+
+-- what is taken of one more
+pub map_step : {A B : Type 0} (f : A → B) (o : Option A) (others : List A) → map f (cons_option o others) ≡ cons_option (option_map f o) (map f others)
+map_step f None others = refl
+map_step f (Some x) others = refl
 
 -- one line
-id_step : (names : Group → Bool) (o : Option Group) (others : List Group) → map (λ g. g.gid) (filter names (cons_option o others)) ≡ cons_option (option_map (λ g. g.gid) (if_named names o)) (map (λ g. g.gid) (filter names others))
-id_step names None others = refl
-id_step names (Some g) others =
-    elim (names g) as (λ v. map (λ g. g.gid) (cond v (g ∷ filter names others) (filter names others)) ≡ cons_option (option_map (λ g. g.gid) (if v then Some g else None)) (map (λ g. g.gid) (filter names others))) [
-      | true ↦ refl
-      | false ↦ refl
-    ]
-
-line_ids : (user text : List ℕ) (from : ℕ) (line : Line) (r : Option ℕ) → IsLine text from line → r ≡ option_map (λ g. g.gid) (if_named (has_member user) (group_of_line (part text line.span))) → member_ids user (drop from text) ≡ cons_option r (member_ids user (drop line.next text))
+line_ids : (user text : List ℕ) (from : ℕ) (line : Line) (r : Option ℕ) → IsLineWith Counts user text from line → r ≡ option_map (λ g. g.gid) (if_named (has_member user) (group_of_line (part text line.span))) → member_ids user (drop from text) ≡ cons_option r (member_ids user (drop line.next text))
 line_ids user text from line r is gives =
-    ap (λ (lines : List (List ℕ)). map (λ g. g.gid) (filter (has_member user) (filter_map group_of_line lines))) is.cut
-    ∙ id_step (has_member user) (group_of_line (part text line.span)) (filter_map group_of_line (lines_of (drop line.next text)))
+    ap (map (λ g. g.gid)) (named_next Counts user group_of_line (has_member user) (lacks_member user) text from line is)
+    ∙ map_step (λ g. g.gid) (if_named (has_member user) (group_of_line (part text line.span))) (named_in group_of_line (has_member user) (drop line.next text))
     ∙ ap (λ (o : Option ℕ). cons_option o (member_ids user (drop line.next text))) (sym gives)
 
 -- after a line that gives no id
-pub ids_after : (user text : List ℕ) (from : ℕ) (line : Line) (ids answer : List ℕ) → IsLine text from line → None ≡ option_map (λ g. g.gid) (if_named (has_member user) (group_of_line (part text line.span))) → all_ids ids (member_ids user (drop from text)) ≡ answer → all_ids ids (member_ids user (drop line.next text)) ≡ answer
+pub ids_after : (user text : List ℕ) (from : ℕ) (line : Line) (ids answer : List ℕ) → IsLineWith Counts user text from line → None ≡ option_map (λ g. g.gid) (if_named (has_member user) (group_of_line (part text line.span))) → all_ids ids (member_ids user (drop from text)) ≡ answer → all_ids ids (member_ids user (drop line.next text)) ≡ answer
 ids_after user text from line ids answer is gives left = ap (all_ids ids) (sym (line_ids user text from line None is gives)) ∙ left
 
 -- and after one that gives an id
-pub ids_more : (user text : List ℕ) (from : ℕ) (line : Line) (ids now : List ℕ) (n : ℕ) (answer : List ℕ) → IsLine text from line → Some n ≡ option_map (λ g. g.gid) (if_named (has_member user) (group_of_line (part text line.span))) → now ≡ with_id ids n → all_ids ids (member_ids user (drop from text)) ≡ answer → all_ids now (member_ids user (drop line.next text)) ≡ answer
+pub ids_more : (user text : List ℕ) (from : ℕ) (line : Line) (ids now : List ℕ) (n : ℕ) (answer : List ℕ) → IsLineWith Counts user text from line → Some n ≡ option_map (λ g. g.gid) (if_named (has_member user) (group_of_line (part text line.span))) → now ≡ with_id ids n → all_ids ids (member_ids user (drop from text)) ≡ answer → all_ids now (member_ids user (drop line.next text)) ≡ answer
 ids_more user text from line ids now n answer is gives added left =
     ap (λ (those : List ℕ). all_ids those (member_ids user (drop line.next text))) added
     ∙ ap (all_ids ids) (sym (line_ids user text from line (Some n) is gives)) ∙ left

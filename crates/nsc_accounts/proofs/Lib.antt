@@ -1,5 +1,6 @@
 pub mod Begins
 pub mod Entries
+pub mod Stands
 pub mod Named
 pub mod Pieces
 pub mod Collected

@@ -1,9 +1,9 @@
-ghost use Rattle.std.specs.Prelude.{◌≡◌, ◌≤◌, All, IfSome, length, map};
+ghost use Rattle.std.specs.Prelude.{◌≡◌, ◌≤◌, All, IfSome, length};
 ghost use Rattle.std.specs.Option.{option_map};
 ghost use Rattle.nsc_base.specs.declared.span.Span.{Span};
 ghost use Rattle.nsc_base.specs.Text.{LiesIn, part};
-ghost use Rattle.nsc_model.specs.Groups.{group_of_fields, group_of_line};
-ghost use Rattle.nsc_accounts.specs.Group.{GroupLiesIn, group_at};
+ghost use Rattle.nsc_model.specs.Groups.{group_of_line};
+ghost use Rattle.nsc_accounts.specs.Group.{GroupLiesIn, group_at, group_of_spans, group_places};
 
 use crate::fields::{is_name, line_fields, number};
 use nsc_base::Span;
@@ -27,6 +27,7 @@ pub struct GroupAt {
 /// Takes no memory.
 pub fn group_line(text: &[u8], line: Span) -> Option<GroupAt>
     requires { line.to ≤ length text.now }
+    ensures places { result ≡ group_places text.now line }
     ensures entry { option_map (group_at text.now) result ≡ group_of_line (part text.now line) }
     ensures inside { IfSome result (GroupLiesIn line) }
 {
@@ -37,7 +38,7 @@ pub fn group_line(text: &[u8], line: Span) -> Option<GroupAt>
 // lies in.
 fn group_entry(text: &[u8], fields: [Span; 4]) -> Option<GroupAt>
     requires { All (LiesIn (record { from = 0; to = length text.now })) fields }
-    ensures entry { option_map (group_at text.now) result ≡ group_of_fields (map (part text.now) fields) }
+    ensures places { result ≡ group_of_spans text.now fields }
     ensures inside { IfSome result (λ at. (within : Span) → All (LiesIn within) fields → GroupLiesIn within at) }
 {
     let [name, passwd, gid, members] = fields;

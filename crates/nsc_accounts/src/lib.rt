@@ -11,7 +11,10 @@ mod once;
 mod passwd;
 mod rows;
 
-pub use find::{find_group_by_gid, find_group_by_name, find_passwd_by_name, find_passwd_by_uid};
+pub use find::{
+    find_group_by_gid, find_group_by_name, find_passwd_by_name, find_passwd_by_uid, group_named,
+    group_numbered, user_named, user_numbered,
+};
 pub use group::{GroupAt, group_line};
 pub use members::{groups_of, has_member};
 pub use named_id::{NamedId, named_groups};

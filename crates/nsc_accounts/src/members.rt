@@ -9,7 +9,7 @@ ghost use Rattle.nsc_model.specs.Groups.{group_of_line, has_member as is_member,
 
 use crate::group::group_line;
 use crate::once::OnceIds;
-use nsc_base::{Ids, NoMemory, Span, field_at, line_at};
+use nsc_base::{Case, Ids, NoMemory, Span, field_at, line_with};
 use std::alloc::Global;
 
 /// The ids of the groups of a group file, group(5), that have the user as a member, in the order of the file, each once.
@@ -19,7 +19,7 @@ pub fn groups_of(alloc: Global, text: &[u8], user: &[u8]) -> Result<Ids, NoMemor
 {
     let mut ids = OnceIds::new(alloc);
     let mut from = 0;
-    while let Some(line) = line_at(text, from) {
+    while let Some(line) = line_with(text, from, user, Case::Counts) {
         if let Some(gid) = gid_of_member(text, line.span, user) {
             ids.add(gid)?;
         }

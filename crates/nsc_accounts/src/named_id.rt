@@ -8,7 +8,7 @@ ghost use Rattle.nsc_accounts.specs.NamedId.{pair_of};
 
 use crate::group::group_line;
 use crate::members::has_member;
-use nsc_base::{Bytes, NoMemory, Span, line_at};
+use nsc_base::{Bytes, Case, NoMemory, Span, line_with};
 use std::alloc::Global;
 
 /// A group of a user: its name and its id.
@@ -27,7 +27,7 @@ pub fn named_groups(alloc: Global, text: &[u8], user: &[u8]) -> Result<Vec<Named
 {
     let mut groups = Vec::new(alloc);
     let mut from = 0;
-    while let Some(line) = line_at(text, from) {
+    while let Some(line) = line_with(text, from, user, Case::Counts) {
         if let Some(group) = group_of_member(alloc, text, line.span, user)? {
             groups.push(group)?;
         }

@@ -1,9 +1,9 @@
-ghost use Rattle.std.specs.Prelude.{◌≡◌, ◌≤◌, All, IfSome, length, map};
+ghost use Rattle.std.specs.Prelude.{◌≡◌, ◌≤◌, All, IfSome, length};
 ghost use Rattle.std.specs.Option.{option_map};
 ghost use Rattle.nsc_base.specs.declared.span.Span.{Span};
 ghost use Rattle.nsc_base.specs.Text.{LiesIn, part};
-ghost use Rattle.nsc_model.specs.Users.{user_of_fields, user_of_line};
-ghost use Rattle.nsc_accounts.specs.Passwd.{UserLiesIn, user_at};
+ghost use Rattle.nsc_model.specs.Users.{user_of_line};
+ghost use Rattle.nsc_accounts.specs.Passwd.{UserLiesIn, user_at, user_of_spans, user_places};
 
 use crate::fields::{is_name, line_fields, number};
 use nsc_base::Span;
@@ -33,6 +33,7 @@ pub struct PasswdAt {
 /// or `-`. Takes no memory.
 pub fn passwd_line(text: &[u8], line: Span) -> Option<PasswdAt>
     requires { line.to ≤ length text.now }
+    ensures places { result ≡ user_places text.now line }
     ensures entry { option_map (user_at text.now) result ≡ user_of_line (part text.now line) }
     ensures inside { IfSome result (UserLiesIn line) }
 {
@@ -43,7 +44,7 @@ pub fn passwd_line(text: &[u8], line: Span) -> Option<PasswdAt>
 // lies in.
 fn entry_of(text: &[u8], fields: [Span; 7]) -> Option<PasswdAt>
     requires { All (LiesIn (record { from = 0; to = length text.now })) fields }
-    ensures entry { option_map (user_at text.now) result ≡ user_of_fields (map (part text.now) fields) }
+    ensures places { result ≡ user_of_spans text.now fields }
     ensures inside { IfSome result (λ at. (within : Span) → All (LiesIn within) fields → UserLiesIn within at) }
 {
     let [name, passwd, uid, gid, gecos, dir, shell] = fields;

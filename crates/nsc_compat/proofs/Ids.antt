@@ -1,11 +1,11 @@
 -- The ids of a user's groups, gathered line by line.
-use Rattle.std.proofs.Common.{◌≡◌, ℕ, ◌+◌, ◌<◌, Bool, true, false, not, cond, ◌&&◌, if◌then◌else◌, List, [], ◌∷◌, ◌++◌, drop, filter, get_or, length, map, Option, Some, None, refl, sym, ◌∙◌, ap}
+use Rattle.std.proofs.Common.{◌≡◌, ℕ, ◌+◌, ◌<◌, true, false, not, cond, ◌&&◌, if◌then◌else◌, List, [], ◌∷◌, ◌++◌, drop, filter, get_or, length, map, Option, Some, None, refl, sym, ◌∙◌, ap}
 use Rattle.std.specs.Option.{option_map}
 use Rattle.std.proofs.lemmas.List.{at_drop_more}
 use Rattle.nsc_model.specs.declared.row.Group.{Group}
 use Rattle.nsc_model.specs.declared.row.Looked.{Looked}
 use Rattle.nsc_model.specs.declared.row.Looked.TheVariants.{Unavail}
-use Rattle.nsc_model.specs.Answers.{each_once, found_ids, found_or_unavail}
+use Rattle.nsc_model.specs.Answers.{found_ids, found_or_unavail}
 use Rattle.nsc_model.specs.Compat.{IdScan, Says, Own, Excludes, Asks, AsksAll, Netgroup, Nothing, before_ids, gather_line, gathered, id_of_group, ids_of_pairs, is_excluded, says}
 use Rattle.nsc_accounts.specs.Once.{all_ids, with_id}
 use Rattle.nsc_accounts.proofs.Collected.{all_once}

@@ -1,7 +1,6 @@
 -- Scans go by which names are excluded, and not by how they are listed.
-use Rattle.std.proofs.Common.{◌≡◌, ℕ, Bool, true, false, not, ◌&&◌, ◌||◌, if◌then◌else◌, List, [], ◌∷◌, Option, Some, None, refl, sym, ◌∙◌, ap}
+use Rattle.std.proofs.Common.{◌≡◌, ℕ, Bool, true, false, not, ◌&&◌, ◌||◌, if◌then◌else◌, List, [], ◌∷◌, Option, Some, None, refl, ◌∙◌, ap}
 use Rattle.std.specs.Str.{bytes_eq}
-use Rattle.nsc_model.specs.declared.kind.Db.{Db}
 use Rattle.nsc_model.specs.declared.row.Looked.{Looked}
 use Rattle.nsc_model.specs.Compat.{Says, Own, Excludes, Asks, AsksAll, Netgroup, Nothing, Scan, answers_or, is_excluded, says, scan_line, scanned}
 use Rattle.nsc_model.specs.Content.{Content}

@@ -1,10 +1,15 @@
-ghost use Rattle.std.specs.Prelude.{refl};
-ghost use Rattle.nsc_compat.specs.Accounts.{group_accounts};
+ghost use Rattle.std.specs.Prelude.{◌≡◌, ◌≤◌, IfSome, length, refl};
+ghost use Rattle.std.specs.Option.{option_map};
+ghost use Rattle.nsc_base.specs.Text.{part};
+ghost use Rattle.nsc_model.specs.Entries.{if_named};
+ghost use Rattle.nsc_model.specs.Groups.{group_of_line};
+ghost use Rattle.nsc_accounts.specs.Group.{GroupLiesIn, group_at};
+ghost use Rattle.nsc_compat.specs.Accounts.{group_accounts, is_wanted};
 
 use crate::account::Account;
-use crate::asking::{Wanted, names_entry};
+use crate::asking::Wanted;
 use crate::excluded::Excluded;
-use nsc_accounts::{group_line, group_row};
+use nsc_accounts::{GroupAt, group_named, group_numbered, group_row};
 use nsc_base::{NoMemory, Span};
 use nsc_model::{FileId, Group, Kind, Looked, Row};
 use std::alloc::Global;
@@ -31,14 +36,10 @@ impl Account for Group {
         wanted: &Wanted,
         excluded: &Excluded,
     ) -> Result<Option<Looked>, NoMemory> {
-        let Some(at) = group_line(text, line) else {
+        let Some(at) = wanted_group(text, line, wanted) else {
             return Ok(None);
         };
-        let name = at.name.of(text);
-        if !names_entry(wanted, name, at.gid) {
-            return Ok(None);
-        }
-        if excluded.has(name) {
+        if excluded.has(at.name.of(text)) {
             return Ok(None);
         }
         Ok(Some(Looked::Found(Row::Group(group_row(alloc, text, &at)?))))
@@ -66,5 +67,19 @@ impl Account for Group {
 
     fn found(self) -> Looked {
         Looked::Found(Row::Group(self))
+    }
+}
+
+// The entry of a line of a group file that has the form and is the wanted one. Most other lines are given up before all
+// their fields are read.
+fn wanted_group(text: &[u8], line: Span, wanted: &Wanted) -> Option<GroupAt>
+    requires { line.to ≤ length text.now }
+    ensures entry { option_map (group_at text.now) result ≡ if_named (is_wanted group_accounts wanted.now) (group_of_line (part text.now line)) }
+    ensures inside { IfSome result (GroupLiesIn line) }
+{
+    match wanted {
+        Wanted::Name(name) => group_named(text, line, *name),
+        Wanted::Id(Some(gid)) => group_numbered(text, line, *gid),
+        Wanted::Id(None) => None,
     }
 }

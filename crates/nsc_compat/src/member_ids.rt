@@ -9,8 +9,8 @@ ghost use Rattle.nsc_compat.specs.Gathered.{member_id, unless_excluded};
 ghost use Rattle.nsc_compat.specs.Lines.{ids_or_unavail};
 ghost use Rattle.nsc_accounts.specs.NamedId.{pair_of};
 
-use crate::excluded::Excluded;
 use crate::account::Account;
+use crate::excluded::Excluded;
 use crate::lines::{LineScan, scan_lines};
 use crate::said::{Said, line_says};
 use crate::sub::SubLookup;
@@ -21,11 +21,7 @@ use std::alloc::Global;
 
 /// The outcome of compat for the groups of a user: their ids in the order of the lines, each once, and not found where there
 /// is none. Unavailable where the group file is absent, or a netgroup is reached. Fails only for want of memory.
-pub fn ids_of_user<S: SubLookup>(
-    alloc: Global,
-    user: &[u8],
-    sub: &S,
-) -> Result<Looked, NoMemory>
+pub fn ids_of_user<S: SubLookup>(alloc: Global, user: &[u8], sub: &S) -> Result<Looked, NoMemory>
     ensures { IfOk result (λ looked. looked ≡ gathered_file (id_scan (S.content sub.now) user.now) (S.content sub.now).group) }
 {
     let Some(text) = sub.content().file(FileId::Group) else {

@@ -1,13 +1,17 @@
-ghost use Rattle.std.specs.Prelude.{◌≡◌, ◌≤◌, All, IfOk, length, map, refl};
+ghost use Rattle.std.specs.Prelude.{◌≡◌, ◌≤◌, All, IfOk, IfSome, length, map, refl};
+ghost use Rattle.std.specs.Option.{option_map};
 ghost use Rattle.nsc_base.specs.Text.{LiesIn, fields_of, part};
 ghost use Rattle.nsc_model.specs.Answers.{user_in};
 ghost use Rattle.nsc_model.specs.Compat.{own_or, replaced_user};
-ghost use Rattle.nsc_compat.specs.Accounts.{passwd_accounts};
+ghost use Rattle.nsc_model.specs.Entries.{if_named};
+ghost use Rattle.nsc_model.specs.Users.{user_of_line};
+ghost use Rattle.nsc_accounts.specs.Passwd.{UserLiesIn, user_at};
+ghost use Rattle.nsc_compat.specs.Accounts.{is_wanted, passwd_accounts};
 
 use crate::account::Account;
-use crate::asking::{Wanted, names_entry};
+use crate::asking::Wanted;
 use crate::excluded::Excluded;
-use nsc_accounts::{passwd_line, user_row};
+use nsc_accounts::{PasswdAt, user_named, user_numbered, user_row};
 use nsc_base::{Bytes, NoMemory, Span, exact_fields};
 use nsc_model::{FileId, Kind, Looked, Passwd, Row};
 use std::alloc::Global;
@@ -34,14 +38,10 @@ impl Account for Passwd {
         wanted: &Wanted,
         excluded: &Excluded,
     ) -> Result<Option<Looked>, NoMemory> {
-        let Some(at) = passwd_line(text, line) else {
+        let Some(at) = wanted_user(text, line, wanted) else {
             return Ok(None);
         };
-        let name = at.name.of(text);
-        if !names_entry(wanted, name, at.uid) {
-            return Ok(None);
-        }
-        if excluded.has(name) {
+        if excluded.has(at.name.of(text)) {
             return Ok(None);
         }
         Ok(Some(Looked::Found(Row::Passwd(user_row(alloc, text, &at)?))))
@@ -71,6 +71,20 @@ impl Account for Passwd {
 
     fn found(self) -> Looked {
         Looked::Found(Row::Passwd(self))
+    }
+}
+
+// The entry of a line of a passwd file that has the form and is the wanted one. Most other lines are given up before all
+// their fields are read.
+fn wanted_user(text: &[u8], line: Span, wanted: &Wanted) -> Option<PasswdAt>
+    requires { line.to ≤ length text.now }
+    ensures entry { option_map (user_at text.now) result ≡ if_named (is_wanted passwd_accounts wanted.now) (user_of_line (part text.now line)) }
+    ensures inside { IfSome result (UserLiesIn line) }
+{
+    match wanted {
+        Wanted::Name(name) => user_named(text, line, *name),
+        Wanted::Id(Some(uid)) => user_numbered(text, line, *uid),
+        Wanted::Id(None) => None,
     }
 }
 

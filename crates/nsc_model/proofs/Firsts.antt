@@ -51,3 +51,21 @@ having gives text P all lines found between (later line others more is rest) = h
 -- what holds of whatever a line gives holds of what is found
 pub first_has : {E : Type 0} (gives : Span → Option E → Type 0) (text : List ℕ) (P : E → Type 0) → ((span : Span) (r : Option E) → span.from ≤ span.to → span.to ≤ length text → gives span r → IfSome r P) → (found : Option E) → FirstOf gives (line_spans text 0) found → IfSome found P
 first_has gives text P all found is = having gives text P all (line_spans text 0) found (lines-between text 0 (omega arith)) is
+
+-- what is so of whatever each line of a text gives
+abbrev pub EachGives : {E : Type 0} → (Span → Option E → Type 0) → List ℕ → (Span → Option E → Type 0) → Type 0
+EachGives {E} gives text so = (span : Span) (r : Option E) → span.from ≤ span.to → span.to ≤ length text → gives span r → so span r
+
+-- so it is where lines that lack the needle give nothing
+pub lacking_gives : {E : Type 0} (case : Case) (needle : List ℕ) (gives : Span → Option E → Type 0) (text : List ℕ) (so : Span → Option E → Type 0) → EachGives gives text so → ((span : Span) → span.from ≤ span.to → span.to ≤ length text → Lacks case needle (part text span) → so span None) → EachGives (OrLacks case needle text gives) text so
+lacking_gives case needle gives text so all none span r ordered ends (read given is) = all span given ordered ends is
+lacking_gives case needle gives text so all none span r ordered ends (lacks lack) = none span ordered ends lack
+
+giving : {E : Type 0} (gives : Span → Option E → Type 0) (text : List ℕ) (so : Span → Option E → Type 0) → EachGives gives text so → (lines : List Span) (found : Option E) → AllBetween 0 (length text + 1) lines → FirstOf gives lines found → FirstOf so lines found
+giving gives text so all lines found between nowhere = nowhere
+giving gives text so all lines found between (here line others entry is) = here line others entry (all line (Some entry) between.1 (omega (arith, between.2)) is)
+giving gives text so all lines found between (later line others more is rest) = later line others more (all line None between.1 (omega (arith, between.2)) is) (giving gives text so all others more between.3 rest)
+
+-- the first line that gives something, by what each line gives
+pub first_gives : {E : Type 0} (gives : Span → Option E → Type 0) (text : List ℕ) (so : Span → Option E → Type 0) → EachGives gives text so → (found : Option E) → FirstOf gives (line_spans text 0) found → FirstOf so (line_spans text 0) found
+first_gives gives text so all found is = giving gives text so all (line_spans text 0) found (lines-between text 0 (omega arith)) is

@@ -1,12 +1,20 @@
-use Rattle.std.proofs.Common.{rules}
+use Rattle.std.proofs.Common.{IfSome, length, rules, sym}
 use Rattle.std.specs.Str.{bytes_eq}
+use Rattle.nsc_base.specs.declared.search.Case.TheVariants.{Counts}
+use Rattle.nsc_base.specs.Text.{part}
 use Rattle.nsc_model.specs.Groups.{group_of_line}
-use Rattle.nsc_accounts.specs.Group.{group_at}
-use Rattle.nsc_model.proofs.Firsts.{first_has, first_is}
+use Rattle.nsc_model.proofs.Firsts.{first_gives, first_has, first_is, lacking_gives}
+use Rattle.nsc_accounts.specs.Group.{GivesGroup, GroupLiesIn, group_at}
+use Rattle.nsc_accounts.proofs.Named.{lacks_name, group_given, group_names}
 use Rattle.nsc_accounts.proofs.find.find_group_by_name.Goals as goal
 
-pub returns-clause-entry : goal.returns-clause-entry
-returns-clause-entry c = first_is _ c.args.text.now (group_at c.args.text.now) group_of_line (λ g. bytes_eq g.name c.args.name.now) (λ span r ordered ends gives. search rules) c.first_line.result c.first_line.ensures
-
-pub returns-clause-inside : goal.returns-clause-inside
-returns-clause-inside c = first_has _ c.args.text.now _ (λ span r ordered ends gives. search rules) c.first_line.result c.first_line.ensures
+pub returns : goal.returns
+returns c =
+    let text = c.args.text.now in
+    let name = c.args.name.now in
+    let first = first_gives _ text (GivesGroup text (λ at. bytes_eq (part text at.name) name)) (lacking_gives Counts name _ text (GivesGroup text (λ at. bytes_eq (part text at.name) name)) (λ span r ordered ends gives. search rules) (λ span ordered ends lack. sym (lacks_name (part text span) name _ _ (λ at. at.gid) (group_names text span ordered ends) lack))) _ c.first_line_with.ensures in
+    record {
+      first = first;
+      entry = first_is (GivesGroup text (λ at. bytes_eq (part text at.name) name)) text (group_at text) group_of_line (λ g. bytes_eq g.name name) (λ span r ordered ends gives. group_given text (λ g. bytes_eq g.name name) span r ordered ends gives) _ first;
+      inside = first_has _ text _ (lacking_gives Counts name _ text (λ span r. IfSome r (GroupLiesIn (record { from = 0; to = length text }))) (λ span r ordered ends gives. search rules) (λ span ordered ends lack. tt)) _ c.first_line_with.ensures;
+    }

@@ -19,8 +19,8 @@ returns-in_ok-found-in-Asks g c =
     let content = g.S.SubLookup.content s.sub.now in
     let name = c.in-Asks.name.now in
     let found =
-        c.in_outcome-found.ensures
-        ∙ ap accounts.entry_in (c.in_ok-found-in-Asks.ensures ∙ ap (λ kind. sub_looked content (database_of kind) kind name) c.by_name.ensures ∙ ap (λ db. sub_looked content db accounts.by_name name) g.met.E.Account.asks) in
+    c.in_outcome-found.ensures
+    ∙ ap accounts.entry_in (c.in_ok-found-in-Asks.ensures ∙ ap (λ kind. sub_looked content (database_of kind) kind name) c.by_name.ensures ∙ ap (λ db. sub_looked content db accounts.by_name name) g.met.E.Account.asks) in
     IfOk-weaker c.named.result _ _
     (λ outcome gives lines.
     named_answers accounts content s.asking (part c.args.text.now c.args.line) s.excluded outcome name (fields_of 58 c.in-Asks.all.now) c.in_outcome-found.result c.in-Asks.ensures found gives lines)
