@@ -2,3 +2,4 @@ pub mod Parsers
 pub mod Rounds
 pub mod Contents
 pub mod Firsts
+pub mod Beginnings
