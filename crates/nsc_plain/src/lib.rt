@@ -10,5 +10,7 @@ mod prepared;
 mod table;
 
 pub use cache::PlainCache;
+pub use entries::{find_entry, words_of};
 pub use fault::PlainFault;
+pub use kept::{Kept, LAST_COUNT};
 pub use prepared::Prepared;

@@ -66,8 +66,8 @@ impl Map {
 /// of memory.
 pub fn start(alloc: Global, layout: Layout, content: &Content) -> Result<(Map, Pen, Pass), NoMemory>
     ensures map { IfOk result (λ r. r.0.layout ≡ layout) }
-    ensures pen { IfOk result (λ r. (r.1.table ≡ r.0.table) × (r.1.seen ≡ record_of.Change 0 content.now ∷ [])) }
-    ensures pass { IfOk result (λ r. (r.2.table ≡ r.0.table) × (r.2.seen ≡ record_of.Change 0 content.now ∷ [])) }
+    ensures pen { IfOk result (λ r. r.1 ≡ record { table = r.0.table; seen = record_of.Change 0 content.now ∷ []; version = 0; epoch = 0 }) }
+    ensures pass { IfOk result (λ r. r.2 ≡ record { table = r.0.table; seen = record_of.Change 0 content.now ∷ [] }) }
 {
     let (table, seat) = Words::of_words(alloc, &[0, 0], &Snapshot::of(content))?;
     let map = Map {

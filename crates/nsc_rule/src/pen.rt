@@ -1,8 +1,9 @@
-ghost use Rattle.std.specs.Prelude.{◌≡◌, ◌≢◌, ◌+◌, ◌-◌, ◌<◌, ◌≤◌, [], ◌∷◌, Some, slice_index, slice_set};
+ghost use Rattle.std.specs.Prelude.{◌≡◌, ◌≢◌, ◌+◌, ◌<◌, [], ◌∷◌, Some, slice_index, slice_set};
 ghost use Rattle.nsc_model.specs.Entry.{Entry};
-ghost use Rattle.nsc_model.specs.History.{changes, invalidations, newest, Allows, IsLive, IsPrefix, Legal, NoneLive};
+ghost use Rattle.nsc_model.specs.History.{newest, Allows, IsLive, IsPrefix, Legal, NoneLive};
 ghost use Rattle.nsc_model.specs.Machine.{last_count};
 ghost use Rattle.nsc_model.specs.declared.record.Record.TheVariants as record_of;
+ghost use Rattle.nsc_rule.specs.Pen.{Counts};
 ghost use Rattle.nsc_rule.specs.Seats.{pen_view, words_of, said_record};
 
 use crate::map::Map;
@@ -22,23 +23,24 @@ pub struct Pen {
 }
 
 impl Model for Pen {
-    ghost use Rattle.std.specs.Prelude.{◌≡◌, ◌+◌, []};
-    ghost use Rattle.nsc_model.specs.History.{changes, invalidations, Legal};
-    ghost use Rattle.nsc_rule.specs.Pen.{Pen};
-    ghost use Rattle.nsc_rule.specs.Seats.{pen_view};
+    ghost use Rattle.std.specs.Prelude.{◌≡◌, []};
+    ghost use Rattle.nsc_rule.specs.Pen.{Counts, Pen};
+    ghost use Rattle.nsc_rule.specs.Pen.{Counts};
+ghost use Rattle.nsc_rule.specs.Seats.{pen_view};
 
     ghost Value = { Pen };
 
-    ghost view = { λ p. record { table = p.seat.table_id; seen = p.seat.me.0.seen } };
+    ghost view = { λ p. record { table = p.seat.table_id; seen = p.seat.me.0.seen; version = p.version; epoch = p.epoch } };
 
-    ghost invariant = { λ p. (p.seat.me ≡ (pen_view p.seat.me.0.seen, [])) × Legal p.seat.me.0.seen × (p.epoch ≡ invalidations p.seat.me.0.seen) × (p.version + 1 ≡ changes p.seat.me.0.seen) };
+    ghost invariant = { λ p. (p.seat.me ≡ (pen_view p.seat.me.0.seen, [])) × Counts p.seat.me.0.seen p.version p.epoch };
 }
 
 impl Pen {
     // The pen of a seat that has just been dealt.
     pub(crate) fn new(seat: Seat<Said, View>) -> Pen
-        requires { (seat.me ≡ (pen_view seat.me.0.seen, [])) × Legal seat.me.0.seen × (0 ≡ invalidations seat.me.0.seen) × (1 ≡ changes seat.me.0.seen) }
-        ensures { result ≡ record { table = seat.table_id; seen = seat.me.0.seen } }
+        requires seat { seat.me ≡ (pen_view seat.me.0.seen, []) }
+        requires counts { Counts seat.me.0.seen 0 0 }
+        ensures { result ≡ record { table = seat.table_id; seen = seat.me.0.seen; version = 0; epoch = 0 } }
     {
         Pen {
             seat,
@@ -47,25 +49,25 @@ impl Pen {
         }
     }
 
-    /// The history is legal.
+    /// The history is legal, and its counts are these.
     pub fn learn(&self)
-        ensures { Legal self.now.seen }
+        ensures { Counts self.now.seen self.now.version self.now.epoch }
     {
         let _ = &self.seat;
     }
 
-    /// How often the database was invalidated.
-    pub fn epoch(&self) -> u64
-        ensures { result ≡ invalidations self.now.seen }
-    {
-        self.epoch
-    }
-
     /// The number of the newest version.
     pub fn version(&self) -> u64
-        ensures { result + 1 ≡ changes self.now.seen }
+        ensures { result ≡ self.now.version }
     {
         self.version
+    }
+
+    /// How often the database was invalidated.
+    pub fn epoch(&self) -> u64
+        ensures { result ≡ self.now.epoch }
+    {
+        self.epoch
     }
 
     /// A pass that has seen the whole history.
@@ -107,8 +109,7 @@ impl Pen {
     /// Adds the record of a poll that confirms the newest version.
     pub fn poll(&mut self, map: &Map)
         requires map { map.now.table ≡ self.old.table }
-        ensures table { self.new.table ≡ self.old.table }
-        ensures history { self.new.seen ≡ record_of.Poll (changes self.old.seen - 1) ∷ self.old.seen }
+        ensures { self.new ≡ record self.old { seen = record_of.Poll self.old.version ∷ self.old.seen } }
     {
         let version = self.version;
         let said = Said::Poll { version };
@@ -119,9 +120,8 @@ impl Pen {
     pub fn change(&mut self, map: &Map, content: &Content)
         requires map { map.now.table ≡ self.old.table }
         requires new { newest self.old.seen ≢ Some content.now }
-        requires room { changes self.old.seen ≤ last_count }
-        ensures table { self.new.table ≡ self.old.table }
-        ensures history { self.new.seen ≡ record_of.Change (changes self.old.seen) content.now ∷ self.old.seen }
+        requires room { self.old.version < last_count }
+        ensures { self.new ≡ record self.old { seen = record_of.Change (self.old.version + 1) content.now ∷ self.old.seen; version = self.old.version + 1 } }
     {
         let before = self.version;
         let version = before + 1;
@@ -135,8 +135,7 @@ impl Pen {
     pub fn insert(&mut self, map: &Map, entry: &Entry)
         requires map { map.now.table ≡ self.old.table }
         requires legal { Legal (record_of.Load entry.now ∷ self.old.seen) }
-        ensures table { self.new.table ≡ self.old.table }
-        ensures history { self.new.seen ≡ record_of.Load entry.now ∷ self.old.seen }
+        ensures { self.new ≡ record self.old { seen = record_of.Load entry.now ∷ self.old.seen } }
     {
         let entry = Snapshot::of(entry);
         let said = Said::Load { entry };
@@ -154,8 +153,7 @@ impl Pen {
     pub fn end(&mut self, map: &Map, number: u64, cause: Ending)
         requires map { map.now.table ≡ self.old.table }
         requires live { (e : Entry) × IsLive self.old.seen e × (e.number ≡ number) × Allows cause e }
-        ensures table { self.new.table ≡ self.old.table }
-        ensures history { self.new.seen ≡ record_of.End number cause ∷ self.old.seen }
+        ensures { self.new ≡ record self.old { seen = record_of.End number cause ∷ self.old.seen } }
     {
         let said = Said::End { number, cause };
         add(
@@ -172,9 +170,8 @@ impl Pen {
     pub fn invalidate(&mut self, map: &Map)
         requires map { map.now.table ≡ self.old.table }
         requires ended { NoneLive self.old.seen }
-        requires room { invalidations self.old.seen < last_count }
-        ensures table { self.new.table ≡ self.old.table }
-        ensures history { self.new.seen ≡ record_of.Invalid (invalidations self.old.seen + 1) ∷ self.old.seen }
+        requires room { self.old.epoch < last_count }
+        ensures { self.new ≡ record self.old { seen = record_of.Invalid (self.old.epoch + 1) ∷ self.old.seen; epoch = self.old.epoch + 1 } }
     {
         let before = self.epoch;
         let epoch = before + 1;
