@@ -10,6 +10,7 @@ mod content;
 mod kind;
 mod record;
 mod row;
+mod store;
 mod switch;
 
 pub use answer::{Answer, Request};
@@ -19,4 +20,5 @@ pub use content::Content;
 pub use kind::{Db, FileId, Kind};
 pub use record::{Ending, Entry, Record};
 pub use row::{Ai, Found6, Founds, Group, Host, Looked, Passwd, Reply, Row, Service};
+pub use store::{Spent, Stats};
 pub use switch::{DbName, SwitchAction, SwitchService, SwitchStep};
