@@ -143,5 +143,5 @@ list-read (Service word ∷ items) tokens step steps (gaps, rest, are, falls, la
     ∙ items-read items rest (plain_step (service_of_word word)) later
     ∙ is
 
-pub written_is_read : (text : List ℕ) (steps : List SwitchStep) → Spells text steps → spelled_list text ≡ Some steps
+pub written_is_read : (text : List ℕ) (steps : List SwitchStep) → WritesSteps text steps → spelled_list text ≡ Some steps
 written_is_read text steps (items, writes, is) = list-read items (tokens_of text) (plain_step Other) steps writes is

@@ -323,5 +323,5 @@ claims : (tokens : List Token) → Later tokens
 claims [] place step steps is = none place step steps is
 claims (token ∷ tokens) place step steps is = more place token tokens step steps (claims tokens) (sym (reads place step token tokens) ∙ is)
 
-pub read_is_written : (text : List ℕ) (steps : List SwitchStep) → spelled_list text ≡ Some steps → Spells text steps
+pub read_is_written : (text : List ℕ) (steps : List SwitchStep) → spelled_list text ≡ Some steps → WritesSteps text steps
 read_is_written text steps is = claims (tokens_of text) First (plain_step Other) steps is

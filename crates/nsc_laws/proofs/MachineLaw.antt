@@ -16,7 +16,7 @@ use Rattle.nsc_model.specs.declared.conf.DbConf.{DbConf}
 use Rattle.nsc_model.specs.Answers.{answer_of}
 use Rattle.nsc_model.specs.History.{version_in, IsLive, Legal, Answered}
 use Rattle.nsc_laws.specs.Core.{Caller, Core, opening, Files, Look, Among, AreLive, Replies}
-use Rattle.nsc_model.specs.Machine.{Kept, Cache, new_cache, Passed, Stopped, unchanged, ◌>>=◌, polled, tried, kept_answer, cached, used_now, loaded, hit_or_load, lookup, invalidated, compacted_after, ends_of, is_dropped, due_cause, next_reloads, reloaded, due_of, others_of, reloaded_of, pruned, ticked, is_outdated, checked, tick}
+use Rattle.nsc_model.specs.Machine.{Kept, Cache, new_cache, Passed, Stopped, unchanged, ◌>>=◌, polled, tried, kept_answer, cached, used_now, loaded, hit_or_load, lookup, invalidated, compacted_after, ends_of, is_dropped, due_cause, next_reloads, reloaded, due_of, others_of, reloaded_of, pruned, is_outdated, checked, tick}
 use Rattle.nsc_laws.specs.Calls.{entries_of, Drives, IsTurned, PassesBy, TurnsBy}
 use Rattle.nsc_laws.proofs.Requests.{same_request, request_same}
 use Rattle.nsc_laws.proofs.CoreLaw.{changed, begun, taking, answered_law}
@@ -108,20 +108,18 @@ prune_comes db a event settings options now core c cache s l =
     (compacts db a event core1 c (Ready rest) due after s1 (λ cycle used. record { looked = record { version_is = looked.version_is; noted_is = looked.noted_is; was = looked.was }; free = free }))
     (λ mid d x sources t ready. reloads db a event settings now rest mid d x t ready.looked ready.free))
 
-check_comes : (db : Db) (a : ℕ) (event : List Record) (settings : DbConf) (options : Option ℕ) (now : ℕ) (core : Core) (c : Caller) (cache : Cache) → Stands a event core c cache → Looked core.history c cache → Comes db a event core Nothing (checked settings options now cache)
-check_comes db a event settings options now core c cache s l = by_test (is_outdated settings cache.newest_version cache.ticked_version) where
-  by_test : (b : Bool) → Comes db a event core Nothing (cond b (invalidated cache >>= λ after. Ok (unchanged (ticked after))) (pruned settings options now (ticked cache)))
-  by_test true = comes_then db a event core Nothing Nothing (invalidated cache) (λ after. Ok (unchanged (ticked after))) (invalid_comes db a event core c cache s)
-      (λ mid d x sources t nothing. stays db a event mid d Nothing (ticked x) (retold a event mid d x x.entries x.used x.cycle x.newest_version x.add_failed refl t) tt)
-  by_test false = prune_comes db a event settings options now core c (ticked cache) (retold a event core c cache cache.entries cache.used cache.cycle cache.newest_version cache.add_failed refl s)
-      (record { version_is = l.version_is; noted_is = l.noted_is; was = l.was })
+check_comes : (db : Db) (a : ℕ) (event : List Record) (settings : DbConf) (options : Option ℕ) (now ticked : ℕ) (core : Core) (c : Caller) (cache : Cache) → Stands a event core c cache → Looked core.history c cache → Comes db a event core Nothing (checked settings options now ticked cache)
+check_comes db a event settings options now ticked core c cache s l = by_test (is_outdated settings cache.newest_version ticked) where
+  by_test : (b : Bool) → Comes db a event core Nothing (cond b (invalidated cache) (pruned settings options now cache))
+  by_test true = invalid_comes db a event core c cache s
+  by_test false = prune_comes db a event settings options now core c cache s l
 
-tick_comes : (db : Db) (a : ℕ) (event : List Record) (settings : DbConf) (options : Option ℕ) (now : ℕ) (core : Core) (c : Caller) (cache : Cache) → Stands a event core c cache → Comes db a event core Nothing (tick settings options now (part_of db core.sources) cache)
+tick_comes : (db : Db) (a : ℕ) (event : List Record) (settings : DbConf) (options : Option ℕ) (now ticked : ℕ) (core : Core) (c : Caller) (cache : Cache) → Stands a event core c cache → Comes db a event core Nothing (tick settings options now (part_of db core.sources) ticked cache)
 unfolding tick
-tick_comes db a event settings options now core c cache s = by_test settings.enabled where
-  by_test : (b : Bool) → Comes db a event core Nothing (cond b (polled (part_of db core.sources) cache >>= checked settings options now) (Ok (unchanged cache)))
-  by_test true = comes_then db a event core (Polled c.request c.seen c.taken cache.entries) Nothing (polled (part_of db core.sources) cache) (checked settings options now) (poll_comes db a event core c cache s)
-      (λ mid d x sources t p. check_comes db a event settings options now mid d x t p.looked)
+tick_comes db a event settings options now ticked core c cache s = by_test settings.enabled where
+  by_test : (b : Bool) → Comes db a event core Nothing (cond b (polled (part_of db core.sources) cache >>= checked settings options now ticked) (Ok (unchanged cache)))
+  by_test true = comes_then db a event core (Polled c.request c.seen c.taken cache.entries) Nothing (polled (part_of db core.sources) cache) (checked settings options now ticked) (poll_comes db a event core c cache s)
+      (λ mid d x sources t p. check_comes db a event settings options now ticked mid d x t p.looked)
   by_test false = stays db a event core c Nothing cache s tt
 
 -- ---- a lookup
@@ -167,7 +165,7 @@ hits db a old request cache k s among same =
       step = silent_step db a old.history old core1 core2 [] (begin_step db a old.history old (old.callers a) cache request s)
           (one_step db a old.history (Look a (Some k.entry)) core1 [] core2 refl
           (s.tells.entries_are.live k.entry among, ap (λ (x : Caller). x.request) s1.caller_is ∙ ap (λ (r : Request). asking r) same, ap (λ (x : Caller). changed core1 a (taking x k.entry)) (sym s1.caller_is)) refl refl);
-      stands = retold a old.history core2 c2 cache (used_now request cache.entries) cache.used cache.cycle cache.ticked_version cache.add_failed (used_entries request cache.entries) s2;
+      stands = retold a old.history core2 c2 cache (used_now request cache.entries) cache.used cache.cycle cache.add_failed (used_entries request cache.entries) s2;
       request_is = refl;
       seen_is = refl;
       live = λ e is. subst (IsLive old.history) (same_Some k.entry e is) (s.tells.entries_are.live k.entry among);
@@ -261,8 +259,8 @@ lookup_turns db a settings now request old cache d = by_found (cached settings r
       (λ enabled f x same. false≢true (sym (missed (λ y. is_request request y.request) cache.entries f (subst (λ (b : Bool). cond b (find (λ y. is_request request y.entry.request) cache.entries) None ≡ None) enabled e) x)
       ∙ subst (λ (y : Request). is_request request y ≡ true) (sym same) (request_same request)))
 
-pub tick_passes : (db : Db) (a : ℕ) (settings : DbConf) (options : Option ℕ) (now : ℕ) (old : Core) (cache : Cache) → Drives db a old cache → PassesBy db a old (tick settings options now (part_of db old.sources) cache)
-tick_passes db a settings options now old cache d = passes db a old cache Nothing (tick settings options now (part_of db old.sources) cache) d (tick_comes db a old.history settings options now old (old.callers a) cache (driven db a old cache d))
+pub tick_passes : (db : Db) (a : ℕ) (settings : DbConf) (options : Option ℕ) (now ticked : ℕ) (old : Core) (cache : Cache) → Drives db a old cache → PassesBy db a old (tick settings options now (part_of db old.sources) ticked cache)
+tick_passes db a settings options now ticked old cache d = passes db a old cache Nothing (tick settings options now (part_of db old.sources) ticked cache) d (tick_comes db a old.history settings options now ticked old (old.callers a) cache (driven db a old cache d))
 
 pub invalidation_passes : (db : Db) (a : ℕ) (old : Core) (cache : Cache) → Drives db a old cache → PassesBy db a old (invalidated cache)
 invalidation_passes db a old cache d = passes db a old cache Nothing (invalidated cache) d (invalid_comes db a old.history old (old.callers a) cache (driven db a old cache d))

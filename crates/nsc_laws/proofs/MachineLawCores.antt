@@ -11,7 +11,8 @@ use Rattle.nsc_model.specs.History.{invalidations}
 use Rattle.nsc_laws.specs.Core.{Caller, Core, Note, opening}
 use Rattle.nsc_model.specs.Machine.{Cache}
 use Rattle.nsc_laws.specs.Calls.{IsOwn, IsBy, MovesOver, Drives, IsMoved}
-use Rattle.nsc_model.specs.Replay.{State, first_state, cache_of, with_cache}
+use Rattle.nsc_model.specs.declared.conf.Conf.{Conf}
+use Rattle.nsc_model.specs.Replay.{State, first_state, cache_of, with_cache, with_ticked}
 use Rattle.nsc_laws.specs.Replies.{AllDrive, each_of, with_at, none_add, AllMove}
 use Rattle.nsc_laws.proofs.CoreLaw.{changed, noting}
 use Rattle.nsc_laws.proofs.MachineLaw.{opening_drives, files_drive}
@@ -23,7 +24,7 @@ use Rattle.nsc_laws.proofs.MachineLawSteps.{own_by, runs_append, at_own, note_st
 abbrev Rests : Content → Core → Type 0
 Rests f core = (core.sources ≡ f) × ((core.callers 0).fetched ≡ None)
 
-four_drive : (s : State) (cores : Db → Core) → Drives Passwd 0 (cores Passwd) s.passwd → Drives Group 0 (cores Group) s.group → Drives Hosts 0 (cores Hosts) s.hosts → Drives Services 0 (cores Services) s.services
+four_drive : (s : State) (cores : Db → Core) → Drives Passwd 0 (cores Passwd) s.caches.passwd → Drives Group 0 (cores Group) s.caches.group → Drives Hosts 0 (cores Hosts) s.caches.hosts → Drives Services 0 (cores Services) s.caches.services
     → ((db : Db) → Rests s.files (cores db)) → AllDrive s cores
 four_drive s cores users groups hosts services rests = record { drives = drives; sources_are = λ db. (rests db).0; none_fetched = λ db. (rests db).1 } where
   drives : (db : Db) → Drives db 0 (cores db) (cache_of s db)
@@ -135,33 +136,25 @@ over_files f cores db = record (cores db) { sources = f }
 
 pub set_file_drive : (s : State) (cores : Db → Core) (f : Content) → AllDrive s cores → AllDrive (record s { files = f }) (over_files f cores)
 set_file_drive s cores f d =
-    four_drive (record s { files = f }) (over_files f cores) (files_drive Passwd 0 (cores Passwd) s.passwd f (d.drives Passwd)) (files_drive Group 0 (cores Group) s.group f (d.drives Group))
-    (files_drive Hosts 0 (cores Hosts) s.hosts f (d.drives Hosts)) (files_drive Services 0 (cores Services) s.services f (d.drives Services)) (λ db. (refl, d.none_fetched db))
+    four_drive (record s { files = f }) (over_files f cores) (files_drive Passwd 0 (cores Passwd) s.caches.passwd f (d.drives Passwd)) (files_drive Group 0 (cores Group) s.caches.group f (d.drives Group))
+    (files_drive Hosts 0 (cores Hosts) s.caches.hosts f (d.drives Hosts)) (files_drive Services 0 (cores Services) s.caches.services f (d.drives Services)) (λ db. (refl, d.none_fetched db))
 
 -- ---- moves of one of them
 
-pub files_with : (s : State) (db : Db) (cache : Cache) → (with_cache s db cache).files ≡ s.files
-files_with s Passwd cache = refl
-files_with s Group cache = refl
-files_with s Hosts cache = refl
-files_with s Services cache = refl
-
-pub moment_with : (s : State) (db : Db) (cache : Cache) → (with_cache s db cache).moment ≡ s.moment
-moment_with s Passwd cache = refl
-moment_with s Group cache = refl
-moment_with s Hosts cache = refl
-moment_with s Services cache = refl
+-- the version that a tick found says nothing of the caches
+pub ticked_moves : (settings : Conf) (old : Db → Core) (adds : Db → List Record) (db : Db) (s : State) (new : Db → Core) → AllMove old adds s new → AllMove old adds (with_ticked settings db s) new
+ticked_moves settings old adds db s new g =
+    record { drive = record { drives = g.drive.drives; sources_are = g.drive.sources_are; none_fetched = g.drive.none_fetched }; gained = g.gained; over = g.over }
 
 -- one of the cores, which gained nothing so far, moves on
 pub one_moves : (old : Db → Core) (adds : Db → List Record) (s : State) (cores : Db → Core) (db : Db) (core : Core) (more : List Record) (after : Cache) → AllMove old adds s cores → adds db ≡ [] → IsMoved db 0 (cores db) more after core
     → AllMove old (with_at adds db more) (with_cache s db after) (with_at cores db (settled core))
 one_moves old adds s cores db core more after g none m =
     let new = settled core in
-    let over = over_with s.files old cores db new g.over (over_more db s.files (old db) (cores db) core more after (g.over db) m) in
     record {
       drive = drive_with s cores db new after g.drive (settled_drives db core after m.drives) (settled_rests s.files core (m.sources_stay ∙ g.drive.sources_are db));
       gained = gained_with old cores adds db new more g.gained none m.history_is;
-      over = subst (λ (f : Content). Over f old (with_at cores db new)) (sym (files_with s db after)) over;
+      over = over_with s.files old cores db new g.over (over_more db s.files (old db) (cores db) core more after (g.over db) m);
     }
 
 pub all_stay : (s : State) (cores : Db → Core) → AllDrive s cores → AllMove cores none_add s cores

@@ -192,7 +192,7 @@ refused : (db : Db) (a : ℕ) (event : List Record) (core : Core) (c : Caller) (
 refused db a event core c request cache failed s l = record {
   new = core;
   step = no_step db a event core;
-  stands = retold a event core c cache cache.entries cache.used cache.cycle cache.ticked_version failed refl s;
+  stands = retold a event core c cache cache.entries cache.used cache.cycle failed refl s;
   looked = record { version_is = l.version_is; noted_is = l.noted_is; was = l.was };
   held = s.tells.held;
   among = λ e a. inl a;
@@ -253,7 +253,7 @@ compacts db a event core c also [] cache s holds = stays db a event core c also 
 compacts db a event core c also (k ∷ ks) cache s holds = by_test (ltb cache.cycle last_count) where
   by_test : (b : Bool) → Comes db a event core also (cond b (Ok (unchanged (record cache { cycle = cache.cycle + 2; used = all_words cache.entries }))) (Err (stopped cache)))
   by_test true = stays db a event core c also (record cache { cycle = cache.cycle + 2; used = all_words cache.entries })
-      (retold a event core c cache cache.entries (all_words cache.entries) (cache.cycle + 2) cache.ticked_version cache.add_failed refl s) (holds (cache.cycle + 2) (all_words cache.entries))
+      (retold a event core c cache cache.entries (all_words cache.entries) (cache.cycle + 2) cache.add_failed refl s) (holds (cache.cycle + 2) (all_words cache.entries))
   by_test false = stays db a event core c Nothing cache s tt
 
 invalid_tells : (h : List Record) (cache : Cache) → Tells h cache → Tells (Invalid (invalidations h + 1) ∷ ended_all (entries_of cache.entries) h) (emptied cache).cache

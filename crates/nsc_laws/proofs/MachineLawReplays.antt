@@ -13,19 +13,20 @@ use Rattle.nsc_model.specs.Content.{Content}
 use Rattle.nsc_model.specs.Files.{no_files, with_file, part_of}
 use Rattle.nsc_model.specs.declared.conf.Conf.{Conf}
 use Rattle.nsc_model.specs.Settings.{settings_of}
+use Rattle.nsc_model.specs.Databases.{database_in}
 use Rattle.nsc_model.specs.Wire.{Asked, Look, Shutdown, Stat, Invalidate, Descriptor, Netgroup, Short, BadVersion, BadType, BadLength, request_of}
 use Rattle.nsc_model.specs.History.{invalidations}
 use Rattle.nsc_model.specs.Machine.{Cache, Passed, Stopped, Turn, lookup, tick, invalidated}
 use Rattle.nsc_model.specs.Frames as frame
 use Rattle.nsc_model.specs.Frames.{Frame, Finish, Spent, cut_at}
-use Rattle.nsc_model.specs.Replay.{State, first_state, cache_of, with_cache, Went, framed, looked_at, look_frame, unanswered, request_frame, silent, then_on, ticked_in, ticks, turn_of, Replayed, play_on, play, replay}
+use Rattle.nsc_model.specs.Replay.{State, first_state, cache_of, with_cache, Went, framed, looked_at, look_frame, unanswered, request_frame, silent, then_on, tick_in, with_ticked, ticked_in, ticks, turn_of, Replayed, play_on, play, replay}
 use Rattle.nsc_laws.specs.Core.{Caller, Core, opening}
-use Rattle.nsc_laws.specs.Calls.{IsBy, IsTurned, PassesBy, TurnsBy}
-use Rattle.nsc_laws.specs.Replies.{AllDrive, IsGiven, IsReplied, each_of, with_at, none_add, adds_alone, adds_of, look_adds_of, asked_adds, tick_of, unless_stopped, tick_adds, frame_adds, reached_moment, AllMove, left_on, left_looked, left_ticked, left_ticks, left_look, left_asked, left_by, stopped_in, IsPlayed, IsStopped, PlayedThen, EachReplied, IsReplayed}
+use Rattle.nsc_laws.specs.Calls.{IsBy, IsMoved, IsTurned, PassesBy, TurnsBy}
+use Rattle.nsc_laws.specs.Replies.{AllDrive, IsGiven, IsReplied, each_of, with_at, none_add, adds_alone, adds_of, look_adds_of, asked_adds, unless_stopped, tick_adds, frame_adds, reached_moment, AllMove, left_on, left_looked, left_ticked, left_ticks, left_look, left_asked, left_by, stopped_in, IsPlayed, IsStopped, PlayedThen, EachReplied, IsReplayed}
 use Rattle.nsc_laws.proofs.CoreLaw.{noting}
 use Rattle.nsc_laws.proofs.MachineLaw.{lookup_turns, tick_passes, invalidation_passes}
 use Rattle.nsc_laws.proofs.MachineLawSteps.{at_own}
-use Rattle.nsc_laws.proofs.MachineLawCores.{settled, moment_drive, over_files, set_file_drive, files_with, moment_with, one_moves, all_stay, all_begin, with_at_own}
+use Rattle.nsc_laws.proofs.MachineLawCores.{settled, moment_drive, over_files, set_file_drive, ticked_moves, one_moves, all_stay, all_begin, with_at_own}
 
 -- ---- events for which nothing is written
 
@@ -42,64 +43,75 @@ Silently old adds left files moment (Err finish) = (new : Db → Core) × AllMov
 -- one database, and nothing after it
 last_part : (old : Db → Core) (adds : Db → List Record) (s : State) (cores : Db → Core) (db : Db) (r : Result Passed Stopped) → AllMove old adds s cores → adds db ≡ [] → PassesBy db 0 (cores db) r
     → Silently old (with_at adds db (adds_of r)) (left_on s db r (λ t. t)) s.files s.moment (then_on s db r silent)
-last_part old adds s cores db (Ok passed) g none w = (with_at cores db (settled w.0), one_moves old adds s cores db w.0 passed.adds passed.cache g none w.1, refl, files_with s db passed.cache, moment_with s db passed.cache)
+last_part old adds s cores db (Ok passed) g none w = (with_at cores db (settled w.0), one_moves old adds s cores db w.0 passed.adds passed.cache g none w.1, refl, refl, refl)
 last_part old adds s cores db (Err stop) g none w = (with_at cores db (settled w.0), one_moves old adds s cores db w.0 stop.adds stop.cache g none w.1, record { count = stop.count; is = refl })
 
 -- ---- ticks
 
-tick_passes_in : (settings : Conf) (s : State) (cores : Db → Core) (db : Db) → AllDrive s cores → PassesBy db 0 (cores db) (tick_of settings s db)
+tick_passes_in : (settings : Conf) (s : State) (cores : Db → Core) (db : Db) → AllDrive s cores → PassesBy db 0 (cores db) (tick_in settings db s)
 tick_passes_in settings s cores db d =
-    subst (λ (f : Content). PassesBy db 0 (cores db) (tick (settings_of settings db) settings.reloads s.moment (part_of db f) (cache_of s db))) (d.sources_are db)
-    (tick_passes db 0 (settings_of settings db) settings.reloads s.moment (cores db) (cache_of s db) (d.drives db))
+    subst (λ (f : Content). PassesBy db 0 (cores db) (tick (settings_of settings db) settings.reloads s.moment (part_of db f) (database_in s.ticked db) (cache_of s db))) (d.sources_are db)
+    (tick_passes db 0 (settings_of settings db) settings.reloads s.moment (database_in s.ticked db) (cores db) (cache_of s db) (d.drives db))
 
-abbrev left_from_services : Conf → State → State
-left_from_services settings s = left_ticked settings Services s (λ s4. s4)
+-- what the ticks from a database on come to, once it was ticked itself
+abbrev left_after_hosts : Conf → State → State
+left_after_hosts settings s = left_ticked settings Services (with_ticked settings Hosts s) (λ s4. s4)
 
-abbrev left_from_hosts : Conf → State → State
-left_from_hosts settings s = left_ticked settings Hosts s (left_from_services settings)
+abbrev left_after_group : Conf → State → State
+left_after_group settings s = left_ticked settings Hosts (with_ticked settings Group s) (λ t. left_ticked settings Services t (λ s4. s4))
 
-abbrev left_from_groups : Conf → State → State
-left_from_groups settings s = left_ticked settings Group s (left_from_hosts settings)
+abbrev left_after_passwd : Conf → State → State
+left_after_passwd settings s = left_ticked settings Group (with_ticked settings Passwd s) (λ t. left_ticked settings Hosts t (λ u. left_ticked settings Services u (λ s4. s4)))
 
-abbrev from_services : Conf → State → Result Went Finish
-from_services settings s = ticked_in settings Services s silent
+abbrev after_hosts : Conf → State → Result Went Finish
+after_hosts settings s = ticked_in settings Services (with_ticked settings Hosts s) silent
 
-abbrev from_hosts : Conf → State → Result Went Finish
-from_hosts settings s = ticked_in settings Hosts s (from_services settings)
+abbrev after_group : Conf → State → Result Went Finish
+after_group settings s = ticked_in settings Hosts (with_ticked settings Group s) (λ t. ticked_in settings Services t silent)
 
-abbrev from_groups : Conf → State → Result Went Finish
-from_groups settings s = ticked_in settings Group s (from_hosts settings)
+abbrev after_passwd : Conf → State → Result Went Finish
+after_passwd settings s = ticked_in settings Group (with_ticked settings Passwd s) (λ t. ticked_in settings Hosts t (λ u. ticked_in settings Services u silent))
+
+-- one database was ticked, which gained nothing so far
+moves_ticked : (settings : Conf) (old : Db → Core) (adds : Db → List Record) (s : State) (cores : Db → Core) (db : Db) (core : Core) (more : List Record) (after : Cache) → AllMove old adds s cores → adds db ≡ [] → IsMoved db 0 (cores db) more after core
+    → AllMove old (with_at adds db more) (with_ticked settings db (with_cache s db after)) (with_at cores db (settled core))
+moves_ticked settings old adds s cores db core more after g none m = ticked_moves settings old (with_at adds db more) db (with_cache s db after) (with_at cores db (settled core)) (one_moves old adds s cores db core more after g none m)
+
+services_ticked : (settings : Conf) (old : Db → Core) (a b c : List Record) (s : State) (cores : Db → Core) (r : Result Passed Stopped) → AllMove old (each_of a b c []) s cores → PassesBy Services 0 (cores Services) r
+    → Silently old (each_of a b c (adds_of r)) (left_on s Services r (with_ticked settings Services)) s.files s.moment (then_on s Services r (λ t. silent (with_ticked settings Services t)))
+services_ticked settings old a b c s cores (Ok passed) g w = (with_at cores Services (settled w.0), moves_ticked settings old (each_of a b c []) s cores Services w.0 passed.adds passed.cache g refl w.1, refl, refl, refl)
+services_ticked settings old a b c s cores (Err stop) g w = (with_at cores Services (settled w.0), one_moves old (each_of a b c []) s cores Services w.0 stop.adds stop.cache g refl w.1, record { count = stop.count; is = refl })
 
 hosts_ticked : (settings : Conf) (old : Db → Core) (a b : List Record) (s : State) (cores : Db → Core) (r : Result Passed Stopped) → AllMove old (each_of a b [] []) s cores → PassesBy Hosts 0 (cores Hosts) r
-    → Silently old (each_of a b (adds_of r) (unless_stopped r (adds_of (tick_of settings s Services)))) (left_on s Hosts r (left_from_services settings)) s.files s.moment (then_on s Hosts r (from_services settings))
+    → Silently old (each_of a b (adds_of r) (unless_stopped r (adds_of (tick_in settings Services s)))) (left_on s Hosts r (left_after_hosts settings)) s.files s.moment (then_on s Hosts r (after_hosts settings))
 hosts_ticked settings old a b s cores (Ok passed) g w =
-    let t = with_cache s Hosts passed.cache in
+    let t = with_ticked settings Hosts (with_cache s Hosts passed.cache) in
     let new = with_at cores Hosts (settled w.0) in
-    let moved = one_moves old (each_of a b [] []) s cores Hosts w.0 passed.adds passed.cache g refl w.1 in
-    last_part old (each_of a b passed.adds []) t new Services (tick_of settings t Services) moved refl (tick_passes_in settings t new Services moved.drive)
+    let moved = moves_ticked settings old (each_of a b [] []) s cores Hosts w.0 passed.adds passed.cache g refl w.1 in
+    services_ticked settings old a b passed.adds t new (tick_in settings Services t) moved (tick_passes_in settings t new Services moved.drive)
 hosts_ticked settings old a b s cores (Err stop) g w = (with_at cores Hosts (settled w.0), one_moves old (each_of a b [] []) s cores Hosts w.0 stop.adds stop.cache g refl w.1, record { count = stop.count; is = refl })
 
-groups_ticked : (settings : Conf) (old : Db → Core) (a : List Record) (s : State) (cores : Db → Core) (r : Result Passed Stopped) → AllMove old (each_of a [] [] []) s cores → PassesBy Group 0 (cores Group) r
-    → Silently old (each_of a (adds_of r) (unless_stopped r (adds_of (tick_of settings s Hosts))) (unless_stopped r (unless_stopped (tick_of settings s Hosts) (adds_of (tick_of settings s Services))))) (left_on s Group r (left_from_hosts settings)) s.files s.moment (then_on s Group r (from_hosts settings))
-groups_ticked settings old a s cores (Ok passed) g w =
-    let t = with_cache s Group passed.cache in
+group_ticked : (settings : Conf) (old : Db → Core) (a : List Record) (s : State) (cores : Db → Core) (r : Result Passed Stopped) → AllMove old (each_of a [] [] []) s cores → PassesBy Group 0 (cores Group) r
+    → Silently old (each_of a (adds_of r) (unless_stopped r (adds_of (tick_in settings Hosts s))) (unless_stopped r (unless_stopped (tick_in settings Hosts s) (adds_of (tick_in settings Services s))))) (left_on s Group r (left_after_group settings)) s.files s.moment (then_on s Group r (after_group settings))
+group_ticked settings old a s cores (Ok passed) g w =
+    let t = with_ticked settings Group (with_cache s Group passed.cache) in
     let new = with_at cores Group (settled w.0) in
-    let moved = one_moves old (each_of a [] [] []) s cores Group w.0 passed.adds passed.cache g refl w.1 in
-    hosts_ticked settings old a passed.adds t new (tick_of settings t Hosts) moved (tick_passes_in settings t new Hosts moved.drive)
-groups_ticked settings old a s cores (Err stop) g w = (with_at cores Group (settled w.0), one_moves old (each_of a [] [] []) s cores Group w.0 stop.adds stop.cache g refl w.1, record { count = stop.count; is = refl })
+    let moved = moves_ticked settings old (each_of a [] [] []) s cores Group w.0 passed.adds passed.cache g refl w.1 in
+    hosts_ticked settings old a passed.adds t new (tick_in settings Hosts t) moved (tick_passes_in settings t new Hosts moved.drive)
+group_ticked settings old a s cores (Err stop) g w = (with_at cores Group (settled w.0), one_moves old (each_of a [] [] []) s cores Group w.0 stop.adds stop.cache g refl w.1, record { count = stop.count; is = refl })
 
-users_ticked : (settings : Conf) (old : Db → Core) (s : State) (cores : Db → Core) (r : Result Passed Stopped) → AllMove old none_add s cores → PassesBy Passwd 0 (cores Passwd) r
-    → Silently old (each_of (adds_of r) (unless_stopped r (adds_of (tick_of settings s Group))) (unless_stopped r (unless_stopped (tick_of settings s Group) (adds_of (tick_of settings s Hosts))))
-    (unless_stopped r (unless_stopped (tick_of settings s Group) (unless_stopped (tick_of settings s Hosts) (adds_of (tick_of settings s Services)))))) (left_on s Passwd r (left_from_groups settings)) s.files s.moment (then_on s Passwd r (from_groups settings))
-users_ticked settings old s cores (Ok passed) g w =
-    let t = with_cache s Passwd passed.cache in
+passwd_ticked : (settings : Conf) (old : Db → Core) (s : State) (cores : Db → Core) (r : Result Passed Stopped) → AllMove old none_add s cores → PassesBy Passwd 0 (cores Passwd) r
+    → Silently old (each_of (adds_of r) (unless_stopped r (adds_of (tick_in settings Group s))) (unless_stopped r (unless_stopped (tick_in settings Group s) (adds_of (tick_in settings Hosts s))))
+    (unless_stopped r (unless_stopped (tick_in settings Group s) (unless_stopped (tick_in settings Hosts s) (adds_of (tick_in settings Services s)))))) (left_on s Passwd r (left_after_passwd settings)) s.files s.moment (then_on s Passwd r (after_passwd settings))
+passwd_ticked settings old s cores (Ok passed) g w =
+    let t = with_ticked settings Passwd (with_cache s Passwd passed.cache) in
     let new = with_at cores Passwd (settled w.0) in
-    let moved = one_moves old none_add s cores Passwd w.0 passed.adds passed.cache g refl w.1 in
-    groups_ticked settings old passed.adds t new (tick_of settings t Group) moved (tick_passes_in settings t new Group moved.drive)
-users_ticked settings old s cores (Err stop) g w = (with_at cores Passwd (settled w.0), one_moves old none_add s cores Passwd w.0 stop.adds stop.cache g refl w.1, record { count = stop.count; is = refl })
+    let moved = moves_ticked settings old none_add s cores Passwd w.0 passed.adds passed.cache g refl w.1 in
+    group_ticked settings old passed.adds t new (tick_in settings Group t) moved (tick_passes_in settings t new Group moved.drive)
+passwd_ticked settings old s cores (Err stop) g w = (with_at cores Passwd (settled w.0), one_moves old none_add s cores Passwd w.0 stop.adds stop.cache g refl w.1, record { count = stop.count; is = refl })
 
 all_ticked : (settings : Conf) (s : State) (cores : Db → Core) → AllDrive s cores → Silently cores (tick_adds settings s) (left_ticks settings s) s.files s.moment (ticks settings s)
-all_ticked settings s cores d = users_ticked settings cores s cores (tick_of settings s Passwd) (all_stay s cores d) (tick_passes_in settings s cores Passwd d)
+all_ticked settings s cores d = passwd_ticked settings cores s cores (tick_in settings Passwd s) (all_stay s cores d) (tick_passes_in settings s cores Passwd d)
 
 -- ---- the input of a connection
 
@@ -142,8 +154,8 @@ kind_asked s cores kind key (Ok turn) d w =
       with_at cores db (settled w.0),
       one_moves cores none_add s cores db w.0 turn.adds turn.cache (all_stay s cores d) refl w.1.moved,
       (turn.reply, refl, given_in kind key cores w.0 turn.adds turn.reply turn.cache w.1),
-      files_with s db turn.cache,
-      moment_with s db turn.cache,
+      refl,
+      refl,
     )
 kind_asked s cores kind key (Err stop) d w = (with_at cores (database_of kind) (settled w.0), one_moves cores none_add s cores (database_of kind) w.0 stop.adds stop.cache (all_stay s cores d) refl w.1, record { count = stop.count; is = refl })
 

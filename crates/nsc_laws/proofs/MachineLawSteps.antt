@@ -99,8 +99,8 @@ pub record Looked (h : List Record) (c : Caller) (cache : Cache) : Type 0 where
   pub was : WasPolled h cache.newest_version
 
 -- the cache differs only in what its history does not tell
-pub retells : (h : List Record) (c : Cache) (entries : List Kept) (used cycle ticked failed : ℕ) → entries_of entries ≡ entries_of c.entries → Tells h c → Tells h (record c { entries = entries; used = used; cycle = cycle; ticked_version = ticked; add_failed = failed })
-retells h c entries used cycle ticked failed same t = record {
+pub retells : (h : List Record) (c : Cache) (entries : List Kept) (used cycle failed : ℕ) → entries_of entries ≡ entries_of c.entries → Tells h c → Tells h (record c { entries = entries; used = used; cycle = cycle; add_failed = failed })
+retells h c entries used cycle failed same t = record {
   legal = t.legal;
   newest_is = t.newest_is;
   counted = t.counted;
@@ -110,13 +110,13 @@ retells h c entries used cycle ticked failed same t = record {
   entries_are = rw same t.entries_are;
 }
 
-pub retold : (a : ℕ) (event : List Record) (core : Core) (c : Caller) (cache : Cache) (entries : List Kept) (used cycle ticked failed : ℕ) → entries_of entries ≡ entries_of cache.entries → Stands a event core c cache
-    → Stands a event core c (record cache { entries = entries; used = used; cycle = cycle; ticked_version = ticked; add_failed = failed })
-retold a event core c cache entries used cycle ticked failed same s = record {
+pub retold : (a : ℕ) (event : List Record) (core : Core) (c : Caller) (cache : Cache) (entries : List Kept) (used cycle failed : ℕ) → entries_of entries ≡ entries_of cache.entries → Stands a event core c cache
+    → Stands a event core c (record cache { entries = entries; used = used; cycle = cycle; add_failed = failed })
+retold a event core c cache entries used cycle failed same s = record {
   caller_is = s.caller_is;
   seen_before = s.seen_before;
   onward = s.onward;
-  tells = retells core.history cache entries used cycle ticked failed same s.tells;
+  tells = retells core.history cache entries used cycle failed same s.tells;
 }
 
 -- the core gains records, and its callers stay

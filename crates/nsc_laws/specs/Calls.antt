@@ -9,7 +9,7 @@ use Rattle.nsc_model.specs.Entry.{Entry}
 use Rattle.nsc_model.specs.declared.conf.DbConf.{DbConf}
 use Rattle.nsc_model.specs.History.{changes, loads, invalidations, newest, version_in, IsLive, Legal, IsPrefix, Answered}
 use Rattle.nsc_laws.specs.Core.{Core, Move, Files, Begin, Look, Note, Fetch, PollStep, Insert, Finish, Empty, Compact, Reply, AreLive, Runs, Replies, opening}
-use Rattle.nsc_model.specs.Machine.{Kept, Cache, Passed, Stopped, Turn, lookup, tick, invalidated}
+use Rattle.nsc_model.specs.Machine.{Kept, Cache, Passed, Stopped, Turn, lookup, tick, ticked_by, invalidated}
 
 -- what never changes of the entries
 abbrev pub entries_of : List Kept → List Entry
@@ -104,7 +104,7 @@ pub data Event : Type 0 where
   Invalidation : Event
 
 -- in every run of events the history stays legal, and each reply is an answer to its request whose caller had seen the whole
--- history before it; a run ends where an event stops
+-- history before it; a run ends where an event stops. The number is the version that the last tick found
 abbrev pub AnsweredThen : (Cache → List Record → Type 0) → List Record → Request → Result Turn Stopped → Type 0
 AnsweredThen others history request (Ok turn) = Answered history (turn.adds ++ history) request turn.reply × others turn.cache (turn.adds ++ history)
 AnsweredThen others history request (Err stop) = Legal (stop.adds ++ history)
@@ -113,11 +113,11 @@ abbrev pub LegalThen : (Cache → List Record → Type 0) → List Record → Re
 LegalThen others history (Ok passed) = others passed.cache (passed.adds ++ history)
 LegalThen others history (Err stop) = Legal (stop.adds ++ history)
 
-abbrev pub EachAnswered : Db → DbConf → Option ℕ → List Event → Cache → List Record → Type 0
-EachAnswered db settings reloads [] cache history = Legal history
-EachAnswered db settings reloads (Lookup content now request ∷ events) cache history =
-    Legal history × AnsweredThen (EachAnswered db settings reloads events) history request (lookup settings now (part_of db content) request cache)
-EachAnswered db settings reloads (Tick content now ∷ events) cache history =
-    Legal history × LegalThen (EachAnswered db settings reloads events) history (tick settings reloads now (part_of db content) cache)
-EachAnswered db settings reloads (Invalidation ∷ events) cache history =
-    Legal history × LegalThen (EachAnswered db settings reloads events) history (invalidated cache)
+abbrev pub EachAnswered : Db → DbConf → Option ℕ → List Event → ℕ → Cache → List Record → Type 0
+EachAnswered db settings reloads [] ticked cache history = Legal history
+EachAnswered db settings reloads (Lookup content now request ∷ events) ticked cache history =
+    Legal history × AnsweredThen (EachAnswered db settings reloads events ticked) history request (lookup settings now (part_of db content) request cache)
+EachAnswered db settings reloads (Tick content now ∷ events) ticked cache history =
+    Legal history × LegalThen (λ after. EachAnswered db settings reloads events (ticked_by settings ticked after) after) history (tick settings reloads now (part_of db content) ticked cache)
+EachAnswered db settings reloads (Invalidation ∷ events) ticked cache history =
+    Legal history × LegalThen (EachAnswered db settings reloads events ticked) history (invalidated cache)

@@ -14,11 +14,11 @@ use Rattle.nsc_model.specs.Settings.{settings_of}
 use Rattle.nsc_model.specs.Wire.{Asked, Look, Shutdown, Stat, Invalidate, Descriptor, Netgroup, Short, BadVersion, BadType, BadLength, request_of}
 use Rattle.nsc_model.specs.History.{IsLive, Answered}
 use Rattle.nsc_laws.specs.Core.{Core, Replies}
-use Rattle.nsc_model.specs.Machine.{Passed, Stopped, Turn, lookup, tick, invalidated}
+use Rattle.nsc_model.specs.Machine.{Passed, Stopped, Turn, lookup, invalidated}
 use Rattle.nsc_laws.specs.Calls.{Drives, MovesOver}
 use Rattle.nsc_model.specs.Frames as frame
 use Rattle.nsc_model.specs.Frames.{Frame, Finish, Done, Bad, Long, Spent}
-use Rattle.nsc_model.specs.Replay.{State, cache_of, with_cache, Went, framed, last_moment, turn_of, Replayed}
+use Rattle.nsc_model.specs.Replay.{State, cache_of, with_cache, tick_in, with_ticked, Went, framed, last_moment, turn_of, Replayed}
 
 -- the cores of the four databases, over the files as they are, with the caches that tell their histories; the caller holds
 -- no content that it fetched before
@@ -60,10 +60,10 @@ RepliesTo old new writes frame.End = writes ≡ []
 
 -- one thing for each database
 abbrev pub each_of : {A : Type 0} → A → A → A → A → Db → A
-each_of users groups hosts services Passwd = users
-each_of users groups hosts services Group = groups
-each_of users groups hosts services Hosts = hosts
-each_of users groups hosts services Services = services
+each_of passwd group hosts services Passwd = passwd
+each_of passwd group hosts services Group = group
+each_of passwd group hosts services Hosts = hosts
+each_of passwd group hosts services Services = services
 
 -- another thing for this database
 abbrev pub with_at : {A : Type 0} → (Db → A) → Db → A → Db → A
@@ -103,10 +103,6 @@ asked_adds settings s (BadVersion version) = none_add
 asked_adds settings s (BadType type) = none_add
 asked_adds settings s (BadLength length) = none_add
 
--- the tick of a database, at the moment as it is
-abbrev pub tick_of : Conf → State → Db → Result Passed Stopped
-tick_of settings s db = tick (settings_of settings db) settings.reloads s.moment (part_of db s.files) (cache_of s db)
-
 -- after a tick that stops no other database is ticked
 abbrev pub unless_stopped : Result Passed Stopped → List Record → List Record
 unless_stopped (Ok passed) adds = adds
@@ -114,11 +110,11 @@ unless_stopped (Err stop) adds = []
 
 abbrev pub tick_adds : Conf → State → Db → List Record
 tick_adds settings s =
-    let passwd = tick_of settings s Passwd in
-    let group = tick_of settings s Group in
-    let hosts = tick_of settings s Hosts in
-    let services = tick_of settings s Services in
-    each_of (adds_of users) (unless_stopped users (adds_of groups)) (unless_stopped users (unless_stopped groups (adds_of hosts))) (unless_stopped users (unless_stopped groups (unless_stopped hosts (adds_of services))))
+    let passwd = tick_in settings Passwd s in
+    let group = tick_in settings Group s in
+    let hosts = tick_in settings Hosts s in
+    let services = tick_in settings Services s in
+    each_of (adds_of passwd) (unless_stopped passwd (adds_of group)) (unless_stopped passwd (unless_stopped group (adds_of hosts))) (unless_stopped passwd (unless_stopped group (unless_stopped hosts (adds_of services))))
 
 -- the moment of a state once a frame said this one
 abbrev pub reached_moment : State → ℕ → ℕ
@@ -151,7 +147,7 @@ left_looked s db (Err stop) = with_cache s db stop.cache
 
 -- what the ticks of all databases leave, or those up to one that stops
 abbrev pub left_ticked : Conf → Db → State → (State → State) → State
-left_ticked settings db s next = left_on s db (tick (settings_of settings db) settings.reloads s.moment (part_of db s.files) (cache_of s db)) next
+left_ticked settings db s next = left_on s db (tick_in settings db s) (λ t. next (with_ticked settings db t))
 
 abbrev pub left_ticks : Conf → State → State
 left_ticks settings s = left_ticked settings Passwd s (λ s1. left_ticked settings Group s1 (λ s2. left_ticked settings Hosts s2 (λ s3. left_ticked settings Services s3 (λ s4. s4))))

@@ -4,14 +4,14 @@ use Rattle.nsc_model.specs.declared.switch.DbName.{DbName}
 use Rattle.nsc_model.specs.declared.switch.SwitchStep.{SwitchStep}
 use Rattle.nsc_model.specs.Switches.{WritesSteps, default_list, first_line}
 
-abbrev pub SpellsNone : List ℕ → Type 0
-SpellsNone line = (steps : List SwitchStep) → Spells line steps → ⊥
+abbrev pub WritesNone : List ℕ → Type 0
+WritesNone line = (steps : List SwitchStep) → WritesSteps line steps → ⊥
 
 -- the first line of a list spells these steps, item by item; where it spells none, or there is no such line, they are the
 -- default ones
 abbrev pub LineGives : DbName → Option (List ℕ) → List SwitchStep → Type 0
 LineGives name None steps = steps ≡ default_list name
-LineGives name (Some line) steps = Spells line steps ⊎ (SpellsNone line × (steps ≡ default_list name))
+LineGives name (Some line) steps = WritesSteps line steps ⊎ (WritesNone line × (steps ≡ default_list name))
 
 -- the text gives the list of this name
 abbrev pub Gives : List ℕ → DbName → List SwitchStep → Type 0

@@ -8,8 +8,8 @@ ghost use Rattle.nsc_laws.specs.ServiceLists.{Gives};
 
 /// A text spells exactly the service list that reading it token by token gives.
 pub fn texts_spell_lists()
-    ensures read { (text : List ℕ) (steps : List SwitchStep) → Spells text steps → spelled_list text ≡ Some steps }
-    ensures spelled { (text : List ℕ) (steps : List SwitchStep) → spelled_list text ≡ Some steps → Spells text steps }
+    ensures read { (text : List ℕ) (steps : List SwitchStep) → WritesSteps text steps → spelled_list text ≡ Some steps }
+    ensures spelled { (text : List ℕ) (steps : List SwitchStep) → spelled_list text ≡ Some steps → WritesSteps text steps }
 {}
 
 /// The list of a name is exactly the one that the text gives by the grammar: what the first line of the name spells, item by

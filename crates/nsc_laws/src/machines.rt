@@ -20,8 +20,8 @@ pub fn machine_events_are_moves()
     ensures files { (db : Db) (a : ℕ) (old : Core) (cache : Cache) (files : Content) → Drives db a old cache → Drives db a (record old { sources = files }) cache }
     ensures lookup { (db : Db) (a : ℕ) (settings : DbConf) (now : ℕ) (request : Request) (old : Core) (cache : Cache) →
         Drives db a old cache → TurnsBy db a old request (lookup settings now (part_of db old.sources) request cache) }
-    ensures tick { (db : Db) (a : ℕ) (settings : DbConf) (reloads : Option ℕ) (now : ℕ) (old : Core) (cache : Cache) →
-        Drives db a old cache → PassesBy db a old (tick settings reloads now (part_of db old.sources) cache) }
+    ensures tick { (db : Db) (a : ℕ) (settings : DbConf) (reloads : Option ℕ) (now ticked : ℕ) (old : Core) (cache : Cache) →
+        Drives db a old cache → PassesBy db a old (tick settings reloads now (part_of db old.sources) ticked cache) }
     ensures invalidation { (db : Db) (a : ℕ) (old : Core) (cache : Cache) → Drives db a old cache → PassesBy db a old (invalidated cache) }
 {}
 
@@ -29,7 +29,7 @@ pub fn machine_events_are_moves()
 /// is an answer to its request, for a caller that had seen the whole history before the lookup.
 pub fn runs_are_answered()
     ensures { (db : Db) (settings : DbConf) (reloads : Option ℕ) (files : Content) (events : List Event) →
-        EachAnswered db settings reloads events (new_cache (part_of db files)) (Change 0 (part_of db files) ∷ []) }
+        EachAnswered db settings reloads events 0 (new_cache (part_of db files)) (Change 0 (part_of db files) ∷ []) }
 {}
 
 /// No other caller overtakes an insertion that notes the present epoch and whose request has no live entry: it is refused as

@@ -19,6 +19,7 @@ pub mod History
 pub mod Settings
 pub mod Sizes
 pub mod Machine
+pub mod Databases
 pub mod Events
 pub mod Frames
 pub mod Replay

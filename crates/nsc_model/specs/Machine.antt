@@ -27,8 +27,7 @@ pub record Kept : Type 0 where
 
 -- a cache: its newest content with the number of its version, the live entries from the oldest on, how many words of its
 -- room are used (by live entries, and by ended ones that no compaction followed), how often it was invalidated, how many
--- entries were inserted, the count of its compactions, which goes on by two at each, the version that the last tick found,
--- and how many insertions found no room
+-- entries were inserted, the count of its compactions, which goes on by two at each, and how many insertions found no room
 pub record Cache : Type 0 where
   pub sources : Content
   pub newest_version : ℕ
@@ -37,12 +36,11 @@ pub record Cache : Type 0 where
   pub epoch : ℕ
   pub inserted : ℕ
   pub cycle : ℕ
-  pub ticked_version : ℕ
   pub add_failed : ℕ
 
 -- a new cache
 abbrev pub new_cache : Content → Cache
-new_cache files = record { sources = files; newest_version = 0; entries = []; used = 0; epoch = 0; inserted = 0; cycle = 0; ticked_version = 0; add_failed = 0 }
+new_cache files = record { sources = files; newest_version = 0; entries = []; used = 0; epoch = 0; inserted = 0; cycle = 0; add_failed = 0 }
 
 -- an event is done: the cache after it, and the records that it added, the newest first
 pub record Passed : Type 0 where
@@ -284,20 +282,19 @@ pruned settings reloads now cache =
     let ends = due_ended reloads now cache in
     after_adds ends.adds (compacted_after due ends.cache >>= λ after. Ok (reloaded settings now (reloaded_of reloads due) after))
 
--- the version that a tick found is kept
-abbrev pub ticked : Cache → Cache
-ticked cache = record cache { ticked_version = cache.newest_version }
-
 -- the newest version is not the one that the last tick found, and such a change counts
 abbrev pub is_outdated : DbConf → ℕ → ℕ → Bool
 is_outdated settings newest ticked = settings.check_files && not (newest == ticked)
 
--- after the poll of a tick: an invalidation where the files changed, after which nothing is left to prune
-abbrev pub checked : DbConf → Option ℕ → ℕ → Cache → Result Passed Stopped
-checked settings reloads now cache =
-    if is_outdated settings cache.newest_version cache.ticked_version then (invalidated cache >>= λ after. Ok (unchanged (ticked after))) else
-    pruned settings reloads now (ticked cache)
+-- after the poll of a tick: an invalidation where the files changed since the version that the last tick found, after which
+-- nothing is left to prune
+abbrev pub checked : DbConf → Option ℕ → ℕ → ℕ → Cache → Result Passed Stopped
+checked settings reloads now ticked cache = if is_outdated settings cache.newest_version ticked then invalidated cache else pruned settings reloads now cache
 
--- a tick of a database; one that is not cached does nothing
-unfoldable pub tick : DbConf → Option ℕ → ℕ → Content → Cache → Result Passed Stopped
-tick settings reloads now files cache = if settings.enabled then (polled files cache >>= checked settings reloads now) else Ok (unchanged cache)
+-- a tick of a database, by the version that the last one found; one that is not cached does nothing
+unfoldable pub tick : DbConf → Option ℕ → ℕ → Content → ℕ → Cache → Result Passed Stopped
+tick settings reloads now files ticked cache = if settings.enabled then (polled files cache >>= checked settings reloads now ticked) else Ok (unchanged cache)
+
+-- the version that a tick found which left this cache: the newest one; where the database is not cached, that of the last tick
+abbrev pub ticked_by : DbConf → ℕ → Cache → ℕ
+ticked_by settings ticked after = if settings.enabled then after.newest_version else ticked

@@ -10,40 +10,36 @@ use Rattle.nsc_model.specs.Files.{no_files, with_file, part_of}
 use Rattle.nsc_model.specs.declared.conf.Conf.{Conf}
 use Rattle.nsc_model.specs.Settings.{settings_of}
 use Rattle.nsc_model.specs.Wire.{Asked, Look, Shutdown, Stat, Invalidate, Descriptor, Netgroup, Short, BadVersion, BadType, BadLength, request_of, field}
-use Rattle.nsc_model.specs.Machine.{Cache, new_cache, Passed, Stopped, Turn, last_count, lookup, tick, invalidated}
+use Rattle.nsc_model.specs.Machine.{Cache, new_cache, Passed, Stopped, Turn, last_count, ticked_by, lookup, tick, invalidated}
+use Rattle.nsc_model.specs.declared.databases.Databases.{Databases}
+use Rattle.nsc_model.specs.Databases.{database_in, with_database}
 use Rattle.nsc_model.specs.Frames as frame
 use Rattle.nsc_model.specs.Frames.{Frame, Finish, Spent, cut_at}
 
--- the files as they are, the moment in seconds, and the cache of each database
+-- the files as they are, the moment in seconds, and for each database its cache and the version that its last tick found
 pub record State : Type 0 where
   pub files : Content
   pub moment : ℕ
-  pub passwd : Cache
-  pub group : Cache
-  pub hosts : Cache
-  pub services : Cache
+  pub caches : Databases Cache
+  pub ticked : Databases ℕ
+
+-- a new cache over the part of a database, where every file is absent
+abbrev pub empty_cache : Db → Cache
+empty_cache db = new_cache (part_of db no_files)
 
 abbrev pub first_state : State
 first_state = record {
   files = no_files;
   moment = 0;
-  passwd = new_cache (part_of db.Passwd no_files);
-  group = new_cache (part_of db.Group no_files);
-  hosts = new_cache (part_of db.Hosts no_files);
-  services = new_cache (part_of db.Services no_files);
+  caches = record { passwd = empty_cache db.Passwd; group = empty_cache db.Group; hosts = empty_cache db.Hosts; services = empty_cache db.Services };
+  ticked = record { passwd = 0; group = 0; hosts = 0; services = 0 };
 }
 
 abbrev pub cache_of : State → Db → Cache
-cache_of s db.Passwd = s.passwd
-cache_of s db.Group = s.group
-cache_of s db.Hosts = s.hosts
-cache_of s db.Services = s.services
+cache_of s db = database_in s.caches db
 
 abbrev pub with_cache : State → Db → Cache → State
-with_cache s db.Passwd cache = record s { passwd = cache }
-with_cache s db.Group cache = record s { group = cache }
-with_cache s db.Hosts cache = record s { hosts = cache }
-with_cache s db.Services cache = record s { services = cache }
+with_cache s db cache = record s { caches = with_database s.caches db cache }
 
 -- what a frame comes to: the state after it, and what is written for it
 pub record Went : Type 0 where
@@ -95,9 +91,17 @@ abbrev pub then_on : State → Db → Result Passed Stopped → (State → Resul
 then_on s db (Ok passed) next = next (with_cache s db passed.cache)
 then_on s db (Err stop) next = Err (Spent stop.count)
 
--- a database is ticked at the moment as it is
+-- the tick of a database at the moment as it is
+abbrev pub tick_in : Conf → Db → State → Result Passed Stopped
+tick_in settings db s = tick (settings_of settings db) settings.reloads s.moment (part_of db s.files) (database_in s.ticked db) (cache_of s db)
+
+-- the version is kept that a tick found
+abbrev pub with_ticked : Conf → Db → State → State
+with_ticked settings db s = record s { ticked = with_database s.ticked db (ticked_by (settings_of settings db) (database_in s.ticked db) (cache_of s db)) }
+
+-- a database is ticked, and the next part goes on after it
 abbrev pub ticked_in : Conf → Db → State → (State → Result Went Finish) → Result Went Finish
-ticked_in settings db s next = then_on s db (tick (settings_of settings db) settings.reloads s.moment (part_of db s.files) (cache_of s db)) next
+ticked_in settings db s next = then_on s db (tick_in settings db s) (λ t. next (with_ticked settings db t))
 
 -- all databases are ticked, one after the other
 abbrev pub ticks : Conf → State → Result Went Finish

@@ -6,13 +6,13 @@ use Rattle.nsc_plain.specs.declared.fault.PlainFault.{PlainFault}
 use Rattle.nsc_plain.specs.declared.fault.PlainFault.TheVariants.{NoMemory, Spent}
 use Rattle.nsc_model.specs.declared.answer.Request.{Request}
 use Rattle.nsc_model.specs.declared.record.Record.{Record}
-use Rattle.nsc_model.specs.declared.record.Record.TheVariants.{Invalid}
 use Rattle.nsc_model.specs.Kinds.{is_request}
 use Rattle.nsc_model.specs.Content.{Content}
 use Rattle.nsc_model.specs.declared.conf.DbConf.{DbConf}
 use Rattle.nsc_model.specs.Answers.{answer_of}
-use Rattle.nsc_model.specs.Machine.{Kept, Cache, Passed, Stopped, Turn, Refusal, TooLarge, Discarded, Present, Spent as Uncounted, Full, last_count, after_adds, ◌>>=◌, own_refusal, room_of, tried, tried_by, new_entry, polled, cached, kept_answer, loaded, hit_or_load, lookup, compacted, compacted_after, invalidated, ends_of, by_invalidation, due_cause, stopped, unchanged, is_due, due_of, others_of, reloaded_of, reloaded, next_reloads, pruned, ticked, checked, tick}
-use Rattle.nsc_plain.specs.PlainCache.{TurnsTo, PassesTo, StopsAt, StopsBy, FaultsBy, GivesUpBy, HitsBy}
+use Rattle.nsc_model.specs.Machine.{Kept, Cache, Passed, Stopped, Turn, Refusal, TooLarge, Discarded, Present, Spent as Uncounted, Full, last_count, after_adds, ◌>>=◌, own_refusal, room_of, tried, tried_by, new_entry, polled, cached, kept_answer, loaded, hit_or_load, lookup, compacted, compacted_after, emptied, invalidated, ends_of, due_cause, stopped, unchanged, is_due, due_of, others_of, reloaded_of, reloaded, next_reloads, pruned, checked, tick}
+use Rattle.nsc_model.specs.Events.{TurnsTo, PassesTo, StopsAt}
+use Rattle.nsc_plain.specs.PlainCache.{StopsBy, FaultsBy, GivesUpBy, HitsBy}
 use Rattle.nsc_plain.specs.Answered.{anew}
 use Rattle.nsc_plain.specs.Table.{put, put_all}
 use Rattle.nsc_plain.proofs.Ends.{none_left}
@@ -27,8 +27,8 @@ other_number : (a b : ℕ) → a ≢ b → (a == b) ≡ false
 other_number a b ne = elim (eqb_tells a b) [ inl p ↦ absurd (ne p.1) | inr p ↦ p.0 ]
 
 -- a cache with no entries, and no counts of its entries
-abbrev pub bare : Content → ℕ → ℕ → ℕ → Cache
-bare files version epoch ticked = record { sources = files; newest_version = version; entries = []; used = 0; epoch = epoch; inserted = 0; cycle = 0; ticked_version = ticked; add_failed = 0 }
+abbrev pub bare : Content → ℕ → ℕ → Cache
+bare files version epoch = record { sources = files; newest_version = version; entries = []; used = 0; epoch = epoch; inserted = 0; cycle = 0; add_failed = 0 }
 
 -- ---- one part after another
 
@@ -54,10 +54,7 @@ stops_then (Err stop) next mid after n h k = absurd h
 
 -- ---- invalidations
 
-abbrev emptied : Cache → Cache
-emptied cache = record cache { entries = []; epoch = cache.epoch + 1 }
-
-goes_on : (cache : Cache) → (cache.epoch == last_count) ≡ false → invalidated cache ≡ after_adds (Invalid (cache.epoch + 1) ∷ ends_of by_invalidation cache.entries []) (compacted_after cache.entries (emptied cache))
+goes_on : (cache : Cache) → (cache.epoch == last_count) ≡ false → invalidated cache ≡ after_adds (emptied cache).adds (compacted_after cache.entries (emptied cache).cache)
 unfolding invalidated
 goes_on cache e = at_false _ _ e
 
@@ -67,16 +64,14 @@ invalidation_stops cache e =
     let at : invalidated cache ≡ Err (stopped cache) = at_true _ _ (eq-eqb cache.epoch last_count e) in
     subst (λ (r : Result Passed Stopped). StopsAt r cache last_count) (sym at) (refl, refl)
 
-pub invalidation_passes : (cache after : Cache) → cache.epoch ≢ last_count → PassesTo (compacted_after cache.entries (emptied cache)) after → PassesTo (invalidated cache) after
+pub invalidation_passes : (cache after : Cache) → cache.epoch ≢ last_count → PassesTo (compacted_after cache.entries (emptied cache).cache) after → PassesTo (invalidated cache) after
 invalidation_passes cache after ne h =
-    let adds = Invalid (cache.epoch + 1) ∷ ends_of by_invalidation cache.entries [] in
-    subst (λ (r : Result Passed Stopped). PassesTo r after) (sym (goes_on cache (other_number cache.epoch last_count ne))) (passes_after adds (compacted_after cache.entries (emptied cache)) after h)
+    subst (λ (r : Result Passed Stopped). PassesTo r after) (sym (goes_on cache (other_number cache.epoch last_count ne))) (passes_after (emptied cache).adds (compacted_after cache.entries (emptied cache).cache) after h)
 
-pub invalidation_faults : (cache after : Cache) (fault : PlainFault) → cache.epoch ≢ last_count → StopsBy (compacted_after cache.entries (emptied cache)) after fault → StopsBy (invalidated cache) after fault
+pub invalidation_faults : (cache after : Cache) (fault : PlainFault) → cache.epoch ≢ last_count → StopsBy (compacted_after cache.entries (emptied cache).cache) after fault → StopsBy (invalidated cache) after fault
 invalidation_faults cache after NoMemory ne h = absurd h
 invalidation_faults cache after (Spent n) ne h =
-    let adds = Invalid (cache.epoch + 1) ∷ ends_of by_invalidation cache.entries [] in
-    subst (λ (r : Result Passed Stopped). StopsAt r after n) (sym (goes_on cache (other_number cache.epoch last_count ne))) (stops_after adds (compacted_after cache.entries (emptied cache)) after n h)
+    subst (λ (r : Result Passed Stopped). StopsAt r after n) (sym (goes_on cache (other_number cache.epoch last_count ne))) (stops_after (emptied cache).adds (compacted_after cache.entries (emptied cache).cache) after n h)
 
 -- ---- lookups
 
@@ -194,32 +189,32 @@ prune_faults settings reloads now cache before after (Spent n) some h =
     let first : StopsAt (compacted_after due (left now cache)) after n = subst (λ (r : Result Passed Stopped). StopsAt r after n) (sym (compacted_some due (left now cache) some)) h in
     stops_after (ends_of (due_cause reloads now) due []) (compacted_after due (left now cache) >>= next) after n (stops_first (compacted_after due (left now cache)) next after n first)
 
-pub tick_rests : (settings : DbConf) (reloads : Option ℕ) (now : ℕ) (files : Content) (cache : Cache) → settings.enabled ≡ false → PassesTo (tick settings reloads now files cache) cache
+pub tick_rests : (settings : DbConf) (reloads : Option ℕ) (now : ℕ) (files : Content) (ticked : ℕ) (cache : Cache) → settings.enabled ≡ false → PassesTo (tick settings reloads now files ticked cache) cache
 unfolding tick
-tick_rests settings reloads now files cache off =
-    let at : tick settings reloads now files cache ≡ Ok (unchanged cache) = at_false _ _ off in
+tick_rests settings reloads now files ticked cache off =
+    let at : tick settings reloads now files ticked cache ≡ Ok (unchanged cache) = at_false _ _ off in
     subst (λ (r : Result Passed Stopped). PassesTo r cache) (sym at) refl
 
-tick_runs : (settings : DbConf) (reloads : Option ℕ) (now : ℕ) (files : Content) (cache : Cache) → settings.enabled ≡ true
-    → tick settings reloads now files cache ≡ (polled files cache >>= checked settings reloads now)
+tick_runs : (settings : DbConf) (reloads : Option ℕ) (now : ℕ) (files : Content) (ticked : ℕ) (cache : Cache) → settings.enabled ≡ true
+    → tick settings reloads now files ticked cache ≡ (polled files cache >>= checked settings reloads now ticked)
 unfolding tick
-tick_runs settings reloads now files cache on = at_true _ _ on
+tick_runs settings reloads now files ticked cache on = at_true _ _ on
 
-pub tick_passes : (settings : DbConf) (reloads : Option ℕ) (now : ℕ) (files : Content) (before mid after : Cache) → settings.enabled ≡ true → PassesTo (polled files before) mid
-    → PassesTo (checked settings reloads now mid) after → PassesTo (tick settings reloads now files before) after
-tick_passes settings reloads now files before mid after on h k =
-    subst (λ (r : Result Passed Stopped). PassesTo r after) (sym (tick_runs settings reloads now files before on)) (passes_then (polled files before) (checked settings reloads now) mid after h k)
+pub tick_passes : (settings : DbConf) (reloads : Option ℕ) (now : ℕ) (files : Content) (ticked : ℕ) (before mid after : Cache) → settings.enabled ≡ true → PassesTo (polled files before) mid
+    → PassesTo (checked settings reloads now ticked mid) after → PassesTo (tick settings reloads now files ticked before) after
+tick_passes settings reloads now files ticked before mid after on h k =
+    subst (λ (r : Result Passed Stopped). PassesTo r after) (sym (tick_runs settings reloads now files ticked before on)) (passes_then (polled files before) (checked settings reloads now ticked) mid after h k)
 
 -- the poll of a tick gave up
-pub tick_unpolled : (settings : DbConf) (reloads : Option ℕ) (now : ℕ) (files : Content) (before after : Cache) (fault : PlainFault) → settings.enabled ≡ true
-    → GivesUpBy (polled files before) before after fault → FaultsBy (tick settings reloads now files before) files before after fault
-tick_unpolled settings reloads now files before after NoMemory on h = inl h
-tick_unpolled settings reloads now files before after (Spent n) on h =
-    subst (λ (r : Result Passed Stopped). StopsAt r after n) (sym (tick_runs settings reloads now files before on)) (stops_first (polled files before) (checked settings reloads now) after n h)
+pub tick_unpolled : (settings : DbConf) (reloads : Option ℕ) (now : ℕ) (files : Content) (ticked : ℕ) (before after : Cache) (fault : PlainFault) → settings.enabled ≡ true
+    → GivesUpBy (polled files before) before after fault → FaultsBy (tick settings reloads now files ticked before) files before after fault
+tick_unpolled settings reloads now files ticked before after NoMemory on h = inl h
+tick_unpolled settings reloads now files ticked before after (Spent n) on h =
+    subst (λ (r : Result Passed Stopped). StopsAt r after n) (sym (tick_runs settings reloads now files ticked before on)) (stops_first (polled files before) (checked settings reloads now ticked) after n h)
 
 -- what came after its poll gave up
-pub tick_faults : (settings : DbConf) (reloads : Option ℕ) (now : ℕ) (files : Content) (before mid after : Cache) (fault : PlainFault) → settings.enabled ≡ true → PassesTo (polled files before) mid
-    → GivesUpBy (checked settings reloads now mid) mid after fault → FaultsBy (tick settings reloads now files before) files before after fault
-tick_faults settings reloads now files before mid after NoMemory on h k = inr (subst (λ (c : Cache). PassesTo (polled files before) c) (sym k) h)
-tick_faults settings reloads now files before mid after (Spent n) on h k =
-    subst (λ (r : Result Passed Stopped). StopsAt r after n) (sym (tick_runs settings reloads now files before on)) (stops_then (polled files before) (checked settings reloads now) mid after n h k)
+pub tick_faults : (settings : DbConf) (reloads : Option ℕ) (now : ℕ) (files : Content) (ticked : ℕ) (before mid after : Cache) (fault : PlainFault) → settings.enabled ≡ true → PassesTo (polled files before) mid
+    → GivesUpBy (checked settings reloads now ticked mid) mid after fault → FaultsBy (tick settings reloads now files ticked before) files before after fault
+tick_faults settings reloads now files ticked before mid after NoMemory on h k = inr (subst (λ (c : Cache). PassesTo (polled files before) c) (sym k) h)
+tick_faults settings reloads now files ticked before mid after (Spent n) on h k =
+    subst (λ (r : Result Passed Stopped). StopsAt r after n) (sym (tick_runs settings reloads now files ticked before on)) (stops_then (polled files before) (checked settings reloads now ticked) mid after n h k)

@@ -1,4 +1,5 @@
--- What a plain cache is: the machine's cache with its settings, and what its calls come to.
+-- What a plain cache is: the machine's cache with its settings and the version that its last tick found, and what its calls
+-- come to.
 use Rattle.std.specs.Prelude.{◌≡◌, ℕ, List, Option, Some, None, Result, Ok, Err, ◌⊎◌}
 use Rattle.nsc_plain.specs.declared.fault.PlainFault.{PlainFault}
 use Rattle.nsc_plain.specs.declared.fault.PlainFault.TheVariants.{NoMemory, Spent}
@@ -6,26 +7,13 @@ use Rattle.nsc_model.specs.declared.answer.Request.{Request}
 use Rattle.nsc_model.specs.Content.{Content}
 use Rattle.nsc_model.specs.declared.conf.DbConf.{DbConf}
 use Rattle.nsc_model.specs.Machine.{Kept, Cache, Passed, Stopped, Turn, used_now, polled}
+use Rattle.nsc_model.specs.Events.{PassesTo, StopsAt}
 
 pub record PlainCache : Type 0 where
   pub settings : DbConf
   pub reloads : Option ℕ
   pub cache : Cache
-
--- a lookup of the machine gives this cache and this reply
-abbrev pub TurnsTo : Result Turn Stopped → Cache → List ℕ → Type 0
-TurnsTo (Ok turn) cache reply = (turn.cache ≡ cache) × (turn.reply ≡ reply)
-TurnsTo (Err stop) cache reply = ⊥
-
--- an event of the machine gives this cache
-abbrev pub PassesTo : Result Passed Stopped → Cache → Type 0
-PassesTo (Ok passed) cache = passed.cache ≡ cache
-PassesTo (Err stop) cache = ⊥
-
--- the machine stops with this cache at this count
-abbrev pub StopsAt : {A : Type 0} → Result A Stopped → Cache → ℕ → Type 0
-StopsAt (Ok done) cache count = ⊥
-StopsAt (Err stop) cache count = (stop.cache ≡ cache) × (stop.count ≡ count)
+  pub ticked : ℕ
 
 -- the cache is as before, or a poll was made and nothing else
 abbrev pub IsPolledAtMost : Content → Cache → Cache → Type 0

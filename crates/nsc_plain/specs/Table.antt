@@ -3,7 +3,7 @@ use Rattle.std.specs.Prelude.{ℕ, ◌+◌, ◌≤◌, List, [], ◌∷◌, coun
 use Rattle.nsc_model.specs.declared.answer.Request.{Request}
 use Rattle.nsc_model.specs.Kinds.{is_request}
 use Rattle.nsc_model.specs.declared.conf.DbConf.{DbConf}
-use Rattle.nsc_model.specs.Machine.{Kept, Cache, all_words, last_count, life_of, own_refusal, room_of, tried_by}
+use Rattle.nsc_model.specs.Machine.{Kept, Cache, all_words, last_count, made_entry, own_refusal, room_of, tried_by}
 use Rattle.nsc_plain.specs.Answered.{Answered}
 
 -- the live entries, the counts that their insertions and ends change, and for how many entries there is memory
@@ -43,7 +43,7 @@ pub record IsKept (entries : List Kept) (used inserted : ℕ) : Type 0 where
 -- the entry of an answered request in this cache, over this version
 abbrev pub answered_entry : DbConf → ℕ → ℕ → Answered → Cache → Kept
 answered_entry settings now version answered cache =
-    record { entry = record { number = cache.inserted; request = answered.request; version = version; answer = answered.answer; timeout = now + life_of settings answered.answer }; reloads = answered.reloads }
+    record { entry = made_entry settings now cache.inserted version answered.request answered.answer; reloads = answered.reloads }
 
 -- the cache once its insertion was tried
 abbrev pub put : DbConf → ℕ → ℕ → Answered → Cache → Cache

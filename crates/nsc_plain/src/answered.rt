@@ -1,7 +1,7 @@
 ghost use Rattle.std.specs.Prelude.{◌≡◌, ◌≤◌, ◌<◌, ◌+◌, ◌^◌, [], length, map, IfOk, IfSome, MatchOption};
 ghost use Rattle.nsc_base.specs.Nodes.{node_words};
 ghost use Rattle.nsc_model.specs.Entry.{key_limit, kept_limit};
-ghost use Rattle.nsc_model.specs.Machine.{life_of, due_of, reloaded_of};
+ghost use Rattle.nsc_model.specs.Machine.{life_of, made_entry, due_of, reloaded_of};
 ghost use Rattle.nsc_plain.specs.Answered.{anew};
 
 use crate::kept::Kept;
@@ -62,10 +62,10 @@ impl Answered {
     }
 
     /// Its entry, of this number and over this version, from this moment on.
-    pub fn into_held(self, conf: &DbConf, now: u64, version: u64, number: u64) -> Kept
+    pub fn into_kept(self, conf: &DbConf, now: u64, version: u64, number: u64) -> Kept
         requires reply { length self.answer.bytes ≤ kept_limit }
         requires moment { now < 2 ^ 62 }
-        ensures { result ≡ record { entry = record { number = number; request = self.request; version = version; answer = self.answer; timeout = now + life_of conf.now self.answer }; reloads = self.reloads } }
+        ensures { result ≡ record { entry = made_entry conf.now now number version self.request self.answer; reloads = self.reloads } }
     {
         let timeout = now + life_of(conf, &self.answer);
         let entry = Entry::new(number, self.request, version, self.answer, timeout);
@@ -101,11 +101,11 @@ pub fn answer_due<A: Answerer>(
 {
     let mut is_any = false;
     let mut all = Vec::new(alloc);
-    for held in entries {
-        if held.is_due(now) {
+    for kept in entries {
+        if kept.is_due(now) {
             is_any = true;
-            if !held.is_dropped(limit) {
-                all.push(answer_again(alloc, files, answers, held)?)?;
+            if !kept.is_dropped(limit) {
+                all.push(answer_again(alloc, files, answers, kept)?)?;
             }
         }
     }
@@ -117,14 +117,14 @@ fn answer_again<A: Answerer>(
     alloc: Global,
     files: &mut Prepared<A>,
     answers: &A,
-    held: &Kept,
+    kept: &Kept,
 ) -> Result<Answered, NoMemory>
     ensures stays { files.new ≡ files.old }
-    ensures again { IfOk result (λ again. again ≡ anew files.old.files held.now) }
+    ensures again { IfOk result (λ again. again ≡ anew files.old.files kept.now) }
 {
-    let request = held.entry().request();
+    let request = kept.entry().request();
     let answer = files.answer(alloc, answers, request.kind, request.key.as_slice())?;
     let key = Bytes::copy(alloc, request.key.as_slice())?;
     let kind = request.kind;
-    Ok(Answered::new(Request { kind, key }, answer, held.next_reloads()))
+    Ok(Answered::new(Request { kind, key }, answer, kept.next_reloads()))
 }

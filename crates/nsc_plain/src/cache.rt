@@ -5,8 +5,9 @@ ghost use Rattle.nsc_model.specs.Files.{no_files};
 ghost use Rattle.nsc_model.specs.Entry.{key_limit};
 ghost use Rattle.nsc_model.specs.Answer.{reply_limit};
 ghost use Rattle.nsc_model.specs.Answers.{answer_of};
-ghost use Rattle.nsc_model.specs.Machine.{new_cache, cached, polled, kept_answer, lookup, pruned, ticked, is_outdated, checked, tick, invalidated};
-ghost use Rattle.nsc_plain.specs.PlainCache.{TurnsTo, PassesTo, FaultsBy, StopsBy, GivesUpBy, HitsBy};
+ghost use Rattle.nsc_model.specs.Machine.{new_cache, cached, polled, kept_answer, lookup, pruned, is_outdated, checked, tick, ticked_by, invalidated};
+ghost use Rattle.nsc_model.specs.Events.{TurnsTo, PassesTo};
+ghost use Rattle.nsc_plain.specs.PlainCache.{FaultsBy, StopsBy, GivesUpBy, HitsBy};
 
 use crate::answered::{Answered, answer_due};
 use crate::fault::PlainFault;
@@ -28,7 +29,7 @@ pub struct PlainCache {
     newest_version: u64,
     table: Table,
     epoch: u64,
-    ticked_version: u64,
+    ticked: u64,
 }
 
 impl Model for PlainCache {
@@ -42,7 +43,8 @@ impl Model for PlainCache {
     ghost view = { λ c. record {
       settings = c.conf;
       reloads = c.reloads;
-      cache = record { sources = arc_value c.content; newest_version = c.newest_version; entries = c.table.entries; used = c.table.used; epoch = c.epoch; inserted = c.table.inserted; cycle = c.table.cycle; ticked_version = c.ticked_version; add_failed = c.table.add_failed };
+      cache = record { sources = arc_value c.content; newest_version = c.newest_version; entries = c.table.entries; used = c.table.used; epoch = c.epoch; inserted = c.table.inserted; cycle = c.table.cycle; add_failed = c.table.add_failed };
+      ticked = c.ticked;
     } };
 
     ghost invariant = { λ c. (c.newest_version ≤ last_count) × (c.epoch ≤ last_count) };
@@ -54,7 +56,7 @@ impl PlainCache {
     pub fn new(alloc: Global, conf: DbConf, reloads: Option<u32>) -> Result<PlainCache, NoMemory>
         requires some { 1 ≤ conf.size }
         requires limit { conf.size ≤ 65536 }
-        ensures { IfOk result (λ cache. cache ≡ record { settings = conf; reloads = reloads; cache = new_cache no_files }) }
+        ensures { IfOk result (λ cache. cache ≡ record { settings = conf; reloads = reloads; cache = new_cache no_files; ticked = 0 }) }
     {
         Ok(PlainCache {
             conf,
@@ -63,7 +65,7 @@ impl PlainCache {
             newest_version: 0,
             table: Table::new(alloc),
             epoch: 0,
-            ticked_version: 0,
+            ticked: 0,
         })
     }
 
@@ -86,6 +88,7 @@ impl PlainCache {
         requires moment { now < 2 ^ 62 }
         ensures settings { self.new.settings ≡ self.old.settings }
         ensures limit { self.new.reloads ≡ self.old.reloads }
+        ensures ticked { self.new.ticked ≡ self.old.ticked }
         ensures bound { IfOk result (λ reply. length reply ≤ reply_limit) }
         ensures turn { IfOk result (λ reply. TurnsTo (lookup self.old.settings now (arc_value content.now) (record { kind = kind; key = key.now }) self.old.cache) self.new.cache reply) }
         ensures fault { IfErr result (FaultsBy (lookup self.old.settings now (arc_value content.now) (record { kind = kind; key = key.now }) self.old.cache) (arc_value content.now) self.old.cache self.new.cache) }
@@ -110,6 +113,7 @@ impl PlainCache {
         requires polled { OnTrue files.old.is_polled (self.old.cache.sources ≡ files.old.files) }
         ensures settings { self.new.settings ≡ self.old.settings }
         ensures limit { self.new.reloads ≡ self.old.reloads }
+        ensures ticked { self.new.ticked ≡ self.old.ticked }
         ensures files { files.new.files ≡ files.old.files }
         ensures polled { OnTrue files.new.is_polled (self.new.cache.sources ≡ files.new.files) }
         ensures bound { IfOk result (λ reply. length reply ≤ reply_limit) }
@@ -127,6 +131,7 @@ impl PlainCache {
     fn hit(&mut self, alloc: Global, kind: Kind, key: &[u8]) -> Result<Option<Bytes>, NoMemory>
         ensures settings { self.new.settings ≡ self.old.settings }
         ensures limit { self.new.reloads ≡ self.old.reloads }
+        ensures ticked { self.new.ticked ≡ self.old.ticked }
         ensures bound { IfOk result (λ hit. IfSome hit (λ reply. length reply ≤ reply_limit)) }
         ensures hit { IfOk result (HitsBy (cached self.old.settings (record { kind = kind; key = key.now }) self.old.cache) (record { kind = kind; key = key.now }) self.old.cache self.new.cache) }
         ensures stays { OnErr result (self.new.cache ≡ self.old.cache) }
@@ -143,6 +148,7 @@ impl PlainCache {
         requires polled { OnTrue files.old.is_polled (self.old.cache.sources ≡ files.old.files) }
         ensures settings { self.new.settings ≡ self.old.settings }
         ensures limit { self.new.reloads ≡ self.old.reloads }
+        ensures ticked { self.new.ticked ≡ self.old.ticked }
         ensures files { files.new.files ≡ files.old.files }
         ensures polled { OnTrue files.new.is_polled (self.new.cache.sources ≡ files.new.files) }
         ensures sources { OnOk result (self.new.cache.sources ≡ files.new.files) }
@@ -182,6 +188,7 @@ impl PlainCache {
         requires new { cached self.old.settings (record { kind = kind; key = key.now }) self.old.cache ≡ None }
         ensures settings { self.new.settings ≡ self.old.settings }
         ensures limit { self.new.reloads ≡ self.old.reloads }
+        ensures ticked { self.new.ticked ≡ self.old.ticked }
         ensures sources { self.new.cache.sources ≡ self.old.cache.sources }
         ensures files { files.new ≡ files.old }
         ensures bound { IfOk result (λ reply. length reply ≤ reply_limit) }
@@ -210,6 +217,7 @@ impl PlainCache {
         requires new { cached self.old.settings (record { kind = kind; key = key.now }) self.old.cache ≡ None }
         ensures settings { self.new.settings ≡ self.old.settings }
         ensures limit { self.new.reloads ≡ self.old.reloads }
+        ensures ticked { self.new.ticked ≡ self.old.ticked }
         ensures sources { self.new.cache.sources ≡ self.old.cache.sources }
         ensures kept { OnOk result ((kept_answer self.old.settings now (record { kind = kind; key = key.now }) self.old.cache).cache ≡ self.new.cache) }
         ensures stays { OnErr result (self.new.cache ≡ self.old.cache) }
@@ -241,8 +249,10 @@ impl PlainCache {
         requires moment { now < 2 ^ 62 }
         ensures settings { self.new.settings ≡ self.old.settings }
         ensures limit { self.new.reloads ≡ self.old.reloads }
-        ensures turn { OnOk result (PassesTo (tick self.old.settings self.old.reloads now (arc_value content.now) self.old.cache) self.new.cache) }
-        ensures fault { IfErr result (FaultsBy (tick self.old.settings self.old.reloads now (arc_value content.now) self.old.cache) (arc_value content.now) self.old.cache self.new.cache) }
+        ensures ticked { OnOk result (self.new.ticked ≡ ticked_by self.old.settings self.old.ticked self.new.cache) }
+        ensures ticked_stays { OnErr result (self.new.ticked ≡ self.old.ticked) }
+        ensures turn { OnOk result (PassesTo (tick self.old.settings self.old.reloads now (arc_value content.now) self.old.ticked self.old.cache) self.new.cache) }
+        ensures fault { IfErr result (FaultsBy (tick self.old.settings self.old.reloads now (arc_value content.now) self.old.ticked self.old.cache) (arc_value content.now) self.old.cache self.new.cache) }
     {
         let mut files = Prepared::new(content.clone()?);
         self.tick_prepared(alloc, &mut files, answers, now)
@@ -260,16 +270,20 @@ impl PlainCache {
         requires polled { OnTrue files.old.is_polled (self.old.cache.sources ≡ files.old.files) }
         ensures settings { self.new.settings ≡ self.old.settings }
         ensures limit { self.new.reloads ≡ self.old.reloads }
+        ensures ticked { OnOk result (self.new.ticked ≡ ticked_by self.old.settings self.old.ticked self.new.cache) }
+        ensures ticked_stays { OnErr result (self.new.ticked ≡ self.old.ticked) }
         ensures files { files.new.files ≡ files.old.files }
         ensures polled { OnTrue files.new.is_polled (self.new.cache.sources ≡ files.new.files) }
-        ensures turn { OnOk result (PassesTo (tick self.old.settings self.old.reloads now files.old.files self.old.cache) self.new.cache) }
-        ensures fault { IfErr result (FaultsBy (tick self.old.settings self.old.reloads now files.old.files self.old.cache) files.old.files self.old.cache self.new.cache) }
+        ensures turn { OnOk result (PassesTo (tick self.old.settings self.old.reloads now files.old.files self.old.ticked self.old.cache) self.new.cache) }
+        ensures fault { IfErr result (FaultsBy (tick self.old.settings self.old.reloads now files.old.files self.old.ticked self.old.cache) files.old.files self.old.cache self.new.cache) }
     {
         if !self.conf.enabled {
             return Ok(());
         }
         self.poll(files)?;
-        self.check(alloc, files, answers, now)
+        self.check(alloc, files, answers, now)?;
+        self.ticked = self.newest_version;
+        Ok(())
     }
 
     // After the poll of a tick: an invalidation where the files changed since the last one, and else a pruning.
@@ -284,24 +298,23 @@ impl PlainCache {
         requires sources { self.old.cache.sources ≡ files.old.files }
         ensures settings { self.new.settings ≡ self.old.settings }
         ensures limit { self.new.reloads ≡ self.old.reloads }
+        ensures ticked { self.new.ticked ≡ self.old.ticked }
         ensures sources { self.new.cache.sources ≡ self.old.cache.sources }
         ensures files { files.new ≡ files.old }
-        ensures turn { OnOk result (PassesTo (checked self.old.settings self.old.reloads now self.old.cache) self.new.cache) }
-        ensures fault { IfErr result (GivesUpBy (checked self.old.settings self.old.reloads now self.old.cache) self.old.cache self.new.cache) }
+        ensures turn { OnOk result (PassesTo (checked self.old.settings self.old.reloads now self.old.ticked self.old.cache) self.new.cache) }
+        ensures fault { IfErr result (GivesUpBy (checked self.old.settings self.old.reloads now self.old.ticked self.old.cache) self.old.cache self.new.cache) }
     {
         if !self.is_outdated() {
             return self.prune(alloc, files, answers, now);
         }
-        self.invalidate()?;
-        self.ticked_version = self.newest_version;
-        Ok(())
+        self.invalidate()
     }
 
     // Whether the files changed since the last tick, and such a change counts.
     fn is_outdated(&self) -> bool
-        ensures { result ≡ is_outdated self.now.settings self.now.cache.newest_version self.now.cache.ticked_version }
+        ensures { result ≡ is_outdated self.now.settings self.now.cache.newest_version self.now.ticked }
     {
-        self.conf.check_files && self.newest_version != self.ticked_version
+        self.conf.check_files && self.newest_version != self.ticked
     }
 
     // The entries whose time is over end, and those of them that are not dropped are loaded anew. All memory is taken
@@ -317,14 +330,14 @@ impl PlainCache {
         requires sources { self.old.cache.sources ≡ files.old.files }
         ensures settings { self.new.settings ≡ self.old.settings }
         ensures limit { self.new.reloads ≡ self.old.reloads }
+        ensures ticked { self.new.ticked ≡ self.old.ticked }
         ensures sources { self.new.cache.sources ≡ self.old.cache.sources }
         ensures files { files.new ≡ files.old }
-        ensures turn { OnOk result (PassesTo (pruned self.old.settings self.old.reloads now (ticked self.old.cache)) self.new.cache) }
-        ensures fault { IfErr result (GivesUpBy (pruned self.old.settings self.old.reloads now (ticked self.old.cache)) self.old.cache self.new.cache) }
+        ensures turn { OnOk result (PassesTo (pruned self.old.settings self.old.reloads now self.old.cache) self.new.cache) }
+        ensures fault { IfErr result (GivesUpBy (pruned self.old.settings self.old.reloads now self.old.cache) self.old.cache self.new.cache) }
     {
         let entries = self.table.entries();
         let due = answer_due(alloc, files, answers, entries, self.reloads, now)?;
-        self.ticked_version = self.newest_version;
         let Some(fresh) = due else {
             return Ok(());
         };
@@ -339,6 +352,7 @@ impl PlainCache {
     pub fn invalidate(&mut self) -> Result<(), PlainFault>
         ensures settings { self.new.settings ≡ self.old.settings }
         ensures limit { self.new.reloads ≡ self.old.reloads }
+        ensures ticked { self.new.ticked ≡ self.old.ticked }
         ensures sources { self.new.cache.sources ≡ self.old.cache.sources }
         ensures turn { OnOk result (PassesTo (invalidated self.old.cache) self.new.cache) }
         ensures fault { IfErr result (StopsBy (invalidated self.old.cache) self.new.cache) }

@@ -10,7 +10,7 @@ use nsc_model::Kind;
 pub fn find_entry(entries: &[Kept], kind: Kind, key: &[u8]) -> Option<usize>
     ensures { result ≡ position (λ k. is_request (record { kind = kind; key = key.now }) k.entry.request) entries.now }
 {
-    entries.iter().position(|held| held.answers(kind, key))
+    entries.iter().position(|kept| kept.answers(kind, key))
 }
 
 /// The entries whose time is over leave.
@@ -18,7 +18,7 @@ pub fn drop_due(entries: &mut Vec<Kept>, now: u64)
     ensures items { entries.new.items ≡ others_of now entries.old.items }
     ensures capacity { vec_capacity entries.new ≡ vec_capacity entries.old }
 {
-    entries.retain(|held| !held.is_due(now));
+    entries.retain(|kept| !kept.is_due(now));
 }
 
 /// How many words the entries take.
@@ -26,5 +26,5 @@ pub fn words_of(entries: &[Kept]) -> usize
     requires { all_words entries.now < 2 ^ 64 }
     ensures { result ≡ all_words entries.now }
 {
-    entries.iter().map(|held| held.words()).sum()
+    entries.iter().map(|kept| kept.words()).sum()
 }

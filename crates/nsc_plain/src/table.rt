@@ -3,7 +3,8 @@ ghost use Rattle.nsc_model.specs.declared.answer.Request.{Request};
 ghost use Rattle.nsc_model.specs.Kinds.{is_request};
 ghost use Rattle.nsc_model.specs.Answer.{reply_limit};
 ghost use Rattle.nsc_model.specs.Machine.{Cache, due_of, others_of, compacted, compacted_after, room_of, last_count};
-ghost use Rattle.nsc_plain.specs.PlainCache.{HitsBy, PassesTo, StopsBy};
+ghost use Rattle.nsc_model.specs.Events.{PassesTo};
+ghost use Rattle.nsc_plain.specs.PlainCache.{HitsBy, StopsBy};
 ghost use Rattle.nsc_plain.specs.Table.{StayApart, answered_for, entries_for, over, put, put_all};
 
 use crate::answered::Answered;
@@ -70,9 +71,9 @@ impl Table {
         let Some(at) = find_entry(&self.entries, kind, key) else {
             return Ok(None);
         };
-        let held = &mut self.entries[at];
-        let reply = Bytes::copy(alloc, held.entry().answer().bytes())?;
-        held.restart();
+        let kept = &mut self.entries[at];
+        let reply = Bytes::copy(alloc, kept.entry().answer().bytes())?;
+        kept.restart();
         Ok(Some(reply))
     }
 
@@ -103,8 +104,8 @@ impl Table {
             self.add_failed = next_count(self.add_failed);
             return;
         }
-        let held = fresh.into_held(conf, now, version, self.inserted);
-        match self.entries.push(held) {
+        let kept = fresh.into_kept(conf, now, version, self.inserted);
+        match self.entries.push(kept) {
             Ok(()) => {}
             Err(_) => unreachable!(),
         }

@@ -1,6 +1,5 @@
 pub mod Frame
 pub mod Ended
-pub mod Databases
 pub mod Cached
 pub mod Parts
 pub mod Machine

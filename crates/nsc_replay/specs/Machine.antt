@@ -7,7 +7,7 @@ use Rattle.nsc_model.specs.Files.{part_of}
 use Rattle.nsc_model.specs.declared.conf.Conf.{Conf}
 use Rattle.nsc_model.specs.Settings.{settings_of}
 use Rattle.nsc_model.specs.Replay.{State, last_moment}
-use Rattle.nsc_replay.specs.declared.databases.Databases.{Databases}
+use Rattle.nsc_model.specs.declared.databases.Databases.{Databases}
 use Rattle.nsc_replay.specs.Cached.{Cached}
 
 pub record Machine : Type 0 where
@@ -19,10 +19,8 @@ abbrev pub state_of : Content → ℕ → Databases Cached → State
 state_of files moment databases = record {
   files = files;
   moment = moment;
-  passwd = databases.passwd.cache.cache;
-  group = databases.group.cache.cache;
-  hosts = databases.hosts.cache.cache;
-  services = databases.services.cache.cache;
+  caches = record { passwd = databases.passwd.cache.cache; group = databases.group.cache.cache; hosts = databases.hosts.cache.cache; services = databases.services.cache.cache };
+  ticked = record { passwd = databases.passwd.cache.ticked; group = databases.group.cache.ticked; hosts = databases.hosts.cache.ticked; services = databases.services.cache.ticked };
 }
 
 -- a database has its settings, and reads its part of the files

@@ -1,10 +1,11 @@
-ghost use Rattle.std.specs.Prelude.{◌≡◌, ◌≤◌, ◌<◌, ◌^◌, length, unwrap_or, option_map, IfOk, IfErr, OnOk};
+ghost use Rattle.std.specs.Prelude.{◌≡◌, ◌≤◌, ◌<◌, ◌^◌, length, unwrap_or, option_map, IfOk, IfErr, OnOk, OnErr};
 ghost use Rattle.std.specs.Arc.{arc_value};
 ghost use Rattle.nsc_model.specs.Files.{no_files};
 ghost use Rattle.nsc_model.specs.Entry.{key_limit};
 ghost use Rattle.nsc_model.specs.Answer.{reply_limit};
-ghost use Rattle.nsc_model.specs.Machine.{new_cache, lookup, tick, invalidated};
-ghost use Rattle.nsc_plain.specs.PlainCache.{FaultsBy, PassesTo, StopsBy, TurnsTo};
+ghost use Rattle.nsc_model.specs.Machine.{new_cache, lookup, tick, ticked_by, invalidated};
+ghost use Rattle.nsc_model.specs.Events.{PassesTo, TurnsTo};
+ghost use Rattle.nsc_plain.specs.PlainCache.{FaultsBy, StopsBy};
 
 use nsc_base::{Bytes, NoMemory};
 use nsc_model::{Answerer, Content, DbConf, Kind};
@@ -37,7 +38,7 @@ impl<A: Answerer> Cached<A> {
     pub fn new(alloc: Global, conf: DbConf, reloads: Option<u32>) -> Result<Cached<A>, NoMemory>
         requires some { 1 ≤ conf.size }
         requires limit { conf.size ≤ 65536 }
-        ensures { IfOk result (λ cached. cached ≡ record { files = no_files; cache = record { settings = conf; reloads = reloads; cache = new_cache no_files } }) }
+        ensures { IfOk result (λ cached. cached ≡ record { files = no_files; cache = record { settings = conf; reloads = reloads; cache = new_cache no_files; ticked = 0 } }) }
     {
         Ok(Cached {
             files: Prepared::new(Arc::new(alloc, Content::none())?),
@@ -68,6 +69,7 @@ impl<A: Answerer> Cached<A> {
         ensures files { self.new.files ≡ self.old.files }
         ensures settings { self.new.cache.settings ≡ self.old.cache.settings }
         ensures limit { self.new.cache.reloads ≡ self.old.cache.reloads }
+        ensures ticked { self.new.cache.ticked ≡ self.old.cache.ticked }
         ensures bound { IfOk result (λ reply. length reply ≤ reply_limit) }
         ensures turn { IfOk result (λ reply. TurnsTo (lookup self.old.cache.settings now self.old.files (record { kind = kind; key = key.now }) self.old.cache.cache) self.new.cache.cache reply) }
         ensures fault { IfErr result (FaultsBy (lookup self.old.cache.settings now self.old.files (record { kind = kind; key = key.now }) self.old.cache.cache) self.old.files self.old.cache.cache self.new.cache.cache) }
@@ -82,8 +84,10 @@ impl<A: Answerer> Cached<A> {
         ensures files { self.new.files ≡ self.old.files }
         ensures settings { self.new.cache.settings ≡ self.old.cache.settings }
         ensures limit { self.new.cache.reloads ≡ self.old.cache.reloads }
-        ensures turn { OnOk result (PassesTo (tick self.old.cache.settings self.old.cache.reloads now self.old.files self.old.cache.cache) self.new.cache.cache) }
-        ensures fault { IfErr result (FaultsBy (tick self.old.cache.settings self.old.cache.reloads now self.old.files self.old.cache.cache) self.old.files self.old.cache.cache self.new.cache.cache) }
+        ensures ticked { OnOk result (self.new.cache.ticked ≡ ticked_by self.old.cache.settings self.old.cache.ticked self.new.cache.cache) }
+        ensures ticked_stays { OnErr result (self.new.cache.ticked ≡ self.old.cache.ticked) }
+        ensures turn { OnOk result (PassesTo (tick self.old.cache.settings self.old.cache.reloads now self.old.files self.old.cache.ticked self.old.cache.cache) self.new.cache.cache) }
+        ensures fault { IfErr result (FaultsBy (tick self.old.cache.settings self.old.cache.reloads now self.old.files self.old.cache.ticked self.old.cache.cache) self.old.files self.old.cache.cache self.new.cache.cache) }
     {
         self.cache
             .tick_prepared(alloc, &mut self.files, answers, now)
@@ -94,6 +98,7 @@ impl<A: Answerer> Cached<A> {
         ensures files { self.new.files ≡ self.old.files }
         ensures settings { self.new.cache.settings ≡ self.old.cache.settings }
         ensures limit { self.new.cache.reloads ≡ self.old.cache.reloads }
+        ensures ticked { self.new.cache.ticked ≡ self.old.cache.ticked }
         ensures turn { OnOk result (PassesTo (invalidated self.old.cache.cache) self.new.cache.cache) }
         ensures fault { IfErr result (StopsBy (invalidated self.old.cache.cache) self.new.cache.cache) }
     {

@@ -2,7 +2,6 @@
 #![tactic(auto)]
 
 mod cached;
-mod databases;
 mod ended;
 mod frame;
 mod halt;

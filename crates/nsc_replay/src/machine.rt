@@ -9,11 +9,10 @@ ghost use Rattle.nsc_replay.specs.Frame.{FrameFits, said};
 ghost use Rattle.nsc_replay.specs.Turns.{TurnsTo, TurnFaults};
 
 use crate::cached::Cached;
-use crate::databases::Databases;
 use crate::frame::Frame;
 use crate::sources::{Shared, Sources};
 use nsc_base::{Bytes, NoMemory};
-use nsc_model::{Answerer, Conf, Db, FileId, Kind};
+use nsc_model::{Answerer, Conf, Databases, Db, FileId, Kind};
 use nsc_plain::PlainFault;
 use nsc_wire::{Wire, read_request};
 use std::alloc::Global;

@@ -9,10 +9,10 @@ returns-then-self-eq-LAST_COUNT-clause-fault c = rw (← c.self.view_is) (invali
 
 pub returns-clause-turn : goal.returns-clause-turn
 returns-clause-turn c =
-    let base = bare (arc_value c.self.inside.content) c.self.inside.newest_version (c.self.inside.epoch + 1) c.self.inside.ticked_version in
+    let base = bare (arc_value c.self.inside.content) c.self.inside.newest_version (c.self.inside.epoch + 1) in
     rw (← c.self.view_is) (on_ok_weaker c.end_all.result (λ h. invalidation_passes _ _ c.if-self-eq-LAST_COUNT.false (h base)) c.end_all.ensures.turn)
 
 pub returns-clause-fault : goal.returns-clause-fault
 returns-clause-fault c =
-    let base = bare (arc_value c.self.inside.content) c.self.inside.newest_version (c.self.inside.epoch + 1) c.self.inside.ticked_version in
+    let base = bare (arc_value c.self.inside.content) c.self.inside.newest_version (c.self.inside.epoch + 1) in
     rw (← c.self.view_is) (IfErr-weaker c.end_all.result _ _ (λ fault h. invalidation_faults _ _ fault c.if-self-eq-LAST_COUNT.false (h base)) c.end_all.ensures.fault)

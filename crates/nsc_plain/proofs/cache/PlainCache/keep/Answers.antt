@@ -9,7 +9,7 @@ use Rattle.nsc_plain.proofs.cache.PlainCache.keep.Goals as goal
 
 pub returns-clause-kept : goal.returns-clause-kept
 returns-clause-kept c =
-    let base = bare (arc_value c.self.inside.content) c.self.inside.newest_version c.self.inside.epoch c.self.inside.ticked_version in
+    let base = bare (arc_value c.self.inside.content) c.self.inside.newest_version c.self.inside.epoch in
     let sources = ap (λ (s : PlainCache). s.cache.sources) c.self.view_is in
     let fresh : c.new-fresh.result ≡ record { request = record { kind = c.args.kind; key = c.args.key.now }; answer = answer_of (arc_value c.self.inside.content) record { kind = c.args.kind; key = c.args.key.now }; reloads = 0 }
     = cc (c.new-fresh.ensures, c.in_ok-key.ensures, c.requires.answer, sources) in

@@ -3,7 +3,8 @@ use Rattle.std.proofs.lemmas.Result.{err_from_is_err_and}
 use Rattle.nsc_model.specs.declared.answer.Request.{Request}
 use Rattle.nsc_model.specs.declared.conf.DbConf.{DbConf}
 use Rattle.nsc_model.specs.Machine.{Cache, kept_answer, polled}
-use Rattle.nsc_plain.specs.PlainCache.{PassesTo, GivesUpBy}
+use Rattle.nsc_model.specs.Events.{PassesTo}
+use Rattle.nsc_plain.specs.PlainCache.{GivesUpBy}
 use Rattle.nsc_plain.proofs.Events.{hits, misses, loads, lookup_faults}
 use Rattle.nsc_plain.proofs.cache.PlainCache.lookup_prepared.Goals as goal
 

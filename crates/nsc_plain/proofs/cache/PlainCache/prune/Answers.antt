@@ -1,7 +1,7 @@
 use Rattle.std.proofs.Common.{◌≡◌, List, sym, ◌∙◌, ap, subst, arith}
 use Rattle.std.specs.Arc.{arc_value}
 use Rattle.std.proofs.lemmas.Result.{err_from_is_err_and}
-use Rattle.nsc_model.specs.Machine.{due_of, reloaded_of, reloaded, ticked}
+use Rattle.nsc_model.specs.Machine.{due_of, reloaded_of, reloaded}
 use Rattle.nsc_plain.specs.PlainCache.{PlainCache}
 use Rattle.nsc_plain.specs.Answered.{Answered}
 use Rattle.nsc_plain.specs.Table.{over, put_all}
@@ -12,10 +12,10 @@ use Rattle.nsc_plain.proofs.cache.PlainCache.prune.Goals as goal
 
 pub returns-in_default-clause-turn : goal.returns-in_default-clause-turn
 returns-in_default-clause-turn g c =
-    let before = bare (arc_value c.self.inside.content) c.self.inside.newest_version c.self.inside.epoch c.self.inside.ticked_version in
+    let base = bare (arc_value c.self.inside.content) c.self.inside.newest_version c.self.inside.epoch in
     let none = rw c.in_default.is at c.in_ok-due.ensures.due in
     rw (← c.self.view_is)
-    (prunes_nothing c.self.inside.conf c.self.inside.reloads c.args.now (over (ticked before) c.self.inside.table) (rw c.entries-entries.ensures at none))
+    (prunes_nothing c.self.inside.conf c.self.inside.reloads c.args.now (over base c.self.inside.table) (rw c.entries-entries.ensures at none))
 
 pub insert_all-requires-clause-memory : goal.insert_all-requires-clause-memory
 insert_all-requires-clause-memory g c =
@@ -31,17 +31,15 @@ insert_all-requires-clause-apart g c =
 
 pub returns-in_err-end_due-clause-fault : goal.returns-in_err-end_due-clause-fault
 returns-in_err-end_due-clause-fault g c =
-    let before = bare (arc_value c.self.inside.content) c.self.inside.newest_version c.self.inside.epoch c.self.inside.ticked_version in
-    let base = ticked before in
+    let base = bare (arc_value c.self.inside.content) c.self.inside.newest_version c.self.inside.epoch in
     let some = rw (c.in-Some.is, c.entries-entries.ensures) at c.in_ok-due.ensures.due in
     let p = err_from_is_err_and c.from_residual-in_err-end_due.result c.from_residual-in_err-end_due.ensures.1 in
     rw (← c.self.view_is, p.1, p.2)
-    (prune_faults c.self.inside.conf c.self.inside.reloads c.args.now (over base c.self.inside.table) (over before c.self.inside.table) (over base c.end_due.new.self) c.in_err-end_due.field-0.0 some (c.in_err-end_due.ensures.fault base))
+    (prune_faults c.self.inside.conf c.self.inside.reloads c.args.now (over base c.self.inside.table) (over base c.self.inside.table) (over base c.end_due.new.self) c.in_err-end_due.field-0.0 some (c.in_err-end_due.ensures.fault base))
 
 pub returns-clause-turn : goal.returns-clause-turn
 returns-clause-turn g c =
-    let before = bare (arc_value c.self.inside.content) c.self.inside.newest_version c.self.inside.epoch c.self.inside.ticked_version in
-    let base = ticked before in
+    let base = bare (arc_value c.self.inside.content) c.self.inside.newest_version c.self.inside.epoch in
     let settings = c.self.inside.conf in
     let again = reloaded_of c.self.inside.reloads (due_of c.args.now c.self.inside.table.entries) in
     let some = rw (c.in-Some.is, c.entries-entries.ensures) at c.in_ok-due.ensures.due in

@@ -22,25 +22,25 @@ pub invariant_of-self-2 : goal.invariant_of-self-2
 invariant_of-self-2 c =
     let request : Request = record { kind = c.args.kind; key = c.args.key.now } in
     let items = c.self.inside.entries.items in
-    let held : Kept = c.index_mut-held.result.now in
-    let at = position-Some (asks request) items c.in-Some.at held (rw c.deref.ensures.value at (sym c.in-Some.ensures)) in
-    let new : c.restart.new.self ≡ restarted (get_or items c.in-Some.at held) = c.restart.ensures ∙ ap restarted c.index_mut-held.ensures.value in
-    rw new (hit_keeps items c.in-Some.at held c.self.inside.used c.self.inside.inserted at.0 c.self.invariant)
+    let kept : Kept = c.index_mut-kept.result.now in
+    let at = position-Some (asks request) items c.in-Some.at kept (rw c.deref.ensures.value at (sym c.in-Some.ensures)) in
+    let new : c.restart.new.self ≡ restarted (get_or items c.in-Some.at kept) = c.restart.ensures ∙ ap restarted c.index_mut-kept.ensures.value in
+    rw new (hit_keeps items c.in-Some.at kept c.self.inside.used c.self.inside.inserted at.0 c.self.invariant)
 
 pub returns-clause-hit : goal.returns-clause-hit
 returns-clause-hit c = λ cache.
     let request : Request = record { kind = c.args.kind; key = c.args.key.now } in
     let items : List Kept = c.self.inside.entries.items in
-    let held : Kept = c.index_mut-held.result.now in
+    let kept : Kept = c.index_mut-kept.result.now in
     let first : position (asks request) items ≡ Some c.in-Some.at = rw c.deref.ensures.value at (sym c.in-Some.ensures) in
-    let at = position-Some (asks request) items c.in-Some.at held first in
-    let found = found_at (asks request) items c.in-Some.at held first in
-    let new : c.restart.new.self ≡ restarted (get_or items c.in-Some.at held) = c.restart.ensures ∙ ap restarted c.index_mut-held.ensures.value in
-    let used = ap (set items c.in-Some.at) new ∙ sym (used_at request items c.in-Some.at held at.0 at.1 (c.self.invariant.apart request)) in
-    let reply : c.in_ok-reply.reply ≡ (get_or items c.in-Some.at held).entry.answer.bytes =
+    let at = position-Some (asks request) items c.in-Some.at kept first in
+    let found = found_at (asks request) items c.in-Some.at kept first in
+    let new : c.restart.new.self ≡ restarted (get_or items c.in-Some.at kept) = c.restart.ensures ∙ ap restarted c.index_mut-kept.ensures.value in
+    let used = ap (set items c.in-Some.at) new ∙ sym (used_at request items c.in-Some.at kept at.0 at.1 (c.self.invariant.apart request)) in
+    let reply : c.in_ok-reply.reply ≡ (get_or items c.in-Some.at kept).entry.answer.bytes =
     c.in_ok-reply.ensures
     ∙ (c.bytes.ensures.value
-    ∙ (ap (λ (a : Answer). a.bytes) c.answer.ensures.value ∙ (ap (λ (e : Entry). e.answer.bytes) c.entry.ensures ∙ ap (λ (k : Kept). k.entry.answer.bytes) c.index_mut-held.ensures.value))) in
+    ∙ (ap (λ (a : Answer). a.bytes) c.answer.ensures.value ∙ (ap (λ (e : Entry). e.answer.bytes) c.entry.ensures ∙ ap (λ (k : Kept). k.entry.answer.bytes) c.index_mut-kept.ensures.value))) in
     let with = λ (entries : List Kept). let t : Table = record { entries = entries; used = c.self.inside.used; inserted = c.self.inside.inserted; cycle = c.self.inside.cycle; add_failed = c.self.inside.add_failed; capacity = 0 } in t in
     subst (λ (t : Table). HitsBy (find (asks request) t.entries) request (over cache t) (over cache (with (set items c.in-Some.at c.restart.new.self))) (Some c.in_ok-reply.reply)) c.self.view_is
     (subst (λ (o : Option Kept). HitsBy o request (over cache (with items)) (over cache (with (set items c.in-Some.at c.restart.new.self))) (Some c.in_ok-reply.reply)) (sym found)

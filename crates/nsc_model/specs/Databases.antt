@@ -2,8 +2,8 @@
 use Rattle.std.specs.Borrow.{Fml, Lends, MutBor, RattleType}
 use Rattle.nsc_model.specs.declared.kind.Db.{Db}
 use Rattle.nsc_model.specs.declared.kind.Db.TheVariants as db
-use Rattle.nsc_replay.specs.declared.databases.Databases.{Databases}
-use Rattle.nsc_replay.specs.contracts.databases.Databases.{the_row}
+use Rattle.nsc_model.specs.declared.databases.Databases.{Databases}
+use Rattle.nsc_model.specs.contracts.databases.Databases.{the_row}
 
 abbrev pub database_in : {T : Type 0} → Databases T → Db → T
 database_in all db.Passwd = all.passwd

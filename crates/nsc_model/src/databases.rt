@@ -1,4 +1,4 @@
-use nsc_model::Db;
+use crate::kind::Db;
 
 /// One value for each database.
 #[derive(Drop)]
@@ -16,7 +16,7 @@ pub struct Databases<T> {
 impl<T> Databases<T> {
     ghost use Rattle.std.specs.Prelude.{◌≡◌};
     ghost use Rattle.std.specs.Borrow.{sem};
-    ghost use Rattle.nsc_replay.specs.Databases.{LendsDatabase, database_in};
+    ghost use Rattle.nsc_model.specs.Databases.{LendsDatabase, database_in};
 
     /// The value of a database.
     pub fn of_mut(&mut self, db: Db) -> &mut T
