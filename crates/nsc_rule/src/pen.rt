@@ -1,4 +1,4 @@
-ghost use Rattle.std.specs.Prelude.{◌≡◌, ◌≢◌, ◌+◌, ◌<◌, [], ◌∷◌, Some, slice_index, slice_set};
+ghost use Rattle.std.specs.Prelude.{◌≡◌, ◌≢◌, ◌+◌, ◌<◌, ◌≤◌, [], ◌∷◌, Some, slice_index, slice_set};
 ghost use Rattle.nsc_model.specs.Entry.{Entry};
 ghost use Rattle.nsc_model.specs.History.{newest, Allows, IsLive, IsPrefix, Legal, NoneLive};
 ghost use Rattle.nsc_model.specs.Machine.{last_count};
@@ -58,14 +58,16 @@ impl Pen {
 
     /// The number of the newest version.
     pub fn version(&self) -> u64
-        ensures { result ≡ self.now.version }
+        ensures value { result ≡ self.now.version }
+        ensures bound { result ≤ last_count }
     {
         self.version
     }
 
     /// How often the database was invalidated.
     pub fn epoch(&self) -> u64
-        ensures { result ≡ self.now.epoch }
+        ensures value { result ≡ self.now.epoch }
+        ensures bound { result ≤ last_count }
     {
         self.epoch
     }

@@ -1,8 +1,8 @@
-ghost use Rattle.std.specs.Prelude.{◌≡◌, ◌≤◌, ◌<◌, ◌+◌, ◌^◌, ◌++◌, [], ◌∷◌, None, length, min, IfOk, IfErr, OnOk};
+ghost use Rattle.std.specs.Prelude.{◌≡◌, ◌≤◌, ◌<◌, ◌+◌, ◌^◌, ◌++◌, [], ◌∷◌, None, length, min, IfOk, IfErr, IfNone, IfSome, OnOk};
 ghost use Rattle.std.specs.Vec.{vec_capacity};
 ghost use Rattle.nsc_model.specs.Entry.{kept_limit};
 ghost use Rattle.nsc_model.specs.Machine.{all_words, entry_words, last_count, live_entry, used_now};
-ghost use Rattle.nsc_writer.specs.Shelf.{Gives, has_number, number_of, others_than};
+ghost use Rattle.nsc_writer.specs.Shelf.{Gives, has_number, is_numbered, number_of, others_than};
 
 use crate::uses::{Hit, next_count};
 use nsc_base::{Buf, NoMemory};
@@ -88,7 +88,8 @@ impl Shelf {
     pub fn hit(&mut self, kind: Kind, key: &[u8], reply: &mut Buf) -> Option<Hit>
         requires { kept_limit ≤ reply.old.limit }
         ensures gives { Gives (live_entry (record { kind = kind; key = key.now }) self.old.entries) result reply.new.content }
-        ensures used { self.new ≡ record self.old { entries = used_now (record { kind = kind; key = key.now }) self.old.entries } }
+        ensures stays { IfNone result (self.new ≡ self.old) }
+        ensures used { IfSome result (λ _. self.new ≡ record self.old { entries = used_now (record { kind = kind; key = key.now }) self.old.entries }) }
         ensures limit { reply.new.limit ≡ reply.old.limit }
     {
         reply.clear();
@@ -110,8 +111,10 @@ impl Shelf {
     pub fn number_of(&self, kind: Kind, key: &[u8]) -> Option<u64>
         ensures { result ≡ number_of (live_entry (record { kind = kind; key = key.now }) self.now.entries) }
     {
-        let at = find_entry(&self.entries, kind, key)?;
-        Some(self.entries[at].entry().number())
+        match find_entry(&self.entries, kind, key) {
+            Some(at) => Some(self.entries[at].entry().number()),
+            None => None,
+        }
     }
 
     /// Takes the memory for one more entry.
@@ -143,14 +146,18 @@ impl Shelf {
         self.add_failed = next_count(self.add_failed);
     }
 
-    /// The entry of this number leaves, if there is one. Its words stay in use.
-    pub fn take_out(&mut self, number: u64) -> bool
-        ensures live { result ≡ has_number number self.old.entries }
-        ensures entries { self.new ≡ record self.old { entries = others_than number self.old.entries } }
+    /// Whether an entry has this number.
+    pub fn has(&self, number: u64) -> bool
+        ensures { result ≡ has_number number self.now.entries }
     {
-        let is_live = has_entry(&self.entries, number);
+        self.entries.iter().any(|kept| is_numbered(kept, number))
+    }
+
+    /// The entry of this number leaves, if there is one. Its words stay in use.
+    pub fn take_out(&mut self, number: u64)
+        ensures { self.new ≡ record self.old { entries = others_than number self.old.entries } }
+    {
         drop_entry(&mut self.entries, number);
-        is_live
     }
 
     /// Every entry leaves. Their words stay in use.
@@ -177,17 +184,17 @@ impl Shelf {
     }
 }
 
-// Whether an entry has this number.
-fn has_entry(entries: &[Kept], number: u64) -> bool
-    ensures { result ≡ has_number number entries.now }
-{
-    entries.iter().any(|kept| kept.entry().number() == number)
-}
-
 // The entry of this number leaves.
 fn drop_entry(entries: &mut Vec<Kept>, number: u64)
     ensures items { entries.new.items ≡ others_than number entries.old.items }
     ensures capacity { vec_capacity entries.new ≡ vec_capacity entries.old }
 {
-    entries.retain(|kept| kept.entry().number() != number);
+    entries.retain(|kept| !is_numbered(kept, number));
+}
+
+// Whether the entry has this number.
+fn is_numbered(kept: &Kept, number: u64) -> bool
+    ensures { result ≡ is_numbered number kept.now }
+{
+    kept.entry().number() == number
 }

@@ -43,10 +43,15 @@ pub struct Uses {
 }
 
 impl Uses {
-    pub const NONE: Uses = Uses {
-        found: 0,
-        not_found: 0,
-    };
+    /// None so far.
+    pub fn none() -> Uses
+        ensures { result ≡ record { found = 0; not_found = 0 } }
+    {
+        Uses {
+            found: 0,
+            not_found: 0,
+        }
+    }
 
     /// These, and one more of this kind.
     pub fn and_one(self, not_found: bool) -> Uses
