@@ -1,0 +1,12 @@
+-- Faults of polls.
+use Rattle.nsc_model.specs.declared.kind.FileId.{FileId}
+use Rattle.nsc_outside.specs.declared.files.ReadCause.{ReadCause}
+use Rattle.nsc_outside.specs.declared.files.ReadCause.TheVariants as causes
+use Rattle.nsc_sourcebook.specs.declared.fault.PollFault.{PollFault}
+use Rattle.nsc_sourcebook.specs.declared.fault.PollFault.TheVariants as poll
+
+-- the fault of a read of this file
+abbrev pub fault_of : FileId → ReadCause → PollFault
+fault_of file causes.NoMemory = poll.NoMemory
+fault_of file causes.Failed = poll.SourceFault file
+fault_of file (causes.TooLong length) = poll.TooLong file length
