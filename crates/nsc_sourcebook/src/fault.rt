@@ -5,7 +5,7 @@ ghost use Rattle.nsc_sourcebook.specs.declared.fault.PollFault.TheVariants.{NoMe
 use nsc_base::NoMemory;
 use nsc_model::FileId;
 use nsc_outside::ReadCause;
-use std::alloc::AllocError;
+use std::alloc::{AllocError, AllocFailed};
 use thiserror::Error;
 
 /// Why a database's files gave no version.
@@ -55,6 +55,14 @@ impl From<AllocError> for PollFault {
     ghost from_gives = { λ _ fault. fault ≡ Memory };
 
     fn from(_e: AllocError) -> PollFault {
+        PollFault::NoMemory
+    }
+}
+
+impl<T: Drop> From<AllocFailed<T>> for PollFault {
+    ghost from_gives = { λ _ fault. fault ≡ Memory };
+
+    fn from(_e: AllocFailed<T>) -> PollFault {
         PollFault::NoMemory
     }
 }

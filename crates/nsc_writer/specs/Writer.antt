@@ -54,6 +54,11 @@ Polls (Ok passed) epoch before after (Err spent) = ⊥
 Polls (Err stop) epoch before after (Ok stamp) = ⊥
 Polls (Err stop) epoch before after (Err spent) = (spent.count ≡ stop.count) × (after ≡ before)
 
+-- the content is the newest version, which has this number
+pub record IsNewest (content : Content) (version : ℕ) (cache : Cache) : Type 0 where
+  pub sources : cache.sources ≡ content
+  pub number : cache.newest_version ≡ version
+
 -- ---- insertions
 
 -- the answer is that of the request over the content of the stamp's version, which was looked at after so many invalidations

@@ -9,7 +9,7 @@ ghost use Rattle.nsc_model.specs.Machine.{by_invalidation, ends_of, last_count, 
 ghost use Rattle.nsc_laws.specs.Core.{AreLive};
 ghost use Rattle.nsc_laws.specs.Calls.{entries_of};
 ghost use Rattle.nsc_writer.specs.Shelf.{has_number};
-ghost use Rattle.nsc_writer.specs.Writer.{Inserts, IsAnswered, IsFree, Polls, SaysRefused, ending_of, emptied_by, is_full, refusal_of, without_entry};
+ghost use Rattle.nsc_writer.specs.Writer.{Inserts, IsAnswered, IsFree, IsNewest, Polls, SaysRefused, ending_of, emptied_by, is_full, refusal_of, without_entry};
 
 use crate::loaded::{Inserted, Loaded, Stamp};
 use crate::writer::{Cause, Writer};
@@ -30,6 +30,7 @@ impl Writer {
     pub fn record_poll(&mut self, content: Arc<Content>, epoch: u64) -> Result<Stamp, Spent>
         requires { epoch ≤ self.old.cache.epoch }
         ensures polls { Polls (polled (arc_value content) self.old.cache) epoch self.old self.new result }
+        ensures newest { IfOk result (λ stamp. IsNewest (arc_value content) stamp.version self.new.cache) }
         ensures polled { IfOk result (λ stamp. PolledSince self.new.seen stamp.version stamp.epoch) }
     {
         if content.is_same(&self.content) {
