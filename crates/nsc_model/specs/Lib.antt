@@ -24,3 +24,4 @@ pub mod Events
 pub mod Frames
 pub mod Replay
 pub mod Fronts
+pub mod Stores

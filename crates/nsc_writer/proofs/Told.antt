@@ -66,7 +66,7 @@ was_polled h n epoch p few = subst (λ (l : List Record). WasPolled l n) (sym p.
 
 -- ---- insertions
 
-asked_none : (h : List Record) (cache : Cache) (request : Request) → Tells h cache → live_entry request cache.entries ≡ None → NoneLiveOf h request
+pub asked_none : (h : List Record) (cache : Cache) (request : Request) → Tells h cache → live_entry request cache.entries ≡ None → NoneLiveOf h request
 asked_none h cache request t none = none_of h (entries_of cache.entries) request t.entries_are
     (λ e a same. let off : is_request request e.request ≡ false = missed (λ (x : Entry). is_request request x.request) cache.entries e none a in
     let on : is_request request e.request ≡ true = ap (is_request request) same ∙ request_same request in

@@ -22,7 +22,7 @@ use Rattle.nsc_writer.specs.declared.uses.Uses.{Uses}
 use Rattle.nsc_writer.specs.declared.writer.Cause.{Cause}
 use Rattle.nsc_writer.specs.declared.writer.Cause.TheVariants as cause
 use Rattle.nsc_writer.specs.Loaded.{Loaded, kept_of}
-use Rattle.nsc_writer.specs.Shelf.{Shelf, others_than}
+use Rattle.nsc_writer.specs.Shelf.{Shelf, number_of, others_than}
 
 pub record Writer : Type 0 where
   pub table : TableId
@@ -112,6 +112,16 @@ InsertsBy refused inserted.NoMemory loaded before after = after ≡ before
 
 abbrev pub Inserts : Inserted → Loaded → Writer → Writer → Type 0
 Inserts said loaded before after = InsertsBy (refusal_of before loaded) said loaded before after
+
+-- what is known of an insertion that was refused
+abbrev pub IsRefused : Inserted → Loaded → Writer → Type 0
+IsRefused (inserted.Done number) loaded w = Unit {0}
+IsRefused (inserted.TooLarge size) loaded w = (size ≡ length loaded.answer.bytes) × (kept_limit < size)
+IsRefused (inserted.Discarded noted epoch) loaded w = (noted ≡ loaded.stamp.epoch) × (epoch ≡ w.cache.epoch) × (noted < epoch)
+IsRefused (inserted.Present number) loaded w = number_of (live_entry loaded.request w.cache.entries) ≡ Some number
+IsRefused (inserted.Spent count) loaded w = (count ≡ last_count) × (w.cache.inserted ≡ count)
+IsRefused (inserted.Full need free) loaded w = (need ≡ entry_words (kept_of loaded w.cache.inserted).entry) × (free + w.cache.used ≡ w.layout.arena) × (free < need)
+IsRefused inserted.NoMemory loaded w = Unit {0}
 
 -- nothing refuses an insertion
 pub record IsFree (w : Writer) (loaded : Loaded) : Type 0 where

@@ -1,5 +1,5 @@
 // Polls, insertions and ends.
-ghost use Rattle.std.specs.Prelude.{◌≡◌, ◌≤◌, ◌<◌, ◌+◌, [], ◌∷◌, IfNone, IfOk, IfErr};
+ghost use Rattle.std.specs.Prelude.{◌≡◌, ◌≤◌, ◌<◌, ◌+◌, [], ◌∷◌, IfNone, IfSome, IfOk, IfErr};
 ghost use Rattle.std.specs.Bool.{OnTrue, OnFalse};
 ghost use Rattle.std.specs.Arc.{arc_value};
 ghost use Rattle.nsc_model.specs.declared.record.Record.TheVariants as record_of;
@@ -9,7 +9,7 @@ ghost use Rattle.nsc_model.specs.Machine.{by_invalidation, ends_of, last_count, 
 ghost use Rattle.nsc_laws.specs.Core.{AreLive};
 ghost use Rattle.nsc_laws.specs.Calls.{entries_of};
 ghost use Rattle.nsc_writer.specs.Shelf.{has_number};
-ghost use Rattle.nsc_writer.specs.Writer.{Inserts, IsAnswered, IsFree, IsNewest, Polls, SaysRefused, ending_of, emptied_by, is_full, refusal_of, without_entry};
+ghost use Rattle.nsc_writer.specs.Writer.{Inserts, IsAnswered, IsFree, IsNewest, IsRefused, Polls, SaysRefused, ending_of, emptied_by, is_full, refusal_of, without_entry};
 
 use crate::loaded::{Inserted, Loaded, Stamp};
 use crate::writer::{Cause, Writer};
@@ -63,6 +63,7 @@ impl Writer {
     // Why the insertion is refused, if it is.
     fn refusal(&self, loaded: &Loaded) -> Option<Inserted>
         ensures said { SaysRefused (refusal_of self.now loaded.now) result }
+        ensures why { IfSome result (λ said. IsRefused said loaded.now self.now) }
         ensures free { IfNone result (IsFree self.now loaded.now) }
     {
         let length = loaded.answer().bytes().len();
@@ -101,6 +102,7 @@ impl Writer {
     pub fn insert(&mut self, alloc: Global, loaded: Loaded) -> (Inserted, Loaded)
         requires { IsAnswered self.old.seen loaded }
         ensures inserted { Inserts result.0 loaded self.old self.new }
+        ensures why { IsRefused result.0 loaded self.old }
         ensures back { result.1 ≡ loaded }
     {
         if let Some(refused) = self.refusal(&loaded) {
