@@ -35,7 +35,7 @@ polled_last r h n epoch looks low = (r ∷ h, ([], refl), looks, low)
 pub polled_now : (h now : List Record) (r : Record) (n epoch : ℕ) → now ≡ r ∷ h → LooksAt (r ∷ h) n → epoch ≤ invalidations (r ∷ h) → PolledSince now n epoch
 polled_now h now r n epoch is looks low = subst (λ (l : List Record). PolledSince l n epoch) (sym is) (polled_last r h n epoch looks low)
 
-invalidations_rise : (more h : List Record) → invalidations h ≤ invalidations (more ++ h)
+pub invalidations_rise : (more h : List Record) → invalidations h ≤ invalidations (more ++ h)
 invalidations_rise [] h = omega arith
 invalidations_rise (Change v c ∷ more) h = invalidations_rise more h
 invalidations_rise (Poll v ∷ more) h = invalidations_rise more h
