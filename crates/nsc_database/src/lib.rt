@@ -1,7 +1,10 @@
 //! One database for many threads: its source book and its writer behind locks, and the passes of its callers.
 #![tactic(auto)]
 
+mod desk;
 mod holds;
+mod pass;
 mod room;
 
+pub use pass::DbPass;
 pub use room::Room;

@@ -1,9 +1,9 @@
 ghost use Rattle.std.specs.Prelude.{◌≡◌};
-ghost use Rattle.nsc_sourcebook.specs.Faults.{fault_of};
+ghost use Rattle.nsc_sourcebook.specs.Faults.{fault_of, lookup_fault};
 ghost use Rattle.nsc_sourcebook.specs.declared.fault.PollFault.TheVariants.{NoMemory as Memory};
 
 use nsc_base::NoMemory;
-use nsc_model::FileId;
+use nsc_model::{FileId, LookupFault};
 use nsc_outside::ReadCause;
 use std::alloc::{AllocError, AllocFailed};
 use thiserror::Error;
@@ -64,5 +64,17 @@ impl<T: Drop> From<AllocFailed<T>> for PollFault {
 
     fn from(_e: AllocFailed<T>) -> PollFault {
         PollFault::NoMemory
+    }
+}
+
+impl From<PollFault> for LookupFault {
+    ghost from_gives = { λ poll fault. fault ≡ lookup_fault poll };
+
+    fn from(e: PollFault) -> LookupFault {
+        match e {
+            PollFault::NoMemory => LookupFault::NoMemory,
+            PollFault::SourceFault { file } => LookupFault::SourceFault { file },
+            PollFault::TooLong { file, length } => LookupFault::TooLong { file, length },
+        }
     }
 }
