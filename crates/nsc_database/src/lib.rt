@@ -1,6 +1,7 @@
 //! One database for many threads: its source book and its writer behind locks, and the passes of its callers.
 #![tactic(auto)]
 
+mod base;
 mod desk;
 mod holds;
 mod pass;

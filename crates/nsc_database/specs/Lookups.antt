@@ -1,0 +1,46 @@
+-- What lookups of a database come to.
+use Rattle.std.specs.Prelude.{◌≡◌, ℕ, ◌<◌, List}
+use Rattle.nsc_model.specs.declared.answer.Request.{Request}
+use Rattle.nsc_model.specs.declared.record.Record.{Record}
+use Rattle.nsc_model.specs.declared.kind.FileId.{FileId}
+use Rattle.nsc_model.specs.declared.store.Given.{Given}
+use Rattle.nsc_model.specs.declared.store.Given.TheVariants as given
+use Rattle.nsc_model.specs.declared.store.Why.TheVariants as why
+use Rattle.nsc_model.specs.declared.store.LookupFault.{LookupFault}
+use Rattle.nsc_model.specs.declared.store.LookupFault.TheVariants as fault
+use Rattle.nsc_model.specs.Content.{Content}
+use Rattle.nsc_model.specs.Files.{file_limit}
+use Rattle.nsc_model.specs.Answers.{answer_of}
+use Rattle.nsc_outside.specs.Stream.{Rose}
+use Rattle.nsc_writer.specs.declared.loaded.Inserted.{Inserted}
+use Rattle.nsc_writer.specs.declared.loaded.Inserted.TheVariants as inserted
+use Rattle.nsc_writer.specs.Loaded.{Loaded}
+use Rattle.nsc_database.specs.Holds.{IsInserted, IsSpent}
+
+-- why a lookup gave up: a count stands at its end, as what was seen says, or a file gave no answer, and its count of faults rose
+abbrev pub IsFault : LookupFault → List Record → ℕ → ℕ → (FileId → ℕ) → (FileId → ℕ) → Type 0
+IsFault fault.NoMemory after before_faults after_faults before_each after_each = Unit {0}
+IsFault (fault.Spent count) after before_faults after_faults before_each after_each = IsSpent after count
+IsFault (fault.SourceFault file) after before_faults after_faults before_each after_each = Rose before_faults after_faults × Rose (before_each file) (after_each file)
+IsFault (fault.TooLong file size) after before_faults after_faults before_each after_each =
+    Rose before_faults after_faults × Rose (before_each file) (after_each file) × (file_limit < size)
+
+-- what a lookup gives after its insertion, whose reply has these bytes
+abbrev pub Gives : Inserted → List ℕ → Given → Type 0
+Gives (inserted.Done number) bytes g = g ≡ given.Loaded bytes number
+Gives (inserted.TooLarge size) bytes g = g ≡ given.Fresh bytes (why.TooLarge size)
+Gives (inserted.Discarded noted epoch) bytes g = g ≡ given.Fresh bytes (why.Discarded noted epoch)
+Gives (inserted.Present number) bytes g = g ≡ given.Fresh bytes (why.Present number)
+Gives (inserted.Spent count) bytes g = g ≡ given.Fresh bytes (why.Spent count)
+Gives (inserted.Full need free) bytes g = g ≡ given.Fresh bytes (why.Full need free)
+Gives inserted.NoMemory bytes g = ⊥
+
+-- an insertion was tried, and the lookup gives this
+pub record IsKept (loaded : Loaded) (seen after : List Record) (g : Given) : Type 0 where
+  pub said : Inserted
+  pub inserted : IsInserted said loaded seen after
+  pub gives : Gives said loaded.answer.bytes g
+
+-- a reply is the answer over a content
+pub record IsAnswerOver (content : Content) (request : Request) (bytes : List ℕ) : Type 0 where
+  pub said : (answer_of content request).bytes ≡ bytes
