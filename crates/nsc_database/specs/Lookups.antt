@@ -1,5 +1,5 @@
 -- What lookups of a database come to.
-use Rattle.std.specs.Prelude.{◌≡◌, ℕ, ◌<◌, List}
+use Rattle.std.specs.Prelude.{◌≡◌, ℕ, ◌<◌, List, Option}
 use Rattle.nsc_model.specs.declared.answer.Request.{Request}
 use Rattle.nsc_model.specs.declared.record.Record.{Record}
 use Rattle.nsc_model.specs.declared.kind.FileId.{FileId}
@@ -9,7 +9,9 @@ use Rattle.nsc_model.specs.declared.store.Why.TheVariants as why
 use Rattle.nsc_model.specs.declared.store.LookupFault.{LookupFault}
 use Rattle.nsc_model.specs.declared.store.LookupFault.TheVariants as fault
 use Rattle.nsc_model.specs.Content.{Content}
-use Rattle.nsc_model.specs.Files.{file_limit}
+use Rattle.nsc_model.specs.declared.kind.Db.{Db}
+use Rattle.nsc_model.specs.Files.{file_limit, part_of}
+use Rattle.nsc_sourcebook.specs.Reads.{AllRose, AreAsTold}
 use Rattle.nsc_model.specs.Answers.{answer_of}
 use Rattle.nsc_outside.specs.Stream.{Rose}
 use Rattle.nsc_writer.specs.declared.loaded.Inserted.{Inserted}
@@ -41,6 +43,16 @@ pub record IsKept (loaded : Loaded) (seen after : List Record) (g : Given) : Typ
   pub inserted : IsInserted said loaded seen after
   pub gives : Gives said loaded.answer.bytes g
 
--- a reply is the answer over a content
-pub record IsAnswerOver (content : Content) (request : Request) (bytes : List ℕ) : Type 0 where
+-- where the reply is not that of a live entry, the files that the database reads were read in this call, and the reply is the
+-- answer over a content that is made of what the reads gave, as far as that is told
+pub record IsMadeOf (which : Db) (before_reads after_reads : FileId → ℕ) (latest : FileId → Option (Option (List ℕ))) (request : Request) (bytes : List ℕ) : Type 0 where
+  pub read : AllRose which before_reads after_reads
+  pub content : Content
+  pub only : content ≡ part_of which content
+  pub told : AreAsTold which latest content
   pub said : (answer_of content request).bytes ≡ bytes
+
+abbrev pub IsMade : Db → (FileId → ℕ) → (FileId → ℕ) → (FileId → Option (Option (List ℕ))) → Request → Given → Type 0
+IsMade which before_reads after_reads latest request (given.Hit bytes number) = Unit {0}
+IsMade which before_reads after_reads latest request (given.Loaded bytes number) = IsMadeOf which before_reads after_reads latest request bytes
+IsMade which before_reads after_reads latest request (given.Fresh bytes why) = IsMadeOf which before_reads after_reads latest request bytes

@@ -58,8 +58,8 @@ impl<D: OfDb, F: FileSet + Drop, A: Answerer + Drop, B: Room> Base<D, F, A, B> {
         })
     }
 
-    // Looks for the live entry of the request.
-    fn look<R: Wait>(&self, rt: &R, pass: &mut DbPass<F, B>, kind: Kind, key: &[u8]) -> Looked
+    /// Looks for the live entry of the request.
+    pub fn look<R: Wait>(&self, rt: &R, pass: &mut DbPass<F, B>, kind: Kind, key: &[u8]) -> Looked
         requires { pass.old.db ≡ D.db }
         ensures db { pass.new.db ≡ pass.old.db }
         ensures files { pass.new.files ≡ pass.old.files }
@@ -70,8 +70,8 @@ impl<D: OfDb, F: FileSet + Drop, A: Answerer + Drop, B: Room> Base<D, F, A, B> {
         self.desk.lock(rt).look(pass, kind, key)
     }
 
-    // Reads the files of the database and polls them, where so many invalidations were noted before.
-    fn poll<R: Wait>(
+    /// Reads the files of the database and polls them, where so many invalidations were noted before.
+    pub fn poll<R: Wait>(
         &self,
         rt: &R,
         alloc: Global,
@@ -100,8 +100,8 @@ impl<D: OfDb, F: FileSet + Drop, A: Answerer + Drop, B: Room> Base<D, F, A, B> {
         }
     }
 
-    // Counts a miss, and tries an insertion.
-    fn keep<R: Wait>(
+    /// Counts a miss, and tries an insertion.
+    pub fn keep<R: Wait>(
         &self,
         rt: &R,
         alloc: Global,
@@ -120,8 +120,8 @@ impl<D: OfDb, F: FileSet + Drop, A: Answerer + Drop, B: Room> Base<D, F, A, B> {
         given_after(said, loaded.into_reply())
     }
 
-    // The answer over a polled content, as it is to be inserted.
-    fn load(
+    /// The answer over a polled content, as it is to be inserted.
+    pub fn load(
         &self,
         alloc: Global,
         polled: &Polled<A>,

@@ -47,6 +47,10 @@ impl<D: OfDb, B: Room> Desk<D, B> {
         self.writer.pass()
     }
 
+    pub fn miss(&mut self, not_found: bool) {
+        self.writer.miss(not_found);
+    }
+
     pub fn look<F: FileSet + Drop>(
         &mut self,
         pass: &mut DbPass<F, B>,

@@ -4,6 +4,7 @@
 mod base;
 mod desk;
 mod holds;
+mod lookup;
 mod pass;
 mod room;
 
