@@ -11,7 +11,7 @@ use Rattle.nsc_model.specs.Entry.{Entry}
 use Rattle.nsc_model.specs.Files.{same_files}
 use Rattle.nsc_model.specs.History.{HasLoad, IsLive, IsPrefix, Legal, LookedBetween, NoneLiveOf, PolledSince, LooksAt, invalidations, loads, version_in}
 use Rattle.nsc_model.specs.Machine.{Kept, Cache, last_count, live_entry, polled}
-use Rattle.nsc_model.specs.Stores.{IsHit}
+use Rattle.nsc_model.specs.Stores.{IsHit, IsSpent}
 use Rattle.nsc_laws.specs.Calls.{Tells, entries_of}
 use Rattle.nsc_laws.proofs.Requests.{same_request}
 use Rattle.nsc_laws.proofs.MachineLawLists.{found}
@@ -26,7 +26,7 @@ use Rattle.nsc_sourcebook.specs.Book.{Polled}
 use Rattle.nsc_sourcebook.proofs.Newest.{newest_held}
 use Rattle.nsc_writer.proofs.Told.{asked_none, invalidations_rise}
 use Rattle.nsc_writer.proofs.Later.{version_on, polled_on}
-use Rattle.nsc_database.specs.Holds.{IsInserted, IsPolled, IsSpent}
+use Rattle.nsc_database.specs.Holds.{IsInserted, IsPolled}
 
 -- ---- a look
 

@@ -2,7 +2,6 @@
 use Rattle.std.specs.Prelude.{◌≡◌, ℕ, ◌<◌, ◌≤◌, List, length, Some}
 use Rattle.nsc_model.specs.declared.answer.Request.{Request}
 use Rattle.nsc_model.specs.declared.record.Record.{Record}
-use Rattle.nsc_model.specs.Content.{Content}
 use Rattle.nsc_model.specs.Entry.{Entry, kept_limit}
 use Rattle.nsc_model.specs.History.{HasLoad, IsLive, LookedBetween, NoneLiveOf, PolledSince, invalidations, loads, version_in}
 use Rattle.nsc_model.specs.Machine.{last_count}
@@ -25,12 +24,6 @@ pub record IsPolled (seen after : List Record) (epoch : ℕ) (polled : Polled) :
   pub version : version_in after polled.stamp.version ≡ Some polled.content
   pub since : PolledSince after polled.stamp.version epoch
   pub looked : LookedBetween seen after polled.stamp.version
-
--- a new version was needed, and the count of versions stands at its end
-pub record IsSpent (after : List Record) (count : ℕ) : Type 0 where
-  pub last : count ≡ last_count
-  pub content : Content
-  pub version : version_in after count ≡ Some content
 
 -- what became of an insertion
 abbrev pub IsInserted : Inserted → Loaded → List Record → List Record → Type 0

@@ -1,31 +1,20 @@
 -- What lookups of a database come to.
-use Rattle.std.specs.Prelude.{◌≡◌, ℕ, ◌<◌, List, Option}
+use Rattle.std.specs.Prelude.{◌≡◌, ℕ, List, Option}
 use Rattle.nsc_model.specs.declared.answer.Request.{Request}
 use Rattle.nsc_model.specs.declared.record.Record.{Record}
 use Rattle.nsc_model.specs.declared.kind.FileId.{FileId}
 use Rattle.nsc_model.specs.declared.store.Given.{Given}
 use Rattle.nsc_model.specs.declared.store.Given.TheVariants as given
 use Rattle.nsc_model.specs.declared.store.Why.TheVariants as why
-use Rattle.nsc_model.specs.declared.store.LookupFault.{LookupFault}
-use Rattle.nsc_model.specs.declared.store.LookupFault.TheVariants as fault
 use Rattle.nsc_model.specs.Content.{Content}
 use Rattle.nsc_model.specs.declared.kind.Db.{Db}
-use Rattle.nsc_model.specs.Files.{file_limit, part_of}
+use Rattle.nsc_model.specs.Files.{part_of}
 use Rattle.nsc_sourcebook.specs.Reads.{AllRose, AreAsTold}
 use Rattle.nsc_model.specs.Answers.{answer_of}
-use Rattle.nsc_outside.specs.Stream.{Rose}
 use Rattle.nsc_writer.specs.declared.loaded.Inserted.{Inserted}
 use Rattle.nsc_writer.specs.declared.loaded.Inserted.TheVariants as inserted
 use Rattle.nsc_writer.specs.Loaded.{Loaded}
-use Rattle.nsc_database.specs.Holds.{IsInserted, IsSpent}
-
--- why a lookup gave up: a count stands at its end, as what was seen says, or a file gave no answer, and its count of faults rose
-abbrev pub IsFault : LookupFault → List Record → ℕ → ℕ → (FileId → ℕ) → (FileId → ℕ) → Type 0
-IsFault fault.NoMemory after before_faults after_faults before_each after_each = Unit {0}
-IsFault (fault.Spent count) after before_faults after_faults before_each after_each = IsSpent after count
-IsFault (fault.SourceFault file) after before_faults after_faults before_each after_each = Rose before_faults after_faults × Rose (before_each file) (after_each file)
-IsFault (fault.TooLong file size) after before_faults after_faults before_each after_each =
-    Rose before_faults after_faults × Rose (before_each file) (after_each file) × (file_limit < size)
+use Rattle.nsc_database.specs.Holds.{IsInserted}
 
 -- what a lookup gives after its insertion, whose reply has these bytes
 abbrev pub Gives : Inserted → List ℕ → Given → Type 0

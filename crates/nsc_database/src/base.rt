@@ -7,8 +7,9 @@ ghost use Rattle.nsc_model.specs.History.{IsPrefix, Legal, invalidations};
 ghost use Rattle.nsc_model.specs.Machine.{life_of};
 ghost use Rattle.nsc_writer.specs.Writer.{IsAnswered};
 ghost use Rattle.nsc_sourcebook.specs.Reads.{AllRose, AreAsTold, IsPartOf};
+ghost use Rattle.nsc_model.specs.Stores.{IsFault};
 ghost use Rattle.nsc_database.specs.Holds.{IsInserted, IsLooked, IsPolled};
-ghost use Rattle.nsc_database.specs.Lookups.{Gives, IsFault, IsKept};
+ghost use Rattle.nsc_database.specs.Lookups.{Gives, IsKept};
 
 use crate::desk::{Desk, Shelved};
 use crate::holds::Looked;

@@ -5,7 +5,8 @@ ghost use Rattle.nsc_model.specs.Files.{part_of};
 ghost use Rattle.nsc_model.specs.History.{IsPrefix, Legal, invalidations};
 ghost use Rattle.nsc_writer.specs.Writer.{IsAnswered};
 ghost use Rattle.nsc_sourcebook.specs.Reads.{AllRose, AreAsTold, FaultRose, IsPartOf, TellsLength};
-ghost use Rattle.nsc_database.specs.Holds.{IsInserted, IsLooked, IsPolled, IsSpent};
+ghost use Rattle.nsc_model.specs.Stores.{IsSpent};
+ghost use Rattle.nsc_database.specs.Holds.{IsInserted, IsLooked, IsPolled};
 
 use crate::holds;
 use crate::holds::Looked;

@@ -4,7 +4,8 @@ ghost use Rattle.std.specs.Bool.{OnTrue};
 ghost use Rattle.nsc_model.specs.Entry.{kept_limit};
 ghost use Rattle.nsc_model.specs.History.{IsPrefix, Legal, invalidations};
 ghost use Rattle.nsc_writer.specs.Writer.{IsAnswered};
-ghost use Rattle.nsc_database.specs.Holds.{IsInserted, IsLooked, IsPolled, IsSpent};
+ghost use Rattle.nsc_model.specs.Stores.{IsSpent};
+ghost use Rattle.nsc_database.specs.Holds.{IsInserted, IsLooked, IsPolled};
 
 use nsc_base::Buf;
 use nsc_model::{Answerer, Kind, Spent};

@@ -2,11 +2,15 @@
 #![tactic(auto)]
 
 mod base;
+mod database;
 mod desk;
 mod holds;
 mod lookup;
+mod opened;
 mod pass;
 mod room;
 
+pub use database::Database;
+pub use opened::Opened;
 pub use pass::DbPass;
 pub use room::Room;

@@ -4,8 +4,8 @@ ghost use Rattle.nsc_model.specs.declared.store.Given.TheVariants as given;
 ghost use Rattle.nsc_model.specs.declared.store.Why.TheVariants as why;
 ghost use Rattle.nsc_model.specs.Entry.{key_limit};
 ghost use Rattle.nsc_model.specs.History.{Answered, IsPrefix, Legal, NoneLiveOf, invalidations};
-ghost use Rattle.nsc_model.specs.Stores.{IsGiven, reply_of};
-ghost use Rattle.nsc_database.specs.Lookups.{IsFault, IsMade};
+ghost use Rattle.nsc_model.specs.Stores.{IsGiven, IsFault, reply_of};
+ghost use Rattle.nsc_database.specs.Lookups.{IsMade};
 
 use crate::base::Base;
 use crate::holds::Looked;

@@ -1,5 +1,6 @@
 ghost use Rattle.std.specs.Prelude.{◌≡◌};
 ghost use Rattle.nsc_model.specs.Entry.{kept_limit};
+ghost use Rattle.nsc_model.specs.History.{IsPrefix};
 
 use crate::room::Room;
 use nsc_base::Buf;
@@ -19,4 +20,25 @@ pub struct DbPass<F: FileSet + Drop, B: Room> {
     pub(crate) room: PhantomData<B>,
     pub ghost own: { (pass.table ≡ B.table db) × (map.table ≡ B.table db) },
     pub ghost buffer: { reply.limit ≡ kept_limit },
+}
+
+impl<F: FileSet + Drop, B: Room> DbPass<F, B> {
+    /// It has seen, then, all that it and the other one had seen.
+    pub(crate) fn meet(&mut self, other: DbPass<F, B>)
+        requires { other.db ≡ self.old.db }
+        ensures db { self.new.db ≡ self.old.db }
+        ensures files { self.new.files ≡ self.old.files }
+        ensures before { IsPrefix self.old.pass.seen self.new.pass.seen }
+        ensures other { IsPrefix other.pass.seen self.new.pass.seen }
+    {
+        let DbPass {
+            db: _,
+            pass,
+            map: _,
+            files: _,
+            reply: _,
+            room: _,
+        } = other;
+        self.pass.meet(&self.map, pass);
+    }
 }

@@ -22,5 +22,5 @@ pub use databases::Databases;
 pub use kind::{Db, FileId, Kind};
 pub use record::{Ending, Entry, Record};
 pub use row::{Ai, Found6, Founds, Group, Host, Looked, Passwd, Reply, Row, Service};
-pub use store::{Given, LookupFault, Spent, Stats, Why};
+pub use store::{Given, LookupFault, Spent, Stats, Store, Why};
 pub use switch::{DbName, SwitchAction, SwitchService, SwitchStep};

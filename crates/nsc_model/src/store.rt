@@ -1,5 +1,17 @@
-use crate::kind::FileId;
+ghost use Rattle.std.specs.Prelude.{◌≡◌, ◌<◌, ◌^◌, ◌≤◌, ℕ, List, length, IfOk, IfErr};
+ghost use Rattle.nsc_model.specs.declared.kind.Db.{Db};
+ghost use Rattle.nsc_model.specs.declared.kind.FileId.{FileId};
+ghost use Rattle.nsc_model.specs.declared.conf.DbConf.{DbConf};
+ghost use Rattle.nsc_model.specs.declared.record.Record.{Record};
+ghost use Rattle.nsc_model.specs.Entry.{key_limit};
+ghost use Rattle.nsc_model.specs.Kinds.{database_of};
+ghost use Rattle.nsc_model.specs.History.{Answered, IsPrefix, Legal};
+ghost use Rattle.nsc_model.specs.Stores.{IsFault, IsGiven, reply_of};
+
+use crate::kind::{FileId, Kind};
 use nsc_base::{Bytes, NoMemory};
+use std::alloc::Global;
+use std::sync::Wait;
 use thiserror::Error;
 
 /// A count that a call needs stands at its end, which is 2^62.
@@ -146,4 +158,61 @@ impl From<Spent> for LookupFault {
     fn from(e: Spent) -> LookupFault {
         LookupFault::Spent { count: e.count }
     }
+}
+
+/// One database for many threads. Each has a pass of its own, with which it calls.
+pub trait Store {
+    /// What a caller has.
+    type Pass: Drop;
+
+    // The database.
+    ghost db: { Self → Db };
+
+    // Its settings.
+    ghost settings: { Self → DbConf };
+
+    // Whether a pass is one of this store.
+    ghost is_pass: { Self → Self.Pass → Type 0 };
+
+    // The beginning of the history that a pass has seen.
+    ghost seen: { Self.Pass → List Record };
+
+    // How many reads of files by a pass failed or met a file that is too long, in all and of each file.
+    ghost faults: { Self.Pass → ℕ };
+
+    ghost file_faults: { Self.Pass → FileId → ℕ };
+
+    /// A new pass. Fails only for want of memory.
+    fn attach<R: Wait>(&self, rt: &R, alloc: Global) -> Result<Self::Pass, NoMemory>
+        ensures pass { IfOk result (λ pass. is_pass self.now pass) }
+        ensures legal { IfOk result (λ pass. Legal (seen pass)) };
+
+    /// Looks up the request of this kind and key at this moment, in seconds: the reply of its live entry, or else the answer
+    /// over the files as they are read in this call, which is then kept where nothing refuses it.
+    fn lookup<R: Wait>(
+        &self,
+        rt: &R,
+        alloc: Global,
+        pass: &mut Self::Pass,
+        kind: Kind,
+        key: &[u8],
+        now: u64,
+    ) -> Result<Given, LookupFault>
+        requires pass { is_pass self.now pass.old }
+        requires kind { database_of kind ≡ db self.now }
+        requires key { length key.now ≤ key_limit }
+        requires moment { now < 2 ^ 62 }
+        ensures pass { is_pass self.now pass.new }
+        ensures before { IsPrefix (seen pass.old) (seen pass.new) }
+        ensures answered { IfOk result (λ g. Answered (seen pass.old) (seen pass.new) (record { kind = kind; key = key.now }) (reply_of g)) }
+        ensures given { IfOk result (λ g. IsGiven g (settings self.now) now (seen pass.old) (seen pass.new) (record { kind = kind; key = key.now })) }
+        ensures fault { IfErr result (λ fault. IsFault fault (seen pass.new) (faults pass.old) (faults pass.new) (file_faults pass.old) (file_faults pass.new)) };
+
+    /// The pass has seen, then, all that it and the other one had seen.
+    fn meet(&self, pass: &mut Self::Pass, other: Self::Pass)
+        requires pass { is_pass self.now pass.old }
+        requires other { is_pass self.now other }
+        ensures pass { is_pass self.now pass.new }
+        ensures before { IsPrefix (seen pass.old) (seen pass.new) }
+        ensures other { IsPrefix (seen other) (seen pass.new) };
 }

@@ -6,7 +6,8 @@ use Rattle.nsc_model.specs.History.{IsPrefix}
 use Rattle.nsc_rule.specs.Pass.{Pass}
 use Rattle.nsc_writer.specs.Writer.{Writer, Polls}
 use Rattle.nsc_writer.proofs.Later.{prefix_through}
-use Rattle.nsc_database.specs.Holds.{IsPolled, IsSpent}
+use Rattle.nsc_model.specs.Stores.{IsSpent}
+use Rattle.nsc_database.specs.Holds.{IsPolled}
 use Rattle.nsc_database.proofs.Shown.{invalidations_on, is_polled, is_spent, polls_looks, spent_stays, stamp_epoch}
 use Rattle.nsc_database.proofs.holds.poll.Goals as goal
 
