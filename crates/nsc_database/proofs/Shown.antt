@@ -1,16 +1,18 @@
 -- What holds of the writer's lock show.
-use Rattle.std.proofs.Common.{◌≡◌, ◌≢◌, ◌∙◌, ℕ, ◌+◌, ◌<◌, ◌≤◌, Bool, true, false, cond, eqb, List, [], ◌∷◌, ◌++◌, length, length-append, find, Option, Some, None, Result, Ok, Err, refl, sym, ap, subst, arith, inl, inr}
+use Rattle.std.proofs.Common.{◌≡◌, ◌≢◌, ◌∙◌, ℕ, suc, ◌+◌, ◌<◌, ◌≤◌, Bool, true, false, cond, eqb, List, [], ◌∷◌, ◌++◌, length, length-append, find, Option, Some, None, Result, Ok, Err, refl, sym, ap, subst, arith, inl, inr}
 use Rattle.std.proofs.lemmas.Bool.{eqb-true}
 use Rattle.nsc_model.specs.declared.answer.Request.{Request}
 use Rattle.nsc_model.specs.declared.record.Record.{Record}
 use Rattle.nsc_model.specs.declared.record.Record.TheVariants.{Change, Poll, Load, End, Invalid}
+use Rattle.nsc_model.specs.declared.record.Ending.TheVariants.{Invalidated}
 use Rattle.nsc_model.specs.declared.store.Spent.{Spent as SpentCount}
+use Rattle.nsc_model.specs.declared.store.Stats.{Stats}
 use Rattle.nsc_model.specs.Kinds.{is_request}
 use Rattle.nsc_model.specs.Content.{Content}
 use Rattle.nsc_model.specs.Entry.{Entry}
 use Rattle.nsc_model.specs.Files.{same_files}
-use Rattle.nsc_model.specs.History.{HasLoad, IsLive, IsPrefix, Legal, LookedBetween, NoneLiveOf, PolledSince, LooksAt, invalidations, loads, version_in}
-use Rattle.nsc_model.specs.Machine.{Kept, Cache, last_count, live_entry, polled}
+use Rattle.nsc_model.specs.History.{HasLoad, IsLive, IsPrefix, Legal, LookedBetween, NoneLive, NoneLiveOf, PolledSince, LooksAt, invalidations, loads, version_in}
+use Rattle.nsc_model.specs.Machine.{Kept, Cache, last_count, by_invalidation, ends_of, live_entry, polled}
 use Rattle.nsc_model.specs.Stores.{IsHit, IsSpent}
 use Rattle.nsc_laws.specs.Calls.{Tells, entries_of}
 use Rattle.nsc_laws.proofs.Requests.{same_request}
@@ -21,12 +23,12 @@ use Rattle.nsc_writer.specs.declared.loaded.Stamp.{Stamp}
 use Rattle.nsc_writer.specs.declared.uses.Hit.{Hit}
 use Rattle.nsc_writer.specs.Loaded.{Loaded, kept_of}
 use Rattle.nsc_writer.specs.Shelf.{Gives, number_of}
-use Rattle.nsc_writer.specs.Writer.{Writer, Inserts, IsAnswered, IsNewest, IsRefused, Polls}
+use Rattle.nsc_writer.specs.Writer.{Writer, Inserts, IsAnswered, IsNewest, IsRefused, Polls, emptied_by}
 use Rattle.nsc_sourcebook.specs.Book.{Polled}
 use Rattle.nsc_sourcebook.proofs.Newest.{newest_held}
 use Rattle.nsc_writer.proofs.Told.{asked_none, invalidations_rise}
-use Rattle.nsc_writer.proofs.Later.{version_on, polled_on}
-use Rattle.nsc_database.specs.Holds.{IsInserted, IsPolled}
+use Rattle.nsc_writer.proofs.Later.{prefix_through, version_on, polled_on}
+use Rattle.nsc_database.specs.Holds.{IsCounted, IsEmptied, IsInserted, IsPolled}
 
 -- ---- a look
 
@@ -193,3 +195,33 @@ stamp_epoch files epoch w w' stamp p = by_same (same_files files w.cache.sources
       (Ok (record { cache = record w.cache { sources = files; newest_version = w.cache.newest_version + 1 }; adds = Change (w.cache.newest_version + 1) files ∷ [] })))) epoch w w' (Ok stamp) → stamp.epoch ≡ epoch
   by_same true q = ap (λ (s : Stamp). s.epoch) q.0
   by_same false q = by_count (eqb w.cache.newest_version last_count) q
+
+-- ---- an invalidation, and counts
+
+pub is_emptied : (seen : List Record) (w w' : Writer) (epoch : ℕ) → Tells w.seen w.cache → Tells w'.seen w'.cache → IsPrefix seen w.seen → epoch ≡ w.cache.epoch + 1 → w' ≡ emptied_by w → IsEmptied seen w'.seen epoch
+is_emptied seen w w' epoch t t' p next is =
+    let low = invalidations_on seen w.seen p in
+    let before = t.epochs_are in
+    let legal = subst Legal (ap (λ (x : Writer). x.seen) is) t'.legal in
+    record {
+      last = t'.epochs_are ∙ ap (λ (x : Writer). x.cache.epoch) is ∙ sym next;
+      new = omega arith;
+      none = subst (λ (x : Writer). NoneLive x.seen) (sym is) legal.2;
+    }
+
+ends_prefix : (ks : List Kept) (h : List Record) → IsPrefix h (ends_of by_invalidation ks h)
+ends_prefix [] h = ([], refl)
+ends_prefix (k ∷ ks) h = prefix_through h (End k.entry.number Invalidated ∷ h) (ends_of by_invalidation ks (End k.entry.number Invalidated ∷ h)) (End k.entry.number Invalidated ∷ [], refl) (ends_prefix ks (End k.entry.number Invalidated ∷ h))
+
+pub emptied_on : (w w' : Writer) → w' ≡ emptied_by w → GoesOn w w'
+emptied_on w w' is = subst (GoesOn w) (sym is) (record {
+  on = prefix_through w.seen (ends_of by_invalidation w.cache.entries w.seen) (Invalid (w.cache.epoch + 1) ∷ ends_of by_invalidation w.cache.entries w.seen) (ends_prefix w.cache.entries w.seen) (Invalid (w.cache.epoch + 1) ∷ [], refl);
+  table = refl;
+})
+
+entries_length : (ks : List Kept) → length (entries_of ks) ≡ length ks
+entries_length [] = refl
+entries_length (k ∷ ks) = ap (λ (n : ℕ). suc n) (entries_length ks)
+
+pub is_counted : (h : List Record) (cache : Cache) (stats : Stats) → Tells h cache → stats.entries ≡ length cache.entries → stats.invalidations ≡ cache.epoch → IsCounted h stats
+is_counted h cache stats t entries invalid = record { entries = entries_of cache.entries; live = t.entries_are; counted = entries ∙ sym (entries_length cache.entries); invalidations_are = invalid ∙ sym t.epochs_are }

@@ -1,11 +1,13 @@
 -- What is known after one hold of the writer's lock.
-use Rattle.std.specs.Prelude.{◌≡◌, ℕ, ◌<◌, ◌≤◌, List, length, Some}
+use Rattle.std.specs.Prelude.{◌≡◌, ℕ, ◌<◌, ◌≤◌, ◌⊎◌, List, length, Some}
 use Rattle.nsc_model.specs.declared.answer.Request.{Request}
 use Rattle.nsc_model.specs.declared.record.Record.{Record}
 use Rattle.nsc_model.specs.Entry.{Entry, kept_limit}
-use Rattle.nsc_model.specs.History.{HasLoad, IsLive, LookedBetween, NoneLiveOf, PolledSince, invalidations, loads, version_in}
+use Rattle.nsc_model.specs.History.{HasLoad, IsLive, LookedBetween, NoneLive, NoneLiveOf, PolledSince, invalidations, loads, version_in}
 use Rattle.nsc_model.specs.Machine.{last_count}
+use Rattle.nsc_model.specs.declared.store.Stats.{Stats}
 use Rattle.nsc_model.specs.Stores.{IsHit}
+use Rattle.nsc_laws.specs.Core.{AreLive}
 use Rattle.nsc_writer.specs.declared.loaded.Inserted.{Inserted}
 use Rattle.nsc_writer.specs.declared.loaded.Inserted.TheVariants as inserted
 use Rattle.nsc_writer.specs.Loaded.{Loaded, kept_of}
@@ -34,3 +36,22 @@ IsInserted (inserted.Present number) loaded seen after = (e : Entry) × IsLive a
 IsInserted (inserted.Spent count) loaded seen after = (count ≡ last_count) × (loads after ≡ count)
 IsInserted (inserted.Full need free) loaded seen after = free < need
 IsInserted inserted.NoMemory loaded seen after = Unit {0}
+
+-- an invalidation: its number is the count of invalidations, and was not before, and no entry is live
+pub record IsEmptied (seen after : List Record) (epoch : ℕ) : Type 0 where
+  pub last : invalidations after ≡ epoch
+  pub new : invalidations seen < epoch
+  pub none : NoneLive after
+
+-- an invalidation gave up: the count of invalidations stands at its end; or every entry ended, and was not moved, since the count
+-- of compactions does
+pub record IsUnmoved (after : List Record) (count : ℕ) : Type 0 where
+  pub last : count ≡ last_count
+  pub cause : (invalidations after ≡ count) ⊎ NoneLive after
+
+-- the counts are those of this history
+pub record IsCounted (after : List Record) (stats : Stats) : Type 0 where
+  pub entries : List Entry
+  pub live : AreLive after entries
+  pub counted : stats.entries ≡ length entries
+  pub invalidations_are : stats.invalidations ≡ invalidations after

@@ -8,7 +8,7 @@ ghost use Rattle.nsc_model.specs.Machine.{life_of};
 ghost use Rattle.nsc_writer.specs.Writer.{IsAnswered};
 ghost use Rattle.nsc_sourcebook.specs.Reads.{AllRose, AreAsTold, IsPartOf};
 ghost use Rattle.nsc_model.specs.Stores.{IsFault};
-ghost use Rattle.nsc_database.specs.Holds.{IsInserted, IsLooked, IsPolled};
+ghost use Rattle.nsc_database.specs.Holds.{IsCounted, IsEmptied, IsLooked, IsPolled, IsUnmoved};
 ghost use Rattle.nsc_database.specs.Lookups.{Gives, IsKept};
 
 use crate::desk::{Desk, Shelved};
@@ -16,7 +16,7 @@ use crate::holds::Looked;
 use crate::pass::DbPass;
 use crate::room::{OfDb, Room};
 use nsc_base::{Buf, Bytes, NoMemory};
-use nsc_model::{Answer, Answerer, Db, DbConf, Given, Kind, LookupFault, Why};
+use nsc_model::{Answer, Answerer, Db, DbConf, Given, Kind, LookupFault, Spent, Stats, Why};
 use nsc_outside::FileSet;
 use nsc_rule::Map;
 use nsc_sourcebook::Polled;
@@ -138,6 +138,54 @@ impl<D: OfDb, F: FileSet + Drop, A: Answerer + Drop, B: Room> Base<D, F, A, B> {
         let key = Bytes::copy(alloc, key)?;
         let timeout = now + life_of(&self.settings, &answer);
         Ok(Loaded::new(kind, key, answer, polled.stamp(), timeout, 0))
+    }
+}
+
+impl<D: OfDb, F: FileSet + Drop, A: Answerer + Drop, B: Room> Base<D, F, A, B> {
+    /// Ends every entry, and gives the new number of invalidations.
+    pub fn invalidate<R: Wait>(&self, rt: &R, pass: &mut DbPass<F, B>) -> Result<u64, Spent>
+        requires { pass.old.db ≡ D.db }
+        ensures db { pass.new.db ≡ pass.old.db }
+        ensures files { pass.new.files ≡ pass.old.files }
+        ensures before { IsPrefix pass.old.pass.seen pass.new.pass.seen }
+        ensures legal { Legal pass.new.pass.seen }
+        ensures done { IfOk result (λ epoch. IsEmptied pass.old.pass.seen pass.new.pass.seen epoch) }
+        ensures spent { IfErr result (λ spent. IsUnmoved pass.new.pass.seen spent.count) }
+    {
+        self.desk.lock(rt).invalidate(pass)
+    }
+
+    /// What the database counts.
+    pub fn stats<R: Wait>(&self, rt: &R, pass: &mut DbPass<F, B>) -> Stats
+        requires { pass.old.db ≡ D.db }
+        ensures db { pass.new.db ≡ pass.old.db }
+        ensures files { pass.new.files ≡ pass.old.files }
+        ensures before { IsPrefix pass.old.pass.seen pass.new.pass.seen }
+        ensures legal { Legal pass.new.pass.seen }
+        ensures counted { IsCounted pass.new.pass.seen result }
+        ensures enabled { result.enabled ≡ self.now.settings.enabled }
+    {
+        let counted = self.desk.lock(rt).stats(pass);
+        with_enabled(counted, self.settings.enabled)
+    }
+}
+
+// The counts of a database that is cached, or is not.
+fn with_enabled(counted: Stats, enabled: bool) -> Stats
+    ensures { result ≡ record counted { enabled = enabled } }
+{
+    Stats {
+        enabled,
+        hits: counted.hits,
+        negative_hits: counted.negative_hits,
+        misses: counted.misses,
+        negative_misses: counted.negative_misses,
+        entries: counted.entries,
+        used: counted.used,
+        arena: counted.arena,
+        invalidations: counted.invalidations,
+        compactions: counted.compactions,
+        addfailed: counted.addfailed,
     }
 }
 

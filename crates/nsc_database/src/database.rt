@@ -2,13 +2,14 @@ ghost use Rattle.std.specs.Prelude.{◌≡◌, ◌≤◌, ◌<◌, ◌^◌, leng
 ghost use Rattle.nsc_model.specs.Entry.{key_limit};
 ghost use Rattle.nsc_model.specs.History.{Answered, IsPrefix, Legal};
 ghost use Rattle.nsc_model.specs.Stores.{IsFault, IsGiven, reply_of};
+ghost use Rattle.nsc_database.specs.Holds.{IsCounted, IsEmptied, IsUnmoved};
 ghost use Rattle.nsc_database.specs.Lookups.{IsMade};
 
 use crate::base::Base;
 use crate::pass::DbPass;
 use crate::room::{OfGroup, OfHosts, OfPasswd, OfServices, Room};
 use nsc_base::NoMemory;
-use nsc_model::{Answerer, Given, Kind, LookupFault, Store};
+use nsc_model::{Answerer, Given, Kind, LookupFault, Spent, Stats, Store};
 use nsc_outside::FileSet;
 use std::alloc::Global;
 use std::marker::Model;
@@ -66,6 +67,43 @@ impl<F: FileSet + Drop, A: Answerer + Drop, B: Room> Database<F, A, B> {
             Bases::Group(base) => base.lookup(rt, alloc, pass, kind, key, now),
             Bases::Hosts(base) => base.lookup(rt, alloc, pass, kind, key, now),
             Bases::Services(base) => base.lookup(rt, alloc, pass, kind, key, now),
+        }
+    }
+}
+
+impl<F: FileSet + Drop, A: Answerer + Drop, B: Room> Database<F, A, B> {
+    /// Ends every live entry as invalidated, and gives the new number of invalidations. At `Spent` a count stands at its end:
+    /// that of the invalidations, and nothing changed; or that of the compactions, and the words of the ended entries are not free.
+    pub fn invalidate<R: Wait>(&self, rt: &R, pass: &mut DbPass<F, B>) -> Result<u64, Spent>
+        requires { pass.old.db ≡ self.now.db }
+        ensures pass { pass.new.db ≡ pass.old.db }
+        ensures before { IsPrefix pass.old.pass.seen pass.new.pass.seen }
+        ensures legal { Legal pass.new.pass.seen }
+        ensures done { IfOk result (λ epoch. IsEmptied pass.old.pass.seen pass.new.pass.seen epoch) }
+        ensures spent { IfErr result (λ spent. IsUnmoved pass.new.pass.seen spent.count) }
+    {
+        match &self.bases {
+            Bases::Passwd(base) => base.invalidate(rt, pass),
+            Bases::Group(base) => base.invalidate(rt, pass),
+            Bases::Hosts(base) => base.invalidate(rt, pass),
+            Bases::Services(base) => base.invalidate(rt, pass),
+        }
+    }
+
+    /// What the database counts.
+    pub fn stats<R: Wait>(&self, rt: &R, pass: &mut DbPass<F, B>) -> Stats
+        requires { pass.old.db ≡ self.now.db }
+        ensures pass { pass.new.db ≡ pass.old.db }
+        ensures before { IsPrefix pass.old.pass.seen pass.new.pass.seen }
+        ensures legal { Legal pass.new.pass.seen }
+        ensures counted { IsCounted pass.new.pass.seen result }
+        ensures enabled { result.enabled ≡ self.now.settings.enabled }
+    {
+        match &self.bases {
+            Bases::Passwd(base) => base.stats(rt, pass),
+            Bases::Group(base) => base.stats(rt, pass),
+            Bases::Hosts(base) => base.stats(rt, pass),
+            Bases::Services(base) => base.stats(rt, pass),
         }
     }
 }

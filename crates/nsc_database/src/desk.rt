@@ -6,14 +6,14 @@ ghost use Rattle.nsc_model.specs.History.{IsPrefix, Legal, invalidations};
 ghost use Rattle.nsc_writer.specs.Writer.{IsAnswered};
 ghost use Rattle.nsc_sourcebook.specs.Reads.{AllRose, AreAsTold, FaultRose, IsPartOf, TellsLength};
 ghost use Rattle.nsc_model.specs.Stores.{IsSpent};
-ghost use Rattle.nsc_database.specs.Holds.{IsInserted, IsLooked, IsPolled};
+ghost use Rattle.nsc_database.specs.Holds.{IsCounted, IsEmptied, IsInserted, IsLooked, IsPolled, IsUnmoved};
 
 use crate::holds;
 use crate::holds::Looked;
 use crate::pass::DbPass;
 use crate::room::{OfDb, Room};
 use nsc_base::NoMemory;
-use nsc_model::{Answerer, Kind, Spent};
+use nsc_model::{Answerer, Kind, Spent, Stats};
 use nsc_outside::FileSet;
 use nsc_rule::Pass;
 use nsc_sourcebook::{Fetched, PollFault, Polled, SourceBook};
@@ -117,6 +117,31 @@ impl<D: OfDb, B: Room> Desk<D, B> {
         ensures back { result.1 ≡ loaded }
     {
         holds::insert(&mut self.writer, &mut pass.pass, alloc, loaded)
+    }
+}
+
+impl<D: OfDb, B: Room> Desk<D, B> {
+    pub fn invalidate<F: FileSet + Drop>(&mut self, pass: &mut DbPass<F, B>) -> Result<u64, Spent>
+        requires { pass.old.db ≡ D.db }
+        ensures db { pass.new.db ≡ pass.old.db }
+        ensures files { pass.new.files ≡ pass.old.files }
+        ensures before { IsPrefix pass.old.pass.seen pass.new.pass.seen }
+        ensures legal { Legal pass.new.pass.seen }
+        ensures done { IfOk result (λ epoch. IsEmptied pass.old.pass.seen pass.new.pass.seen epoch) }
+        ensures spent { IfErr result (λ spent. IsUnmoved pass.new.pass.seen spent.count) }
+    {
+        holds::invalidate(&mut self.writer, &mut pass.pass)
+    }
+
+    pub fn stats<F: FileSet + Drop>(&mut self, pass: &mut DbPass<F, B>) -> Stats
+        requires { pass.old.db ≡ D.db }
+        ensures db { pass.new.db ≡ pass.old.db }
+        ensures files { pass.new.files ≡ pass.old.files }
+        ensures before { IsPrefix pass.old.pass.seen pass.new.pass.seen }
+        ensures legal { Legal pass.new.pass.seen }
+        ensures counted { IsCounted pass.new.pass.seen result }
+    {
+        holds::stats(&mut self.writer, &mut pass.pass)
     }
 }
 

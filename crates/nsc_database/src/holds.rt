@@ -4,11 +4,12 @@ ghost use Rattle.std.specs.Bool.{OnTrue};
 ghost use Rattle.nsc_model.specs.Entry.{kept_limit};
 ghost use Rattle.nsc_model.specs.History.{IsPrefix, Legal, invalidations};
 ghost use Rattle.nsc_writer.specs.Writer.{IsAnswered};
+ghost use Rattle.nsc_model.specs.Machine.{last_count};
 ghost use Rattle.nsc_model.specs.Stores.{IsSpent};
-ghost use Rattle.nsc_database.specs.Holds.{IsInserted, IsLooked, IsPolled};
+ghost use Rattle.nsc_database.specs.Holds.{IsCounted, IsEmptied, IsInserted, IsLooked, IsPolled, IsUnmoved};
 
 use nsc_base::Buf;
-use nsc_model::{Answerer, Kind, Spent};
+use nsc_model::{Answerer, Kind, Spent, Stats};
 use nsc_outside::FileSet;
 use nsc_rule::Pass;
 use nsc_sourcebook::{Fetched, Polled, SourceBook};
@@ -111,4 +112,65 @@ pub fn insert(
     writer.learn();
     writer.show(pass);
     outcome
+}
+
+/// Ends every entry as invalidated, and compacts where there was any.
+pub fn invalidate(writer: &mut Writer, pass: &mut Pass) -> Result<u64, Spent>
+    requires { pass.old.table ≡ writer.old.table }
+    ensures writer { writer.new.table ≡ writer.old.table }
+    ensures pass { pass.new.table ≡ pass.old.table }
+    ensures before { IsPrefix pass.old.seen pass.new.seen }
+    ensures legal { Legal pass.new.seen }
+    ensures done { IfOk result (λ epoch. IsEmptied pass.old.seen pass.new.seen epoch) }
+    ensures spent { IfErr result (λ spent. IsUnmoved pass.new.seen spent.count) }
+{
+    let is_empty = writer.is_empty();
+    match end_all(writer, pass) {
+        Ok(epoch) => {
+            if is_empty {
+                return Ok(epoch);
+            }
+            match writer.compact() {
+                Ok(_) => Ok(epoch),
+                Err(spent) => Err(spent),
+            }
+        }
+        Err(spent) => Err(spent),
+    }
+}
+
+// Ends every entry as invalidated.
+fn end_all(writer: &mut Writer, pass: &mut Pass) -> Result<u64, Spent>
+    requires { pass.old.table ≡ writer.old.table }
+    ensures writer { writer.new.table ≡ writer.old.table }
+    ensures pass { pass.new.table ≡ pass.old.table }
+    ensures before { IsPrefix pass.old.seen pass.new.seen }
+    ensures legal { Legal pass.new.seen }
+    ensures done { IfOk result (λ epoch. IsEmptied pass.old.seen pass.new.seen epoch) }
+    ensures spent { IfErr result (λ spent. (spent.count ≡ last_count) × (invalidations pass.new.seen ≡ spent.count)) }
+{
+    writer.show(pass);
+    writer.learn();
+    match writer.invalidate() {
+        Ok(epoch) => {
+            writer.learn();
+            writer.show(pass);
+            Ok(epoch)
+        }
+        Err(spent) => Err(spent),
+    }
+}
+
+/// What the writer counts.
+pub fn stats(writer: &mut Writer, pass: &mut Pass) -> Stats
+    requires { pass.old.table ≡ writer.old.table }
+    ensures writer { writer.new ≡ writer.old }
+    ensures pass { pass.new.table ≡ pass.old.table }
+    ensures before { IsPrefix pass.old.seen pass.new.seen }
+    ensures legal { Legal pass.new.seen }
+    ensures counted { IsCounted pass.new.seen result }
+{
+    writer.show(pass);
+    writer.learn();
+    writer.stats()
 }

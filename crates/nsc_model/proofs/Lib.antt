@@ -3,3 +3,4 @@ pub mod Rounds
 pub mod Contents
 pub mod Firsts
 pub mod Beginnings
+pub mod Crossing

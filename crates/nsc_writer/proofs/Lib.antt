@@ -1,3 +1,4 @@
 pub mod Shelves
 pub mod Told
 pub mod Later
+pub mod Crossing

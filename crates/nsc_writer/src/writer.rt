@@ -1,4 +1,4 @@
-ghost use Rattle.std.specs.Prelude.{◌≡◌, true, ◌≤◌, ◌<◌, ◌+◌, ◌/◌, ◌^◌, [], ◌∷◌, length, slice_get, IfNone, IfSome, IfOk, IfErr};
+ghost use Rattle.std.specs.Prelude.{◌≡◌, true, ◌≤◌, ◌<◌, ◌+◌, ◌/◌, ◌==◌, ◌^◌, [], ◌∷◌, length, slice_get, IfNone, IfSome, IfOk, IfErr};
 ghost use Rattle.std.specs.Bool.{OnTrue};
 ghost use Rattle.std.specs.Arc.{arc_value};
 ghost use Rattle.nsc_model.specs.declared.record.Record.TheVariants as record_of;
@@ -168,6 +168,13 @@ impl Writer {
             Some(kept) => Some(told(kept, at, key, reply)),
             None => None,
         }
+    }
+
+    /// Whether no entry is live.
+    pub fn is_empty(&self) -> bool
+        ensures { result ≡ (length self.now.cache.entries == 0) }
+    {
+        self.shelf.entries().is_empty()
     }
 
     /// What it counts.
