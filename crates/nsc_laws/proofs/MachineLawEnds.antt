@@ -98,7 +98,7 @@ abbrev pub ended : Core → (Kept → Ending) → List Kept → Core
 ended core cause ks = record core { history = ends_of cause ks core.history }
 
 -- another entry that lives still lives
-lives_on : (h : List Record) (e f : Entry) (cause : Ending) → e.number < f.number → IsLive h f → IsLive (End e.number cause ∷ h) f
+pub lives_on : (h : List Record) (e f : Entry) (cause : Ending) → e.number < f.number → IsLive h f → IsLive (End e.number cause ∷ h) f
 lives_on h e f cause low live = record {
   inserted = live.inserted;
   not_ended = λ gone. elim gone [ inl same ↦ (let n : e.number ≡ f.number = same in omega arith) | inr before ↦ live.not_ended before ];

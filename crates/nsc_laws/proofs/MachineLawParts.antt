@@ -10,7 +10,7 @@ use Rattle.nsc_model.specs.Content.{Content}
 use Rattle.nsc_model.specs.Files.{part_of, same_files}
 use Rattle.nsc_model.specs.Entry.{Entry}
 use Rattle.nsc_model.specs.declared.conf.DbConf.{DbConf}
-use Rattle.nsc_model.specs.History.{loads, invalidations, newest, version_in, HasEnd, IsLive, NoneLiveOf, WasPolled, Legal}
+use Rattle.nsc_model.specs.History.{loads, invalidations, newest, version_in, HasEnd, IsLive, NoneLiveOf, IsTrueAnswer, WasPolled, Legal}
 use Rattle.nsc_laws.specs.Core.{Caller, Core, Insert, Empty, IsPoll, Among, ended_all, AreLive}
 use Rattle.nsc_model.specs.Machine.{last_count, Kept, Cache, unchanged, stopped, after_adds, polled, new_entry, Refusal, TooLarge, Discarded, Present, Spent, Full, own_refusal, room_of, tried_by, tried, entry_words, all_words, compacted_after, emptied, by_invalidation, invalidated}
 use Rattle.nsc_laws.specs.Calls.{entries_of, Tells}
@@ -35,11 +35,11 @@ pub record Polled (request : Option Request) (seen : List Record) (taken : Optio
   pub entries_stay : cache.entries ≡ entries
 
 -- the history tells this version of this content after the poll
-record Finds (h : List Record) (content : Content) (poll : Record) (after : Cache) : Type 0 where
-  tells : Tells (poll ∷ h) after
-  is : IsPoll h content poll after.newest_version
-  was : WasPolled (poll ∷ h) after.newest_version
-  same : invalidations (poll ∷ h) ≡ invalidations h
+pub record Finds (h : List Record) (content : Content) (poll : Record) (after : Cache) : Type 0 where
+  pub tells : Tells (poll ∷ h) after
+  pub is : IsPoll h content poll after.newest_version
+  pub was : WasPolled (poll ∷ h) after.newest_version
+  pub same : invalidations (poll ∷ h) ≡ invalidations h
 
 abbrev given : ℕ → Option ℕ
 given n = Some n
@@ -78,7 +78,7 @@ holding f = Some f
 live_like : (h g : List Record) (es : List Entry) → ((e : Entry) → IsLive h e → IsLive g e) → ((e : Entry) → IsLive g e → IsLive h e) → AreLive h es → AreLive g es
 live_like h g es to from are = record { live = λ e a. to e (are.live e a); all = λ e l. are.all e (from e l); rising = are.rising }
 
-confirmed : (h : List Record) (content : Content) (cache : Cache) → Tells h cache → same_files content cache.sources ≡ true → Finds h content (Poll cache.newest_version) cache
+pub confirmed : (h : List Record) (content : Content) (cache : Cache) → Tells h cache → same_files content cache.sources ≡ true → Finds h content (Poll cache.newest_version) cache
 confirmed h content cache t same = record {
   tells = record {
     legal = (t.legal, sym t.counted);
@@ -97,18 +97,18 @@ confirmed h content cache t same = record {
 holding_is : (f g : Content) → holding f ≡ holding g → f ≡ g
 holding_is f g e = cc
 
-abbrev turned : Cache → Content → Cache
+abbrev pub turned : Cache → Content → Cache
 turned cache content = record cache { sources = content; newest_version = cache.newest_version + 1 }
 
 eqb_same : (n : ℕ) → eqb n n ≡ true
 eqb_same n = search rules
 
-differ : (h : List Record) (content : Content) (cache : Cache) → Tells h cache → same_files content cache.sources ≡ false → newest h ≢ Some content
+pub differ : (h : List Record) (content : Content) (cache : Cache) → Tells h cache → same_files content cache.sources ≡ false → newest h ≢ Some content
 differ h content cache t other e =
     let same : cache.sources ≡ content = holding_is cache.sources content (sym t.newest_is ∙ e) in
     false≢true (sym other ∙ subst (λ (f : Content). same_files content f ≡ true) (sym same) (content_same content))
 
-turns : (h : List Record) (content : Content) (cache : Cache) → Tells h cache → same_files content cache.sources ≡ false → Finds h content (Change (cache.newest_version + 1) content) (turned cache content)
+pub turns : (h : List Record) (content : Content) (cache : Cache) → Tells h cache → same_files content cache.sources ≡ false → Finds h content (Change (cache.newest_version + 1) content) (turned cache content)
 turns h content cache t other = record {
   tells = record {
     legal = change_legal h (cache.newest_version + 1) content t.legal (sym t.counted) (differ h content cache t other);
@@ -148,7 +148,7 @@ pub record Tried (db : Db) (a : ℕ) (event : List Record) (old : Core) (c : Cal
   pub held : version_in new.history before.newest_version ≡ Some before.sources
   pub among : (e : Entry) → Among (entries_of after.entries) e → Among (entries_of before.entries) e ⊎ (e.request ≡ request)
 
-none_of : (h : List Record) (es : List Entry) (request : Request) → AreLive h es → ((e : Entry) → Among es e → e.request ≢ request) → NoneLiveOf h request
+pub none_of : (h : List Record) (es : List Entry) (request : Request) → AreLive h es → ((e : Entry) → Among es e → e.request ≢ request) → NoneLiveOf h request
 none_of h es request are others e loaded same = by_end (ended_or_not h e.number) where
   by_end : HasEnd h e.number ⊎ (HasEnd h e.number → ⊥) → HasEnd h e.number
   by_end (inl gone) = gone
@@ -158,7 +158,7 @@ entries_last : (ks : List Kept) (k : Kept) → entries_of (ks ++ k ∷ []) ≡ e
 entries_last [] k = refl
 entries_last (x ∷ ks) k = ap (λ (es : List Entry). x.entry ∷ es) (entries_last ks k)
 
-abbrev inserted_by : Kept → Cache → Cache
+abbrev pub inserted_by : Kept → Cache → Cache
 inserted_by k cache = record cache { entries = cache.entries ++ k ∷ []; used = cache.used + entry_words k.entry; inserted = cache.inserted + 1 }
 
 load_live : (h : List Record) (es : List Entry) (f : Entry) → Legal h → f.number ≡ loads h → AreLive h es → AreLive (Load f ∷ h) (es ++ f ∷ [])
@@ -174,19 +174,23 @@ load_live h es f l is are = record {
   rising = rise_last es f (λ e a. let below : e.number < loads h = load_below h e l (are.live e a).inserted in omega arith) are.rising;
 }
 
-load_tells : (settings : DbConf) (now : ℕ) (request : Request) (reloads : ℕ) (h : List Record) (cache : Cache) → Tells h cache → WasPolled h cache.newest_version → NoneLiveOf h request
-    → Tells (Load (new_entry settings now request reloads cache).entry ∷ h) (inserted_by (new_entry settings now request reloads cache) cache)
-load_tells settings now request reloads h cache t was none =
-    let k = new_entry settings now request reloads cache in
+-- an entry over a version that was polled since the last invalidation
+pub kept_tells : (h : List Record) (cache : Cache) (k : Kept) → Tells h cache → k.entry.number ≡ cache.inserted → NoneLiveOf h k.entry.request → IsTrueAnswer h k.entry → WasPolled h k.entry.version → Tells (Load k.entry ∷ h) (inserted_by k cache)
+kept_tells h cache k t is none true_answer was =
+    let number : k.entry.number ≡ loads h = is ∙ sym t.loads_are in
     record {
-      legal = (t.legal, sym t.loads_are, none, (cache.sources, t.held, refl), was);
+      legal = (t.legal, number, none, true_answer, was);
       newest_is = t.newest_is;
       counted = t.counted;
       held = t.held;
       loads_are = let n = t.loads_are in omega arith;
       epochs_are = t.epochs_are;
-      entries_are = subst (AreLive (Load k.entry ∷ h)) (sym (entries_last cache.entries k)) (load_live h (entries_of cache.entries) k.entry t.legal (sym t.loads_are) t.entries_are);
+      entries_are = subst (AreLive (Load k.entry ∷ h)) (sym (entries_last cache.entries k)) (load_live h (entries_of cache.entries) k.entry t.legal number t.entries_are);
     }
+
+load_tells : (settings : DbConf) (now : ℕ) (request : Request) (reloads : ℕ) (h : List Record) (cache : Cache) → Tells h cache → WasPolled h cache.newest_version → NoneLiveOf h request
+    → Tells (Load (new_entry settings now request reloads cache).entry ∷ h) (inserted_by (new_entry settings now request reloads cache) cache)
+load_tells settings now request reloads h cache t was none = kept_tells h cache (new_entry settings now request reloads cache) t refl none (cache.sources, t.held, refl) was
 
 refused : (db : Db) (a : ℕ) (event : List Record) (core : Core) (c : Caller) (request : Request) (cache : Cache) (failed : ℕ) → Stands a event core c cache → Looked core.history c cache → Tried db a event core c request cache [] (record cache { add_failed = failed })
 refused db a event core c request cache failed s l = record {
@@ -256,7 +260,7 @@ compacts db a event core c also (k ∷ ks) cache s holds = by_test (ltb cache.cy
       (retold a event core c cache cache.entries (all_words cache.entries) (cache.cycle + 2) cache.add_failed refl s) (holds (cache.cycle + 2) (all_words cache.entries))
   by_test false = stays db a event core c Nothing cache s tt
 
-invalid_tells : (h : List Record) (cache : Cache) → Tells h cache → Tells (Invalid (invalidations h + 1) ∷ ended_all (entries_of cache.entries) h) (emptied cache).cache
+pub invalid_tells : (h : List Record) (cache : Cache) → Tells h cache → Tells (Invalid (invalidations h + 1) ∷ ended_all (entries_of cache.entries) h) (emptied cache).cache
 invalid_tells h cache t =
     let es = entries_of cache.entries in
     let same = ended_same cache.entries h in

@@ -24,7 +24,7 @@ change_below version n count content files before is below h =
       | false ↦ λ other e. omega (arith, below e)
     ] refl h
 
-version_below : (history : List Record) (n : ℕ) (files : Content) → Legal history → version_in history n ≡ Some files → n < changes history
+pub version_below : (history : List Record) (n : ℕ) (files : Content) → Legal history → version_in history n ≡ Some files → n < changes history
 version_below [] n files l h = absurd l
 version_below (Change version content ∷ []) n files l h = change_below version n 0 content files None l (λ e. absurd cc) h
 version_below (Change version content ∷ r ∷ before) n files l h = change_below version n (changes (r ∷ before)) content files (version_in (r ∷ before) n) l.1 (version_below (r ∷ before) n files l.0) h

@@ -3,3 +3,5 @@ pub mod Rounds
 pub mod Contents
 pub mod Firsts
 pub mod Passed
+pub mod Beginnings
+pub mod Crossing

@@ -25,3 +25,4 @@ pub mod Faults
 pub mod Frames
 pub mod Replay
 pub mod Fronts
+pub mod Stores

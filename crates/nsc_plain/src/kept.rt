@@ -39,6 +39,13 @@ impl Kept {
         &self.entry
     }
 
+    /// How often it was reloaded since it was last used.
+    pub fn reloads(&self) -> u64
+        ensures { result ≡ self.now.reloads }
+    {
+        self.reloads
+    }
+
     /// Whether it answers the request of this kind and key.
     pub fn answers(&self, kind: Kind, key: &[u8]) -> bool
         ensures { result ≡ is_request (record { kind = kind; key = key.now }) self.now.entry.request }

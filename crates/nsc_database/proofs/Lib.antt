@@ -1,0 +1,3 @@
+pub mod Shown
+pub mod Lookups
+pub mod Crossing

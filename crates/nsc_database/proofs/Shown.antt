@@ -1,0 +1,227 @@
+-- What holds of the writer's lock show.
+use Rattle.std.proofs.Common.{◌≡◌, ◌≢◌, ◌∙◌, ℕ, suc, ◌+◌, ◌<◌, ◌≤◌, Bool, true, false, cond, eqb, List, [], ◌∷◌, ◌++◌, length, length-append, find, Option, Some, None, Result, Ok, Err, refl, sym, ap, subst, arith, inl, inr}
+use Rattle.std.proofs.lemmas.Bool.{eqb-true}
+use Rattle.nsc_model.specs.declared.answer.Request.{Request}
+use Rattle.nsc_model.specs.declared.record.Record.{Record}
+use Rattle.nsc_model.specs.declared.record.Record.TheVariants.{Change, Poll, Load, End, Invalid}
+use Rattle.nsc_model.specs.declared.record.Ending.TheVariants.{Invalidated}
+use Rattle.nsc_model.specs.declared.store.Spent.{Spent as SpentCount}
+use Rattle.nsc_model.specs.declared.store.Stats.{Stats}
+use Rattle.nsc_model.specs.Kinds.{is_request}
+use Rattle.nsc_model.specs.Content.{Content}
+use Rattle.nsc_model.specs.Entry.{Entry}
+use Rattle.nsc_model.specs.Files.{same_files}
+use Rattle.nsc_model.specs.History.{HasLoad, IsLive, IsPrefix, Legal, LookedBetween, NoneLive, NoneLiveOf, PolledSince, LooksAt, invalidations, loads, version_in}
+use Rattle.nsc_model.specs.Machine.{Kept, Cache, last_count, by_invalidation, ends_of, live_entry, polled}
+use Rattle.nsc_model.specs.Stores.{IsHit, IsSpent}
+use Rattle.nsc_laws.specs.Calls.{Tells, entries_of}
+use Rattle.nsc_laws.proofs.Requests.{same_request}
+use Rattle.nsc_laws.proofs.MachineLawLists.{found}
+use Rattle.nsc_writer.specs.declared.loaded.Inserted.{Inserted}
+use Rattle.nsc_writer.specs.declared.loaded.Inserted.TheVariants as inserted
+use Rattle.nsc_writer.specs.declared.loaded.Stamp.{Stamp}
+use Rattle.nsc_writer.specs.declared.uses.Hit.{Hit}
+use Rattle.nsc_writer.specs.Loaded.{Loaded, kept_of}
+use Rattle.nsc_writer.specs.Shelf.{Gives, number_of}
+use Rattle.nsc_writer.specs.Writer.{Writer, Inserts, IsAnswered, IsNewest, IsRefused, Polls, emptied_by}
+use Rattle.nsc_sourcebook.specs.Book.{Polled}
+use Rattle.nsc_sourcebook.proofs.Newest.{newest_held}
+use Rattle.nsc_writer.proofs.Told.{asked_none, invalidations_rise}
+use Rattle.nsc_writer.proofs.Later.{prefix_through, version_on, polled_on}
+use Rattle.nsc_database.specs.Holds.{IsCounted, IsEmptied, IsInserted, IsPolled}
+
+-- ---- a look
+
+hit_is : (a b : Hit) → Some a ≡ Some b → a ≡ b
+hit_is a b e = cc
+
+pub live_found : (h : List Record) (cache : Cache) (request : Request) (k : Kept) → Tells h cache → live_entry request cache.entries ≡ Some k → IsLive h k.entry × (k.entry.request ≡ request)
+live_found h cache request k t is =
+    let f = found (λ (x : Kept). is_request request x.entry.request) cache.entries k is in
+    (t.entries_are.live k.entry f.0, sym (same_request request k.entry.request f.1))
+
+pub looked_hit : (h : List Record) (cache : Cache) (request : Request) (hit : Hit) (reply : List ℕ) → Tells h cache → Gives (live_entry request cache.entries) (Some hit) reply → IsHit h request reply hit.number
+looked_hit h cache request hit reply t gives = by_entry (live_entry request cache.entries) refl gives where
+  by_entry : (o : Option Kept) → live_entry request cache.entries ≡ o → Gives o (Some hit) reply → IsHit h request reply hit.number
+  by_entry None is g = absurd cc
+  by_entry (Some k) is g =
+      let f = live_found h cache request k t is in
+      record { entry = k.entry; live = f.0; numbered = sym (ap (λ (x : Hit). x.number) (hit_is hit _ g.0)); answers = f.1; said = sym g.1 }
+
+pub looked_none : (h : List Record) (cache : Cache) (request : Request) (reply : List ℕ) → Tells h cache → Gives (live_entry request cache.entries) None reply → NoneLiveOf h request
+looked_none h cache request reply t gives = by_entry (live_entry request cache.entries) refl gives where
+  by_entry : (o : Option Kept) → live_entry request cache.entries ≡ o → Gives o None reply → NoneLiveOf h request
+  by_entry None is g = asked_none h cache request t is
+  by_entry (Some k) is g = absurd cc
+
+-- ---- a poll
+
+-- the writer before a call, and after it
+pub record GoesOn (w w' : Writer) : Type 0 where
+  pub on : IsPrefix w.seen w'.seen
+  pub table : w'.table ≡ w.table
+
+-- the newest record after a poll looked at this version
+pub record Looks (w w' : Writer) (version : ℕ) : Type 0 where
+  pub goes : GoesOn w w'
+  pub longer : length w.seen < length w'.seen
+  pub looks : LooksAt w'.seen version
+
+one_more : (r : Record) (cache : Cache) (w w' : Writer) (version : ℕ) → w' ≡ record w { cache = cache; seen = r ∷ w.seen } → LooksAt (r ∷ w.seen) version → Looks w w' version
+one_more r cache w w' version is looks = subst (λ (x : Writer). Looks w x version) (sym is) (record { goes = record { on = (r ∷ [], refl); table = refl }; longer = omega arith; looks = looks })
+
+pub polls_looks : (files : Content) (epoch : ℕ) (w w' : Writer) (stamp : Stamp) → Polls (polled files w.cache) epoch w w' (Ok stamp) → Looks w w' stamp.version
+polls_looks files epoch w w' stamp p = by_same (same_files files w.cache.sources) p where
+  by_count : (b : Bool) → Polls (cond b (Err (record { cache = w.cache; adds = []; count = last_count })) (Ok (record { cache = record w.cache { sources = files; newest_version = w.cache.newest_version + 1 }; adds = Change (w.cache.newest_version + 1) files ∷ [] }))) epoch w w' (Ok stamp)
+      → Looks w w' stamp.version
+  by_count true q = absurd q
+  by_count false q = one_more (Change (w.cache.newest_version + 1) files) (record w.cache { sources = files; newest_version = w.cache.newest_version + 1 }) w w' stamp.version q.1 (sym (ap (λ (s : Stamp). s.version) q.0))
+
+  by_same : (b : Bool) → Polls (cond b (Ok (record { cache = w.cache; adds = Poll w.cache.newest_version ∷ [] })) (cond (eqb w.cache.newest_version last_count) (Err (record { cache = w.cache; adds = []; count = last_count }))
+      (Ok (record { cache = record w.cache { sources = files; newest_version = w.cache.newest_version + 1 }; adds = Change (w.cache.newest_version + 1) files ∷ [] })))) epoch w w' (Ok stamp) → Looks w w' stamp.version
+  by_same true q = one_more (Poll w.cache.newest_version) w.cache w w' stamp.version q.1 (sym (ap (λ (s : Stamp). s.version) q.0))
+  by_same false q = by_count (eqb w.cache.newest_version last_count) q
+
+polls_spent : (files : Content) (epoch : ℕ) (w w' : Writer) (spent : SpentCount) → Polls (polled files w.cache) epoch w w' (Err spent) → (spent.count ≡ last_count) × (w.cache.newest_version ≡ last_count) × (w' ≡ w)
+polls_spent files epoch w w' spent p = by_same (same_files files w.cache.sources) p where
+  by_count : (b : Bool) → eqb w.cache.newest_version last_count ≡ b
+      → Polls (cond b (Err (record { cache = w.cache; adds = []; count = last_count })) (Ok (record { cache = record w.cache { sources = files; newest_version = w.cache.newest_version + 1 }; adds = Change (w.cache.newest_version + 1) files ∷ [] }))) epoch w w' (Err spent)
+      → (spent.count ≡ last_count) × (w.cache.newest_version ≡ last_count) × (w' ≡ w)
+  by_count true e q = (q.0, eqb-true w.cache.newest_version last_count e, q.1)
+  by_count false e q = absurd q
+
+  by_same : (b : Bool) → Polls (cond b (Ok (record { cache = w.cache; adds = Poll w.cache.newest_version ∷ [] })) (cond (eqb w.cache.newest_version last_count) (Err (record { cache = w.cache; adds = []; count = last_count }))
+      (Ok (record { cache = record w.cache { sources = files; newest_version = w.cache.newest_version + 1 }; adds = Change (w.cache.newest_version + 1) files ∷ [] })))) epoch w w' (Err spent)
+      → (spent.count ≡ last_count) × (w.cache.newest_version ≡ last_count) × (w' ≡ w)
+  by_same true q = absurd q
+  by_same false q = by_count (eqb w.cache.newest_version last_count) refl q
+
+pub prefix_length : (a b : List Record) → IsPrefix a b → length a ≤ length b
+prefix_length a b p =
+    let both : length (p.0 ++ a) ≡ length p.0 + length a = length-append p.0 a in
+    let all : length b ≡ length (p.0 ++ a) = ap (λ (l : List Record). length l) p.1 in
+    omega arith
+
+pub looked_between : (seen : List Record) (w w' : Writer) (version : ℕ) → IsPrefix seen w.seen → Looks w w' version → LookedBetween seen w'.seen version
+looked_between seen w w' version p l = let low = prefix_length seen w.seen p in let more = l.longer in (w'.seen, ([], refl), omega arith, l.looks)
+
+pub invalidations_on : (a b : List Record) → IsPrefix a b → invalidations a ≤ invalidations b
+invalidations_on a b p = let low = invalidations_rise p.0 a in let same : invalidations b ≡ invalidations (p.0 ++ a) = ap invalidations p.1 in omega arith
+
+pub is_polled : (seen : List Record) (epoch : ℕ) (w w' : Writer) (p : Polled) → Tells w'.seen w'.cache → IsPrefix seen w.seen → Polls (polled p.content w.cache) epoch w w' (Ok p.stamp) → IsNewest p.content p.stamp.version w'.cache
+    → PolledSince w'.seen p.stamp.version p.stamp.epoch → p.stamp.epoch ≡ epoch → IsPolled seen w'.seen epoch p
+is_polled seen epoch w w' p t before polls newest since is = record {
+  epoch_is = is;
+  version = newest_held w'.seen w'.cache p.content p.stamp.version t newest;
+  since = subst (PolledSince w'.seen p.stamp.version) is since;
+  looked = looked_between seen w w' p.stamp.version before (polls_looks p.content epoch w w' p.stamp polls);
+}
+
+pub spent_stays : (files : Content) (epoch : ℕ) (w w' : Writer) (spent : SpentCount) → Polls (polled files w.cache) epoch w w' (Err spent) → w' ≡ w
+spent_stays files epoch w w' spent p = (polls_spent files epoch w w' spent p).2
+
+-- a new version cannot be counted
+pub is_spent : (files : Content) (epoch : ℕ) (w w' : Writer) (spent : SpentCount) → Tells w.seen w.cache → Polls (polled files w.cache) epoch w w' (Err spent) → IsSpent w.seen spent.count
+is_spent files epoch w w' spent t p =
+    let q = polls_spent files epoch w w' spent p in
+    record { last = q.0; content = w.cache.sources; version = ap (version_in w.seen) (q.0 ∙ sym q.1) ∙ t.held }
+
+-- ---- an insertion
+
+pub answered_on : (seen h : List Record) (loaded : Loaded) → Legal h → Legal seen → IsPrefix seen h → IsAnswered seen loaded → IsAnswered h loaded
+answered_on seen h loaded legal legal_seen p a = record {
+  files = a.files;
+  version = version_on seen h loaded.stamp.version a.files legal legal_seen p a.version;
+  answer = a.answer;
+  polled = polled_on seen h loaded.stamp.version loaded.stamp.epoch p a.polled;
+}
+
+same_writer : (w w' : Writer) → w' ≡ w → GoesOn w w'
+same_writer w w' is = subst (GoesOn w) (sym is) (record { on = ([], refl); table = refl })
+
+pub inserts_on : (said : Inserted) (loaded : Loaded) (w w' : Writer) → Inserts said loaded w w' → GoesOn w w'
+inserts_on (inserted.Done number) loaded w w' i = subst (GoesOn w) (sym i.2) (record { on = (Load (kept_of loaded w.cache.inserted).entry ∷ [], refl); table = refl })
+inserts_on (inserted.TooLarge size) loaded w w' i = same_writer w w' i.1
+inserts_on (inserted.Discarded noted epoch) loaded w w' i = same_writer w w' i.1
+inserts_on (inserted.Present number) loaded w w' i = same_writer w w' i.1
+inserts_on (inserted.Spent count) loaded w w' i = same_writer w w' i.1
+inserts_on (inserted.Full need free) loaded w w' i = subst (GoesOn w) (sym i.1) (record { on = ([], refl); table = refl })
+inserts_on inserted.NoMemory loaded w w' i = same_writer w w' i
+
+loads_rise : (more h : List Record) → loads h ≤ loads (more ++ h)
+loads_rise [] h = omega arith
+loads_rise (Change v c ∷ more) h = loads_rise more h
+loads_rise (Poll v ∷ more) h = loads_rise more h
+loads_rise (Load e ∷ more) h = let low = loads_rise more h in omega arith
+loads_rise (End n cause ∷ more) h = loads_rise more h
+loads_rise (Invalid n ∷ more) h = loads_rise more h
+
+pub loads_on : (a b : List Record) → IsPrefix a b → loads a ≤ loads b
+loads_on a b p = let low = loads_rise p.0 a in let same : loads b ≡ loads (p.0 ++ a) = ap loads p.1 in omega arith
+
+numbered : (h : List Record) (cache : Cache) (request : Request) (n : ℕ) → Tells h cache → number_of (live_entry request cache.entries) ≡ Some n → (e : Entry) × IsLive h e × (e.number ≡ n) × (e.request ≡ request)
+numbered h cache request n t is = by_entry (live_entry request cache.entries) refl is where
+  by_entry : (o : Option Kept) → live_entry request cache.entries ≡ o → number_of o ≡ Some n → (e : Entry) × IsLive h e × (e.number ≡ n) × (e.request ≡ request)
+  by_entry None found e = absurd cc
+  by_entry (Some k) found e = let f = live_found h cache request k t found in (k.entry, f.0, number_is k.entry.number n e, f.1) where
+    number_is : (a b : ℕ) → Some a ≡ Some b → a ≡ b
+    number_is a b e = cc
+
+pub is_inserted : (said : Inserted) (loaded : Loaded) (seen : List Record) (w w' : Writer) → Tells w.seen w.cache → IsPrefix seen w.seen → Inserts said loaded w w' → IsRefused said loaded w → IsInserted said loaded seen w'.seen
+is_inserted (inserted.Done number) loaded seen w w' t p i r =
+    let low = loads_on seen w.seen p in
+    let counted = t.loads_are in
+    let is = i.1 in (
+      subst (λ (x : Writer). HasLoad x.seen (kept_of loaded number).entry) (sym i.2) (inl (ap (λ (n : ℕ). (kept_of loaded n).entry) (sym is))),
+      omega arith,
+    )
+is_inserted (inserted.TooLarge size) loaded seen w w' t p i r = r
+is_inserted (inserted.Discarded noted epoch) loaded seen w w' t p i r = (r.0, r.1 ∙ sym t.epochs_are ∙ sym (ap (λ (x : Writer). invalidations x.seen) i.1), r.2)
+is_inserted (inserted.Present number) loaded seen w w' t p i r =
+    let e = numbered w.seen w.cache loaded.request number t r in
+    (e.0, subst (λ (x : Writer). IsLive x.seen e.0) (sym i.1) e.1, e.2, e.3)
+is_inserted (inserted.Spent count) loaded seen w w' t p i r = (r.0, ap (λ (x : Writer). loads x.seen) i.1 ∙ t.loads_are ∙ r.1)
+is_inserted (inserted.Full need free) loaded seen w w' t p i r = r.2
+is_inserted inserted.NoMemory loaded seen w w' t p i r = tt
+
+pub stamp_epoch : (files : Content) (epoch : ℕ) (w w' : Writer) (stamp : Stamp) → Polls (polled files w.cache) epoch w w' (Ok stamp) → stamp.epoch ≡ epoch
+stamp_epoch files epoch w w' stamp p = by_same (same_files files w.cache.sources) p where
+  by_count : (b : Bool) → Polls (cond b (Err (record { cache = w.cache; adds = []; count = last_count })) (Ok (record { cache = record w.cache { sources = files; newest_version = w.cache.newest_version + 1 }; adds = Change (w.cache.newest_version + 1) files ∷ [] }))) epoch w w' (Ok stamp)
+      → stamp.epoch ≡ epoch
+  by_count true q = absurd q
+  by_count false q = ap (λ (s : Stamp). s.epoch) q.0
+
+  by_same : (b : Bool) → Polls (cond b (Ok (record { cache = w.cache; adds = Poll w.cache.newest_version ∷ [] })) (cond (eqb w.cache.newest_version last_count) (Err (record { cache = w.cache; adds = []; count = last_count }))
+      (Ok (record { cache = record w.cache { sources = files; newest_version = w.cache.newest_version + 1 }; adds = Change (w.cache.newest_version + 1) files ∷ [] })))) epoch w w' (Ok stamp) → stamp.epoch ≡ epoch
+  by_same true q = ap (λ (s : Stamp). s.epoch) q.0
+  by_same false q = by_count (eqb w.cache.newest_version last_count) q
+
+-- ---- an invalidation, and counts
+
+pub is_emptied : (seen : List Record) (w w' : Writer) (epoch : ℕ) → Tells w.seen w.cache → Tells w'.seen w'.cache → IsPrefix seen w.seen → epoch ≡ w.cache.epoch + 1 → w' ≡ emptied_by w → IsEmptied seen w'.seen epoch
+is_emptied seen w w' epoch t t' p next is =
+    let low = invalidations_on seen w.seen p in
+    let before = t.epochs_are in
+    let legal = subst Legal (ap (λ (x : Writer). x.seen) is) t'.legal in
+    record {
+      last = t'.epochs_are ∙ ap (λ (x : Writer). x.cache.epoch) is ∙ sym next;
+      new = omega arith;
+      none = subst (λ (x : Writer). NoneLive x.seen) (sym is) legal.2;
+    }
+
+ends_prefix : (ks : List Kept) (h : List Record) → IsPrefix h (ends_of by_invalidation ks h)
+ends_prefix [] h = ([], refl)
+ends_prefix (k ∷ ks) h = prefix_through h (End k.entry.number Invalidated ∷ h) (ends_of by_invalidation ks (End k.entry.number Invalidated ∷ h)) (End k.entry.number Invalidated ∷ [], refl) (ends_prefix ks (End k.entry.number Invalidated ∷ h))
+
+pub emptied_on : (w w' : Writer) → w' ≡ emptied_by w → GoesOn w w'
+emptied_on w w' is = subst (GoesOn w) (sym is) (record {
+  on = prefix_through w.seen (ends_of by_invalidation w.cache.entries w.seen) (Invalid (w.cache.epoch + 1) ∷ ends_of by_invalidation w.cache.entries w.seen) (ends_prefix w.cache.entries w.seen) (Invalid (w.cache.epoch + 1) ∷ [], refl);
+  table = refl;
+})
+
+entries_length : (ks : List Kept) → length (entries_of ks) ≡ length ks
+entries_length [] = refl
+entries_length (k ∷ ks) = ap (λ (n : ℕ). suc n) (entries_length ks)
+
+pub is_counted : (h : List Record) (cache : Cache) (stats : Stats) → Tells h cache → stats.entries ≡ length cache.entries → stats.invalidations ≡ cache.epoch → IsCounted h stats
+is_counted h cache stats t entries invalid = record { entries = entries_of cache.entries; live = t.entries_are; counted = entries ∙ sym (entries_length cache.entries); invalidations_are = invalid ∙ sym t.epochs_are }

@@ -1,0 +1,39 @@
+use Rattle.std.proofs.Common.{◌≡◌, ◌∙◌, List, ap, sym, subst, rules}
+use Rattle.nsc_model.specs.declared.record.Record.{Record}
+use Rattle.nsc_model.specs.History.{IsPrefix}
+use Rattle.nsc_rule.specs.Pass.{Pass}
+use Rattle.nsc_writer.specs.Writer.{Writer}
+use Rattle.nsc_writer.proofs.Later.{prefix_through}
+use Rattle.nsc_database.specs.Holds.{IsInserted}
+use Rattle.nsc_database.proofs.Shown.{answered_on, inserts_on, is_inserted}
+use Rattle.nsc_database.proofs.holds.insert.Goals as goal
+
+pub insert-outcome-requires : goal.insert-outcome-requires
+insert-outcome-requires c =
+    let w = c.miss.new.self in
+    let before = subst (IsPrefix c.args.pass.now.seen) (sym (ap (λ (x : Writer). x.seen) c.miss.ensures ∙ ap (λ (x : Writer). x.seen) c.show.ensures.same)) c.show.ensures.before in
+    answered_on c.args.pass.now.seen w.seen c.args.loaded c.learn-2.ensures.told.legal c.learn.ensures before c.requires.answered
+
+pub show-requires-2 : goal.show-requires-2
+show-requires-2 c =
+    let on = inserts_on c.insert-outcome.result.0 c.args.loaded c.miss.new.self c.insert-outcome.new.self c.insert-outcome.ensures.inserted in
+    ap (λ (p : Pass). p.table) c.show.ensures.pass ∙ c.requires.table ∙ sym (ap (λ (x : Writer). x.table) c.miss.ensures ∙ ap (λ (x : Writer). x.table) c.show.ensures.same) ∙ sym on.table
+
+pub returns-clause-writer : goal.returns-clause-writer
+returns-clause-writer c =
+    let on = inserts_on c.insert-outcome.result.0 c.args.loaded c.miss.new.self c.insert-outcome.new.self c.insert-outcome.ensures.inserted in
+    ap (λ (x : Writer). x.table) c.show-2.ensures.same ∙ on.table ∙ ap (λ (x : Writer). x.table) c.miss.ensures ∙ ap (λ (x : Writer). x.table) c.show.ensures.same
+
+pub returns-clause-before : goal.returns-clause-before
+returns-clause-before c =
+    let w = c.miss.new.self in
+    let on = inserts_on c.insert-outcome.result.0 c.args.loaded w c.insert-outcome.new.self c.insert-outcome.ensures.inserted in
+    let before = subst (IsPrefix c.args.pass.now.seen) (sym (ap (λ (x : Writer). x.seen) c.miss.ensures ∙ ap (λ (x : Writer). x.seen) c.show.ensures.same)) c.show.ensures.before in
+    subst (IsPrefix c.args.pass.now.seen) (sym (ap (λ (p : Pass). p.seen) c.show-2.ensures.pass)) (prefix_through c.args.pass.now.seen w.seen c.insert-outcome.new.self.seen before on.on)
+
+pub returns-clause-inserted : goal.returns-clause-inserted
+returns-clause-inserted c =
+    let w = c.miss.new.self in
+    let before = subst (IsPrefix c.args.pass.now.seen) (sym (ap (λ (x : Writer). x.seen) c.miss.ensures ∙ ap (λ (x : Writer). x.seen) c.show.ensures.same)) c.show.ensures.before in
+    subst (IsInserted c.insert-outcome.result.0 c.args.loaded c.args.pass.now.seen) (sym (ap (λ (p : Pass). p.seen) c.show-2.ensures.pass))
+    (is_inserted c.insert-outcome.result.0 c.args.loaded c.args.pass.now.seen w c.insert-outcome.new.self c.learn-2.ensures.told before c.insert-outcome.ensures.inserted c.insert-outcome.ensures.why)

@@ -1,0 +1,4 @@
+pub mod Rooms
+pub mod Holds
+pub mod Lookups
+pub mod Database

@@ -1,0 +1,218 @@
+// A database of which it is known which one it is.
+ghost use Rattle.std.specs.Prelude.{◌≡◌, ◌≤◌, ◌<◌, ◌+◌, ◌^◌, length, IfOk, IfErr, OnOk};
+ghost use Rattle.nsc_model.specs.Entry.{key_limit};
+ghost use Rattle.nsc_model.specs.Files.{part_of};
+ghost use Rattle.nsc_model.specs.Answers.{answer_of};
+ghost use Rattle.nsc_model.specs.History.{IsPrefix, Legal, invalidations};
+ghost use Rattle.nsc_model.specs.Machine.{life_of};
+ghost use Rattle.nsc_writer.specs.Writer.{IsAnswered};
+ghost use Rattle.nsc_sourcebook.specs.Reads.{AllRose, AreAsTold, IsPartOf};
+ghost use Rattle.nsc_model.specs.Stores.{IsFault};
+ghost use Rattle.nsc_database.specs.Holds.{IsCounted, IsEmptied, IsLooked, IsPolled, IsUnmoved};
+ghost use Rattle.nsc_database.specs.Lookups.{Gives, IsKept};
+
+use crate::desk::{Desk, Shelved};
+use crate::holds::Looked;
+use crate::pass::DbPass;
+use crate::room::{OfDb, Room};
+use nsc_base::{Buf, Bytes, NoMemory};
+use nsc_model::{Answer, Answerer, Db, DbConf, Given, Kind, LookupFault, Spent, Stats, Why};
+use nsc_outside::FileSet;
+use nsc_rule::Map;
+use nsc_sourcebook::Polled;
+use nsc_writer::{Inserted, Loaded};
+use std::alloc::Global;
+use std::marker::PhantomData;
+use std::sync::{Mutex, Wait};
+
+/// A database: its source book and its writer, each behind a lock. The book's lock is taken before the writer's.
+#[derive(Drop)]
+pub struct Base<D: OfDb, F: FileSet + Drop, A: Answerer, B: Room> {
+    pub shelved: Mutex<Shelved<D, F, A, B>>,
+    pub desk: Mutex<Desk<D, B>>,
+    pub answers: A,
+    pub db: Db,
+    pub settings: DbConf,
+    pub reloads: Option<u32>,
+    pub map: Map,
+    pub ghost own: { (db ≡ D.db) × (map.table ≡ B.table D.db) },
+}
+
+impl<D: OfDb, F: FileSet + Drop, A: Answerer + Drop, B: Room> Base<D, F, A, B> {
+    /// A new pass, which has seen the whole history, with a file set of its own.
+    pub fn attach<R: Wait>(&self, rt: &R, alloc: Global) -> Result<DbPass<F, B>, NoMemory>
+        ensures db { IfOk result (λ pass. pass.db ≡ D.db) }
+        ensures legal { IfOk result (λ pass. Legal pass.pass.seen) }
+        ensures calm { IfOk result (λ pass. F.faults pass.files ≡ 0) }
+    {
+        let reply = Buf::new(alloc, 65_536)?;
+        let map = self.map.share()?;
+        let files = self.shelved.lock(rt).split(alloc)?;
+        let pass = self.desk.lock(rt).pass();
+        Ok(DbPass {
+            db: self.db,
+            pass,
+            map,
+            files,
+            reply,
+            room: PhantomData,
+        })
+    }
+
+    /// Looks for the live entry of the request.
+    pub fn look<R: Wait>(&self, rt: &R, pass: &mut DbPass<F, B>, kind: Kind, key: &[u8]) -> Looked
+        requires { pass.old.db ≡ D.db }
+        ensures db { pass.new.db ≡ pass.old.db }
+        ensures files { pass.new.files ≡ pass.old.files }
+        ensures before { IsPrefix pass.old.pass.seen pass.new.pass.seen }
+        ensures legal { Legal pass.new.pass.seen }
+        ensures looked { IsLooked result pass.new.pass.seen (record { kind = kind; key = key.now }) pass.new.reply.content }
+    {
+        self.desk.lock(rt).look(pass, kind, key)
+    }
+
+    /// Reads the files of the database and polls them, where so many invalidations were noted before.
+    pub fn poll<R: Wait>(
+        &self,
+        rt: &R,
+        alloc: Global,
+        pass: &mut DbPass<F, B>,
+        epoch: u64,
+    ) -> Result<Polled<A>, LookupFault>
+        requires db { pass.old.db ≡ D.db }
+        requires epoch { epoch ≤ invalidations pass.old.pass.seen }
+        ensures db { pass.new.db ≡ pass.old.db }
+        ensures before { IsPrefix pass.old.pass.seen pass.new.pass.seen }
+        ensures legal { OnOk result (Legal pass.new.pass.seen) }
+        ensures polled { IfOk result (λ polled. IsPolled pass.old.pass.seen pass.new.pass.seen epoch polled) }
+        ensures told { IfOk result (λ polled. AreAsTold D.db (F.latest pass.new.files) polled.content) }
+        ensures part { IfOk result (λ polled. IsPartOf D.db (F.held pass.old.files) polled.content) }
+        ensures only { IfOk result (λ polled. polled.content ≡ part_of D.db polled.content) }
+        ensures read { OnOk result (AllRose D.db (F.reads pass.old.files) (F.reads pass.new.files)) }
+        ensures fault { IfErr result (λ fault. IsFault fault pass.new.pass.seen (F.faults pass.old.files) (F.faults pass.new.files) (F.file_faults pass.old.files) (F.file_faults pass.new.files)) }
+    {
+        let mut shelved = self.shelved.lock(rt);
+        match shelved.fetch(alloc, pass, &self.answers) {
+            Ok(fetched) => match self.desk.lock(rt).poll(&mut shelved, pass, fetched, epoch) {
+                Ok(polled) => Ok(polled),
+                Err(spent) => Err(LookupFault::Spent { count: spent.count }),
+            },
+            Err(fault) => Err(LookupFault::from(fault)),
+        }
+    }
+
+    /// Counts a miss, and tries an insertion.
+    pub fn keep<R: Wait>(
+        &self,
+        rt: &R,
+        alloc: Global,
+        pass: &mut DbPass<F, B>,
+        loaded: Loaded,
+    ) -> Result<Given, NoMemory>
+        requires db { pass.old.db ≡ D.db }
+        requires answered { IsAnswered pass.old.pass.seen loaded }
+        ensures db { pass.new.db ≡ pass.old.db }
+        ensures files { pass.new.files ≡ pass.old.files }
+        ensures before { IsPrefix pass.old.pass.seen pass.new.pass.seen }
+        ensures legal { Legal pass.new.pass.seen }
+        ensures kept { IfOk result (λ given. IsKept loaded pass.old.pass.seen pass.new.pass.seen given) }
+    {
+        let (said, loaded) = self.desk.lock(rt).insert(pass, alloc, loaded);
+        given_after(said, loaded.into_reply())
+    }
+
+    /// The answer over a polled content, as it is to be inserted.
+    pub fn load(
+        &self,
+        alloc: Global,
+        polled: &Polled<A>,
+        kind: Kind,
+        key: &[u8],
+        now: u64,
+    ) -> Result<Loaded, NoMemory>
+        requires key { length key.now ≤ key_limit }
+        requires moment { now < 2 ^ 62 }
+        ensures { IfOk result (λ l. l ≡ record { request = record { kind = kind; key = key.now }; answer = answer_of polled.now.content (record { kind = kind; key = key.now }); stamp = polled.now.stamp; timeout = now + life_of self.now.settings (answer_of polled.now.content (record { kind = kind; key = key.now })); reloads = 0 }) }
+    {
+        let answer = self.answers.answer(alloc, polled.ready(), kind, key)?;
+        let key = Bytes::copy(alloc, key)?;
+        let timeout = now + life_of(&self.settings, &answer);
+        Ok(Loaded::new(kind, key, answer, polled.stamp(), timeout, 0))
+    }
+}
+
+impl<D: OfDb, F: FileSet + Drop, A: Answerer + Drop, B: Room> Base<D, F, A, B> {
+    /// Ends every entry, and gives the new number of invalidations.
+    pub fn invalidate<R: Wait>(&self, rt: &R, pass: &mut DbPass<F, B>) -> Result<u64, Spent>
+        requires { pass.old.db ≡ D.db }
+        ensures db { pass.new.db ≡ pass.old.db }
+        ensures files { pass.new.files ≡ pass.old.files }
+        ensures before { IsPrefix pass.old.pass.seen pass.new.pass.seen }
+        ensures legal { Legal pass.new.pass.seen }
+        ensures done { IfOk result (λ epoch. IsEmptied pass.old.pass.seen pass.new.pass.seen epoch) }
+        ensures spent { IfErr result (λ spent. IsUnmoved pass.new.pass.seen spent.count) }
+    {
+        self.desk.lock(rt).invalidate(pass)
+    }
+
+    /// What the database counts.
+    pub fn stats<R: Wait>(&self, rt: &R, pass: &mut DbPass<F, B>) -> Stats
+        requires { pass.old.db ≡ D.db }
+        ensures db { pass.new.db ≡ pass.old.db }
+        ensures files { pass.new.files ≡ pass.old.files }
+        ensures before { IsPrefix pass.old.pass.seen pass.new.pass.seen }
+        ensures legal { Legal pass.new.pass.seen }
+        ensures counted { IsCounted pass.new.pass.seen result }
+        ensures enabled { result.enabled ≡ self.now.settings.enabled }
+    {
+        let counted = self.desk.lock(rt).stats(pass);
+        with_enabled(counted, self.settings.enabled)
+    }
+}
+
+// The counts of a database that is cached, or is not.
+fn with_enabled(counted: Stats, enabled: bool) -> Stats
+    ensures { result ≡ record counted { enabled = enabled } }
+{
+    Stats {
+        enabled,
+        hits: counted.hits,
+        negative_hits: counted.negative_hits,
+        misses: counted.misses,
+        negative_misses: counted.negative_misses,
+        entries: counted.entries,
+        used: counted.used,
+        arena: counted.arena,
+        invalidations: counted.invalidations,
+        compactions: counted.compactions,
+        addfailed: counted.addfailed,
+    }
+}
+
+// How long an answer is kept, in seconds.
+fn life_of(settings: &DbConf, answer: &Answer) -> u64
+    ensures value { result ≡ life_of settings.now answer.now }
+    ensures bound { result < 2 ^ 32 }
+{
+    if answer.is_not_found() {
+        u64::from(settings.negative)
+    } else {
+        u64::from(settings.positive)
+    }
+}
+
+// What a lookup gives after its insertion, with this reply.
+fn given_after(said: Inserted, bytes: Bytes) -> Result<Given, NoMemory>
+    ensures { IfOk result (λ given. Gives said bytes given) }
+{
+    let why = match said {
+        Inserted::Done { number } => return Ok(Given::Loaded { bytes, number }),
+        Inserted::TooLarge { length } => Why::TooLarge { length },
+        Inserted::Discarded { loaded, epoch } => Why::Discarded { loaded, epoch },
+        Inserted::Present { number } => Why::Present { number },
+        Inserted::Spent { count } => Why::Spent { count },
+        Inserted::Full { need, free } => Why::Full { need, free },
+        Inserted::NoMemory => return Err(NoMemory),
+    };
+    Ok(Given::Fresh { bytes, why })
+}

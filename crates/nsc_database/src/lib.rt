@@ -1,0 +1,16 @@
+//! One database for many threads: its source book and its writer behind locks, and the passes of its callers.
+#![tactic(auto)]
+
+mod base;
+mod database;
+mod desk;
+mod holds;
+mod lookup;
+mod opened;
+mod pass;
+mod room;
+
+pub use database::Database;
+pub use opened::Opened;
+pub use pass::DbPass;
+pub use room::Room;

@@ -1,0 +1,174 @@
+ghost use Rattle.std.specs.Prelude.{◌≡◌, ◌≤◌, ◌∷◌, [], IfOk, IfErr, OnOk};
+ghost use Rattle.nsc_model.specs.declared.record.Record.TheVariants as record_of;
+ghost use Rattle.nsc_model.specs.Entry.{kept_limit};
+ghost use Rattle.nsc_model.specs.Files.{part_of};
+ghost use Rattle.nsc_model.specs.Settings.{settings_of};
+ghost use Rattle.nsc_sourcebook.specs.Reads.{AllRose, AreAsTold, FaultRose, IsPartOf, TellsLength};
+
+use crate::base::Base;
+use crate::database::{Bases, Database};
+use crate::desk::{Desk, Shelved};
+use crate::pass::DbPass;
+use crate::room::{OfDb, Room};
+use nsc_base::{Buf, NoMemory};
+use nsc_model::{Answerer, Conf, Db, DbConf};
+use nsc_outside::FileSet;
+use nsc_rule::{Map, Pass};
+use nsc_sourcebook::{PollFault, SourceBook};
+use nsc_words::Layout;
+use nsc_writer::Writer;
+use std::alloc::Global;
+use std::marker::PhantomData;
+use std::sync::Mutex;
+
+/// A database that has been opened, with its first pass. It has no room so far, in which threads may share it.
+#[derive(Drop)]
+pub struct Opened<F: FileSet + Drop, A: Answerer + Drop> {
+    book: SourceBook<F, A>,
+    writer: Writer,
+    pub pass: Pass,
+    files: F,
+    reply: Buf,
+    answers: A,
+    pub db: Db,
+    pub settings: DbConf,
+    reloads: Option<u32>,
+    pub ghost tied: { (book.table ≡ pass.table) × (book.db ≡ db) × (writer.table ≡ pass.table) },
+    pub ghost buffer: { reply.limit ≡ kept_limit },
+}
+
+impl<F: FileSet + Drop, A: Answerer + Drop> Opened<F, A> {
+    /// Opens a database: its files are read through this set as version 0, and its cache is empty. The set of the first pass is
+    /// split from this one.
+    pub fn open(
+        alloc: Global,
+        files: &mut F,
+        answers: A,
+        db: Db,
+        conf: &Conf,
+    ) -> Result<Opened<F, A>, PollFault>
+        requires { (settings_of conf.now db).size ≤ 65536 }
+        ensures db { IfOk result (λ o. (o.db ≡ db) × (o.settings ≡ settings_of conf.now db)) }
+        ensures seen { IfOk result (λ o. o.pass.seen ≡ record_of.Change 0 o.book.newest ∷ []) }
+        ensures told { IfOk result (λ o. AreAsTold db (F.latest files.new) o.book.newest) }
+        ensures part { IfOk result (λ o. IsPartOf db (F.held files.old) o.book.newest) }
+        ensures only { IfOk result (λ o. o.book.newest ≡ part_of db o.book.newest) }
+        ensures read { OnOk result (AllRose db (F.reads files.old) (F.reads files.new)) }
+        ensures faults { IfErr result (λ fault. FaultRose fault (F.faults files.old) (F.faults files.new) (F.file_faults files.old) (F.file_faults files.new)) }
+        ensures length { IfErr result (λ fault. TellsLength fault (F.held files.old)) }
+    {
+        let settings = conf.of(db);
+        let layout = Layout {
+            buckets: settings.size as usize,
+            arena: settings.size as usize * 128,
+        };
+        let reply = Buf::new(alloc, 65_536)?;
+        let own = files.split(alloc)?;
+        let (book, writer, pass) = SourceBook::new(alloc, layout, files, &answers, db)?;
+        Ok(Opened {
+            book,
+            writer,
+            pass,
+            files: own,
+            reply,
+            answers,
+            db,
+            settings,
+            reloads: conf.reloads,
+        })
+    }
+
+    /// Enters a room, whose words for this database are its own: from then on threads may share it. Fails only for want of
+    /// memory.
+    pub fn enter<B: Room>(self) -> Result<(Database<F, A, B>, DbPass<F, B>), NoMemory>
+        requires { self.pass.table ≡ B.table self.db }
+        ensures database { IfOk result (λ r. r.0 ≡ record { db = self.db; settings = self.settings }) }
+        ensures pass { IfOk result (λ r. (r.1.db ≡ self.db) × (r.1.pass.seen ≡ self.pass.seen)) }
+    {
+        let Opened {
+            book,
+            writer,
+            pass,
+            files,
+            reply,
+            answers,
+            db,
+            settings,
+            reloads,
+        } = self;
+        let map = writer.map().share()?;
+        let theirs = writer.map().share()?;
+        let parts = Parts {
+            book,
+            writer,
+            answers,
+            db,
+            settings,
+            reloads,
+            map,
+        };
+        let bases = match db {
+            Db::Passwd => Bases::Passwd(parts.base()),
+            Db::Group => Bases::Group(parts.base()),
+            Db::Hosts => Bases::Hosts(parts.base()),
+            Db::Services => Bases::Services(parts.base()),
+        };
+        let pass = DbPass {
+            db,
+            pass,
+            map: theirs,
+            files,
+            reply,
+            room: PhantomData,
+        };
+        Ok((Database { bases }, pass))
+    }
+}
+
+// What a database is made of.
+#[derive(Drop)]
+struct Parts<F: FileSet + Drop, A: Answerer + Drop> {
+    book: SourceBook<F, A>,
+    writer: Writer,
+    answers: A,
+    db: Db,
+    settings: DbConf,
+    reloads: Option<u32>,
+    map: Map,
+}
+
+impl<F: FileSet + Drop, A: Answerer + Drop> Parts<F, A> {
+    // The database of which it is known which one it is.
+    fn base<D: OfDb, B: Room>(self) -> Base<D, F, A, B>
+        requires db { (self.db ≡ D.db) × (self.book.db ≡ D.db) }
+        requires tables { (self.book.table ≡ B.table D.db) × (self.writer.table ≡ B.table D.db) × (self.map.table ≡ B.table D.db) }
+        ensures { result.settings ≡ self.settings }
+    {
+        let Parts {
+            book,
+            writer,
+            answers,
+            db,
+            settings,
+            reloads,
+            map,
+        } = self;
+        Base {
+            shelved: Mutex::new(Shelved {
+                book,
+                of: PhantomData,
+                room: PhantomData,
+            }),
+            desk: Mutex::new(Desk {
+                writer,
+                of: PhantomData,
+                room: PhantomData,
+            }),
+            answers,
+            db,
+            settings,
+            reloads,
+            map,
+        }
+    }
+}

@@ -1,0 +1,44 @@
+ghost use Rattle.std.specs.Prelude.{◌≡◌};
+ghost use Rattle.nsc_model.specs.Entry.{kept_limit};
+ghost use Rattle.nsc_model.specs.History.{IsPrefix};
+
+use crate::room::Room;
+use nsc_base::Buf;
+use nsc_model::Db;
+use nsc_outside::FileSet;
+use nsc_rule::{Map, Pass};
+use std::marker::PhantomData;
+
+/// A caller's pass of a database: what it has seen of the history, a file set of its own, and a buffer for replies.
+#[derive(Drop)]
+pub struct DbPass<F: FileSet + Drop, B: Room> {
+    pub(crate) db: Db,
+    pub(crate) pass: Pass,
+    pub(crate) map: Map,
+    pub(crate) files: F,
+    pub(crate) reply: Buf,
+    pub(crate) room: PhantomData<B>,
+    pub ghost own: { (pass.table ≡ B.table db) × (map.table ≡ B.table db) },
+    pub ghost buffer: { reply.limit ≡ kept_limit },
+}
+
+impl<F: FileSet + Drop, B: Room> DbPass<F, B> {
+    /// It has seen, then, all that it and the other one had seen.
+    pub(crate) fn meet(&mut self, other: DbPass<F, B>)
+        requires { other.db ≡ self.old.db }
+        ensures db { self.new.db ≡ self.old.db }
+        ensures files { self.new.files ≡ self.old.files }
+        ensures before { IsPrefix self.old.pass.seen self.new.pass.seen }
+        ensures other { IsPrefix other.pass.seen self.new.pass.seen }
+    {
+        let DbPass {
+            db: _,
+            pass,
+            map: _,
+            files: _,
+            reply: _,
+            room: _,
+        } = other;
+        self.pass.meet(&self.map, pass);
+    }
+}

@@ -1,0 +1,218 @@
+ghost use Rattle.std.specs.Prelude.{◌≡◌, ◌<◌, ◌^◌, ◌≤◌, ℕ, List, length, IfOk, IfErr};
+ghost use Rattle.nsc_model.specs.declared.kind.Db.{Db};
+ghost use Rattle.nsc_model.specs.declared.kind.FileId.{FileId};
+ghost use Rattle.nsc_model.specs.declared.conf.DbConf.{DbConf};
+ghost use Rattle.nsc_model.specs.declared.record.Record.{Record};
+ghost use Rattle.nsc_model.specs.Entry.{key_limit};
+ghost use Rattle.nsc_model.specs.Kinds.{database_of};
+ghost use Rattle.nsc_model.specs.History.{Answered, IsPrefix, Legal};
+ghost use Rattle.nsc_model.specs.Stores.{IsFault, IsGiven, reply_of};
+
+use crate::kind::{FileId, Kind};
+use nsc_base::{Bytes, NoMemory};
+use std::alloc::Global;
+use std::sync::Wait;
+use thiserror::Error;
+
+/// A count that a call needs stands at its end, which is 2^62.
+#[derive(Clone, Copy, Debug, PartialEq, Eq)]
+pub struct Spent {
+    /// The count.
+    pub count: u64,
+}
+
+/// What a database counts. Each number stays at 2^62.
+#[derive(Clone, Copy, Debug, PartialEq, Eq)]
+pub struct Stats {
+    /// Whether the database is cached.
+    pub enabled: bool,
+    /// How many lookups a live entry answered with a found reply.
+    pub hits: u64,
+    /// The same with a not-found reply.
+    pub negative_hits: u64,
+    /// How many lookups made a found answer anew.
+    pub misses: u64,
+    /// The same of not-found answers.
+    pub negative_misses: u64,
+    /// How many entries are live.
+    pub entries: u64,
+    /// How many words entries take, the live ones and those that ended since the last compaction.
+    pub used: u64,
+    /// How many words entries may take.
+    pub arena: u64,
+    /// How often the database was invalidated.
+    pub invalidations: u64,
+    /// How often it was compacted.
+    pub compactions: u64,
+    /// How many insertions found no room.
+    pub addfailed: u64,
+}
+
+/// What a lookup gave.
+#[derive(Debug, Drop)]
+pub enum Given {
+    /// The reply of a live entry.
+    Hit {
+        /// The reply.
+        bytes: Bytes,
+        /// The number of the entry.
+        number: u64,
+    },
+    /// A reply that was made anew, and inserted.
+    Loaded {
+        /// The reply.
+        bytes: Bytes,
+        /// The number of the new entry.
+        number: u64,
+    },
+    /// A reply that was made anew, and is not kept.
+    Fresh {
+        /// The reply.
+        bytes: Bytes,
+        /// Why it is not kept.
+        why: Why,
+    },
+}
+
+/// Why a reply that was made anew is not kept.
+#[derive(Clone, Copy, Debug, PartialEq, Eq)]
+pub enum Why {
+    /// The database is not cached.
+    Disabled,
+    /// The reply is longer than 65,536 bytes.
+    TooLarge {
+        /// Its length in bytes.
+        length: u64,
+    },
+    /// The database was invalidated while the reply was made.
+    Discarded {
+        /// How often it was invalidated before the files were read.
+        loaded: u64,
+        /// How often it was invalidated by the time of the insertion.
+        epoch: u64,
+    },
+    /// Another caller inserted an entry of the request.
+    Present {
+        /// The number of that entry.
+        number: u64,
+    },
+    /// No more entries can be counted.
+    Spent {
+        /// The count of entries, 2^62.
+        count: u64,
+    },
+    /// Too few words are free.
+    Full {
+        /// How many words the entry needs.
+        need: u64,
+        /// How many are free.
+        free: u64,
+    },
+}
+
+/// Why a lookup or a tick gave up.
+#[derive(Clone, Copy, Debug, PartialEq, Eq, Error)]
+pub enum LookupFault {
+    /// Memory was wanting.
+    #[error("out of memory")]
+    NoMemory,
+    /// A count that the call needs stands at its end.
+    #[error("a count stands at {count}")]
+    Spent {
+        /// The count, 2^62.
+        count: u64,
+    },
+    /// A file is there, or may be, and could not be read.
+    #[error("a file could not be read")]
+    SourceFault {
+        /// The file.
+        file: FileId,
+    },
+    /// A file is longer than 16,777,216 bytes.
+    #[error("a file of {length} bytes is too long")]
+    TooLong {
+        /// The file.
+        file: FileId,
+        /// The length in bytes, as far as it is known.
+        length: u64,
+    },
+}
+
+impl From<NoMemory> for LookupFault {
+    ghost use Rattle.std.specs.Prelude.{◌≡◌};
+    ghost use Rattle.nsc_model.specs.declared.store.LookupFault.TheVariants.{NoMemory as Memory};
+
+    ghost from_gives = { λ _ fault. fault ≡ Memory };
+
+    fn from(_e: NoMemory) -> LookupFault {
+        LookupFault::NoMemory
+    }
+}
+
+impl From<Spent> for LookupFault {
+    ghost use Rattle.std.specs.Prelude.{◌≡◌};
+    ghost use Rattle.nsc_model.specs.declared.store.LookupFault.TheVariants.{Spent as CountSpent};
+
+    ghost from_gives = { λ spent fault. fault ≡ CountSpent spent.count };
+
+    fn from(e: Spent) -> LookupFault {
+        LookupFault::Spent { count: e.count }
+    }
+}
+
+/// One database for many threads. Each has a pass of its own, with which it calls.
+pub trait Store {
+    /// What a caller has.
+    type Pass: Drop;
+
+    // The database.
+    ghost db: { Self → Db };
+
+    // Its settings.
+    ghost settings: { Self → DbConf };
+
+    // Whether a pass is one of this store.
+    ghost is_pass: { Self → Self.Pass → Type 0 };
+
+    // The beginning of the history that a pass has seen.
+    ghost seen: { Self.Pass → List Record };
+
+    // How many reads of files by a pass failed or met a file that is too long, in all and of each file.
+    ghost faults: { Self.Pass → ℕ };
+
+    ghost file_faults: { Self.Pass → FileId → ℕ };
+
+    /// A new pass. Fails only for want of memory.
+    fn attach<R: Wait>(&self, rt: &R, alloc: Global) -> Result<Self::Pass, NoMemory>
+        ensures pass { IfOk result (λ pass. is_pass self.now pass) }
+        ensures legal { IfOk result (λ pass. Legal (seen pass)) };
+
+    /// Looks up the request of this kind and key at this moment, in seconds: the reply of its live entry, or else the answer
+    /// over the files as they are read in this call, which is then kept where nothing refuses it.
+    fn lookup<R: Wait>(
+        &self,
+        rt: &R,
+        alloc: Global,
+        pass: &mut Self::Pass,
+        kind: Kind,
+        key: &[u8],
+        now: u64,
+    ) -> Result<Given, LookupFault>
+        requires pass { is_pass self.now pass.old }
+        requires kind { database_of kind ≡ db self.now }
+        requires key { length key.now ≤ key_limit }
+        requires moment { now < 2 ^ 62 }
+        ensures pass { is_pass self.now pass.new }
+        ensures before { IsPrefix (seen pass.old) (seen pass.new) }
+        ensures answered { IfOk result (λ g. Answered (seen pass.old) (seen pass.new) (record { kind = kind; key = key.now }) (reply_of g)) }
+        ensures given { IfOk result (λ g. IsGiven g (settings self.now) now (seen pass.old) (seen pass.new) (record { kind = kind; key = key.now })) }
+        ensures fault { IfErr result (λ fault. IsFault fault (seen pass.new) (faults pass.old) (faults pass.new) (file_faults pass.old) (file_faults pass.new)) };
+
+    /// The pass has seen, then, all that it and the other one had seen.
+    fn meet(&self, pass: &mut Self::Pass, other: Self::Pass)
+        requires pass { is_pass self.now pass.old }
+        requires other { is_pass self.now other }
+        ensures pass { is_pass self.now pass.new }
+        ensures before { IsPrefix (seen pass.old) (seen pass.new) }
+        ensures other { IsPrefix (seen other) (seen pass.new) };
+}

@@ -1,0 +1,4 @@
+pub mod Seats
+pub mod Map
+pub mod Pen
+pub mod Pass

@@ -1,0 +1,30 @@
+-- What a source book is, and what its calls give.
+use Rattle.std.specs.Prelude.{◌≡◌, ℕ, Bool, Result, Ok, Err}
+use Rattle.atomic_table.specs.Seated.{TableId}
+use Rattle.nsc_model.specs.declared.kind.Db.{Db}
+use Rattle.nsc_model.specs.declared.store.Spent.{Spent}
+use Rattle.nsc_model.specs.Content.{Content}
+use Rattle.nsc_model.specs.Machine.{polled}
+use Rattle.nsc_writer.specs.declared.loaded.Stamp.{Stamp}
+use Rattle.nsc_writer.specs.Writer.{Writer, Polls}
+
+-- the database, the words of its writer, and the newest content
+pub record SourceBook : Type 0 where
+  pub db : Db
+  pub table : TableId
+  pub newest : Content
+
+-- a content that was read, and whether it is known to be the newest one
+pub record Fetched : Type 0 where
+  pub content : Content
+  pub is_newest : Bool
+
+-- a content that was polled, with its stamp
+pub record Polled : Type 0 where
+  pub content : Content
+  pub stamp : Stamp
+
+-- a poll of what was fetched: the writer polls it, and it is the newest content of the book; or nothing changed
+abbrev pub PollsBook : Fetched → ℕ → SourceBook → SourceBook → Writer → Writer → Result Polled Spent → Type 0
+PollsBook fetched epoch before after w w' (Ok p) = Polls (polled fetched.content w.cache) epoch w w' (Ok p.stamp) × (p.content ≡ fetched.content) × (after ≡ record before { newest = fetched.content })
+PollsBook fetched epoch before after w w' (Err spent) = Polls (polled fetched.content w.cache) epoch w w' (Err spent) × (after ≡ before)

@@ -1,0 +1,280 @@
+ghost use Rattle.std.specs.Prelude.{◌≡◌, ◌≤◌, ◌∷◌, [], true, false, IfOk, IfErr, MatchResult, OnOk};
+ghost use Rattle.std.specs.Bool.{OnTrue};
+ghost use Rattle.std.specs.Arc.{arc_value};
+ghost use Rattle.nsc_model.specs.declared.record.Record.TheVariants as record_of;
+ghost use Rattle.nsc_model.specs.Files.{part_of};
+ghost use Rattle.nsc_model.specs.History.{PolledSince};
+ghost use Rattle.nsc_model.specs.Machine.{new_cache, polled};
+ghost use Rattle.nsc_writer.specs.Writer.{IsNewest, Polls, most_words};
+ghost use Rattle.nsc_sourcebook.specs.Reads.{AllRose, AreAsTold, FaultRose, IsPartOf, TellsLength};
+ghost use Rattle.nsc_sourcebook.specs.Book.{PollsBook};
+ghost use Rattle.nsc_sourcebook.specs.declared.fault.PollFault.TheVariants.{NoMemory as Memory};
+
+use crate::fault::PollFault;
+use crate::reading::read_files;
+use nsc_base::NoMemory;
+use nsc_model::{Answerer, Content, Db, Spent};
+use nsc_outside::FileSet;
+use nsc_rule::Pass;
+use nsc_words::Layout;
+use nsc_writer::{Stamp, Writer};
+use std::alloc::Global;
+use std::marker::Model;
+use std::sync::Arc;
+
+/// A content that was read, made ready for answers.
+#[derive(Drop)]
+pub struct Fetched<A: Answerer> {
+    ready: Arc<A::Ready>,
+    kept: Arc<A::Ready>,
+    content: Arc<Content>,
+    is_newest: bool,
+}
+
+impl<A: Answerer> Model for Fetched<A> {
+    ghost use Rattle.std.specs.Prelude.{◌≡◌};
+    ghost use Rattle.std.specs.Arc.{arc_value};
+    ghost use Rattle.nsc_sourcebook.specs.Book.{Fetched};
+
+    ghost Value = { Fetched };
+
+    ghost view = { λ f. record { content = arc_value f.content; is_newest = f.is_newest } };
+
+    ghost invariant = { λ f. (A.prepared_from (arc_value f.ready) ≡ arc_value f.content) × (A.prepared_from (arc_value f.kept) ≡ arc_value f.content) };
+}
+
+/// A content that was polled, made ready for answers.
+#[derive(Drop)]
+pub struct Polled<A: Answerer> {
+    ready: Arc<A::Ready>,
+    stamp: Stamp,
+}
+
+impl<A: Answerer> Model for Polled<A> {
+    ghost use Rattle.std.specs.Arc.{arc_value};
+    ghost use Rattle.nsc_sourcebook.specs.Book.{Polled};
+
+    ghost Value = { Polled };
+
+    ghost view = { λ p. record { content = A.prepared_from (arc_value p.ready); stamp = p.stamp } };
+}
+
+impl<A: Answerer> Polled<A> {
+    /// What was made ready of the content.
+    pub fn ready(&self) -> &A::Ready
+        ensures { A.prepared_from result.now ≡ self.now.content }
+    {
+        &self.ready
+    }
+
+    /// The version that the content is, with the number of invalidations before it was read.
+    pub fn stamp(&self) -> Stamp
+        ensures { result ≡ self.now.stamp }
+    {
+        self.stamp
+    }
+}
+
+/// The versions of a database's files: the newest content, made ready for answers, with its number.
+#[derive(Drop)]
+pub struct SourceBook<F: FileSet + Drop, A: Answerer> {
+    files: F,
+    db: Db,
+    ready: Arc<A::Ready>,
+    version: u64,
+    pass: Pass,
+}
+
+impl<F: FileSet + Drop, A: Answerer> Model for SourceBook<F, A> {
+    ghost use Rattle.std.specs.Prelude.{◌≡◌, Some};
+    ghost use Rattle.std.specs.Arc.{arc_value};
+    ghost use Rattle.nsc_model.specs.History.{version_in};
+    ghost use Rattle.nsc_sourcebook.specs.Book.{SourceBook};
+
+    ghost Value = { SourceBook };
+
+    ghost view = { λ b. record { db = b.db; table = b.pass.table; newest = A.prepared_from (arc_value b.ready) } };
+
+    ghost invariant = { λ b. version_in b.pass.seen b.version ≡ Some (A.prepared_from (arc_value b.ready)) };
+}
+
+impl<F: FileSet + Drop, A: Answerer> SourceBook<F, A> {
+    /// Reads the files of a database through this set as version 0, and keeps a handle that is split from it. It gives the book,
+    /// the writer of the database, and a pass that has seen its history.
+    pub fn new(
+        alloc: Global,
+        layout: Layout,
+        files: &mut F,
+        answers: &A,
+        db: Db,
+    ) -> Result<(SourceBook<F, A>, Writer, Pass), PollFault>
+        requires { layout.arena ≤ most_words }
+        ensures book { IfOk result (λ r. (r.0.db ≡ db) × (r.0.table ≡ r.2.table)) }
+        ensures writer { IfOk result (λ r. r.1 ≡ record { table = r.2.table; layout = layout; seen = record_of.Change 0 r.0.newest ∷ []; cache = new_cache r.0.newest; hits = record { found = 0; not_found = 0 }; misses = record { found = 0; not_found = 0 } }) }
+        ensures pass { IfOk result (λ r. r.2.seen ≡ record_of.Change 0 r.0.newest ∷ []) }
+        ensures told { IfOk result (λ r. AreAsTold db (F.latest files.new) r.0.newest) }
+        ensures part { IfOk result (λ r. IsPartOf db (F.held files.old) r.0.newest) }
+        ensures only { IfOk result (λ r. r.0.newest ≡ part_of db r.0.newest) }
+        ensures read { OnOk result (AllRose db (F.reads files.old) (F.reads files.new)) }
+        ensures calm { OnOk result (F.faults files.new ≡ F.faults files.old) }
+        ensures faults { IfErr result (λ fault. FaultRose fault (F.faults files.old) (F.faults files.new) (F.file_faults files.old) (F.file_faults files.new)) }
+        ensures length { IfErr result (λ fault. TellsLength fault (F.held files.old)) }
+    {
+        let content = Arc::new(alloc, read_files(alloc, files, db)?)?;
+        let ready = Arc::new(alloc, answers.prepare(alloc, content.clone()?)?)?;
+        let files = files.split(alloc)?;
+        let (mut writer, pass) = Writer::new(alloc, layout, content)?;
+        let book = SourceBook {
+            files,
+            db,
+            ready,
+            version: 0,
+            pass: writer.pass(),
+        };
+        Ok((book, writer, pass))
+    }
+
+    /// A file set that is split from the kept one. Fails only for want of memory.
+    pub fn split(&self, alloc: Global) -> Result<F, NoMemory>
+        ensures { IfOk result (λ set. F.faults set ≡ 0) }
+    {
+        self.files.split(alloc)
+    }
+
+    /// What was made ready of the newest content. Fails only for want of memory.
+    pub fn newest(&self) -> Result<Arc<A::Ready>, NoMemory>
+        ensures { IfOk result (λ ready. A.prepared_from (arc_value ready) ≡ self.now.newest) }
+    {
+        Ok(self.ready.clone()?)
+    }
+
+    /// Reads the files of the database through this set, in rising number, and makes them ready for answers. Where they are the
+    /// newest content, that is handed on as it was made ready, and is known to be the newest one.
+    pub fn fetch(
+        &self,
+        alloc: Global,
+        files: &mut F,
+        answers: &A,
+    ) -> Result<Fetched<A>, PollFault>
+        ensures newest { IfOk result (λ f. OnTrue f.is_newest (f.content ≡ self.now.newest)) }
+        ensures told { IfOk result (λ f. AreAsTold self.now.db (F.latest files.new) f.content) }
+        ensures part { IfOk result (λ f. IsPartOf self.now.db (F.held files.old) f.content) }
+        ensures only { IfOk result (λ f. f.content ≡ part_of self.now.db f.content) }
+        ensures read { OnOk result (AllRose self.now.db (F.reads files.old) (F.reads files.new)) }
+        ensures calm { OnOk result (F.faults files.new ≡ F.faults files.old) }
+        ensures faults { IfErr result (λ fault. FaultRose fault (F.faults files.old) (F.faults files.new) (F.file_faults files.old) (F.file_faults files.new)) }
+        ensures length { IfErr result (λ fault. TellsLength fault (F.held files.old)) }
+        ensures held { F.held files.new ≡ F.held files.old }
+    {
+        let content = read_files(alloc, files, self.db)?;
+        if self.has_newest(answers, &content) {
+            return Ok(self.again(answers)?);
+        }
+        Ok(made_ready(alloc, answers, content)?)
+    }
+
+    // Whether this is the newest content.
+    fn has_newest(&self, answers: &A, content: &Content) -> bool
+        ensures { OnTrue result (content.now ≡ self.now.newest) }
+    {
+        content.is_same(answers.content(&self.ready))
+    }
+
+    // The newest content once more, as it was made ready.
+    fn again(&self, answers: &A) -> Result<Fetched<A>, NoMemory>
+        ensures { IfOk result (λ f. f ≡ record { content = self.now.newest; is_newest = true }) }
+    {
+        Ok(Fetched {
+            ready: self.ready.clone()?,
+            kept: self.ready.clone()?,
+            content: answers.content(&self.ready).clone()?,
+            is_newest: true,
+        })
+    }
+
+    /// Enters in the writer that the files were looked at: what was fetched becomes the newest version, or confirms it. The
+    /// epoch is the number of invalidations before they were read. At `Spent` book and writer are as before: a new version is
+    /// needed, and the count of versions stands at its end.
+    pub fn poll(
+        &mut self,
+        writer: &mut Writer,
+        fetched: Fetched<A>,
+        epoch: u64,
+    ) -> Result<Polled<A>, Spent>
+        requires table { writer.old.table ≡ self.old.table }
+        requires newest { OnTrue fetched.is_newest (fetched.content ≡ self.old.newest) }
+        requires epoch { epoch ≤ writer.old.cache.epoch }
+        ensures polls { PollsBook fetched epoch self.old self.new writer.old writer.new result }
+        ensures newest { IfOk result (λ p. IsNewest p.content p.stamp.version writer.new.cache) }
+        ensures polled { IfOk result (λ p. PolledSince writer.new.seen p.stamp.version p.stamp.epoch) }
+    {
+        let Fetched {
+            ready,
+            kept,
+            content,
+            is_newest,
+        } = fetched;
+        let stamp = self.enter(writer, content, is_newest, epoch)?;
+        writer.learn();
+        writer.show(&mut self.pass);
+        self.version = stamp.version;
+        self.ready = kept;
+        Ok(Polled { ready, stamp })
+    }
+
+    // Enters in the writer that the files were looked at, with this content. Nothing is compared where it is known to be the
+    // newest one.
+    fn enter(
+        &mut self,
+        writer: &mut Writer,
+        content: Arc<Content>,
+        is_newest: bool,
+        epoch: u64,
+    ) -> Result<Stamp, Spent>
+        requires table { writer.old.table ≡ self.old.table }
+        requires newest { OnTrue is_newest (arc_value content ≡ self.old.newest) }
+        requires epoch { epoch ≤ writer.old.cache.epoch }
+        ensures polls { Polls (polled (arc_value content) writer.old.cache) epoch writer.old writer.new result }
+        ensures newest { IfOk result (λ stamp. IsNewest (arc_value content) stamp.version writer.new.cache) }
+        ensures polled { IfOk result (λ stamp. PolledSince writer.new.seen stamp.version stamp.epoch) }
+        ensures book { self.new ≡ self.old }
+    {
+        if is_newest {
+            if self.is_newest_of(writer) {
+                return Ok(writer.confirm(epoch));
+            }
+        }
+        writer.record_poll(content, epoch)
+    }
+
+    // Whether the writer's newest version is this book's. If it is, their newest contents are one.
+    fn is_newest_of(&mut self, writer: &mut Writer) -> bool
+        requires { writer.old.table ≡ self.old.table }
+        ensures newest { OnTrue result (writer.old.cache.sources ≡ self.old.newest) }
+        ensures writer { writer.new ≡ writer.old }
+        ensures book { self.new ≡ self.old }
+    {
+        writer.learn();
+        self.pass.learn();
+        writer.show(&mut self.pass);
+        writer.version() == self.version
+    }
+}
+
+// A content that is not known to be the newest one, made ready for answers.
+fn made_ready<A: Answerer>(
+    alloc: Global,
+    answers: &A,
+    content: Content,
+) -> Result<Fetched<A>, PollFault>
+    ensures { MatchResult result (λ f. f ≡ record { content = content; is_newest = false }) (λ fault. fault ≡ Memory) }
+{
+    let content = Arc::new(alloc, content)?;
+    let ready = Arc::new(alloc, answers.prepare(alloc, content.clone()?)?)?;
+    Ok(Fetched {
+        kept: ready.clone()?,
+        ready,
+        content,
+        is_newest: false,
+    })
+}

@@ -1,0 +1,4 @@
+pub mod Shelves
+pub mod Told
+pub mod Later
+pub mod Crossing

@@ -1,0 +1,4 @@
+pub mod Loaded
+pub mod Uses
+pub mod Shelf
+pub mod Writer

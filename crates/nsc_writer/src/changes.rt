@@ -1,0 +1,187 @@
+// Polls, insertions and ends.
+ghost use Rattle.std.specs.Prelude.{◌≡◌, ◌≤◌, ◌<◌, ◌+◌, [], ◌∷◌, IfNone, IfSome, IfOk, IfErr};
+ghost use Rattle.std.specs.Bool.{OnTrue, OnFalse};
+ghost use Rattle.std.specs.Arc.{arc_value};
+ghost use Rattle.nsc_model.specs.declared.record.Record.TheVariants as record_of;
+ghost use Rattle.nsc_model.specs.Entry.{Entry};
+ghost use Rattle.nsc_model.specs.History.{Allows, IsLive, PolledSince};
+ghost use Rattle.nsc_model.specs.Machine.{by_invalidation, ends_of, last_count, polled};
+ghost use Rattle.nsc_laws.specs.Core.{AreLive};
+ghost use Rattle.nsc_laws.specs.Calls.{entries_of};
+ghost use Rattle.nsc_writer.specs.Shelf.{has_number};
+ghost use Rattle.nsc_writer.specs.Writer.{Inserts, IsAnswered, IsFree, IsNewest, IsRefused, Polls, SaysRefused, ending_of, emptied_by, is_full, refusal_of, without_entry};
+
+use crate::loaded::{Inserted, Loaded, Stamp};
+use crate::writer::{Cause, Writer};
+use nsc_model::{Content, Ending, Spent};
+use nsc_plain::{Kept, LAST_COUNT};
+use nsc_rule::{Map, Pen};
+use nsc_words::node_words;
+use std::alloc::Global;
+use std::sync::Arc;
+
+// The longest reply that is kept.
+const KEPT_LIMIT: usize = 65_536;
+
+impl Writer {
+    /// Enters that the files were looked at: this content becomes the next version, or confirms the newest one where they are the
+    /// same. The stamp has that version and this epoch, the number of invalidations before the files were read. At `Spent`
+    /// nothing changed: a new version is needed, and the count of versions stands at its end.
+    pub fn record_poll(&mut self, content: Arc<Content>, epoch: u64) -> Result<Stamp, Spent>
+        requires { epoch ≤ self.old.cache.epoch }
+        ensures polls { Polls (polled (arc_value content) self.old.cache) epoch self.old self.new result }
+        ensures newest { IfOk result (λ stamp. IsNewest (arc_value content) stamp.version self.new.cache) }
+        ensures polled { IfOk result (λ stamp. PolledSince self.new.seen stamp.version stamp.epoch) }
+    {
+        if content.is_same(&self.content) {
+            return Ok(self.confirm(epoch));
+        }
+        let before = self.pen.version();
+        if before == LAST_COUNT {
+            return Err(Spent { count: LAST_COUNT });
+        }
+        self.pen.change(&self.map, &content);
+        self.content = content;
+        Ok(Stamp {
+            version: before + 1,
+            epoch,
+        })
+    }
+
+    /// Enters that the files were looked at by a caller who knows that their content is the newest one.
+    pub fn confirm(&mut self, epoch: u64) -> Stamp
+        requires { epoch ≤ self.old.cache.epoch }
+        ensures stamp { result ≡ record { version = self.old.cache.newest_version; epoch = epoch } }
+        ensures history { self.new ≡ record self.old { seen = record_of.Poll self.old.cache.newest_version ∷ self.old.seen } }
+        ensures polled { PolledSince self.new.seen result.version result.epoch }
+    {
+        let version = self.pen.version();
+        self.pen.poll(&self.map);
+        Stamp { version, epoch }
+    }
+
+    // Why the insertion is refused, if it is.
+    fn refusal(&self, loaded: &Loaded) -> Option<Inserted>
+        ensures said { SaysRefused (refusal_of self.now loaded.now) result }
+        ensures why { IfSome result (λ said. IsRefused said loaded.now self.now) }
+        ensures free { IfNone result (IsFree self.now loaded.now) }
+    {
+        let length = loaded.answer().bytes().len();
+        if length > KEPT_LIMIT {
+            let length = length as u64;
+            return Some(Inserted::TooLarge { length });
+        }
+        let noted = loaded.stamp().epoch;
+        let epoch = self.pen.epoch();
+        if noted < epoch {
+            return Some(Inserted::Discarded {
+                loaded: noted,
+                epoch,
+            });
+        }
+        if let Some(number) = self.shelf.number_of(loaded.kind(), loaded.key()) {
+            return Some(Inserted::Present { number });
+        }
+        if self.shelf.inserted() == LAST_COUNT {
+            return Some(Inserted::Spent { count: LAST_COUNT });
+        }
+        let need = node_words(loaded.key().len(), length);
+        let free = self.map.layout().arena - self.shelf.used();
+        if need > free {
+            return Some(Inserted::Full {
+                need: need as u64,
+                free: free as u64,
+            });
+        }
+        None
+    }
+
+    /// Tries an insertion, and hands back what was to be inserted. It is refused, in this order, where its reply is longer than
+    /// 65,536 bytes, where the database was invalidated after its epoch was noted, where an entry of its request is live, where
+    /// no more entries can be counted, and where too few words are free.
+    pub fn insert(&mut self, alloc: Global, loaded: Loaded) -> (Inserted, Loaded)
+        requires { IsAnswered self.old.seen loaded }
+        ensures inserted { Inserts result.0 loaded self.old self.new }
+        ensures why { IsRefused result.0 loaded self.old }
+        ensures back { result.1 ≡ loaded }
+    {
+        if let Some(refused) = self.refusal(&loaded) {
+            if is_full(refused) {
+                self.shelf.fail();
+            }
+            return (refused, loaded);
+        }
+        let number = self.shelf.inserted();
+        let Ok(kept) = loaded.kept(alloc, number) else {
+            return (Inserted::NoMemory, loaded);
+        };
+        if self.shelf.reserve().is_err() {
+            return (Inserted::NoMemory, loaded);
+        }
+        self.pen.insert(&self.map, kept.entry());
+        self.shelf.put(kept);
+        (Inserted::Done { number }, loaded)
+    }
+
+    /// Ends the entry of this number by this cause, which lets it end. It is false exactly where the entry is not live; then
+    /// nothing changed.
+    pub fn end(&mut self, number: u64, cause: Cause) -> bool
+        requires { (e : Entry) → IsLive self.old.seen e → e.number ≡ number → Allows (ending_of cause) e }
+        ensures live { result ≡ has_number number self.old.cache.entries }
+        ensures ended { OnTrue result (self.new ≡ without_entry number (ending_of cause) self.old) }
+        ensures stays { OnFalse result (self.new ≡ self.old) }
+    {
+        if !self.shelf.has(number) {
+            return false;
+        }
+        self.pen.end(&self.map, number, cause.ending());
+        self.shelf.take_out(number);
+        true
+    }
+
+    /// Ends every entry as invalidated, and gives the new number of invalidations. At `Spent` nothing changed: that number
+    /// stands at its end.
+    pub fn invalidate(&mut self) -> Result<u64, Spent>
+        ensures done { IfOk result (λ epoch. (epoch ≡ self.old.cache.epoch + 1) × (self.new ≡ emptied_by self.old)) }
+        ensures spent { IfErr result (λ spent. (self.old.cache.epoch ≡ last_count) × (spent.count ≡ last_count) × (self.new ≡ self.old)) }
+    {
+        let before = self.pen.epoch();
+        if before == LAST_COUNT {
+            return Err(Spent { count: LAST_COUNT });
+        }
+        end_all(&mut self.pen, &self.map, self.shelf.entries());
+        self.pen.invalidate(&self.map);
+        self.shelf.clear();
+        Ok(before + 1)
+    }
+}
+
+// Whether an insertion found too few words free.
+fn is_full(said: Inserted) -> bool
+    ensures { result ≡ is_full said }
+{
+    matches!(said, Inserted::Full { need: _, free: _ })
+}
+
+impl Cause {
+    // The same as it stands in a history.
+    fn ending(self) -> Ending
+        ensures { result ≡ ending_of self }
+    {
+        match self {
+            Cause::Expired(now) => Ending::Expired { now },
+            Cause::Replaced => Ending::Replaced,
+        }
+    }
+}
+
+// Ends these live entries, one after the other, as invalidated.
+fn end_all(pen: &mut Pen, map: &Map, entries: &[Kept])
+    requires map { map.now.table ≡ pen.old.table }
+    requires live { AreLive pen.old.seen (entries_of entries.now) }
+    ensures { pen.new ≡ record pen.old { seen = ends_of by_invalidation entries.now pen.old.seen } }
+{
+    for kept in entries {
+        pen.end(map, kept.entry().number(), Ending::Invalidated);
+    }
+}

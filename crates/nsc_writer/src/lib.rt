@@ -1,0 +1,12 @@
+//! The one writer of a database: its live entries, and the pen that writes their history.
+#![tactic(auto)]
+
+mod changes;
+mod loaded;
+mod shelf;
+mod uses;
+mod writer;
+
+pub use loaded::{Inserted, Loaded, Stamp};
+pub use uses::{EntryAt, Hit, Uses};
+pub use writer::{Cause, Writer};

@@ -1,0 +1,230 @@
+ghost use Rattle.std.specs.Prelude.{◌≡◌, true, ◌≤◌, ◌<◌, ◌+◌, ◌/◌, ◌==◌, ◌^◌, [], ◌∷◌, length, slice_get, IfNone, IfSome, IfOk, IfErr};
+ghost use Rattle.std.specs.Bool.{OnTrue};
+ghost use Rattle.std.specs.Arc.{arc_value};
+ghost use Rattle.nsc_model.specs.declared.record.Record.TheVariants as record_of;
+ghost use Rattle.nsc_model.specs.Entry.{Entry, key_limit, kept_limit};
+ghost use Rattle.nsc_model.specs.History.{Allows, IsLive, IsPrefix};
+ghost use Rattle.nsc_model.specs.Machine.{all_words, emptied, last_count, live_entry, new_cache, polled, used_now};
+ghost use Rattle.nsc_laws.specs.Calls.{Tells};
+ghost use Rattle.nsc_writer.specs.Uses.{counted};
+ghost use Rattle.nsc_writer.specs.Shelf.{Gives, has_number};
+ghost use Rattle.nsc_writer.specs.Writer.{Stands, most_words};
+
+use crate::loaded::{Inserted, Loaded, Stamp};
+use crate::shelf::Shelf;
+use crate::uses::{EntryAt, Hit, Uses};
+use nsc_base::{Buf, NoMemory};
+use nsc_model::{Content, Ending, Kind, Spent, Stats};
+use nsc_plain::{Kept, LAST_COUNT};
+use nsc_rule::{Map, Pass, Pen, start};
+use nsc_words::{Layout, node_words};
+use std::alloc::Global;
+use std::marker::Model;
+use std::sync::Arc;
+
+/// Why a call ends an entry.
+#[derive(Clone, Copy, Debug, PartialEq, Eq)]
+pub enum Cause {
+    /// Its time is over at this moment, in seconds.
+    Expired(u64),
+    /// It is to be loaded again.
+    Replaced,
+}
+
+/// The one writer of a database: the newest content, the live entries, and the pen that writes the history that they are of.
+#[derive(Drop)]
+pub struct Writer {
+    pub(crate) map: Map,
+    pub(crate) pen: Pen,
+    pub(crate) content: Arc<Content>,
+    pub(crate) shelf: Shelf,
+    pub(crate) hits: Uses,
+    pub(crate) misses: Uses,
+}
+
+impl Model for Writer {
+    ghost use Rattle.std.specs.Prelude.{◌≡◌, true, ◌≤◌};
+    ghost use Rattle.std.specs.Arc.{arc_value};
+    ghost use Rattle.nsc_laws.specs.Calls.{Tells};
+    ghost use Rattle.nsc_writer.specs.Writer.{Writer, cache_of, most_words};
+
+    ghost Value = { Writer };
+
+    ghost view = { λ w. record { table = w.map.table; layout = w.map.layout; seen = w.pen.seen; cache = cache_of (arc_value w.content) w.pen.version w.pen.epoch w.shelf; hits = w.hits; misses = w.misses } };
+
+    ghost invariant = { λ w. (w.pen.table ≡ w.map.table) × Tells w.pen.seen (cache_of (arc_value w.content) w.pen.version w.pen.epoch w.shelf) × (w.shelf.used ≤ w.map.layout.arena) × (w.map.layout.arena ≤ most_words) };
+}
+
+impl Writer {
+    /// A writer of an empty database, and a pass that has seen its history: this content as version 0. Fails only for want of
+    /// memory.
+    pub fn new(
+        alloc: Global,
+        layout: Layout,
+        content: Arc<Content>,
+    ) -> Result<(Writer, Pass), NoMemory>
+        requires { layout.arena ≤ most_words }
+        ensures writer { IfOk result (λ r. r.0 ≡ record { table = r.1.table; layout = layout; seen = record_of.Change 0 (arc_value content) ∷ []; cache = new_cache (arc_value content); hits = record { found = 0; not_found = 0 }; misses = record { found = 0; not_found = 0 } }) }
+        ensures pass { IfOk result (λ r. r.1.seen ≡ record_of.Change 0 (arc_value content) ∷ []) }
+    {
+        let (map, pen, pass) = start(alloc, layout, &content)?;
+        let writer = Writer {
+            map,
+            pen,
+            content,
+            shelf: Shelf::new(alloc),
+            hits: Uses::none(),
+            misses: Uses::none(),
+        };
+        Ok((writer, pass))
+    }
+
+    /// What its history tells.
+    pub fn learn(&self)
+        ensures told { Tells self.now.seen self.now.cache }
+        ensures room { self.now.layout.arena ≤ most_words }
+    {
+        let _ = &self.pen;
+    }
+
+    /// The words that it writes.
+    pub fn map(&self) -> &Map
+        ensures { result.now ≡ record { table = self.now.table; layout = self.now.layout } }
+    {
+        &self.map
+    }
+
+    /// How often the database was invalidated.
+    pub fn epoch(&self) -> u64
+        ensures { result ≡ self.now.cache.epoch }
+    {
+        self.pen.epoch()
+    }
+
+    /// The number of the newest version.
+    pub fn version(&self) -> u64
+        ensures { result ≡ self.now.cache.newest_version }
+    {
+        self.pen.version()
+    }
+
+    /// A pass that has seen the whole history.
+    pub fn pass(&mut self) -> Pass
+        ensures same { self.new ≡ self.old }
+        ensures pass { result ≡ record { table = self.old.table; seen = self.old.seen } }
+    {
+        self.pen.pass(&self.map)
+    }
+
+    /// The pass has seen the whole history then, which begins with what it had seen.
+    pub fn show(&mut self, pass: &mut Pass)
+        requires { pass.old.table ≡ self.old.table }
+        ensures same { self.new ≡ self.old }
+        ensures pass { pass.new ≡ record pass.old { seen = self.old.seen } }
+        ensures before { IsPrefix pass.old.seen self.old.seen }
+    {
+        self.pen.show(&self.map, pass);
+    }
+
+    /// Counts a lookup that made an answer anew.
+    pub fn miss(&mut self, not_found: bool)
+        ensures { self.new ≡ record self.old { misses = counted not_found self.old.misses } }
+    {
+        self.misses = self.misses.and_one(not_found);
+    }
+
+    /// The live entry that answers the request of this kind and key, if there is one: the buffer then has its reply, its count
+    /// of reloads begins anew, and a hit is counted. Its time is not looked at.
+    pub fn search(&mut self, kind: Kind, key: &[u8], reply: &mut Buf) -> Option<Hit>
+        requires { kept_limit ≤ reply.old.limit }
+        ensures gives { Gives (live_entry (record { kind = kind; key = key.now }) self.old.cache.entries) result reply.new.content }
+        ensures stays { IfNone result (self.new ≡ self.old) }
+        ensures used { IfSome result (λ hit. self.new ≡ record self.old { cache = record self.old.cache { entries = used_now (record { kind = kind; key = key.now }) self.old.cache.entries }; hits = counted hit.not_found self.old.hits }) }
+        ensures limit { reply.new.limit ≡ reply.old.limit }
+    {
+        match self.shelf.hit(kind, key, reply) {
+            Some(hit) => {
+                self.hits = self.hits.and_one(hit.not_found);
+                Some(hit)
+            }
+            None => None,
+        }
+    }
+
+    /// The live entry at this place of the list in rising number, with its key and its reply in the buffers; `None` after the
+    /// last. The list begins at 0, and each entry says where the next one stands, until a call changes the writer.
+    pub fn entry(&mut self, at: usize, key: &mut Buf, reply: &mut Buf) -> Option<EntryAt>
+        requires place { at ≤ length self.old.cache.entries }
+        requires key { key_limit ≤ key.old.limit }
+        requires reply { kept_limit ≤ reply.old.limit }
+        ensures entry { Stands (slice_get self.old.cache.entries at) at result key.new.content reply.new.content }
+        ensures same { self.new ≡ self.old }
+        ensures key { key.new.limit ≡ key.old.limit }
+        ensures reply { reply.new.limit ≡ reply.old.limit }
+    {
+        key.clear();
+        reply.clear();
+        match self.shelf.entries().get(at) {
+            Some(kept) => Some(told(kept, at, key, reply)),
+            None => None,
+        }
+    }
+
+    /// Whether no entry is live.
+    pub fn is_empty(&self) -> bool
+        ensures { result ≡ (length self.now.cache.entries == 0) }
+    {
+        self.shelf.entries().is_empty()
+    }
+
+    /// What it counts.
+    pub fn stats(&self) -> Stats
+        ensures { result ≡ record { enabled = true; hits = self.now.hits.found; negative_hits = self.now.hits.not_found; misses = self.now.misses.found; negative_misses = self.now.misses.not_found; entries = length self.now.cache.entries; used = self.now.cache.used; arena = self.now.layout.arena; invalidations = self.now.cache.epoch; compactions = self.now.cache.cycle / 2; addfailed = self.now.cache.add_failed } }
+    {
+        Stats {
+            enabled: true,
+            hits: self.hits.found,
+            negative_hits: self.hits.not_found,
+            misses: self.misses.found,
+            negative_misses: self.misses.not_found,
+            entries: self.shelf.entries().len() as u64,
+            used: self.shelf.used() as u64,
+            arena: self.map.layout().arena as u64,
+            invalidations: self.pen.epoch(),
+            compactions: self.shelf.cycle() / 2,
+            addfailed: self.shelf.add_failed(),
+        }
+    }
+
+    /// The words of ended entries are free again; it gives their number. At `Spent` nothing changed: the count of compactions
+    /// stands at its end.
+    pub fn compact(&mut self) -> Result<u64, Spent>
+        ensures done { IfOk result (λ freed. (self.old.cache.cycle < last_count) × (freed + all_words self.old.cache.entries ≡ self.old.cache.used) × (self.new ≡ record self.old { cache = record self.old.cache { cycle = self.old.cache.cycle + 2; used = all_words self.old.cache.entries } })) }
+        ensures spent { IfErr result (λ spent. (last_count ≤ self.old.cache.cycle) × (spent.count ≡ last_count) × (self.new ≡ self.old)) }
+    {
+        self.shelf.compact()
+    }
+}
+
+// An entry at this place, with its key and its reply in empty buffers.
+fn told(kept: &Kept, at: usize, key: &mut Buf, reply: &mut Buf) -> EntryAt
+    requires place { at < 2 ^ 63 }
+    requires key { (key.old.content ≡ []) × (key_limit ≤ key.old.limit) }
+    requires reply { (reply.old.content ≡ []) × (kept_limit ≤ reply.old.limit) }
+    ensures entry { result ≡ record { number = kept.now.entry.number; kind = kept.now.entry.request.kind; version = kept.now.entry.version; timeout = kept.now.entry.timeout; reloads = kept.now.reloads; not_found = kept.now.entry.answer.not_found; next = at + 1 } }
+    ensures key { key.new ≡ record { content = kept.now.entry.request.key; limit = key.old.limit } }
+    ensures reply { reply.new ≡ record { content = kept.now.entry.answer.bytes; limit = reply.old.limit } }
+{
+    let entry = kept.entry();
+    key.push(entry.request().key.as_slice());
+    reply.push(entry.answer().bytes());
+    EntryAt {
+        number: entry.number(),
+        kind: entry.request().kind,
+        version: entry.version(),
+        timeout: entry.timeout(),
+        reloads: kept.reloads(),
+        not_found: entry.answer().is_not_found(),
+        next: at + 1,
+    }
+}
