@@ -66,15 +66,15 @@ answered_before less seen after request bytes p a = record {
   source = elim a.source [
     | inl e ↦ inl (record { entry_is = e.entry_is; inserted = e.inserted; answers = e.answers; said = e.said; not_seen_to_end = λ ended. e.not_seen_to_end (end_on less seen e.entry_is.number p ended) })
     | inr f ↦ inr (record {
-        version_is = f.version_is;
-        files_are = f.files_are;
-        moment = f.moment;
-        is_moment = f.is_moment;
-        later = (let low = prefix_length less seen p in let more = f.later in omega arith);
-        looks = f.looks;
-        holds = f.holds;
-        said = f.said;
-      })
+      version_is = f.version_is;
+      files_are = f.files_are;
+      moment = f.moment;
+      is_moment = f.is_moment;
+      later = (let low = prefix_length less seen p in let more = f.later in omega arith);
+      looks = f.looks;
+      holds = f.holds;
+      said = f.said;
+    })
   ];
 }
 

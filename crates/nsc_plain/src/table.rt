@@ -8,8 +8,8 @@ ghost use Rattle.nsc_model.specs.Faults.{StopsBy};
 ghost use Rattle.nsc_plain.specs.PlainCache.{HitsBy};
 ghost use Rattle.nsc_plain.specs.Table.{StayApart, insertions_for, entries_for, over, put, put_all};
 
-use crate::insertion::Insertion;
 use crate::entries::{drop_due, find_entry, words_of};
+use crate::insertion::Insertion;
 use crate::kept::{Kept, LAST_COUNT};
 use nsc_base::{Bytes, NoMemory};
 use nsc_model::{CacheFault, DbConf, Kind};

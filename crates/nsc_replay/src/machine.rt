@@ -101,12 +101,7 @@ impl<A: Answerer> Machine<A> {
         ensures fault { IfErr result (TurnFaults (request_frame self.old.settings self.old.state (request_of input.now))) }
     {
         match read_request(input) {
-            Wire::Request { kind, key } => self.lookup(
-                alloc,
-                answers,
-                kind,
-                key.of(input),
-            ),
+            Wire::Request { kind, key } => self.lookup(alloc, answers, kind, key.of(input)),
             Wire::Descriptor
             | Wire::Netgroup
             | Wire::Shutdown

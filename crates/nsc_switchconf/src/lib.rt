@@ -9,4 +9,3 @@ mod rule;
 mod token;
 
 pub use list::service_list;
-

@@ -7,12 +7,9 @@ use nsc_accounts::{
 use nsc_base::{Bytes, NoMemory};
 use nsc_compat::{SubLookup, compat_lookup};
 use nsc_files::{extra_lookup, files_lookup};
-use nsc_model::{
-    Content, FileId, Kind, Looked, Row, SwitchAction, SwitchService, SwitchStep,
-};
+use nsc_model::{Content, FileId, Kind, Looked, Row, SwitchAction, SwitchService, SwitchStep};
 use nsc_nets::ai_of;
 use nsc_switch::{Lists, PlainServices, switch, switch_by, switch_over};
-
 use std::alloc::Global;
 use std::test::Fail;
 
@@ -191,7 +188,10 @@ fn switches(rt: HostRuntime) -> Result<(), Fail> {
     let content = content(rt.alloc())?;
     let ann = by_switch(rt.alloc(), &content, b"ann")?;
     assert_eq!(rt; ann, Outcome::User(1));
-    let steps = [passed(SwitchService::Files), passed(SwitchService::Extrausers)];
+    let steps = [
+        passed(SwitchService::Files),
+        passed(SwitchService::Extrausers),
+    ];
     let eve = by_steps(rt.alloc(), &content, &steps, b"eve")?;
     assert_eq!(rt; eve, Outcome::User(3));
     Ok(())

@@ -71,7 +71,12 @@ fn faults_of_lines(rt: HostRuntime) -> Result<(), Fail> {
     Ok(())
 }
 
-const fn step(service: SwitchService, notfound: SwitchAction, unavail: SwitchAction, tryagain: SwitchAction) -> SwitchStep {
+const fn step(
+    service: SwitchService,
+    notfound: SwitchAction,
+    unavail: SwitchAction,
+    tryagain: SwitchAction,
+) -> SwitchStep {
     SwitchStep {
         service,
         success: SwitchAction::Return,
