@@ -65,13 +65,7 @@ impl<D: OfDb, B: Room> Desk<D, B> {
         ensures legal { Legal pass.new.pass.seen }
         ensures looked { IsLooked result pass.new.pass.seen (record { kind = kind; key = key.now }) pass.new.reply.content }
     {
-        holds::look(
-            &mut self.writer,
-            &mut pass.pass,
-            kind,
-            key,
-            &mut pass.reply,
-        )
+        holds::look(&mut self.writer, &mut pass.pass, kind, key, &mut pass.reply)
     }
 
     pub fn poll<F: FileSet + Drop, A: Answerer>(

@@ -29,13 +29,7 @@ pub enum Looked {
 }
 
 /// Looks for the live entry of the request of this kind and key, whose reply the buffer then has.
-pub fn look(
-    writer: &mut Writer,
-    pass: &mut Pass,
-    kind: Kind,
-    key: &[u8],
-    reply: &mut Buf,
-) -> Looked
+pub fn look(writer: &mut Writer, pass: &mut Pass, kind: Kind, key: &[u8], reply: &mut Buf) -> Looked
     requires table { pass.old.table ≡ writer.old.table }
     requires buffer { kept_limit ≤ reply.old.limit }
     ensures writer { writer.new.table ≡ writer.old.table }

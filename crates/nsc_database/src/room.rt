@@ -22,8 +22,11 @@ pub trait OfDb {
 }
 
 pub struct OfPasswd;
+
 pub struct OfGroup;
+
 pub struct OfHosts;
+
 pub struct OfServices;
 
 impl OfDb for OfPasswd {

@@ -26,7 +26,7 @@ impl Model for Pen {
     ghost use Rattle.std.specs.Prelude.{◌≡◌, []};
     ghost use Rattle.nsc_rule.specs.Pen.{Counts, Pen};
     ghost use Rattle.nsc_rule.specs.Pen.{Counts};
-ghost use Rattle.nsc_rule.specs.Seats.{pen_view};
+    ghost use Rattle.nsc_rule.specs.Seats.{pen_view};
 
     ghost Value = { Pen };
 

@@ -150,12 +150,7 @@ impl<F: FileSet + Drop, A: Answerer> SourceBook<F, A> {
 
     /// Reads the files of the database through this set, in rising number, and makes them ready for answers. Where they are the
     /// newest content, that is handed on as it was made ready, and is known to be the newest one.
-    pub fn fetch(
-        &self,
-        alloc: Global,
-        files: &mut F,
-        answers: &A,
-    ) -> Result<Fetched<A>, PollFault>
+    pub fn fetch(&self, alloc: Global, files: &mut F, answers: &A) -> Result<Fetched<A>, PollFault>
         ensures newest { IfOk result (λ f. OnTrue f.is_newest (f.content ≡ self.now.newest)) }
         ensures told { IfOk result (λ f. AreAsTold self.now.db (F.latest files.new) f.content) }
         ensures part { IfOk result (λ f. IsPartOf self.now.db (F.held files.old) f.content) }

@@ -12,11 +12,7 @@ use nsc_outside::FileSet;
 use std::alloc::Global;
 
 /// Reads the files of a database, in rising number. At a fault the counts of the file that is named rose, if it is one of a file.
-pub fn read_files<F: FileSet>(
-    alloc: Global,
-    files: &mut F,
-    db: Db,
-) -> Result<Content, PollFault>
+pub fn read_files<F: FileSet>(alloc: Global, files: &mut F, db: Db) -> Result<Content, PollFault>
     ensures told { IfOk result (λ c. AreAsTold db (F.latest files.new) c) }
     ensures part { IfOk result (λ c. IsPartOf db (F.held files.old) c) }
     ensures only { IfOk result (λ c. c ≡ part_of db c) }

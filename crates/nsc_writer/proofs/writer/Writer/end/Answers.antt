@@ -1,4 +1,4 @@
-use Rattle.std.proofs.Common.{◌≡◌, true, rules, subst, sym, ◌∙◌}
+use Rattle.std.proofs.Common.{◌≡◌, rules, subst, sym, ◌∙◌}
 use Rattle.std.specs.Arc.{arc_value}
 use Rattle.nsc_model.specs.declared.record.Ending.{Ending}
 use Rattle.nsc_model.specs.Entry.{Entry}
@@ -19,5 +19,5 @@ invariant_of-self c =
     let w = c.self.inside in
     let allows = subst (λ (v : Writer). (e : Entry) → IsLive v.seen e → e.number ≡ c.args.number → Allows (ending_of c.args.cause) e) (sym c.self.view_is) c.requires in
     let told = ended_tells w.pen.seen (cache_of (arc_value w.content) w.pen.version w.pen.epoch w.shelf) c.args.number c.ending.result c.self.invariant.1 (sym c.has.ensures ∙ c.if-not-has.false)
-        (subst (λ (cause : Ending). (e : Entry) → IsLive w.pen.seen e → e.number ≡ c.args.number → Allows cause e) (sym c.ending.ensures) allows) in
+    (subst (λ (cause : Ending). (e : Entry) → IsLive w.pen.seen e → e.number ≡ c.args.number → Allows cause e) (sym c.ending.ensures) allows) in
     (search rules, told_as (arc_value w.content) _ _ _ _ c.end.ensures c.take_out.ensures told, search rules, search rules)
