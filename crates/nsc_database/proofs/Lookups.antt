@@ -1,5 +1,5 @@
 -- What lookups come to, hold after hold.
-use Rattle.std.proofs.Common.{◌≡◌, ◌≢◌, ◌∙◌, ℕ, ◌+◌, ◌<◌, ◌≤◌, ◌⊎◌, Bool, true, false, List, [], ◌∷◌, ◌++◌, length, Some, refl, sym, ap, subst, arith, inl, inr}
+use Rattle.std.proofs.Common.{◌≡◌, ◌∙◌, ℕ, ◌+◌, ◌≤◌, List, refl, sym, ap, subst, arith, inl, inr}
 use Rattle.nsc_model.specs.declared.answer.Request.{Request}
 use Rattle.nsc_model.specs.declared.record.Record.{Record}
 use Rattle.nsc_model.specs.declared.conf.DbConf.{DbConf}
@@ -7,17 +7,14 @@ use Rattle.nsc_model.specs.declared.store.Given.{Given}
 use Rattle.nsc_model.specs.declared.store.Given.TheVariants as given
 use Rattle.nsc_model.specs.declared.store.Why.{Why}
 use Rattle.nsc_model.specs.declared.store.Why.TheVariants as why
-use Rattle.nsc_model.specs.Content.{Content}
-use Rattle.nsc_model.specs.Answer.{Answer}
 use Rattle.nsc_model.specs.Entry.{Entry}
 use Rattle.nsc_model.specs.Answers.{answer_of}
-use Rattle.nsc_model.specs.History.{Answered, FromEntry, FromPoll, EndedAfter, HasLoad, HasEnd, IsLive, IsPrefix, Legal, LookedBetween, LooksAt, NoneLiveOf, PolledSince, invalidations, loads, version_in}
+use Rattle.nsc_model.specs.History.{Answered, EndedAfter, HasLoad, IsPrefix, Legal, NoneLiveOf, PolledSince, invalidations, loads}
 use Rattle.nsc_model.specs.Machine.{life_of}
-use Rattle.nsc_model.specs.Stores.{IsGiven, IsHit, IsLoaded, IsWhy, reply_of}
+use Rattle.nsc_model.specs.Stores.{IsGiven, IsHit, IsWhy, reply_of}
 use Rattle.nsc_laws.proofs.Prefixes.{load_below}
 use Rattle.nsc_writer.specs.declared.loaded.Inserted.{Inserted}
 use Rattle.nsc_writer.specs.declared.loaded.Inserted.TheVariants as inserted
-use Rattle.nsc_writer.specs.declared.loaded.Stamp.{Stamp}
 use Rattle.nsc_writer.specs.Loaded.{Loaded, kept_of}
 use Rattle.nsc_writer.specs.Writer.{IsAnswered}
 use Rattle.nsc_writer.proofs.Later.{prefix_through, version_on, load_on, end_on}

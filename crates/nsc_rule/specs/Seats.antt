@@ -1,13 +1,13 @@
 -- The rule of the shared words: they are what the history says, the writing seat has seen it whole, and every other seat a
 -- beginning of it. The views of the seats have it; the words do not.
-use Rattle.std.specs.Prelude.{◌≡◌, ℕ, ◌+◌, ◌-◌, nat_lt, if◌then◌else◌, Bool, true, false, List, [], ◌∷◌, length}
+use Rattle.std.specs.Prelude.{◌≡◌, ℕ, ◌-◌, nat_lt, if◌then◌else◌, true, false, List, [], ◌∷◌, length}
 use mathlib.Core.Option.{Option, some, none}
 use lib.ListN.{get_elem?}
 use Rattle.atomic_table.specs.Table.{State, Me, Step}
 use Rattle.nsc_model.specs.Content.{Content}
 use Rattle.nsc_model.specs.declared.record.Record.{Record}
 use Rattle.nsc_model.specs.declared.record.Record.TheVariants as record_of
-use Rattle.nsc_model.specs.History.{changes, invalidations, Legal, IsPrefix}
+use Rattle.nsc_model.specs.History.{changes, invalidations, IsPrefix}
 use Rattle.nsc_rule.specs.declared.view.View.{View}
 use Rattle.nsc_rule.specs.declared.view.Said.{Said}
 use Rattle.nsc_rule.specs.declared.view.Said.TheVariants as said

@@ -2,3 +2,4 @@ pub mod Shelves
 pub mod Told
 pub mod Later
 pub mod Crossing
+pub mod Pruned

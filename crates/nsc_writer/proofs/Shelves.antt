@@ -1,15 +1,14 @@
 -- What a shelf keeps once an entry of it was used, or some of its entries left.
-use Rattle.std.proofs.Common.{◌≡◌, ℕ, ◌≤◌, ◌+◌, Bool, true, false, cond, not, List, [], ◌∷◌, filter, find, get_or, set, Option, Some, None, refl, sym, ap, subst, ◌∙◌, arith}
-use Rattle.std.specs.Prelude.{count_by, position, sum_by}
+use Rattle.std.proofs.Common.{◌≡◌, ℕ, ◌+◌, Bool, true, false, cond, not, List, [], ◌∷◌, filter, find, get_or, set, Option, Some, None, refl, sym, ap, subst, ◌∙◌, arith}
+use Rattle.std.specs.Prelude.{position, sum_by}
 use Rattle.std.proofs.lemmas.List.Quantifiers.{position-Some}
 use Rattle.std.proofs.lemmas.List.Filters.{sum_by-filter_both}
 use Rattle.nsc_model.specs.declared.answer.Request.{Request}
-use Rattle.nsc_model.specs.Kinds.{is_request}
 use Rattle.nsc_model.specs.Machine.{Kept, all_words, entry_words, used_now}
 use Rattle.nsc_plain.specs.Table.{IsKept, entries_for}
 use Rattle.nsc_plain.proofs.Apart.{asks, restarted, found_at, found_none, hit_keeps, used_at}
 use Rattle.nsc_writer.specs.declared.uses.Hit.{Hit}
-use Rattle.nsc_writer.specs.Shelf.{Gives, number_of, others_than}
+use Rattle.nsc_writer.specs.Shelf.{Gives}
 
 -- the entry at the place that was found, once it was used
 pub record IsUsed (request : Request) (items : List Kept) (at : ℕ) (d new : Kept) (used inserted : ℕ) : Type 0 where

@@ -1,8 +1,7 @@
 -- What the history tells of the writer's cache after each of its calls.
-use Rattle.std.proofs.Common.{◌≡◌, ◌≢◌, ℕ, ◌<◌, ◌≤◌, ◌+◌, ◌⊎◌, Bool, true, false, cond, not, ◌||◌, eqb, List, [], ◌∷◌, ◌++◌, length, get_or, drop, drop-cons, add-one, suc, find, Option, Some, None, refl, sym, ap, subst, ◌∙◌, arith, inl, inr}
+use Rattle.std.proofs.Common.{◌≡◌, ◌≢◌, ℕ, ◌<◌, ◌≤◌, ◌+◌, Bool, true, false, not, ◌||◌, eqb, List, [], ◌∷◌, ◌++◌, length, get_or, drop, drop-cons, add-one, suc, None, refl, sym, ap, subst, ◌∙◌, arith, inl, inr}
 use Rattle.std.proofs.Math.ListN.{drop_of_length-le}
 use Rattle.std.proofs.lemmas.Bool.{eqb-true, eqb-false}
-use Rattle.std.specs.List.{list_any}
 use Rattle.nsc_model.specs.declared.answer.Request.{Request}
 use Rattle.nsc_model.specs.declared.record.Ending.{Ending}
 use Rattle.nsc_model.specs.declared.record.Ending.TheVariants.{Invalidated}
@@ -11,7 +10,7 @@ use Rattle.nsc_model.specs.declared.record.Record.TheVariants.{Change, Poll, Loa
 use Rattle.nsc_model.specs.Kinds.{is_request}
 use Rattle.nsc_model.specs.Content.{Content}
 use Rattle.nsc_model.specs.Entry.{Entry}
-use Rattle.nsc_model.specs.History.{invalidations, newest, HasLoad, HasEnd, IsLive, NoneLive, NoneLiveOf, WasPolled, Allows, Legal, IsPrefix, LooksAt, PolledSince}
+use Rattle.nsc_model.specs.History.{invalidations, IsLive, NoneLiveOf, WasPolled, Allows, LooksAt, PolledSince}
 use Rattle.nsc_model.specs.Machine.{Kept, Cache, by_invalidation, emptied, ends_of, live_entry, used_now}
 use Rattle.nsc_laws.specs.Core.{Among, Rise, AreLive}
 use Rattle.nsc_laws.specs.Calls.{Tells, entries_of}

@@ -2,7 +2,6 @@
 use Rattle.std.specs.Prelude.{ℕ}
 use Rattle.nsc_model.specs.declared.answer.Request.{Request}
 use Rattle.nsc_model.specs.Answer.{Answer}
-use Rattle.nsc_model.specs.Entry.{Entry}
 use Rattle.nsc_model.specs.Machine.{Kept}
 use Rattle.nsc_writer.specs.declared.loaded.Stamp.{Stamp}
 

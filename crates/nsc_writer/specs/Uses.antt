@@ -1,5 +1,5 @@
 -- How many lookups there were.
-use Rattle.std.specs.Prelude.{ℕ, ◌+◌, min, Bool, if◌then◌else◌}
+use Rattle.std.specs.Prelude.{◌+◌, min, Bool, if◌then◌else◌}
 use Rattle.nsc_model.specs.Machine.{last_count}
 use Rattle.nsc_writer.specs.declared.uses.Uses.{Uses}
 

@@ -8,7 +8,6 @@ use Rattle.nsc_model.specs.declared.record.Ending.TheVariants as ending
 use Rattle.nsc_model.specs.declared.record.Record.{Record}
 use Rattle.nsc_model.specs.declared.record.Record.TheVariants.{End, Invalid, Load}
 use Rattle.nsc_model.specs.declared.store.Spent.{Spent as SpentCount}
-use Rattle.nsc_model.specs.declared.store.Stats.{Stats}
 use Rattle.nsc_model.specs.Content.{Content}
 use Rattle.nsc_model.specs.Entry.{kept_limit}
 use Rattle.nsc_model.specs.History.{version_in, PolledSince}

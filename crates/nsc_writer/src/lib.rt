@@ -2,11 +2,13 @@
 #![tactic(auto)]
 
 mod changes;
+mod due;
 mod loaded;
 mod shelf;
 mod uses;
 mod writer;
 
+pub use due::Due;
 pub use loaded::{Inserted, Loaded, Stamp};
 pub use uses::{EntryAt, Hit, Uses};
 pub use writer::{Cause, Writer};

@@ -1,6 +1,6 @@
-use Rattle.std.proofs.Common.{◌≡◌, ◌∙◌, List, ap, sym, subst, rules}
+use Rattle.std.proofs.Common.{List, ap, sym, subst}
 use Rattle.nsc_model.specs.declared.record.Record.{Record}
-use Rattle.nsc_model.specs.History.{IsPrefix, invalidations}
+use Rattle.nsc_model.specs.History.{IsPrefix}
 use Rattle.nsc_rule.specs.Pass.{Pass}
 use Rattle.nsc_writer.specs.Writer.{Writer}
 use Rattle.nsc_writer.proofs.Later.{prefix_through}

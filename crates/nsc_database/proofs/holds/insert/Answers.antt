@@ -1,5 +1,4 @@
-use Rattle.std.proofs.Common.{◌≡◌, ◌∙◌, List, ap, sym, subst, rules}
-use Rattle.nsc_model.specs.declared.record.Record.{Record}
+use Rattle.std.proofs.Common.{◌∙◌, ap, sym, subst}
 use Rattle.nsc_model.specs.History.{IsPrefix}
 use Rattle.nsc_rule.specs.Pass.{Pass}
 use Rattle.nsc_writer.specs.Writer.{Writer}

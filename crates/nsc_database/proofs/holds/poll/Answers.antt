@@ -1,4 +1,4 @@
-use Rattle.std.proofs.Common.{◌≡◌, ◌≤◌, ◌∙◌, List, Ok, Err, ap, sym, subst, rules, arith}
+use Rattle.std.proofs.Common.{◌∙◌, List, Ok, ap, sym, subst, arith}
 use Rattle.nsc_model.specs.declared.record.Record.{Record}
 use Rattle.nsc_model.specs.Content.{Content}
 use Rattle.nsc_model.specs.Machine.{polled}

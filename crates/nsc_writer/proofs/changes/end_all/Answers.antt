@@ -1,4 +1,4 @@
-use Rattle.std.proofs.Common.{inl, ◌≡◌, ◌+◌, List, ◌∷◌, ◌∙◌, drop, ap, refl, rules, subst, sym, arith}
+use Rattle.std.proofs.Common.{inl, ◌+◌, List, ◌∷◌, ◌∙◌, drop, ap, refl, rules, subst, sym, arith}
 use Rattle.nsc_model.specs.declared.record.Ending.TheVariants.{Invalidated}
 use Rattle.nsc_model.specs.declared.record.Record.{Record}
 use Rattle.nsc_model.specs.declared.record.Record.TheVariants.{End}

@@ -1,10 +1,10 @@
-use Rattle.std.proofs.Common.{◌≡◌, ◌∙◌, ap, sym, subst}
+use Rattle.std.proofs.Common.{◌∙◌, ap, sym, subst}
 use Rattle.nsc_model.specs.declared.answer.Request.{Request}
 use Rattle.nsc_writer.specs.Loaded.{Loaded}
 use Rattle.nsc_writer.specs.Writer.{IsAnswered}
 use Rattle.nsc_writer.proofs.Later.{prefix_through}
 use Rattle.nsc_database.specs.Lookups.{IsKept}
-use Rattle.nsc_database.proofs.Lookups.{Anew, anew_answers, anew_given, kept_reply, loaded_of, poll_answered}
+use Rattle.nsc_database.proofs.Lookups.{Anew, anew_answers, anew_given, kept_reply, poll_answered}
 use Rattle.nsc_database.proofs.base.Base.lookup_anew.Goals as goal
 
 pub keep-requires-clause-answered : goal.keep-requires-clause-answered

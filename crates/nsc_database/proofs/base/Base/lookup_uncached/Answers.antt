@@ -1,6 +1,5 @@
-use Rattle.std.proofs.Common.{◌≡◌, [], ◌∙◌, refl, ap, sym, subst, rules}
+use Rattle.std.proofs.Common.{◌≡◌, [], refl, rules}
 use Rattle.nsc_model.specs.declared.answer.Request.{Request}
-use Rattle.nsc_model.specs.Answer.{Answer}
 use Rattle.nsc_model.specs.Answers.{answer_of}
 use Rattle.nsc_database.proofs.Lookups.{poll_answered}
 use Rattle.nsc_database.proofs.base.Base.lookup_uncached.Goals as goal

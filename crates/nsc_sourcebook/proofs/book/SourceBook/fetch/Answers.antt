@@ -1,7 +1,6 @@
-use Rattle.std.proofs.Common.{◌≡◌, ◌∙◌, ap, sym, subst, rules}
+use Rattle.std.proofs.Common.{◌≡◌, subst, rules}
 use Rattle.nsc_model.specs.Content.{Content}
 use Rattle.nsc_model.specs.Files.{part_of}
-use Rattle.nsc_sourcebook.specs.Book.{Fetched}
 use Rattle.nsc_sourcebook.specs.Reads.{AreAsTold, IsPartOf}
 use Rattle.nsc_sourcebook.proofs.book.SourceBook.fetch.Goals as goal
 

@@ -1,4 +1,4 @@
-use Rattle.std.proofs.Common.{◌≡◌, ◌∙◌, Some, ap, sym, subst}
+use Rattle.std.proofs.Common.{◌∙◌, Some, ap, sym}
 use Rattle.nsc_model.specs.History.{version_in}
 use Rattle.nsc_rule.specs.Pass.{Pass}
 use Rattle.nsc_writer.specs.Writer.{Writer}

@@ -1,4 +1,4 @@
-use Rattle.std.proofs.Common.{◌≡◌, ◌∙◌, Some, ap, sym, subst, rules}
+use Rattle.std.proofs.Common.{◌∙◌, Some, ap, sym, rules}
 use Rattle.nsc_model.specs.History.{version_in}
 use Rattle.nsc_model.specs.Content.{Content}
 use Rattle.nsc_rule.specs.Pass.{Pass}

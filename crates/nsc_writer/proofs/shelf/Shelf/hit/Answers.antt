@@ -1,4 +1,4 @@
-use Rattle.std.proofs.Common.{◌≡◌, ◌++◌, List, get_or, set, find, None, Some, sym, ◌∙◌, ap, subst, rules}
+use Rattle.std.proofs.Common.{◌≡◌, ◌++◌, List, get_or, find, None, Some, sym, ◌∙◌, ap, subst}
 use Rattle.std.specs.Prelude.{position}
 use Rattle.std.specs.Vec.{vec_capacity}
 use Rattle.nsc_model.specs.declared.answer.Request.{Request}
@@ -7,8 +7,8 @@ use Rattle.nsc_model.specs.Answer.{Answer}
 use Rattle.nsc_model.specs.Entry.{Entry}
 use Rattle.nsc_model.specs.Machine.{Kept, used_now}
 use Rattle.nsc_plain.proofs.Apart.{asks, restarted}
-use Rattle.nsc_writer.specs.Shelf.{Shelf, Gives}
-use Rattle.nsc_writer.proofs.Shelves.{IsUsed, is_used, missed, gives_none, gives_some}
+use Rattle.nsc_writer.specs.Shelf.{Shelf}
+use Rattle.nsc_writer.proofs.Shelves.{is_used, missed, gives_none, gives_some}
 use Rattle.nsc_writer.proofs.shelf.Shelf.hit.Goals as goal
 
 pub returns-in_default-clause-gives : goal.returns-in_default-clause-gives

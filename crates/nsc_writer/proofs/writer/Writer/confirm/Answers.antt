@@ -1,4 +1,4 @@
-use Rattle.std.proofs.Common.{◌≡◌, ◌≤◌, refl, arith, rules, subst, sym}
+use Rattle.std.proofs.Common.{◌≤◌, refl, arith, rules, subst, sym}
 use Rattle.nsc_model.specs.declared.record.Record.TheVariants.{Poll}
 use Rattle.nsc_writer.specs.Writer.{Writer}
 use Rattle.nsc_writer.proofs.Told.{polled_now}

@@ -1,10 +1,8 @@
-use Rattle.std.proofs.Common.{◌≡◌, ◌+◌, List, ◌∷◌, ◌∙◌, ap, rules, subst, sym, arith}
+use Rattle.std.proofs.Common.{◌+◌, List, ◌∷◌, ◌∙◌, ap, rules, subst, sym}
 use Rattle.std.specs.Arc.{arc_value}
-use Rattle.nsc_model.specs.declared.record.Record.{Record}
 use Rattle.nsc_model.specs.declared.record.Record.TheVariants.{Invalid}
 use Rattle.nsc_model.specs.History.{NoneLive}
 use Rattle.nsc_model.specs.Machine.{Kept, by_invalidation, ends_of}
-use Rattle.nsc_laws.specs.Calls.{Tells, entries_of}
 use Rattle.nsc_rule.specs.Pen.{Pen}
 use Rattle.nsc_writer.specs.Writer.{cache_of}
 use Rattle.nsc_writer.proofs.Told.{emptied_tells, told_as}

@@ -1,4 +1,4 @@
-use Rattle.std.proofs.Common.{◌≡◌, rules, subst, sym}
+use Rattle.std.proofs.Common.{rules, subst, sym}
 use Rattle.nsc_model.specs.declared.answer.Request.{Request}
 use Rattle.nsc_laws.specs.Calls.{Tells}
 use Rattle.nsc_writer.specs.Shelf.{Shelf}
