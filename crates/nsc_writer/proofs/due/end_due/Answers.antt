@@ -21,15 +21,15 @@ loop-kept-preserved c =
     let ends = subst (λ (ks : List Kept). DueTo c.args.limit c.args.now ks c.loop-kept.pen.seen all) split c.loop-kept.invariant.1 in
     elim c.if-is_due.branch [
       | then-is_due w ↦
-        let next = due_next c.args.limit c.args.now here rest c.loop-kept.pen.seen all (sym c.is_due.ensures ∙ w.if-is_due.true) ends in
-        let number = w.number.ensures ∙ ap (λ (e : Entry). e.number) w.entry.ensures in
-        let cause = w.due_cause.ensures in
-        let seen = ap (λ (p : Pen). p.seen) w.pen-is ∙ ap (λ (p : Pen). p.seen) w.end.ensures ∙ (λ i. End (number i) (cause i) ∷ c.loop-kept.pen.seen) in
-        (search rules, subst (λ (h : List Record). DueTo c.args.limit c.args.now rest h all) (sym seen) next)
+          let next = due_next c.args.limit c.args.now here rest c.loop-kept.pen.seen all (sym c.is_due.ensures ∙ w.if-is_due.true) ends in
+          let number = w.number.ensures ∙ ap (λ (e : Entry). e.number) w.entry.ensures in
+          let cause = w.due_cause.ensures in
+          let seen = ap (λ (p : Pen). p.seen) w.pen-is ∙ ap (λ (p : Pen). p.seen) w.end.ensures ∙ (λ i. End (number i) (cause i) ∷ c.loop-kept.pen.seen) in
+          (search rules, subst (λ (h : List Record). DueTo c.args.limit c.args.now rest h all) (sym seen) next)
       | else-is_due w ↦
-        let next = due_skip c.args.limit c.args.now here rest c.loop-kept.pen.seen all (sym c.is_due.ensures ∙ w.if-is_due.false) ends in
-        let seen = ap (λ (p : Pen). p.seen) w.pen-is in
-        (search rules, subst (λ (h : List Record). DueTo c.args.limit c.args.now rest h all) (sym seen) next)
+          let next = due_skip c.args.limit c.args.now here rest c.loop-kept.pen.seen all (sym c.is_due.ensures ∙ w.if-is_due.false) ends in
+          let seen = ap (λ (p : Pen). p.seen) w.pen-is in
+          (search rules, subst (λ (h : List Record). DueTo c.args.limit c.args.now rest h all) (sym seen) next)
     ]
 
 pub returns : goal.returns
