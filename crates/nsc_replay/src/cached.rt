@@ -1,10 +1,11 @@
-ghost use Rattle.std.specs.Prelude.{◌≡◌, ◌≤◌, ◌<◌, ◌^◌, length, unwrap_or, option_map, IfOk, IfErr, OnOk, OnErr};
+ghost use Rattle.std.specs.Prelude.{◌≡◌, ◌≤◌, ◌<◌, ◌^◌, length, unwrap_or, option_map, IfOk, IfErr, OnOk};
 ghost use Rattle.std.specs.Arc.{arc_value};
 ghost use Rattle.nsc_model.specs.Files.{no_files};
 ghost use Rattle.nsc_model.specs.Entry.{key_limit};
 ghost use Rattle.nsc_model.specs.Answer.{reply_limit};
-ghost use Rattle.nsc_model.specs.Machine.{new_cache, lookup, tick, ticked_by, invalidated};
+ghost use Rattle.nsc_model.specs.Machine.{new_cache, lookup, tick, polled, ticked_after, ticked_by, invalidated};
 ghost use Rattle.nsc_model.specs.Events.{PassesTo, TurnsTo};
+ghost use Rattle.nsc_plain.specs.PlainCache.{ticked_at};
 ghost use Rattle.nsc_model.specs.Faults.{FaultsBy, StopsBy};
 
 use nsc_base::{Bytes, NoMemory};
@@ -85,7 +86,7 @@ impl<A: Answerer> Cached<A> {
         ensures settings { self.new.cache.settings ≡ self.old.cache.settings }
         ensures limit { self.new.cache.reloads ≡ self.old.cache.reloads }
         ensures ticked { OnOk result (self.new.cache.ticked ≡ ticked_by self.old.cache.settings self.old.cache.ticked self.new.cache.cache) }
-        ensures ticked_stays { OnErr result (self.new.cache.ticked ≡ self.old.cache.ticked) }
+        ensures kept { IfErr result (λ fault. self.new.cache.ticked ≡ ticked_at fault self.old.cache.ticked (ticked_after self.old.cache.settings self.old.cache.ticked (polled self.old.files self.old.cache.cache))) }
         ensures turn { OnOk result (PassesTo (tick self.old.cache.settings self.old.cache.reloads now self.old.files self.old.cache.ticked self.old.cache.cache) self.new.cache.cache) }
         ensures fault { IfErr result (FaultsBy (tick self.old.cache.settings self.old.cache.reloads now self.old.files self.old.cache.ticked self.old.cache.cache) self.old.files self.old.cache.cache self.new.cache.cache) }
     {
