@@ -70,7 +70,7 @@ fn disabled_databases(rt: HostRuntime) -> Result<(), Fail> {
 }
 
 // The requests and faults that have no reply of their own, so that a replay shows one empty reply for each.
-const UNANSWERED: [(&[u8], Wire); 10] = [
+const UNANSWERED: [(&[u8], Wire); 9] = [
     (b"\x02\0\0\0\0\0\0\0\0\0\0", Wire::Short { have: 11 }),
     (
         b"\x02\0\0\0\0\0\0\0\x05\0\0\0root",
@@ -85,14 +85,15 @@ const UNANSWERED: [(&[u8], Wire); 10] = [
     ),
     (b"\x02\0\0\0\x08\0\0\0\0\0\0\0", Wire::Shutdown),
     (b"\x02\0\0\0\x09\0\0\0\0\0\0\0", Wire::Stat),
-    (
-        b"\x02\0\0\0\x0a\0\0\0\x07\0\0\0passwd\0",
-        Wire::Invalidate {
-            key: Span::new(12, 18),
-        },
-    ),
     (b"\x02\0\0\0\x0b\0\0\0\0\0\0\0", Wire::Descriptor),
 ];
+
+#[test]
+fn invalidation(rt: HostRuntime) {
+    let wire = read_request(b"\x02\0\0\0\x0a\0\0\0\x07\0\0\0passwd\0");
+    let key = Span::new(12, 18);
+    assert_eq!(rt; wire, Wire::Invalidate { key });
+}
 
 #[test]
 fn unanswered_requests(rt: HostRuntime) {
