@@ -1,11 +1,11 @@
-use Rattle.std.proofs.Common.{inl, ◌+◌, List, ◌∷◌, ◌∙◌, drop, ap, refl, rules, subst, sym, arith}
+use Rattle.std.proofs.Common.{◌+◌, List, ◌∷◌, ◌∙◌, drop, ap, refl, rules, subst, sym, arith}
 use Rattle.nsc_model.specs.declared.record.Record.{Record}
 use Rattle.nsc_model.specs.declared.record.Record.TheVariants.{End}
 use Rattle.nsc_model.specs.Entry.{Entry}
 use Rattle.nsc_model.specs.Machine.{Kept, due_cause, due_of, ends_of}
 use Rattle.nsc_rule.specs.Pen.{Pen}
 use Rattle.nsc_writer.proofs.Told.{first_of}
-use Rattle.nsc_writer.proofs.Pruned.{DueTo, begins_due, due_next, due_skip, due_whole, due_allows}
+use Rattle.nsc_writer.proofs.Pruned.{DueTo, begins_due, due_next, due_skip, due_whole}
 use Rattle.nsc_writer.proofs.due.end_due.Goals as goal
 use Rattle.nsc_writer.proofs.due.end_due.Goals.{then-is_due, else-is_due}
 

@@ -1,8 +1,7 @@
-use Rattle.std.proofs.Common.{◌∙◌, List, ap, rules, subst}
+use Rattle.std.proofs.Common.{◌∙◌, List, ap, rules}
 use Rattle.std.specs.Arc.{arc_value}
 use Rattle.nsc_model.specs.Machine.{Kept, due_cause, due_of, ends_of}
 use Rattle.nsc_laws.proofs.MachineLawEnds.{pruned_tells}
-use Rattle.nsc_rule.specs.Pen.{Pen}
 use Rattle.nsc_writer.specs.Writer.{cache_of}
 use Rattle.nsc_writer.proofs.Told.{told_as}
 use Rattle.nsc_writer.proofs.writer.Writer.prune.Goals as goal
