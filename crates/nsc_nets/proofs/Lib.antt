@@ -10,3 +10,4 @@ pub mod Given
 pub mod Firsts
 pub mod Remaining
 pub mod Families
+pub mod Colons

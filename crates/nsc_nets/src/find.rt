@@ -1,4 +1,4 @@
-ghost use Rattle.std.specs.Prelude.{◌≡◌, ◌+◌, ◌<◌, ◌≤◌, ◌||◌, ◌∷◌, ◌++◌, [], decimal, drop, length, not, IfSome};
+ghost use Rattle.std.specs.Prelude.{◌≡◌, ◌≢◌, ◌+◌, ◌<◌, ◌≤◌, ◌||◌, ◌∷◌, ◌++◌, [], decimal, drop, length, not, IfSome};
 ghost use Rattle.std.specs.Option.{option_map};
 ghost use Rattle.std.specs.Str.{bytes_eq};
 ghost use Rattle.nsc_base.specs.Addresses.{v4_text};
@@ -15,7 +15,7 @@ use crate::hosts::{HostAt, formed_host, spells};
 use crate::services::{ServiceAt, formed_service, service_line};
 use crate::words::{before_line_remark, has_name, line_words, words_after};
 use itoa::write_digits;
-use nsc_base::{Case, Span, equal, first_line, first_line_with, word_at};
+use nsc_base::{Case, Span, equal, first_line_with, word_at};
 
 /// The first line of a hosts file, hosts(5), that has the form of an entry, this name or alias, and an address of this
 /// family, 2 for IPv4 and 10 for IPv6, as places in the file. The case of ASCII letters in names does not count. `None`
@@ -46,15 +46,26 @@ pub fn find_host_by_addr(text: &[u8], address: &[u8]) -> Option<HostAt>
 fn first_addressed(text: &[u8], address: &[u8]) -> Option<HostAt>
     ensures { FirstOf (GivesHost (host_addressed address.now) text.now) (line_spans text.now 0) result }
 {
-    let [a, b, c, d] = address else {
-        return first_line(text, |line| addressed_host(text, line, address));
+    let Ok(octets) = <[u8; 4]>::try_from(address) else {
+        return first_with_colon(text, address);
     };
+    let [a, b, c, d] = octets;
     let mut bytes = [0; 16];
-    let last = dotted_before(*d, &mut bytes, 16);
-    let third = dotted_before(*c, &mut bytes, last);
-    let second = dotted_before(*b, &mut bytes, third);
-    let first = dotted_before(*a, &mut bytes, second);
+    let last = dotted_before(d, &mut bytes, 16);
+    let third = dotted_before(c, &mut bytes, last);
+    let second = dotted_before(b, &mut bytes, third);
+    let first = dotted_before(a, &mut bytes, second);
     first_host_with(text, &bytes[first + 1..], address)
+}
+
+// The same for an address of another length than four bytes. Any text of one has a colon, and lines without are not read.
+fn first_with_colon(text: &[u8], address: &[u8]) -> Option<HostAt>
+    requires { length address.now ≢ 4 }
+    ensures { FirstOf (GivesHost (host_addressed address.now) text.now) (line_spans text.now 0) result }
+{
+    first_line_with(text, b":", Case::Counts, |line| {
+        addressed_host(text, line, address)
+    })
 }
 
 // The same where the only text of an IPv4 address is written down.
