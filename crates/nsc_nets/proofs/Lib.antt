@@ -11,3 +11,5 @@ pub mod Firsts
 pub mod Remaining
 pub mod Families
 pub mod Colons
+pub mod Finds
+pub mod Endings
