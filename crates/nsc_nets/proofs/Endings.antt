@@ -1,11 +1,11 @@
 -- How the text of an IPv6 address ends, and what a line must have for it.
-use Rattle.std.proofs.Common.{◌≡◌, ℕ, zero, suc, ◌+◌, ◌-◌, ◌*◌, ◌/◌, ◌%◌, ◌<◌, ◌≤◌, true, false, List, [], ◌∷◌, ◌++◌, length, map, take, drop, get_or, replicate, codes, Option, Some, None, IfSome, inl, inr, refl, sym, ◌∙◌, ap, subst, arith, append_assoc, length-append}
+use Rattle.std.proofs.Common.{◌≡◌, ℕ, zero, suc, ◌+◌, ◌-◌, ◌*◌, ◌/◌, ◌%◌, ◌<◌, ◌≤◌, true, false, List, [], ◌∷◌, ◌++◌, length, map, take, drop, get_or, replicate, codes, Option, Some, None, IfSome, ◌⊎◌, inl, inr, refl, sym, ◌∙◌, ap, subst, arith, append_assoc, length-append}
 use Rattle.std.specs.Char.{digit_value, to_ascii_lowercase}
-use Rattle.std.specs.Fmt.{digit_glyph}
+use Rattle.std.specs.Fmt.{digit_glyph, digits}
 use Rattle.std.specs.Str.{bytes_eq}
 use Rattle.std.specs.Net.Addr.{octets_of, segments_of}
 use Rattle.std.specs.Net.Grammar.{IsColonHex, IsDotted, IsGroup, IsGroups, IsGroupsAfter}
-use Rattle.std.proofs.lemmas.Bool.{false_from_ne_true}
+use Rattle.std.proofs.lemmas.Bool.{cases_lt, false_from_ne_true}
 use Rattle.std.proofs.lemmas.Bool.Decides.{nat_tests}
 use Rattle.std.proofs.lemmas.List.{append-nil, drop_at, get_or-append_right, take_all}
 use Rattle.std.proofs.lemmas.Slice.Eq.{bytes_eq-Decides}
@@ -16,9 +16,9 @@ use Rattle.nsc_base.specs.Found.{Lacks, same_by}
 use Rattle.nsc_base.specs.Text.{before_remark, words_of}
 use Rattle.nsc_base.proofs.AddressLengths.{v4-length}
 use Rattle.nsc_addr.proofs.ColonHex.{colon_hex_of_v6}
+use Rattle.nsc_addr.proofs.Numerals.{below_0x1000, below_0x10000, four_digits}
 use Rattle.nsc_model.specs.Entries.{if_named}
 use Rattle.nsc_model.specs.Hosts.{host_addressed, host_of_line}
-use Rattle.nsc_nets.specs.Hosts.{last_digits}
 use Rattle.nsc_nets.proofs.Called.{unaddressed, wordless}
 use Rattle.nsc_nets.proofs.DottedTexts.{dotted_is}
 use Rattle.nsc_nets.proofs.Lacking.{AllLack, words_lack}
@@ -85,28 +85,18 @@ v6_ending text octets is =
     let found = colon_hex_of_v6 text octets is in
     subst (Ending text) found.2 (ending text found.0 found.1)
 
--- ---- the last three digits of a group that has as many
+-- ---- the digits of a group that has three or more
 
 glyph_of : (c : ℕ) → digit_value c < 16 → to_ascii_lowercase c ≡ digit_glyph false (digit_value c)
 glyph_of c small = grind (arith, nat_tests)
 
-lower_glyph : (d : ℕ) → d < 16 → to_ascii_lowercase (digit_glyph false d) ≡ digit_glyph false d
-lower_glyph d small = grind (arith, nat_tests)
+-- the digit of a byte that is of this value
+glyph_is : (c d : ℕ) → digit_value c < 16 → d ≡ digit_value c → to_ascii_lowercase c ≡ digit_glyph false d
+glyph_is c d small is = glyph_of c small ∙ ap (digit_glyph false) (sym is)
 
-three_values : (high x y z n : ℕ) → x < 16 → y < 16 → z < 16 → ((high * 16 + x) * 16 + y) * 16 + z ≡ n → (n / 256 % 16 ≡ x) × ((n % 256 / 16 ≡ y) × (n % 256 % 16 ≡ z))
-three_values high x y z n a b c is = (omega arith, (omega arith, omega arith))
-
-three_digits : (high x y z n : ℕ) → digit_value x < 16 → digit_value y < 16 → digit_value z < 16 → ((high * 16 + digit_value x) * 16 + digit_value y) * 16 + digit_value z ≡ n → map to_ascii_lowercase (x ∷ y ∷ z ∷ []) ≡ last_digits (n / 256) (n % 256)
-three_digits high x y z n a b c is =
-    let values = three_values high (digit_value x) (digit_value y) (digit_value z) n a b c is in
-    let first : to_ascii_lowercase x ≡ digit_glyph false (n / 256 % 16) = glyph_of x a ∙ ap (digit_glyph false) (sym values.0) in
-    let second : to_ascii_lowercase y ≡ digit_glyph false (n % 256 / 16) = glyph_of y b ∙ ap (digit_glyph false) (sym values.1.0) in
-    let third : to_ascii_lowercase z ≡ digit_glyph false (n % 256 % 16) = glyph_of z c ∙ ap (digit_glyph false) (sym values.1.1) in
-    (λ i. first i ∷ second i ∷ third i ∷ [])
-
--- where the group has a front and three digits
+-- where the group has a front and then its digits
 abbrev EndsWith : List ℕ → ℕ → Type 0
-EndsWith group n = (front last : List ℕ) × (group ≡ front ++ last) × (map to_ascii_lowercase last ≡ last_digits (n / 256) (n % 256))
+EndsWith group n = (front last : List ℕ) × (group ≡ front ++ last) × (map to_ascii_lowercase last ≡ digits 16 false n)
 
 one_small : (x n : ℕ) → x < 16 → 0 * 16 + x ≡ n → 256 ≤ n → ⊥
 one_small x n a is large = omega arith
@@ -114,12 +104,41 @@ one_small x n a is large = omega arith
 two_small : (x y n : ℕ) → x < 16 → y < 16 → (0 * 16 + x) * 16 + y ≡ n → 256 ≤ n → ⊥
 two_small x y n a b is large = omega arith
 
+three_small : (x y z n : ℕ) → x < 16 → y < 16 → z < 16 → ((0 * 16 + x) * 16 + y) * 16 + z ≡ n → n < 0x1000
+three_small x y z n a b c is = omega arith
+
+last_values : (high x y z n : ℕ) → x < 16 → y < 16 → z < 16 → ((high * 16 + x) * 16 + y) * 16 + z ≡ n → (n / 0x100 % 16 ≡ x) × ((n / 0x10 % 16 ≡ y) × (n % 16 ≡ z))
+last_values high x y z n a b c is = (omega arith, (omega arith, omega arith))
+
+first_value : (w x y z n : ℕ) → w < 16 → x < 16 → y < 16 → z < 16 → (((0 * 16 + w) * 16 + x) * 16 + y) * 16 + z ≡ n → (n / 0x1000 ≡ w) × (n < 0x10000)
+first_value w x y z n a b c d is = (omega arith, omega arith)
+
+three_last : (high x y z n : ℕ) → digit_value x < 16 → digit_value y < 16 → digit_value z < 16 → ((high * 16 + digit_value x) * 16 + digit_value y) * 16 + digit_value z ≡ n → map to_ascii_lowercase (x ∷ y ∷ z ∷ []) ≡ drop 1 (four_digits n)
+three_last high x y z n a b c is =
+    let values = last_values high (digit_value x) (digit_value y) (digit_value z) n a b c is in
+    let first = glyph_is x (n / 0x100 % 16) a values.0 in
+    let second = glyph_is y (n / 0x10 % 16) b values.1.0 in
+    let third = glyph_is z (n % 16) c values.1.1 in
+    (λ i. first i ∷ second i ∷ third i ∷ [])
+
 group_ends : (group : List ℕ) (n : ℕ) → IsGroup group n → 256 ≤ n → EndsWith group n
 group_ends [] n is large = absurd (omega (arith, is.0.0.0))
 group_ends (x ∷ []) n is large = absurd (one_small (digit_value x) n is.0.0.1.0 is.0.1 large)
 group_ends (x ∷ y ∷ []) n is large = absurd (two_small (digit_value x) (digit_value y) n is.0.0.1.0 is.0.0.1.1.0 is.0.1 large)
-group_ends (x ∷ y ∷ z ∷ []) n is large = ([], x ∷ y ∷ z ∷ [], refl, three_digits 0 x y z n is.0.0.1.0 is.0.0.1.1.0 is.0.0.1.1.1.0 is.0.1)
-group_ends (w ∷ x ∷ y ∷ z ∷ []) n is large = (w ∷ [], x ∷ y ∷ z ∷ [], refl, three_digits (0 * 16 + digit_value w) x y z n is.0.0.1.1.0 is.0.0.1.1.1.0 is.0.0.1.1.1.1.0 is.0.1)
+group_ends (x ∷ y ∷ z ∷ []) n is large =
+    let few = three_small (digit_value x) (digit_value y) (digit_value z) n is.0.0.1.0 is.0.0.1.1.0 is.0.0.1.1.1.0 is.0.1 in
+    ([], x ∷ y ∷ z ∷ [], refl, three_last 0 x y z n is.0.0.1.0 is.0.0.1.1.0 is.0.0.1.1.1.0 is.0.1 ∙ below_0x1000 n 1 large few refl)
+group_ends (w ∷ x ∷ y ∷ z ∷ []) n is large = by (cases_lt n 0x1000)
+  where
+    last : map to_ascii_lowercase (x ∷ y ∷ z ∷ []) ≡ drop 1 (four_digits n)
+    last = three_last (0 * 16 + digit_value w) x y z n is.0.0.1.1.0 is.0.0.1.1.1.0 is.0.0.1.1.1.1.0 is.0.1
+
+    by : (n < 0x1000) ⊎ (0x1000 ≤ n) → EndsWith (w ∷ x ∷ y ∷ z ∷ []) n
+    by (inl few) = (w ∷ [], x ∷ y ∷ z ∷ [], refl, last ∙ below_0x1000 n 1 large few refl)
+    by (inr many) =
+        let value = first_value (digit_value w) (digit_value x) (digit_value y) (digit_value z) n is.0.0.1.0 is.0.0.1.1.0 is.0.0.1.1.1.0 is.0.0.1.1.1.1.0 is.0.1 in
+        let first = glyph_is w (n / 0x1000) is.0.0.1.0 value.0 in
+        ([], w ∷ x ∷ y ∷ z ∷ [], refl, (λ i. first i ∷ last i) ∙ below_0x10000 n 0 many value.1 refl)
 group_ends (v ∷ w ∷ x ∷ y ∷ z ∷ rest) n is large = absurd (omega (arith, is.1))
 
 -- ---- what a word must have
@@ -135,12 +154,12 @@ at_end case needle word front last is same lack =
       same = ap (λ piece. same_by case piece needle) there ∙ same;
     })
 
-lower_digits : (a b : ℕ) → b < 256 → map to_ascii_lowercase (last_digits a b) ≡ last_digits a b
-lower_digits a b small =
-    let first = lower_glyph (a % 16) (omega arith) in
-    let second = lower_glyph (b / 16) (omega arith) in
-    let third = lower_glyph (b % 16) (omega arith) in
-    (λ i. first i ∷ second i ∷ third i ∷ [])
+lower_again : (c : ℕ) → to_ascii_lowercase (to_ascii_lowercase c) ≡ to_ascii_lowercase c
+lower_again c = grind (arith, nat_tests)
+
+all_lower_again : (xs : List ℕ) → map to_ascii_lowercase (map to_ascii_lowercase xs) ≡ map to_ascii_lowercase xs
+all_lower_again [] = refl
+all_lower_again (x ∷ xs) = (λ i. lower_again x i ∷ all_lower_again xs i)
 
 -- the last octets of sixteen
 last_two : (before address : List ℕ) (a b : ℕ) → address ≡ before ++ a ∷ b ∷ [] → length address ≡ 16 → (get_or address 14 0 ≡ a) × (get_or address 15 0 ≡ b)
@@ -155,14 +174,18 @@ last_four before address last v4 is dotted sixteen =
     let rest : drop 12 address ≡ v4 = ap (drop 12) is ∙ drop_at before v4 12 size in
     dotted.spelled ∙ dotted_is dotted.a dotted.b dotted.c dotted.d ∙ ap v4_text (sym dotted.value ∙ sym rest)
 
-lacking : (word address : List ℕ) → length address ≡ 16 → 0 < get_or address 14 0 → Lacks Ignored (last_digits (get_or address 14 0) (get_or address 15 0)) word → Lacks Counts (v4_text (drop 12 address)) word → Ending word address → ⊥
+-- the digits of the last group
+abbrev pub last_digits : List ℕ → List ℕ
+last_digits address = digits 16 false (get_or address 14 0 * 256 + get_or address 15 0)
+
+lacking : (word address : List ℕ) → length address ≡ 16 → 0 < get_or address 14 0 → Lacks Ignored (last_digits address) word → Lacks Counts (v4_text (drop 12 address)) word → Ending word address → ⊥
 lacking word address sixteen some no_digits no_dots (in_hex front group before n spelled value hex) =
     let octets = last_two before address (n / 256) (n % 256) value sixteen in
     let ends = group_ends group n hex (omega (arith, octets.0, some)) in
-    let digits : last_digits (get_or address 14 0) (get_or address 15 0) ≡ last_digits (n / 256) (n % 256) = (λ i. last_digits (octets.0 i) (octets.1 i)) in
-    let lower : map to_ascii_lowercase ends.1 ≡ map to_ascii_lowercase (last_digits (get_or address 14 0) (get_or address 15 0)) =
-    ends.3 ∙ sym (lower_digits (n / 256) (n % 256) (omega arith)) ∙ ap (map to_ascii_lowercase) (sym digits) in
-    at_end Ignored (last_digits (get_or address 14 0) (get_or address 15 0)) word (front ++ ends.0) ends.1 (spelled ∙ ap (λ xs. front ++ xs) ends.2 ∙ sym (append_assoc front ends.0 ends.1)) ((bytes_eq-Decides (map to_ascii_lowercase ends.1) (map to_ascii_lowercase (last_digits (get_or address 14 0) (get_or address 15 0)))).1 lower) no_digits
+    let same : get_or address 14 0 * 256 + get_or address 15 0 ≡ n = omega (arith, octets.0, octets.1) in
+    let found : map to_ascii_lowercase ends.1 ≡ last_digits address = ends.3 ∙ ap (digits 16 false) (sym same) in
+    let lower : map to_ascii_lowercase ends.1 ≡ map to_ascii_lowercase (last_digits address) = sym (all_lower_again ends.1) ∙ ap (map to_ascii_lowercase) found in
+    at_end Ignored (last_digits address) word (front ++ ends.0) ends.1 (spelled ∙ ap (λ xs. front ++ xs) ends.2 ∙ sym (append_assoc front ends.0 ends.1)) ((bytes_eq-Decides (map to_ascii_lowercase ends.1) (map to_ascii_lowercase (last_digits address))).1 lower) no_digits
 lacking word address sixteen some no_digits no_dots (in_dots front last before v4 spelled value dotted) =
     at_end Counts (v4_text (drop 12 address)) word front last spelled ((bytes_eq-Decides last (v4_text (drop 12 address))).1 (last_four before address last v4 value dotted sixteen)) no_dots
 lacking word address sixteen some no_digits no_dots (in_zeros before value) = absurd (omega (arith, (last_two before address 0 0 value sixteen).0, some))
@@ -172,10 +195,10 @@ by_forms address None None sixteen four never = refl
 by_forms address None (Some found) sixteen four never = false_from_ne_true (bytes_eq found address) (λ same. never found refl ((bytes_eq-Decides found address).0 same))
 by_forms address (Some found) v6 sixteen four never = other_bytes found address 4 four (λ same. omega (arith, sixteen))
 
-pub no_host_ending : (address line : List ℕ) → length address ≡ 16 → 0 < get_or address 14 0 → Lacks Ignored (last_digits (get_or address 14 0) (get_or address 15 0)) line → Lacks Counts (v4_text (drop 12 address)) line → if_named (host_addressed address) (host_of_line line) ≡ None
-no_host_ending address line sixteen some no_digits no_dots = by_words (words_of (before_remark line)) refl (words_lack Ignored (last_digits (get_or address 14 0) (get_or address 15 0)) line no_digits) (words_lack Counts (v4_text (drop 12 address)) line no_dots)
+pub no_host_ending : (address line : List ℕ) → length address ≡ 16 → 0 < get_or address 14 0 → Lacks Ignored (last_digits address) line → Lacks Counts (v4_text (drop 12 address)) line → if_named (host_addressed address) (host_of_line line) ≡ None
+no_host_ending address line sixteen some no_digits no_dots = by_words (words_of (before_remark line)) refl (words_lack Ignored (last_digits address) line no_digits) (words_lack Counts (v4_text (drop 12 address)) line no_dots)
   where
-    by_words : (words : List (List ℕ)) → words_of (before_remark line) ≡ words → AllLack Ignored (last_digits (get_or address 14 0) (get_or address 15 0)) words → AllLack Counts (v4_text (drop 12 address)) words → if_named (host_addressed address) (host_of_line line) ≡ None
+    by_words : (words : List (List ℕ)) → words_of (before_remark line) ≡ words → AllLack Ignored (last_digits address) words → AllLack Counts (v4_text (drop 12 address)) words → if_named (host_addressed address) (host_of_line line) ≡ None
     by_words [] is digits dots = wordless (host_addressed address) line is
     by_words (first ∷ others) is digits dots =
         unaddressed address line first others is (by_forms address (v4_of first) (v6_of first) sixteen (v4-length first) (λ found known same. lacking first address sixteen some digits.0 dots.0 (v6_ending first address (known ∙ ap Some same))))

@@ -1,6 +1,5 @@
 -- The address of a host's entry, and where its names stand in its text.
-use Rattle.std.specs.Prelude.{◌≡◌, ℕ, ◌/◌, ◌%◌, ◌==◌, Bool, false, List, [], ◌∷◌, Option, None, IfSome, if◌then◌else◌, drop, replicate, take}
-use Rattle.std.specs.Fmt.{digit_glyph}
+use Rattle.std.specs.Prelude.{◌≡◌, ℕ, ◌==◌, Bool, List, ◌∷◌, Option, None, IfSome, if◌then◌else◌, drop, replicate, take}
 use Rattle.std.specs.Option.{option_map}
 use Rattle.nsc_base.specs.declared.span.Span.{Span}
 use Rattle.nsc_base.specs.Text.{LiesIn, part, word_spans, words_of}
@@ -59,7 +58,3 @@ host_of_two words = option_map (host_with words) (addressed_of words.first)
 -- the same for a line that no zero byte spoils
 abbrev pub host_of_formed : List ℕ → TwoWords → Option Host
 host_of_formed line words = if has_zero line then None else host_of_two words
-
--- the last three hexadecimal digits of a group of two bytes, in lower case
-abbrev pub last_digits : ℕ → ℕ → List ℕ
-last_digits high low = digit_glyph false (high % 16) ∷ digit_glyph false (low / 16) ∷ digit_glyph false (low % 16) ∷ []

@@ -1,5 +1,5 @@
-ghost use Rattle.std.specs.Prelude.{◌≡◌, ◌≢◌, ◌↔◌, ◌+◌, ◌<◌, ◌≤◌, ◌||◌, ◌∷◌, ◌++◌, [], decimal, drop, false, length, not, slice_index, slice_range, IfSome, IsTrue};
-ghost use Rattle.std.specs.Fmt.{digit_glyph};
+ghost use Rattle.std.specs.Prelude.{◌≡◌, ◌≢◌, ◌↔◌, ◌+◌, ◌*◌, ◌<◌, ◌≤◌, ◌||◌, ◌∷◌, ◌++◌, [], decimal, drop, false, length, not, slice_index, slice_range, IfSome, IsTrue};
+ghost use Rattle.std.specs.Fmt.{digit_glyph, digits};
 ghost use Rattle.std.specs.Option.{option_map};
 ghost use Rattle.std.specs.Str.{bytes_eq};
 ghost use Rattle.nsc_base.specs.Addresses.{v4_text};
@@ -10,7 +10,7 @@ ghost use Rattle.nsc_base.specs.Text.{is_filled, line_spans, part};
 ghost use Rattle.nsc_model.specs.Entries.{first_named, if_named};
 ghost use Rattle.nsc_model.specs.Hosts.{host_addressed, host_has_name, host_named, host_of_line};
 ghost use Rattle.nsc_model.specs.ServiceLines.{service_named, service_of_line, service_ported};
-ghost use Rattle.nsc_nets.specs.Hosts.{GivesHost, HostLiesIn, HostStands, IsPadded, host_at, last_digits};
+ghost use Rattle.nsc_nets.specs.Hosts.{GivesHost, HostLiesIn, HostStands, IsPadded, host_at};
 ghost use Rattle.nsc_nets.specs.Services.{GivesService, ServiceLiesIn, ServiceStands, service_at};
 
 use crate::hosts::{HostAt, formed_host, spells};
@@ -101,21 +101,27 @@ fn first_ending(text: &[u8], address: &[u8], high: u8, low: u8) -> Option<HostAt
     requires dotless { Lacks Case.Counts (v4_text (drop 12 address.now)) text.now }
     ensures { FirstOf (GivesHost (host_addressed address.now) text.now) (line_spans text.now 0) result }
 {
-    let digits = last_digits(high, low);
-    first_line_with(text, &digits, Case::Ignored, |line| {
+    let (digits, start) = group_digits(high, low);
+    first_line_with(text, &digits[start..], Case::Ignored, |line| {
         addressed_host(text, line, address)
     })
 }
 
-// The last three hexadecimal digits of a group of two bytes, in lower case.
-fn last_digits(high: u8, low: u8) -> [u8; 3]
-    ensures { result ≡ last_digits high low }
+// The hexadecimal digits of a group of two bytes, in lower case and with no zero before others. They are at the end of these
+// bytes, from a place on.
+fn group_digits(high: u8, low: u8) -> ([u8; 4], usize)
+    requires { 0 < high }
+    ensures text { slice_range result.0 result.1 4 ≡ digits 16 false (high * 256 + low) }
+    ensures within { result.1 ≤ 4 }
 {
-    [
+    let digits = [
+        hex_digit(high / 16),
         hex_digit(high % 16),
         hex_digit(low / 16),
         hex_digit(low % 16),
-    ]
+    ];
+    let start = if high < 16 { 1 } else { 0 };
+    (digits, start)
 }
 
 // The hexadecimal digit of a number below 16, in lower case.
