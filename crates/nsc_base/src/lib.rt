@@ -1,6 +1,7 @@
 //! Bytes, spans, numbers and buffers: what every crate above reads and writes with.
 #![tactic(auto)]
 
+mod any_case;
 mod buf;
 mod bytes;
 mod cuts;

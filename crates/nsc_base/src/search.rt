@@ -1,14 +1,14 @@
-ghost use Rattle.std.specs.Prelude.{◌≡◌, ◌≤◌, ◌&&◌, [], length, nat_le, take, MatchOption};
-ghost use Rattle.std.specs.Str.{str_eq_ignore_ascii_case};
+ghost use Rattle.std.specs.Prelude.{◌≡◌, ◌≤◌, [], length, MatchOption};
 ghost use Rattle.nsc_base.specs.Found.{FirstOf, IsLineStart, IsLineWith, NoneBefore, OrLacks, PassesOver, same_by};
 ghost use Rattle.nsc_base.specs.Text.{line_spans};
 ghost use Rattle.nsc_base.specs.declared.span.Span.{Span};
 ghost use Rattle.nsc_base.specs.declared.search.Case.{Case};
 
+use crate::any_case::first_in_any_case;
 use crate::bytes::equal;
 use crate::lines::line_at;
 use crate::span::{Line, Span};
-use memchr::{memchr2, memmem, memrchr};
+use memchr::{memmem, memrchr};
 
 /// Whether the case of ASCII letters counts where texts are compared.
 #[derive(Clone, Copy, Debug, PartialEq, Eq)]
@@ -84,31 +84,4 @@ fn first_place(bytes: &[u8], needle: &[u8], case: Case) -> Option<usize>
         Case::Counts => memmem::find(bytes, needle),
         Case::Ignored => first_in_any_case(bytes, needle),
     }
-}
-
-// The same where the case of ASCII letters does not count: by the first byte of the needle in either case.
-fn first_in_any_case(bytes: &[u8], needle: &[u8]) -> Option<usize>
-    ensures { NoneBefore Case.Ignored needle.now bytes.now result }
-{
-    if needle.is_empty() {
-        return Some(0);
-    }
-    let lower = needle[0].to_ascii_lowercase();
-    let upper = needle[0].to_ascii_uppercase();
-    let mut from = 0;
-    while let Some(n) = memchr2(lower, upper, &bytes[from..]) {
-        let at = from + n;
-        if begins_in_any_case(&bytes[at..], needle) {
-            return Some(at);
-        }
-        from = at + 1;
-    }
-    None
-}
-
-// Whether bytes begin with the needle, where the case of ASCII letters does not count.
-fn begins_in_any_case(bytes: &[u8], needle: &[u8]) -> bool
-    ensures { result ≡ (nat_le (length needle.now) (length bytes.now) && str_eq_ignore_ascii_case (take (length needle.now) bytes.now) needle.now) }
-{
-    bytes.len() >= needle.len() && bytes[..needle.len()].eq_ignore_ascii_case(needle)
 }
