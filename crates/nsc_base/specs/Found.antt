@@ -60,3 +60,8 @@ pub record IsLineWith (case : Case) (needle text : List ℕ) (from : ℕ) (line 
 pub data OrLacks {E : Type 0} (case : Case) (needle text : List ℕ) (gives : Span → Option E → Type 0) (line : Span) : Option E → Type 0 where
   read : (given : Option E) → gives line given → OrLacks case needle text gives line given
   lacks : Lacks case needle (part text line) → OrLacks case needle text gives line None
+
+-- a search of a text for a needle has come to a place: from another place on the needle begins nowhere before it
+pub record SearchedTo (needle text : List ℕ) (from place : ℕ) : Type 0 where
+  pub inside : place ≤ length text
+  pub none : (at : Span) → StandsAt Counts needle text at → from ≤ at.from → place ≤ at.from
