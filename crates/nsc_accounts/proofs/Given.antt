@@ -9,10 +9,8 @@ use Rattle.nsc_base.specs.Found.{Lacks}
 use Rattle.nsc_base.specs.Text.{lines_of, part}
 use Rattle.nsc_model.specs.declared.kind.Db.TheVariants as db
 use Rattle.nsc_model.specs.declared.kind.Kind.TheVariants as kind
-use Rattle.nsc_model.specs.declared.row.Group.{Group}
 use Rattle.nsc_model.specs.declared.row.Looked.{Looked}
 use Rattle.nsc_model.specs.declared.row.Looked.TheVariants.{Unavail}
-use Rattle.nsc_model.specs.declared.row.Passwd.{Passwd}
 use Rattle.nsc_model.specs.declared.row.Row.TheVariants as row
 use Rattle.nsc_model.specs.declared.switch.SwitchService.{SwitchService}
 use Rattle.nsc_model.specs.declared.switch.SwitchService.TheVariants as service

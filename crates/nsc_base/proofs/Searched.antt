@@ -1,10 +1,12 @@
 -- How far a text was searched for a needle, and the lines that so lack it.
-use Rattle.std.proofs.Common.{◌≡◌, ℕ, ◌+◌, ◌-◌, ◌<◌, ◌≤◌, All, List, [], ◌∷◌, length, slice_range, Option, Some, None, sym, ◌∙◌, ap, arith}
+use Rattle.std.proofs.Common.{◌≡◌, ℕ, ◌+◌, ◌-◌, ◌<◌, ◌≤◌, All, List, [], ◌∷◌, drop, length, slice_range, Some, None, refl, sym, ◌∙◌, ap, arith}
 use Rattle.std.proofs.lemmas.List.Elements.{All-cons, All-nil}
-use Rattle.memchr.specs.Find.{FindsNeedle}
+use Rattle.std.proofs.lemmas.List.{ext_get_or, get_or-drop, get_or-take}
+use Rattle.std.proofs.lemmas.Slice.Eq.{bytes_eq-Decides}
+use Rattle.memchr.specs.Find.{FindsNeedle, OccursAt}
 use Rattle.nsc_base.specs.declared.search.Case.TheVariants.{Counts}
 use Rattle.nsc_base.specs.declared.span.Span.{Span}
-use Rattle.nsc_base.specs.Found.{AllBetween, Lacks, NoneBefore, SearchedTo, StandsAt, same_by}
+use Rattle.nsc_base.specs.Found.{AllBetween, IsNextPlace, Lacks, NoneBefore, SearchedTo, StandsAt, same_by}
 use Rattle.nsc_base.specs.Text.{part}
 use Rattle.nsc_base.proofs.LineStarts.{none_before, range-range}
 use Rattle.nsc_base.proofs.Places.{range-length}
@@ -22,20 +24,44 @@ stands_from needle text from at inside stands late =
       same = ap (λ piece. same_by Counts piece needle) same ∙ stands.same;
     }
 
--- where a needle is found from a place on
-pub found_from : (needle text : List ℕ) (from n : ℕ) → from ≤ length text → FindsNeedle (slice_range text from (length text)) needle 0 (Some n) → SearchedTo needle text from (from + n)
+-- a needle that occurs in the bytes from a place on stands in the text
+occurs_from : (needle text : List ℕ) (from n : ℕ) → from ≤ length text → OccursAt (slice_range text from (length text)) needle n → StandsAt Counts needle text (record { from = from + n; to = from + n + length needle })
+occurs_from needle text from n inside occurs =
+    let rest = slice_range text from (length text) in
+    let ends : n + length needle ≤ length rest = occurs.fits in
+    let whole = range-length text from (length text) (omega arith) in
+    let size : n + length needle - n ≡ length needle = omega arith in
+    let place : from + (n + length needle) ≡ from + n + length needle = omega arith in
+    let long : length (slice_range rest n (n + length needle)) ≡ length needle = range-length rest n (n + length needle) ends ∙ size in
+    let is : slice_range rest n (n + length needle) ≡ needle = ext_get_or 0 (slice_range rest n (n + length needle)) needle long (λ j below. get_or-take (n + length needle - n) (drop n rest) j 0 (omega (arith, below, long, size)) ∙ get_or-drop n rest j 0 ∙ occurs.reads j (omega (arith, below, long))) in
+    record {
+      ordered = omega arith;
+      ends = omega (arith, ends, whole);
+      same = (bytes_eq-Decides _ needle).1 (ap (slice_range text (from + n)) (sym place) ∙ sym (range-range text from (length text) n (n + length needle) (omega arith) (omega (arith, ends, whole))) ∙ is);
+    }
+
+-- what a search from a place on comes to
+pub found_from : (needle text : List ℕ) (from n : ℕ) → from ≤ length text → FindsNeedle (slice_range text from (length text)) needle 0 (Some n) → IsNextPlace needle text from (from + n)
 found_from needle text from n inside found =
     let whole = range-length text from (length text) (omega arith) in
     let before : NoneBefore Counts needle (slice_range text from (length text)) (Some n) = none_before needle (slice_range text from (length text)) (Some n) found in
     record {
-      inside = omega (arith, whole, before.0);
-      none = λ at stands late. omega (arith, late, before.1 _ (stands_from needle text from at inside stands late));
+      onward = omega arith;
+      searched = record {
+        inside = omega (arith, whole, before.0);
+        none = λ at stands late. omega (arith, late, before.1 _ (stands_from needle text from at inside stands late));
+      };
+      begins = λ other. occurs_from needle text from n inside found.1;
     }
 
-pub found_nowhere : (needle text : List ℕ) (from : ℕ) → from ≤ length text → FindsNeedle (slice_range text from (length text)) needle 0 None → SearchedTo needle text from (length text)
+pub found_nowhere : (needle text : List ℕ) (from : ℕ) → from ≤ length text → FindsNeedle (slice_range text from (length text)) needle 0 None → IsNextPlace needle text from (length text)
 found_nowhere needle text from inside nowhere = record {
-  inside = omega arith;
-  none = λ at stands late. absurd (none_before needle (slice_range text from (length text)) None nowhere _ (stands_from needle text from at inside stands late));
+  onward = inside;
+  searched = record {
+    inside = omega arith;
+    none = λ at stands late. absurd (none_before needle (slice_range text from (length text)) None nowhere _ (stands_from needle text from at inside stands late));
+  };
+  begins = λ other. absurd (other refl);
 }
 
 -- it is no less far from a later place on

@@ -1,6 +1,6 @@
-ghost use Rattle.std.specs.Prelude.{◌≡◌, ◌≤◌, ◌&&◌, [], length, nat_le, take, MatchOption};
+ghost use Rattle.std.specs.Prelude.{◌≡◌, ◌<◌, ◌≤◌, ◌&&◌, [], length, nat_le, take, MatchOption};
 ghost use Rattle.std.specs.Str.{str_eq_ignore_ascii_case};
-ghost use Rattle.nsc_base.specs.Found.{FirstOf, IsLineStart, IsLineWith, NoneBefore, OrLacks, PassesOver, SearchedTo, same_by};
+ghost use Rattle.nsc_base.specs.Found.{FirstOf, IsLineStart, IsLineWith, IsNextPlace, NoneBefore, OrLacks, PassesOver, SearchedTo, same_by};
 ghost use Rattle.nsc_base.specs.Text.{line_spans};
 ghost use Rattle.nsc_base.specs.declared.span.Span.{Span};
 ghost use Rattle.nsc_base.specs.declared.search.Case.{Case};
@@ -63,11 +63,13 @@ pub fn line_with(text: &[u8], from: usize, needle: &[u8], case: Case) -> Option<
 }
 
 /// Goes on with the search of a text for a needle that has come to `place`: the next place, from `from` on, at which the needle
-/// begins, or the end of the text where there is none. Where the search is already at `from` or after it, it stays there, so
-/// that no part of the text is searched twice.
+/// begins, or the end of the text where there is none. Where the search has come to `from` or beyond, it stays, so that no
+/// part of the text is searched twice.
 pub fn search_on(text: &[u8], needle: &[u8], place: usize, from: usize) -> usize
     requires inside { from ≤ length text.now }
     requires searched { SearchedTo needle.now text.now from place }
+    ensures stays { from ≤ place → result ≡ place }
+    ensures next { place < from → IsNextPlace needle.now text.now from result }
     ensures onward { from ≤ result }
     ensures searched { SearchedTo needle.now text.now from result }
 {

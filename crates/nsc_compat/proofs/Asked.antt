@@ -1,5 +1,5 @@
 -- What a request by name may pass over.
-use Rattle.std.proofs.Common.{◌≡◌, ℕ, List, ◌∷◌, Bor, IfSome, Option, None, sym, subst}
+use Rattle.std.proofs.Common.{◌≡◌, ℕ, List, ◌∷◌, Bor, IfSome, None, sym, subst}
 use Rattle.std.specs.Str.{bytes_eq}
 use Rattle.std.proofs.lemmas.Slice.Eq.{bytes_eq-Decides}
 use Rattle.nsc_base.specs.declared.search.Case.TheVariants.{Counts}

@@ -1,4 +1,4 @@
-use Rattle.std.proofs.Common.{◌≡◌, List, ℕ, [], sym, ◌∙◌, ap}
+use Rattle.std.proofs.Common.{[], sym, ◌∙◌, ap}
 use Rattle.nsc_compat.specs.Lines.{looked_or}
 use Rattle.nsc_compat.specs.Reading.{lines_left}
 use Rattle.nsc_compat.proofs.Passed.{comes_to, line_comes_to}

@@ -1,4 +1,4 @@
-use Rattle.std.proofs.Common.{◌∙◌, None, refl}
+use Rattle.std.proofs.Common.{◌∙◌, refl}
 use Rattle.nsc_compat.proofs.Passed.{all_passed, next_is}
 use Rattle.nsc_compat.proofs.reading.Lines.next_line.Goals as goal
 
