@@ -1,52 +1,51 @@
 -- The lines that are passed over before the next one that is read.
-use Rattle.std.proofs.Common.{◌≡◌, ℕ, ◌≤◌, All, List, [], ◌∷◌, ◌++◌, length, drop, map, Option, Some, None, refl, sym, ◌∙◌, ap, subst, arith}
+use Rattle.std.proofs.Common.{◌≡◌, ℕ, ◌≤◌, All, List, [], ◌∷◌, ◌++◌, length, drop, map, Option, Some, refl, sym, ◌∙◌, ap, subst, arith}
 use Rattle.std.proofs.lemmas.List.{map-append}
-use Rattle.std.proofs.lemmas.List.Elements.{All-head, All-map, All-nil, All-tail}
+use Rattle.std.proofs.lemmas.List.Elements.{All-head, All-map, All-tail}
 use Rattle.std.proofs.Math.Seq.{drop-length}
 use Rattle.nsc_base.specs.declared.span.Line.{Line}
 use Rattle.nsc_base.specs.declared.span.Span.{Span}
-use Rattle.nsc_base.specs.Found.{AllBetween, IsLineStart}
+use Rattle.nsc_base.specs.Found.{IsLineStart}
 use Rattle.nsc_base.specs.Text.{IsLine, line_spans, lines_of, part}
 use Rattle.nsc_model.specs.declared.row.Looked.{Looked}
 use Rattle.nsc_base.proofs.Searched.{lack_before}
 use Rattle.nsc_base.proofs.Spans.{line_spans-parts}
+use Rattle.nsc_compat.specs.declared.reading.Signs.{Signs}
 use Rattle.nsc_compat.specs.Reading.{IsNextLine, MayPass, PassesTo, Reading, lines_left}
-use Rattle.nsc_compat.specs.Signs.{NoSignBefore}
+use Rattle.nsc_compat.specs.Signs.{AreSearched}
 
--- the lines before a place before which no sign stands
-passable : (name : Option (List ℕ)) (text : List ℕ) (from start at : ℕ) (before : List Span) → start ≤ at → NoSignBefore name text from at → AllBetween from start before → All (λ line. MayPass name (part text line)) before
-passable None text from start at [] early none between = All-nil (λ line. MayPass None (part text line))
-passable None text from start at (line ∷ before) early here between = absurd (omega (arith, here, between.0, between.1, between.2))
-passable (Some name) text from start at before early none between =
-    let plus = lack_before (43 ∷ []) text from start at before early none.0 between in
-    let netgroup = lack_before (45 ∷ 64 ∷ []) text from start at before early none.1 between in
-    let named = lack_before name text from start at before early none.2 between in
-    λ k line inside. (plus k line inside, netgroup k line inside, named k line inside)
+-- the lines before a place at or before the first sign
+pub signs_passed : (text : List ℕ) (from start at : ℕ) (signs : Signs) → AreSearched text from signs → (at ≤ signs.plus) × (at ≤ signs.netgroup) × (at ≤ signs.named) → start ≤ at → IsLineStart text from start
+    → PassesTo (record { text = text; from = from; name = Some signs.name.now }) (lines_of (drop start text))
+signs_passed text from start at signs searched first early is =
+    let name = signs.name.now in
+    let plus = lack_before (43 ∷ []) text from start signs.plus is.before (omega (arith, first.0)) searched.plus is.ends in
+    let netgroup = lack_before (45 ∷ 64 ∷ []) text from start signs.netgroup is.before (omega (arith, first.1)) searched.netgroup is.ends in
+    let named = lack_before name text from start signs.named is.before (omega (arith, first.2)) searched.named is.ends in
+    record {
+      passed = map (part text) is.before;
+      may_pass = All-map (MayPass (Some name)) (part text) is.before (λ k line inside. (plus k line inside, netgroup k line inside, named k line inside));
+      are = sym (line_spans-parts text from) ∙ ap (map (part text)) is.lines ∙ map-append (part text) is.before (line_spans text start)
+          ∙ ap (λ (lines : List (List ℕ)). map (part text) is.before ++ lines) (line_spans-parts text start);
+    }
 
-passes : (reading : Reading) (start at : ℕ) → start ≤ at → NoSignBefore reading.name reading.text reading.from at → IsLineStart reading.text reading.from start → PassesTo reading (lines_of (drop start reading.text))
-passes reading start at early none is = record {
-  passed = map (part reading.text) is.before;
-  may_pass = All-map (MayPass reading.name) (part reading.text) is.before (passable reading.name reading.text reading.from start at is.before early none is.ends);
-  are = sym (line_spans-parts reading.text reading.from) ∙ ap (map (part reading.text)) is.lines ∙ map-append (part reading.text) is.before (line_spans reading.text start)
-      ∙ ap (λ (lines : List (List ℕ)). map (part reading.text) is.before ++ lines) (line_spans-parts reading.text start);
-}
-
-module _ (inside reading : Reading) (start at : ℕ) (same : inside ≡ reading) (early : start ≤ at) (none : NoSignBefore reading.name reading.text reading.from at) (is : IsLineStart inside.text inside.from start) where
+module _ (inside reading : Reading) (start : ℕ) (same : inside ≡ reading) (to : PassesTo reading (lines_of (drop start reading.text))) where
   here : PassesTo reading (lines_of (drop start inside.text))
-  here = subst (λ (r : Reading). NoSignBefore r.name r.text r.from at → PassesTo r (lines_of (drop start inside.text))) same (λ silent. passes inside start at early silent is) none
+  here = subst (λ (r : Reading). PassesTo reading (lines_of (drop start r.text))) (sym same) to
 
   -- no line is left
   pub all_passed : start ≡ length inside.text → PassesTo reading []
   all_passed last = subst (PassesTo reading) (ap (λ n. lines_of (drop n inside.text)) last ∙ ap lines_of (drop-length inside.text)) here
 
-  pub next_is : (line : Line) → inside.from ≤ start → IsLine inside.text start line → IsNextLine reading line.span (record { text = inside.text; from = line.next; name = inside.name })
-  next_is line low cut = subst (λ (r : Reading). PassesTo r (lines_of (drop start inside.text)) → IsNextLine r line.span (record { text = inside.text; from = line.next; name = inside.name })) same
-      (λ to. record {
-        passes = subst (PassesTo inside) cut.cut to;
-        ends = cut.ends;
+  pub next_is : (line : Line) → reading.from ≤ start → IsLine inside.text start line → IsNextLine reading line.span (record { text = inside.text; from = line.next; name = inside.name })
+  next_is line low cut =
+      let text = ap (λ (r : Reading). r.text) same in
+      record {
+        passes = subst (PassesTo reading) (cut.cut ∙ ap (λ bytes. part bytes line.span ∷ lines_of (drop line.next inside.text)) text) here;
+        ends = subst (λ (bytes : List ℕ). line.span.to ≤ length bytes) text cut.ends;
         onward = omega (arith, low, cut.onward);
-        next_ends = cut.next_ends;
-      }) here
+        next_ends = subst (λ (bytes : List ℕ). line.next ≤ length bytes) text cut.next_ends;
+      }
 
 -- ---- what is left comes to the same without the lines that are passed over
 

@@ -1,5 +1,5 @@
 -- How far a text was searched for what stands in each line that says something of a name.
-use Rattle.std.specs.Prelude.{ℕ, ◌≡◌, List, [], ◌∷◌, Option, Some, None}
+use Rattle.std.specs.Prelude.{ℕ, List, [], ◌∷◌}
 use Rattle.nsc_base.specs.Found.{SearchedTo}
 use Rattle.nsc_compat.specs.declared.reading.Signs.{Signs}
 
@@ -8,8 +8,3 @@ pub record AreSearched (text : List ℕ) (from : ℕ) (signs : Signs) : Type 0 w
   pub plus : SearchedTo (43 ∷ []) text from signs.plus
   pub netgroup : SearchedTo (45 ∷ 64 ∷ []) text from signs.netgroup
   pub named : SearchedTo signs.name.now text from signs.named
-
--- no sign stands from one place on before another; where no name is asked for, they are the same place
-abbrev pub NoSignBefore : Option (List ℕ) → List ℕ → ℕ → ℕ → Type 0
-NoSignBefore None text from place = place ≡ from
-NoSignBefore (Some name) text from place = SearchedTo (43 ∷ []) text from place × SearchedTo (45 ∷ 64 ∷ []) text from place × SearchedTo name text from place

@@ -27,9 +27,9 @@ impl<'t, 'n> Model for Lines<'t, 'n> {
 }
 
 impl<'t, 'n> Lines<'t, 'n> {
-    ghost use Rattle.std.specs.Prelude.{◌≡◌, ◌≤◌, [], None, Some, MatchOption, length};
+    ghost use Rattle.std.specs.Prelude.{◌≡◌, ◌≤◌, [], None, Some, MatchOption, drop, length};
+    ghost use Rattle.nsc_base.specs.Text.{lines_of};
     ghost use Rattle.nsc_compat.specs.Reading.{IsNextLine, PassesTo};
-    ghost use Rattle.nsc_compat.specs.Signs.{NoSignBefore};
 
     /// Every line of a text.
     pub fn every(text: &'t [u8]) -> Lines<'t, 'n>
@@ -66,25 +66,25 @@ impl<'t, 'n> Lines<'t, 'n> {
         ensures name { self.new.name ≡ self.old.name }
         ensures line { MatchOption result (PassesTo self.old []) (λ line. IsNextLine self.old line self.new) }
     {
-        let at = self.next_sign();
-        let line = line_at(self.text, line_start(self.text, self.from, at))?;
+        let start = self.next_start();
+        let line = line_at(self.text, start)?;
         self.from = line.next;
         Some(line.span)
     }
 
-    // A place from which on the next line that is read begins, or in which it is: the lines before it are passed over.
-    fn next_sign(&mut self) -> usize
+    // The place where the next line that is read begins.
+    fn next_start(&mut self) -> usize
         ensures same { self.new ≡ self.old }
         ensures onward { self.old.from ≤ result }
         ensures inside { result ≤ length self.old.text }
-        ensures none { NoSignBefore self.old.name self.old.text self.old.from result }
+        ensures passes { PassesTo self.old (lines_of (drop result self.old.text)) }
     {
         let Some(signs) = self.signs else {
             return self.from;
         };
         let signs = signs.searched_on(self.text, self.from);
         self.signs = Some(signs);
-        signs.first()
+        line_start(self.text, self.from, signs.first())
     }
 }
 
