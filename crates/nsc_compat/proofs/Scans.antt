@@ -4,7 +4,6 @@ use Rattle.std.specs.Str.{bytes_eq}
 use Rattle.nsc_model.specs.declared.row.Looked.{Looked}
 use Rattle.nsc_model.specs.Compat.{Says, Own, Excludes, Asks, AsksAll, Netgroup, Nothing, Scan, answers_or, is_excluded, says, scan_line, scanned}
 use Rattle.nsc_model.specs.Content.{Content}
-use Rattle.nsc_model.specs.Entries.{if_named}
 use Rattle.nsc_compat.specs.declared.asking.Asking.{Asking}
 use Rattle.nsc_compat.specs.Accounts.{Accounts, is_wanted, outcome_by, scan_of}
 use Rattle.nsc_compat.specs.Names.{SameNames}
@@ -79,20 +78,12 @@ module _ {A : Type 0} (accounts : Accounts A) (content : Content) (asking : Aski
   entry_or names (Some a) replaced next =
       elim (names a && not (is_excluded excluded (accounts.name_of a))) as (λ v. looked_or (if v then Some (accounts.found (replaced a)) else None) next ≡ (if v then accounts.found (replaced a) else next)) [ true ↦ refl | false ↦ refl ]
 
-  -- an entry that the request names, and one that may answer if the request names it
-  of_named : (names : A → Bool) (o : Option A) → outcome_by accounts (λ a. true) excluded (if_named names o) (λ a. a) ≡ outcome_by accounts names excluded o (λ a. a)
-  of_named names None = refl
-  of_named names (Some a) =
-      let answer = λ (may : Bool). if may && not (is_excluded excluded (accounts.name_of a)) then Some (accounts.found a) else None in
-      elim (names a) as (λ v. outcome_by accounts (λ x. true) excluded (if v then Some a else None) (λ x. x) ≡ answer v) [ true ↦ refl | false ↦ refl ]
-
-  pub own_answers : (outcome : Option Looked) (entry : Option A) → Own ≡ says line → entry ≡ if_named (is_wanted accounts asking.wanted) (accounts.entry_of line) → outcome ≡ outcome_by accounts (λ a. true) excluded entry (λ a. a)
+  pub own_answers : (outcome : Option Looked) → Own ≡ says line → outcome ≡ outcome_by accounts (is_wanted accounts asking.wanted) excluded (accounts.entry_of line) (λ a. a)
       → (lines : List (List ℕ)) → looked_or outcome (scanned (scan_of accounts content asking) lines excluded) ≡ scanned (scan_of accounts content asking) (line ∷ lines) excluded
-  own_answers outcome entry is found gives lines =
+  own_answers outcome is gives lines =
       let scan = scan_of accounts content asking in
       let next = scanned scan lines excluded in
-      let answers = gives ∙ ap (λ o. outcome_by accounts (λ a. true) excluded o (λ a. a)) found ∙ of_named (is_wanted accounts asking.wanted) (accounts.entry_of line) in
-      ap (λ o. looked_or o next) answers ∙ entry_or (is_wanted accounts asking.wanted) (accounts.entry_of line) (λ a. a) next ∙ said_line scan line Own excluded lines is
+      ap (λ o. looked_or o next) gives ∙ entry_or (is_wanted accounts asking.wanted) (accounts.entry_of line) (λ a. a) next ∙ said_line scan line Own excluded lines is
 
   pub named_answers : (outcome : Option Looked) (name : List ℕ) (fields : List (List ℕ)) (o : Option A) → Asks name fields ≡ says line → o ≡ (scan_of accounts content asking).by_name name
       → outcome ≡ outcome_by accounts (is_wanted accounts asking.wanted) excluded o (accounts.replaced fields) → (lines : List (List ℕ)) → looked_or outcome (scanned (scan_of accounts content asking) lines excluded) ≡ scanned (scan_of accounts content asking) (line ∷ lines) excluded

@@ -8,9 +8,10 @@ ghost use Rattle.nsc_model.specs.Compat.{has_compat};
 ghost use Rattle.nsc_model.specs.Content.{Content as Files};
 ghost use Rattle.nsc_model.specs.Entries.{if_named};
 ghost use Rattle.nsc_model.specs.Kinds.{database_of};
-ghost use Rattle.nsc_compat.specs.Accounts.{Accounts, is_wanted};
+ghost use Rattle.nsc_compat.specs.Accounts.{Accounts, is_wanted, outcome_by};
 
 use crate::asking::Wanted;
+use crate::excluded::Excluded;
 use nsc_base::{NoMemory, Span};
 use nsc_model::{FileId, Kind, Looked};
 use std::alloc::Global;
@@ -28,15 +29,17 @@ pub trait Account: Sized + Drop {
     fn by_name() -> Kind
         ensures { result ≡ accounts.by_name };
 
-    /// A line's own entry, where the line has the form of one and the request names it. Fails only for want of memory.
-    fn of_line(
+    /// The outcome of a line's own entry, where the line has the form of one, the request names it and its name is not
+    /// excluded. Fails only for want of memory.
+    fn own(
         alloc: Global,
         text: &[u8],
         line: Span,
         wanted: &Wanted,
-    ) -> Result<Option<Self>, NoMemory>
+        excluded: &Excluded,
+    ) -> Result<Option<Looked>, NoMemory>
         requires { line.to ≤ length text.now }
-        ensures { IfOk result (λ entry. entry ≡ if_named (is_wanted accounts wanted.now) (accounts.entry_of (part text.now line))) };
+        ensures { IfOk result (λ outcome. outcome ≡ outcome_by accounts (is_wanted accounts wanted.now) excluded.now (accounts.entry_of (part text.now line)) (λ a. a)) };
 
     /// The entry of an outcome, where it has one.
     fn in_outcome(looked: Looked) -> Option<Self>

@@ -76,10 +76,7 @@ impl<'s, 'k, 't, E: Account, S: SubLookup> LineScan<'t> for EntryScan<'s, 'k, E,
         excluded: &mut Excluded<'t>,
     ) -> Result<Option<Looked>, NoMemory> {
         match line_says(text, line) {
-            Said::Own => {
-                let entry = E::of_line(alloc, text, line, &self.asking.wanted)?;
-                Ok(own(entry, excluded))
-            }
+            Said::Own => E::own(alloc, text, line, &self.asking.wanted, excluded),
             Said::Excludes(name) => {
                 excluded.add(name)?;
                 Ok(None)
@@ -100,16 +97,6 @@ impl<'s, 'k, 't, E: Account, S: SubLookup> LineScan<'t> for EntryScan<'s, 'k, E,
 
     fn end(&self, _excluded: Excluded<'t>) -> Looked {
         Looked::NotFound
-    }
-}
-
-// What the entry of a line comes to that the request names: it answers where its name is not excluded.
-fn own<E: Account>(entry: Option<E>, excluded: &Excluded) -> Option<Looked>
-    ensures { result ≡ outcome_by E.accounts (λ a. true) excluded.now entry (λ a. a) }
-{
-    match entry {
-        Some(entry) if !excluded.has(entry.name()) => Some(entry.found()),
-        _ => None,
     }
 }
 

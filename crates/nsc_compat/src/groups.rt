@@ -9,6 +9,7 @@ ghost use Rattle.nsc_compat.specs.Accounts.{group_accounts, is_wanted};
 
 use crate::account::Account;
 use crate::asking::Wanted;
+use crate::excluded::Excluded;
 use nsc_accounts::{GroupAt, group_named, group_numbered, group_row};
 use nsc_base::{NoMemory, Span};
 use nsc_model::{FileId, Group, Kind, Looked, Row};
@@ -33,16 +34,20 @@ impl Account for Group {
         Kind::GrName
     }
 
-    fn of_line(
+    fn own(
         alloc: Global,
         text: &[u8],
         line: Span,
         wanted: &Wanted,
-    ) -> Result<Option<Group>, NoMemory> {
-        match wanted_group(text, line, wanted) {
-            Some(at) => Ok(Some(group_row(alloc, text, &at)?)),
-            None => Ok(None),
+        excluded: &Excluded,
+    ) -> Result<Option<Looked>, NoMemory> {
+        let Some(at) = wanted_group(text, line, wanted) else {
+            return Ok(None);
+        };
+        if excluded.has(at.name.of(text)) {
+            return Ok(None);
         }
+        Ok(Some(Looked::Found(Row::Group(group_row(alloc, text, &at)?))))
     }
 
     fn in_outcome(looked: Looked) -> Option<Group> {

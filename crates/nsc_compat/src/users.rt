@@ -11,6 +11,7 @@ ghost use Rattle.nsc_compat.specs.Accounts.{is_wanted, passwd_accounts};
 
 use crate::account::Account;
 use crate::asking::Wanted;
+use crate::excluded::Excluded;
 use nsc_accounts::{PasswdAt, user_named, user_numbered, user_row};
 use nsc_base::{Bytes, NoMemory, Span, exact_fields};
 use nsc_model::{FileId, Kind, Looked, Passwd, Row};
@@ -35,16 +36,20 @@ impl Account for Passwd {
         Kind::PwName
     }
 
-    fn of_line(
+    fn own(
         alloc: Global,
         text: &[u8],
         line: Span,
         wanted: &Wanted,
-    ) -> Result<Option<Passwd>, NoMemory> {
-        match wanted_user(text, line, wanted) {
-            Some(at) => Ok(Some(user_row(alloc, text, &at)?)),
-            None => Ok(None),
+        excluded: &Excluded,
+    ) -> Result<Option<Looked>, NoMemory> {
+        let Some(at) = wanted_user(text, line, wanted) else {
+            return Ok(None);
+        };
+        if excluded.has(at.name.of(text)) {
+            return Ok(None);
         }
+        Ok(Some(Looked::Found(Row::Passwd(user_row(alloc, text, &at)?))))
     }
 
     fn in_outcome(looked: Looked) -> Option<Passwd> {
