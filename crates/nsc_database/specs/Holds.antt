@@ -7,7 +7,7 @@ use Rattle.nsc_model.specs.History.{HasLoad, IsLive, LookedBetween, NoneLive, No
 use Rattle.nsc_model.specs.Machine.{last_count}
 use Rattle.nsc_model.specs.declared.store.Stats.{Stats}
 use Rattle.nsc_model.specs.Stores.{IsHit}
-use Rattle.nsc_laws.specs.Core.{AreLive}
+use Rattle.nsc_model.specs.Live.{AreLive}
 use Rattle.nsc_writer.specs.declared.loaded.Inserted.{Inserted}
 use Rattle.nsc_writer.specs.declared.loaded.Inserted.TheVariants as inserted
 use Rattle.nsc_writer.specs.Loaded.{Loaded, kept_of}
