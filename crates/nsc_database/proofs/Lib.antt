@@ -1,3 +1,6 @@
 pub mod Shown
 pub mod Lookups
+pub mod Rests
+pub mod Ended
+pub mod Pruning
 pub mod Crossing

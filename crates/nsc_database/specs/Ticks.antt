@@ -1,21 +1,26 @@
 -- What the holds of a tick come to.
-use Rattle.std.specs.Prelude.{◌≡◌, ℕ, ◌+◌, ◌<◌, ◌≤◌, ◌⊎◌, true, false, All, List, [], ◌∷◌, Option, Some, None}
+use Rattle.std.specs.Prelude.{◌≡◌, ℕ, ◌+◌, ◌<◌, ◌≤◌, ◌⊎◌, true, false, if◌then◌else◌, All, List, [], ◌∷◌, filter, length, Option, Some, None}
 use Rattle.std.specs.Bool.{OnTrue}
 use Rattle.nsc_model.specs.declared.conf.DbConf.{DbConf}
 use Rattle.nsc_model.specs.declared.kind.Db.{Db}
 use Rattle.nsc_model.specs.declared.kind.FileId.{FileId}
 use Rattle.nsc_model.specs.declared.record.Record.{Record}
+use Rattle.nsc_model.specs.declared.store.LookupFault.{LookupFault}
+use Rattle.nsc_model.specs.declared.store.LookupFault.TheVariants as fault
 use Rattle.nsc_model.specs.Content.{Content}
 use Rattle.nsc_model.specs.Entry.{Entry}
 use Rattle.nsc_model.specs.History.{HasEnd, HasLoad, NoneLive, invalidations, version_in}
+use Rattle.nsc_model.specs.Answers.{answer_of}
+use Rattle.nsc_model.specs.Machine.{all_words, last_count, life_of, next_reloads}
 use Rattle.nsc_model.specs.Reloads.{replaced}
-use Rattle.nsc_model.specs.Stores.{IsTicked}
+use Rattle.nsc_model.specs.Stores.{IsTicked, IsUnmoved}
+use Rattle.nsc_sourcebook.specs.Book.{Polled}
 use Rattle.nsc_sourcebook.specs.Reads.{AllRose, AreAsTold}
-use Rattle.nsc_writer.specs.Due.{Due}
+use Rattle.nsc_writer.specs.Due.{Due, marked_by, pruned_by}
 use Rattle.nsc_writer.specs.Loaded.{Loaded}
-use Rattle.nsc_writer.specs.Writer.{IsAnswered}
-use Rattle.nsc_database.specs.declared.tick.Checked.{Checked}
-use Rattle.nsc_database.specs.declared.tick.Checked.TheVariants as checked
+use Rattle.nsc_writer.specs.Writer.{IsAnswered, Writer}
+use Rattle.nsc_database.specs.declared.renewal.Checked.{Checked}
+use Rattle.nsc_database.specs.declared.renewal.Checked.TheVariants as checked
 use Rattle.nsc_database.specs.Rests.{IsCurrent}
 
 -- an entry of this number and request was inserted, its time is over, and entries of the request ended so often to be reloaded; it is
@@ -49,6 +54,13 @@ abbrev pub IsChecked : Checked → DbConf → Option ℕ → ℕ → List Record
 IsChecked checked.Emptied settings limit now history = NoneLive history
 IsChecked (checked.Listed due) settings limit now history = AreListed settings limit now history due.items
 
+-- why a hold gave up: memory was wanting, or a count stands at its end
+abbrev pub IsHoldFault : LookupFault → List Record → Type 0
+IsHoldFault fault.NoMemory after = Unit {0}
+IsHoldFault (fault.Spent count) after = IsUnmoved after count
+IsHoldFault (fault.SourceFault file) after = ⊥
+IsHoldFault (fault.TooLong file size) after = ⊥
+
 -- what is to be loaded again for those that are due, one for each: nothing, or the answer to its request with one reload more
 abbrev pub IsAnew : List Record → Due → Option Loaded → Type 0
 IsAnew history d None = Unit {0}
@@ -59,6 +71,27 @@ AreAnew history [] [] = Unit {0}
 AreAnew history [] (load ∷ loads) = ⊥
 AreAnew history (d ∷ due) [] = ⊥
 AreAnew history (d ∷ due) (load ∷ loads) = IsAnew history d load × AreAnew history due loads
+
+-- it is ended to be loaded again, and counted as such
+abbrev pub IsRenewed : List Record → Due → Type 0
+IsRenewed history d = d.ended ≡ true → d.dropped ≡ false → d.reloads + 1 ≤ replaced history d.request
+
+-- what is to be loaded again over what was polled: nothing for an entry that is dropped
+abbrev pub anew_of : DbConf → Polled → ℕ → Due → Option Loaded
+anew_of settings polled now d =
+    if d.dropped then None else Some (record { request = d.request; answer = answer_of polled.content d.request; stamp = polled.stamp; timeout = now + life_of settings (answer_of polled.content d.request); reloads = next_reloads d.reloads })
+
+-- those of them that were ended
+abbrev pub ended_of : List Due → List Due
+ended_of due = filter (λ d. d.ended) due
+
+-- the writer once it was compacted
+abbrev pub compacted_by : Writer → Writer
+compacted_by w = record w { cache = record w.cache { cycle = w.cache.cycle + 2; used = all_words w.cache.entries } }
+
+-- the ends of a tick, and a compaction where any entry was ended
+pub record IsSwept (now : ℕ) (due : List Due) (w w' : Writer) : Type 0 where
+  pub swept : ((ended_of (marked_by now due w) ≡ []) × (w' ≡ pruned_by now due w)) ⊎ ((1 ≤ length (ended_of (marked_by now due w))) × (w' ≡ compacted_by (pruned_by now due w)))
 
 -- the due entries are ended, or the database was invalidated after so many invalidations
 abbrev pub AreOver : ℕ → List Record → List Due → Type 0
