@@ -1,5 +1,5 @@
 -- Ends of entries keep what holds of a writer while its lock is free.
-use Rattle.std.proofs.Common.{◌≡◌, ◌≢◌, ℕ, suc, ◌+◌, ◌*◌, ◌<◌, ◌≤◌, Bool, true, false, cond, eqb, ◌||◌, not, All, List, [], ◌∷◌, ◌++◌, filter, get_or, length, Option, Some, None, refl, sym, ap, subst, ◌∙◌, arith, inl, inr}
+use Rattle.std.proofs.Common.{◌≡◌, ◌≢◌, ℕ, zero, suc, ◌+◌, ◌*◌, ◌<◌, ◌≤◌, Bool, true, false, cond, eqb, ◌||◌, ◌⊎◌, not, All, List, [], ◌∷◌, ◌++◌, filter, get_or, length, Option, Some, None, refl, sym, ap, subst, ◌∙◌, arith, inl, inr}
 use Rattle.std.proofs.lemmas.Bool.{eqb-true, eqb-false, eq-eqb}
 use Rattle.std.specs.Bool.{OnTrue}
 use Rattle.nsc_model.specs.declared.answer.Request.{Request}
@@ -94,11 +94,11 @@ load_of_is [] e l a = absurd a
 load_of_is (Change v c ∷ []) e l a = absurd a
 load_of_is (Change v c ∷ s ∷ before) e l a = load_of_is (s ∷ before) e l.0 a
 load_of_is (Poll v ∷ before) e l a = load_of_is before e l.0 a
-load_of_is (Load entry ∷ before) e l a = by_test (eqb entry.number e.number) refl a where
-  by_test : (b : Bool) → eqb entry.number e.number ≡ b → HasLoad (Load entry ∷ before) e → cond b (Some entry) (load_of before e.number) ≡ Some e
-  by_test true same at = ap Some (same_load (Load entry ∷ before) entry e l (inl refl) at (eqb-true entry.number e.number same))
-  by_test false apart (inl is) = absurd (eqb-false entry.number e.number apart (ap (λ (x : Entry). x.number) is))
-  by_test false apart (inr at) = load_of_is before e l.0 at
+load_of_is (Load entry ∷ before) e l a = by_test (eqb entry.number e.number) refl a (λ at. load_of_is before e l.0 at) where
+  by_test : (b : Bool) → eqb entry.number e.number ≡ b → HasLoad (Load entry ∷ before) e → (HasLoad before e → load_of before e.number ≡ Some e) → cond b (Some entry) (load_of before e.number) ≡ Some e
+  by_test true same at rest = ap Some (same_load (Load entry ∷ before) entry e l (inl refl) at (eqb-true entry.number e.number same))
+  by_test false apart (inl is) rest = absurd (eqb-false entry.number e.number apart (ap (λ (x : Entry). x.number) is))
+  by_test false apart (inr at) rest = rest at
 load_of_is (End n cause ∷ before) e l a = load_of_is before e l.0 a
 load_of_is (Invalid n ∷ before) e l a = load_of_is before e l.0 a
 
@@ -106,12 +106,12 @@ all_filtered : (P : Kept → Type 0) (test : Kept → Bool) (ks : List Kept) →
 all_filtered P test [] all i d low = absurd (omega arith)
 all_filtered P test (k ∷ ks) all = by_test (test k) (all_filtered P test ks (λ i d low. all (suc i) d (omega arith))) where
   by_test : (b : Bool) → All P (filter test ks) → All P (cond b (k ∷ filter test ks) (filter test ks))
-  by_test true rest 0 d low = all 0 k (omega arith)
+  by_test true rest zero d low = all 0 k (omega arith)
   by_test true rest (suc i) d low = rest i d (omega arith)
   by_test false rest i d low = rest i d low
 
 -- why this end is right: a dropped entry may be dropped
-pub IsRight : Option ℕ → List Record → ℕ → Ending → Type 0
+abbrev pub IsRight : Option ℕ → List Record → ℕ → Ending → Type 0
 IsRight limit h n (Expired now) = IsDropped limit h (load_of h n)
 IsRight limit h n Invalidated = ⊥
 IsRight limit h n Replaced = Unit {0}

@@ -1,5 +1,5 @@
 -- The ends of a tick, one after the other.
-use Rattle.std.proofs.Common.{◌≡◌, ℕ, suc, ◌+◌, ◌*◌, ◌<◌, ◌≤◌, min, Bool, true, false, cond, All, List, [], ◌∷◌, ◌++◌, filter, get_or, length, Option, Some, None, refl, sym, ap, subst, ◌∙◌, arith, inl, inr}
+use Rattle.std.proofs.Common.{◌≡◌, ℕ, zero, suc, ◌+◌, ◌*◌, ◌<◌, ◌≤◌, ◌⊎◌, Bool, true, false, cond, All, List, [], ◌∷◌, ◌++◌, filter, get_or, length, Option, Some, None, refl, sym, ap, subst, ◌∙◌, arith, inl, inr}
 use Rattle.std.specs.Bool.{OnTrue}
 use Rattle.nsc_model.specs.declared.answer.Request.{Request}
 use Rattle.nsc_model.specs.declared.conf.DbConf.{DbConf}
@@ -21,7 +21,7 @@ use Rattle.nsc_writer.proofs.Later.{end_on, load_on, prefix_through}
 use Rattle.nsc_writer.proofs.Pruned.{head_of, over_allows, tail_of}
 use Rattle.nsc_writer.proofs.Told.{ended_tells}
 use Rattle.nsc_database.specs.Rests.{Keeps}
-use Rattle.nsc_database.specs.Ticks.{AreAnew, HasNumber, IsAnew, IsDue}
+use Rattle.nsc_database.specs.Ticks.{AreAnew, HasNumber, IsAnew, IsDue, IsRenewed}
 use Rattle.nsc_database.proofs.Ended.{IsRight, gone_ended, keeps_ended, load_of_is, on_true, replaced_on}
 
 -- what is due stays so as the history goes on
@@ -38,10 +38,6 @@ due_on limit now a b d p due = record {
 
 pub all_due_on : (limit : Option ℕ) (now : ℕ) (a b : List Record) (due : List Due) → IsPrefix a b → All (IsDue limit now a) due → All (IsDue limit now b) due
 all_due_on limit now a b due p all i d low = due_on limit now a b (get_or due i d) p (all i d low)
-
--- it is ended to be reloaded, and counted as such
-pub IsRenewed : List Record → Due → Type 0
-IsRenewed h d = d.ended ≡ true → d.dropped ≡ false → d.reloads + 1 ≤ replaced h d.request
 
 -- what the ends of some leave
 pub record Leaves (settings : DbConf) (limit : Option ℕ) (ticked : ℕ) (due : List Due) (w w' : Writer) : Type 0 where
@@ -135,7 +131,7 @@ pub all_renewed_on : (a b : List Record) (due : List Due) → IsPrefix a b → A
 all_renewed_on a b due p all i d low = renewed_on a b (get_or due i d) p (all i d low)
 
 pub all_cons : {A : Type 0} (P : A → Type 0) (x : A) (xs : List A) → P x → All P xs → All P (x ∷ xs)
-all_cons P x xs first rest 0 d low = first
+all_cons P x xs first rest zero d low = first
 all_cons P x xs first rest (suc i) d low = rest i d (omega arith)
 
 -- what is marked as ended is counted; where any is, an entry ended
@@ -146,21 +142,18 @@ pub record Counts (now : ℕ) (due : List Due) (w : Writer) : Type 0 where
 
 pub all_count : (settings : DbConf) (limit : Option ℕ) (now ticked : ℕ) (due : List Due) (w : Writer) → All (IsDue limit now w.seen) due → Tells w.seen w.cache → Keeps settings limit ticked w → Counts now due w
 all_count settings limit now ticked [] w all t k = record { renewed = λ i d low. absurd (omega arith); ended = omega arith; same = λ none. refl }
-all_count settings limit now ticked (d ∷ due) w all t k = by_live (has_number d.number w.cache.entries) refl where
+all_count settings limit now ticked (d ∷ due) w all t k = by_live (has_number d.number w.cache.entries) refl (λ w1 on told keeps. all_count settings limit now ticked due w1 (all_due_on limit now w.seen w1.seen due on (tail_of (IsDue limit now w.seen) d due all)) told keeps) where
   here : IsDue limit now w.seen d
   here = head_of (IsDue limit now w.seen) d due all
 
   left : All (IsDue limit now w.seen) due
   left = tail_of (IsDue limit now w.seen) d due all
 
-  counted : (w1 : Writer) → IsPrefix w.seen w1.seen → Tells w1.seen w1.cache → Keeps settings limit ticked w1 → Counts now due w1
-  counted w1 on told keeps = all_count settings limit now ticked due w1 (all_due_on limit now w.seen w1.seen due on left) told keeps
-
   after : (w1 : Writer) → IsPrefix w.seen w1.seen → Tells w1.seen w1.cache → Keeps settings limit ticked w1 → IsPrefix w1.seen (pruned_by now due w1).seen
   after w1 on told keeps = (all_leave settings limit now ticked due w1 (all_due_on limit now w.seen w1.seen due on left) told keeps).on
 
-  by_live : (b : Bool) → has_number d.number w.cache.entries ≡ b → Counts now (d ∷ due) w
-  by_live true there =
+  by_live : (b : Bool) → has_number d.number w.cache.entries ≡ b → ((w1 : Writer) → IsPrefix w.seen w1.seen → Tells w1.seen w1.cache → Keeps settings limit ticked w1 → Counts now due w1) → Counts now (d ∷ due) w
+  by_live true there counted =
       let w1 = without_entry d.number (ending_of (due_cause_of now d)) w in
       let first = one_leaves settings limit now ticked d w here t k in
       let is : pruned_one now d w ≡ w1 = ap (λ (b : Bool). cond b w1 w) there in
@@ -176,7 +169,7 @@ all_count settings limit now ticked (d ∷ due) w all t k = by_live (has_number 
         same = λ none. absurd (omega arith);
       }) in
       whole
-  by_live false there =
+  by_live false there counted =
       let rest = counted w ([], refl) t k in
       let renewed : IsRenewed w.seen (record d { ended = false }) = λ yes kept. absurd cc in
       let more = rest.ended in

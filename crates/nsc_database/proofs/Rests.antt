@@ -1,8 +1,8 @@
 -- What holds of a writer while its lock is free stays so through each of its calls.
-use Rattle.std.proofs.Common.{◌≡◌, ℕ, suc, ◌+◌, ◌*◌, ◌<◌, ◌≤◌, Bool, true, false, cond, eqb, not, All, List, [], ◌∷◌, ◌++◌, filter, get_or, length, map, sum_by, add-zero, Option, Some, None, Result, Ok, Err, refl, sym, ap, subst, ◌∙◌, arith, inl, inr}
+use Rattle.std.proofs.Common.{◌≡◌, ℕ, zero, suc, ◌+◌, ◌*◌, ◌<◌, ◌≤◌, Bool, true, false, cond, eqb, not, All, List, [], ◌∷◌, ◌++◌, filter, get_or, length, map, sum_by, add-zero, Option, Some, None, Result, Ok, Err, refl, sym, ap, subst, ◌∙◌, arith, inl, inr}
 use Rattle.std.specs.Bool.{OnTrue}
 use Rattle.std.proofs.lemmas.List.Elements.{All-append}
-use Rattle.std.proofs.lemmas.List.Sums.{sum_by-append}
+use Rattle.std.proofs.lemmas.List.Sums.{sum_by-append, sum_by-cons}
 use Rattle.nsc_model.specs.declared.answer.Request.{Request}
 use Rattle.nsc_model.specs.declared.conf.DbConf.{DbConf}
 use Rattle.nsc_model.specs.declared.record.Ending.{Ending}
@@ -65,10 +65,10 @@ live_since [] e l live = absurd live.inserted
 live_since (Change v c ∷ []) e l live = absurd live.inserted
 live_since (Change v c ∷ s ∷ before) e l live = live_since (s ∷ before) e l.0 (record { inserted = live.inserted; not_ended = live.not_ended })
 live_since (Poll v ∷ before) e l live = live_since before e l.0 (record { inserted = live.inserted; not_ended = live.not_ended })
-live_since (Load entry ∷ before) e l live = by_load live.inserted where
-  by_load : HasLoad (Load entry ∷ before) e → invalidated_at before ≤ e.version
-  by_load (inl same) = subst (λ (x : Entry). invalidated_at before ≤ x.version) same (polled_within before entry.version l.0 l.4).0
-  by_load (inr a) = live_since before e l.0 (record { inserted = a; not_ended = live.not_ended })
+live_since (Load entry ∷ before) e l live = elim live.inserted [
+  | inl same ↦ subst (λ (x : Entry). invalidated_at before ≤ x.version) same (polled_within before entry.version l.0 l.4).0
+  | inr a ↦ live_since before e l.0 (record { inserted = a; not_ended = live.not_ended })
+]
 live_since (End n cause ∷ before) e l live = live_since before e l.0 (record { inserted = live.inserted; not_ended = λ gone. live.not_ended (inr gone) })
 live_since (Invalid n ∷ before) e l live = absurd (live.not_ended (l.2 e live.inserted))
 
@@ -155,15 +155,20 @@ reloaded_used h request ks all = record_of ks all where
 
   record_of : (xs : List Kept) → All (IsReloaded h) xs → All (IsReloaded h) (used_now request xs)
   record_of [] a i d low = absurd (omega arith)
-  record_of (x ∷ xs) a 0 d low = one x (a 0 x (omega arith))
+  record_of (x ∷ xs) a zero d low = one x (a 0 x (omega arith))
   record_of (x ∷ xs) a (suc i) d low = record_of xs (λ j e l. a (suc j) e (omega arith)) i d (omega arith)
+
+used_words : (request : Request) (k : Kept) → entry_words (used_by request k).entry ≡ entry_words k.entry
+used_words request k = by_test (is_request request k.entry.request) where
+  by_test : (b : Bool) → entry_words (cond b (record k { reloads = 0 }) k).entry ≡ entry_words k.entry
+  by_test true = refl
+  by_test false = refl
 
 words_used : (request : Request) (ks : List Kept) → all_words (used_now request ks) ≡ all_words ks
 words_used request [] = refl
-words_used request (k ∷ ks) = (λ i. one (is_request request k.entry.request) i + words_used request ks i) where
-  one : (b : Bool) → entry_words (cond b (record k { reloads = 0 }) k).entry ≡ entry_words k.entry
-  one true = refl
-  one false = refl
+words_used request (k ∷ ks) =
+    let f : Kept → ℕ = λ x. entry_words x.entry in
+    sum_by-cons f (used_by request k) (used_now request ks) ∙ (λ i. used_words request k i + words_used request ks i) ∙ sym (sum_by-cons f k ks)
 
 pub keeps_used : (settings : DbConf) (limit : Option ℕ) (ticked : ℕ) (request : Request) (w : Writer) → Keeps settings limit ticked w → Keeps settings limit ticked (record w { cache = record w.cache { entries = used_now request w.cache.entries } })
 keeps_used settings limit ticked request w k = record { reloaded = k.reloaded; counted = reloaded_used w.seen request w.cache.entries k.counted; found = k.found }
@@ -174,7 +179,9 @@ packed_used request w p = record { taken = λ low. p.taken low ∙ sym (words_us
 -- ---- insertions
 
 pub words_one : (ks : List Kept) (k : Kept) → all_words (ks ++ k ∷ []) ≡ all_words ks + entry_words k.entry
-words_one ks k = sum_by-append (λ (x : Kept). entry_words x.entry) ks (k ∷ []) ∙ ap (λ (n : ℕ). all_words ks + n) (add-zero (entry_words k.entry))
+words_one ks k =
+    let f : Kept → ℕ = λ x. entry_words x.entry in
+    sum_by-append f ks (k ∷ []) ∙ ap (λ (n : ℕ). sum_by f ks + n) (sum_by-cons f k [] ∙ add-zero (entry_words k.entry))
 
 keeps_entry : (settings : DbConf) (limit : Option ℕ) (ticked : ℕ) (k : Kept) (w : Writer) → k.reloads ≤ replaced w.seen k.entry.request → Keeps settings limit ticked w → Keeps settings limit ticked (with_entry k w)
 keeps_entry settings limit ticked k w low keeps = record {
@@ -183,7 +190,7 @@ keeps_entry settings limit ticked k w low keeps = record {
   found = keeps.found;
 } where
   one : All (IsReloaded w.seen) (k ∷ [])
-  one 0 d l = low
+  one zero d l = low
   one (suc i) d l = absurd (omega arith)
 
 packed_entry : (k : Kept) (w : Writer) → IsPacked w → IsPacked (with_entry k w)

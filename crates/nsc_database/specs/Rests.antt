@@ -16,6 +16,11 @@ use Rattle.nsc_writer.specs.Writer.{Writer, emptied_by}
 abbrev pub IsReloaded : List Record → Kept → Type 0
 IsReloaded history k = k.reloads ≤ replaced history k.entry.request
 
+-- the writer of a database, and the version that the last tick found
+pub record Desk : Type 0 where
+  pub writer : Writer
+  pub ticked : ℕ
+
 -- entries end for good as ticks and invalidations end them, and, where changes of the files count, the version that the last tick
 -- found was there when the database was last invalidated
 pub record Keeps (settings : DbConf) (limit : Option ℕ) (ticked : ℕ) (w : Writer) : Type 0 where
@@ -28,9 +33,8 @@ pub record IsPacked (w : Writer) : Type 0 where
   pub taken : w.cache.cycle < last_count → w.cache.used ≡ all_words w.cache.entries
   pub cycles : w.cache.cycle ≤ 2 * ends w.seen
 
--- a writer of an empty cache over its first version, in an arena of so many words
-pub record IsNew (w : Writer) (arena : ℕ) : Type 0 where
-  pub content : Content
+-- a writer of an empty cache over this content as its first version, in an arena of so many words
+pub record IsNew (w : Writer) (content : Content) (arena : ℕ) : Type 0 where
   pub seen : w.seen ≡ Change 0 content ∷ []
   pub cache : w.cache ≡ new_cache content
   pub room : w.layout.arena ≡ arena

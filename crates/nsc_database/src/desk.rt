@@ -12,7 +12,6 @@ ghost use Rattle.nsc_model.specs.Stores.{IsCounted, IsEmptied, IsSpent, IsUnmove
 ghost use Rattle.nsc_writer.specs.Uses.{counted};
 ghost use Rattle.nsc_database.specs.declared.renewal.Checked.TheVariants as is_checked;
 ghost use Rattle.nsc_database.specs.Holds.{IsInserted, IsLooked, IsPolled};
-ghost use Rattle.nsc_database.specs.Rests.{IsPacked, Keeps};
 ghost use Rattle.nsc_database.specs.Ticks.{AreAnew, AreOver, IsChecked, IsDue, IsHoldFault};
 
 use crate::holds;
@@ -28,7 +27,7 @@ use nsc_rule::Pass;
 use nsc_sourcebook::{Fetched, PollFault, Polled, SourceBook};
 use nsc_writer::{Due, Inserted, Loaded, Writer};
 use std::alloc::Global;
-use std::marker::PhantomData;
+use std::marker::{Model, PhantomData};
 
 /// The writer of a database, and the version that the last tick found, 0 before the first.
 #[derive(Drop)]
@@ -38,8 +37,17 @@ pub struct Desk<D: OfDb, B: Room> {
     pub of: PhantomData<D>,
     pub room: PhantomData<B>,
     pub ghost own: { (writer.table ≡ B.table D.db) × (writer.layout.arena ≡ room_of (settings_of B.conf D.db)) },
-    pub ghost keeps: { Keeps (settings_of B.conf D.db) B.conf.reloads ticked writer },
-    pub ghost packed: { IsPacked writer },
+}
+
+impl<D: OfDb, B: Room> Model for Desk<D, B> {
+    ghost use Rattle.nsc_model.specs.Settings.{settings_of};
+    ghost use Rattle.nsc_database.specs.Rests.{Desk, IsPacked, Keeps};
+
+    ghost Value = { Desk };
+
+    ghost view = { λ d. record { writer = d.writer; ticked = d.ticked } };
+
+    ghost invariant = { λ d. Keeps (settings_of B.conf D.db) B.conf.reloads d.ticked d.writer × IsPacked d.writer };
 }
 
 /// Its source book.

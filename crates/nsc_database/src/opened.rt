@@ -36,7 +36,7 @@ pub struct Opened<F: FileSet + Drop, A: Answerer + Drop> {
     pub settings: DbConf,
     pub reloads: Option<u32>,
     pub ghost tied: { (book.table ≡ pass.table) × (book.db ≡ db) × (writer.table ≡ pass.table) },
-    pub ghost new: { IsNew writer (room_of settings) },
+    pub ghost new: { IsNew writer book.newest (room_of settings) },
     pub ghost buffer: { reply.limit ≡ kept_limit },
 }
 
@@ -147,7 +147,7 @@ impl<F: FileSet + Drop, A: Answerer + Drop> Parts<F, A> {
         requires db { (self.db ≡ D.db) × (self.book.db ≡ D.db) }
         requires tables { (self.book.table ≡ B.table D.db) × (self.writer.table ≡ B.table D.db) × (self.map.table ≡ B.table D.db) }
         requires conf { (self.settings ≡ settings_of B.conf D.db) × (self.reloads ≡ B.conf.reloads) }
-        requires new { IsNew (self.writer) (room_of self.settings) }
+        requires new { IsNew self.writer self.book.newest (room_of self.settings) }
         ensures { (result.settings ≡ self.settings) × (result.reloads ≡ self.reloads) }
     {
         let Parts {

@@ -34,5 +34,5 @@ pub returns-clause-inserted : goal.returns-clause-inserted
 returns-clause-inserted c =
     let w = c.miss.new.self in
     let before = subst (IsPrefix c.args.pass.now.seen) (sym (ap (λ (x : Writer). x.seen) c.miss.ensures ∙ ap (λ (x : Writer). x.seen) c.show.ensures.same)) c.show.ensures.before in
-    subst (IsInserted c.insert-outcome.result.0 c.args.loaded c.args.pass.now.seen) (sym (ap (λ (p : Pass). p.seen) c.show-2.ensures.pass))
+    subst (IsInserted c.args.writer.now.layout.arena c.insert-outcome.result.0 c.args.loaded c.args.pass.now.seen) (sym (ap (λ (p : Pass). p.seen) c.show-2.ensures.pass))
     (is_inserted c.insert-outcome.result.0 c.args.loaded c.args.pass.now.seen w c.insert-outcome.new.self c.learn-2.ensures.told before c.insert-outcome.ensures.inserted c.insert-outcome.ensures.why)

@@ -3,7 +3,7 @@ use Rattle.nsc_model.specs.declared.record.Record.{Record}
 use Rattle.nsc_model.specs.declared.store.Stats.{Stats}
 use Rattle.nsc_rule.specs.Pass.{Pass}
 use Rattle.nsc_writer.specs.Writer.{Writer}
-use Rattle.nsc_database.specs.Holds.{IsCounted}
+use Rattle.nsc_model.specs.Stores.{IsCounted}
 use Rattle.nsc_database.proofs.Shown.{is_counted}
 use Rattle.nsc_database.proofs.holds.stats.Goals as goal
 
