@@ -10,7 +10,7 @@ use Rattle.nsc_model.specs.declared.store.Why.TheVariants as why
 use Rattle.nsc_model.specs.Entry.{Entry}
 use Rattle.nsc_model.specs.Answers.{answer_of}
 use Rattle.nsc_model.specs.History.{Answered, EndedAfter, HasLoad, IsPrefix, Legal, NoneLiveOf, PolledSince, invalidations, loads}
-use Rattle.nsc_model.specs.Machine.{life_of}
+use Rattle.nsc_model.specs.Machine.{life_of, room_of}
 use Rattle.nsc_model.specs.Stores.{IsGiven, IsHit, IsWhy, reply_of}
 use Rattle.nsc_laws.proofs.Prefixes.{load_below}
 use Rattle.nsc_writer.specs.declared.loaded.Inserted.{Inserted}
@@ -128,7 +128,7 @@ not_seen : (seen mid : List Record) (e : Entry) → Legal seen → IsPrefix seen
 not_seen seen mid e legal p low loaded = let below = load_below seen e legal loaded in let few = loads_on seen mid p in omega arith
 
 by_said : (said : Inserted) (g : Given) (seen mid after : List Record) (request : Request) (epoch : ℕ) (polled : Polled) (settings : DbConf) (now : ℕ) → Anew seen mid request epoch polled → IsPrefix mid after
-    → IsInserted said (loaded_of settings now request polled) mid after → Gives said (answer_of polled.content request).bytes g → IsGiven g settings now seen after request
+    → IsInserted (room_of settings) said (loaded_of settings now request polled) mid after → Gives said (answer_of polled.content request).bytes g → IsGiven g settings now seen after request
 by_said (inserted.Done number) g seen mid after request epoch polled settings now a p i is =
     let l = loaded_of settings now request polled in
     let e = (kept_of l number).entry in
@@ -151,7 +151,7 @@ by_said (inserted.Full need free) g seen mid after request epoch polled settings
 by_said inserted.NoMemory g seen mid after request epoch polled settings now a p i is = absurd is
 
 pub anew_given : (g : Given) (seen mid after : List Record) (request : Request) (epoch : ℕ) (polled : Polled) (settings : DbConf) (now : ℕ) → Anew seen mid request epoch polled → IsPrefix mid after
-    → IsKept (loaded_of settings now request polled) mid after g → IsGiven g settings now seen after request
+    → IsKept (room_of settings) (loaded_of settings now request polled) mid after g → IsGiven g settings now seen after request
 anew_given g seen mid after request epoch polled settings now a p k = by_said k.said g seen mid after request epoch polled settings now a p k.inserted k.gives
 
 -- the reply of what is given after an insertion
@@ -164,5 +164,5 @@ said_reply (inserted.Spent count) bytes g is = ap reply_of is
 said_reply (inserted.Full need free) bytes g is = ap reply_of is
 said_reply inserted.NoMemory bytes g is = absurd is
 
-pub kept_reply : (l : Loaded) (seen after : List Record) (g : Given) → IsKept l seen after g → reply_of g ≡ l.answer.bytes
-kept_reply l seen after g k = said_reply k.said l.answer.bytes g k.gives
+pub kept_reply : (arena : ℕ) (l : Loaded) (seen after : List Record) (g : Given) → IsKept arena l seen after g → reply_of g ≡ l.answer.bytes
+kept_reply arena l seen after g k = said_reply k.said l.answer.bytes g k.gives

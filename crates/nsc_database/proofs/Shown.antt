@@ -1,6 +1,7 @@
 -- What holds of the writer's lock show.
-use Rattle.std.proofs.Common.{◌≡◌, ◌∙◌, ℕ, suc, ◌+◌, ◌<◌, ◌≤◌, Bool, true, false, cond, eqb, List, [], ◌∷◌, ◌++◌, length, length-append, Option, Some, None, Ok, Err, refl, sym, ap, subst, arith, inl}
-use Rattle.std.proofs.lemmas.Bool.{eqb-true}
+use Rattle.std.proofs.Common.{◌≡◌, ◌∙◌, ℕ, suc, ◌+◌, ◌/◌, ◌^◌, ◌<◌, ◌≤◌, ◌⊎◌, Bool, true, false, cond, eqb, ltb, List, [], ◌∷◌, ◌++◌, length, length-append, Option, Some, None, Ok, Err, refl, sym, ap, subst, arith, inl, inr}
+use Rattle.std.proofs.lemmas.Bool.{eqb-true, ltb-false, ltb-true}
+use Rattle.std.proofs.lemmas.List.Sums.{sum_by-cons}
 use Rattle.nsc_model.specs.declared.answer.Request.{Request}
 use Rattle.nsc_model.specs.declared.record.Record.{Record}
 use Rattle.nsc_model.specs.declared.record.Record.TheVariants.{Change, Poll, Load, End, Invalid}
@@ -12,8 +13,9 @@ use Rattle.nsc_model.specs.Content.{Content}
 use Rattle.nsc_model.specs.Entry.{Entry}
 use Rattle.nsc_model.specs.Files.{same_files}
 use Rattle.nsc_model.specs.History.{HasLoad, IsLive, IsPrefix, Legal, LookedBetween, NoneLive, NoneLiveOf, PolledSince, LooksAt, invalidations, loads, version_in}
-use Rattle.nsc_model.specs.Machine.{Kept, Cache, last_count, by_invalidation, ends_of, live_entry, polled}
-use Rattle.nsc_model.specs.Stores.{IsHit, IsSpent}
+use Rattle.nsc_model.specs.Machine.{Kept, Cache, all_words, entry_words, last_count, by_invalidation, ends_of, live_entry, polled}
+use Rattle.nsc_model.specs.Reloads.{ends}
+use Rattle.nsc_model.specs.Stores.{IsCounted, IsEmptied, IsFree, IsFull, IsHit, IsSpent, MayBeUnmoved, words_of}
 use Rattle.nsc_laws.specs.Calls.{Tells, entries_of}
 use Rattle.nsc_laws.proofs.Requests.{same_request}
 use Rattle.nsc_laws.proofs.MachineLawLists.{found}
@@ -28,7 +30,8 @@ use Rattle.nsc_sourcebook.specs.Book.{Polled}
 use Rattle.nsc_sourcebook.proofs.Newest.{newest_held}
 use Rattle.nsc_writer.proofs.Told.{asked_none, invalidations_rise}
 use Rattle.nsc_writer.proofs.Later.{prefix_through, version_on, polled_on}
-use Rattle.nsc_database.specs.Holds.{IsCounted, IsEmptied, IsInserted, IsPolled}
+use Rattle.nsc_database.specs.Holds.{IsInserted, IsPolled}
+use Rattle.nsc_database.specs.Rests.{IsPacked}
 
 -- ---- a look
 
@@ -60,6 +63,7 @@ looked_none h cache request reply t gives = by_entry (live_entry request cache.e
 pub record GoesOn (w w' : Writer) : Type 0 where
   pub on : IsPrefix w.seen w'.seen
   pub table : w'.table ≡ w.table
+  pub layout : w'.layout ≡ w.layout
 
 -- the newest record after a poll looked at this version
 pub record Looks (w w' : Writer) (version : ℕ) : Type 0 where
@@ -68,7 +72,7 @@ pub record Looks (w w' : Writer) (version : ℕ) : Type 0 where
   pub looks : LooksAt w'.seen version
 
 one_more : (r : Record) (cache : Cache) (w w' : Writer) (version : ℕ) → w' ≡ record w { cache = cache; seen = r ∷ w.seen } → LooksAt (r ∷ w.seen) version → Looks w w' version
-one_more r cache w w' version is looks = subst (λ (x : Writer). Looks w x version) (sym is) (record { goes = record { on = (r ∷ [], refl); table = refl }; longer = omega arith; looks = looks })
+one_more r cache w w' version is looks = subst (λ (x : Writer). Looks w x version) (sym is) (record { goes = record { on = (r ∷ [], refl); table = refl; layout = refl }; longer = omega arith; looks = looks })
 
 pub polls_looks : (files : Content) (epoch : ℕ) (w w' : Writer) (stamp : Stamp) → Polls (polled files w.cache) epoch w w' (Ok stamp) → Looks w w' stamp.version
 polls_looks files epoch w w' stamp p = by_same (same_files files w.cache.sources) p where
@@ -114,6 +118,7 @@ is_polled seen epoch w w' p t before polls newest since is = record {
   epoch_is = is;
   version = newest_held w'.seen w'.cache p.content p.stamp.version t newest;
   since = subst (PolledSince w'.seen p.stamp.version) is since;
+  newest = t.counted ∙ ap (λ (n : ℕ). n + 1) newest.number;
   looked = looked_between seen w w' p.stamp.version before (polls_looks p.content epoch w w' p.stamp polls);
 }
 
@@ -137,15 +142,15 @@ answered_on seen h loaded legal legal_seen p a = record {
 }
 
 same_writer : (w w' : Writer) → w' ≡ w → GoesOn w w'
-same_writer w w' is = subst (GoesOn w) (sym is) (record { on = ([], refl); table = refl })
+same_writer w w' is = subst (GoesOn w) (sym is) (record { on = ([], refl); table = refl; layout = refl })
 
 pub inserts_on : (said : Inserted) (loaded : Loaded) (w w' : Writer) → Inserts said loaded w w' → GoesOn w w'
-inserts_on (inserted.Done number) loaded w w' i = subst (GoesOn w) (sym i.2) (record { on = (Load (kept_of loaded w.cache.inserted).entry ∷ [], refl); table = refl })
+inserts_on (inserted.Done number) loaded w w' i = subst (GoesOn w) (sym i.2) (record { on = (Load (kept_of loaded w.cache.inserted).entry ∷ [], refl); table = refl; layout = refl })
 inserts_on (inserted.TooLarge size) loaded w w' i = same_writer w w' i.1
 inserts_on (inserted.Discarded noted epoch) loaded w w' i = same_writer w w' i.1
 inserts_on (inserted.Present number) loaded w w' i = same_writer w w' i.1
 inserts_on (inserted.Spent count) loaded w w' i = same_writer w w' i.1
-inserts_on (inserted.Full need free) loaded w w' i = subst (GoesOn w) (sym i.1) (record { on = ([], refl); table = refl })
+inserts_on (inserted.Full need free) loaded w w' i = subst (GoesOn w) (sym i.1) (record { on = ([], refl); table = refl; layout = refl })
 inserts_on inserted.NoMemory loaded w w' i = same_writer w w' i
 
 loads_rise : (more h : List Record) → loads h ≤ loads (more ++ h)
@@ -167,22 +172,38 @@ numbered h cache request n t is = by_entry (live_entry request cache.entries) re
     number_is : (a b : ℕ) → Some a ≡ Some b → a ≡ b
     number_is a b e = cc
 
-pub is_inserted : (said : Inserted) (loaded : Loaded) (seen : List Record) (w w' : Writer) → Tells w.seen w.cache → IsPrefix seen w.seen → Inserts said loaded w w' → IsRefused said loaded w → IsInserted said loaded seen w'.seen
-is_inserted (inserted.Done number) loaded seen w w' t p i r =
+-- the words of the live entries
+words_live : (ks : List Kept) → words_of (entries_of ks) ≡ all_words ks
+words_live [] = refl
+words_live (k ∷ ks) =
+    let f : Kept → ℕ = λ x. entry_words x.entry in
+    sum_by-cons entry_words k.entry (entries_of ks) ∙ ap (λ (n : ℕ). entry_words k.entry + n) (words_live ks) ∙ sym (sum_by-cons f k ks)
+
+-- what is free, by what the writer counts
+pub is_free : (h : List Record) (w : Writer) (free : ℕ) → Tells h w.cache → w.seen ≡ h → IsPacked w → free + w.cache.used ≡ w.layout.arena → IsFree w.layout.arena free h ⊎ MayBeUnmoved h
+is_free h w free t seen p rest = by_cycle (ltb w.cache.cycle last_count) refl where
+  by_cycle : (b : Bool) → ltb w.cache.cycle last_count ≡ b → IsFree w.layout.arena free h ⊎ MayBeUnmoved h
+  by_cycle false is = inr (let high = ltb-false w.cache.cycle last_count is in let low = p.cycles in let same : ends w.seen ≡ ends h = ap ends seen in omega arith)
+  by_cycle true is = let low = ltb-true w.cache.cycle last_count is in inl (record { entries = entries_of w.cache.entries; live = t.entries_are; rest = ap (λ (n : ℕ). free + n) (words_live w.cache.entries ∙ sym (p.taken low)) ∙ rest })
+
+pub is_inserted : (said : Inserted) (loaded : Loaded) (seen : List Record) (w w' : Writer) → Tells w.seen w.cache → IsPacked w → IsPrefix seen w.seen → Inserts said loaded w w' → IsRefused said loaded w → IsInserted w.layout.arena said loaded seen w'.seen
+is_inserted (inserted.Done number) loaded seen w w' t packed p i r =
     let low = loads_on seen w.seen p in
     let counted = t.loads_are in
     let is = i.1 in (
       subst (λ (x : Writer). HasLoad x.seen (kept_of loaded number).entry) (sym i.2) (inl (ap (λ (n : ℕ). (kept_of loaded n).entry) (sym is))),
       omega arith,
     )
-is_inserted (inserted.TooLarge size) loaded seen w w' t p i r = r
-is_inserted (inserted.Discarded noted epoch) loaded seen w w' t p i r = (r.0, r.1 ∙ sym t.epochs_are ∙ sym (ap (λ (x : Writer). invalidations x.seen) i.1), r.2)
-is_inserted (inserted.Present number) loaded seen w w' t p i r =
+is_inserted (inserted.TooLarge size) loaded seen w w' t packed p i r = r
+is_inserted (inserted.Discarded noted epoch) loaded seen w w' t packed p i r = (r.0, r.1 ∙ sym t.epochs_are ∙ sym (ap (λ (x : Writer). invalidations x.seen) i.1), r.2)
+is_inserted (inserted.Present number) loaded seen w w' t packed p i r =
     let e = numbered w.seen w.cache loaded.request number t r in
     (e.0, subst (λ (x : Writer). IsLive x.seen e.0) (sym i.1) e.1, e.2, e.3)
-is_inserted (inserted.Spent count) loaded seen w w' t p i r = (r.0, ap (λ (x : Writer). loads x.seen) i.1 ∙ t.loads_are ∙ r.1)
-is_inserted (inserted.Full need free) loaded seen w w' t p i r = r.2
-is_inserted inserted.NoMemory loaded seen w w' t p i r = tt
+is_inserted (inserted.Spent count) loaded seen w w' t packed p i r = (r.0, ap (λ (x : Writer). loads x.seen) i.1 ∙ t.loads_are ∙ r.1)
+is_inserted (inserted.Full need free) loaded seen w w' t packed p i r =
+    let same : w'.seen ≡ w.seen = ap (λ (x : Writer). x.seen) i.1 in
+    subst (λ (h : List Record). IsFull w.layout.arena h loaded.request loaded.answer.bytes need free) (sym same) (record { needed = r.0; less = r.2; left = is_free w.seen w free t refl packed r.1 })
+is_inserted inserted.NoMemory loaded seen w w' t packed p i r = tt
 
 pub stamp_epoch : (files : Content) (epoch : ℕ) (w w' : Writer) (stamp : Stamp) → Polls (polled files w.cache) epoch w w' (Ok stamp) → stamp.epoch ≡ epoch
 stamp_epoch files epoch w w' stamp p = by_same (same_files files w.cache.sources) p where
@@ -217,11 +238,29 @@ pub emptied_on : (w w' : Writer) → w' ≡ emptied_by w → GoesOn w w'
 emptied_on w w' is = subst (GoesOn w) (sym is) (record {
   on = prefix_through w.seen (ends_of by_invalidation w.cache.entries w.seen) (Invalid (w.cache.epoch + 1) ∷ ends_of by_invalidation w.cache.entries w.seen) (ends_prefix w.cache.entries w.seen) (Invalid (w.cache.epoch + 1) ∷ [], refl);
   table = refl;
+  layout = refl;
 })
 
 entries_length : (ks : List Kept) → length (entries_of ks) ≡ length ks
 entries_length [] = refl
 entries_length (k ∷ ks) = ap (λ (n : ℕ). suc n) (entries_length ks)
 
-pub is_counted : (h : List Record) (cache : Cache) (stats : Stats) → Tells h cache → stats.entries ≡ length cache.entries → stats.invalidations ≡ cache.epoch → IsCounted h stats
-is_counted h cache stats t entries invalid = record { entries = entries_of cache.entries; live = t.entries_are; counted = entries ∙ sym (entries_length cache.entries); invalidations_are = invalid ∙ sym t.epochs_are }
+-- what the writer counts of itself
+pub record Counted (w : Writer) (stats : Stats) : Type 0 where
+  pub entries : stats.entries ≡ length w.cache.entries
+  pub used : stats.used ≡ w.cache.used
+  pub arena : stats.arena ≡ w.layout.arena
+  pub invalidations_are : stats.invalidations ≡ w.cache.epoch
+  pub compactions : stats.compactions ≡ w.cache.cycle / 2
+
+pub is_counted : (w : Writer) (stats : Stats) → Tells w.seen w.cache → IsPacked w → Counted w stats → IsCounted w.layout.arena w.seen stats
+is_counted w stats t p c = record {
+  entries = entries_of w.cache.entries;
+  live = t.entries_are;
+  counted = c.entries ∙ sym (entries_length w.cache.entries);
+  taken = λ low. c.used ∙ p.taken (half_below w.cache.cycle (subst (λ (n : ℕ). n < 2 ^ 61) c.compactions low)) ∙ sym (words_live w.cache.entries);
+  invalidations_are = c.invalidations_are ∙ sym t.epochs_are;
+  arena_is = c.arena;
+} where
+  half_below : (n : ℕ) → n / 2 < 2 ^ 61 → n < last_count
+  half_below n low = omega arith

@@ -1,13 +1,11 @@
 -- What is known after one hold of the writer's lock.
-use Rattle.std.specs.Prelude.{◌≡◌, ℕ, ◌<◌, ◌≤◌, ◌⊎◌, List, length, Some}
+use Rattle.std.specs.Prelude.{◌≡◌, ℕ, ◌+◌, ◌<◌, ◌≤◌, List, length, Some}
 use Rattle.nsc_model.specs.declared.answer.Request.{Request}
 use Rattle.nsc_model.specs.declared.record.Record.{Record}
 use Rattle.nsc_model.specs.Entry.{Entry, kept_limit}
-use Rattle.nsc_model.specs.History.{HasLoad, IsLive, LookedBetween, NoneLive, NoneLiveOf, PolledSince, invalidations, loads, version_in}
+use Rattle.nsc_model.specs.History.{HasLoad, IsLive, LookedBetween, NoneLiveOf, PolledSince, changes, invalidations, loads, version_in}
 use Rattle.nsc_model.specs.Machine.{last_count}
-use Rattle.nsc_model.specs.declared.store.Stats.{Stats}
-use Rattle.nsc_model.specs.Stores.{IsHit}
-use Rattle.nsc_laws.specs.Core.{AreLive}
+use Rattle.nsc_model.specs.Stores.{IsFull, IsHit}
 use Rattle.nsc_writer.specs.declared.loaded.Inserted.{Inserted}
 use Rattle.nsc_writer.specs.declared.loaded.Inserted.TheVariants as inserted
 use Rattle.nsc_writer.specs.Loaded.{Loaded, kept_of}
@@ -25,33 +23,15 @@ pub record IsPolled (seen after : List Record) (epoch : ℕ) (polled : Polled) :
   pub epoch_is : polled.stamp.epoch ≡ epoch
   pub version : version_in after polled.stamp.version ≡ Some polled.content
   pub since : PolledSince after polled.stamp.version epoch
+  pub newest : changes after ≡ polled.stamp.version + 1
   pub looked : LookedBetween seen after polled.stamp.version
 
--- what became of an insertion
-abbrev pub IsInserted : Inserted → Loaded → List Record → List Record → Type 0
-IsInserted (inserted.Done number) loaded seen after = HasLoad after (kept_of loaded number).entry × (loads seen ≤ number)
-IsInserted (inserted.TooLarge size) loaded seen after = (size ≡ length loaded.answer.bytes) × (kept_limit < size)
-IsInserted (inserted.Discarded noted epoch) loaded seen after = (noted ≡ loaded.stamp.epoch) × (epoch ≡ invalidations after) × (noted < epoch)
-IsInserted (inserted.Present number) loaded seen after = (e : Entry) × IsLive after e × (e.number ≡ number) × (e.request ≡ loaded.request)
-IsInserted (inserted.Spent count) loaded seen after = (count ≡ last_count) × (loads after ≡ count)
-IsInserted (inserted.Full need free) loaded seen after = free < need
-IsInserted inserted.NoMemory loaded seen after = Unit {0}
-
--- an invalidation: its number is the count of invalidations, and was not before, and no entry is live
-pub record IsEmptied (seen after : List Record) (epoch : ℕ) : Type 0 where
-  pub last : invalidations after ≡ epoch
-  pub new : invalidations seen < epoch
-  pub none : NoneLive after
-
--- an invalidation gave up: the count of invalidations stands at its end; or every entry ended, and was not moved, since the count
--- of compactions does
-pub record IsUnmoved (after : List Record) (count : ℕ) : Type 0 where
-  pub last : count ≡ last_count
-  pub cause : (invalidations after ≡ count) ⊎ NoneLive after
-
--- the counts are those of this history
-pub record IsCounted (after : List Record) (stats : Stats) : Type 0 where
-  pub entries : List Entry
-  pub live : AreLive after entries
-  pub counted : stats.entries ≡ length entries
-  pub invalidations_are : stats.invalidations ≡ invalidations after
+-- what became of an insertion into an arena of so many words
+abbrev pub IsInserted : ℕ → Inserted → Loaded → List Record → List Record → Type 0
+IsInserted arena (inserted.Done number) loaded seen after = HasLoad after (kept_of loaded number).entry × (loads seen ≤ number)
+IsInserted arena (inserted.TooLarge size) loaded seen after = (size ≡ length loaded.answer.bytes) × (kept_limit < size)
+IsInserted arena (inserted.Discarded noted epoch) loaded seen after = (noted ≡ loaded.stamp.epoch) × (epoch ≡ invalidations after) × (noted < epoch)
+IsInserted arena (inserted.Present number) loaded seen after = (e : Entry) × IsLive after e × (e.number ≡ number) × (e.request ≡ loaded.request)
+IsInserted arena (inserted.Spent count) loaded seen after = (count ≡ last_count) × (loads after ≡ count)
+IsInserted arena (inserted.Full need free) loaded seen after = IsFull arena after loaded.request loaded.answer.bytes need free
+IsInserted arena inserted.NoMemory loaded seen after = Unit {0}

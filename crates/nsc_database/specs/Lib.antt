@@ -1,4 +1,6 @@
 pub mod Rooms
+pub mod Rests
 pub mod Holds
+pub mod Ticks
 pub mod Lookups
 pub mod Database

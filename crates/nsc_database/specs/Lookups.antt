@@ -26,10 +26,10 @@ Gives (inserted.Spent count) bytes g = g ≡ given.Fresh bytes (why.Spent count)
 Gives (inserted.Full need free) bytes g = g ≡ given.Fresh bytes (why.Full need free)
 Gives inserted.NoMemory bytes g = ⊥
 
--- an insertion was tried, and the lookup gives this
-pub record IsKept (loaded : Loaded) (seen after : List Record) (g : Given) : Type 0 where
+-- an insertion into an arena of so many words was tried, and the lookup gives this
+pub record IsKept (arena : ℕ) (loaded : Loaded) (seen after : List Record) (g : Given) : Type 0 where
   pub said : Inserted
-  pub inserted : IsInserted said loaded seen after
+  pub inserted : IsInserted arena said loaded seen after
   pub gives : Gives said loaded.answer.bytes g
 
 -- where the reply is not that of a live entry, the files that the database reads were read in this call, and the reply is the

@@ -4,11 +4,12 @@ ghost use Rattle.nsc_model.specs.Entry.{key_limit};
 ghost use Rattle.nsc_model.specs.Files.{part_of};
 ghost use Rattle.nsc_model.specs.Answers.{answer_of};
 ghost use Rattle.nsc_model.specs.History.{IsPrefix, Legal, invalidations};
-ghost use Rattle.nsc_model.specs.Machine.{life_of};
 ghost use Rattle.nsc_writer.specs.Writer.{IsAnswered};
 ghost use Rattle.nsc_sourcebook.specs.Reads.{AllRose, AreAsTold, IsPartOf};
-ghost use Rattle.nsc_model.specs.Stores.{IsFault};
-ghost use Rattle.nsc_database.specs.Holds.{IsCounted, IsEmptied, IsLooked, IsPolled, IsUnmoved};
+ghost use Rattle.nsc_model.specs.Machine.{life_of, room_of};
+ghost use Rattle.nsc_model.specs.Settings.{settings_of};
+ghost use Rattle.nsc_model.specs.Stores.{IsCounted, IsEmptied, IsFault, IsUnmoved};
+ghost use Rattle.nsc_database.specs.Holds.{IsLooked, IsPolled};
 ghost use Rattle.nsc_database.specs.Lookups.{Gives, IsKept};
 
 use crate::desk::{Desk, Shelved};
@@ -36,6 +37,7 @@ pub struct Base<D: OfDb, F: FileSet + Drop, A: Answerer, B: Room> {
     pub reloads: Option<u32>,
     pub map: Map,
     pub ghost own: { (db ≡ D.db) × (map.table ≡ B.table D.db) },
+    pub ghost conf: { (settings ≡ settings_of B.conf D.db) × (reloads ≡ B.conf.reloads) },
 }
 
 impl<D: OfDb, F: FileSet + Drop, A: Answerer + Drop, B: Room> Base<D, F, A, B> {
@@ -111,11 +113,12 @@ impl<D: OfDb, F: FileSet + Drop, A: Answerer + Drop, B: Room> Base<D, F, A, B> {
     ) -> Result<Given, NoMemory>
         requires db { pass.old.db ≡ D.db }
         requires answered { IsAnswered pass.old.pass.seen loaded }
+        requires new { loaded.reloads ≡ 0 }
         ensures db { pass.new.db ≡ pass.old.db }
         ensures files { pass.new.files ≡ pass.old.files }
         ensures before { IsPrefix pass.old.pass.seen pass.new.pass.seen }
         ensures legal { Legal pass.new.pass.seen }
-        ensures kept { IfOk result (λ given. IsKept loaded pass.old.pass.seen pass.new.pass.seen given) }
+        ensures kept { IfOk result (λ given. IsKept (room_of self.now.settings) loaded pass.old.pass.seen pass.new.pass.seen given) }
     {
         let (said, loaded) = self.desk.lock(rt).insert(pass, alloc, loaded);
         given_after(said, loaded.into_reply())
@@ -162,7 +165,7 @@ impl<D: OfDb, F: FileSet + Drop, A: Answerer + Drop, B: Room> Base<D, F, A, B> {
         ensures files { pass.new.files ≡ pass.old.files }
         ensures before { IsPrefix pass.old.pass.seen pass.new.pass.seen }
         ensures legal { Legal pass.new.pass.seen }
-        ensures counted { IsCounted pass.new.pass.seen result }
+        ensures counted { IsCounted (room_of self.now.settings) pass.new.pass.seen result }
         ensures enabled { result.enabled ≡ self.now.settings.enabled }
     {
         let counted = self.desk.lock(rt).stats(pass);
@@ -189,8 +192,8 @@ fn with_enabled(counted: Stats, enabled: bool) -> Stats
     }
 }
 
-// How long an answer is kept, in seconds.
-fn life_of(settings: &DbConf, answer: &Answer) -> u64
+/// How long an answer is kept, in seconds.
+pub fn life_of(settings: &DbConf, answer: &Answer) -> u64
     ensures value { result ≡ life_of settings.now answer.now }
     ensures bound { result < 2 ^ 32 }
 {

@@ -1,15 +1,17 @@
-ghost use Rattle.std.specs.Prelude.{◌≡◌, ◌≤◌, ◌<◌, ◌^◌, length, IfOk, IfErr};
+ghost use Rattle.std.specs.Prelude.{◌≡◌, ◌≤◌, ◌<◌, ◌^◌, length, IfOk, IfErr, OnOk};
+ghost use Rattle.std.specs.Bool.{OnTrue};
 ghost use Rattle.nsc_model.specs.Entry.{key_limit};
 ghost use Rattle.nsc_model.specs.History.{Answered, IsPrefix, Legal};
-ghost use Rattle.nsc_model.specs.Stores.{IsFault, IsGiven, reply_of};
-ghost use Rattle.nsc_database.specs.Holds.{IsCounted, IsEmptied, IsUnmoved};
+ghost use Rattle.nsc_model.specs.Machine.{room_of};
+ghost use Rattle.nsc_model.specs.Stores.{IsCounted, IsEmptied, IsFault, IsGiven, IsTickFault, IsUnmoved, reply_of};
 ghost use Rattle.nsc_database.specs.Lookups.{IsMade};
+ghost use Rattle.nsc_database.specs.Ticks.{IsTickedOver};
 
 use crate::base::Base;
 use crate::pass::DbPass;
 use crate::room::{OfGroup, OfHosts, OfPasswd, OfServices, Room};
 use nsc_base::NoMemory;
-use nsc_model::{Answerer, Given, Kind, LookupFault, Spent, Stats, Store};
+use nsc_model::{Answerer, Given, InvalidateFault, Kind, LookupFault, Spent, Stats, Store};
 use nsc_outside::FileSet;
 use std::alloc::Global;
 use std::marker::Model;
@@ -37,7 +39,7 @@ impl<F: FileSet + Drop, A: Answerer + Drop, B: Room> Model for Database<F, A, B>
 
     ghost Value = { Database };
 
-    ghost view = { λ d. elim d.bases as (λ _. Database) [ bases_of.Passwd b ↦ record { db = db_is.Passwd; settings = b.settings } | bases_of.Group b ↦ record { db = db_is.Group; settings = b.settings } | bases_of.Hosts b ↦ record { db = db_is.Hosts; settings = b.settings } | bases_of.Services b ↦ record { db = db_is.Services; settings = b.settings } ] };
+    ghost view = { λ d. elim d.bases as (λ _. Database) [ bases_of.Passwd b ↦ record { db = db_is.Passwd; settings = b.settings; reloads = b.reloads } | bases_of.Group b ↦ record { db = db_is.Group; settings = b.settings; reloads = b.reloads } | bases_of.Hosts b ↦ record { db = db_is.Hosts; settings = b.settings; reloads = b.reloads } | bases_of.Services b ↦ record { db = db_is.Services; settings = b.settings; reloads = b.reloads } ] };
 }
 
 impl<F: FileSet + Drop, A: Answerer + Drop, B: Room> Database<F, A, B> {
@@ -74,7 +76,7 @@ impl<F: FileSet + Drop, A: Answerer + Drop, B: Room> Database<F, A, B> {
 impl<F: FileSet + Drop, A: Answerer + Drop, B: Room> Database<F, A, B> {
     /// Ends every live entry as invalidated, and gives the new number of invalidations. At `Spent` a count stands at its end:
     /// that of the invalidations, and nothing changed; or that of the compactions, and the words of the ended entries are not free.
-    pub fn invalidate<R: Wait>(&self, rt: &R, pass: &mut DbPass<F, B>) -> Result<u64, Spent>
+    pub fn end_all<R: Wait>(&self, rt: &R, pass: &mut DbPass<F, B>) -> Result<u64, Spent>
         requires { pass.old.db ≡ self.now.db }
         ensures pass { pass.new.db ≡ pass.old.db }
         ensures before { IsPrefix pass.old.pass.seen pass.new.pass.seen }
@@ -90,13 +92,38 @@ impl<F: FileSet + Drop, A: Answerer + Drop, B: Room> Database<F, A, B> {
         }
     }
 
+    /// As `Store::tick`; and the files that the database reads were read in this call, and the version that was looked at is what
+    /// the reads gave, as far as the file set tells that.
+    pub fn tick_told<R: Wait>(
+        &self,
+        rt: &R,
+        alloc: Global,
+        pass: &mut DbPass<F, B>,
+        now: u64,
+    ) -> Result<(), LookupFault>
+        requires pass { pass.old.db ≡ self.now.db }
+        requires moment { now < 2 ^ 62 }
+        ensures pass { pass.new.db ≡ pass.old.db }
+        ensures before { IsPrefix pass.old.pass.seen pass.new.pass.seen }
+        ensures legal { Legal pass.new.pass.seen }
+        ensures ticked { OnOk result (OnTrue self.now.settings.enabled (IsTickedOver self.now.db (F.reads pass.old.files) (F.reads pass.new.files) (F.latest pass.new.files) self.now.settings self.now.reloads now pass.old.pass.seen pass.new.pass.seen)) }
+        ensures fault { IfErr result (λ fault. IsTickFault fault pass.new.pass.seen (F.faults pass.old.files) (F.faults pass.new.files) (F.file_faults pass.old.files) (F.file_faults pass.new.files)) }
+    {
+        match &self.bases {
+            Bases::Passwd(base) => base.tick(rt, alloc, pass, now),
+            Bases::Group(base) => base.tick(rt, alloc, pass, now),
+            Bases::Hosts(base) => base.tick(rt, alloc, pass, now),
+            Bases::Services(base) => base.tick(rt, alloc, pass, now),
+        }
+    }
+
     /// What the database counts.
-    pub fn stats<R: Wait>(&self, rt: &R, pass: &mut DbPass<F, B>) -> Stats
+    pub fn counts<R: Wait>(&self, rt: &R, pass: &mut DbPass<F, B>) -> Stats
         requires { pass.old.db ≡ self.now.db }
         ensures pass { pass.new.db ≡ pass.old.db }
         ensures before { IsPrefix pass.old.pass.seen pass.new.pass.seen }
         ensures legal { Legal pass.new.pass.seen }
-        ensures counted { IsCounted pass.new.pass.seen result }
+        ensures counted { IsCounted (room_of self.now.settings) pass.new.pass.seen result }
         ensures enabled { result.enabled ≡ self.now.settings.enabled }
     {
         match &self.bases {
@@ -114,6 +141,8 @@ impl<F: FileSet + Drop, A: Answerer + Drop, B: Room> Store for Database<F, A, B>
     ghost db = { λ d. d.db };
 
     ghost settings = { λ d. d.settings };
+
+    ghost reloads = { λ d. d.reloads };
 
     ghost is_pass = { λ d p. p.db ≡ d.db };
 
@@ -142,6 +171,27 @@ impl<F: FileSet + Drop, A: Answerer + Drop, B: Room> Store for Database<F, A, B>
         now: u64,
     ) -> Result<Given, LookupFault> {
         self.lookup_told(rt, alloc, pass, kind, key, now)
+    }
+
+    fn tick<R: Wait>(
+        &self,
+        rt: &R,
+        alloc: Global,
+        pass: &mut DbPass<F, B>,
+        now: u64,
+    ) -> Result<(), LookupFault> {
+        self.tick_told(rt, alloc, pass, now)
+    }
+
+    fn invalidate<R: Wait>(&self, rt: &R, pass: &mut DbPass<F, B>) -> Result<u64, InvalidateFault> {
+        match self.end_all(rt, pass) {
+            Ok(epoch) => Ok(epoch),
+            Err(spent) => Err(InvalidateFault::Spent { count: spent.count }),
+        }
+    }
+
+    fn stats<R: Wait>(&self, rt: &R, pass: &mut DbPass<F, B>) -> Result<Stats, NoMemory> {
+        Ok(self.counts(rt, pass))
     }
 
     fn meet(&self, pass: &mut DbPass<F, B>, other: DbPass<F, B>) {

@@ -1,33 +1,52 @@
 // What the locks of a database keep.
-ghost use Rattle.std.specs.Prelude.{◌≡◌, ◌≤◌, IfOk, IfErr, OnOk};
+ghost use Rattle.std.specs.Prelude.{◌≡◌, ◌≤◌, false, All, IfOk, IfErr, OnOk};
 ghost use Rattle.std.specs.Bool.{OnTrue};
 ghost use Rattle.nsc_model.specs.Files.{part_of};
-ghost use Rattle.nsc_model.specs.History.{IsPrefix, Legal, invalidations};
+ghost use Rattle.nsc_model.specs.History.{IsPrefix, Legal, NoneLive, invalidations};
 ghost use Rattle.nsc_writer.specs.Writer.{IsAnswered};
 ghost use Rattle.nsc_sourcebook.specs.Reads.{AllRose, AreAsTold, FaultRose, IsPartOf, TellsLength};
-ghost use Rattle.nsc_model.specs.Stores.{IsSpent};
-ghost use Rattle.nsc_database.specs.Holds.{IsCounted, IsEmptied, IsInserted, IsLooked, IsPolled, IsUnmoved};
+ghost use Rattle.nsc_model.specs.Machine.{is_outdated, room_of};
+ghost use Rattle.nsc_model.specs.Reloads.{Reloaded};
+ghost use Rattle.nsc_model.specs.Settings.{settings_of};
+ghost use Rattle.nsc_model.specs.Stores.{IsCounted, IsEmptied, IsSpent, IsUnmoved};
+ghost use Rattle.nsc_writer.specs.Uses.{counted};
+ghost use Rattle.nsc_database.specs.declared.renewal.Checked.TheVariants as is_checked;
+ghost use Rattle.nsc_database.specs.Holds.{IsInserted, IsLooked, IsPolled};
+ghost use Rattle.nsc_database.specs.Ticks.{AreAnew, AreOver, IsChecked, IsDue, IsHoldFault};
 
-use crate::holds;
 use crate::holds::Looked;
 use crate::pass::DbPass;
+use crate::renewal::Checked;
 use crate::room::{OfDb, Room};
+use crate::{holds, renewal};
 use nsc_base::NoMemory;
-use nsc_model::{Answerer, Kind, Spent, Stats};
+use nsc_model::{Answerer, DbConf, Kind, LookupFault, Spent, Stats};
 use nsc_outside::FileSet;
 use nsc_rule::Pass;
 use nsc_sourcebook::{Fetched, PollFault, Polled, SourceBook};
-use nsc_writer::{Inserted, Loaded, Writer};
+use nsc_writer::{Due, Inserted, Loaded, Writer};
 use std::alloc::Global;
-use std::marker::PhantomData;
+use std::marker::{Model, PhantomData};
 
-/// The writer of a database.
+/// The writer of a database, and the version that the last tick found, 0 before the first.
 #[derive(Drop)]
 pub struct Desk<D: OfDb, B: Room> {
     pub writer: Writer,
+    pub ticked: u64,
     pub of: PhantomData<D>,
     pub room: PhantomData<B>,
-    pub ghost own: { writer.table ≡ B.table D.db },
+    pub ghost own: { (writer.table ≡ B.table D.db) × (writer.layout.arena ≡ room_of (settings_of B.conf D.db)) },
+}
+
+impl<D: OfDb, B: Room> Model for Desk<D, B> {
+    ghost use Rattle.nsc_model.specs.Settings.{settings_of};
+    ghost use Rattle.nsc_database.specs.Rests.{Desk, IsPacked, Keeps};
+
+    ghost Value = { Desk };
+
+    ghost view = { λ d. record { writer = d.writer; ticked = d.ticked } };
+
+    ghost invariant = { λ d. Keeps (settings_of B.conf D.db) B.conf.reloads d.ticked d.writer × IsPacked d.writer };
 }
 
 /// Its source book.
@@ -40,6 +59,7 @@ pub struct Shelved<D: OfDb, F: FileSet + Drop, A: Answerer, B: Room> {
 }
 
 impl<D: OfDb, B: Room> Desk<D, B> {
+    /// A pass of the words of this database, which has seen all of its history.
     pub fn pass(&mut self) -> Pass
         ensures table { result.table ≡ B.table D.db }
         ensures legal { Legal result.seen }
@@ -48,10 +68,15 @@ impl<D: OfDb, B: Room> Desk<D, B> {
         self.writer.pass()
     }
 
-    pub fn miss(&mut self, not_found: bool) {
+    /// Counts a lookup that made an answer anew.
+    pub fn miss(&mut self, not_found: bool)
+        ensures { self.new.writer ≡ record self.old.writer { misses = counted not_found self.old.writer.misses } }
+    {
         self.writer.miss(not_found);
     }
 
+    /// Looks for the live entry of the request of this kind and key, whose reply the buffer of the pass has then; at a miss it
+    /// gives the number of invalidations.
     pub fn look<F: FileSet + Drop>(
         &mut self,
         pass: &mut DbPass<F, B>,
@@ -68,6 +93,8 @@ impl<D: OfDb, B: Room> Desk<D, B> {
         holds::look(&mut self.writer, &mut pass.pass, kind, key, &mut pass.reply)
     }
 
+    /// Enters that the files were looked at, after so many invalidations: what was fetched becomes the newest version, or confirms
+    /// it. At `Spent` a new version is needed, and the count of versions stands at its end.
     pub fn poll<F: FileSet + Drop, A: Answerer>(
         &mut self,
         shelved: &mut Shelved<D, F, A, B>,
@@ -95,6 +122,7 @@ impl<D: OfDb, B: Room> Desk<D, B> {
         )
     }
 
+    /// Counts a miss, tries an insertion, and hands back what was to be inserted.
     pub fn insert<F: FileSet + Drop>(
         &mut self,
         pass: &mut DbPass<F, B>,
@@ -103,18 +131,19 @@ impl<D: OfDb, B: Room> Desk<D, B> {
     ) -> (Inserted, Loaded)
         requires db { pass.old.db ≡ D.db }
         requires answered { IsAnswered pass.old.pass.seen loaded }
+        requires new { loaded.reloads ≡ 0 }
         ensures db { pass.new.db ≡ pass.old.db }
         ensures files { pass.new.files ≡ pass.old.files }
         ensures before { IsPrefix pass.old.pass.seen pass.new.pass.seen }
         ensures legal { Legal pass.new.pass.seen }
-        ensures inserted { IsInserted result.0 loaded pass.old.pass.seen pass.new.pass.seen }
+        ensures inserted { IsInserted (room_of (settings_of B.conf D.db)) result.0 loaded pass.old.pass.seen pass.new.pass.seen }
         ensures back { result.1 ≡ loaded }
     {
         holds::insert(&mut self.writer, &mut pass.pass, alloc, loaded)
     }
-}
 
-impl<D: OfDb, B: Room> Desk<D, B> {
+    /// Ends every entry, and gives the new number of invalidations. At `Spent` that number stands at its end; or every entry
+    /// ended, and the count of compactions does.
     pub fn invalidate<F: FileSet + Drop>(&mut self, pass: &mut DbPass<F, B>) -> Result<u64, Spent>
         requires { pass.old.db ≡ D.db }
         ensures db { pass.new.db ≡ pass.old.db }
@@ -127,25 +156,167 @@ impl<D: OfDb, B: Room> Desk<D, B> {
         holds::invalidate(&mut self.writer, &mut pass.pass)
     }
 
+    /// What the writer counts.
     pub fn stats<F: FileSet + Drop>(&mut self, pass: &mut DbPass<F, B>) -> Stats
         requires { pass.old.db ≡ D.db }
         ensures db { pass.new.db ≡ pass.old.db }
         ensures files { pass.new.files ≡ pass.old.files }
         ensures before { IsPrefix pass.old.pass.seen pass.new.pass.seen }
         ensures legal { Legal pass.new.pass.seen }
-        ensures counted { IsCounted pass.new.pass.seen result }
+        ensures counted { IsCounted (room_of (settings_of B.conf D.db)) pass.new.pass.seen result }
     {
         holds::stats(&mut self.writer, &mut pass.pass)
     }
 }
 
+impl<D: OfDb, B: Room> Desk<D, B> {
+    /// The number of invalidations.
+    pub fn note<F: FileSet + Drop>(&mut self, pass: &mut DbPass<F, B>) -> u64
+        requires { pass.old.db ≡ D.db }
+        ensures db { pass.new.db ≡ pass.old.db }
+        ensures files { pass.new.files ≡ pass.old.files }
+        ensures before { IsPrefix pass.old.pass.seen pass.new.pass.seen }
+        ensures legal { Legal pass.new.pass.seen }
+        ensures noted { result ≡ invalidations pass.new.pass.seen }
+    {
+        renewal::note(&mut self.writer, &mut pass.pass)
+    }
+
+    /// Where the newest version is not the one that the last tick found, and that counts, every entry ends; else it says which are
+    /// due at this moment, in seconds. At `NoMemory` no entry was ended; at `Spent` a count stands at its end, as at an invalidation.
+    pub fn check<F: FileSet + Drop>(
+        &mut self,
+        pass: &mut DbPass<F, B>,
+        alloc: Global,
+        settings: &DbConf,
+        limit: Option<u32>,
+        now: u64,
+    ) -> Result<Checked, LookupFault>
+        requires db { pass.old.db ≡ D.db }
+        requires settings { settings.now ≡ settings_of B.conf D.db }
+        requires limit { limit ≡ B.conf.reloads }
+        ensures db { pass.new.db ≡ pass.old.db }
+        ensures files { pass.new.files ≡ pass.old.files }
+        ensures before { IsPrefix pass.old.pass.seen pass.new.pass.seen }
+        ensures legal { Legal pass.new.pass.seen }
+        ensures checked { IfOk result (λ checked. IsChecked checked settings.now limit now pass.new.pass.seen) }
+        ensures reloaded { OnOk result (Reloaded limit pass.new.pass.seen) }
+        ensures fault { IfErr result (λ fault. IsHoldFault fault pass.new.pass.seen) }
+    {
+        let newest = self.writer.version();
+        if is_outdated(settings, newest, self.ticked) {
+            return self.empty(pass, newest);
+        }
+        self.list(pass, alloc, limit, now, newest)
+    }
+
+    // Says which are due, since the newest version, which is this one, is the one that the last tick found, or that does not count.
+    fn list<F: FileSet + Drop>(
+        &mut self,
+        pass: &mut DbPass<F, B>,
+        alloc: Global,
+        limit: Option<u32>,
+        now: u64,
+        newest: u64,
+    ) -> Result<Checked, LookupFault>
+        requires db { pass.old.db ≡ D.db }
+        requires limit { limit ≡ B.conf.reloads }
+        requires newest { newest ≡ self.old.writer.cache.newest_version }
+        requires current { is_outdated (settings_of B.conf D.db) newest self.old.ticked ≡ false }
+        ensures db { pass.new.db ≡ pass.old.db }
+        ensures files { pass.new.files ≡ pass.old.files }
+        ensures before { IsPrefix pass.old.pass.seen pass.new.pass.seen }
+        ensures legal { Legal pass.new.pass.seen }
+        ensures checked { IfOk result (λ checked. IsChecked checked (settings_of B.conf D.db) limit now pass.new.pass.seen) }
+        ensures reloaded { Reloaded limit pass.new.pass.seen }
+        ensures fault { IfErr result (λ fault. IsHoldFault fault pass.new.pass.seen) }
+    {
+        let listed = renewal::list(&mut self.writer, &mut pass.pass, alloc, limit, now);
+        self.ticked = newest;
+        match listed {
+            Ok(due) => Ok(Checked::Listed(due)),
+            Err(_) => Err(LookupFault::NoMemory),
+        }
+    }
+
+    // Ends every entry, since the newest version, which is this one, is not the one that the last tick found.
+    fn empty<F: FileSet + Drop>(
+        &mut self,
+        pass: &mut DbPass<F, B>,
+        newest: u64,
+    ) -> Result<Checked, LookupFault>
+        requires db { pass.old.db ≡ D.db }
+        requires newest { newest ≡ self.old.writer.cache.newest_version }
+        ensures db { pass.new.db ≡ pass.old.db }
+        ensures files { pass.new.files ≡ pass.old.files }
+        ensures before { IsPrefix pass.old.pass.seen pass.new.pass.seen }
+        ensures legal { Legal pass.new.pass.seen }
+        ensures emptied { IfOk result (λ checked. checked ≡ is_checked.Emptied) }
+        ensures none { OnOk result (NoneLive pass.new.pass.seen) }
+        ensures reloaded { OnOk result (Reloaded B.conf.reloads pass.new.pass.seen) }
+        ensures fault { IfErr result (λ fault. IsHoldFault fault pass.new.pass.seen) }
+    {
+        match holds::invalidate(&mut self.writer, &mut pass.pass) {
+            Ok(_) => {
+                self.ticked = newest;
+                Ok(Checked::Emptied)
+            }
+            Err(spent) => Err(LookupFault::Spent { count: spent.count }),
+        }
+    }
+
+    /// Ends those that are due, unless the database was invalidated since so many invalidations, and loads those again that are
+    /// to be. At `Spent` the count of compactions stands at its end, and the ended ones are not loaded again.
+    pub fn renew<F: FileSet + Drop>(
+        &mut self,
+        pass: &mut DbPass<F, B>,
+        alloc: Global,
+        epoch: u64,
+        due: &mut [Due],
+        loads: &[Option<Loaded>],
+        now: u64,
+    ) -> Result<(), Spent>
+        requires db { pass.old.db ≡ D.db }
+        requires legal { Legal pass.old.pass.seen }
+        requires noted { epoch ≤ invalidations pass.old.pass.seen }
+        requires due { All (IsDue B.conf.reloads now pass.old.pass.seen) due.old }
+        requires loads { AreAnew pass.old.pass.seen due.old loads.now }
+        ensures db { pass.new.db ≡ pass.old.db }
+        ensures files { pass.new.files ≡ pass.old.files }
+        ensures before { IsPrefix pass.old.pass.seen pass.new.pass.seen }
+        ensures legal { Legal pass.new.pass.seen }
+        ensures over { OnOk result (AreOver epoch pass.new.pass.seen due.old) }
+        ensures reloaded { Reloaded B.conf.reloads pass.new.pass.seen }
+        ensures spent { IfErr result (λ spent. IsUnmoved pass.new.pass.seen spent.count) }
+    {
+        renewal::renew(
+            &mut self.writer,
+            &mut pass.pass,
+            alloc,
+            epoch,
+            due,
+            loads,
+            now,
+        )
+    }
+}
+
+// Whether the newest version is not the one that the last tick found, and that counts.
+fn is_outdated(settings: &DbConf, newest: u64, ticked: u64) -> bool
+    ensures { result ≡ is_outdated settings.now newest ticked }
+{
+    settings.check_files && newest != ticked
+}
+
 impl<D: OfDb, F: FileSet + Drop, A: Answerer, B: Room> Shelved<D, F, A, B> {
+    /// A file set that is split from the kept one. Fails only for want of memory.
     pub fn split(&self, alloc: Global) -> Result<F, NoMemory>
         ensures { IfOk result (λ set. F.faults set ≡ 0) }
     {
         self.book.split(alloc)
     }
 
+    /// Reads the files of the database through the file set of the pass. At each fault the newest version stays.
     pub fn fetch(
         &self,
         alloc: Global,

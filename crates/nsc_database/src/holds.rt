@@ -1,12 +1,13 @@
 // What is done under one hold of the writer's lock. A pass is shown the history at the beginning and at the end of each.
-ghost use Rattle.std.specs.Prelude.{◌≡◌, ◌≤◌, IfOk, IfErr};
+ghost use Rattle.std.specs.Prelude.{◌≡◌, ◌≤◌, IfOk, IfErr, OnOk};
 ghost use Rattle.std.specs.Bool.{OnTrue};
 ghost use Rattle.nsc_model.specs.Entry.{kept_limit};
 ghost use Rattle.nsc_model.specs.History.{IsPrefix, Legal, invalidations};
 ghost use Rattle.nsc_writer.specs.Writer.{IsAnswered};
 ghost use Rattle.nsc_model.specs.Machine.{last_count};
-ghost use Rattle.nsc_model.specs.Stores.{IsSpent};
-ghost use Rattle.nsc_database.specs.Holds.{IsCounted, IsEmptied, IsInserted, IsLooked, IsPolled, IsUnmoved};
+ghost use Rattle.nsc_model.specs.Stores.{IsCounted, IsEmptied, IsSpent, IsUnmoved};
+ghost use Rattle.nsc_database.specs.Holds.{IsInserted, IsLooked, IsPolled};
+ghost use Rattle.nsc_database.specs.Rests.{FindsNewest, IsLeft, IsPacked, Rests};
 
 use nsc_base::Buf;
 use nsc_model::{Answerer, Kind, Spent, Stats};
@@ -37,6 +38,7 @@ pub fn look(writer: &mut Writer, pass: &mut Pass, kind: Kind, key: &[u8], reply:
     ensures before { IsPrefix pass.old.seen pass.new.seen }
     ensures legal { Legal pass.new.seen }
     ensures looked { IsLooked result pass.new.seen (record { kind = kind; key = key.now }) reply.new.content }
+    ensures rests { Rests writer.old writer.new }
     ensures limit { reply.new.limit ≡ reply.old.limit }
 {
     writer.show(pass);
@@ -68,6 +70,7 @@ pub fn poll<F: FileSet + Drop, A: Answerer>(
     ensures legal { Legal pass.new.seen }
     ensures content { IfOk result (λ polled. polled.content ≡ fetched.content) }
     ensures polled { IfOk result (λ polled. IsPolled pass.old.seen pass.new.seen epoch polled) }
+    ensures rests { Rests writer.old writer.new }
     ensures spent { IfErr result (λ spent. IsSpent pass.new.seen spent.count) }
 {
     writer.show(pass);
@@ -91,11 +94,14 @@ pub fn insert(
 ) -> (Inserted, Loaded)
     requires table { pass.old.table ≡ writer.old.table }
     requires answered { IsAnswered pass.old.seen loaded }
+    requires new { loaded.reloads ≡ 0 }
+    requires packed { IsPacked writer.old }
     ensures writer { writer.new.table ≡ writer.old.table }
     ensures pass { pass.new.table ≡ pass.old.table }
     ensures before { IsPrefix pass.old.seen pass.new.seen }
     ensures legal { Legal pass.new.seen }
-    ensures inserted { IsInserted result.0 loaded pass.old.seen pass.new.seen }
+    ensures inserted { IsInserted writer.old.layout.arena result.0 loaded pass.old.seen pass.new.seen }
+    ensures rests { Rests writer.old writer.new }
     ensures back { result.1 ≡ loaded }
 {
     pass.learn();
@@ -110,12 +116,16 @@ pub fn insert(
 
 /// Ends every entry as invalidated, and compacts where there was any.
 pub fn invalidate(writer: &mut Writer, pass: &mut Pass) -> Result<u64, Spent>
-    requires { pass.old.table ≡ writer.old.table }
+    requires table { pass.old.table ≡ writer.old.table }
+    requires packed { IsPacked writer.old }
     ensures writer { writer.new.table ≡ writer.old.table }
     ensures pass { pass.new.table ≡ pass.old.table }
     ensures before { IsPrefix pass.old.seen pass.new.seen }
     ensures legal { Legal pass.new.seen }
     ensures done { IfOk result (λ epoch. IsEmptied pass.old.seen pass.new.seen epoch) }
+    ensures found { OnOk result (FindsNewest writer.old writer.new) }
+    ensures shown { OnOk result (pass.new.seen ≡ writer.new.seen) }
+    ensures rests { Rests writer.old writer.new }
     ensures spent { IfErr result (λ spent. IsUnmoved pass.new.seen spent.count) }
 {
     let is_empty = writer.is_empty();
@@ -141,6 +151,8 @@ fn end_all(writer: &mut Writer, pass: &mut Pass) -> Result<u64, Spent>
     ensures before { IsPrefix pass.old.seen pass.new.seen }
     ensures legal { Legal pass.new.seen }
     ensures done { IfOk result (λ epoch. IsEmptied pass.old.seen pass.new.seen epoch) }
+    ensures emptied { OnOk result (IsLeft writer.old writer.new pass.new.seen) }
+    ensures stays { IfErr result (λ _. writer.new ≡ writer.old) }
     ensures spent { IfErr result (λ spent. (spent.count ≡ last_count) × (invalidations pass.new.seen ≡ spent.count)) }
 {
     writer.show(pass);
@@ -157,12 +169,13 @@ fn end_all(writer: &mut Writer, pass: &mut Pass) -> Result<u64, Spent>
 
 /// What the writer counts.
 pub fn stats(writer: &mut Writer, pass: &mut Pass) -> Stats
-    requires { pass.old.table ≡ writer.old.table }
+    requires table { pass.old.table ≡ writer.old.table }
+    requires packed { IsPacked writer.old }
     ensures writer { writer.new ≡ writer.old }
     ensures pass { pass.new.table ≡ pass.old.table }
     ensures before { IsPrefix pass.old.seen pass.new.seen }
     ensures legal { Legal pass.new.seen }
-    ensures counted { IsCounted pass.new.seen result }
+    ensures counted { IsCounted writer.old.layout.arena pass.new.seen result }
 {
     writer.show(pass);
     writer.learn();

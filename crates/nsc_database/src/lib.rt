@@ -8,7 +8,9 @@ mod holds;
 mod lookup;
 mod opened;
 mod pass;
+mod renewal;
 mod room;
+mod tick;
 
 pub use database::Database;
 pub use opened::Opened;

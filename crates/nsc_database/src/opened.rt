@@ -2,7 +2,9 @@ ghost use Rattle.std.specs.Prelude.{◌≡◌, ◌≤◌, ◌∷◌, [], IfOk, I
 ghost use Rattle.nsc_model.specs.declared.record.Record.TheVariants as record_of;
 ghost use Rattle.nsc_model.specs.Entry.{kept_limit};
 ghost use Rattle.nsc_model.specs.Files.{part_of};
+ghost use Rattle.nsc_model.specs.Machine.{room_of};
 ghost use Rattle.nsc_model.specs.Settings.{settings_of};
+ghost use Rattle.nsc_database.specs.Rests.{IsNew};
 ghost use Rattle.nsc_sourcebook.specs.Reads.{AllRose, AreAsTold, FaultRose, IsPartOf, TellsLength};
 
 use crate::base::Base;
@@ -32,8 +34,9 @@ pub struct Opened<F: FileSet + Drop, A: Answerer + Drop> {
     answers: A,
     pub db: Db,
     pub settings: DbConf,
-    reloads: Option<u32>,
+    pub reloads: Option<u32>,
     pub ghost tied: { (book.table ≡ pass.table) × (book.db ≡ db) × (writer.table ≡ pass.table) },
+    pub ghost new: { IsNew writer book.newest (room_of settings) },
     pub ghost buffer: { reply.limit ≡ kept_limit },
 }
 
@@ -48,7 +51,7 @@ impl<F: FileSet + Drop, A: Answerer + Drop> Opened<F, A> {
         conf: &Conf,
     ) -> Result<Opened<F, A>, PollFault>
         requires { (settings_of conf.now db).size ≤ 65536 }
-        ensures db { IfOk result (λ o. (o.db ≡ db) × (o.settings ≡ settings_of conf.now db)) }
+        ensures db { IfOk result (λ o. (o.db ≡ db) × (o.settings ≡ settings_of conf.now db) × (o.reloads ≡ conf.now.reloads)) }
         ensures seen { IfOk result (λ o. o.pass.seen ≡ record_of.Change 0 o.book.newest ∷ []) }
         ensures told { IfOk result (λ o. AreAsTold db (F.latest files.new) o.book.newest) }
         ensures part { IfOk result (λ o. IsPartOf db (F.held files.old) o.book.newest) }
@@ -81,8 +84,9 @@ impl<F: FileSet + Drop, A: Answerer + Drop> Opened<F, A> {
     /// Enters a room, whose words for this database are its own: from then on threads may share it. Fails only for want of
     /// memory.
     pub fn enter<B: Room>(self) -> Result<(Database<F, A, B>, DbPass<F, B>), NoMemory>
-        requires { self.pass.table ≡ B.table self.db }
-        ensures database { IfOk result (λ r. r.0 ≡ record { db = self.db; settings = self.settings }) }
+        requires table { self.pass.table ≡ B.table self.db }
+        requires conf { (self.settings ≡ settings_of B.conf self.db) × (self.reloads ≡ B.conf.reloads) }
+        ensures database { IfOk result (λ r. r.0 ≡ record { db = self.db; settings = self.settings; reloads = self.reloads }) }
         ensures pass { IfOk result (λ r. (r.1.db ≡ self.db) × (r.1.pass.seen ≡ self.pass.seen)) }
     {
         let Opened {
@@ -142,7 +146,9 @@ impl<F: FileSet + Drop, A: Answerer + Drop> Parts<F, A> {
     fn base<D: OfDb, B: Room>(self) -> Base<D, F, A, B>
         requires db { (self.db ≡ D.db) × (self.book.db ≡ D.db) }
         requires tables { (self.book.table ≡ B.table D.db) × (self.writer.table ≡ B.table D.db) × (self.map.table ≡ B.table D.db) }
-        ensures { result.settings ≡ self.settings }
+        requires conf { (self.settings ≡ settings_of B.conf D.db) × (self.reloads ≡ B.conf.reloads) }
+        requires new { IsNew self.writer self.book.newest (room_of self.settings) }
+        ensures { (result.settings ≡ self.settings) × (result.reloads ≡ self.reloads) }
     {
         let Parts {
             book,
@@ -161,6 +167,7 @@ impl<F: FileSet + Drop, A: Answerer + Drop> Parts<F, A> {
             }),
             desk: Mutex::new(Desk {
                 writer,
+                ticked: 0,
                 of: PhantomData,
                 room: PhantomData,
             }),

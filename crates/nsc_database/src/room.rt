@@ -1,17 +1,23 @@
 use std::marker::Brand;
 
-/// Names the words of each database.
+/// Names the words of each database, and the configuration that they run under.
 pub trait Room {
     ghost use Rattle.atomic_table.specs.Seated.{TableId};
+    ghost use Rattle.nsc_model.specs.declared.conf.Conf.{Conf};
     ghost use Rattle.nsc_model.specs.declared.kind.Db.{Db};
 
     ghost table: { Db → TableId };
+
+    ghost conf: { Conf };
 }
 
 impl Room for Brand {
+    ghost use Rattle.nsc_model.specs.Settings.{default_settings};
     ghost use Rattle.nsc_database.specs.Rooms.{no_table};
 
     ghost table = { λ db. no_table };
+
+    ghost conf = { default_settings };
 }
 
 /// Names a database.
@@ -21,12 +27,16 @@ pub trait OfDb {
     ghost db: { Db };
 }
 
+/// The database `passwd` of nsswitch.conf(5).
 pub struct OfPasswd;
 
+/// The database `group` of nsswitch.conf(5).
 pub struct OfGroup;
 
+/// The database `hosts` of nsswitch.conf(5).
 pub struct OfHosts;
 
+/// The database `services` of nsswitch.conf(5).
 pub struct OfServices;
 
 impl OfDb for OfPasswd {

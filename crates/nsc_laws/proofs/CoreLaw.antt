@@ -14,7 +14,8 @@ use Rattle.nsc_model.specs.Entry.{Entry}
 use Rattle.nsc_model.specs.Answers.{answer_of}
 use Rattle.nsc_model.specs.History.{changes, invalidations, newest, version_in, HasLoad, HasEnd, IsLive, WasPolled, Legal, IsPrefix, FromEntry, FromPoll, LooksAt}
 use Rattle.nsc_laws.specs.Origins.{IsOfCallers, IsAnswer}
-use Rattle.nsc_laws.specs.Core.{Caller, Core, new_caller, opening, with_caller, Move, Files, Begin, Look, Note, Fetch, PollStep, Insert, Finish, Empty, Compact, Reply, IsPoll, Inserts, Replies, ended_all, AreLive, Moves, Runs, RepliesAnswer}
+use Rattle.nsc_laws.specs.Core.{Caller, Core, new_caller, opening, with_caller, Move, Files, Begin, Look, Note, Fetch, PollStep, Insert, Finish, Empty, Compact, Reply, IsPoll, Inserts, Replies, ended_all, Moves, Runs, RepliesAnswer}
+use Rattle.nsc_model.specs.Live.{AreLive}
 use Rattle.nsc_laws.proofs.CoreLawRecords.{prefix_more, prefix_length, not_ended_before, load_more, invalidations_rise, changes_rise, poll_more, version_held, all_ended, none_left, same_invalidations}
 
 -- of the version that a caller polled in its call: a moment of the call at which it was looked at

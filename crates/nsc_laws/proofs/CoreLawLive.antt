@@ -9,7 +9,8 @@ use Rattle.nsc_model.specs.declared.record.Record.TheVariants.{Change, Poll, Loa
 use Rattle.nsc_model.specs.Content.{Content}
 use Rattle.nsc_model.specs.Entry.{Entry}
 use Rattle.nsc_model.specs.History.{loads, invalidations, IsLive, Legal}
-use Rattle.nsc_laws.specs.Core.{Core, opening, Among, Rise, ended_all, AreLive, Move, Empty, Moves, Runs}
+use Rattle.nsc_laws.specs.Core.{Core, opening, ended_all, Move, Empty, Moves, Runs}
+use Rattle.nsc_model.specs.Live.{Among, Rise, AreLive}
 use Rattle.nsc_laws.proofs.Prefixes.{load_below, end_below}
 use Rattle.nsc_laws.proofs.CoreLawRecords.{rise_tail, first_least}
 use Rattle.nsc_laws.proofs.CoreLaw.{legal_law}

@@ -8,7 +8,8 @@ use Rattle.nsc_model.specs.declared.record.Record.TheVariants.{Change, Poll, Loa
 use Rattle.nsc_model.specs.Content.{Content}
 use Rattle.nsc_model.specs.Entry.{Entry}
 use Rattle.nsc_model.specs.History.{changes, invalidations, version_in, HasLoad, HasEnd, IsLive, NoneLive, WasPolled, Legal, IsPrefix}
-use Rattle.nsc_laws.specs.Core.{Among, Rise, ended_all, AreLive}
+use Rattle.nsc_laws.specs.Core.{ended_all}
+use Rattle.nsc_model.specs.Live.{Among, Rise, AreLive}
 
 -- ---- one more record
 

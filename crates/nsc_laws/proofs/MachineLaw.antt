@@ -15,7 +15,8 @@ use Rattle.nsc_model.specs.Entry.{Entry}
 use Rattle.nsc_model.specs.declared.conf.DbConf.{DbConf}
 use Rattle.nsc_model.specs.Answers.{answer_of}
 use Rattle.nsc_model.specs.History.{version_in, IsLive, Legal, Answered}
-use Rattle.nsc_laws.specs.Core.{Caller, Core, opening, Files, Look, Among, AreLive, Replies}
+use Rattle.nsc_laws.specs.Core.{Caller, Core, opening, Files, Look, Replies}
+use Rattle.nsc_model.specs.Live.{Among, AreLive}
 use Rattle.nsc_model.specs.Machine.{Kept, Cache, new_cache, Passed, Stopped, unchanged, ◌>>=◌, polled, tried, kept_answer, cached, used_now, loaded, hit_or_load, lookup, invalidated, compacted_after, ends_of, is_dropped, due_cause, next_reloads, reloaded, due_of, others_of, reloaded_of, pruned, is_outdated, checked, tick}
 use Rattle.nsc_laws.specs.Calls.{entries_of, Drives, IsTurned, PassesBy, TurnsBy}
 use Rattle.nsc_laws.proofs.Requests.{same_request, request_same}

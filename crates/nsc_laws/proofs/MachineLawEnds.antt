@@ -10,7 +10,8 @@ use Rattle.nsc_model.specs.declared.record.Record.{Record}
 use Rattle.nsc_model.specs.declared.record.Record.TheVariants.{End}
 use Rattle.nsc_model.specs.Entry.{Entry}
 use Rattle.nsc_model.specs.History.{changes, loads, invalidations, newest, version_in, HasLoad, HasEnd, IsLive, WasPolled, Allows, Legal}
-use Rattle.nsc_laws.specs.Core.{Core, Among, Rise, ended_all, AreLive, Move, Finish, Runs}
+use Rattle.nsc_laws.specs.Core.{Core, ended_all, Move, Finish, Runs}
+use Rattle.nsc_model.specs.Live.{Among, Rise, AreLive}
 use Rattle.nsc_model.specs.Machine.{Kept, Cache, ends_of, by_invalidation, is_dropped, due_cause, due_of, others_of}
 use Rattle.nsc_laws.specs.Calls.{entries_of, Tells, IsOwn}
 use Rattle.nsc_laws.proofs.CoreLawRecords.{rise_tail, first_least}

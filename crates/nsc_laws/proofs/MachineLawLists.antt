@@ -7,7 +7,7 @@ use Rattle.nsc_model.specs.declared.record.Record.TheVariants.{Change, Poll, Loa
 use Rattle.nsc_model.specs.Kinds.{is_request}
 use Rattle.nsc_model.specs.Entry.{Entry}
 use Rattle.nsc_model.specs.History.{loads, HasLoad, HasEnd, IsLive, Legal}
-use Rattle.nsc_laws.specs.Core.{Among, Rise}
+use Rattle.nsc_model.specs.Live.{Among, Rise}
 use Rattle.nsc_model.specs.Machine.{Kept, used_now}
 use Rattle.nsc_laws.specs.Calls.{entries_of}
 use Rattle.nsc_laws.proofs.Prefixes.{load_below}

@@ -11,7 +11,8 @@ use Rattle.nsc_model.specs.Files.{part_of, same_files}
 use Rattle.nsc_model.specs.Entry.{Entry}
 use Rattle.nsc_model.specs.declared.conf.DbConf.{DbConf}
 use Rattle.nsc_model.specs.History.{loads, invalidations, newest, version_in, HasEnd, IsLive, NoneLiveOf, IsTrueAnswer, WasPolled, Legal}
-use Rattle.nsc_laws.specs.Core.{Caller, Core, Insert, Empty, IsPoll, Among, ended_all, AreLive}
+use Rattle.nsc_laws.specs.Core.{Caller, Core, Insert, Empty, IsPoll, ended_all}
+use Rattle.nsc_model.specs.Live.{Among, AreLive}
 use Rattle.nsc_model.specs.Machine.{last_count, Kept, Cache, unchanged, stopped, after_adds, polled, new_entry, Refusal, TooLarge, Discarded, Present, Spent, Full, own_refusal, room_of, tried_by, tried, entry_words, all_words, compacted_after, emptied, by_invalidation, invalidated}
 use Rattle.nsc_laws.specs.Calls.{entries_of, Tells}
 use Rattle.nsc_model.proofs.Contents.{one_content}

@@ -12,7 +12,8 @@ use Rattle.nsc_model.specs.Content.{Content}
 use Rattle.nsc_model.specs.Files.{part_of}
 use Rattle.nsc_model.specs.Entry.{Entry}
 use Rattle.nsc_model.specs.History.{changes, invalidations, newest, Legal, IsPrefix, LooksAt}
-use Rattle.nsc_laws.specs.Core.{Caller, Core, opening, Move, Begin, Insert, Finish, Empty, Inserts, AreLive, Runs}
+use Rattle.nsc_laws.specs.Core.{Caller, Core, opening, Move, Begin, Insert, Finish, Empty, Inserts, Runs}
+use Rattle.nsc_model.specs.Live.{AreLive}
 use Rattle.nsc_laws.specs.Origins.{WasAsked, IsSourced, IsRun}
 use Rattle.nsc_laws.proofs.Prefixes.{more_after, prefix_legal}
 use Rattle.nsc_laws.proofs.CoreLaw.{begun}

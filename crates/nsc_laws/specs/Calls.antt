@@ -8,7 +8,8 @@ use Rattle.nsc_model.specs.Files.{part_of}
 use Rattle.nsc_model.specs.Entry.{Entry}
 use Rattle.nsc_model.specs.declared.conf.DbConf.{DbConf}
 use Rattle.nsc_model.specs.History.{changes, loads, invalidations, newest, version_in, IsLive, Legal, IsPrefix, Answered}
-use Rattle.nsc_laws.specs.Core.{Core, Move, Files, Begin, Look, Note, Fetch, PollStep, Insert, Finish, Empty, Compact, Reply, AreLive, Runs, Replies, opening}
+use Rattle.nsc_laws.specs.Core.{Core, Move, Files, Begin, Look, Note, Fetch, PollStep, Insert, Finish, Empty, Compact, Reply, Runs, Replies, opening}
+use Rattle.nsc_model.specs.Live.{AreLive}
 use Rattle.nsc_model.specs.Machine.{Kept, Cache, Passed, Stopped, Turn, lookup, tick, ticked_by, invalidated}
 
 -- what never changes of the entries

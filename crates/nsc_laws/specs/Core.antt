@@ -9,6 +9,7 @@ use Rattle.nsc_model.specs.declared.record.Record.TheVariants.{Change, Poll, Loa
 use Rattle.nsc_model.specs.Content.{Content}
 use Rattle.nsc_model.specs.Files.{part_of}
 use Rattle.nsc_model.specs.Entry.{Entry}
+use Rattle.nsc_model.specs.Live.{AreLive}
 use Rattle.nsc_model.specs.Answers.{answer_of}
 use Rattle.nsc_model.specs.History.{changes, loads, invalidations, newest, version_in, IsLive, NoneLiveOf, Allows, IsPrefix, Answered}
 
@@ -82,27 +83,10 @@ pub record Inserts (history : List Record) (caller : Caller) (timeout : ℕ) (e 
   pub answer_is : e.answer ≡ answer_of content e.request
   pub timeout_is : e.timeout ≡ timeout
 
--- the entry is in the list
-abbrev pub Among : List Entry → Entry → Type 0
-Among [] e = ⊥
-Among (entry ∷ entries) e = (entry ≡ e) ⊎ Among entries e
-
--- the numbers of the entries rise
-abbrev pub Rise : List Entry → Type 0
-Rise [] = Unit {0}
-Rise (e ∷ []) = Unit {0}
-Rise (e ∷ f ∷ entries) = (e.number < f.number) × Rise (f ∷ entries)
-
 -- the ends of entries by an invalidation, one after the other
 abbrev pub ended_all : List Entry → List Record → List Record
 ended_all [] before = before
 ended_all (e ∷ entries) before = ended_all entries (End e.number Invalidated ∷ before)
-
--- the live entries, each once, in rising number
-pub record AreLive (history : List Record) (entries : List Entry) : Type 0 where
-  pub live : (e : Entry) → Among entries e → IsLive history e
-  pub all : (e : Entry) → IsLive history e → Among entries e
-  pub rising : Rise entries
 
 -- a reply: of the load that the caller took in this call, or its answer over the version that it polled in this call
 pub record Replies (core : Core) (a : ℕ) (bytes : List ℕ) : Type 0 where

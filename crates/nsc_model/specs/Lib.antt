@@ -16,6 +16,8 @@ pub mod Compat
 pub mod Answers
 pub mod Outcomes
 pub mod History
+pub mod Live
+pub mod Reloads
 pub mod Settings
 pub mod Sizes
 pub mod Machine

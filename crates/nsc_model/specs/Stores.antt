@@ -1,6 +1,8 @@
 -- What a lookup in a store gives a caller who had seen one beginning of the database's history before, and has seen another one
 -- after it.
-use Rattle.std.specs.Prelude.{◌≡◌, ℕ, ◌+◌, ◌<◌, ◌≤◌, ◌⊎◌, false, List, length, Some}
+use Rattle.std.specs.Prelude.{◌≡◌, ◌≢◌, ℕ, ◌+◌, ◌^◌, ◌<◌, ◌≤◌, ◌⊎◌, false, List, length, sum_by, Option, Some}
+use Rattle.std.specs.Bool.{OnTrue}
+use Rattle.nsc_base.specs.Nodes.{node_words}
 use Rattle.nsc_model.specs.declared.answer.Request.{Request}
 use Rattle.nsc_model.specs.declared.record.Record.{Record}
 use Rattle.nsc_model.specs.declared.conf.DbConf.{DbConf}
@@ -9,13 +11,18 @@ use Rattle.nsc_model.specs.declared.store.Given.TheVariants as given
 use Rattle.nsc_model.specs.declared.kind.FileId.{FileId}
 use Rattle.nsc_model.specs.declared.store.LookupFault.{LookupFault}
 use Rattle.nsc_model.specs.declared.store.LookupFault.TheVariants as fault
+use Rattle.nsc_model.specs.declared.store.InvalidateFault.{InvalidateFault}
+use Rattle.nsc_model.specs.declared.store.InvalidateFault.TheVariants as invalidate_fault
+use Rattle.nsc_model.specs.declared.store.Stats.{Stats}
 use Rattle.nsc_model.specs.declared.store.Why.{Why}
 use Rattle.nsc_model.specs.declared.store.Why.TheVariants as why
 use Rattle.nsc_model.specs.Content.{Content}
 use Rattle.nsc_model.specs.Files.{file_limit}
 use Rattle.nsc_model.specs.Entry.{Entry, kept_limit}
-use Rattle.nsc_model.specs.History.{HasLoad, HasEnd, IsLive, EndedAfter, invalidations, loads, version_in}
-use Rattle.nsc_model.specs.Machine.{last_count, life_of}
+use Rattle.nsc_model.specs.History.{HasLoad, HasEnd, IsLive, EndedAfter, LookedBetween, NoneLive, invalidations, loads, version_in}
+use Rattle.nsc_model.specs.Live.{AreLive}
+use Rattle.nsc_model.specs.Reloads.{Reloaded, ends}
+use Rattle.nsc_model.specs.Machine.{entry_words, last_count, life_of, room_of}
 
 -- the reply
 abbrev pub reply_of : Given → List ℕ
@@ -41,6 +48,26 @@ pub record IsLoaded (settings : DbConf) (now : ℕ) (seen after : List Record) (
   pub timeout : entry.timeout ≡ now + life_of settings entry.answer
   pub new : HasLoad seen entry → ⊥
 
+-- the words that live entries take
+abbrev pub words_of : List Entry → ℕ
+words_of entries = sum_by entry_words entries
+
+-- so many entries ended that the count of compactions may stand at its end
+abbrev pub MayBeUnmoved : List Record → Type 0
+MayBeUnmoved history = 2 ^ 61 ≤ ends history
+
+-- the words that are free are those of the arena that no live entry takes
+pub record IsFree (arena free : ℕ) (history : List Record) : Type 0 where
+  pub entries : List Entry
+  pub live : AreLive history entries
+  pub rest : free + words_of entries ≡ arena
+
+-- an entry needs more words than are free
+pub record IsFull (arena : ℕ) (history : List Record) (request : Request) (bytes : List ℕ) (need free : ℕ) : Type 0 where
+  pub needed : need ≡ node_words (length request.key) (length bytes)
+  pub less : free < need
+  pub left : IsFree arena free history ⊎ MayBeUnmoved history
+
 -- why a reply that was made anew is not kept
 abbrev pub IsWhy : Why → DbConf → List Record → List Record → Request → List ℕ → Type 0
 IsWhy why.Disabled settings seen after request bytes = settings.enabled ≡ false
@@ -48,7 +75,7 @@ IsWhy (why.TooLarge size) settings seen after request bytes = (size ≡ length b
 IsWhy (why.Discarded loaded epoch) settings seen after request bytes = (invalidations seen ≤ loaded) × (loaded < epoch) × (epoch ≤ invalidations after)
 IsWhy (why.Present number) settings seen after request bytes = (e : Entry) × IsLive after e × (e.number ≡ number) × (e.request ≡ request) × (HasLoad seen e → ⊥)
 IsWhy (why.Spent count) settings seen after request bytes = (count ≡ last_count) × (loads after ≡ count)
-IsWhy (why.Full need free) settings seen after request bytes = free < need
+IsWhy (why.Full need free) settings seen after request bytes = IsFull (room_of settings) after request bytes need free
 
 -- a count of faults rose; one that stands at the greatest stays there, and then counts as risen
 abbrev pub FaultsRose : ℕ → ℕ → Type 0
@@ -73,3 +100,51 @@ abbrev pub IsGiven : Given → DbConf → ℕ → List Record → List Record �
 IsGiven (given.Hit bytes number) settings now seen after request = IsHit after request bytes number
 IsGiven (given.Loaded bytes number) settings now seen after request = IsLoaded settings now seen after request bytes number × EndedAfter seen after request
 IsGiven (given.Fresh bytes why) settings now seen after request = IsWhy why settings seen after request bytes × ((settings.enabled ≡ false) ⊎ EndedAfter seen after request)
+
+-- ---- invalidations, counts and ticks
+
+-- an invalidation: its number is the count of invalidations, and was not before, and no entry is live
+pub record IsEmptied (seen after : List Record) (epoch : ℕ) : Type 0 where
+  pub last : invalidations after ≡ epoch
+  pub new : invalidations seen < epoch
+  pub none : NoneLive after
+
+-- a count stands at its end: that of the invalidations; or that of the compactions, and the words of ended entries are not free
+pub record IsUnmoved (after : List Record) (count : ℕ) : Type 0 where
+  pub last : count ≡ last_count
+  pub cause : (invalidations after ≡ count) ⊎ MayBeUnmoved after
+
+-- why an invalidation gave up
+abbrev pub IsInvalidateFault : InvalidateFault → List Record → Type 0
+IsInvalidateFault invalidate_fault.NoMemory after = Unit {0}
+IsInvalidateFault (invalidate_fault.Spent count) after = IsUnmoved after count
+
+-- the counts are those of this history, and the words those of its live entries
+pub record IsCounted (arena : ℕ) (after : List Record) (stats : Stats) : Type 0 where
+  pub entries : List Entry
+  pub live : AreLive after entries
+  pub counted : stats.entries ≡ length entries
+  pub taken : stats.compactions < 2 ^ 61 → stats.used ≡ words_of entries
+  pub invalidations_are : stats.invalidations ≡ invalidations after
+  pub arena_is : stats.arena ≡ arena
+
+-- a tick at this moment looked at a version: every entry that had been seen is ended whose time was over, and, where changes of
+-- the files count, whose version is another one
+pub record IsTicked (settings : DbConf) (limit : Option ℕ) (now : ℕ) (seen after : List Record) : Type 0 where
+  pub version : ℕ
+  pub looked : LookedBetween seen after version
+  pub over : (e : Entry) → HasLoad seen e → e.timeout < now → HasEnd after e.number
+  pub outdated : OnTrue settings.check_files ((e : Entry) → HasLoad seen e → e.version ≢ version → HasEnd after e.number)
+  pub reloaded : Reloaded limit after
+
+-- a tick does nothing where the database is not cached
+abbrev pub Ticks : DbConf → Option ℕ → ℕ → List Record → List Record → Type 0
+Ticks settings limit now seen after = OnTrue settings.enabled (IsTicked settings limit now seen after)
+
+-- why a tick gave up
+abbrev pub IsTickFault : LookupFault → List Record → ℕ → ℕ → (FileId → ℕ) → (FileId → ℕ) → Type 0
+IsTickFault fault.NoMemory after before_faults after_faults before_each after_each = Unit {0}
+IsTickFault (fault.Spent count) after before_faults after_faults before_each after_each = IsSpent after count ⊎ IsUnmoved after count
+IsTickFault (fault.SourceFault file) after before_faults after_faults before_each after_each = FaultsRose before_faults after_faults × FaultsRose (before_each file) (after_each file)
+IsTickFault (fault.TooLong file size) after before_faults after_faults before_each after_each =
+    FaultsRose before_faults after_faults × FaultsRose (before_each file) (after_each file) × (file_limit < size)

@@ -24,5 +24,5 @@ pub use fault::CacheFault;
 pub use kind::{Db, FileId, Kind};
 pub use record::{Ending, Entry, Record};
 pub use row::{Ai, Found6, Founds, Group, Host, Looked, Passwd, Reply, Row, Service};
-pub use store::{Given, LookupFault, Spent, Stats, Store, Why};
+pub use store::{Given, InvalidateFault, LookupFault, Spent, Stats, Store, Why};
 pub use switch::{DbName, SwitchAction, SwitchService, SwitchStep};

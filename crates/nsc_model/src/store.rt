@@ -1,4 +1,4 @@
-ghost use Rattle.std.specs.Prelude.{◌≡◌, ◌<◌, ◌^◌, ◌≤◌, ℕ, List, length, IfOk, IfErr};
+ghost use Rattle.std.specs.Prelude.{◌≡◌, ◌<◌, ◌^◌, ◌≤◌, ℕ, List, Option, length, IfOk, IfErr, OnOk};
 ghost use Rattle.nsc_model.specs.declared.kind.Db.{Db};
 ghost use Rattle.nsc_model.specs.declared.kind.FileId.{FileId};
 ghost use Rattle.nsc_model.specs.declared.conf.DbConf.{DbConf};
@@ -6,7 +6,8 @@ ghost use Rattle.nsc_model.specs.declared.record.Record.{Record};
 ghost use Rattle.nsc_model.specs.Entry.{key_limit};
 ghost use Rattle.nsc_model.specs.Kinds.{database_of};
 ghost use Rattle.nsc_model.specs.History.{Answered, IsPrefix, Legal};
-ghost use Rattle.nsc_model.specs.Stores.{IsFault, IsGiven, reply_of};
+ghost use Rattle.nsc_model.specs.Machine.{room_of};
+ghost use Rattle.nsc_model.specs.Stores.{IsCounted, IsEmptied, IsFault, IsGiven, IsInvalidateFault, IsTickFault, Ticks, reply_of};
 
 use crate::kind::{FileId, Kind};
 use nsc_base::{Bytes, NoMemory};
@@ -138,6 +139,21 @@ pub enum LookupFault {
     },
 }
 
+/// Why an invalidation gave up.
+#[derive(Clone, Copy, Debug, PartialEq, Eq, Error)]
+pub enum InvalidateFault {
+    /// Memory was wanting.
+    #[error("out of memory")]
+    NoMemory,
+    /// A count that the call needs stands at its end: that of the invalidations, and nothing changed; or that of the
+    /// compactions, and every entry is ended, but the words of the ended ones are not free.
+    #[error("a count stands at {count}")]
+    Spent {
+        /// The count, 2^62.
+        count: u64,
+    },
+}
+
 impl From<NoMemory> for LookupFault {
     ghost use Rattle.std.specs.Prelude.{◌≡◌};
     ghost use Rattle.nsc_model.specs.declared.store.LookupFault.TheVariants.{NoMemory as Memory};
@@ -170,6 +186,9 @@ pub trait Store {
 
     // Its settings.
     ghost settings: { Self → DbConf };
+
+    // After how many reloads without a use an entry is dropped.
+    ghost reloads: { Self → Option ℕ };
 
     // Whether a pass is one of this store.
     ghost is_pass: { Self → Self.Pass → Type 0 };
@@ -207,6 +226,44 @@ pub trait Store {
         ensures answered { IfOk result (λ g. Answered (seen pass.old) (seen pass.new) (record { kind = kind; key = key.now }) (reply_of g)) }
         ensures given { IfOk result (λ g. IsGiven g (settings self.now) now (seen pass.old) (seen pass.new) (record { kind = kind; key = key.now })) }
         ensures fault { IfErr result (λ fault. IsFault fault (seen pass.new) (faults pass.old) (faults pass.new) (file_faults pass.old) (file_faults pass.new)) };
+
+    /// What is due at this moment, in seconds, where the database is cached: the files are looked at; where they changed since the
+    /// last tick, and that counts, every entry ends; else the entries whose time is over end, and those that are not dropped are
+    /// loaded again over the files as they were found, where nothing refuses it. At `NoMemory` no entry was ended. At `Spent` of
+    /// the versions nothing changed, of the invalidations only the look at the files was entered, and of the compactions the
+    /// ended entries are not loaded again.
+    fn tick<R: Wait>(
+        &self,
+        rt: &R,
+        alloc: Global,
+        pass: &mut Self::Pass,
+        now: u64,
+    ) -> Result<(), LookupFault>
+        requires pass { is_pass self.now pass.old }
+        requires moment { now < 2 ^ 62 }
+        ensures pass { is_pass self.now pass.new }
+        ensures before { IsPrefix (seen pass.old) (seen pass.new) }
+        ensures legal { Legal (seen pass.new) }
+        ensures ticked { OnOk result (Ticks (settings self.now) (reloads self.now) now (seen pass.old) (seen pass.new)) }
+        ensures fault { IfErr result (λ fault. IsTickFault fault (seen pass.new) (faults pass.old) (faults pass.new) (file_faults pass.old) (file_faults pass.new)) };
+
+    /// Ends every live entry as invalidated, and gives the new number of invalidations.
+    fn invalidate<R: Wait>(&self, rt: &R, pass: &mut Self::Pass) -> Result<u64, InvalidateFault>
+        requires { is_pass self.now pass.old }
+        ensures pass { is_pass self.now pass.new }
+        ensures before { IsPrefix (seen pass.old) (seen pass.new) }
+        ensures legal { Legal (seen pass.new) }
+        ensures done { IfOk result (λ epoch. IsEmptied (seen pass.old) (seen pass.new) epoch) }
+        ensures fault { IfErr result (λ fault. IsInvalidateFault fault (seen pass.new)) };
+
+    /// What the database counts. Fails only for want of memory.
+    fn stats<R: Wait>(&self, rt: &R, pass: &mut Self::Pass) -> Result<Stats, NoMemory>
+        requires { is_pass self.now pass.old }
+        ensures pass { is_pass self.now pass.new }
+        ensures before { IsPrefix (seen pass.old) (seen pass.new) }
+        ensures legal { Legal (seen pass.new) }
+        ensures counted { IfOk result (λ stats. IsCounted (room_of (settings self.now)) (seen pass.new) stats) }
+        ensures enabled { IfOk result (λ stats. stats.enabled ≡ (settings self.now).enabled) };
 
     /// The pass has seen, then, all that it and the other one had seen.
     fn meet(&self, pass: &mut Self::Pass, other: Self::Pass)

@@ -12,7 +12,7 @@ use Rattle.nsc_model.specs.Content.{Content}
 use Rattle.nsc_model.specs.Entry.{Entry}
 use Rattle.nsc_model.specs.History.{invalidations, IsLive, NoneLiveOf, WasPolled, Allows, LooksAt, PolledSince}
 use Rattle.nsc_model.specs.Machine.{Kept, Cache, by_invalidation, emptied, ends_of, live_entry, used_now}
-use Rattle.nsc_laws.specs.Core.{Among, Rise, AreLive}
+use Rattle.nsc_model.specs.Live.{Among, Rise, AreLive}
 use Rattle.nsc_laws.specs.Calls.{Tells, entries_of}
 use Rattle.nsc_laws.proofs.Requests.{request_same}
 use Rattle.nsc_laws.proofs.CoreLawRecords.{rise_tail, first_least}

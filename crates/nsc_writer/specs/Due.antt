@@ -1,18 +1,44 @@
 -- Entries whose time is over.
-use Rattle.std.specs.Prelude.{ℕ, Bool, Option}
+use Rattle.std.specs.Prelude.{◌≡◌, ℕ, ◌<◌, Bool, false, if◌then◌else◌, List, [], ◌∷◌, Option}
 use Rattle.nsc_model.specs.declared.answer.Request.{Request}
-use Rattle.nsc_model.specs.Machine.{Kept, due_cause, due_of, ends_of, is_dropped, next_reloads, others_of}
-use Rattle.nsc_writer.specs.Writer.{Writer}
+use Rattle.nsc_model.specs.declared.record.Record.{Record}
+use Rattle.nsc_model.specs.Entry.{Entry}
+use Rattle.nsc_model.specs.History.{HasLoad}
+use Rattle.nsc_model.specs.Machine.{Kept, is_dropped}
+use Rattle.nsc_writer.specs.declared.writer.Cause.{Cause}
+use Rattle.nsc_writer.specs.declared.writer.Cause.TheVariants as cause
+use Rattle.nsc_writer.specs.Shelf.{has_number}
+use Rattle.nsc_writer.specs.Writer.{Writer, ending_of, without_entry}
 
--- what it was asked, the count of one more reload, and whether it is dropped, and not reloaded
+-- its number, what it was asked, how often it was reloaded without a use, whether it is dropped, and not reloaded, and whether it
+-- was ended since
 pub record Due : Type 0 where
+  pub number : ℕ
   pub request : Request
   pub reloads : ℕ
   pub dropped : Bool
+  pub ended : Bool
 
 abbrev pub due_from : Option ℕ → Kept → Due
-due_from limit k = record { request = k.entry.request; reloads = next_reloads k.reloads; dropped = is_dropped limit k }
+due_from limit k = record { number = k.entry.number; request = k.entry.request; reloads = k.reloads; dropped = is_dropped limit k; ended = false }
 
--- the writer once the entries whose time is over ended
-abbrev pub pruned_by : Option ℕ → ℕ → Writer → Writer
-pruned_by limit now w = record w { cache = record w.cache { entries = others_of now w.cache.entries }; seen = ends_of (due_cause limit now) (due_of now w.cache.entries) w.seen }
+-- why it ends
+abbrev pub due_cause_of : ℕ → Due → Cause
+due_cause_of now d = if d.dropped then cause.Expired now else cause.Replaced
+
+-- an entry of this number was inserted, whose time is over
+abbrev pub IsOver : List Record → ℕ → Due → Type 0
+IsOver history now d = (e : Entry) × HasLoad history e × (e.number ≡ d.number) × (e.timeout < now)
+
+-- the writer once this one ended, where it is live, and once they all did, one after the other
+abbrev pub pruned_one : ℕ → Due → Writer → Writer
+pruned_one now d w = if has_number d.number w.cache.entries then without_entry d.number (ending_of (due_cause_of now d)) w else w
+
+abbrev pub pruned_by : ℕ → List Due → Writer → Writer
+pruned_by now [] w = w
+pruned_by now (d ∷ due) w = pruned_by now due (pruned_one now d w)
+
+-- they are marked where they are live when their turn comes
+abbrev pub marked_by : ℕ → List Due → Writer → List Due
+marked_by now [] w = []
+marked_by now (d ∷ due) w = record d { ended = has_number d.number w.cache.entries } ∷ marked_by now due (pruned_one now d w)

@@ -6,7 +6,7 @@ ghost use Rattle.nsc_model.specs.declared.record.Record.TheVariants as record_of
 ghost use Rattle.nsc_model.specs.Entry.{Entry};
 ghost use Rattle.nsc_model.specs.History.{Allows, IsLive, PolledSince};
 ghost use Rattle.nsc_model.specs.Machine.{by_invalidation, ends_of, last_count, polled};
-ghost use Rattle.nsc_laws.specs.Core.{AreLive};
+ghost use Rattle.nsc_model.specs.Live.{AreLive};
 ghost use Rattle.nsc_laws.specs.Calls.{entries_of};
 ghost use Rattle.nsc_writer.specs.Shelf.{has_number};
 ghost use Rattle.nsc_writer.specs.Writer.{Inserts, IsAnswered, IsFree, IsNewest, IsRefused, Polls, SaysRefused, ending_of, emptied_by, is_full, refusal_of, without_entry};
@@ -105,22 +105,32 @@ impl Writer {
         ensures why { IsRefused result.0 loaded self.old }
         ensures back { result.1 ≡ loaded }
     {
-        if let Some(refused) = self.refusal(&loaded) {
+        let said = self.insert_copy(alloc, &loaded);
+        (said, loaded)
+    }
+
+    /// The same with a copy of what is to be inserted.
+    pub fn insert_copy(&mut self, alloc: Global, loaded: &Loaded) -> Inserted
+        requires { IsAnswered self.old.seen loaded.now }
+        ensures inserted { Inserts result loaded.now self.old self.new }
+        ensures why { IsRefused result loaded.now self.old }
+    {
+        if let Some(refused) = self.refusal(loaded) {
             if is_full(refused) {
                 self.shelf.fail();
             }
-            return (refused, loaded);
+            return refused;
         }
         let number = self.shelf.inserted();
         let Ok(kept) = loaded.kept(alloc, number) else {
-            return (Inserted::NoMemory, loaded);
+            return Inserted::NoMemory;
         };
         if self.shelf.reserve().is_err() {
-            return (Inserted::NoMemory, loaded);
+            return Inserted::NoMemory;
         }
         self.pen.insert(&self.map, kept.entry());
         self.shelf.put(kept);
-        (Inserted::Done { number }, loaded)
+        Inserted::Done { number }
     }
 
     /// Ends the entry of this number by this cause, which lets it end. It is false exactly where the entry is not live; then

@@ -1,26 +1,25 @@
 // The entries whose time is over.
-ghost use Rattle.std.specs.Prelude.{◌≡◌, ◌≤◌, map, length, IfOk, IfErr, OnOk};
+ghost use Rattle.std.specs.Prelude.{◌≡◌, ◌≤◌, All, filter, map, length, IfOk};
 ghost use Rattle.nsc_model.specs.Entry.{key_limit};
-ghost use Rattle.nsc_model.specs.Machine.{due_cause, due_of, ends_of};
-ghost use Rattle.nsc_laws.specs.Core.{AreLive};
-ghost use Rattle.nsc_laws.specs.Calls.{entries_of};
-ghost use Rattle.nsc_writer.specs.Due.{due_from, pruned_by};
+ghost use Rattle.nsc_model.specs.Machine.{due_of, next_reloads};
+ghost use Rattle.nsc_writer.specs.Due.{IsOver, due_cause_of, due_from, marked_by, pruned_by};
 
-use crate::writer::Writer;
+use crate::writer::{Cause, Writer};
 use nsc_base::{Bytes, NoMemory};
-use nsc_model::{Ending, Kind, Request};
-use nsc_plain::Kept;
-use nsc_rule::{Map, Pen};
+use nsc_model::{Kind, Request};
+use nsc_plain::{Kept, LAST_COUNT};
 use std::alloc::Global;
 use std::marker::Model;
 
-/// What is known of an entry whose time was over: what it was asked, the count of one more reload, and whether it is dropped, and
-/// not reloaded.
+/// What is known of an entry whose time was over: its number and request, how often it was reloaded without a use, whether it is
+/// dropped, and not reloaded, and whether it was ended since.
 #[derive(Drop)]
 pub struct Due {
+    number: u64,
     request: Request,
     reloads: u64,
     dropped: bool,
+    ended: bool,
 }
 
 impl Model for Due {
@@ -30,12 +29,19 @@ impl Model for Due {
 
     ghost Value = { Due };
 
-    ghost view = { λ d. record { request = d.request; reloads = d.reloads; dropped = d.dropped } };
+    ghost view = { λ d. record { number = d.number; request = d.request; reloads = d.reloads; dropped = d.dropped; ended = d.ended } };
 
     ghost invariant = { λ d. length d.request.key ≤ key_limit };
 }
 
 impl Due {
+    /// The number of the entry.
+    pub fn number(&self) -> u64
+        ensures { result ≡ self.now.number }
+    {
+        self.number
+    }
+
     /// The kind of its request.
     pub fn kind(&self) -> Kind
         ensures { result ≡ self.now.request.kind }
@@ -51,11 +57,15 @@ impl Due {
         self.request.key.as_slice()
     }
 
-    /// How often it is reloaded since its last use, once it is reloaded.
-    pub fn reloads(&self) -> u64
-        ensures { result ≡ self.now.reloads }
+    /// How often it is reloaded since its last use, once it is reloaded; the count stays at its end.
+    pub fn next_reloads(&self) -> u64
+        ensures { result ≡ next_reloads self.now.reloads }
     {
-        self.reloads
+        if self.reloads < LAST_COUNT {
+            self.reloads + 1
+        } else {
+            LAST_COUNT
+        }
     }
 
     /// Whether it is dropped, and not reloaded: its reply is a not-found one, or it was reloaded often enough.
@@ -64,26 +74,79 @@ impl Due {
     {
         self.dropped
     }
+
+    /// Whether it was ended since.
+    pub fn is_ended(&self) -> bool
+        ensures { result ≡ self.now.ended }
+    {
+        self.ended
+    }
+
+    // Says whether it was ended.
+    fn mark(&mut self, ended: bool)
+        ensures { self.new ≡ record self.old { ended = ended } }
+    {
+        self.ended = ended;
+    }
+
+    // Why it ends at this moment.
+    fn cause(&self, now: u64) -> Cause
+        ensures { result ≡ due_cause_of now self.now }
+    {
+        if self.dropped {
+            Cause::Expired(now)
+        } else {
+            Cause::Replaced
+        }
+    }
 }
 
 impl Writer {
-    /// Ends every entry whose time is over at this moment, in seconds, and says what they were, in rising number: those that
-    /// were reloaded so often without a use are dropped. Fails only for want of memory; then nothing changed.
-    pub fn prune(
-        &mut self,
-        alloc: Global,
-        limit: Option<u32>,
-        now: u64,
-    ) -> Result<Vec<Due>, NoMemory>
-        ensures due { IfOk result (λ all. all.items ≡ map (due_from limit) (due_of now self.old.cache.entries)) }
-        ensures pruned { OnOk result (self.new ≡ pruned_by limit now self.old) }
-        ensures stays { IfErr result (λ _. self.new ≡ self.old) }
+    /// The live entries whose time is over at this moment, in seconds, in rising number. Those that were reloaded so often without a
+    /// use are dropped, as those are whose reply is a not-found one. Fails only for want of memory.
+    pub fn expired(&self, alloc: Global, limit: Option<u32>, now: u64) -> Result<Vec<Due>, NoMemory>
+        ensures { IfOk result (λ all. all.items ≡ map (due_from limit) (due_of now self.now.cache.entries)) }
     {
-        let due = due_entries(alloc, self.shelf.entries(), limit, now)?;
-        end_due(&mut self.pen, &self.map, self.shelf.entries(), limit, now);
-        self.shelf.drop_due(now);
-        Ok(due)
+        due_entries(alloc, self.shelf.entries(), limit, now)
     }
+
+    /// Ends those of the entries that are live still, one after the other: the dropped ones as expired at this moment, and the others
+    /// to be loaded again. Marks which ones it ended, and gives their count.
+    pub fn prune_ends(&mut self, due: &mut [Due], now: u64) -> u64
+        requires { All (IsOver self.old.seen now) due.old }
+        ensures pruned { self.new ≡ pruned_by now due.old self.old }
+        ensures marked { due.new ≡ marked_by now due.old self.old }
+        ensures count { result ≡ length (filter (λ d. d.ended) due.new) }
+    {
+        self.end_each(due, now);
+        ended_count(due)
+    }
+
+    // The same without the count.
+    fn end_each(&mut self, due: &mut [Due], now: u64)
+        requires { All (IsOver self.old.seen now) due.old }
+        ensures pruned { self.new ≡ pruned_by now due.old self.old }
+        ensures marked { due.new ≡ marked_by now due.old self.old }
+    {
+        for one in due.iter_mut() {
+            self.learn();
+            let ended = self.end(one.number, one.cause(now));
+            one.mark(ended);
+        }
+    }
+}
+
+// How many of them were ended.
+fn ended_count(due: &[Due]) -> u64
+    ensures { result ≡ length (filter (λ d. d.ended) due.now) }
+{
+    let mut count = 0;
+    for one in due {
+        if one.ended {
+            count += 1;
+        }
+    }
+    count
 }
 
 // What is known of those of the entries whose time is over.
@@ -112,32 +175,10 @@ fn due_from(alloc: Global, kept: &Kept, limit: Option<u32>) -> Result<Due, NoMem
     let key = Bytes::copy(alloc, request.key.as_slice())?;
     let kind = request.kind;
     Ok(Due {
+        number: kept.entry().number(),
         request: Request { kind, key },
-        reloads: kept.next_reloads(),
+        reloads: kept.reloads(),
         dropped: kept.is_dropped(limit),
+        ended: false,
     })
-}
-
-// Ends those of these live entries whose time is over, one after the other.
-fn end_due(pen: &mut Pen, map: &Map, entries: &[Kept], limit: Option<u32>, now: u64)
-    requires map { map.now.table ≡ pen.old.table }
-    requires live { AreLive pen.old.seen (entries_of entries.now) }
-    ensures { pen.new ≡ record pen.old { seen = ends_of (due_cause limit now) (due_of now entries.now) pen.old.seen } }
-{
-    for kept in entries {
-        if kept.is_due(now) {
-            pen.end(map, kept.entry().number(), due_cause(kept, limit, now));
-        }
-    }
-}
-
-// Why an entry whose time is over ends.
-fn due_cause(kept: &Kept, limit: Option<u32>, now: u64) -> Ending
-    ensures { result ≡ due_cause limit now kept.now }
-{
-    if kept.is_dropped(limit) {
-        Ending::Expired { now }
-    } else {
-        Ending::Replaced
-    }
 }

@@ -1,7 +1,7 @@
 ghost use Rattle.std.specs.Prelude.{◌≡◌, ◌≤◌, ◌<◌, ◌+◌, ◌^◌, ◌++◌, [], ◌∷◌, None, length, min, IfOk, IfErr, IfNone, IfSome, OnOk};
 ghost use Rattle.std.specs.Vec.{vec_capacity};
 ghost use Rattle.nsc_model.specs.Entry.{kept_limit};
-ghost use Rattle.nsc_model.specs.Machine.{all_words, entry_words, last_count, live_entry, others_of, used_now};
+ghost use Rattle.nsc_model.specs.Machine.{all_words, entry_words, last_count, live_entry, used_now};
 ghost use Rattle.nsc_writer.specs.Shelf.{Gives, has_number, is_numbered, number_of, others_than};
 
 use crate::uses::{Hit, next_count};
@@ -160,13 +160,6 @@ impl Shelf {
         drop_entry(&mut self.entries, number);
     }
 
-    /// The entries whose time is over leave. Their words stay in use.
-    pub fn drop_due(&mut self, now: u64)
-        ensures { self.new ≡ record self.old { entries = others_of now self.old.entries } }
-    {
-        leave_due(&mut self.entries, now);
-    }
-
     /// Every entry leaves. Their words stay in use.
     pub fn clear(&mut self)
         ensures { self.new ≡ record self.old { entries = [] } }
@@ -197,14 +190,6 @@ fn drop_entry(entries: &mut Vec<Kept>, number: u64)
     ensures capacity { vec_capacity entries.new ≡ vec_capacity entries.old }
 {
     entries.retain(|kept| !is_numbered(kept, number));
-}
-
-// The entries whose time is over leave.
-fn leave_due(entries: &mut Vec<Kept>, now: u64)
-    ensures items { entries.new.items ≡ others_of now entries.old.items }
-    ensures capacity { vec_capacity entries.new ≡ vec_capacity entries.old }
-{
-    entries.retain(|kept| !kept.is_due(now));
 }
 
 // Whether the entry has this number.

@@ -4,7 +4,7 @@ use Rattle.nsc_model.specs.History.{IsPrefix}
 use Rattle.nsc_rule.specs.Pass.{Pass}
 use Rattle.nsc_writer.specs.Writer.{Writer}
 use Rattle.nsc_writer.proofs.Later.{prefix_through}
-use Rattle.nsc_database.specs.Holds.{IsEmptied}
+use Rattle.nsc_model.specs.Stores.{IsEmptied}
 use Rattle.nsc_database.proofs.Shown.{emptied_on, is_emptied}
 use Rattle.nsc_database.proofs.holds.end_all.Goals as goal
 

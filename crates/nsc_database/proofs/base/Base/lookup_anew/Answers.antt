@@ -1,5 +1,6 @@
 use Rattle.std.proofs.Common.{◌∙◌, ap, sym, subst}
 use Rattle.nsc_model.specs.declared.answer.Request.{Request}
+use Rattle.nsc_model.specs.Machine.{room_of}
 use Rattle.nsc_writer.specs.Loaded.{Loaded}
 use Rattle.nsc_writer.specs.Writer.{IsAnswered}
 use Rattle.nsc_writer.proofs.Later.{prefix_through}
@@ -21,7 +22,7 @@ returns-in-Ok-keep-clause-answered g c =
     let seen = c.args.pass.now.pass.seen in
     let mid = c.poll.new.pass.pass.seen in
     let after = c.keep.new.pass.pass.seen in
-    let reply = kept_reply c.in-Ok-load.loaded mid after c.in-Ok-keep.given c.in-Ok-keep.ensures.kept ∙ ap (λ (l : Loaded). l.answer.bytes) c.in-Ok-load.ensures in
+    let reply = kept_reply (room_of c.args.self.now.settings) c.in-Ok-load.loaded mid after c.in-Ok-keep.given c.in-Ok-keep.ensures.kept ∙ ap (λ (l : Loaded). l.answer.bytes) c.in-Ok-load.ensures in
     poll_answered seen mid after request c.args.epoch c.in-Ok.polled _ c.keep.ensures.legal c.in-Ok.ensures.legal c.poll.ensures.before c.keep.ensures.before c.in-Ok.ensures.polled (sym reply)
 
 pub returns-in-Ok-keep-clause-given : goal.returns-in-Ok-keep-clause-given
@@ -32,7 +33,7 @@ returns-in-Ok-keep-clause-given g c =
     let after = c.keep.new.pass.pass.seen in
     let anew : Anew seen mid request c.args.epoch c.in-Ok.polled = record { legal = c.requires.legal; legal_mid = c.in-Ok.ensures.legal; on = c.poll.ensures.before; none = c.requires.none; noted = c.requires.epoch; is_polled = c.in-Ok.ensures.polled } in
     anew_given c.in-Ok-keep.given seen mid after request c.args.epoch c.in-Ok.polled c.args.self.now.settings c.args.now anew c.keep.ensures.before
-    (subst (λ (l : Loaded). IsKept l mid after c.in-Ok-keep.given) c.in-Ok-load.ensures c.in-Ok-keep.ensures.kept)
+    (subst (λ (l : Loaded). IsKept (room_of c.args.self.now.settings) l mid after c.in-Ok-keep.given) c.in-Ok-load.ensures c.in-Ok-keep.ensures.kept)
 
 pub returns-clause-before : goal.returns-clause-before
 returns-clause-before g c = prefix_through c.args.pass.now.pass.seen c.poll.new.pass.pass.seen c.keep.new.pass.pass.seen c.poll.ensures.before c.keep.ensures.before

@@ -1,0 +1,149 @@
+-- Ends of entries keep what holds of a writer while its lock is free.
+use Rattle.std.proofs.Common.{◌≡◌, ℕ, zero, suc, ◌+◌, ◌*◌, ◌≤◌, Bool, true, false, cond, eqb, ◌||◌, ◌⊎◌, not, All, List, [], ◌∷◌, ◌++◌, filter, get_or, length, Option, Some, refl, sym, ap, subst, ◌∙◌, arith, inl, inr}
+use Rattle.std.proofs.lemmas.Bool.{eqb-true, eqb-false, eq-eqb}
+use Rattle.std.specs.Bool.{OnTrue}
+use Rattle.nsc_model.specs.declared.answer.Request.{Request}
+use Rattle.nsc_model.specs.declared.conf.DbConf.{DbConf}
+use Rattle.nsc_model.specs.declared.record.Ending.{Ending}
+use Rattle.nsc_model.specs.declared.record.Ending.TheVariants.{Expired, Invalidated, Replaced}
+use Rattle.nsc_model.specs.declared.record.Record.{Record}
+use Rattle.nsc_model.specs.declared.record.Record.TheVariants.{Change, Poll, Load, End, Invalid}
+use Rattle.nsc_model.specs.Entry.{Entry}
+use Rattle.nsc_model.specs.Live.{Among}
+use Rattle.nsc_model.specs.History.{HasEnd, HasLoad, IsLive, IsPrefix, Legal, changes, load_of}
+use Rattle.nsc_model.specs.Machine.{Kept, Cache, all_words, by_invalidation, ends_of, last_count}
+use Rattle.nsc_model.specs.Reloads.{AreDropped, IsDropped, Reloaded, ends, invalidated_at, replaced}
+use Rattle.nsc_laws.specs.Calls.{Tells, entries_of}
+use Rattle.nsc_laws.proofs.CoreLawRecords.{ended_or_not}
+use Rattle.nsc_laws.proofs.MachineLawEnds.{changes_ends}
+use Rattle.nsc_laws.proofs.MachineLawLists.{same_load}
+use Rattle.nsc_writer.specs.Shelf.{has_number, is_numbered}
+use Rattle.nsc_writer.specs.Writer.{Writer, emptied_by, without_entry}
+use Rattle.nsc_database.specs.Rests.{IsPacked, IsReloaded, Keeps}
+use Rattle.nsc_database.proofs.Rests.{invalidated_low}
+
+pub on_true : (b : Bool) (A B : Type 0) → (A → B) → OnTrue b A → OnTrue b B
+on_true true A B f a = f a
+on_true false A B f a = a
+
+-- ---- an invalidation
+
+dropped_through : (limit : Option ℕ) (ks : List Kept) (h : List Record) → AreDropped limit h → AreDropped limit (ends_of by_invalidation ks h)
+dropped_through limit [] h d = d
+dropped_through limit (k ∷ ks) h d = dropped_through limit ks (End k.entry.number Invalidated ∷ h) d
+
+pub ends_through : (cause : Kept → Ending) (ks : List Kept) (h : List Record) → ends (ends_of cause ks h) ≡ ends h + length ks
+ends_through cause [] h = omega arith
+ends_through cause (k ∷ ks) h = let rest : ends (ends_of cause ks (End k.entry.number (cause k) ∷ h)) ≡ ends h + 1 + length ks = ends_through cause ks (End k.entry.number (cause k) ∷ h) in omega arith
+
+pub keeps_emptied : (settings : DbConf) (limit : Option ℕ) (ticked : ℕ) (w w' : Writer) → w' ≡ emptied_by w → Tells w.seen w.cache → Keeps settings limit ticked w → Keeps settings limit ticked w'
+keeps_emptied settings limit ticked w w' is t k = subst (Keeps settings limit ticked) (sym is) (record {
+  reloaded = record { dropped = dropped_through limit w.cache.entries w.seen k.reloaded.dropped; invalidated = tt };
+  counted = λ i d low. absurd (omega arith);
+  found = on_true settings.check_files (ticked ≤ invalidated_at w.seen) _ (λ low.
+      let base = invalidated_low w.seen t.legal in
+      let same : changes (ends_of by_invalidation w.cache.entries w.seen) ≡ changes w.seen = changes_ends by_invalidation w.cache.entries w.seen in
+      omega arith) k.found;
+})
+
+-- every version that is kept by a tick that invalidates is the newest one
+pub keeps_newest : (settings : DbConf) (limit : Option ℕ) (ticked newest : ℕ) (w w' : Writer) → w' ≡ emptied_by w → Tells w.seen w.cache → newest ≡ w.cache.newest_version → Keeps settings limit ticked w → Keeps settings limit newest w'
+keeps_newest settings limit ticked newest w w' is t n k =
+    let kept = keeps_emptied settings limit ticked w w' is t k in
+    record {
+      reloaded = kept.reloaded;
+      counted = kept.counted;
+      found = subst (λ (x : Writer). OnTrue settings.check_files (newest ≤ invalidated_at x.seen)) (sym is) (on_true settings.check_files (ticked ≤ invalidated_at w.seen) _ (λ low.
+          let same : changes (ends_of by_invalidation w.cache.entries w.seen) ≡ changes w.seen = changes_ends by_invalidation w.cache.entries w.seen in
+          let all = t.counted in
+          omega arith) k.found);
+    }
+
+-- ---- compactions
+
+pub packed_compacted : (w w' : Writer) → w' ≡ record w { cache = record w.cache { cycle = w.cache.cycle + 2; used = all_words w.cache.entries } } → w.cache.cycle + 2 ≤ 2 * ends w.seen → IsPacked w'
+packed_compacted w w' is low = subst IsPacked (sym is) (record { taken = λ l. refl; cycles = low })
+
+pub packed_spent : (w w' : Writer) → w' ≡ w → last_count ≤ w.cache.cycle → w.cache.cycle ≤ 2 * ends w.seen → IsPacked w'
+packed_spent w w' is high low = subst IsPacked (sym is) (record { taken = λ l. absurd (omega arith); cycles = low })
+
+pub keeps_compacted : (settings : DbConf) (limit : Option ℕ) (ticked used cycle : ℕ) (w w' : Writer) → w' ≡ record w { cache = record w.cache { cycle = cycle; used = used } } → Keeps settings limit ticked w → Keeps settings limit ticked w'
+keeps_compacted settings limit ticked used cycle w w' is k = subst (Keeps settings limit ticked) (sym is) (record { reloaded = k.reloaded; counted = k.counted; found = k.found })
+
+-- ---- one end
+
+replaced_rises : (more h : List Record) (request : Request) → replaced h request ≤ replaced (more ++ h) request
+replaced_rises [] h request = omega arith
+replaced_rises (Change v c ∷ more) h request = replaced_rises more h request
+replaced_rises (Poll v ∷ more) h request = replaced_rises more h request
+replaced_rises (Load e ∷ more) h request = replaced_rises more h request
+replaced_rises (End n (Expired now) ∷ more) h request = replaced_rises more h request
+replaced_rises (End n Invalidated ∷ more) h request = replaced_rises more h request
+replaced_rises (End n Replaced ∷ more) h request = let low = replaced_rises more h request in omega arith
+replaced_rises (Invalid n ∷ more) h request = replaced_rises more h request
+
+pub replaced_on : (a b : List Record) (request : Request) → IsPrefix a b → replaced a request ≤ replaced b request
+replaced_on a b request p = let low = replaced_rises p.0 a request in let same : replaced b request ≡ replaced (p.0 ++ a) request = ap (λ (h : List Record). replaced h request) p.1 in omega arith
+
+-- the entry of a number is the one that was inserted with it
+pub load_of_is : (h : List Record) (e : Entry) → Legal h → HasLoad h e → load_of h e.number ≡ Some e
+load_of_is [] e l a = absurd a
+load_of_is (Change v c ∷ []) e l a = absurd a
+load_of_is (Change v c ∷ s ∷ before) e l a = load_of_is (s ∷ before) e l.0 a
+load_of_is (Poll v ∷ before) e l a = load_of_is before e l.0 a
+load_of_is (Load entry ∷ before) e l a = by_test (eqb entry.number e.number) refl a (λ at. load_of_is before e l.0 at) where
+  by_test : (b : Bool) → eqb entry.number e.number ≡ b → HasLoad (Load entry ∷ before) e → (HasLoad before e → load_of before e.number ≡ Some e) → cond b (Some entry) (load_of before e.number) ≡ Some e
+  by_test true same at rest = ap Some (same_load (Load entry ∷ before) entry e l (inl refl) at (eqb-true entry.number e.number same))
+  by_test false apart (inl is) rest = absurd (eqb-false entry.number e.number apart (ap (λ (x : Entry). x.number) is))
+  by_test false apart (inr at) rest = rest at
+load_of_is (End n cause ∷ before) e l a = load_of_is before e l.0 a
+load_of_is (Invalid n ∷ before) e l a = load_of_is before e l.0 a
+
+all_filtered : (P : Kept → Type 0) (test : Kept → Bool) (ks : List Kept) → All P ks → All P (filter test ks)
+all_filtered P test [] all = λ i d low. absurd (omega arith)
+all_filtered P test (k ∷ ks) all = by_test (test k) (all_filtered P test ks (λ i d low. all (suc i) d (omega arith))) where
+  by_test : (b : Bool) → All P (filter test ks) → All P (cond b (k ∷ filter test ks) (filter test ks))
+  by_test true rest zero d low = all 0 k (omega arith)
+  by_test true rest (suc i) d low = rest i d (omega arith)
+  by_test false rest i d low = rest i d low
+
+-- why this end is right: a dropped entry may be dropped
+abbrev pub IsRight : Option ℕ → List Record → ℕ → Ending → Type 0
+IsRight limit h n (Expired now) = IsDropped limit h (load_of h n)
+IsRight limit h n Invalidated = ⊥
+IsRight limit h n Replaced = Unit {0}
+
+reloaded_ended : (limit : Option ℕ) (h : List Record) (n : ℕ) (cause : Ending) → IsRight limit h n cause → Reloaded limit h → Reloaded limit (End n cause ∷ h)
+reloaded_ended limit h n (Expired now) right r = record { dropped = (right, r.dropped); invalidated = r.invalidated }
+reloaded_ended limit h n Invalidated right r = absurd right
+reloaded_ended limit h n Replaced right r = record { dropped = r.dropped; invalidated = r.invalidated }
+
+pub keeps_ended : (settings : DbConf) (limit : Option ℕ) (ticked n : ℕ) (cause : Ending) (w : Writer) → IsRight limit w.seen n cause → Keeps settings limit ticked w → Keeps settings limit ticked (without_entry n cause w)
+keeps_ended settings limit ticked n cause w right k = record {
+  reloaded = reloaded_ended limit w.seen n cause right k.reloaded;
+  counted = all_filtered (IsReloaded (End n cause ∷ w.seen)) (λ (x : Kept). not (is_numbered n x)) w.cache.entries (λ i d low.
+      let before = k.counted i d low in
+      let rise = replaced_on w.seen (End n cause ∷ w.seen) (get_or w.cache.entries i d).entry.request (End n cause ∷ [], refl) in
+      omega arith);
+  found = k.found;
+}
+
+-- ---- what ended
+
+has_among : (n : ℕ) (ks : List Kept) (e : Entry) → Among (entries_of ks) e → e.number ≡ n → has_number n ks ≡ true
+has_among n [] e a is = absurd a
+has_among n (k ∷ ks) e (inl same) is = ap (λ (b : Bool). b || has_number n ks) (eq-eqb k.entry.number n (ap (λ (x : Entry). x.number) same ∙ is))
+has_among n (k ∷ ks) e (inr a) is = by_test (eqb k.entry.number n) (has_among n ks e a is) where
+  by_test : (b : Bool) → has_number n ks ≡ true → (b || has_number n ks) ≡ true
+  by_test true rest = refl
+  by_test false rest = rest
+
+-- an entry that was inserted and is not live ended
+pub gone_ended : (h : List Record) (cache : Cache) (n : ℕ) (e : Entry) → Tells h cache → HasLoad h e → e.number ≡ n → has_number n cache.entries ≡ false → HasEnd h n
+gone_ended h cache n e t a is gone = by_end (ended_or_not h n) where
+  by_end : HasEnd h n ⊎ (HasEnd h n → ⊥) → HasEnd h n
+  by_end (inl ended) = ended
+  by_end (inr not_ended) =
+      let live : IsLive h e = record { inserted = a; not_ended = subst (λ (m : ℕ). HasEnd h m → ⊥) (sym is) not_ended } in
+      let there : has_number n cache.entries ≡ true = has_among n cache.entries e (t.entries_are.all e live) is in
+      absurd cc

@@ -1,0 +1,62 @@
+-- What holds of the writer of a database while its lock is free.
+use Rattle.std.specs.Prelude.{◌≡◌, ℕ, ◌+◌, ◌*◌, ◌<◌, ◌≤◌, All, List, [], ◌∷◌, Option}
+use Rattle.std.specs.Bool.{OnTrue}
+use Rattle.nsc_model.specs.declared.conf.DbConf.{DbConf}
+use Rattle.nsc_model.specs.declared.record.Record.{Record}
+use Rattle.nsc_model.specs.declared.record.Record.TheVariants.{Change}
+use Rattle.nsc_model.specs.Content.{Content}
+use Rattle.nsc_model.specs.Entry.{Entry}
+use Rattle.nsc_model.specs.History.{IsLive, IsPrefix, changes}
+use Rattle.nsc_model.specs.Machine.{Kept, all_words, last_count, new_cache}
+use Rattle.nsc_model.specs.Reloads.{Reloaded, ends, invalidated_at, replaced}
+use Rattle.nsc_laws.specs.Calls.{Tells}
+use Rattle.nsc_writer.specs.Writer.{Writer, emptied_by}
+
+-- an entry was reloaded at most as often as entries of its request ended for that
+abbrev pub IsReloaded : List Record → Kept → Type 0
+IsReloaded history k = k.reloads ≤ replaced history k.entry.request
+
+-- the writer of a database, and the version that the last tick found
+pub record Desk : Type 0 where
+  pub writer : Writer
+  pub ticked : ℕ
+
+-- entries end for good as ticks and invalidations end them, and, where changes of the files count, the version that the last tick
+-- found was there when the database was last invalidated
+pub record Keeps (settings : DbConf) (limit : Option ℕ) (ticked : ℕ) (w : Writer) : Type 0 where
+  pub reloaded : Reloaded limit w.seen
+  pub counted : All (IsReloaded w.seen) w.cache.entries
+  pub found : OnTrue settings.check_files (ticked ≤ invalidated_at w.seen)
+
+-- only live entries take words, unless the count of compactions stands at its end; and entries ended before each compaction
+pub record IsPacked (w : Writer) : Type 0 where
+  pub taken : w.cache.cycle < last_count → w.cache.used ≡ all_words w.cache.entries
+  pub cycles : w.cache.cycle ≤ 2 * ends w.seen
+
+-- a writer of an empty cache over this content as its first version, in an arena of so many words
+pub record IsNew (w : Writer) (content : Content) (arena : ℕ) : Type 0 where
+  pub seen : w.seen ≡ Change 0 content ∷ []
+  pub cache : w.cache ≡ new_cache content
+  pub room : w.layout.arena ≡ arena
+
+-- the writer goes on, and what held of it while its lock was free holds still
+pub record Rests (w w' : Writer) : Type 0 where
+  pub on : IsPrefix w.seen w'.seen
+  pub table : w'.table ≡ w.table
+  pub layout : w'.layout ≡ w.layout
+  pub keeps : (settings : DbConf) (limit : Option ℕ) (ticked : ℕ) → Keeps settings limit ticked w → Keeps settings limit ticked w'
+  pub packed : IsPacked w → IsPacked w'
+
+-- the newest version is known to be there when the database was last invalidated, where changes of the files count
+abbrev pub FindsNewest : Writer → Writer → Type 0
+FindsNewest w w' = (settings : DbConf) (limit : Option ℕ) (ticked : ℕ) → Keeps settings limit ticked w → Keeps settings limit w.cache.newest_version w'
+
+-- every entry was ended as invalidated, and this is what was shown of it
+pub record IsLeft (w w' : Writer) (shown : List Record) : Type 0 where
+  pub told : Tells w.seen w.cache
+  pub emptied : w' ≡ emptied_by w
+  pub seen : shown ≡ w'.seen
+
+-- where changes of the files count, each live entry is over the newest version
+abbrev pub IsCurrent : DbConf → List Record → Type 0
+IsCurrent settings history = OnTrue settings.check_files ((e : Entry) → IsLive history e → changes history ≤ e.version + 1)

@@ -1,0 +1,109 @@
+-- What the holds of a tick come to.
+use Rattle.std.specs.Prelude.{◌≡◌, ℕ, ◌+◌, ◌<◌, ◌≤◌, ◌⊎◌, true, false, if◌then◌else◌, All, List, [], ◌∷◌, filter, length, Option, Some, None}
+use Rattle.std.specs.Bool.{OnTrue}
+use Rattle.nsc_model.specs.declared.conf.DbConf.{DbConf}
+use Rattle.nsc_model.specs.declared.kind.Db.{Db}
+use Rattle.nsc_model.specs.declared.kind.FileId.{FileId}
+use Rattle.nsc_model.specs.declared.record.Record.{Record}
+use Rattle.nsc_model.specs.declared.store.LookupFault.{LookupFault}
+use Rattle.nsc_model.specs.declared.store.LookupFault.TheVariants as fault
+use Rattle.nsc_model.specs.Content.{Content}
+use Rattle.nsc_model.specs.Entry.{Entry}
+use Rattle.nsc_model.specs.History.{HasEnd, HasLoad, NoneLive, invalidations, version_in}
+use Rattle.nsc_model.specs.Answers.{answer_of}
+use Rattle.nsc_model.specs.Machine.{all_words, is_outdated, life_of, next_reloads}
+use Rattle.nsc_model.specs.Reloads.{replaced}
+use Rattle.nsc_model.specs.Stores.{IsTicked, IsUnmoved}
+use Rattle.nsc_sourcebook.specs.Book.{Polled}
+use Rattle.nsc_sourcebook.specs.Reads.{AllRose, AreAsTold}
+use Rattle.nsc_writer.specs.Due.{Due, marked_by, pruned_by}
+use Rattle.nsc_writer.specs.Loaded.{Loaded}
+use Rattle.nsc_writer.specs.Writer.{IsAnswered, Writer}
+use Rattle.nsc_database.specs.declared.renewal.Checked.{Checked}
+use Rattle.nsc_database.specs.declared.renewal.Checked.TheVariants as checked
+use Rattle.nsc_database.specs.Rests.{IsCurrent, Keeps}
+
+-- an entry of this number and request was inserted, its time is over, and entries of the request ended so often to be reloaded; it is
+-- dropped where its reply is a not-found one, or where the limit is reached
+pub record IsDue (limit : Option ℕ) (now : ℕ) (history : List Record) (d : Due) : Type 0 where
+  pub entry : Entry
+  pub inserted : HasLoad history entry
+  pub numbered : entry.number ≡ d.number
+  pub asked : entry.request ≡ d.request
+  pub over : entry.timeout < now
+  pub counted : d.reloads ≤ replaced history d.request
+  pub dropped : OnTrue d.dropped ((entry.answer.not_found ≡ true) ⊎ ((most : ℕ) × (limit ≡ Some most) × (most ≤ d.reloads)))
+
+-- one of them has this number
+abbrev pub HasNumber : List Due → ℕ → Type 0
+HasNumber [] n = ⊥
+HasNumber (d ∷ due) n = (d.number ≡ n) ⊎ HasNumber due n
+
+-- every entry whose time is over ended, or is one of them
+abbrev pub AreAllDue : ℕ → List Record → List Due → Type 0
+AreAllDue now history due = (e : Entry) → HasLoad history e → e.timeout < now → HasEnd history e.number ⊎ HasNumber due e.number
+
+-- what is known once the versions were compared: every entry ended; or each live entry is over the newest version, where that counts,
+-- and what is due
+pub record AreListed (settings : DbConf) (limit : Option ℕ) (now : ℕ) (history : List Record) (due : List Due) : Type 0 where
+  pub current : IsCurrent settings history
+  pub each : All (IsDue limit now history) due
+  pub all : AreAllDue now history due
+
+abbrev pub IsListing : Option ℕ → ℕ → Writer → List Record → List Due → Type 0
+IsListing limit now w shown due = (settings : DbConf) (ticked : ℕ) → Keeps settings limit ticked w → is_outdated settings w.cache.newest_version ticked ≡ false → AreListed settings limit now shown due
+
+abbrev pub IsChecked : Checked → DbConf → Option ℕ → ℕ → List Record → Type 0
+IsChecked checked.Emptied settings limit now history = NoneLive history
+IsChecked (checked.Listed due) settings limit now history = AreListed settings limit now history due.items
+
+-- why a hold gave up: memory was wanting, or a count stands at its end
+abbrev pub IsHoldFault : LookupFault → List Record → Type 0
+IsHoldFault fault.NoMemory after = Unit {0}
+IsHoldFault (fault.Spent count) after = IsUnmoved after count
+IsHoldFault (fault.SourceFault file) after = ⊥
+IsHoldFault (fault.TooLong file size) after = ⊥
+
+-- what is to be loaded again for those that are due, one for each: nothing, or the answer to its request with one reload more
+abbrev pub IsAnew : List Record → Due → Option Loaded → Type 0
+IsAnew history d None = Unit {0}
+IsAnew history d (Some l) = (d.dropped ≡ false) × (l.request ≡ d.request) × (l.reloads ≤ d.reloads + 1) × IsAnswered history l
+
+abbrev pub AreAnew : List Record → List Due → List (Option Loaded) → Type 0
+AreAnew history [] [] = Unit {0}
+AreAnew history [] (load ∷ loads) = ⊥
+AreAnew history (d ∷ due) [] = ⊥
+AreAnew history (d ∷ due) (load ∷ loads) = IsAnew history d load × AreAnew history due loads
+
+-- it is ended to be loaded again, and counted as such
+abbrev pub IsRenewed : List Record → Due → Type 0
+IsRenewed history d = d.ended ≡ true → d.dropped ≡ false → d.reloads + 1 ≤ replaced history d.request
+
+-- what is to be loaded again over what was polled: nothing for an entry that is dropped
+abbrev pub anew_of : DbConf → Polled → ℕ → Due → Option Loaded
+anew_of settings polled now d =
+    if d.dropped then None else Some (record { request = d.request; answer = answer_of polled.content d.request; stamp = polled.stamp; timeout = now + life_of settings (answer_of polled.content d.request); reloads = next_reloads d.reloads })
+
+-- those of them that were ended
+abbrev pub ended_of : List Due → List Due
+ended_of due = filter (λ d. d.ended) due
+
+-- the writer once it was compacted
+abbrev pub compacted_by : Writer → Writer
+compacted_by w = record w { cache = record w.cache { cycle = w.cache.cycle + 2; used = all_words w.cache.entries } }
+
+-- the ends of a tick, and a compaction where any entry was ended
+pub record IsSwept (now : ℕ) (due : List Due) (w w' : Writer) : Type 0 where
+  pub swept : ((ended_of (marked_by now due w) ≡ []) × (w' ≡ pruned_by now due w)) ⊎ ((1 ≤ length (ended_of (marked_by now due w))) × (w' ≡ compacted_by (pruned_by now due w)))
+
+-- the due entries are ended, or the database was invalidated after so many invalidations
+abbrev pub AreOver : ℕ → List Record → List Due → Type 0
+AreOver epoch history due = (epoch < invalidations history) ⊎ ((n : ℕ) → HasNumber due n → HasEnd history n)
+
+-- a tick, and its files were read in the call: the version is made of what the reads gave, as far as that is told
+pub record IsTickedOver (which : Db) (before_reads after_reads : FileId → ℕ) (latest : FileId → Option (Option (List ℕ))) (settings : DbConf) (limit : Option ℕ) (now : ℕ) (seen after : List Record) : Type 0 where
+  pub ticked : IsTicked settings limit now seen after
+  pub read : AllRose which before_reads after_reads
+  pub content : Content
+  pub version : version_in after ticked.version ≡ Some content
+  pub told : AreAsTold which latest content

@@ -1,0 +1,142 @@
+// What a tick does under holds of the writer's lock.
+ghost use Rattle.std.specs.Prelude.{◌≡◌, ◌≤◌, All, ℕ, Option, IfOk, IfErr, OnOk};
+ghost use Rattle.nsc_model.specs.declared.conf.DbConf.{DbConf};
+ghost use Rattle.nsc_model.specs.Entry.{Entry};
+ghost use Rattle.nsc_model.specs.History.{IsPrefix, Legal, invalidations};
+ghost use Rattle.nsc_model.specs.Machine.{last_count};
+ghost use Rattle.nsc_model.specs.Stores.{IsUnmoved};
+ghost use Rattle.nsc_writer.specs.Due.{IsOver, marked_by, pruned_by};
+ghost use Rattle.nsc_database.specs.Rests.{IsPacked, Keeps, Rests};
+ghost use Rattle.nsc_database.specs.Ticks.{AreAnew, AreOver, IsDue, IsListing, IsRenewed, IsSwept};
+
+use nsc_base::NoMemory;
+use nsc_model::Spent;
+use nsc_rule::Pass;
+use nsc_writer::{Due, Loaded, Writer};
+use std::alloc::Global;
+
+/// What became of the entries once a tick had looked at the files.
+#[derive(Drop)]
+pub enum Checked {
+    /// Every entry ended, since the files changed.
+    Emptied,
+    /// Those of these ended whose time is over.
+    Listed(Vec<Due>),
+}
+
+/// The number of invalidations.
+pub fn note(writer: &mut Writer, pass: &mut Pass) -> u64
+    requires { pass.old.table ≡ writer.old.table }
+    ensures writer { writer.new ≡ writer.old }
+    ensures pass { pass.new.table ≡ pass.old.table }
+    ensures before { IsPrefix pass.old.seen pass.new.seen }
+    ensures legal { Legal pass.new.seen }
+    ensures noted { result ≡ invalidations pass.new.seen }
+{
+    writer.show(pass);
+    writer.learn();
+    writer.epoch()
+}
+
+/// The entries whose time is over at this moment, in seconds.
+pub fn list(
+    writer: &mut Writer,
+    pass: &mut Pass,
+    alloc: Global,
+    limit: Option<u32>,
+    now: u64,
+) -> Result<Vec<Due>, NoMemory>
+    requires { pass.old.table ≡ writer.old.table }
+    ensures writer { writer.new ≡ writer.old }
+    ensures pass { pass.new.table ≡ pass.old.table }
+    ensures before { IsPrefix pass.old.seen pass.new.seen }
+    ensures legal { Legal pass.new.seen }
+    ensures shown { pass.new.seen ≡ writer.old.seen }
+    ensures listed { IfOk result (λ due. IsListing limit now writer.old pass.new.seen due.items) }
+{
+    writer.show(pass);
+    writer.learn();
+    writer.expired(alloc, limit, now)
+}
+
+/// Ends those that are due and live still, where the database was not invalidated since so many invalidations, compacts where any
+/// was, and loads those again that are to be. At `Spent` the ended ones are not loaded again: the count of compactions stands at
+/// its end.
+pub fn renew(
+    writer: &mut Writer,
+    pass: &mut Pass,
+    alloc: Global,
+    epoch: u64,
+    due: &mut [Due],
+    loads: &[Option<Loaded>],
+    now: u64,
+) -> Result<(), Spent>
+    requires table { pass.old.table ≡ writer.old.table }
+    requires legal { Legal pass.old.seen }
+    requires packed { IsPacked writer.old }
+    requires noted { epoch ≤ invalidations pass.old.seen }
+    requires due { (settings : DbConf) × (limit : Option ℕ) × (ticked : ℕ) × All (IsDue limit now pass.old.seen) due.old × Keeps settings limit ticked writer.old }
+    requires loads { AreAnew pass.old.seen due.old loads.now }
+    ensures writer { (writer.new.table ≡ writer.old.table) × (writer.new.layout ≡ writer.old.layout) }
+    ensures pass { pass.new.table ≡ pass.old.table }
+    ensures before { IsPrefix pass.old.seen pass.new.seen }
+    ensures legal { Legal pass.new.seen }
+    ensures shown { pass.new.seen ≡ writer.new.seen }
+    ensures keeps { (settings : DbConf) (limit : Option ℕ) (ticked : ℕ) → All (IsDue limit now pass.old.seen) due.old → Keeps settings limit ticked writer.old → Keeps settings limit ticked writer.new }
+    ensures packed { IsPacked writer.new }
+    ensures over { OnOk result (AreOver epoch pass.new.seen due.old) }
+    ensures spent { IfErr result (λ spent. IsUnmoved pass.new.seen spent.count) }
+{
+    writer.show(pass);
+    writer.learn();
+    if writer.epoch() != epoch {
+        return Ok(());
+    }
+    match end_due(writer, due, now) {
+        Ok(()) => {
+            reload(writer, alloc, due, loads);
+            writer.learn();
+            writer.show(pass);
+            Ok(())
+        }
+        Err(spent) => {
+            writer.learn();
+            writer.show(pass);
+            Err(spent)
+        }
+    }
+}
+
+// Ends those that are due and live still, and compacts where any was.
+fn end_due(writer: &mut Writer, due: &mut [Due], now: u64) -> Result<(), Spent>
+    requires { All (IsOver writer.old.seen now) due.old }
+    ensures marked { due.new ≡ marked_by now due.old writer.old }
+    ensures swept { OnOk result (IsSwept now due.old writer.old writer.new) }
+    ensures spent { IfErr result (λ spent. (spent.count ≡ last_count) × (last_count ≤ writer.new.cache.cycle) × (writer.new ≡ pruned_by now due.old writer.old)) }
+{
+    let ended = writer.prune_ends(due, now);
+    if ended == 0 {
+        return Ok(());
+    }
+    match writer.compact() {
+        Ok(_) => Ok(()),
+        Err(spent) => Err(spent),
+    }
+}
+
+// Loads those again that were ended and are to be, one after the other; one whose insertion is refused is gone.
+fn reload(writer: &mut Writer, alloc: Global, due: &[Due], loads: &[Option<Loaded>])
+    requires legal { Legal writer.old.seen }
+    requires due { All (IsRenewed writer.old.seen) due.now }
+    requires loads { AreAnew writer.old.seen due.now loads.now }
+    ensures { Rests writer.old writer.new }
+{
+    for (at, load) in loads.iter().enumerate() {
+        if let Some(loaded) = load {
+            if due[at].is_ended() {
+                writer.learn();
+                let _said = writer.insert_copy(alloc, loaded);
+            }
+        }
+    }
+}

@@ -1,0 +1,172 @@
+ghost use Rattle.std.specs.Prelude.{◌≡◌, ◌<◌, ◌≤◌, ◌^◌, All, Some, map, IfOk, IfErr, OnOk};
+ghost use Rattle.std.specs.Bool.{OnTrue};
+ghost use Rattle.nsc_model.specs.History.{IsPrefix, Legal, PolledSince, invalidations, version_in};
+ghost use Rattle.nsc_model.specs.Reloads.{Reloaded};
+ghost use Rattle.nsc_model.specs.Stores.{IsTickFault};
+ghost use Rattle.nsc_database.specs.Ticks.{AreOver, IsChecked, IsDue, IsHoldFault, IsTickedOver, anew_of};
+
+use crate::base::{Base, life_of};
+use crate::pass::DbPass;
+use crate::renewal::Checked;
+use crate::room::{OfDb, Room};
+use nsc_base::{Bytes, NoMemory};
+use nsc_model::{Answerer, LookupFault};
+use nsc_outside::FileSet;
+use nsc_sourcebook::Polled;
+use nsc_writer::{Due, Loaded};
+use std::alloc::Global;
+use std::sync::Wait;
+
+impl<D: OfDb, F: FileSet + Drop, A: Answerer + Drop, B: Room> Base<D, F, A, B> {
+    /// A tick at this moment, in seconds.
+    pub fn tick<R: Wait>(
+        &self,
+        rt: &R,
+        alloc: Global,
+        pass: &mut DbPass<F, B>,
+        now: u64,
+    ) -> Result<(), LookupFault>
+        requires db { pass.old.db ≡ D.db }
+        requires moment { now < 2 ^ 62 }
+        ensures db { pass.new.db ≡ pass.old.db }
+        ensures before { IsPrefix pass.old.pass.seen pass.new.pass.seen }
+        ensures legal { Legal pass.new.pass.seen }
+        ensures ticked { OnOk result (OnTrue self.now.settings.enabled (IsTickedOver D.db (F.reads pass.old.files) (F.reads pass.new.files) (F.latest pass.new.files) self.now.settings self.now.reloads now pass.old.pass.seen pass.new.pass.seen)) }
+        ensures fault { IfErr result (λ fault. IsTickFault fault pass.new.pass.seen (F.faults pass.old.files) (F.faults pass.new.files) (F.file_faults pass.old.files) (F.file_faults pass.new.files)) }
+    {
+        pass.pass.learn();
+        if !self.settings.enabled {
+            return Ok(());
+        }
+        let epoch = self.desk.lock(rt).note(pass);
+        let polled = match self.poll(rt, alloc, pass, epoch) {
+            Ok(polled) => polled,
+            Err(fault) => {
+                pass.pass.learn();
+                return Err(fault);
+            }
+        };
+        let checked = match self.check(rt, alloc, pass, now) {
+            Ok(checked) => checked,
+            Err(fault) => return Err(fault),
+        };
+        match checked {
+            Checked::Emptied => Ok(()),
+            Checked::Listed(due) => {
+                match self.renew(rt, alloc, pass, &polled, epoch, due, now) {
+                    Ok(()) => Ok(()),
+                    Err(fault) => Err(fault),
+                }
+            }
+        }
+    }
+
+    // Where the files changed since the last tick, and that counts, every entry ends; else it says which are due.
+    fn check<R: Wait>(
+        &self,
+        rt: &R,
+        alloc: Global,
+        pass: &mut DbPass<F, B>,
+        now: u64,
+    ) -> Result<Checked, LookupFault>
+        requires { pass.old.db ≡ D.db }
+        ensures db { pass.new.db ≡ pass.old.db }
+        ensures files { pass.new.files ≡ pass.old.files }
+        ensures before { IsPrefix pass.old.pass.seen pass.new.pass.seen }
+        ensures legal { Legal pass.new.pass.seen }
+        ensures checked { IfOk result (λ checked. IsChecked checked self.now.settings self.now.reloads now pass.new.pass.seen) }
+        ensures reloaded { OnOk result (Reloaded self.now.reloads pass.new.pass.seen) }
+        ensures fault { IfErr result (λ fault. IsHoldFault fault pass.new.pass.seen) }
+    {
+        self.desk
+            .lock(rt)
+            .check(pass, alloc, &self.settings, self.reloads, now)
+    }
+
+    // Answers what is to be loaded again, ends those that are due, and loads it.
+    fn renew<R: Wait>(
+        &self,
+        rt: &R,
+        alloc: Global,
+        pass: &mut DbPass<F, B>,
+        polled: &Polled<A>,
+        epoch: u64,
+        mut due: Vec<Due>,
+        now: u64,
+    ) -> Result<(), LookupFault>
+        requires db { pass.old.db ≡ D.db }
+        requires moment { now < 2 ^ 62 }
+        requires legal { Legal pass.old.pass.seen }
+        requires noted { epoch ≤ invalidations pass.old.pass.seen }
+        requires due { All (IsDue self.now.reloads now pass.old.pass.seen) due.items }
+        requires version { version_in pass.old.pass.seen polled.now.stamp.version ≡ Some polled.now.content }
+        requires since { PolledSince pass.old.pass.seen polled.now.stamp.version polled.now.stamp.epoch }
+        ensures db { pass.new.db ≡ pass.old.db }
+        ensures files { pass.new.files ≡ pass.old.files }
+        ensures before { IsPrefix pass.old.pass.seen pass.new.pass.seen }
+        ensures legal { Legal pass.new.pass.seen }
+        ensures over { OnOk result (AreOver epoch pass.new.pass.seen due.items) }
+        ensures reloaded { OnOk result (Reloaded self.now.reloads pass.new.pass.seen) }
+        ensures fault { IfErr result (λ fault. IsHoldFault fault pass.new.pass.seen) }
+    {
+        let loads = match self.loads(alloc, polled, &due, now) {
+            Ok(loads) => loads,
+            Err(_) => return Err(LookupFault::NoMemory),
+        };
+        match self
+            .desk
+            .lock(rt)
+            .renew(pass, alloc, epoch, &mut due, &loads, now)
+        {
+            Ok(()) => Ok(()),
+            Err(spent) => Err(LookupFault::Spent { count: spent.count }),
+        }
+    }
+
+    // What is to be loaded again for those that are due, over the content that was polled.
+    fn loads(
+        &self,
+        alloc: Global,
+        polled: &Polled<A>,
+        due: &[Due],
+        now: u64,
+    ) -> Result<Vec<Option<Loaded>>, NoMemory>
+        requires { now < 2 ^ 62 }
+        ensures { IfOk result (λ loads. loads.items ≡ map (anew_of self.now.settings polled.now now) due.now) }
+    {
+        let mut loads = Vec::new(alloc);
+        for one in due {
+            loads.push(self.anew(alloc, polled, one, now)?)?;
+        }
+        Ok(loads)
+    }
+
+    // The same for one of them. Nothing is answered for one that is dropped.
+    fn anew(
+        &self,
+        alloc: Global,
+        polled: &Polled<A>,
+        due: &Due,
+        now: u64,
+    ) -> Result<Option<Loaded>, NoMemory>
+        requires { now < 2 ^ 62 }
+        ensures { IfOk result (λ load. load ≡ anew_of self.now.settings polled.now now due.now) }
+    {
+        if due.is_dropped() {
+            return Ok(None);
+        }
+        let answer = self
+            .answers
+            .answer(alloc, polled.ready(), due.kind(), due.key())?;
+        let key = Bytes::copy(alloc, due.key())?;
+        let timeout = now + life_of(&self.settings, &answer);
+        Ok(Some(Loaded::new(
+            due.kind(),
+            key,
+            answer,
+            polled.stamp(),
+            timeout,
+            due.next_reloads(),
+        )))
+    }
+}
