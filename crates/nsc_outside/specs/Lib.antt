@@ -10,3 +10,6 @@ pub mod Numbers
 pub mod ReadPlan
 pub mod MemFiles
 pub mod HostFiles
+pub mod Release
+pub mod Hold
+pub mod HeldFiles

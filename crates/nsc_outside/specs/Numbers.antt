@@ -1,6 +1,7 @@
 -- The numbers of reads. Sets of files that were split from one draw them together: the n-th read of them all draws n.
 use Rattle.std.specs.Prelude.{◌≡◌, ℕ, ◌%◌, ◌^◌, ◌<◌, ◌≤◌, ◌⊎◌, ◌==◌, Bool, List, [], ◌∷◌, ◌++◌, All, sum_by, count_by}
 use Rattle.std.specs.List.{list_any}
+use Rattle.atomic_table.specs.Seated.{TableId}
 
 -- how often a number was drawn, where each set drew a list of them
 abbrev pub times_drawn : ℕ → List (List ℕ) → ℕ
@@ -24,3 +25,8 @@ pub record Draws (before after : List ℕ) (P : ℕ → Type 0) : Type 0 where
 -- the read of this number is one of those that fail, which have numbers of 64 bits
 abbrev pub is_failing : List ℕ → ℕ → Bool
 is_failing failing number = list_any (λ read. read == number % 2 ^ 64) failing
+
+-- a set's handle on a numbering: which one it is, and the numbers that the set drew
+pub record Numbering : Type 0 where
+  pub table : TableId
+  pub numbers : List ℕ

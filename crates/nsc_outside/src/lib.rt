@@ -3,6 +3,8 @@
 #![tactic(auto)]
 
 mod files;
+mod held_files;
+mod hold;
 mod host_files;
 mod mem_files;
 mod mem_sink;
@@ -11,6 +13,7 @@ mod numbers;
 mod paths;
 mod plan;
 mod read_plan;
+mod release;
 mod shared;
 mod standard;
 mod stream;
@@ -18,10 +21,13 @@ mod tally;
 mod whole;
 
 pub use files::{FileSet, ReadCause};
+pub use held_files::HeldFiles;
+pub use hold::Hold;
 pub use host_files::HostFiles;
 pub use mem_files::MemFiles;
 pub use mem_sink::MemSink;
 pub use mem_source::MemSource;
+pub use release::Release;
 pub use standard::{StdSink, StdSource};
 pub use stream::{Failed, Sink, Source};
 pub use whole::{fill, write_all};

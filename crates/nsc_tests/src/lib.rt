@@ -9,6 +9,8 @@ mod caches;
 #[cfg(test)]
 mod files;
 #[cfg(test)]
+mod held;
+#[cfg(test)]
 mod lookups;
 #[cfg(test)]
 mod runs;
