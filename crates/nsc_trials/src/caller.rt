@@ -50,8 +50,14 @@ impl<'a, S: Store, R: Wait> Caller<'a, S, R> {
         requires kind { database_of kind ≡ db.Passwd }
         requires key { length key.now ≤ key_limit }
     {
-        self.store
-            .lookup(self.rt, self.alloc, &mut self.pass, kind, key, u64::from(now))
+        self.store.lookup(
+            self.rt,
+            self.alloc,
+            &mut self.pass,
+            kind,
+            key,
+            u64::from(now),
+        )
     }
 
     /// A tick at this moment, in seconds.

@@ -145,9 +145,11 @@ where
     for _ in 0..threads {
         callers.push(caller.another()?)?;
     }
-    let right = thread::map_vec(rt, callers, &|mut caller: Caller<'_, S, R>| {
-        hits(&mut caller, entries, part)
-    })?;
+    let right = thread::map_vec(
+        rt,
+        callers,
+        &|mut caller: Caller<'_, S, R>| { hits(&mut caller, entries, part) },
+    )?;
     Ok(right.iter().all(|right| *right))
 }
 

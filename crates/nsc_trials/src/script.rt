@@ -75,7 +75,10 @@ fn is_right<S: Store, R: Wait>(
 ) -> bool {
     match *step {
         Step::Find(asked, now, wanted, reply) => wanted.is(&caller.find(asked, now), reply),
-        Step::Meet(asked, now, wanted, reply) => wanted.is(&caller.find_and_meet(asked, now), reply),
+        Step::Meet(asked, now, wanted, reply) => wanted.is(
+            &caller.find_and_meet(asked, now),
+            reply,
+        ),
         Step::Change => {
             changed.set();
             true

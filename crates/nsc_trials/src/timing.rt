@@ -33,7 +33,9 @@ fn load_outcome<R: Threads + Wait + Clock + Sync>(
 fn passwd(alloc: Global, users: u32) -> Result<String, NoMemory> {
     let mut text = String::new(alloc);
     for number in 0..users {
-        let line = format!(in alloc; "user{number:07}:x:{number}:{number}:User {number}:/home/user{number:07}:/bin/bash\n")?;
+        let line = format!(in alloc;
+            "user{number:07}:x:{number}:{number}:User {number}:/home/user{number:07}:/bin/bash\n"
+        )?;
         text.push_str(line.as_str())?;
     }
     Ok(text)

@@ -19,7 +19,10 @@ use std::time::Clock;
 const INTERLEAVINGS: u64 = 1000;
 
 /// Runs every trial, and prints a line for each.
-pub fn run_trials<R: Threads + Wait + Clock + Print + Sync>(rt: &R, alloc: Global) -> io::Result<()> {
+pub fn run_trials<R: Threads + Wait + Clock + Print + Sync>(
+    rt: &R,
+    alloc: Global,
+) -> io::Result<()> {
     for script in &SCRIPTS {
         let outcome = run_script(rt, alloc, script).unwrap_or(Outcome::NoMemory);
         println!(rt; "{}: {outcome}", script.name)?;
@@ -37,7 +40,13 @@ fn run_script<R: Threads + Wait + Clock + Sync>(
 ) -> Result<Outcome, NoMemory> {
     let changed = Release::new(alloc)?;
     let files = changing(rt, alloc, BASH, SH, &changed)?;
-    Ok(done(rt, alloc, &script.conf(), files, Task::Script(*script, changed)))
+    Ok(done(
+        rt,
+        alloc,
+        &script.conf(),
+        files,
+        Task::Script(*script, changed),
+    ))
 }
 
 fn run_discarded<R: Threads + Wait + Clock + Sync>(
@@ -47,7 +56,13 @@ fn run_discarded<R: Threads + Wait + Clock + Sync>(
     let changed = Release::new(alloc)?;
     let gates = Gates::new(alloc)?;
     let files = changing(rt, alloc, BASH, SH, &changed)?.holding(alloc, gates.hold()?)?;
-    Ok(done(rt, alloc, &Conf::defaults(), files, Task::Discarded(gates, changed)))
+    Ok(done(
+        rt,
+        alloc,
+        &Conf::defaults(),
+        files,
+        Task::Discarded(gates, changed),
+    ))
 }
 
 // Up to the first that comes to anything else.
@@ -72,5 +87,11 @@ fn run_interleaving<R: Threads + Wait + Clock + Sync>(
 ) -> Result<Outcome, NoMemory> {
     let changed = Release::new(alloc)?;
     let files = changing(rt, alloc, BOTH, MOVED, &changed)?;
-    Ok(done(rt, alloc, &Conf::defaults(), files, Task::Interleaving(seed, changed)))
+    Ok(done(
+        rt,
+        alloc,
+        &Conf::defaults(),
+        files,
+        Task::Interleaving(seed, changed),
+    ))
 }
