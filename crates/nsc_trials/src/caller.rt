@@ -7,17 +7,28 @@ use crate::asked::Asked;
 use nsc_base::NoMemory;
 use nsc_model::{Given, InvalidateFault, Kind, LookupFault, Stats, Store};
 use std::alloc::Global;
+use std::marker::Model;
 use std::sync::Wait;
 
-/// A caller of a database of users, with a pass of its own.
+/// A caller of a database of users, with a pass of its own. Contracts see which database it calls.
 #[derive(Drop)]
 pub struct Caller<'a, S: Store, R: Wait> {
     rt: &'a R,
     alloc: Global,
     store: &'a S,
     pass: S::Pass,
-    ghost own: { S.is_pass store.now pass },
-    ghost users: { S.db store.now ≡ db.Passwd },
+}
+
+impl<'a, S: Store, R: Wait> Model for Caller<'a, S, R> {
+    ghost use Rattle.std.specs.Prelude.{◌≡◌};
+    ghost use Rattle.nsc_model.specs.declared.kind.Db.{Db};
+    ghost use Rattle.nsc_model.specs.declared.kind.Db.TheVariants as db;
+
+    ghost Value = { Db };
+
+    ghost view = { λ c. S.db c.store.now };
+
+    ghost invariant = { λ c. S.is_pass c.store.now c.pass × (S.db c.store.now ≡ db.Passwd) };
 }
 
 impl<'a, S: Store, R: Wait> Caller<'a, S, R> {

@@ -11,7 +11,7 @@ use std::thread::Threads;
 /// Calls of one kind, for their time.
 #[derive(Clone, Copy, Debug)]
 pub enum Load {
-    /// Lookups of users in turn, by so many threads in all so often.
+    /// Lookups of users in turn, by so many threads together.
     Hits {
         /// How many threads.
         threads: u32,
@@ -38,7 +38,7 @@ pub enum Load {
     },
 }
 
-// The most entries for which the room of the default size is enough.
+// For as many entries of not-found replies the room of the default size is enough.
 const FEW: u32 = 1500;
 
 impl Load {
@@ -48,17 +48,27 @@ impl Load {
     {
         let mut conf = Conf::defaults();
         conf.reloads = None;
-        if self.entries() > FEW {
+        if self.is_large() {
             conf.passwd.size = 65_536;
         }
         conf
     }
 
-    /// How many users are in the file.
+    // Whether the room of the default size is too small.
+    fn is_large(self) -> bool {
+        match self {
+            Load::Hits { entries, .. } => entries > FEW,
+            Load::Misses { .. } => false,
+            Load::Ticks { .. } => true,
+        }
+    }
+
+    /// How many users are in the file. Those whose entries are hit are in no file, and those whose entries are due are.
     pub fn users(self) -> u32 {
         match self {
+            Load::Hits { .. } => 0,
             Load::Misses { users, .. } => users,
-            _ => 0,
+            Load::Ticks { entries, .. } => entries,
         }
     }
 
@@ -118,11 +128,11 @@ fn misses<S: Store, R: Wait>(caller: &mut Caller<'_, S, R>, from: u32, count: u3
 
 // Looks up as many times the users of the numbers below `entries` in turn, and says whether each had an entry.
 fn hits<S: Store, R: Wait>(caller: &mut Caller<'_, S, R>, entries: u32, count: u32) -> bool {
+    let users = entries.max(1);
     let mut right = true;
-    let mut next = 0;
-    for _ in 0..count {
-        next = if next + 1 < entries { next + 1 } else { 0 };
-        let given = caller.find_key(Kind::PwName, &name_of(next), 0);
+    for turn in 0..count {
+        let name = name_of(turn % users);
+        let given = caller.find_key(Kind::PwName, &name, 0);
         right = right && matches!(&given, Ok(Given::Hit { .. }));
     }
     right
