@@ -12,14 +12,14 @@ use std::sync::Wait;
 
 /// A caller of a database of users, with a pass of its own. Contracts see which database it calls.
 #[derive(Drop)]
-pub struct Caller<'a, S: Store, R: Wait> {
-    rt: &'a R,
+pub struct Caller<'r, 's, S: Store, R: Wait> {
+    rt: &'r R,
     alloc: Global,
-    store: &'a S,
+    store: &'s S,
     pass: S::Pass,
 }
 
-impl<'a, S: Store, R: Wait> Model for Caller<'a, S, R> {
+impl<'r, 's, S: Store, R: Wait> Model for Caller<'r, 's, S, R> {
     ghost use Rattle.std.specs.Prelude.{◌≡◌};
     ghost use Rattle.nsc_model.specs.declared.kind.Db.{Db};
     ghost use Rattle.nsc_model.specs.declared.kind.Db.TheVariants as db;
@@ -31,9 +31,9 @@ impl<'a, S: Store, R: Wait> Model for Caller<'a, S, R> {
     ghost invariant = { λ c. S.is_pass c.store.now c.pass × (S.db c.store.now ≡ db.Passwd) };
 }
 
-impl<'a, S: Store, R: Wait> Caller<'a, S, R> {
+impl<'r, 's, S: Store, R: Wait> Caller<'r, 's, S, R> {
     /// The caller of this pass.
-    pub fn new(rt: &'a R, alloc: Global, store: &'a S, pass: S::Pass) -> Caller<'a, S, R>
+    pub fn new(rt: &'r R, alloc: Global, store: &'s S, pass: S::Pass) -> Caller<'r, 's, S, R>
         requires own { S.is_pass store.now pass }
         requires users { S.db store.now ≡ db.Passwd }
     {
@@ -46,7 +46,7 @@ impl<'a, S: Store, R: Wait> Caller<'a, S, R> {
     }
 
     /// Another caller of the same database. Fails only for want of memory.
-    pub fn another(&self) -> Result<Caller<'a, S, R>, NoMemory> {
+    pub fn another(&self) -> Result<Caller<'r, 's, S, R>, NoMemory> {
         let pass = self.store.attach(self.rt, self.alloc)?;
         Ok(Caller::new(self.rt, self.alloc, self.store, pass))
     }

@@ -42,7 +42,7 @@ impl Gates {
 /// the file is read, or the invalidation would wait for ever.
 pub fn discards<S: Store + Sync, R: Threads + Wait + Clock + Sync>(
     rt: &R,
-    reader: &mut Caller<'_, S, R>,
+    reader: &mut Caller<'_, '_, S, R>,
     gates: &mut Gates,
     changed: &mut Release,
 ) -> Result<bool, NoMemory>
@@ -63,7 +63,7 @@ where
 // Invalidates while the read waits, and then lets it pass.
 fn invalidates_between<S: Store, R: Wait + Clock>(
     rt: &R,
-    caller: &mut Caller<'_, S, R>,
+    caller: &mut Caller<'_, '_, S, R>,
     gates: &mut Gates,
 ) -> bool {
     let is_reached = gates.reached.wait(rt);

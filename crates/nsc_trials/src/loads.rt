@@ -85,7 +85,7 @@ impl Load {
         self,
         rt: &R,
         alloc: Global,
-        mut caller: Caller<'_, S, R>,
+        mut caller: Caller<'_, '_, S, R>,
     ) -> Result<bool, NoMemory>
     where
         S::Pass: Send,
@@ -116,7 +116,7 @@ fn name_of(number: u32) -> [u8; 11] {
 }
 
 // Looks up as many users, from the one with this number on, and says whether none of them had an entry.
-fn misses<S: Store, R: Wait>(caller: &mut Caller<'_, S, R>, from: u32, count: u32) -> bool {
+fn misses<S: Store, R: Wait>(caller: &mut Caller<'_, '_, S, R>, from: u32, count: u32) -> bool {
     let mut right = true;
     for turn in 0..count {
         let name = name_of(from.wrapping_add(turn));
@@ -127,7 +127,7 @@ fn misses<S: Store, R: Wait>(caller: &mut Caller<'_, S, R>, from: u32, count: u3
 }
 
 // Looks up as many times the users of the numbers below `entries` in turn, and says whether each had an entry.
-fn hits<S: Store, R: Wait>(caller: &mut Caller<'_, S, R>, entries: u32, count: u32) -> bool {
+fn hits<S: Store, R: Wait>(caller: &mut Caller<'_, '_, S, R>, entries: u32, count: u32) -> bool {
     let users = entries.max(1);
     let mut right = true;
     for turn in 0..count {
@@ -142,7 +142,7 @@ fn hits<S: Store, R: Wait>(caller: &mut Caller<'_, S, R>, entries: u32, count: u
 fn hits_by<S: Store + Sync, R: Threads + Wait + Sync>(
     rt: &R,
     alloc: Global,
-    caller: &Caller<'_, S, R>,
+    caller: &Caller<'_, '_, S, R>,
     threads: u32,
     entries: u32,
     count: u32,
@@ -158,13 +158,13 @@ where
     let right = thread::map_vec(
         rt,
         callers,
-        &|mut caller: Caller<'_, S, R>| { hits(&mut caller, entries, part) },
+        &|mut caller: Caller<'_, '_, S, R>| { hits(&mut caller, entries, part) },
     )?;
     Ok(right.iter().all(|right| *right))
 }
 
 // Ticks as often, so many seconds after the last time, and says whether each tick was well.
-fn ticks<S: Store, R: Wait>(caller: &mut Caller<'_, S, R>, count: u32, apart: u16) -> bool {
+fn ticks<S: Store, R: Wait>(caller: &mut Caller<'_, '_, S, R>, count: u32, apart: u16) -> bool {
     let mut right = true;
     let mut now: u32 = 0;
     for _ in 0..count {

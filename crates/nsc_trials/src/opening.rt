@@ -15,16 +15,16 @@ use std::thread::Threads;
 use std::time::Clock;
 
 /// A file set in which passwd has these bytes, and those once the flag is set; where one is longer than a file may be, it is absent.
-pub fn changing<'a, R: Clock>(
-    rt: &'a R,
+pub fn changing<R: Clock + Clone + Drop>(
+    rt: &R,
     alloc: Global,
     first: &[u8],
     second: &[u8],
     changed: &Release,
-) -> Result<HeldFiles<&'a R>, NoMemory> {
+) -> Result<HeldFiles<R>, NoMemory> {
     let first = users(alloc, first)?;
     let second = users(alloc, second)?;
-    HeldFiles::new(rt, alloc, first)?.changing(alloc, second, changed.share()?)
+    HeldFiles::new(rt.clone()?, alloc, first)?.changing(alloc, second, changed.share()?)
 }
 
 // The content in which passwd has these bytes, and every other file is absent.
@@ -37,11 +37,11 @@ fn users(alloc: Global, bytes: &[u8]) -> Result<Content, NoMemory> {
 }
 
 /// Does a task with a database of users that is opened over these files under these settings.
-pub fn done<R: Threads + Wait + Clock + Sync>(
+pub fn done<R: Threads + Wait + Clock + Clone + Drop + Send + Sync>(
     rt: &R,
     alloc: Global,
     conf: &Conf,
-    mut files: HeldFiles<&R>,
+    mut files: HeldFiles<R>,
     task: Task,
 ) -> Outcome
     requires { conf.now.passwd.size ≤ 65536 }

@@ -2,7 +2,6 @@ ghost use Rattle.std.specs.Prelude.{◌≡◌};
 ghost use Rattle.nsc_model.specs.declared.kind.Db.TheVariants as db;
 ghost use Rattle.nsc_model.specs.Settings.{settings_of};
 
-use crate::caller::Caller;
 use crate::outcome::Outcome;
 use crate::task::Task;
 use nsc_answer::Plain;
@@ -15,11 +14,11 @@ use std::thread::Threads;
 use std::time::Clock;
 
 /// Enters a room with a database of users that was opened under these settings, and does a task there.
-pub fn done_in<B: Room + Send, R: Threads + Wait + Clock + Sync>(
+pub fn done_in<B: Room + Send, R: Threads + Wait + Clock + Clone + Drop + Send + Sync>(
     rt: &R,
     alloc: Global,
     conf: &Conf,
-    opened: Opened<HeldFiles<&R>, Plain>,
+    opened: Opened<HeldFiles<R>, Plain>,
     task: Task,
 ) -> Outcome
     requires table { opened.pass.table ≡ B.table opened.db }
@@ -28,10 +27,9 @@ pub fn done_in<B: Room + Send, R: Threads + Wait + Clock + Sync>(
     requires users { opened.db ≡ db.Passwd }
 {
     match opened.enter::<B>() {
-        Ok((database, pass)) => {
-            let caller = Caller::new(rt, alloc, &database, pass);
-            task.run(rt, alloc, caller).unwrap_or(Outcome::NoMemory)
-        }
+        Ok((database, pass)) => task
+            .run(rt, alloc, &database, pass)
+            .unwrap_or(Outcome::NoMemory),
         Err(_) => Outcome::NoMemory,
     }
 }

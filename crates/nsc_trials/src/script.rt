@@ -55,7 +55,7 @@ impl Script {
     /// Takes its steps, up to the first that comes to anything else.
     pub fn run<S: Store, R: Wait>(
         &self,
-        caller: &mut Caller<'_, S, R>,
+        caller: &mut Caller<'_, '_, S, R>,
         changed: &mut Release,
     ) -> Outcome {
         for (at, step) in self.steps.iter().enumerate() {
@@ -70,7 +70,7 @@ impl Script {
 // Takes a step, and says whether it came to what it must.
 fn is_right<S: Store, R: Wait>(
     step: &Step,
-    caller: &mut Caller<'_, S, R>,
+    caller: &mut Caller<'_, '_, S, R>,
     changed: &mut Release,
 ) -> bool {
     match *step {

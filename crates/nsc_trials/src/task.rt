@@ -1,3 +1,6 @@
+ghost use Rattle.std.specs.Prelude.{◌≡◌};
+ghost use Rattle.nsc_model.specs.declared.kind.Db.TheVariants as db;
+
 use crate::caller::Caller;
 use crate::discarded::{Gates, discards};
 use crate::loads::Load;
@@ -26,16 +29,20 @@ pub enum Task {
 }
 
 impl Task {
-    /// Does it.
+    /// Does it with this database of users, by a caller of this pass.
     pub fn run<S: Store + Sync, R: Threads + Wait + Clock + Sync>(
         self,
         rt: &R,
         alloc: Global,
-        mut caller: Caller<'_, S, R>,
+        store: &S,
+        pass: S::Pass,
     ) -> Result<Outcome, NoMemory>
     where
         S::Pass: Send,
+        requires own { S.is_pass store.now pass }
+        requires users { S.db store.now ≡ db.Passwd }
     {
+        let mut caller = Caller::new(rt, alloc, store, pass);
         let is_right = match self {
             Task::Script(script, mut changed) => return Ok(script.run(&mut caller, &mut changed)),
             Task::Discarded(mut gates, mut changed) => {

@@ -11,14 +11,18 @@ use std::thread::Threads;
 use std::time::Clock;
 
 /// Makes calls for their time, and says whether each came to what it must.
-pub fn run_load<R: Threads + Wait + Clock + Sync>(rt: &R, alloc: Global, load: Load) -> bool {
+pub fn run_load<R: Threads + Wait + Clock + Clone + Drop + Send + Sync>(
+    rt: &R,
+    alloc: Global,
+    load: Load,
+) -> bool {
     match load_outcome(rt, alloc, load) {
         Ok(outcome) => outcome == Outcome::Right,
         Err(_) => false,
     }
 }
 
-fn load_outcome<R: Threads + Wait + Clock + Sync>(
+fn load_outcome<R: Threads + Wait + Clock + Clone + Drop + Send + Sync>(
     rt: &R,
     alloc: Global,
     load: Load,

@@ -19,7 +19,7 @@ use std::time::Clock;
 const INTERLEAVINGS: u64 = 1000;
 
 /// Runs every trial, and prints a line for each.
-pub fn run_trials<R: Threads + Wait + Clock + Print + Sync>(
+pub fn run_trials<R: Threads + Wait + Clock + Print + Clone + Drop + Send + Sync>(
     rt: &R,
     alloc: Global,
 ) -> io::Result<()> {
@@ -33,7 +33,7 @@ pub fn run_trials<R: Threads + Wait + Clock + Print + Sync>(
     println!(rt; "{INTERLEAVINGS} interleavings: {outcome}")
 }
 
-fn run_script<R: Threads + Wait + Clock + Sync>(
+fn run_script<R: Threads + Wait + Clock + Clone + Drop + Send + Sync>(
     rt: &R,
     alloc: Global,
     script: &Script,
@@ -49,7 +49,7 @@ fn run_script<R: Threads + Wait + Clock + Sync>(
     ))
 }
 
-fn run_discarded<R: Threads + Wait + Clock + Sync>(
+fn run_discarded<R: Threads + Wait + Clock + Clone + Drop + Send + Sync>(
     rt: &R,
     alloc: Global,
 ) -> Result<Outcome, NoMemory> {
@@ -66,7 +66,7 @@ fn run_discarded<R: Threads + Wait + Clock + Sync>(
 }
 
 // Up to the first that comes to anything else.
-fn run_interleavings<R: Threads + Wait + Clock + Sync>(
+fn run_interleavings<R: Threads + Wait + Clock + Clone + Drop + Send + Sync>(
     rt: &R,
     alloc: Global,
 ) -> Result<Outcome, NoMemory> {
@@ -80,7 +80,7 @@ fn run_interleavings<R: Threads + Wait + Clock + Sync>(
     Ok(Outcome::Right)
 }
 
-fn run_interleaving<R: Threads + Wait + Clock + Sync>(
+fn run_interleaving<R: Threads + Wait + Clock + Clone + Drop + Send + Sync>(
     rt: &R,
     alloc: Global,
     seed: u64,

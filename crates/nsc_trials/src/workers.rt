@@ -41,14 +41,14 @@ impl Work {
 
 // A thread: its caller, what it does, and whether it knows that the file has changed.
 #[derive(Drop)]
-struct Worker<'a, S: Store, R: Wait> {
-    caller: Caller<'a, S, R>,
+struct Worker<'r, 's, S: Store, R: Wait> {
+    caller: Caller<'r, 's, S, R>,
     changed: Release,
     work: Work,
     dice: Dice,
 }
 
-impl<S: Store, R: Wait> Worker<'_, S, R> {
+impl<S: Store, R: Wait> Worker<'_, '_, S, R> {
     // Does its work, and says whether each call came to what it may.
     fn is_right(mut self) -> bool {
         let place = self.dice.below(LOOKUPS);
@@ -104,7 +104,7 @@ fn is_answer(asked: Asked, given: &Result<Given, LookupFault>, is_changed: bool)
 pub fn interleaves<S: Store + Sync, R: Threads + Wait + Sync>(
     rt: &R,
     alloc: Global,
-    caller: &mut Caller<'_, S, R>,
+    caller: &mut Caller<'_, '_, S, R>,
     changed: &mut Release,
     seed: u64,
 ) -> Result<bool, NoMemory>
@@ -121,12 +121,16 @@ where
             dice: Dice::new(u64::from(dice.below(1 << 30))),
         })?;
     }
-    let right = thread::map_vec(rt, workers, &|worker: Worker<'_, S, R>| worker.is_right())?;
+    let right = thread::map_vec(
+        rt,
+        workers,
+        &|worker: Worker<'_, '_, S, R>| worker.is_right(),
+    )?;
     Ok(right.iter().all(|right| *right) && rests(caller)?)
 }
 
 // Whether there are no more entries than requests, and after an invalidation each reply is the one over the second file.
-fn rests<S: Store, R: Wait>(caller: &mut Caller<'_, S, R>) -> Result<bool, NoMemory> {
+fn rests<S: Store, R: Wait>(caller: &mut Caller<'_, '_, S, R>) -> Result<bool, NoMemory> {
     let is_short = caller.stats()?.entries <= 6;
     let is_invalid = caller.invalidate().is_ok();
     let mut right = is_short && is_invalid;
