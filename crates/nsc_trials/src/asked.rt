@@ -1,0 +1,78 @@
+ghost use Rattle.std.specs.Prelude.{◌≡◌, ◌≤◌, length};
+ghost use Rattle.nsc_model.specs.declared.kind.Db.TheVariants as db;
+ghost use Rattle.nsc_model.specs.Entry.{key_limit};
+ghost use Rattle.nsc_model.specs.Kinds.{database_of};
+
+use crate::texts;
+use nsc_model::Kind;
+
+/// Whom the trials ask for.
+#[derive(Clone, Copy, Debug, PartialEq, Eq)]
+pub enum Asked {
+    /// Root, by name.
+    Root,
+    /// Root, by id.
+    RootId,
+    /// Ann, by name.
+    Ann,
+    /// Ann, by the id that she has first.
+    AnnId,
+    /// Ann, by the id that she has later.
+    MovedId,
+    /// A user who is in no file.
+    Nobody,
+}
+
+impl Asked {
+    /// Each of them.
+    pub const ALL: [Asked; 6] = [
+        Asked::Root,
+        Asked::RootId,
+        Asked::Ann,
+        Asked::AnnId,
+        Asked::MovedId,
+        Asked::Nobody,
+    ];
+
+    /// The kind of the request.
+    pub fn kind(self) -> Kind
+        ensures { database_of result ≡ db.Passwd }
+    {
+        match self {
+            Asked::Root | Asked::Ann | Asked::Nobody => Kind::PwName,
+            Asked::RootId | Asked::AnnId | Asked::MovedId => Kind::PwUid,
+        }
+    }
+
+    /// Its key.
+    pub fn key(self) -> &'static [u8]
+        ensures { length result.now ≤ key_limit }
+    {
+        match self {
+            Asked::Root => b"root",
+            Asked::RootId => b"0",
+            Asked::Ann => b"ann",
+            Asked::AnnId => b"1000",
+            Asked::MovedId => b"1001",
+            Asked::Nobody => b"nobody1",
+        }
+    }
+
+    /// The reply over the first of the two files of two users.
+    pub fn first_reply(self) -> &'static [u8] {
+        match self {
+            Asked::Root | Asked::RootId => texts::ROOT_BASH,
+            Asked::Ann | Asked::AnnId => texts::ANN,
+            Asked::MovedId | Asked::Nobody => texts::ABSENT,
+        }
+    }
+
+    /// The reply over the second of them.
+    pub fn second_reply(self) -> &'static [u8] {
+        match self {
+            Asked::Root | Asked::RootId => texts::ROOT_SH,
+            Asked::Ann | Asked::MovedId => texts::ANN_MOVED,
+            Asked::AnnId | Asked::Nobody => texts::ABSENT,
+        }
+    }
+}

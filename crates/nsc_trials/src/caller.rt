@@ -1,0 +1,104 @@
+ghost use Rattle.std.specs.Prelude.{◌≡◌, ◌≤◌, length};
+ghost use Rattle.nsc_model.specs.declared.kind.Db.TheVariants as db;
+ghost use Rattle.nsc_model.specs.Entry.{key_limit};
+ghost use Rattle.nsc_model.specs.Kinds.{database_of};
+
+use crate::asked::Asked;
+use nsc_base::NoMemory;
+use nsc_model::{Given, InvalidateFault, Kind, LookupFault, Stats, Store};
+use std::alloc::Global;
+use std::marker::Model;
+use std::sync::Wait;
+
+/// A caller of a database of users, with a pass of its own. Contracts see which database it calls.
+#[derive(Drop)]
+pub struct Caller<'r, 's, S: Store, R: Wait> {
+    rt: &'r R,
+    alloc: Global,
+    store: &'s S,
+    pass: S::Pass,
+}
+
+impl<'r, 's, S: Store, R: Wait> Model for Caller<'r, 's, S, R> {
+    ghost use Rattle.std.specs.Prelude.{◌≡◌};
+    ghost use Rattle.nsc_model.specs.declared.kind.Db.{Db};
+    ghost use Rattle.nsc_model.specs.declared.kind.Db.TheVariants as db;
+
+    ghost Value = { Db };
+
+    ghost view = { λ c. S.db c.store.now };
+
+    ghost invariant = { λ c. S.is_pass c.store.now c.pass × (S.db c.store.now ≡ db.Passwd) };
+}
+
+impl<'r, 's, S: Store, R: Wait> Caller<'r, 's, S, R> {
+    /// The caller of this pass.
+    pub fn new(rt: &'r R, alloc: Global, store: &'s S, pass: S::Pass) -> Caller<'r, 's, S, R>
+        requires own { S.is_pass store.now pass }
+        requires users { S.db store.now ≡ db.Passwd }
+    {
+        Caller {
+            rt,
+            alloc,
+            store,
+            pass,
+        }
+    }
+
+    /// Another caller of the same database. Fails only for want of memory.
+    pub fn another(&self) -> Result<Caller<'r, 's, S, R>, NoMemory> {
+        let pass = self.store.attach(self.rt, self.alloc)?;
+        Ok(Caller::new(self.rt, self.alloc, self.store, pass))
+    }
+
+    /// Looks a user up at this moment, in seconds.
+    pub fn find(&mut self, asked: Asked, now: u32) -> Result<Given, LookupFault> {
+        self.find_key(asked.kind(), asked.key(), now)
+    }
+
+    /// The same by a kind and a key.
+    pub fn find_key(&mut self, kind: Kind, key: &[u8], now: u32) -> Result<Given, LookupFault>
+        requires kind { database_of kind ≡ db.Passwd }
+        requires key { length key.now ≤ key_limit }
+    {
+        self.store.lookup(
+            self.rt,
+            self.alloc,
+            &mut self.pass,
+            kind,
+            key,
+            u64::from(now),
+        )
+    }
+
+    /// A tick at this moment, in seconds.
+    pub fn tick(&mut self, now: u32) -> Result<(), LookupFault> {
+        self.store
+            .tick(self.rt, self.alloc, &mut self.pass, u64::from(now))
+    }
+
+    /// Invalidates the database, and gives the new number of invalidations.
+    pub fn invalidate(&mut self) -> Result<u64, InvalidateFault> {
+        self.store.invalidate(self.rt, &mut self.pass)
+    }
+
+    /// What the database counts.
+    pub fn stats(&mut self) -> Result<Stats, NoMemory> {
+        self.store.stats(self.rt, &mut self.pass)
+    }
+
+    /// Looks a user up through another pass, which is met then.
+    pub fn find_and_meet(&mut self, asked: Asked, now: u32) -> Result<Given, LookupFault> {
+        let mut other = self.store.attach(self.rt, self.alloc)?;
+        let given = self.store.lookup(
+            self.rt,
+            self.alloc,
+            &mut other,
+            asked.kind(),
+            asked.key(),
+            u64::from(now),
+        );
+        self.store.meet(&mut self.pass, other);
+        given
+    }
+}

@@ -1,0 +1,175 @@
+ghost use Rattle.std.specs.Prelude.{◌≤◌, ◌<◌, ◌*◌, ◌^◌};
+
+use crate::caller::Caller;
+use nsc_base::NoMemory;
+use nsc_model::{Conf, Given, Kind, Store};
+use std::alloc::Global;
+use std::sync::Wait;
+use std::thread;
+use std::thread::Threads;
+
+/// Calls of one kind, for their time.
+#[derive(Clone, Copy, Debug)]
+pub enum Load {
+    /// Lookups of users in turn, by so many threads together.
+    Hits {
+        /// How many threads.
+        threads: u32,
+        /// How many users, each of whom has an entry.
+        entries: u32,
+        /// How many lookups.
+        count: u32,
+    },
+    /// Lookups of users, each of another, who are in no file.
+    Misses {
+        /// How many users are in the file.
+        users: u32,
+        /// How many lookups.
+        count: u32,
+    },
+    /// Ticks.
+    Ticks {
+        /// Over how many entries.
+        entries: u32,
+        /// How many ticks.
+        count: u32,
+        /// How many seconds lie before each.
+        apart: u16,
+    },
+}
+
+// For as many entries of not-found replies the room of the default size is enough.
+const FEW: u32 = 1500;
+
+impl Load {
+    /// The settings that it runs under: entries are loaded again for ever, and there is room for them.
+    pub fn conf(self) -> Conf
+        ensures { result.passwd.size ≤ 65536 }
+    {
+        let mut conf = Conf::defaults();
+        conf.reloads = None;
+        if self.is_large() {
+            conf.passwd.size = 65_536;
+        }
+        conf
+    }
+
+    // Whether the room of the default size is too small.
+    fn is_large(self) -> bool {
+        match self {
+            Load::Hits { entries, .. } => entries > FEW,
+            Load::Misses { .. } => false,
+            Load::Ticks { .. } => true,
+        }
+    }
+
+    /// How many users are in the file. Those whose entries are hit are in no file, and those whose entries are due are.
+    pub fn users(self) -> u32 {
+        match self {
+            Load::Hits { .. } => 0,
+            Load::Misses { users, .. } => users,
+            Load::Ticks { entries, .. } => entries,
+        }
+    }
+
+    // How many entries there are before the calls.
+    fn entries(self) -> u32 {
+        match self {
+            Load::Hits { entries, .. } | Load::Ticks { entries, .. } => entries,
+            Load::Misses { .. } => 0,
+        }
+    }
+
+    /// Does the calls, and says whether each came to what it must.
+    pub fn is_done<S: Store + Sync, R: Threads + Wait + Sync>(
+        self,
+        rt: &R,
+        alloc: Global,
+        mut caller: Caller<'_, '_, S, R>,
+    ) -> Result<bool, NoMemory>
+    where
+        S::Pass: Send,
+    {
+        let is_filled = misses(&mut caller, 0, self.entries());
+        let is_right = match self {
+            Load::Hits {
+                threads,
+                entries,
+                count,
+            } => hits_by(rt, alloc, &caller, threads, entries, count)?,
+            Load::Misses { users, count } => misses(&mut caller, users, count),
+            Load::Ticks { count, apart, .. } => ticks(&mut caller, count, apart),
+        };
+        Ok(is_filled && is_right)
+    }
+}
+
+// The name of the user of this number, of which it has the last seven digits.
+fn name_of(number: u32) -> [u8; 11] {
+    let mut name = *b"user0000000";
+    let mut rest = number;
+    for digit in name[4..].iter_mut().rev() {
+        *digit = b'0' + (rest % 10) as u8;
+        rest /= 10;
+    }
+    name
+}
+
+// Looks up as many users, from the one with this number on, and says whether none of them had an entry.
+fn misses<S: Store, R: Wait>(caller: &mut Caller<'_, '_, S, R>, from: u32, count: u32) -> bool {
+    let mut right = true;
+    for turn in 0..count {
+        let name = name_of(from.wrapping_add(turn));
+        let given = caller.find_key(Kind::PwName, &name, 0);
+        right = right && matches!(&given, Ok(Given::Loaded { .. } | Given::Fresh { .. }));
+    }
+    right
+}
+
+// Looks up as many times the users of the numbers below `entries` in turn, and says whether each had an entry.
+fn hits<S: Store, R: Wait>(caller: &mut Caller<'_, '_, S, R>, entries: u32, count: u32) -> bool {
+    let users = entries.max(1);
+    let mut right = true;
+    for turn in 0..count {
+        let name = name_of(turn % users);
+        let given = caller.find_key(Kind::PwName, &name, 0);
+        right = right && matches!(&given, Ok(Given::Hit { .. }));
+    }
+    right
+}
+
+// The same by as many threads together, each of which does its part of the lookups.
+fn hits_by<S: Store + Sync, R: Threads + Wait + Sync>(
+    rt: &R,
+    alloc: Global,
+    caller: &Caller<'_, '_, S, R>,
+    threads: u32,
+    entries: u32,
+    count: u32,
+) -> Result<bool, NoMemory>
+where
+    S::Pass: Send,
+{
+    let part = count / threads.max(1);
+    let mut callers = Vec::new(alloc);
+    for _ in 0..threads {
+        callers.push(caller.another()?)?;
+    }
+    let right = thread::map_vec(
+        rt,
+        callers,
+        &|mut caller: Caller<'_, '_, S, R>| { hits(&mut caller, entries, part) },
+    )?;
+    Ok(right.iter().all(|right| *right))
+}
+
+// Ticks as often, so many seconds after the last time, and says whether each tick was well.
+fn ticks<S: Store, R: Wait>(caller: &mut Caller<'_, '_, S, R>, count: u32, apart: u16) -> bool {
+    let mut right = true;
+    let mut now: u32 = 0;
+    for _ in 0..count {
+        now = now.saturating_add(u32::from(apart));
+        right = caller.tick(now).is_ok() && right;
+    }
+    right
+}
