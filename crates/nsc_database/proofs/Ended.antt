@@ -1,5 +1,5 @@
 -- Ends of entries keep what holds of a writer while its lock is free.
-use Rattle.std.proofs.Common.{◌≡◌, ◌≢◌, ℕ, zero, suc, ◌+◌, ◌*◌, ◌<◌, ◌≤◌, Bool, true, false, cond, eqb, ◌||◌, ◌⊎◌, not, All, List, [], ◌∷◌, ◌++◌, filter, get_or, length, Option, Some, None, refl, sym, ap, subst, ◌∙◌, arith, inl, inr}
+use Rattle.std.proofs.Common.{◌≡◌, ℕ, zero, suc, ◌+◌, ◌*◌, ◌≤◌, Bool, true, false, cond, eqb, ◌||◌, ◌⊎◌, not, All, List, [], ◌∷◌, ◌++◌, filter, get_or, length, Option, Some, refl, sym, ap, subst, ◌∙◌, arith, inl, inr}
 use Rattle.std.proofs.lemmas.Bool.{eqb-true, eqb-false, eq-eqb}
 use Rattle.std.specs.Bool.{OnTrue}
 use Rattle.nsc_model.specs.declared.answer.Request.{Request}
@@ -10,17 +10,14 @@ use Rattle.nsc_model.specs.declared.record.Record.{Record}
 use Rattle.nsc_model.specs.declared.record.Record.TheVariants.{Change, Poll, Load, End, Invalid}
 use Rattle.nsc_model.specs.Entry.{Entry}
 use Rattle.nsc_model.specs.Live.{Among}
-use Rattle.nsc_model.specs.History.{HasEnd, HasLoad, IsLive, IsPrefix, Legal, changes, load_of, loads}
-use Rattle.nsc_model.specs.Kinds.{is_request}
-use Rattle.nsc_model.specs.Machine.{Kept, Cache, all_words, by_invalidation, emptied, ends_of, last_count}
-use Rattle.nsc_model.specs.Reloads.{AreDropped, AreInvalidated, IsDropped, Reloaded, ends, invalidated_at, one_of, replaced}
+use Rattle.nsc_model.specs.History.{HasEnd, HasLoad, IsLive, IsPrefix, Legal, changes, load_of}
+use Rattle.nsc_model.specs.Machine.{Kept, Cache, all_words, by_invalidation, ends_of, last_count}
+use Rattle.nsc_model.specs.Reloads.{AreDropped, IsDropped, Reloaded, ends, invalidated_at, replaced}
 use Rattle.nsc_laws.specs.Calls.{Tells, entries_of}
 use Rattle.nsc_laws.proofs.CoreLawRecords.{ended_or_not}
 use Rattle.nsc_laws.proofs.MachineLawEnds.{changes_ends}
 use Rattle.nsc_laws.proofs.MachineLawLists.{same_load}
-use Rattle.nsc_laws.proofs.Prefixes.{load_below}
-use Rattle.nsc_laws.proofs.Requests.{request_same}
-use Rattle.nsc_writer.specs.Shelf.{has_number, is_numbered, others_than}
+use Rattle.nsc_writer.specs.Shelf.{has_number, is_numbered}
 use Rattle.nsc_writer.specs.Writer.{Writer, emptied_by, without_entry}
 use Rattle.nsc_database.specs.Rests.{IsPacked, IsReloaded, Keeps}
 use Rattle.nsc_database.proofs.Rests.{invalidated_low}
@@ -103,7 +100,7 @@ load_of_is (End n cause ∷ before) e l a = load_of_is before e l.0 a
 load_of_is (Invalid n ∷ before) e l a = load_of_is before e l.0 a
 
 all_filtered : (P : Kept → Type 0) (test : Kept → Bool) (ks : List Kept) → All P ks → All P (filter test ks)
-all_filtered P test [] all i d low = absurd (omega arith)
+all_filtered P test [] all = λ i d low. absurd (omega arith)
 all_filtered P test (k ∷ ks) all = by_test (test k) (all_filtered P test ks (λ i d low. all (suc i) d (omega arith))) where
   by_test : (b : Bool) → All P (filter test ks) → All P (cond b (k ∷ filter test ks) (filter test ks))
   by_test true rest zero d low = all 0 k (omega arith)

@@ -3,4 +3,8 @@ pub mod Lookups
 pub mod Rests
 pub mod Ended
 pub mod Pruning
+pub mod Invalidations
+pub mod Listed
+pub mod Renewed
+pub mod Ticked
 pub mod Crossing

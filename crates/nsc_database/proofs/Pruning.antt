@@ -1,14 +1,12 @@
 -- The ends of a tick, one after the other.
-use Rattle.std.proofs.Common.{◌≡◌, ℕ, zero, suc, ◌+◌, ◌*◌, ◌<◌, ◌≤◌, ◌⊎◌, Bool, true, false, cond, All, List, [], ◌∷◌, ◌++◌, filter, get_or, length, Option, Some, None, refl, sym, ap, subst, ◌∙◌, arith, inl, inr}
+use Rattle.std.proofs.Common.{◌≡◌, ℕ, zero, suc, ◌+◌, ◌≤◌, ◌⊎◌, Bool, true, false, cond, All, List, [], ◌∷◌, get_or, length, Option, Some, None, refl, sym, ap, subst, ◌∙◌, arith, inl, inr}
 use Rattle.std.specs.Bool.{OnTrue}
-use Rattle.nsc_model.specs.declared.answer.Request.{Request}
 use Rattle.nsc_model.specs.declared.conf.DbConf.{DbConf}
 use Rattle.nsc_model.specs.declared.record.Ending.{Ending}
-use Rattle.nsc_model.specs.declared.record.Ending.TheVariants.{Expired, Replaced}
 use Rattle.nsc_model.specs.declared.record.Record.{Record}
 use Rattle.nsc_model.specs.declared.record.Record.TheVariants.{End}
 use Rattle.nsc_model.specs.Entry.{Entry}
-use Rattle.nsc_model.specs.History.{Allows, HasEnd, HasLoad, IsLive, IsPrefix, Legal, load_of}
+use Rattle.nsc_model.specs.History.{Allows, HasEnd, IsLive, IsPrefix, Legal, load_of}
 use Rattle.nsc_model.specs.Kinds.{is_request}
 use Rattle.nsc_model.specs.Reloads.{IsDropped, ends, one_of, replaced}
 use Rattle.nsc_laws.specs.Calls.{Tells}
@@ -21,8 +19,8 @@ use Rattle.nsc_writer.proofs.Later.{end_on, load_on, prefix_through}
 use Rattle.nsc_writer.proofs.Pruned.{head_of, over_allows, tail_of}
 use Rattle.nsc_writer.proofs.Told.{ended_tells}
 use Rattle.nsc_database.specs.Rests.{Keeps}
-use Rattle.nsc_database.specs.Ticks.{AreAnew, HasNumber, IsAnew, IsDue, IsRenewed}
-use Rattle.nsc_database.proofs.Ended.{IsRight, gone_ended, keeps_ended, load_of_is, on_true, replaced_on}
+use Rattle.nsc_database.specs.Ticks.{AreAnew, HasNumber, IsDue, IsRenewed, ended_of}
+use Rattle.nsc_database.proofs.Ended.{IsRight, gone_ended, keeps_ended, load_of_is, replaced_on}
 
 -- what is due stays so as the history goes on
 due_on : (limit : Option ℕ) (now : ℕ) (a b : List Record) (d : Due) → IsPrefix a b → IsDue limit now a d → IsDue limit now b d
@@ -134,51 +132,41 @@ pub all_cons : {A : Type 0} (P : A → Type 0) (x : A) (xs : List A) → P x →
 all_cons P x xs first rest zero d low = first
 all_cons P x xs first rest (suc i) d low = rest i d (omega arith)
 
--- what is marked as ended is counted; where any is, an entry ended
-pub record Counts (now : ℕ) (due : List Due) (w : Writer) : Type 0 where
-  pub renewed : All (IsRenewed (pruned_by now due w).seen) (marked_by now due w)
-  pub ended : ends w.seen + length (filter (λ (d : Due). d.ended) (marked_by now due w)) ≡ ends (pruned_by now due w).seen
-  pub same : length (filter (λ (d : Due). d.ended) (marked_by now due w)) ≡ 0 → pruned_by now due w ≡ w
+-- what is marked as ended is counted; where none is, nothing changed
+pub record Counts (marked : List Due) (w w' : Writer) : Type 0 where
+  pub renewed : All (IsRenewed w'.seen) marked
+  pub ended : ends w.seen + length (ended_of marked) ≡ ends w'.seen
+  pub same : length (ended_of marked) ≡ 0 → w' ≡ w
 
-pub all_count : (settings : DbConf) (limit : Option ℕ) (now ticked : ℕ) (due : List Due) (w : Writer) → All (IsDue limit now w.seen) due → Tells w.seen w.cache → Keeps settings limit ticked w → Counts now due w
+pub all_count : (settings : DbConf) (limit : Option ℕ) (now ticked : ℕ) (due : List Due) (w : Writer) → All (IsDue limit now w.seen) due → Tells w.seen w.cache → Keeps settings limit ticked w → Counts (marked_by now due w) w (pruned_by now due w)
 all_count settings limit now ticked [] w all t k = record { renewed = λ i d low. absurd (omega arith); ended = omega arith; same = λ none. refl }
-all_count settings limit now ticked (d ∷ due) w all t k = by_live (has_number d.number w.cache.entries) refl (λ w1 on told keeps. all_count settings limit now ticked due w1 (all_due_on limit now w.seen w1.seen due on (tail_of (IsDue limit now w.seen) d due all)) told keeps) where
-  here : IsDue limit now w.seen d
-  here = head_of (IsDue limit now w.seen) d due all
-
-  left : All (IsDue limit now w.seen) due
-  left = tail_of (IsDue limit now w.seen) d due all
-
-  after : (w1 : Writer) → IsPrefix w.seen w1.seen → Tells w1.seen w1.cache → Keeps settings limit ticked w1 → IsPrefix w1.seen (pruned_by now due w1).seen
-  after w1 on told keeps = (all_leave settings limit now ticked due w1 (all_due_on limit now w.seen w1.seen due on left) told keeps).on
-
-  by_live : (b : Bool) → has_number d.number w.cache.entries ≡ b → ((w1 : Writer) → IsPrefix w.seen w1.seen → Tells w1.seen w1.cache → Keeps settings limit ticked w1 → Counts now due w1) → Counts now (d ∷ due) w
-  by_live true there counted =
-      let w1 = without_entry d.number (ending_of (due_cause_of now d)) w in
-      let first = one_leaves settings limit now ticked d w here t k in
-      let is : pruned_one now d w ≡ w1 = ap (λ (b : Bool). cond b w1 w) there in
-      let told = subst (λ (x : Writer). Tells x.seen x.cache) is first.told in
-      let keeps = subst (Keeps settings limit ticked) is first.keeps in
-      let on : IsPrefix w.seen w1.seen = (End d.number (ending_of (due_cause_of now d)) ∷ [], refl) in
-      let rest = counted w1 on told keeps in
-      let renewed : IsRenewed w1.seen (record d { ended = true }) = λ yes kept. counts_one limit now w.seen d t.legal here kept in
-      let more = rest.ended in
-      let whole : Counts now (d ∷ due) w = rw there (record {
-        renewed = all_cons (IsRenewed (pruned_by now due w1).seen) (record d { ended = true }) (marked_by now due w1) (renewed_on w1.seen (pruned_by now due w1).seen (record d { ended = true }) (after w1 on told keeps) renewed) rest.renewed;
-        ended = omega arith;
-        same = λ none. absurd (omega arith);
-      }) in
-      whole
-  by_live false there counted =
-      let rest = counted w ([], refl) t k in
-      let renewed : IsRenewed w.seen (record d { ended = false }) = λ yes kept. absurd cc in
-      let more = rest.ended in
-      let whole : Counts now (d ∷ due) w = rw there (record {
-        renewed = all_cons (IsRenewed (pruned_by now due w).seen) (record d { ended = false }) (marked_by now due w) (λ yes kept. absurd cc) rest.renewed;
-        ended = more;
-        same = rest.same;
-      }) in
-      whole
+all_count settings limit now ticked (d ∷ due) w all t k =
+    by_live (has_number d.number w.cache.entries) refl (λ w1 on told keeps. all_count settings limit now ticked due w1 (all_due_on limit now w.seen w1.seen due on (tail_of (IsDue limit now w.seen) d due all)) told keeps)
+    (λ w1 on told keeps. (all_leave settings limit now ticked due w1 (all_due_on limit now w.seen w1.seen due on (tail_of (IsDue limit now w.seen) d due all)) told keeps).on) where
+      by_live : (b : Bool) → has_number d.number w.cache.entries ≡ b → ((w1 : Writer) → IsPrefix w.seen w1.seen → Tells w1.seen w1.cache → Keeps settings limit ticked w1 → Counts (marked_by now due w1) w1 (pruned_by now due w1))
+          → ((w1 : Writer) → IsPrefix w.seen w1.seen → Tells w1.seen w1.cache → Keeps settings limit ticked w1 → IsPrefix w1.seen (pruned_by now due w1).seen)
+          → Counts (record d { ended = b } ∷ marked_by now due (cond b (without_entry d.number (ending_of (due_cause_of now d)) w) w)) w (pruned_by now due (cond b (without_entry d.number (ending_of (due_cause_of now d)) w) w))
+      by_live true there counted after =
+          let w1 = without_entry d.number (ending_of (due_cause_of now d)) w in
+          let due_here = head_of (IsDue limit now w.seen) d due all in
+          let told = ended_tells w.seen w.cache d.number (ending_of (due_cause_of now d)) t there (due_over limit now w.seen d t.legal due_here) in
+          let keeps = keeps_ended settings limit ticked d.number (ending_of (due_cause_of now d)) w (right_cause limit now w.seen d t.legal due_here) k in
+          let on : IsPrefix w.seen w1.seen = (End d.number (ending_of (due_cause_of now d)) ∷ [], refl) in
+          let rest = counted w1 on told keeps in
+          let more = rest.ended in
+          record {
+            renewed = all_cons (IsRenewed (pruned_by now due w1).seen) (record d { ended = true }) (marked_by now due w1)
+                (renewed_on w1.seen (pruned_by now due w1).seen (record d { ended = true }) (after w1 on told keeps) (λ marked kept. counts_one limit now w.seen d t.legal due_here kept)) rest.renewed;
+            ended = omega arith;
+            same = λ none. absurd (omega arith);
+          }
+      by_live false there counted after =
+          let rest = counted w ([], refl) t k in
+          record {
+            renewed = all_cons (IsRenewed (pruned_by now due w).seen) (record d { ended = false }) (marked_by now due w) (λ marked kept. absurd cc) rest.renewed;
+            ended = rest.ended;
+            same = rest.same;
+          }
 
 -- what is loaded again for those that are due is so also where they are marked
 pub anew_marked : (now : ℕ) (h : List Record) (due : List Due) (w : Writer) (loads : List (Option Loaded)) → AreAnew h due loads → AreAnew h (marked_by now due w) loads

@@ -1,30 +1,27 @@
 -- What holds of a writer while its lock is free stays so through each of its calls.
-use Rattle.std.proofs.Common.{◌≡◌, ℕ, zero, suc, ◌+◌, ◌*◌, ◌<◌, ◌≤◌, Bool, true, false, cond, eqb, not, All, List, [], ◌∷◌, ◌++◌, filter, get_or, length, map, sum_by, add-zero, Option, Some, None, Result, Ok, Err, refl, sym, ap, subst, ◌∙◌, arith, inl, inr}
+use Rattle.std.proofs.Common.{◌≡◌, ℕ, zero, suc, ◌+◌, ◌<◌, ◌≤◌, Bool, true, false, cond, eqb, All, List, [], ◌∷◌, ◌++◌, get_or, sum_by, add-zero, Option, Ok, Err, refl, sym, ap, subst, ◌∙◌, arith, inl, inr}
 use Rattle.std.specs.Bool.{OnTrue}
 use Rattle.std.proofs.lemmas.List.Elements.{All-append}
 use Rattle.std.proofs.lemmas.List.Sums.{sum_by-append, sum_by-cons}
 use Rattle.nsc_model.specs.declared.answer.Request.{Request}
 use Rattle.nsc_model.specs.declared.conf.DbConf.{DbConf}
-use Rattle.nsc_model.specs.declared.record.Ending.{Ending}
-use Rattle.nsc_model.specs.declared.record.Ending.TheVariants.{Expired, Invalidated, Replaced}
 use Rattle.nsc_model.specs.declared.record.Record.{Record}
 use Rattle.nsc_model.specs.declared.record.Record.TheVariants.{Change, Poll, Load, End, Invalid}
 use Rattle.nsc_model.specs.Content.{Content}
 use Rattle.nsc_model.specs.Entry.{Entry}
 use Rattle.nsc_model.specs.Files.{same_files}
-use Rattle.nsc_model.specs.History.{HasLoad, IsLive, Legal, WasPolled, changes, load_of}
-use Rattle.nsc_model.specs.Machine.{Kept, Cache, all_words, by_invalidation, ends_of, entry_words, last_count, polled, used_by, used_now}
+use Rattle.nsc_model.specs.History.{HasLoad, IsLive, IsPrefix, Legal, WasPolled, changes}
+use Rattle.nsc_model.specs.Machine.{Kept, all_words, entry_words, last_count, polled, used_by, used_now}
 use Rattle.nsc_model.specs.Kinds.{is_request}
-use Rattle.nsc_model.specs.Reloads.{AreDropped, AreInvalidated, IsDropped, Reloaded, ends, invalidated_at, one_of, replaced}
-use Rattle.nsc_laws.specs.Calls.{Tells}
-use Rattle.nsc_laws.proofs.MachineLawEnds.{changes_ends}
+use Rattle.nsc_model.specs.Reloads.{Reloaded, ends, invalidated_at, replaced}
 use Rattle.nsc_writer.specs.declared.loaded.Inserted.{Inserted}
 use Rattle.nsc_writer.specs.declared.loaded.Inserted.TheVariants as inserted
 use Rattle.nsc_writer.specs.declared.loaded.Stamp.{Stamp}
-use Rattle.nsc_model.specs.declared.store.Spent.{Spent as SpentCount}
 use Rattle.nsc_writer.specs.Loaded.{Loaded, kept_of}
-use Rattle.nsc_writer.specs.Writer.{Writer, Inserts, Polls, emptied_by, with_entry}
-use Rattle.nsc_database.specs.Rests.{IsPacked, IsReloaded, Keeps}
+use Rattle.nsc_writer.specs.Writer.{Writer, Inserts, Polls, with_entry}
+use Rattle.nsc_writer.specs.declared.uses.Uses.{Uses}
+use Rattle.nsc_writer.proofs.Later.{prefix_through}
+use Rattle.nsc_database.specs.Rests.{IsPacked, IsReloaded, Keeps, Rests}
 
 -- ---- versions of a legal history
 
@@ -213,3 +210,38 @@ packed_insert (inserted.Present number) loaded w w' i p = subst IsPacked (sym i.
 packed_insert (inserted.Spent count) loaded w w' i p = subst IsPacked (sym i.1) p
 packed_insert (inserted.Full need free) loaded w w' i p = subst IsPacked (sym i.1) (record { taken = p.taken; cycles = p.cycles })
 packed_insert inserted.NoMemory loaded w w' i p = subst IsPacked (sym i) p
+
+-- ---- whole calls
+
+pub rests_same : (w w' : Writer) → w' ≡ w → Rests w w'
+rests_same w w' is = subst (Rests w) (sym is) (record { on = ([], refl); table = refl; layout = refl; keeps = λ settings limit ticked k. k; packed = λ p. p })
+
+pub rests_through : (a b c : Writer) → Rests a b → Rests b c → Rests a c
+rests_through a b c r s = record {
+  on = prefix_through a.seen b.seen c.seen r.on s.on;
+  table = s.table ∙ r.table;
+  layout = s.layout ∙ r.layout;
+  keeps = λ settings limit ticked k. s.keeps settings limit ticked (r.keeps settings limit ticked k);
+  packed = λ p. s.packed (r.packed p);
+}
+
+pub rests_missed : (m : Uses) (w w' : Writer) → w' ≡ record w { misses = m } → Rests w w'
+rests_missed m w w' is = subst (Rests w) (sym is) (record { on = ([], refl); table = refl; layout = refl; keeps = λ settings limit ticked k. record { reloaded = k.reloaded; counted = k.counted; found = k.found }; packed = λ p. record { taken = p.taken; cycles = p.cycles } })
+
+pub rests_used : (request : Request) (hits : Uses) (w w' : Writer) → w' ≡ record w { cache = record w.cache { entries = used_now request w.cache.entries }; hits = hits } → Rests w w'
+rests_used request hits w w' is = subst (Rests w) (sym is) (record {
+  on = ([], refl);
+  table = refl;
+  layout = refl;
+  keeps = λ settings limit ticked k. let u = keeps_used settings limit ticked request w k in record { reloaded = u.reloaded; counted = u.counted; found = u.found };
+  packed = λ p. let u = packed_used request w p in record { taken = u.taken; cycles = u.cycles };
+})
+
+pub rests_polled : (files : Content) (epoch : ℕ) (w w' : Writer) (stamp : Stamp) → IsPrefix w.seen w'.seen → w'.table ≡ w.table → Polls (polled files w.cache) epoch w w' (Ok stamp) → Rests w w'
+rests_polled files epoch w w' stamp on table p =
+    let s = polls_stay files epoch w w' stamp p in
+    record { on = on; table = table; layout = s.layout; keeps = λ settings limit ticked k. keeps_stays settings limit ticked w w' s k; packed = λ q. packed_stays w w' s q }
+
+pub rests_inserted : (said : Inserted) (loaded : Loaded) (w w' : Writer) → IsPrefix w.seen w'.seen → w'.table ≡ w.table → w'.layout ≡ w.layout → Inserts said loaded w w' → loaded.reloads ≤ replaced w.seen loaded.request → Rests w w'
+rests_inserted said loaded w w' on table layout i low =
+    record { on = on; table = table; layout = layout; keeps = λ settings limit ticked k. keeps_insert settings limit ticked said loaded w w' i low k; packed = λ q. packed_insert said loaded w w' i q }

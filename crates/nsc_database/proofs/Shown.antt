@@ -1,6 +1,6 @@
 -- What holds of the writer's lock show.
-use Rattle.std.proofs.Common.{◌≡◌, ◌∙◌, ℕ, suc, ◌+◌, ◌*◌, ◌/◌, ◌^◌, ◌<◌, ◌≤◌, ◌⊎◌, sum_by, Bool, true, false, cond, eqb, List, [], ◌∷◌, ◌++◌, length, length-append, Option, Some, None, Ok, Err, refl, sym, ap, subst, arith, inl, inr}
-use Rattle.std.proofs.lemmas.Bool.{eqb-true}
+use Rattle.std.proofs.Common.{◌≡◌, ◌∙◌, ℕ, suc, ◌+◌, ◌/◌, ◌^◌, ◌<◌, ◌≤◌, ◌⊎◌, Bool, true, false, cond, eqb, ltb, List, [], ◌∷◌, ◌++◌, length, length-append, Option, Some, None, Ok, Err, refl, sym, ap, subst, arith, inl, inr}
+use Rattle.std.proofs.lemmas.Bool.{eqb-true, ltb-false, ltb-true}
 use Rattle.std.proofs.lemmas.List.Sums.{sum_by-cons}
 use Rattle.nsc_model.specs.declared.answer.Request.{Request}
 use Rattle.nsc_model.specs.declared.record.Record.{Record}
@@ -181,13 +181,10 @@ words_live (k ∷ ks) =
 
 -- what is free, by what the writer counts
 pub is_free : (h : List Record) (w : Writer) (free : ℕ) → Tells h w.cache → w.seen ≡ h → IsPacked w → free + w.cache.used ≡ w.layout.arena → IsFree w.layout.arena free h ⊎ MayBeUnmoved h
-is_free h w free t seen p rest = by_cycle (le_or_more last_count w.cache.cycle) where
-  le_or_more : (m n : ℕ) → (m ≤ n) ⊎ (n < m)
-  le_or_more m n = le-or-lt m n
-
-  by_cycle : (last_count ≤ w.cache.cycle) ⊎ (w.cache.cycle < last_count) → IsFree w.layout.arena free h ⊎ MayBeUnmoved h
-  by_cycle (inl high) = inr (let low = p.cycles in let same : ends w.seen ≡ ends h = ap ends seen in omega arith)
-  by_cycle (inr low) = inl (record { entries = entries_of w.cache.entries; live = t.entries_are; rest = ap (λ (n : ℕ). free + n) (words_live w.cache.entries ∙ sym (p.taken low)) ∙ rest })
+is_free h w free t seen p rest = by_cycle (ltb w.cache.cycle last_count) refl where
+  by_cycle : (b : Bool) → ltb w.cache.cycle last_count ≡ b → IsFree w.layout.arena free h ⊎ MayBeUnmoved h
+  by_cycle false is = inr (let high = ltb-false w.cache.cycle last_count is in let low = p.cycles in let same : ends w.seen ≡ ends h = ap ends seen in omega arith)
+  by_cycle true is = let low = ltb-true w.cache.cycle last_count is in inl (record { entries = entries_of w.cache.entries; live = t.entries_are; rest = ap (λ (n : ℕ). free + n) (words_live w.cache.entries ∙ sym (p.taken low)) ∙ rest })
 
 pub is_inserted : (said : Inserted) (loaded : Loaded) (seen : List Record) (w w' : Writer) → Tells w.seen w.cache → IsPacked w → IsPrefix seen w.seen → Inserts said loaded w w' → IsRefused said loaded w → IsInserted w.layout.arena said loaded seen w'.seen
 is_inserted (inserted.Done number) loaded seen w w' t packed p i r =

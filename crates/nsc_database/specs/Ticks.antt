@@ -11,7 +11,7 @@ use Rattle.nsc_model.specs.Content.{Content}
 use Rattle.nsc_model.specs.Entry.{Entry}
 use Rattle.nsc_model.specs.History.{HasEnd, HasLoad, NoneLive, invalidations, version_in}
 use Rattle.nsc_model.specs.Answers.{answer_of}
-use Rattle.nsc_model.specs.Machine.{all_words, last_count, life_of, next_reloads}
+use Rattle.nsc_model.specs.Machine.{all_words, is_outdated, life_of, next_reloads}
 use Rattle.nsc_model.specs.Reloads.{replaced}
 use Rattle.nsc_model.specs.Stores.{IsTicked, IsUnmoved}
 use Rattle.nsc_sourcebook.specs.Book.{Polled}
@@ -21,7 +21,7 @@ use Rattle.nsc_writer.specs.Loaded.{Loaded}
 use Rattle.nsc_writer.specs.Writer.{IsAnswered, Writer}
 use Rattle.nsc_database.specs.declared.renewal.Checked.{Checked}
 use Rattle.nsc_database.specs.declared.renewal.Checked.TheVariants as checked
-use Rattle.nsc_database.specs.Rests.{IsCurrent}
+use Rattle.nsc_database.specs.Rests.{IsCurrent, Keeps}
 
 -- an entry of this number and request was inserted, its time is over, and entries of the request ended so often to be reloaded; it is
 -- dropped where its reply is a not-found one, or where the limit is reached
@@ -49,6 +49,9 @@ pub record AreListed (settings : DbConf) (limit : Option ℕ) (now : ℕ) (histo
   pub current : IsCurrent settings history
   pub each : All (IsDue limit now history) due
   pub all : AreAllDue now history due
+
+abbrev pub IsListing : Option ℕ → ℕ → Writer → List Record → List Due → Type 0
+IsListing limit now w shown due = (settings : DbConf) (ticked : ℕ) → Keeps settings limit ticked w → is_outdated settings w.cache.newest_version ticked ≡ false → AreListed settings limit now shown due
 
 abbrev pub IsChecked : Checked → DbConf → Option ℕ → ℕ → List Record → Type 0
 IsChecked checked.Emptied settings limit now history = NoneLive history

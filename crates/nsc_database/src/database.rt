@@ -183,11 +183,7 @@ impl<F: FileSet + Drop, A: Answerer + Drop, B: Room> Store for Database<F, A, B>
         self.tick_told(rt, alloc, pass, now)
     }
 
-    fn invalidate<R: Wait>(
-        &self,
-        rt: &R,
-        pass: &mut DbPass<F, B>,
-    ) -> Result<u64, InvalidateFault> {
+    fn invalidate<R: Wait>(&self, rt: &R, pass: &mut DbPass<F, B>) -> Result<u64, InvalidateFault> {
         match self.end_all(rt, pass) {
             Ok(epoch) => Ok(epoch),
             Err(spent) => Err(InvalidateFault::Spent { count: spent.count }),

@@ -1,8 +1,8 @@
 // What the locks of a database keep.
-ghost use Rattle.std.specs.Prelude.{◌≡◌, ◌≤◌, All, Option, IfOk, IfErr, OnOk};
+ghost use Rattle.std.specs.Prelude.{◌≡◌, ◌≤◌, false, All, IfOk, IfErr, OnOk};
 ghost use Rattle.std.specs.Bool.{OnTrue};
 ghost use Rattle.nsc_model.specs.Files.{part_of};
-ghost use Rattle.nsc_model.specs.History.{IsPrefix, Legal, invalidations};
+ghost use Rattle.nsc_model.specs.History.{IsPrefix, Legal, NoneLive, invalidations};
 ghost use Rattle.nsc_writer.specs.Writer.{IsAnswered};
 ghost use Rattle.nsc_sourcebook.specs.Reads.{AllRose, AreAsTold, FaultRose, IsPartOf, TellsLength};
 ghost use Rattle.nsc_model.specs.Machine.{is_outdated, room_of};
@@ -14,12 +14,11 @@ ghost use Rattle.nsc_database.specs.declared.renewal.Checked.TheVariants as is_c
 ghost use Rattle.nsc_database.specs.Holds.{IsInserted, IsLooked, IsPolled};
 ghost use Rattle.nsc_database.specs.Ticks.{AreAnew, AreOver, IsChecked, IsDue, IsHoldFault};
 
-use crate::holds;
 use crate::holds::Looked;
 use crate::pass::DbPass;
-use crate::renewal;
 use crate::renewal::Checked;
 use crate::room::{OfDb, Room};
+use crate::{holds, renewal};
 use nsc_base::NoMemory;
 use nsc_model::{Answerer, DbConf, Kind, LookupFault, Spent, Stats};
 use nsc_outside::FileSet;
@@ -208,8 +207,33 @@ impl<D: OfDb, B: Room> Desk<D, B> {
         if is_outdated(settings, newest, self.ticked) {
             return self.empty(pass, newest);
         }
+        self.list(pass, alloc, limit, now, newest)
+    }
+
+    // Says which are due, since the newest version, which is this one, is the one that the last tick found, or that does not count.
+    fn list<F: FileSet + Drop>(
+        &mut self,
+        pass: &mut DbPass<F, B>,
+        alloc: Global,
+        limit: Option<u32>,
+        now: u64,
+        newest: u64,
+    ) -> Result<Checked, LookupFault>
+        requires db { pass.old.db ≡ D.db }
+        requires limit { limit ≡ B.conf.reloads }
+        requires newest { newest ≡ self.old.writer.cache.newest_version }
+        requires current { is_outdated (settings_of B.conf D.db) newest self.old.ticked ≡ false }
+        ensures db { pass.new.db ≡ pass.old.db }
+        ensures files { pass.new.files ≡ pass.old.files }
+        ensures before { IsPrefix pass.old.pass.seen pass.new.pass.seen }
+        ensures legal { Legal pass.new.pass.seen }
+        ensures checked { IfOk result (λ checked. IsChecked checked (settings_of B.conf D.db) limit now pass.new.pass.seen) }
+        ensures reloaded { Reloaded limit pass.new.pass.seen }
+        ensures fault { IfErr result (λ fault. IsHoldFault fault pass.new.pass.seen) }
+    {
+        let listed = renewal::list(&mut self.writer, &mut pass.pass, alloc, limit, now);
         self.ticked = newest;
-        match renewal::list(&mut self.writer, &mut pass.pass, alloc, limit, now) {
+        match listed {
             Ok(due) => Ok(Checked::Listed(due)),
             Err(_) => Err(LookupFault::NoMemory),
         }
@@ -227,8 +251,8 @@ impl<D: OfDb, B: Room> Desk<D, B> {
         ensures files { pass.new.files ≡ pass.old.files }
         ensures before { IsPrefix pass.old.pass.seen pass.new.pass.seen }
         ensures legal { Legal pass.new.pass.seen }
-        ensures checked { IfOk result (λ checked. IsChecked checked (settings_of B.conf D.db) B.conf.reloads 0 pass.new.pass.seen) }
         ensures emptied { IfOk result (λ checked. checked ≡ is_checked.Emptied) }
+        ensures none { OnOk result (NoneLive pass.new.pass.seen) }
         ensures reloaded { OnOk result (Reloaded B.conf.reloads pass.new.pass.seen) }
         ensures fault { IfErr result (λ fault. IsHoldFault fault pass.new.pass.seen) }
     {

@@ -7,7 +7,7 @@ ghost use Rattle.nsc_model.specs.Machine.{last_count};
 ghost use Rattle.nsc_model.specs.Stores.{IsUnmoved};
 ghost use Rattle.nsc_writer.specs.Due.{IsOver, marked_by, pruned_by};
 ghost use Rattle.nsc_database.specs.Rests.{IsPacked, Keeps, Rests};
-ghost use Rattle.nsc_database.specs.Ticks.{AreAllDue, AreAnew, AreOver, IsDue, IsRenewed, IsSwept};
+ghost use Rattle.nsc_database.specs.Ticks.{AreAnew, AreOver, IsDue, IsListing, IsRenewed, IsSwept};
 
 use nsc_base::NoMemory;
 use nsc_model::Spent;
@@ -52,8 +52,7 @@ pub fn list(
     ensures before { IsPrefix pass.old.seen pass.new.seen }
     ensures legal { Legal pass.new.seen }
     ensures shown { pass.new.seen ≡ writer.old.seen }
-    ensures each { IfOk result (λ due. (settings : DbConf) (ticked : ℕ) → Keeps settings limit ticked writer.old → All (IsDue limit now pass.new.seen) due.items) }
-    ensures all { IfOk result (λ due. AreAllDue now pass.new.seen due.items) }
+    ensures listed { IfOk result (λ due. IsListing limit now writer.old pass.new.seen due.items) }
 {
     writer.show(pass);
     writer.learn();
@@ -76,7 +75,7 @@ pub fn renew(
     requires legal { Legal pass.old.seen }
     requires packed { IsPacked writer.old }
     requires noted { epoch ≤ invalidations pass.old.seen }
-    requires due { (limit : Option ℕ) × All (IsDue limit now pass.old.seen) due.old }
+    requires due { (settings : DbConf) × (limit : Option ℕ) × (ticked : ℕ) × All (IsDue limit now pass.old.seen) due.old × Keeps settings limit ticked writer.old }
     requires loads { AreAnew pass.old.seen due.old loads.now }
     ensures writer { (writer.new.table ≡ writer.old.table) × (writer.new.layout ≡ writer.old.layout) }
     ensures pass { pass.new.table ≡ pass.old.table }

@@ -41,7 +41,10 @@ impl<D: OfDb, F: FileSet + Drop, A: Answerer + Drop, B: Room> Base<D, F, A, B> {
         let epoch = self.desk.lock(rt).note(pass);
         let polled = match self.poll(rt, alloc, pass, epoch) {
             Ok(polled) => polled,
-            Err(fault) => return Err(fault),
+            Err(fault) => {
+                pass.pass.learn();
+                return Err(fault);
+            }
         };
         let checked = match self.check(rt, alloc, pass, now) {
             Ok(checked) => checked,
@@ -49,7 +52,12 @@ impl<D: OfDb, F: FileSet + Drop, A: Answerer + Drop, B: Room> Base<D, F, A, B> {
         };
         match checked {
             Checked::Emptied => Ok(()),
-            Checked::Listed(due) => self.renew(rt, alloc, pass, &polled, epoch, due, now),
+            Checked::Listed(due) => {
+                match self.renew(rt, alloc, pass, &polled, epoch, due, now) {
+                    Ok(()) => Ok(()),
+                    Err(fault) => Err(fault),
+                }
+            }
         }
     }
 
@@ -105,7 +113,11 @@ impl<D: OfDb, F: FileSet + Drop, A: Answerer + Drop, B: Room> Base<D, F, A, B> {
             Ok(loads) => loads,
             Err(_) => return Err(LookupFault::NoMemory),
         };
-        match self.desk.lock(rt).renew(pass, alloc, epoch, &mut due, &loads, now) {
+        match self
+            .desk
+            .lock(rt)
+            .renew(pass, alloc, epoch, &mut due, &loads, now)
+        {
             Ok(()) => Ok(()),
             Err(spent) => Err(LookupFault::Spent { count: spent.count }),
         }

@@ -1,9 +1,10 @@
-use Rattle.std.proofs.Common.{◌∙◌, ap, sym, subst}
+use Rattle.std.proofs.Common.{◌∙◌, ℕ, ap, sym, subst, arith}
 use Rattle.nsc_model.specs.History.{IsPrefix}
 use Rattle.nsc_rule.specs.Pass.{Pass}
 use Rattle.nsc_writer.specs.Writer.{Writer}
 use Rattle.nsc_writer.proofs.Later.{prefix_through}
 use Rattle.nsc_database.specs.Holds.{IsInserted}
+use Rattle.nsc_database.proofs.Rests.{rests_inserted, rests_missed, rests_same, rests_through}
 use Rattle.nsc_database.proofs.Shown.{answered_on, inserts_on, is_inserted}
 use Rattle.nsc_database.proofs.holds.insert.Goals as goal
 
@@ -34,5 +35,18 @@ pub returns-clause-inserted : goal.returns-clause-inserted
 returns-clause-inserted c =
     let w = c.miss.new.self in
     let before = subst (IsPrefix c.args.pass.now.seen) (sym (ap (λ (x : Writer). x.seen) c.miss.ensures ∙ ap (λ (x : Writer). x.seen) c.show.ensures.same)) c.show.ensures.before in
-    subst (IsInserted c.args.writer.now.layout.arena c.insert-outcome.result.0 c.args.loaded c.args.pass.now.seen) (sym (ap (λ (p : Pass). p.seen) c.show-2.ensures.pass))
-    (is_inserted c.insert-outcome.result.0 c.args.loaded c.args.pass.now.seen w c.insert-outcome.new.self c.learn-2.ensures.told before c.insert-outcome.ensures.inserted c.insert-outcome.ensures.why)
+    let arena = ap (λ (x : Writer). x.layout.arena) c.miss.ensures ∙ ap (λ (x : Writer). x.layout.arena) c.show.ensures.same in
+    let packed = (rests_through c.args.writer.now c.show.new.self w (rests_same c.args.writer.now c.show.new.self c.show.ensures.same) (rests_missed _ c.show.new.self w c.miss.ensures)).packed c.requires.packed in
+    subst (λ (n : ℕ). IsInserted n c.insert-outcome.result.0 c.args.loaded c.args.pass.now.seen c.show-2.new.pass.seen) arena
+    (subst (IsInserted w.layout.arena c.insert-outcome.result.0 c.args.loaded c.args.pass.now.seen) (sym (ap (λ (p : Pass). p.seen) c.show-2.ensures.pass))
+    (is_inserted c.insert-outcome.result.0 c.args.loaded c.args.pass.now.seen w c.insert-outcome.new.self c.learn-2.ensures.told packed before c.insert-outcome.ensures.inserted c.insert-outcome.ensures.why))
+
+pub returns-clause-rests : goal.returns-clause-rests
+returns-clause-rests c =
+    let w = c.miss.new.self in
+    let on = inserts_on c.insert-outcome.result.0 c.args.loaded w c.insert-outcome.new.self c.insert-outcome.ensures.inserted in
+    let none = c.requires.new in
+    rests_through c.args.writer.now c.insert-outcome.new.self c.show-2.new.self
+    (rests_through c.args.writer.now w c.insert-outcome.new.self (rests_through c.args.writer.now c.show.new.self w (rests_same c.args.writer.now c.show.new.self c.show.ensures.same) (rests_missed _ c.show.new.self w c.miss.ensures))
+    (rests_inserted c.insert-outcome.result.0 c.args.loaded w c.insert-outcome.new.self on.on on.table on.layout c.insert-outcome.ensures.inserted (omega arith)))
+    (rests_same c.insert-outcome.new.self c.show-2.new.self c.show-2.ensures.same)

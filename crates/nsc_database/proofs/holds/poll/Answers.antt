@@ -9,6 +9,7 @@ use Rattle.nsc_writer.proofs.Later.{prefix_through}
 use Rattle.nsc_model.specs.Stores.{IsSpent}
 use Rattle.nsc_database.specs.Holds.{IsPolled}
 use Rattle.nsc_database.proofs.Shown.{invalidations_on, is_polled, is_spent, polls_looks, spent_stays, stamp_epoch}
+use Rattle.nsc_database.proofs.Rests.{rests_polled, rests_same, rests_through}
 use Rattle.nsc_database.proofs.holds.poll.Goals as goal
 
 pub poll-requires-clause-epoch : goal.poll-requires-clause-epoch
@@ -56,3 +57,17 @@ returns-in-Err-clause-spent g c =
     let w = c.show.new.self in
     let seen = ap (λ (p : Pass). p.seen) c.show.ensures.pass ∙ sym (ap (λ (x : Writer). x.seen) c.show.ensures.same) in
     subst (λ (h : List Record). IsSpent h c.in-Err.spent.count) (sym seen) (is_spent c.args.fetched.content c.args.epoch w c.poll.new.writer c.in-Err.spent c.learn.ensures.told c.in-Err.ensures.polls.0)
+
+pub returns-in-Ok-clause-rests : goal.returns-in-Ok-clause-rests
+returns-in-Ok-clause-rests g c =
+    let w = c.show.new.self in
+    let w' = c.poll.new.writer in
+    let polls = subst (λ (x : Content). Polls (polled x w.cache) c.args.epoch w w' (Ok c.in-Ok.polled.stamp)) (sym c.in-Ok.ensures.polls.1) c.in-Ok.ensures.polls.0 in
+    let goes = (polls_looks c.in-Ok.polled.content c.args.epoch w w' c.in-Ok.polled.stamp polls).goes in
+    rests_through c.args.writer.now w' c.show-in-Ok.new.self
+    (rests_through c.args.writer.now w w' (rests_same c.args.writer.now w c.show.ensures.same) (rests_polled c.in-Ok.polled.content c.args.epoch w w' c.in-Ok.polled.stamp goes.on goes.table polls)) (rests_same w' c.show-in-Ok.new.self c.show-in-Ok.ensures.same)
+
+pub returns-in-Err-clause-rests : goal.returns-in-Err-clause-rests
+returns-in-Err-clause-rests g c =
+    let stays = spent_stays c.args.fetched.content c.args.epoch c.show.new.self c.poll.new.writer c.in-Err.spent c.in-Err.ensures.polls.0 in
+    rests_same c.args.writer.now c.poll.new.writer (stays ∙ c.show.ensures.same)

@@ -1,0 +1,117 @@
+-- The ends of a tick with their compaction, and what is loaded again after them.
+use Rattle.std.proofs.Common.{◌≡◌, ℕ, zero, suc, ◌+◌, ◌<◌, ◌≤◌, ◌⊎◌, Bool, true, false, All, List, [], ◌∷◌, cond, get_or, length, map, Option, Some, None, refl, sym, ap, subst, arith, inl, inr}
+use Rattle.std.proofs.Math.Nat.{min-le_left}
+use Rattle.nsc_model.specs.Answers.{answer_of}
+use Rattle.nsc_model.specs.declared.conf.DbConf.{DbConf}
+use Rattle.nsc_model.specs.declared.record.Record.{Record}
+use Rattle.nsc_model.specs.History.{HasEnd, IsPrefix, Legal, PolledSince, version_in}
+use Rattle.nsc_model.specs.Machine.{all_words, last_count, life_of, next_reloads}
+use Rattle.nsc_model.specs.Reloads.{replaced}
+use Rattle.nsc_model.specs.Stores.{IsUnmoved}
+use Rattle.nsc_laws.specs.Calls.{Tells}
+use Rattle.nsc_writer.specs.declared.loaded.Inserted.{Inserted}
+use Rattle.nsc_writer.specs.Due.{Due, IsOver, marked_by, pruned_by}
+use Rattle.nsc_writer.specs.Loaded.{Loaded}
+use Rattle.nsc_writer.specs.Writer.{Inserts, Writer}
+use Rattle.nsc_sourcebook.specs.Book.{Polled}
+use Rattle.nsc_database.specs.Rests.{IsPacked, Keeps, Rests}
+use Rattle.nsc_database.specs.Ticks.{AreAnew, HasNumber, IsAnew, IsDue, IsRenewed, IsSwept, anew_of, compacted_by, ended_of}
+use Rattle.nsc_database.proofs.Shown.{answered_on, inserts_on}
+use Rattle.nsc_database.proofs.Ended.{keeps_compacted, packed_compacted, packed_spent, replaced_on}
+use Rattle.nsc_database.proofs.Pruning.{all_count, all_leave}
+use Rattle.nsc_database.proofs.Rests.{rests_inserted, rests_through}
+
+-- what is known of the writer after them
+pub record Swept (settings : DbConf) (limit : Option ℕ) (now ticked : ℕ) (due : List Due) (w w' : Writer) : Type 0 where
+  pub legal : Legal w'.seen
+  pub on : IsPrefix w.seen w'.seen
+  pub table : w'.table ≡ w.table
+  pub layout : w'.layout ≡ w.layout
+  pub keeps : Keeps settings limit ticked w'
+  pub packed : IsPacked w'
+  pub gone : (n : ℕ) → HasNumber due n → HasEnd w'.seen n
+  pub renewed : All (IsRenewed w'.seen) (marked_by now due w)
+
+pub swept_leaves : (settings : DbConf) (limit : Option ℕ) (now ticked : ℕ) (due : List Due) (w w' : Writer) → All (IsDue limit now w.seen) due → Tells w.seen w.cache → Keeps settings limit ticked w → IsPacked w → IsSwept now due w w' → Swept settings limit now ticked due w w'
+swept_leaves settings limit now ticked due w w' all t k p s = by_case s.swept where
+  by_case : ((ended_of (marked_by now due w) ≡ []) × (w' ≡ pruned_by now due w)) ⊎ ((1 ≤ length (ended_of (marked_by now due w))) × (w' ≡ compacted_by (pruned_by now due w))) → Swept settings limit now ticked due w w'
+  by_case (inl (none, is)) =
+      let l = all_leave settings limit now ticked due w all t k in
+      let c = all_count settings limit now ticked due w all t k in
+      let same = c.same (ap (λ (ds : List Due). length ds) none) in
+      subst (Swept settings limit now ticked due w) (sym is)
+      (record { legal = l.told.legal; on = l.on; table = l.table; layout = l.layout; keeps = l.keeps; packed = subst IsPacked (sym same) p; gone = l.gone; renewed = c.renewed })
+  by_case (inr (some, is)) =
+      let l = all_leave settings limit now ticked due w all t k in
+      let c = all_count settings limit now ticked due w all t k in
+      let w1 = pruned_by now due w in
+      let low = p.cycles in
+      let cycle = l.cycle in
+      let more = c.ended in
+      subst (Swept settings limit now ticked due w) (sym is) (record {
+        legal = l.told.legal;
+        on = l.on;
+        table = l.table;
+        layout = l.layout;
+        keeps = keeps_compacted settings limit ticked (all_words w1.cache.entries) (w1.cache.cycle + 2) w1 (compacted_by w1) refl l.keeps;
+        packed = packed_compacted w1 (compacted_by w1) refl (omega arith);
+        gone = l.gone;
+        renewed = c.renewed;
+      })
+
+-- where the count of compactions stands at its end
+pub swept_spent : (settings : DbConf) (limit : Option ℕ) (now ticked : ℕ) (due : List Due) (w w' : Writer) → All (IsDue limit now w.seen) due → Tells w.seen w.cache → Keeps settings limit ticked w → IsPacked w → w' ≡ pruned_by now due w → last_count ≤ w'.cache.cycle
+    → Swept settings limit now ticked due w w'
+swept_spent settings limit now ticked due w w' all t k p is high =
+    let l = all_leave settings limit now ticked due w all t k in
+    let c = all_count settings limit now ticked due w all t k in
+    let w1 = pruned_by now due w in
+    let low = p.cycles in
+    let cycle = l.cycle in
+    let more = c.ended in
+    let high1 : last_count ≤ w1.cache.cycle = subst (λ (x : Writer). last_count ≤ x.cache.cycle) is high in
+    subst (Swept settings limit now ticked due w) (sym is)
+    (record { legal = l.told.legal; on = l.on; table = l.table; layout = l.layout; keeps = l.keeps; packed = packed_spent w1 w1 refl high1 (omega arith); gone = l.gone; renewed = c.renewed })
+
+pub swept_unmoved : (w' : Writer) (count : ℕ) → IsPacked w' → last_count ≤ w'.cache.cycle → count ≡ last_count → IsUnmoved w'.seen count
+swept_unmoved w' count p high is = record { last = is; cause = inr (let low = p.cycles in omega arith) }
+
+pub all_over : (limit : Option ℕ) (now : ℕ) (h : List Record) (due : List Due) → All (IsDue limit now h) due → All (IsOver h now) due
+all_over limit now h due all i d low = let x = all i d low in (x.entry, x.inserted, x.numbered, x.over)
+
+-- ---- what is loaded again
+
+pub anew_on : (a b : List Record) (due : List Due) (loads : List (Option Loaded)) → Legal a → Legal b → IsPrefix a b → AreAnew a due loads → AreAnew b due loads
+anew_on a b [] [] la lb p n = n
+anew_on a b [] (load ∷ loads) la lb p n = n
+anew_on a b (d ∷ due) [] la lb p n = n
+anew_on a b (d ∷ due) (None ∷ loads) la lb p n = (n.0, anew_on a b due loads la lb p n.1)
+anew_on a b (d ∷ due) (Some l ∷ loads) la lb p n = ((n.0.0, n.0.1, n.0.2, answered_on a b l lb la p n.0.3), anew_on a b due loads la lb p n.1)
+
+-- the one at a place
+pub anew_at : (h : List Record) (due : List Due) (loads : List (Option Loaded)) (i : ℕ) (d : Due) (o : Option Loaded) (l : Loaded) → AreAnew h due loads → i < length loads → get_or loads i o ≡ Some l → (i < length due) × IsAnew h (get_or due i d) (Some l)
+anew_at h [] [] i d o l n low is = absurd (omega arith)
+anew_at h [] (load ∷ loads) i d o l n low is = absurd n
+anew_at h (e ∷ due) [] i d o l n low is = absurd n
+anew_at h (e ∷ due) (load ∷ loads) zero d o l n low is = (omega arith, subst (IsAnew h e) is n.0)
+anew_at h (e ∷ due) (load ∷ loads) (suc i) d o l n low is = let r = anew_at h due loads i d o l n.1 (omega arith) is in let first = r.0 in (omega arith, r.1)
+
+-- one insertion
+pub reloads_one : (h : List Record) (d : Due) (l : Loaded) (said : Inserted) (w0 w w' : Writer) → h ≡ w0.seen → Rests w0 w → IsRenewed h d → d.ended ≡ true → IsAnew h d (Some l) → Inserts said l w w' → Rests w0 w'
+reloads_one h d l said w0 w w' same r renewed ended anew i =
+    let on = inserts_on said l w w' i in
+    let low = renewed ended anew.0 in
+    let few = anew.2 in
+    let rise = replaced_on h w.seen d.request (subst (λ (x : List Record). IsPrefix x w.seen) (sym same) r.on) in
+    let asked : replaced w.seen l.request ≡ replaced w.seen d.request = ap (replaced w.seen) anew.1 in
+    rests_through w0 w w' r (rests_inserted said l w w' on.on on.table on.layout i (omega arith))
+
+next_low : (n : ℕ) → next_reloads n ≤ n + 1
+next_low n = min-le_left (n + 1) last_count
+
+pub anew_all : (settings : DbConf) (now : ℕ) (h : List Record) (polled : Polled) (due : List Due) → version_in h polled.stamp.version ≡ Some polled.content → PolledSince h polled.stamp.version polled.stamp.epoch → AreAnew h due (map (anew_of settings polled now) due)
+anew_all settings now h polled [] version since = tt
+anew_all settings now h polled (d ∷ due) version since = (by_drop d.dropped refl, anew_all settings now h polled due version since) where
+  by_drop : (b : Bool) → d.dropped ≡ b → IsAnew h d (cond b None (Some (record { request = d.request; answer = answer_of polled.content d.request; stamp = polled.stamp; timeout = now + life_of settings (answer_of polled.content d.request); reloads = next_reloads d.reloads })))
+  by_drop true is = tt
+  by_drop false is = (is, refl, next_low d.reloads, record { files = polled.content; version = version; answer = refl; polled = since })

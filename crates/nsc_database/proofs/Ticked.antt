@@ -1,0 +1,156 @@
+-- What a tick comes to, hold after hold.
+use Rattle.std.proofs.Common.{◌≡◌, ◌≢◌, ℕ, ◌+◌, ◌<◌, ◌≤◌, List, [], ◌∷◌, ◌++◌, Option, Some, refl, sym, ap, subst, ◌∙◌, arith, inl, inr}
+use Rattle.std.proofs.lemmas.Bool.{OnTrue_at, OnTrue_from}
+use Rattle.nsc_model.specs.declared.conf.DbConf.{DbConf}
+use Rattle.nsc_model.specs.declared.kind.Db.{Db}
+use Rattle.nsc_model.specs.declared.kind.FileId.{FileId}
+use Rattle.nsc_model.specs.declared.record.Record.{Record}
+use Rattle.nsc_model.specs.declared.record.Record.TheVariants.{Change, Poll, Load, End, Invalid}
+use Rattle.nsc_model.specs.Entry.{Entry}
+use Rattle.nsc_model.specs.History.{HasEnd, HasLoad, IsPrefix, Legal, LookedBetween, NoneLive, PolledSince, changes, invalidations, version_in}
+use Rattle.nsc_model.specs.Reloads.{Reloaded}
+use Rattle.nsc_model.specs.Stores.{IsTicked}
+use Rattle.nsc_laws.proofs.CoreLawRecords.{ended_or_not}
+use Rattle.nsc_laws.proofs.Prefixes.{more_after, prefix_legal}
+use Rattle.nsc_writer.specs.Due.{Due}
+use Rattle.nsc_writer.proofs.Later.{end_on, load_on, polled_on, prefix_through, version_on}
+use Rattle.nsc_sourcebook.specs.Book.{Polled}
+use Rattle.nsc_sourcebook.specs.Reads.{AllRose, AreAsTold}
+use Rattle.nsc_database.specs.Holds.{IsPolled}
+use Rattle.nsc_database.specs.Ticks.{AreListed, AreOver, IsTickedOver}
+use Rattle.nsc_database.proofs.Shown.{invalidations_on, prefix_length}
+use Rattle.nsc_database.proofs.Rests.{version_within}
+
+not_empty : (h : List Record) (e : Entry) → HasLoad h e → h ≢ []
+not_empty [] e a same = a
+not_empty (r ∷ h) e a same = absurd cc
+
+-- each entry that was inserted before an invalidation ended
+ended_since : (more h : List Record) (e : Entry) → Legal (more ++ h) → invalidations h < invalidations (more ++ h) → HasLoad h e → HasEnd (more ++ h) e.number
+ended_since [] h e l low a = absurd (omega arith)
+ended_since (Change v c ∷ more) h e l low a = ended_since more h e (prefix_legal (Change v c ∷ []) (more ++ h) (more_after more h (not_empty h e a)) l) low a
+ended_since (Poll v ∷ more) h e l low a = ended_since more h e l.0 low a
+ended_since (Load f ∷ more) h e l low a = ended_since more h e l.0 low a
+ended_since (End n cause ∷ more) h e l low a = inr (ended_since more h e l.0 low a)
+ended_since (Invalid n ∷ more) h e l low a = l.2 e (load_on h (more ++ h) e (more, refl) a)
+
+ended_by : (h after : List Record) (e : Entry) → Legal after → IsPrefix h after → invalidations h < invalidations after → HasLoad h e → HasEnd after e.number
+ended_by h after e l p low a = subst (λ (x : List Record). HasEnd x e.number) (sym p.1) (ended_since p.0 h e (subst Legal p.1 l) (subst (λ (x : List Record). invalidations h < invalidations x) p.1 low) a)
+
+changes_rise : (more h : List Record) → changes h ≤ changes (more ++ h)
+changes_rise [] h = omega arith
+changes_rise (Change v c ∷ more) h = let low = changes_rise more h in omega arith
+changes_rise (Poll v ∷ more) h = changes_rise more h
+changes_rise (Load e ∷ more) h = changes_rise more h
+changes_rise (End n cause ∷ more) h = changes_rise more h
+changes_rise (Invalid n ∷ more) h = changes_rise more h
+
+changes_on : (a b : List Record) → IsPrefix a b → changes a ≤ changes b
+changes_on a b p = let low = changes_rise p.0 a in let same : changes b ≡ changes (p.0 ++ a) = ap changes p.1 in omega arith
+
+-- what a tick knows once the versions were compared: what it had seen, what it saw when it noted the number of invalidations, and
+-- what it had seen after its poll
+pub record Ticking (seen noted mid after : List Record) (epoch : ℕ) (polled : Polled) : Type 0 where
+  pub before : IsPrefix seen noted
+  pub legal : Legal noted
+  pub epoch_is : epoch ≡ invalidations noted
+  pub to_mid : IsPrefix noted mid
+  pub legal_mid : Legal mid
+  pub is_polled : IsPolled noted mid epoch polled
+  pub to_after : IsPrefix mid after
+  pub legal_after : Legal after
+
+pub looked_at : (seen noted mid after last : List Record) (epoch : ℕ) (polled : Polled) → Ticking seen noted mid after epoch polled → IsPrefix after last → LookedBetween seen last polled.stamp.version
+looked_at seen noted mid after last epoch polled t p =
+    let l = t.is_polled.looked in
+    let low = prefix_length seen noted t.before in
+    let more = l.2 in
+    (l.0, prefix_through l.0 mid last l.1 (prefix_through mid after last t.to_after p), omega arith, l.3)
+
+seen_on : (seen noted mid after : List Record) (epoch : ℕ) (polled : Polled) → Ticking seen noted mid after epoch polled → IsPrefix seen after
+seen_on seen noted mid after epoch polled t = prefix_through seen noted after t.before (prefix_through noted mid after t.to_mid t.to_after)
+
+pub emptied_ticked : (settings : DbConf) (limit : Option ℕ) (now : ℕ) (seen noted mid after : List Record) (epoch : ℕ) (polled : Polled) → Ticking seen noted mid after epoch polled → NoneLive after → Reloaded limit after
+    → IsTicked settings limit now seen after
+emptied_ticked settings limit now seen noted mid after epoch polled t none r =
+    let on = seen_on seen noted mid after epoch polled t in
+    record {
+      version = polled.stamp.version;
+      looked = looked_at seen noted mid after after epoch polled t ([], refl);
+      over = λ e a low. none e (load_on seen after e on a);
+      outdated = OnTrue_from settings.check_files _ (λ on' e a other. none e (load_on seen after e on a));
+      reloaded = r;
+    }
+
+-- an entry that had been seen is over the version that was polled, where it is live and each live entry is over the newest version
+over_polled : (seen noted mid after : List Record) (epoch : ℕ) (polled : Polled) (e : Entry) → Ticking seen noted mid after epoch polled → HasLoad seen e → changes after ≤ e.version + 1 → e.version ≡ polled.stamp.version
+over_polled seen noted mid after epoch polled e t a high =
+    let on = load_on seen noted e t.before a in
+    let within = version_within noted e t.legal on in
+    let first = changes_on noted mid t.to_mid in
+    let newest = t.is_polled.newest in
+    let last = changes_on mid after t.to_after in
+    omega arith
+
+pub listed_ticked : (settings : DbConf) (limit : Option ℕ) (now : ℕ) (seen noted mid after last : List Record) (epoch : ℕ) (polled : Polled) (due : List Due) → Ticking seen noted mid after epoch polled → AreListed settings limit now after due → IsPrefix after last → Legal last
+    → AreOver epoch last due → Reloaded limit last → IsTicked settings limit now seen last
+listed_ticked settings limit now seen noted mid after last epoch polled due t listed p legal over r = by_over over where
+  on : IsPrefix seen after
+  on = seen_on seen noted mid after epoch polled t
+
+  by_over : AreOver epoch last due → IsTicked settings limit now seen last
+  by_over (inl more) =
+      let to_last = prefix_through noted mid last t.to_mid (prefix_through mid after last t.to_after p) in
+      let rose : invalidations noted < invalidations last = (let same = t.epoch_is in omega arith) in
+      let ended : (e : Entry) → HasLoad seen e → HasEnd last e.number = λ e a. ended_by noted last e legal to_last rose (load_on seen noted e t.before a) in
+      record { version = polled.stamp.version; looked = looked_at seen noted mid after last epoch polled t p; over = λ e a low. ended e a; outdated = OnTrue_from settings.check_files _ (λ on' e a other. ended e a); reloaded = r }
+  by_over (inr gone) = record {
+    version = polled.stamp.version;
+    looked = looked_at seen noted mid after last epoch polled t p;
+    over = λ e a low. elim (listed.all e (load_on seen after e on a) low) [ inl ended ↦ end_on after last e.number p ended | inr has ↦ gone e.number has ];
+    outdated = OnTrue_from settings.check_files _ (λ on' e a other. elim (ended_or_not after e.number) [
+      | inl ended ↦ end_on after last e.number p ended
+      | inr lives ↦ absurd (other (over_polled seen noted mid after epoch polled e t a (OnTrue_at on' listed.current e (record { inserted = load_on seen after e on a; not_ended = lives }))))
+    ]);
+    reloaded = r;
+  }
+
+-- a tick over files, of which it is known what was read
+pub over_files : {Files : Type 0} (which : Db) (reads : Files → FileId → ℕ) (latest : Files → FileId → Option (Option (List ℕ))) (settings : DbConf) (limit : Option ℕ) (now : ℕ) (seen noted mid after last : List Record) (epoch : ℕ) (polled : Polled) (f0 f1 f2 f3 : Files)
+    → Ticking seen noted mid after epoch polled → IsPrefix after last → Legal last → f1 ≡ f0 → f3 ≡ f2 → AllRose which (reads f1) (reads f2) → AreAsTold which (latest f2) polled.content → (ticked : IsTicked settings limit now seen last) → ticked.version ≡ polled.stamp.version
+    → IsTickedOver which (reads f0) (reads f3) (latest f3) settings limit now seen last
+over_files which reads latest settings limit now seen noted mid after last epoch polled f0 f1 f2 f3 t p legal first same rose told ticked is = record {
+  ticked = ticked;
+  read = subst (λ f. AllRose which (reads f0) (reads f)) (sym same) (subst (λ f. AllRose which (reads f) (reads f2)) first rose);
+  content = polled.content;
+  version = ap (version_in last) is ∙ version_on mid last polled.stamp.version polled.content legal t.legal_mid (prefix_through mid after last t.to_after p) t.is_polled.version;
+  told = subst (λ f. AreAsTold which (latest f) polled.content) (sym same) told;
+}
+
+pub emptied_over : {Files : Type 0} (which : Db) (reads : Files → FileId → ℕ) (latest : Files → FileId → Option (Option (List ℕ))) (settings : DbConf) (limit : Option ℕ) (now : ℕ) (seen noted mid after : List Record) (epoch : ℕ) (polled : Polled) (f0 f1 f2 f3 : Files)
+    → Ticking seen noted mid after epoch polled → f1 ≡ f0 → f3 ≡ f2 → AllRose which (reads f1) (reads f2) → AreAsTold which (latest f2) polled.content → NoneLive after → Reloaded limit after → IsTickedOver which (reads f0) (reads f3) (latest f3) settings limit now seen after
+unfolding emptied_ticked
+emptied_over which reads latest settings limit now seen noted mid after epoch polled f0 f1 f2 f3 t first same rose told none r =
+    over_files which reads latest settings limit now seen noted mid after after epoch polled f0 f1 f2 f3 t ([], refl) t.legal_after first same rose told (emptied_ticked settings limit now seen noted mid after epoch polled t none r) refl
+
+listed_version : (settings : DbConf) (limit : Option ℕ) (now : ℕ) (seen noted mid after last : List Record) (epoch : ℕ) (polled : Polled) (due : List Due) (t : Ticking seen noted mid after epoch polled) (listed : AreListed settings limit now after due) (p : IsPrefix after last) (legal : Legal last)
+    (over : AreOver epoch last due) (r : Reloaded limit last) → (listed_ticked settings limit now seen noted mid after last epoch polled due t listed p legal over r).version ≡ polled.stamp.version
+unfolding listed_ticked
+listed_version settings limit now seen noted mid after last epoch polled due t listed p legal (inl more) r = refl
+listed_version settings limit now seen noted mid after last epoch polled due t listed p legal (inr gone) r = refl
+
+pub listed_over : {Files : Type 0} (which : Db) (reads : Files → FileId → ℕ) (latest : Files → FileId → Option (Option (List ℕ))) (settings : DbConf) (limit : Option ℕ) (now : ℕ) (seen noted mid after last : List Record) (epoch : ℕ) (polled : Polled) (due : List Due) (f0 f1 f2 f3 : Files)
+    → Ticking seen noted mid after epoch polled → f1 ≡ f0 → f3 ≡ f2 → AllRose which (reads f1) (reads f2) → AreAsTold which (latest f2) polled.content → AreListed settings limit now after due → IsPrefix after last → Legal last → AreOver epoch last due → Reloaded limit last
+    → IsTickedOver which (reads f0) (reads f3) (latest f3) settings limit now seen last
+listed_over which reads latest settings limit now seen noted mid after last epoch polled due f0 f1 f2 f3 t first same rose told listed p legal over r =
+    over_files which reads latest settings limit now seen noted mid after last epoch polled f0 f1 f2 f3 t p legal first same rose told (listed_ticked settings limit now seen noted mid after last epoch polled due t listed p legal over r)
+    (listed_version settings limit now seen noted mid after last epoch polled due t listed p legal over r)
+
+pub noted_low : (seen noted mid after : List Record) (epoch : ℕ) (polled : Polled) → Ticking seen noted mid after epoch polled → epoch ≤ invalidations after
+noted_low seen noted mid after epoch polled t = let same = t.epoch_is in let rise = invalidations_on noted after (prefix_through noted mid after t.to_mid t.to_after) in omega arith
+
+pub version_low : (seen noted mid after : List Record) (epoch : ℕ) (polled : Polled) → Ticking seen noted mid after epoch polled → version_in after polled.stamp.version ≡ Some polled.content
+version_low seen noted mid after epoch polled t = version_on mid after polled.stamp.version polled.content t.legal_after t.legal_mid t.to_after t.is_polled.version
+
+pub since_low : (seen noted mid after : List Record) (epoch : ℕ) (polled : Polled) → Ticking seen noted mid after epoch polled → PolledSince after polled.stamp.version polled.stamp.epoch
+since_low seen noted mid after epoch polled t = polled_on mid after polled.stamp.version polled.stamp.epoch t.to_after (subst (PolledSince mid polled.stamp.version) (sym t.is_polled.epoch_is) t.is_polled.since)

@@ -1,0 +1,127 @@
+use Rattle.std.proofs.Common.{◌∙◌}
+use Rattle.std.proofs.lemmas.Bool.{OnTrue_from}
+use Rattle.nsc_model.specs.History.{NoneLive}
+use Rattle.nsc_writer.proofs.Later.{prefix_through}
+use Rattle.nsc_database.specs.Ticks.{AreListed}
+use Rattle.nsc_database.proofs.Ticked.{Ticking, emptied_over, listed_over, noted_low, since_low, version_low}
+use Rattle.nsc_database.proofs.base.Base.tick.Goals as goal
+
+pub returns-in-Err-clause-before : goal.returns-in-Err-clause-before
+returns-in-Err-clause-before g c = prefix_through c.args.pass.now.pass.seen c.note-epoch.new.pass.pass.seen c.poll.new.pass.pass.seen c.note-epoch.ensures.before c.in-Err.ensures.before
+
+pub returns-in-Err-check-clause-before : goal.returns-in-Err-check-clause-before
+returns-in-Err-check-clause-before g c =
+    prefix_through c.args.pass.now.pass.seen c.poll.new.pass.pass.seen c.check.new.pass.pass.seen
+    (prefix_through c.args.pass.now.pass.seen c.note-epoch.new.pass.pass.seen c.poll.new.pass.pass.seen c.note-epoch.ensures.before c.in-Ok.ensures.before) c.in-Err-check.ensures.before
+
+pub returns-in-Emptied-clause-before : goal.returns-in-Emptied-clause-before
+returns-in-Emptied-clause-before g c =
+    prefix_through c.args.pass.now.pass.seen c.poll.new.pass.pass.seen c.check.new.pass.pass.seen
+    (prefix_through c.args.pass.now.pass.seen c.note-epoch.new.pass.pass.seen c.poll.new.pass.pass.seen c.note-epoch.ensures.before c.in-Ok.ensures.before) c.in-Ok-check.ensures.before
+
+pub returns-in-Emptied-clause-ticked : goal.returns-in-Emptied-clause-ticked
+returns-in-Emptied-clause-ticked g c = OnTrue_from c.args.self.now.settings.enabled _ (λ on.
+    let seen = c.args.pass.now.pass.seen in
+    let noted = c.note-epoch.new.pass.pass.seen in
+    let mid = c.poll.new.pass.pass.seen in
+    let after = c.check.new.pass.pass.seen in
+    let t : Ticking seen noted mid after c.note-epoch.result c.in-Ok.polled = record {
+      before = c.note-epoch.ensures.before;
+      legal = c.note-epoch.ensures.legal;
+      epoch_is = c.note-epoch.ensures.noted;
+      to_mid = c.in-Ok.ensures.before;
+      legal_mid = c.in-Ok.ensures.legal;
+      is_polled = c.in-Ok.ensures.polled;
+      to_after = c.in-Ok-check.ensures.before;
+      legal_after = c.in-Ok-check.ensures.legal;
+    } in
+    let none : NoneLive after = rw c.in-Emptied.is at c.in-Ok-check.ensures.checked in
+    emptied_over g.D.OfDb.db g.F.FileSet.reads g.F.FileSet.latest c.args.self.now.settings c.args.self.now.reloads c.args.now seen noted mid after c.note-epoch.result c.in-Ok.polled c.args.pass.now.files c.note-epoch.new.pass.files c.poll.new.pass.files c.check.new.pass.files t
+    c.note-epoch.ensures.files c.in-Ok-check.ensures.files c.in-Ok.ensures.read c.in-Ok.ensures.told none c.in-Ok-check.ensures.reloaded)
+
+pub renew-requires-clause-noted : goal.renew-requires-clause-noted
+renew-requires-clause-noted g c =
+    let seen = c.args.pass.now.pass.seen in
+    let noted = c.note-epoch.new.pass.pass.seen in
+    let mid = c.poll.new.pass.pass.seen in
+    let after = c.check.new.pass.pass.seen in
+    let t : Ticking seen noted mid after c.note-epoch.result c.in-Ok.polled = record {
+      before = c.note-epoch.ensures.before;
+      legal = c.note-epoch.ensures.legal;
+      epoch_is = c.note-epoch.ensures.noted;
+      to_mid = c.in-Ok.ensures.before;
+      legal_mid = c.in-Ok.ensures.legal;
+      is_polled = c.in-Ok.ensures.polled;
+      to_after = c.in-Ok-check.ensures.before;
+      legal_after = c.in-Ok-check.ensures.legal;
+    } in
+    noted_low seen noted mid after c.note-epoch.result c.in-Ok.polled t
+
+pub renew-requires-clause-version : goal.renew-requires-clause-version
+renew-requires-clause-version g c =
+    let seen = c.args.pass.now.pass.seen in
+    let noted = c.note-epoch.new.pass.pass.seen in
+    let mid = c.poll.new.pass.pass.seen in
+    let after = c.check.new.pass.pass.seen in
+    let t : Ticking seen noted mid after c.note-epoch.result c.in-Ok.polled = record {
+      before = c.note-epoch.ensures.before;
+      legal = c.note-epoch.ensures.legal;
+      epoch_is = c.note-epoch.ensures.noted;
+      to_mid = c.in-Ok.ensures.before;
+      legal_mid = c.in-Ok.ensures.legal;
+      is_polled = c.in-Ok.ensures.polled;
+      to_after = c.in-Ok-check.ensures.before;
+      legal_after = c.in-Ok-check.ensures.legal;
+    } in
+    version_low seen noted mid after c.note-epoch.result c.in-Ok.polled t
+
+pub renew-requires-clause-since : goal.renew-requires-clause-since
+renew-requires-clause-since g c =
+    let seen = c.args.pass.now.pass.seen in
+    let noted = c.note-epoch.new.pass.pass.seen in
+    let mid = c.poll.new.pass.pass.seen in
+    let after = c.check.new.pass.pass.seen in
+    let t : Ticking seen noted mid after c.note-epoch.result c.in-Ok.polled = record {
+      before = c.note-epoch.ensures.before;
+      legal = c.note-epoch.ensures.legal;
+      epoch_is = c.note-epoch.ensures.noted;
+      to_mid = c.in-Ok.ensures.before;
+      legal_mid = c.in-Ok.ensures.legal;
+      is_polled = c.in-Ok.ensures.polled;
+      to_after = c.in-Ok-check.ensures.before;
+      legal_after = c.in-Ok-check.ensures.legal;
+    } in
+    since_low seen noted mid after c.note-epoch.result c.in-Ok.polled t
+
+pub returns-in-Ok-renew-clause-before : goal.returns-in-Ok-renew-clause-before
+returns-in-Ok-renew-clause-before g c =
+    prefix_through c.args.pass.now.pass.seen c.check.new.pass.pass.seen c.renew.new.pass.pass.seen
+    (prefix_through c.args.pass.now.pass.seen c.poll.new.pass.pass.seen c.check.new.pass.pass.seen
+    (prefix_through c.args.pass.now.pass.seen c.note-epoch.new.pass.pass.seen c.poll.new.pass.pass.seen c.note-epoch.ensures.before c.in-Ok.ensures.before) c.in-Ok-check.ensures.before) c.renew.ensures.before
+
+pub returns-clause-before : goal.returns-clause-before
+returns-clause-before g c =
+    prefix_through c.args.pass.now.pass.seen c.check.new.pass.pass.seen c.renew.new.pass.pass.seen
+    (prefix_through c.args.pass.now.pass.seen c.poll.new.pass.pass.seen c.check.new.pass.pass.seen
+    (prefix_through c.args.pass.now.pass.seen c.note-epoch.new.pass.pass.seen c.poll.new.pass.pass.seen c.note-epoch.ensures.before c.in-Ok.ensures.before) c.in-Ok-check.ensures.before) c.renew.ensures.before
+
+pub returns-in-Ok-renew-clause-ticked : goal.returns-in-Ok-renew-clause-ticked
+returns-in-Ok-renew-clause-ticked g c = OnTrue_from c.args.self.now.settings.enabled _ (λ on.
+    let seen = c.args.pass.now.pass.seen in
+    let noted = c.note-epoch.new.pass.pass.seen in
+    let mid = c.poll.new.pass.pass.seen in
+    let after = c.check.new.pass.pass.seen in
+    let t : Ticking seen noted mid after c.note-epoch.result c.in-Ok.polled = record {
+      before = c.note-epoch.ensures.before;
+      legal = c.note-epoch.ensures.legal;
+      epoch_is = c.note-epoch.ensures.noted;
+      to_mid = c.in-Ok.ensures.before;
+      legal_mid = c.in-Ok.ensures.legal;
+      is_polled = c.in-Ok.ensures.polled;
+      to_after = c.in-Ok-check.ensures.before;
+      legal_after = c.in-Ok-check.ensures.legal;
+    } in
+    let listed : AreListed c.args.self.now.settings c.args.self.now.reloads c.args.now after c.in-Listed.due.items = rw c.in-Listed.is at c.in-Ok-check.ensures.checked in
+    listed_over g.D.OfDb.db g.F.FileSet.reads g.F.FileSet.latest c.args.self.now.settings c.args.self.now.reloads c.args.now seen noted mid after c.renew.new.pass.pass.seen c.note-epoch.result c.in-Ok.polled c.in-Listed.due.items
+    c.args.pass.now.files c.note-epoch.new.pass.files c.poll.new.pass.files c.renew.new.pass.files t c.note-epoch.ensures.files (c.renew.ensures.files ∙ c.in-Ok-check.ensures.files) c.in-Ok.ensures.read c.in-Ok.ensures.told listed
+    c.renew.ensures.before c.renew.ensures.legal c.in-Ok-renew.ensures.over c.in-Ok-renew.ensures.reloaded)

@@ -1,0 +1,4 @@
+use Rattle.nsc_database.proofs.desk.Desk.invalidate.Goals as goal
+
+pub invariant_of-self : goal.invariant_of-self
+invariant_of-self g c = (c.invalidate.ensures.rests.keeps _ _ _ c.self.invariant.0, c.invalidate.ensures.rests.packed c.self.invariant.1)

@@ -1,0 +1,5 @@
+use Rattle.nsc_database.specs.Rests.{Rests}
+use Rattle.nsc_database.proofs.renewal.reload.Given as goal
+
+abbrev pub invariant-loop-at : goal.invariant-loop-at
+invariant-loop-at l = Rests l.initial.writer l.writer

@@ -1,0 +1,233 @@
+use Rattle.std.proofs.Common.{◌≡◌, ◌≢◌, ◌≤◌, ◌∙◌, All, List, ap, sym, subst, arith, inl, inr}
+use Rattle.nsc_model.specs.declared.record.Record.{Record}
+use Rattle.nsc_model.specs.History.{HasEnd, IsPrefix, invalidations}
+use Rattle.nsc_model.specs.Stores.{IsUnmoved}
+use Rattle.nsc_rule.specs.Pass.{Pass}
+use Rattle.nsc_writer.specs.Due.{Due}
+use Rattle.nsc_writer.specs.Writer.{Writer}
+use Rattle.nsc_writer.proofs.Later.{end_on, prefix_through}
+use Rattle.nsc_database.specs.Rests.{IsPacked, Keeps}
+use Rattle.nsc_database.specs.Ticks.{AreAnew, IsRenewed}
+use Rattle.nsc_database.proofs.Pruning.{all_due_on, anew_marked}
+use Rattle.nsc_database.proofs.Shown.{invalidations_on}
+use Rattle.nsc_database.proofs.Renewed.{all_over, anew_on, swept_leaves, swept_spent, swept_unmoved}
+use Rattle.nsc_database.proofs.renewal.renew.Goals as goal
+
+pub returns-then-epoch-clause-over : goal.returns-then-epoch-clause-over
+returns-then-epoch-clause-over c =
+    let seen = ap (λ (p : Pass). p.seen) c.show.ensures.pass ∙ sym (ap (λ (x : Writer). x.seen) c.show.ensures.same) in
+    let noted : c.args.epoch ≤ invalidations c.show.new.self.seen = (let low = c.requires.noted in let rise = invalidations_on c.args.pass.now.seen c.show.new.self.seen (subst (λ (x : Writer). IsPrefix c.args.pass.now.seen x.seen) (sym c.show.ensures.same) c.show.ensures.before) in omega arith) in
+    let counted = c.learn.ensures.told.epochs_are in
+    let apart : invalidations c.show.new.self.seen ≢ c.args.epoch = λ same. c.if-epoch.true (c.epoch.ensures ∙ sym counted ∙ same) in
+    let same : invalidations c.show.new.pass.seen ≡ invalidations c.show.new.self.seen = ap invalidations seen in
+    inl (omega (arith, noted, apart, same))
+
+pub end_due-requires : goal.end_due-requires
+end_due-requires c =
+    let w = c.show.new.self in
+    let before = subst (λ (x : Writer). IsPrefix c.args.pass.now.seen x.seen) (sym c.show.ensures.same) c.show.ensures.before in
+    let settings = c.requires.due.0 in
+    let limit = c.requires.due.1 in
+    let ticked = c.requires.due.2 in
+    let due = all_due_on limit c.args.now c.args.pass.now.seen w.seen c.args.due.now before c.requires.due.3 in
+    let keeps = subst (Keeps settings limit ticked) (sym c.show.ensures.same) c.requires.due.4 in
+    let packed = subst IsPacked (sym c.show.ensures.same) c.requires.packed in
+    all_over limit c.args.now w.seen c.args.due.now due
+
+pub reload-requires-clause-legal : goal.reload-requires-clause-legal
+reload-requires-clause-legal c =
+    let w = c.show.new.self in
+    let before = subst (λ (x : Writer). IsPrefix c.args.pass.now.seen x.seen) (sym c.show.ensures.same) c.show.ensures.before in
+    let settings = c.requires.due.0 in
+    let limit = c.requires.due.1 in
+    let ticked = c.requires.due.2 in
+    let due = all_due_on limit c.args.now c.args.pass.now.seen w.seen c.args.due.now before c.requires.due.3 in
+    let keeps = subst (Keeps settings limit ticked) (sym c.show.ensures.same) c.requires.due.4 in
+    let packed = subst IsPacked (sym c.show.ensures.same) c.requires.packed in
+    let s = swept_leaves settings limit c.args.now ticked c.args.due.now w c.end_due.new.writer due c.learn.ensures.told keeps packed c.in-Ok.ensures.swept in
+    s.legal
+
+pub reload-requires-clause-due : goal.reload-requires-clause-due
+reload-requires-clause-due c =
+    let w = c.show.new.self in
+    let before = subst (λ (x : Writer). IsPrefix c.args.pass.now.seen x.seen) (sym c.show.ensures.same) c.show.ensures.before in
+    let settings = c.requires.due.0 in
+    let limit = c.requires.due.1 in
+    let ticked = c.requires.due.2 in
+    let due = all_due_on limit c.args.now c.args.pass.now.seen w.seen c.args.due.now before c.requires.due.3 in
+    let keeps = subst (Keeps settings limit ticked) (sym c.show.ensures.same) c.requires.due.4 in
+    let packed = subst IsPacked (sym c.show.ensures.same) c.requires.packed in
+    let s = swept_leaves settings limit c.args.now ticked c.args.due.now w c.end_due.new.writer due c.learn.ensures.told keeps packed c.in-Ok.ensures.swept in
+    subst (All (IsRenewed c.end_due.new.writer.seen)) (sym c.in-Ok.ensures.marked) s.renewed
+
+pub reload-requires-clause-loads : goal.reload-requires-clause-loads
+reload-requires-clause-loads c =
+    let w = c.show.new.self in
+    let before = subst (λ (x : Writer). IsPrefix c.args.pass.now.seen x.seen) (sym c.show.ensures.same) c.show.ensures.before in
+    let settings = c.requires.due.0 in
+    let limit = c.requires.due.1 in
+    let ticked = c.requires.due.2 in
+    let due = all_due_on limit c.args.now c.args.pass.now.seen w.seen c.args.due.now before c.requires.due.3 in
+    let keeps = subst (Keeps settings limit ticked) (sym c.show.ensures.same) c.requires.due.4 in
+    let packed = subst IsPacked (sym c.show.ensures.same) c.requires.packed in
+    let s = swept_leaves settings limit c.args.now ticked c.args.due.now w c.end_due.new.writer due c.learn.ensures.told keeps packed c.in-Ok.ensures.swept in
+    let after = prefix_through c.args.pass.now.seen w.seen c.end_due.new.writer.seen before s.on in
+    let anew = anew_on c.args.pass.now.seen c.end_due.new.writer.seen c.args.due.now c.args.loads.now c.requires.legal s.legal after c.requires.loads in
+    subst (λ (ds : List Due). AreAnew c.end_due.new.writer.seen ds c.args.loads.now) (sym c.in-Ok.ensures.marked) (anew_marked c.args.now c.end_due.new.writer.seen c.args.due.now w c.args.loads.now anew)
+
+pub show-requires-in-Ok : goal.show-requires-in-Ok
+show-requires-in-Ok c =
+    let w = c.show.new.self in
+    let before = subst (λ (x : Writer). IsPrefix c.args.pass.now.seen x.seen) (sym c.show.ensures.same) c.show.ensures.before in
+    let settings = c.requires.due.0 in
+    let limit = c.requires.due.1 in
+    let ticked = c.requires.due.2 in
+    let due = all_due_on limit c.args.now c.args.pass.now.seen w.seen c.args.due.now before c.requires.due.3 in
+    let keeps = subst (Keeps settings limit ticked) (sym c.show.ensures.same) c.requires.due.4 in
+    let packed = subst IsPacked (sym c.show.ensures.same) c.requires.packed in
+    let s = swept_leaves settings limit c.args.now ticked c.args.due.now w c.end_due.new.writer due c.learn.ensures.told keeps packed c.in-Ok.ensures.swept in
+    ap (λ (p : Pass). p.table) c.show.ensures.pass ∙ c.requires.table ∙ sym (c.reload.ensures.table ∙ s.table ∙ ap (λ (x : Writer). x.table) c.show.ensures.same)
+
+pub show-requires-in-Err : goal.show-requires-in-Err
+show-requires-in-Err c =
+    let w = c.show.new.self in
+    let before = subst (λ (x : Writer). IsPrefix c.args.pass.now.seen x.seen) (sym c.show.ensures.same) c.show.ensures.before in
+    let settings = c.requires.due.0 in
+    let limit = c.requires.due.1 in
+    let ticked = c.requires.due.2 in
+    let due = all_due_on limit c.args.now c.args.pass.now.seen w.seen c.args.due.now before c.requires.due.3 in
+    let keeps = subst (Keeps settings limit ticked) (sym c.show.ensures.same) c.requires.due.4 in
+    let packed = subst IsPacked (sym c.show.ensures.same) c.requires.packed in
+    let s = swept_spent settings limit c.args.now ticked c.args.due.now w c.end_due.new.writer due c.learn.ensures.told keeps packed c.in-Err.ensures.spent.2 c.in-Err.ensures.spent.1 in
+    ap (λ (p : Pass). p.table) c.show.ensures.pass ∙ c.requires.table ∙ sym (s.table ∙ ap (λ (x : Writer). x.table) c.show.ensures.same)
+
+pub returns-in-Ok-clause-writer : goal.returns-in-Ok-clause-writer
+returns-in-Ok-clause-writer c =
+    let w = c.show.new.self in
+    let before = subst (λ (x : Writer). IsPrefix c.args.pass.now.seen x.seen) (sym c.show.ensures.same) c.show.ensures.before in
+    let settings = c.requires.due.0 in
+    let limit = c.requires.due.1 in
+    let ticked = c.requires.due.2 in
+    let due = all_due_on limit c.args.now c.args.pass.now.seen w.seen c.args.due.now before c.requires.due.3 in
+    let keeps = subst (Keeps settings limit ticked) (sym c.show.ensures.same) c.requires.due.4 in
+    let packed = subst IsPacked (sym c.show.ensures.same) c.requires.packed in
+    let s = swept_leaves settings limit c.args.now ticked c.args.due.now w c.end_due.new.writer due c.learn.ensures.told keeps packed c.in-Ok.ensures.swept in
+    let first = ap (λ (x : Writer). x.table) c.show.ensures.same in
+    let layout = ap (λ (x : Writer). x.layout) c.show.ensures.same in
+    let last = c.show-in-Ok.ensures.same in
+    (ap (λ (x : Writer). x.table) last ∙ c.reload.ensures.table ∙ s.table ∙ first, ap (λ (x : Writer). x.layout) last ∙ c.reload.ensures.layout ∙ s.layout ∙ layout)
+
+pub returns-in-Ok-clause-before : goal.returns-in-Ok-clause-before
+returns-in-Ok-clause-before c =
+    let w = c.show.new.self in
+    let before = subst (λ (x : Writer). IsPrefix c.args.pass.now.seen x.seen) (sym c.show.ensures.same) c.show.ensures.before in
+    let settings = c.requires.due.0 in
+    let limit = c.requires.due.1 in
+    let ticked = c.requires.due.2 in
+    let due = all_due_on limit c.args.now c.args.pass.now.seen w.seen c.args.due.now before c.requires.due.3 in
+    let keeps = subst (Keeps settings limit ticked) (sym c.show.ensures.same) c.requires.due.4 in
+    let packed = subst IsPacked (sym c.show.ensures.same) c.requires.packed in
+    let s = swept_leaves settings limit c.args.now ticked c.args.due.now w c.end_due.new.writer due c.learn.ensures.told keeps packed c.in-Ok.ensures.swept in
+    let after = prefix_through c.args.pass.now.seen c.end_due.new.writer.seen c.reload.new.writer.seen (prefix_through c.args.pass.now.seen w.seen c.end_due.new.writer.seen before s.on) c.reload.ensures.on in
+    subst (IsPrefix c.args.pass.now.seen) (sym (ap (λ (p : Pass). p.seen) c.show-in-Ok.ensures.pass)) after
+
+pub returns-in-Ok-clause-keeps : goal.returns-in-Ok-clause-keeps
+returns-in-Ok-clause-keeps c settings limit ticked all k =
+    let w = c.show.new.self in
+    let before = subst (λ (x : Writer). IsPrefix c.args.pass.now.seen x.seen) (sym c.show.ensures.same) c.show.ensures.before in
+    let due = all_due_on limit c.args.now c.args.pass.now.seen w.seen c.args.due.now before all in
+    let keeps = subst (Keeps settings limit ticked) (sym c.show.ensures.same) k in
+    let packed = subst IsPacked (sym c.show.ensures.same) c.requires.packed in
+    let s = swept_leaves settings limit c.args.now ticked c.args.due.now w c.end_due.new.writer due c.learn.ensures.told keeps packed c.in-Ok.ensures.swept in
+    subst (Keeps settings limit ticked) (sym c.show-in-Ok.ensures.same) (c.reload.ensures.keeps settings limit ticked s.keeps)
+
+pub returns-in-Ok-clause-packed : goal.returns-in-Ok-clause-packed
+returns-in-Ok-clause-packed c =
+    let w = c.show.new.self in
+    let before = subst (λ (x : Writer). IsPrefix c.args.pass.now.seen x.seen) (sym c.show.ensures.same) c.show.ensures.before in
+    let settings = c.requires.due.0 in
+    let limit = c.requires.due.1 in
+    let ticked = c.requires.due.2 in
+    let due = all_due_on limit c.args.now c.args.pass.now.seen w.seen c.args.due.now before c.requires.due.3 in
+    let keeps = subst (Keeps settings limit ticked) (sym c.show.ensures.same) c.requires.due.4 in
+    let packed = subst IsPacked (sym c.show.ensures.same) c.requires.packed in
+    let s = swept_leaves settings limit c.args.now ticked c.args.due.now w c.end_due.new.writer due c.learn.ensures.told keeps packed c.in-Ok.ensures.swept in
+    subst IsPacked (sym c.show-in-Ok.ensures.same) (c.reload.ensures.packed s.packed)
+
+pub returns-in-Ok-clause-over : goal.returns-in-Ok-clause-over
+returns-in-Ok-clause-over c =
+    let w = c.show.new.self in
+    let before = subst (λ (x : Writer). IsPrefix c.args.pass.now.seen x.seen) (sym c.show.ensures.same) c.show.ensures.before in
+    let settings = c.requires.due.0 in
+    let limit = c.requires.due.1 in
+    let ticked = c.requires.due.2 in
+    let due = all_due_on limit c.args.now c.args.pass.now.seen w.seen c.args.due.now before c.requires.due.3 in
+    let keeps = subst (Keeps settings limit ticked) (sym c.show.ensures.same) c.requires.due.4 in
+    let packed = subst IsPacked (sym c.show.ensures.same) c.requires.packed in
+    let s = swept_leaves settings limit c.args.now ticked c.args.due.now w c.end_due.new.writer due c.learn.ensures.told keeps packed c.in-Ok.ensures.swept in
+    inr (λ n has. subst (λ (h : List Record). HasEnd h n) (sym (ap (λ (p : Pass). p.seen) c.show-in-Ok.ensures.pass)) (end_on c.end_due.new.writer.seen c.reload.new.writer.seen n c.reload.ensures.on (s.gone n has)))
+
+pub returns-in-Err-clause-writer : goal.returns-in-Err-clause-writer
+returns-in-Err-clause-writer c =
+    let w = c.show.new.self in
+    let before = subst (λ (x : Writer). IsPrefix c.args.pass.now.seen x.seen) (sym c.show.ensures.same) c.show.ensures.before in
+    let settings = c.requires.due.0 in
+    let limit = c.requires.due.1 in
+    let ticked = c.requires.due.2 in
+    let due = all_due_on limit c.args.now c.args.pass.now.seen w.seen c.args.due.now before c.requires.due.3 in
+    let keeps = subst (Keeps settings limit ticked) (sym c.show.ensures.same) c.requires.due.4 in
+    let packed = subst IsPacked (sym c.show.ensures.same) c.requires.packed in
+    let s = swept_spent settings limit c.args.now ticked c.args.due.now w c.end_due.new.writer due c.learn.ensures.told keeps packed c.in-Err.ensures.spent.2 c.in-Err.ensures.spent.1 in
+    let first = ap (λ (x : Writer). x.table) c.show.ensures.same in
+    let layout = ap (λ (x : Writer). x.layout) c.show.ensures.same in
+    let last = c.show-in-Err.ensures.same in
+    (ap (λ (x : Writer). x.table) last ∙ s.table ∙ first, ap (λ (x : Writer). x.layout) last ∙ s.layout ∙ layout)
+
+pub returns-in-Err-clause-before : goal.returns-in-Err-clause-before
+returns-in-Err-clause-before c =
+    let w = c.show.new.self in
+    let before = subst (λ (x : Writer). IsPrefix c.args.pass.now.seen x.seen) (sym c.show.ensures.same) c.show.ensures.before in
+    let settings = c.requires.due.0 in
+    let limit = c.requires.due.1 in
+    let ticked = c.requires.due.2 in
+    let due = all_due_on limit c.args.now c.args.pass.now.seen w.seen c.args.due.now before c.requires.due.3 in
+    let keeps = subst (Keeps settings limit ticked) (sym c.show.ensures.same) c.requires.due.4 in
+    let packed = subst IsPacked (sym c.show.ensures.same) c.requires.packed in
+    let s = swept_spent settings limit c.args.now ticked c.args.due.now w c.end_due.new.writer due c.learn.ensures.told keeps packed c.in-Err.ensures.spent.2 c.in-Err.ensures.spent.1 in
+    subst (IsPrefix c.args.pass.now.seen) (sym (ap (λ (p : Pass). p.seen) c.show-in-Err.ensures.pass)) (prefix_through c.args.pass.now.seen w.seen c.end_due.new.writer.seen before s.on)
+
+pub returns-in-Err-clause-keeps : goal.returns-in-Err-clause-keeps
+returns-in-Err-clause-keeps c settings limit ticked all k =
+    let w = c.show.new.self in
+    let before = subst (λ (x : Writer). IsPrefix c.args.pass.now.seen x.seen) (sym c.show.ensures.same) c.show.ensures.before in
+    let due = all_due_on limit c.args.now c.args.pass.now.seen w.seen c.args.due.now before all in
+    let keeps = subst (Keeps settings limit ticked) (sym c.show.ensures.same) k in
+    let packed = subst IsPacked (sym c.show.ensures.same) c.requires.packed in
+    let s = swept_spent settings limit c.args.now ticked c.args.due.now w c.end_due.new.writer due c.learn.ensures.told keeps packed c.in-Err.ensures.spent.2 c.in-Err.ensures.spent.1 in
+    subst (Keeps settings limit ticked) (sym c.show-in-Err.ensures.same) s.keeps
+
+pub returns-in-Err-clause-packed : goal.returns-in-Err-clause-packed
+returns-in-Err-clause-packed c =
+    let w = c.show.new.self in
+    let before = subst (λ (x : Writer). IsPrefix c.args.pass.now.seen x.seen) (sym c.show.ensures.same) c.show.ensures.before in
+    let settings = c.requires.due.0 in
+    let limit = c.requires.due.1 in
+    let ticked = c.requires.due.2 in
+    let due = all_due_on limit c.args.now c.args.pass.now.seen w.seen c.args.due.now before c.requires.due.3 in
+    let keeps = subst (Keeps settings limit ticked) (sym c.show.ensures.same) c.requires.due.4 in
+    let packed = subst IsPacked (sym c.show.ensures.same) c.requires.packed in
+    let s = swept_spent settings limit c.args.now ticked c.args.due.now w c.end_due.new.writer due c.learn.ensures.told keeps packed c.in-Err.ensures.spent.2 c.in-Err.ensures.spent.1 in
+    subst IsPacked (sym c.show-in-Err.ensures.same) s.packed
+
+pub returns-in-Err-clause-spent : goal.returns-in-Err-clause-spent
+returns-in-Err-clause-spent c =
+    let w = c.show.new.self in
+    let before = subst (λ (x : Writer). IsPrefix c.args.pass.now.seen x.seen) (sym c.show.ensures.same) c.show.ensures.before in
+    let settings = c.requires.due.0 in
+    let limit = c.requires.due.1 in
+    let ticked = c.requires.due.2 in
+    let due = all_due_on limit c.args.now c.args.pass.now.seen w.seen c.args.due.now before c.requires.due.3 in
+    let keeps = subst (Keeps settings limit ticked) (sym c.show.ensures.same) c.requires.due.4 in
+    let packed = subst IsPacked (sym c.show.ensures.same) c.requires.packed in
+    let s = swept_spent settings limit c.args.now ticked c.args.due.now w c.end_due.new.writer due c.learn.ensures.told keeps packed c.in-Err.ensures.spent.2 c.in-Err.ensures.spent.1 in
+    subst (λ (h : List Record). IsUnmoved h c.in-Err.spent.count) (sym (ap (λ (p : Pass). p.seen) c.show-in-Err.ensures.pass)) (swept_unmoved c.end_due.new.writer c.in-Err.spent.count s.packed c.in-Err.ensures.spent.1 c.in-Err.ensures.spent.0)
