@@ -6,3 +6,4 @@ pub mod Pieces
 pub mod Collected
 pub mod Gathered
 pub mod NamedGroups
+pub mod Given

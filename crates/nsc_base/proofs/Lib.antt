@@ -11,3 +11,4 @@ pub mod Digits
 pub mod Zeros
 pub mod Options
 pub mod AddressLengths
+pub mod Searched

@@ -7,3 +7,4 @@ pub mod Decimal
 pub mod Addresses
 pub mod Buf
 pub mod Nodes
+pub mod AnyCase

@@ -1,6 +1,7 @@
 //! Bytes, spans, numbers and buffers: what every crate above reads and writes with.
 #![tactic(auto)]
 
+mod any_case;
 mod buf;
 mod bytes;
 mod cuts;
@@ -21,6 +22,6 @@ pub use fields::{exact_fields, field_at};
 pub use lines::{first_line, line_at};
 pub use memory::NoMemory;
 pub use number::{i32_at, u32_at, u64_at};
-pub use search::{Case, first_line_with, line_with};
+pub use search::{Case, first_line_with, line_start, line_with, search_on};
 pub use span::{Line, Span};
 pub use words::{WordsAt, has_word, next_word, two_words, word_at};

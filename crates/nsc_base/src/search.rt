@@ -1,14 +1,14 @@
-ghost use Rattle.std.specs.Prelude.{◌≡◌, ◌≤◌, ◌&&◌, [], length, nat_le, take, MatchOption};
-ghost use Rattle.std.specs.Str.{str_eq_ignore_ascii_case};
-ghost use Rattle.nsc_base.specs.Found.{FirstOf, IsLineStart, IsLineWith, NoneBefore, OrLacks, PassesOver, same_by};
+ghost use Rattle.std.specs.Prelude.{◌≡◌, ◌<◌, ◌≤◌, [], length, MatchOption};
+ghost use Rattle.nsc_base.specs.Found.{FirstOf, IsLineStart, IsLineWith, IsNextPlace, NoneBefore, OrLacks, PassesOver, SearchedTo, same_by};
 ghost use Rattle.nsc_base.specs.Text.{line_spans};
 ghost use Rattle.nsc_base.specs.declared.span.Span.{Span};
 ghost use Rattle.nsc_base.specs.declared.search.Case.{Case};
 
+use crate::any_case::first_in_any_case;
 use crate::bytes::equal;
 use crate::lines::line_at;
 use crate::span::{Line, Span};
-use memchr::{memchr2, memmem, memrchr};
+use memchr::{memmem, memrchr};
 
 /// Whether the case of ASCII letters counts where texts are compared.
 #[derive(Clone, Copy, Debug, PartialEq, Eq)]
@@ -62,8 +62,28 @@ pub fn line_with(text: &[u8], from: usize, needle: &[u8], case: Case) -> Option<
     line_at(text, line_start(text, from, at))
 }
 
-// Where the line begins that a place is in, or after, from a place on at which a line begins.
-fn line_start(text: &[u8], from: usize, at: usize) -> usize
+/// Goes on with the search of a text for a needle that has come to `place`: the next place, from `from` on, at which the needle
+/// begins, or the end of the text where there is none. Where the search has come to `from` or beyond, it stays, so that no
+/// part of the text is searched twice.
+pub fn search_on(text: &[u8], needle: &[u8], place: usize, from: usize) -> usize
+    requires inside { from ≤ length text.now }
+    requires searched { SearchedTo needle.now text.now from place }
+    ensures stays { from ≤ place → result ≡ place }
+    ensures next { place < from → IsNextPlace needle.now text.now from result }
+    ensures onward { from ≤ result }
+    ensures searched { SearchedTo needle.now text.now from result }
+{
+    if from <= place {
+        return place;
+    }
+    match memmem::find(&text[from..], needle) {
+        Some(n) => from + n,
+        None => text.len(),
+    }
+}
+
+/// Where the line begins that a place is in, or after, from a place on at which a line begins.
+pub fn line_start(text: &[u8], from: usize, at: usize) -> usize
     requires before { from ≤ at }
     requires inside { at ≤ length text.now }
     ensures no_earlier { from ≤ result }
@@ -84,31 +104,4 @@ fn first_place(bytes: &[u8], needle: &[u8], case: Case) -> Option<usize>
         Case::Counts => memmem::find(bytes, needle),
         Case::Ignored => first_in_any_case(bytes, needle),
     }
-}
-
-// The same where the case of ASCII letters does not count: by the first byte of the needle in either case.
-fn first_in_any_case(bytes: &[u8], needle: &[u8]) -> Option<usize>
-    ensures { NoneBefore Case.Ignored needle.now bytes.now result }
-{
-    if needle.is_empty() {
-        return Some(0);
-    }
-    let lower = needle[0].to_ascii_lowercase();
-    let upper = needle[0].to_ascii_uppercase();
-    let mut from = 0;
-    while let Some(n) = memchr2(lower, upper, &bytes[from..]) {
-        let at = from + n;
-        if begins_in_any_case(&bytes[at..], needle) {
-            return Some(at);
-        }
-        from = at + 1;
-    }
-    None
-}
-
-// Whether bytes begin with the needle, where the case of ASCII letters does not count.
-fn begins_in_any_case(bytes: &[u8], needle: &[u8]) -> bool
-    ensures { result ≡ (nat_le (length needle.now) (length bytes.now) && str_eq_ignore_ascii_case (take (length needle.now) bytes.now) needle.now) }
-{
-    bytes.len() >= needle.len() && bytes[..needle.len()].eq_ignore_ascii_case(needle)
 }

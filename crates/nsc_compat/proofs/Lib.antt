@@ -4,3 +4,6 @@ pub mod Scans
 pub mod ByKind
 pub mod Ids
 pub mod Absent
+pub mod Passed
+pub mod Silent
+pub mod Asked

@@ -1,5 +1,5 @@
--- Scans go by which names are excluded, and not by how they are listed.
-use Rattle.std.proofs.Common.{◌≡◌, ℕ, Bool, true, false, not, ◌&&◌, ◌||◌, if◌then◌else◌, List, [], ◌∷◌, Option, Some, None, refl, ◌∙◌, ap}
+-- Scans go by which of the names that they may answer with are excluded, and not by how these are listed.
+use Rattle.std.proofs.Common.{◌≡◌, ℕ, Bool, true, false, not, ◌&&◌, ◌||◌, if◌then◌else◌, List, [], ◌∷◌, IfSome, Option, Some, None, refl, ◌∙◌, ap}
 use Rattle.std.specs.Str.{bytes_eq}
 use Rattle.nsc_model.specs.declared.row.Looked.{Looked}
 use Rattle.nsc_model.specs.Compat.{Says, Own, Excludes, Asks, AsksAll, Netgroup, Nothing, Scan, answers_or, is_excluded, says, scan_line, scanned}
@@ -12,25 +12,55 @@ use Rattle.nsc_compat.specs.Lines.{looked_or}
 pub with_name : (name : List ℕ) (these those : List (List ℕ)) → SameNames these those → SameNames (name ∷ these) (name ∷ those)
 with_name name these those same = λ q. ap (λ v. bytes_eq name q || v) (same q)
 
-answers_same : {A : Type 0} (scan : Scan A) (names : A → Bool) (these those : List (List ℕ)) → SameNames these those → (o : Option A) (replaced : A → A) (next later : Looked) → next ≡ later
-    → answers_or scan names these o replaced next ≡ answers_or scan names those o replaced later
-answers_same scan names these those same None replaced next later e = e
-answers_same scan names these those same (Some entry) replaced next later e =
-    ap (λ v. if names entry && not v then scan.found (replaced entry) else next) (same (scan.name_of entry))
-    ∙ ap (λ (n : Looked). if names entry && not (is_excluded those (scan.name_of entry)) then scan.found (replaced entry) else n) e
+-- two lists exclude the same of some names
+abbrev pub SameAmong : (List ℕ → Type 0) → List (List ℕ) → List (List ℕ) → Type 0
+SameAmong P these those = (name : List ℕ) → P name → is_excluded these name ≡ is_excluded those name
 
-line_same : {A : Type 0} (scan : Scan A) (line : List ℕ) (said : Says) (these those : List (List ℕ)) (next : List (List ℕ) → Looked) → ((a b : List (List ℕ)) → SameNames a b → next a ≡ next b) → SameNames these those
-    → scan_line scan these line said next ≡ scan_line scan those line said next
-line_same scan line Own these those next each same = answers_same scan scan.names these those same (scan.entry_of line) (λ x. x) (next these) (next those) (each these those same)
-line_same scan line (Excludes name) these those next each same = each (name ∷ these) (name ∷ those) (with_name name these those same)
-line_same scan line (Asks name fields) these those next each same = answers_same scan scan.names these those same (scan.by_name name) (scan.replaced fields) (next these) (next those) (each these those same)
-line_same scan line (AsksAll fields) these those next each same = answers_same scan (λ e. true) these those same scan.asked (scan.replaced fields) (next these) (next those) (each these those same)
-line_same scan line Netgroup these those next each same = refl
-line_same scan line Nothing these those next each same = each these those same
+-- whatever a scan may answer with has one of some names
+pub record AnswersAmong {A : Type 0} (P : List ℕ → Type 0) (scan : Scan A) : Type 0 where
+  pub named : (a : A) → scan.names a ≡ true → P (scan.name_of a)
+  pub asked : IfSome scan.asked (λ a. P (scan.name_of a))
+
+answers_same : {A : Type 0} (scan : Scan A) (P : List ℕ → Type 0) (names : A → Bool) (these those : List (List ℕ)) → SameAmong P these those → (o : Option A) → IfSome o (λ a. names a ≡ true → P (scan.name_of a))
+    → (replaced : A → A) (next later : Looked) → next ≡ later → answers_or scan names these o replaced next ≡ answers_or scan names those o replaced later
+answers_same scan P names these those same None among replaced next later e = e
+answers_same scan P names these those same (Some entry) among replaced next later e =
+    let name = scan.name_of entry in
+    elim (names entry) as (λ v. (v ≡ true → P name) → (if v && not (is_excluded these name) then scan.found (replaced entry) else next) ≡ (if v && not (is_excluded those name) then scan.found (replaced entry) else later)) [
+      | true ↦ λ is.
+          ap (λ v. if not v then scan.found (replaced entry) else next) (same name (is refl))
+          ∙ ap (λ (n : Looked). if not (is_excluded those name) then scan.found (replaced entry) else n) e
+      | false ↦ λ is. e
+    ] among
+
+module _ {A : Type 0} (scan : Scan A) (P : List ℕ → Type 0) (among : AnswersAmong P scan) where
+  named : (o : Option A) → IfSome o (λ a. scan.names a ≡ true → P (scan.name_of a))
+  named None = tt
+  named (Some a) = among.named a
+
+  asked : (o : Option A) → IfSome o (λ a. P (scan.name_of a)) → IfSome o (λ a. true ≡ true → P (scan.name_of a))
+  asked None is = tt
+  asked (Some a) is = λ always. is
+
+  line_same : (line : List ℕ) (said : Says) (these those : List (List ℕ)) (next : List (List ℕ) → Looked) → ((a b : List (List ℕ)) → SameAmong P a b → next a ≡ next b) → SameAmong P these those
+      → scan_line scan these line said next ≡ scan_line scan those line said next
+  line_same line Own these those next each same = answers_same scan P scan.names these those same (scan.entry_of line) (named (scan.entry_of line)) (λ x. x) (next these) (next those) (each these those same)
+  line_same line (Excludes name) these those next each same = each (name ∷ these) (name ∷ those) (λ q is. ap (λ v. bytes_eq name q || v) (same q is))
+  line_same line (Asks name fields) these those next each same = answers_same scan P scan.names these those same (scan.by_name name) (named (scan.by_name name)) (scan.replaced fields) (next these) (next those) (each these those same)
+  line_same line (AsksAll fields) these those next each same = answers_same scan P (λ e. true) these those same scan.asked (asked scan.asked among.asked) (scan.replaced fields) (next these) (next those) (each these those same)
+  line_same line Netgroup these those next each same = refl
+  line_same line Nothing these those next each same = each these those same
+
+  pub scanned_among : (lines : List (List ℕ)) (these those : List (List ℕ)) → SameAmong P these those → scanned scan lines these ≡ scanned scan lines those
+  scanned_among [] these those same = refl
+  scanned_among (line ∷ lines) these those same = line_same line (says line) these those (scanned scan lines) (scanned_among lines) same
+
+any_name : {A : Type 0} (o : Option A) → IfSome o (λ a. Unit {0})
+any_name None = tt
+any_name (Some a) = tt
 
 scanned_same : {A : Type 0} (scan : Scan A) (lines : List (List ℕ)) (these those : List (List ℕ)) → SameNames these those → scanned scan lines these ≡ scanned scan lines those
-scanned_same scan [] these those same = refl
-scanned_same scan (line ∷ lines) these those same = line_same scan line (says line) these those (scanned scan lines) (scanned_same scan lines) same
+scanned_same scan lines these those same = scanned_among scan (λ name. Unit {0}) (record { named = λ a is. tt; asked = any_name scan.asked }) lines these those (λ name is. same name)
 
 -- ---- line by line
 

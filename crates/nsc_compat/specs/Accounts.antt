@@ -1,5 +1,5 @@
 -- The entries of passwd and of group, as scans of compat lines see them.
-use Rattle.std.specs.Prelude.{ℕ, Bool, not, ◌&&◌, if◌then◌else◌, List, Option, Some, None}
+use Rattle.std.specs.Prelude.{◌≡◌, ℕ, Bool, not, ◌&&◌, if◌then◌else◌, List, Option, Some, None}
 use Rattle.std.specs.Str.{bytes_eq}
 use Rattle.nsc_model.specs.declared.kind.Db.{Db}
 use Rattle.nsc_model.specs.declared.kind.Db.TheVariants as db
@@ -68,6 +68,16 @@ names_entry (Id wanted) name id = is_id wanted id
 
 abbrev pub is_wanted : {A : Type 0} → Accounts A → Wanted → A → Bool
 is_wanted accounts wanted a = names_entry wanted (accounts.name_of a) (accounts.id_of a)
+
+-- the name of the entry that is wanted, where it is wanted by its name
+abbrev pub wanted_name : Wanted → Option (List ℕ)
+wanted_name (Name key) = Some key.now
+wanted_name (Id wanted) = None
+
+-- a request for an entry by its name is of that kind, and the name is its key
+abbrev pub IsAskedBy : {A : Type 0} → Accounts A → Kind → List ℕ → Wanted → Type 0
+IsAskedBy accounts by key (Name name) = (by ≡ accounts.by_name) × (name.now ≡ key)
+IsAskedBy accounts by key (Id wanted) = Unit {0}
 
 -- the scan of a request, over a content
 abbrev pub scan_of : {A : Type 0} → Accounts A → Content → Asking → Scan A

@@ -3,12 +3,13 @@ ghost use Rattle.nsc_base.specs.Text.{fields_of, part};
 ghost use Rattle.nsc_model.specs.Compat.{scanned, scanned_file};
 ghost use Rattle.nsc_model.specs.Files.{file_of};
 ghost use Rattle.nsc_model.specs.Kinds.{database_of};
-ghost use Rattle.nsc_compat.specs.Accounts.{is_wanted, outcome_by, scan_of};
+ghost use Rattle.nsc_compat.specs.Accounts.{IsAskedBy, is_wanted, outcome_by, scan_of, wanted_name};
 
 use crate::account::Account;
 use crate::asking::{Asking, Wanted, names_entry};
 use crate::excluded::Excluded;
 use crate::lines::{LineScan, scan_lines};
+use crate::reading::Lines;
 use crate::said::{Said, line_says};
 use crate::sub::SubLookup;
 use nsc_base::{NoMemory, Span};
@@ -23,7 +24,8 @@ pub fn entry<E: Account, S: SubLookup>(
     asking: Asking,
     sub: &S,
 ) -> Result<Looked, NoMemory>
-    requires { database_of asking.kind ≡ E.accounts.database }
+    requires database { database_of asking.kind ≡ E.accounts.database }
+    requires name { IsAskedBy E.accounts asking.kind asking.key.now asking.wanted }
     ensures { IfOk result (λ looked. looked ≡ scanned_file (scan_of E.accounts (S.content sub.now) asking.entry) (file_of (S.content sub.now) E.accounts.file)) }
 {
     let Some(text) = sub.content().file(E::file()) else {
@@ -32,52 +34,68 @@ pub fn entry<E: Account, S: SubLookup>(
     let scan: EntryScan<E, S> = EntryScan {
         sub,
         asking,
-        excluded: Excluded::new(alloc),
         of: PhantomData,
     };
-    scan_lines(alloc, scan, text)
+    scan_lines(
+        alloc,
+        &scan,
+        Excluded::new(alloc),
+        lines_on(&asking.wanted, text),
+    )
 }
 
-// A scan for one entry: who is asked, what is asked, and the names that are excluded so far.
+// The lines of a file that may say something of what a request names.
+fn lines_on<'t, 'k>(wanted: &Wanted<'k>, text: &'t [u8]) -> Lines<'t, 'k>
+    ensures { result ≡ record { text = text.now; from = 0; name = wanted_name wanted.now } }
+{
+    match wanted {
+        Wanted::Name(name) => Lines::on_name(text, *name),
+        Wanted::Id(_) => Lines::every(text),
+    }
+}
+
+// A scan for one entry: who is asked, and what is asked. It has seen the names that are excluded so far.
 #[derive(Drop)]
-struct EntryScan<'s, 'k, 't, E: Account, S: SubLookup> {
+struct EntryScan<'s, 'k, E: Account, S: SubLookup> {
     sub: &'s S,
     asking: Asking<'k>,
-    excluded: Excluded<'t>,
     of: PhantomData<E>,
     ghost own_database: { database_of asking.kind ≡ E.accounts.database },
 }
 
-impl<'s, 'k, 't, E: Account, S: SubLookup> LineScan<'t> for EntryScan<'s, 'k, 't, E, S> {
-    ghost comes = { λ s lines. scanned (scan_of E.accounts (S.content s.sub.now) s.asking) lines s.excluded };
+impl<'s, 'k, 't, E: Account, S: SubLookup> LineScan<'t> for EntryScan<'s, 'k, E, S> {
+    type Seen = Excluded<'t>;
+
+    ghost comes = { λ s excluded lines. scanned (scan_of E.accounts (S.content s.sub.now) s.asking) lines excluded };
 
     fn take(
-        &mut self,
+        &self,
         alloc: Global,
         text: &'t [u8],
         line: Span,
+        excluded: &mut Excluded<'t>,
     ) -> Result<Option<Looked>, NoMemory> {
         match line_says(text, line) {
-            Said::Own => E::own(alloc, text, line, &self.asking.wanted, &self.excluded),
+            Said::Own => E::own(alloc, text, line, &self.asking.wanted, excluded),
             Said::Excludes(name) => {
-                self.excluded.add(name)?;
+                excluded.add(name)?;
                 Ok(None)
             }
             Said::Asks { name, all } => {
                 let found = self.sub.look(alloc, E::by_name(), name)?;
                 let found = E::in_outcome(found);
-                named(alloc, &self.asking.wanted, found, all, &self.excluded)
+                named(alloc, &self.asking.wanted, found, all, excluded)
             }
             Said::AsksAll { all } => {
                 let found = self.sub.look(alloc, self.asking.kind, self.asking.key)?;
-                asked(alloc, E::in_outcome(found), all, &self.excluded)
+                asked(alloc, E::in_outcome(found), all, excluded)
             }
             Said::Netgroup => Ok(Some(Looked::Unavail)),
             Said::Nothing => Ok(None),
         }
     }
 
-    fn end(self) -> Looked {
+    fn end(&self, _excluded: Excluded<'t>) -> Looked {
         Looked::NotFound
     }
 }

@@ -9,6 +9,7 @@ mod groups;
 mod lines;
 mod lookup;
 mod member_ids;
+mod reading;
 mod said;
 mod sub;
 mod users;

@@ -1,48 +1,53 @@
 ghost use Rattle.std.specs.Prelude.{◌≡◌, ◌≤◌, ◌∷◌, ℕ, List, [], IfOk, length};
-ghost use Rattle.nsc_base.specs.Text.{lines_of, part};
+ghost use Rattle.nsc_base.specs.Text.{part};
 ghost use Rattle.nsc_model.specs.declared.row.Looked.{Looked};
 ghost use Rattle.nsc_compat.specs.Lines.{looked_or};
+ghost use Rattle.nsc_compat.specs.Reading.{MayPass, lines_left};
 
-use nsc_base::{NoMemory, Span, line_at};
+use crate::reading::Lines;
+use nsc_base::{NoMemory, Span};
 use nsc_model::Looked;
 use std::alloc::Global;
 
-/// A scan of the lines of a passwd or group file, from the first on: what it has seen so far decides with the lines that
-/// are left.
+/// A scan of lines of a passwd or group file: what it has seen so far decides with the lines that are left.
 pub trait LineScan<'t> {
+    /// What it has seen.
+    type Seen: Drop;
+
     /// What the lines that are left come to.
-    ghost comes: { Self → List (List ℕ) → Looked };
+    ghost comes: { Self → Self.Seen → List (List ℕ) → Looked };
 
     /// The outcome of a line, where it answers; else the lines after it decide. Fails only for want of memory.
     fn take(
-        &mut self,
+        &self,
         alloc: Global,
         text: &'t [u8],
         line: Span,
+        seen: &mut Self::Seen,
     ) -> Result<Option<Looked>, NoMemory>
         requires { line.to ≤ length text.now }
-        ensures { IfOk result (λ outcome. (lines : List (List ℕ)) → looked_or outcome (comes self.new lines) ≡ comes self.old (part text.now line ∷ lines)) };
+        ensures { IfOk result (λ outcome. (lines : List (List ℕ)) → looked_or outcome (comes self.now seen.new lines) ≡ comes self.now seen.old (part text.now line ∷ lines)) };
 
     /// The outcome where no line is left.
-    fn end(self) -> Looked
-        ensures { result ≡ comes self [] };
+    fn end(&self, seen: Self::Seen) -> Looked
+        ensures { result ≡ comes self.now seen [] };
 }
 
-/// The outcome of a scan over the text of a file: that of the first line that answers, and after it no line is looked at.
-/// Fails only for want of memory.
-pub fn scan_lines<'t, L: LineScan<'t> + Drop>(
+/// The outcome of a scan over lines of a file: that of the first line that answers, and after it no line is looked at.
+/// Lines that need not be read change nothing, as the caller knows. Fails only for want of memory.
+pub fn scan_lines<'t, 'n, L: LineScan<'t>>(
     alloc: Global,
-    mut scan: L,
-    text: &'t [u8],
+    scan: &L,
+    mut seen: L::Seen,
+    mut lines: Lines<'t, 'n>,
 ) -> Result<Looked, NoMemory>
-    ensures { IfOk result (λ looked. looked ≡ L.comes scan (lines_of text.now)) }
+    requires { (s : L.Seen) (line : List ℕ) (others : List (List ℕ)) → MayPass lines.name line → L.comes scan.now s (line ∷ others) ≡ L.comes scan.now s others }
+    ensures { IfOk result (λ looked. looked ≡ L.comes scan.now seen (lines_left lines.entry)) }
 {
-    let mut from = 0;
-    while let Some(line) = line_at(text, from) {
-        if let Some(outcome) = scan.take(alloc, text, line.span)? {
+    while let Some(line) = lines.next_line() {
+        if let Some(outcome) = scan.take(alloc, lines.text(), line, &mut seen)? {
             return Ok(outcome);
         }
-        from = line.next;
     }
-    Ok(scan.end())
+    Ok(scan.end(seen))
 }

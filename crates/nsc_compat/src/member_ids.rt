@@ -12,6 +12,7 @@ ghost use Rattle.nsc_accounts.specs.NamedId.{pair_of};
 use crate::account::Account;
 use crate::excluded::Excluded;
 use crate::lines::{LineScan, scan_lines};
+use crate::reading::Lines;
 use crate::said::{Said, line_says};
 use crate::sub::SubLookup;
 use nsc_accounts::{NamedId, OnceIds, group_line, has_member};
@@ -27,50 +28,56 @@ pub fn ids_of_user<S: SubLookup>(alloc: Global, user: &[u8], sub: &S) -> Result<
     let Some(text) = sub.content().file(FileId::Group) else {
         return Ok(Looked::Unavail);
     };
-    let scan = MemberScan {
-        sub,
-        user,
+    let seen = MembersSeen {
         excluded: Excluded::new(alloc),
         ids: OnceIds::new(alloc),
     };
-    scan_lines(alloc, scan, text)
+    scan_lines(alloc, &MemberScan { sub, user }, seen, Lines::every(text))
 }
 
-// A scan for the groups of a user: who is asked, the user's name, the names that are excluded and the ids so far.
+// A scan for the groups of a user: who is asked, and the user's name.
 #[derive(Drop)]
-struct MemberScan<'s, 'u, 't, S: SubLookup> {
+struct MemberScan<'s, 'u, S: SubLookup> {
     sub: &'s S,
     user: &'u [u8],
+}
+
+// The names that are excluded and the ids so far.
+#[derive(Drop)]
+struct MembersSeen<'t> {
     excluded: Excluded<'t>,
     ids: OnceIds,
 }
 
-impl<'s, 'u, 't, S: SubLookup> LineScan<'t> for MemberScan<'s, 'u, 't, S> {
-    ghost comes = { λ s lines. ids_or_unavail (option_map (all_ids s.ids) (gathered (id_scan (S.content s.sub.now) s.user.now) lines s.excluded)) };
+impl<'s, 'u, 't, S: SubLookup> LineScan<'t> for MemberScan<'s, 'u, S> {
+    type Seen = MembersSeen<'t>;
+
+    ghost comes = { λ s seen lines. ids_or_unavail (option_map (all_ids seen.ids) (gathered (id_scan (S.content s.sub.now) s.user.now) lines seen.excluded)) };
 
     fn take(
-        &mut self,
+        &self,
         alloc: Global,
         text: &'t [u8],
         line: Span,
+        seen: &mut MembersSeen<'t>,
     ) -> Result<Option<Looked>, NoMemory> {
         match line_says(text, line) {
             Said::Own => {
-                add_own(text, line, self.user, &self.excluded, &mut self.ids)?;
+                add_own(text, line, self.user, &seen.excluded, &mut seen.ids)?;
                 Ok(None)
             }
             Said::Excludes(name) => {
-                self.excluded.add(name)?;
+                seen.excluded.add(name)?;
                 Ok(None)
             }
             Said::Asks { name, .. } => {
                 let found = self.sub.look(alloc, Kind::GrName, name)?;
-                add_found(found, self.user, &self.excluded, &mut self.ids)?;
+                add_found(found, self.user, &seen.excluded, &mut seen.ids)?;
                 Ok(None)
             }
             Said::AsksAll { .. } => {
                 let groups = self.sub.named_groups(alloc, self.user)?;
-                add_all(&groups, &self.excluded, &mut self.ids)?;
+                add_all(&groups, &seen.excluded, &mut seen.ids)?;
                 Ok(None)
             }
             Said::Netgroup => Ok(Some(Looked::Unavail)),
@@ -78,8 +85,8 @@ impl<'s, 'u, 't, S: SubLookup> LineScan<'t> for MemberScan<'s, 'u, 't, S> {
         }
     }
 
-    fn end(self) -> Looked {
-        outcome_of(self.ids.into_ids())
+    fn end(&self, seen: MembersSeen<'t>) -> Looked {
+        outcome_of(seen.ids.into_ids())
     }
 }
 

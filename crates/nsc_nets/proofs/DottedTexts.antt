@@ -17,7 +17,7 @@ use Rattle.nsc_nets.proofs.Called.{unaddressed, wordless}
 use Rattle.nsc_nets.proofs.Lacking.{AllLack, is_other, words_lack}
 use Rattle.nsc_nets.proofs.Lengths.{is_spelled, other_bytes, spelled_in}
 
-dotted_is : (a b c d : ℕ) → dotted_text a b c d ≡ v4_text (a ∷ b ∷ c ∷ d ∷ [])
+pub dotted_is : (a b c d : ℕ) → dotted_text a b c d ≡ v4_text (a ∷ b ∷ c ∷ d ∷ [])
 dotted_is a b c d = simp append_assoc
 
 -- an IPv4 address has one text

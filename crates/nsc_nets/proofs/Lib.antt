@@ -10,3 +10,6 @@ pub mod Given
 pub mod Firsts
 pub mod Remaining
 pub mod Families
+pub mod Colons
+pub mod Finds
+pub mod Endings

@@ -1,9 +1,11 @@
-ghost use Rattle.std.specs.Prelude.{◌≡◌, ◌+◌, ◌<◌, ◌≤◌, ◌||◌, ◌∷◌, ◌++◌, [], decimal, drop, length, not, IfSome};
+ghost use Rattle.std.specs.Prelude.{◌≡◌, ◌≢◌, ◌↔◌, ◌+◌, ◌*◌, ◌<◌, ◌≤◌, ◌||◌, ◌∷◌, ◌++◌, [], decimal, drop, false, length, not, slice_index, slice_range, IfSome, IsTrue};
+ghost use Rattle.std.specs.Fmt.{digit_glyph, digits};
 ghost use Rattle.std.specs.Option.{option_map};
 ghost use Rattle.std.specs.Str.{bytes_eq};
 ghost use Rattle.nsc_base.specs.Addresses.{v4_text};
 ghost use Rattle.nsc_base.specs.declared.span.Span.{Span};
-ghost use Rattle.nsc_base.specs.Found.{FirstOf};
+ghost use Rattle.nsc_base.specs.declared.search.Case.{Case};
+ghost use Rattle.nsc_base.specs.Found.{FirstOf, Lacks};
 ghost use Rattle.nsc_base.specs.Text.{is_filled, line_spans, part};
 ghost use Rattle.nsc_model.specs.Entries.{first_named, if_named};
 ghost use Rattle.nsc_model.specs.Hosts.{host_addressed, host_has_name, host_named, host_of_line};
@@ -15,7 +17,8 @@ use crate::hosts::{HostAt, formed_host, spells};
 use crate::services::{ServiceAt, formed_service, service_line};
 use crate::words::{before_line_remark, has_name, line_words, words_after};
 use itoa::write_digits;
-use nsc_base::{Case, Span, equal, first_line, first_line_with, word_at};
+use memchr::memmem;
+use nsc_base::{Case, Span, equal, first_line_with, word_at};
 
 /// The first line of a hosts file, hosts(5), that has the form of an entry, this name or alias, and an address of this
 /// family, 2 for IPv4 and 10 for IPv6, as places in the file. The case of ASCII letters in names does not count. `None`
@@ -46,15 +49,97 @@ pub fn find_host_by_addr(text: &[u8], address: &[u8]) -> Option<HostAt>
 fn first_addressed(text: &[u8], address: &[u8]) -> Option<HostAt>
     ensures { FirstOf (GivesHost (host_addressed address.now) text.now) (line_spans text.now 0) result }
 {
-    let [a, b, c, d] = address else {
-        return first_line(text, |line| addressed_host(text, line, address));
+    let Ok(octets) = <[u8; 4]>::try_from(address) else {
+        return first_v6(text, address);
     };
+    let (bytes, start) = dotted(octets);
+    first_host_with(text, &bytes[start..], address)
+}
+
+// The text of an IPv4 address, which is at the end of these bytes, from a place on.
+fn dotted(octets: [u8; 4]) -> ([u8; 16], usize)
+    ensures text { slice_range result.0 result.1 16 ≡ v4_text octets }
+    ensures within { result.1 ≤ 16 }
+{
+    let [a, b, c, d] = octets;
     let mut bytes = [0; 16];
-    let last = dotted_before(*d, &mut bytes, 16);
-    let third = dotted_before(*c, &mut bytes, last);
-    let second = dotted_before(*b, &mut bytes, third);
-    let first = dotted_before(*a, &mut bytes, second);
-    first_host_with(text, &bytes[first + 1..], address)
+    let last = dotted_before(d, &mut bytes, 16);
+    let third = dotted_before(c, &mut bytes, last);
+    let second = dotted_before(b, &mut bytes, third);
+    let first = dotted_before(a, &mut bytes, second);
+    (bytes, first + 1)
+}
+
+// The same for an address that is not of IPv4. Where its last group has three digits or more, all its texts end with these,
+// but for those that spell its last four bytes as an IPv4 address.
+fn first_v6(text: &[u8], address: &[u8]) -> Option<HostAt>
+    requires { length address.now ≢ 4 }
+    ensures { FirstOf (GivesHost (host_addressed address.now) text.now) (line_spans text.now 0) result }
+{
+    if let Ok(octets) = <[u8; 16]>::try_from(address) {
+        if octets[14] != 0 && lacks_dotted(text, octets) {
+            return first_ending(text, address, octets[14], octets[15]);
+        }
+    }
+    first_with_colon(text, address)
+}
+
+// Whether the last four bytes of an address are spelled nowhere as an IPv4 address.
+fn lacks_dotted(text: &[u8], octets: [u8; 16]) -> bool
+    ensures { IsTrue result ↔ Lacks Case.Counts (v4_text (drop 12 octets)) text.now }
+{
+    let (bytes, start) = dotted([octets[12], octets[13], octets[14], octets[15]]);
+    memmem::find(text, &bytes[start..]).is_none()
+}
+
+// The first line with this address, of sixteen bytes, where its last two bytes are known.
+fn first_ending(text: &[u8], address: &[u8], high: u8, low: u8) -> Option<HostAt>
+    requires v6 { length address.now ≡ 16 }
+    requires high { high ≡ slice_index address.now 14 }
+    requires low { low ≡ slice_index address.now 15 }
+    requires three_digits { 0 < high }
+    requires dotless { Lacks Case.Counts (v4_text (drop 12 address.now)) text.now }
+    ensures { FirstOf (GivesHost (host_addressed address.now) text.now) (line_spans text.now 0) result }
+{
+    let (digits, start) = group_digits(high, low);
+    first_line_with(text, &digits[start..], Case::Ignored, |line| {
+        addressed_host(text, line, address)
+    })
+}
+
+// The hexadecimal digits of a group of two bytes, in lower case and with no zero before others. They are at the end of these
+// bytes, from a place on.
+fn group_digits(high: u8, low: u8) -> ([u8; 4], usize)
+    requires { 0 < high }
+    ensures text { slice_range result.0 result.1 4 ≡ digits 16 false (high * 256 + low) }
+    ensures within { result.1 ≤ 4 }
+{
+    let digits = [
+        hex_digit(high / 16),
+        hex_digit(high % 16),
+        hex_digit(low / 16),
+        hex_digit(low % 16),
+    ];
+    let start = if high < 16 { 1 } else { 0 };
+    (digits, start)
+}
+
+// The hexadecimal digit of a number below 16, in lower case.
+fn hex_digit(n: u8) -> u8
+    requires { n < 16 }
+    ensures { result ≡ digit_glyph false n }
+{
+    if n < 10 { b'0' + n } else { b'a' + (n - 10) }
+}
+
+// The same by the colon that any text of such an address has. Lines that lack it are not read.
+fn first_with_colon(text: &[u8], address: &[u8]) -> Option<HostAt>
+    requires { length address.now ≢ 4 }
+    ensures { FirstOf (GivesHost (host_addressed address.now) text.now) (line_spans text.now 0) result }
+{
+    first_line_with(text, b":", Case::Counts, |line| {
+        addressed_host(text, line, address)
+    })
 }
 
 // The same where the only text of an IPv4 address is written down.

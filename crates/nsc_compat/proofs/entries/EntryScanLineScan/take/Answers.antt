@@ -10,7 +10,7 @@ use Rattle.nsc_compat.proofs.entries.EntryScanLineScan.take.Goals as goal
 pub returns-in_ok-add-in-Excludes : goal.returns-in_ok-add-in-Excludes
 returns-in_ok-add-in-Excludes g c =
     let s = c.args.self.now in
-    name_excluded (scan_of g.E.Account.accounts (g.S.SubLookup.content s.sub.now) s.asking) (part c.args.text.now c.args.line) c.in-Excludes.name.now s.excluded c.add.new.self c.in-Excludes.ensures c.in_ok-add-in-Excludes.ensures
+    name_excluded (scan_of g.E.Account.accounts (g.S.SubLookup.content s.sub.now) s.asking) (part c.args.text.now c.args.line) c.in-Excludes.name.now c.args.excluded.now c.add.new.self c.in-Excludes.ensures c.in_ok-add-in-Excludes.ensures
 
 pub returns-in_ok-found-in-Asks : goal.returns-in_ok-found-in-Asks
 returns-in_ok-found-in-Asks g c =
@@ -23,5 +23,5 @@ returns-in_ok-found-in-Asks g c =
     ∙ ap accounts.entry_in (c.in_ok-found-in-Asks.ensures ∙ ap (λ kind. sub_looked content (database_of kind) kind name) c.by_name.ensures ∙ ap (λ db. sub_looked content db accounts.by_name name) g.met.E.Account.asks) in
     IfOk-weaker c.named.result _ _
     (λ outcome gives lines.
-    named_answers accounts content s.asking (part c.args.text.now c.args.line) s.excluded outcome name (fields_of 58 c.in-Asks.all.now) c.in_outcome-found.result c.in-Asks.ensures found gives lines)
+    named_answers accounts content s.asking (part c.args.text.now c.args.line) c.args.excluded.now outcome name (fields_of 58 c.in-Asks.all.now) c.in_outcome-found.result c.in-Asks.ensures found gives lines)
     c.named.ensures

@@ -1,0 +1,118 @@
+-- The entries that lines and further services give for a name have that name.
+use Rattle.std.proofs.Common.{◌≡◌, ℕ, ◌-◌, Bool, true, false, if◌then◌else◌, List, [], ◌∷◌, length, filter, take, IfSome, Option, Some, None, refl, sym, ◌∙◌, ap, subst, arith}
+use Rattle.std.specs.List.{filter_map}
+use Rattle.std.specs.Str.{bytes_eq}
+use Rattle.std.proofs.lemmas.Slice.Eq.{bytes_eq-Decides}
+use Rattle.nsc_base.specs.declared.search.Case.TheVariants.{Counts}
+use Rattle.nsc_base.specs.declared.span.Span.{Span}
+use Rattle.nsc_base.specs.Found.{Lacks}
+use Rattle.nsc_base.specs.Text.{lines_of, part}
+use Rattle.nsc_model.specs.declared.kind.Db.TheVariants as db
+use Rattle.nsc_model.specs.declared.kind.Kind.TheVariants as kind
+use Rattle.nsc_model.specs.declared.row.Looked.{Looked}
+use Rattle.nsc_model.specs.declared.row.Looked.TheVariants.{Unavail}
+use Rattle.nsc_model.specs.declared.row.Row.TheVariants as row
+use Rattle.nsc_model.specs.declared.switch.SwitchService.{SwitchService}
+use Rattle.nsc_model.specs.declared.switch.SwitchService.TheVariants as service
+use Rattle.nsc_model.specs.declared.switch.SwitchStep.{SwitchStep}
+use Rattle.nsc_model.specs.Answers.{file_entry, found_first, group_in, group_named, sub_answer, sub_looked, switched, user_in, user_named}
+use Rattle.nsc_model.specs.Content.{Content}
+use Rattle.nsc_model.specs.Entries.{first_of, if_named, named_in}
+use Rattle.nsc_model.specs.Groups.{group_of_line}
+use Rattle.nsc_model.specs.Services.{action_at, ends}
+use Rattle.nsc_model.specs.Switches.{compat_list}
+use Rattle.nsc_model.specs.Users.{user_of_line}
+use Rattle.nsc_accounts.specs.Group.{group_places}
+use Rattle.nsc_accounts.specs.Passwd.{user_places}
+use Rattle.nsc_accounts.proofs.Named.{group_given, group_names, lacks_name, user_given, user_names}
+
+-- ---- lines
+
+whole : List ℕ → Span
+whole line = record { from = 0; to = length line }
+
+take_all : (line : List ℕ) → take (length line) line ≡ line
+take_all [] = refl
+take_all (b ∷ line) = ap (λ (bytes : List ℕ). b ∷ bytes) (take_all line)
+
+whole_is : (line : List ℕ) → part line (whole line) ≡ line
+unfolding whole
+whole_is line = let all : length line - 0 ≡ length line = omega arith in ap (λ n. take n line) all ∙ take_all line
+
+pub user_lacks : (line name : List ℕ) → Lacks Counts name line → if_named (λ p. bytes_eq p.name name) (user_of_line line) ≡ None
+unfolding whole
+user_lacks line name lack =
+    let within : Lacks Counts name (part line (whole line)) = subst (Lacks Counts name) (sym (whole_is line)) lack in
+    let none = lacks_name (part line (whole line)) name (user_places line (whole line)) (λ at. part line at.name) (λ at. at.uid) (user_names line (whole line) (omega arith) (omega arith)) within in
+    ap (λ bytes. if_named (λ p. bytes_eq p.name name) (user_of_line bytes)) (sym (whole_is line)) ∙ sym (user_given line (λ p. bytes_eq p.name name) (whole line) None (omega arith) (omega arith) (sym none))
+
+pub group_lacks : (line name : List ℕ) → Lacks Counts name line → if_named (λ g. bytes_eq g.name name) (group_of_line line) ≡ None
+unfolding whole
+group_lacks line name lack =
+    let within : Lacks Counts name (part line (whole line)) = subst (Lacks Counts name) (sym (whole_is line)) lack in
+    let none = lacks_name (part line (whole line)) name (group_places line (whole line)) (λ at. part line at.name) (λ at. at.gid) (group_names line (whole line) (omega arith) (omega arith)) within in
+    ap (λ bytes. if_named (λ g. bytes_eq g.name name) (group_of_line bytes)) (sym (whole_is line)) ∙ sym (group_given line (λ g. bytes_eq g.name name) (whole line) None (omega arith) (omega arith) (sym none))
+
+-- ---- further services
+
+-- what holds of each outcome holds of that of a switch
+switched_keeps : (P : Looked → Type 0) (look : SwitchService → Looked) → P Unavail → ((s : SwitchService) → P (look s)) → (steps : List SwitchStep) → P (switched look steps)
+switched_keeps P look none each [] = none
+switched_keeps P look none each (step ∷ []) = each step.service
+switched_keeps P look none each (step ∷ next ∷ steps) =
+    elim (ends (action_at step (look step.service))) as (λ v. P (if v then look step.service else switched look (next ∷ steps))) [
+      | true ↦ each step.service
+      | false ↦ switched_keeps P look none each (next ∷ steps)
+    ]
+
+-- the first of the entries that are named is one of them
+first_is_named : {A : Type 0} (names : A → Bool) (entries : List A) → IfSome (first_of (filter names entries)) (λ a. names a ≡ true)
+first_is_named names [] = tt
+first_is_named names (a ∷ entries) =
+    elim (names a) as (λ v. names a ≡ v → IfSome (first_of (if v then a ∷ filter names entries else filter names entries)) (λ x. names x ≡ true)) [
+      | true ↦ λ is. is
+      | false ↦ λ is. first_is_named names entries
+    ] refl
+
+-- an outcome has an entry of this name, if it has one
+UserOf : List ℕ → Looked → Type 0
+UserOf name looked = IfSome (user_in looked) (λ p. p.name ≡ name)
+
+GroupOf : List ℕ → Looked → Type 0
+GroupOf name looked = IfSome (group_in looked) (λ g. g.name ≡ name)
+
+user_found : (name : List ℕ) (file : Option (List ℕ)) → UserOf name (file_entry row.Passwd user_of_line (user_named name) file)
+unfolding UserOf
+user_found name None = tt
+user_found name (Some file) =
+    elim (first_of (named_in user_of_line (user_named name) file)) as (λ o. IfSome o (λ p. user_named name p ≡ true) → UserOf name (found_first row.Passwd o)) [
+      | None ↦ λ is. tt
+      | Some p ↦ λ is. (bytes_eq-Decides p.name name).0 is
+    ] (first_is_named (user_named name) (filter_map user_of_line (lines_of file)))
+
+group_found : (name : List ℕ) (file : Option (List ℕ)) → GroupOf name (file_entry row.Group group_of_line (group_named name) file)
+unfolding GroupOf
+group_found name None = tt
+group_found name (Some file) =
+    elim (first_of (named_in group_of_line (group_named name) file)) as (λ o. IfSome o (λ g. group_named name g ≡ true) → GroupOf name (found_first row.Group o)) [
+      | None ↦ λ is. tt
+      | Some g ↦ λ is. (bytes_eq-Decides g.name name).0 is
+    ] (first_is_named (group_named name) (filter_map group_of_line (lines_of file)))
+
+pub user_gives : (files : Content) (name : List ℕ) → IfSome (user_in (sub_looked files db.Passwd kind.PwName name)) (λ p. p.name ≡ name)
+unfolding UserOf
+user_gives files name = switched_keeps (UserOf name) (sub_answer files (record { kind = kind.PwName; key = name })) tt each (compat_list files db.Passwd) where
+  each : (s : SwitchService) → UserOf name (sub_answer files (record { kind = kind.PwName; key = name }) s)
+  each service.Files = user_found name files.passwd
+  each service.Compat = tt
+  each service.Extrausers = user_found name files.extra_passwd
+  each service.Other = tt
+
+pub group_gives : (files : Content) (name : List ℕ) → IfSome (group_in (sub_looked files db.Group kind.GrName name)) (λ g. g.name ≡ name)
+unfolding GroupOf
+group_gives files name = switched_keeps (GroupOf name) (sub_answer files (record { kind = kind.GrName; key = name })) tt each (compat_list files db.Group) where
+  each : (s : SwitchService) → GroupOf name (sub_answer files (record { kind = kind.GrName; key = name }) s)
+  each service.Files = group_found name files.group
+  each service.Compat = tt
+  each service.Extrausers = group_found name files.extra_group
+  each service.Other = tt
