@@ -1,6 +1,7 @@
 # What there is to do here. rt, make, python3 (which rt needs too) and a POSIX shell are needed.
 
 PROGRAM = crates/nscd/out/nscd
+TRIALS = crates/nsc_trials/out/nsc_trials
 EXAMPLE = crates/nscd/stdin
 WORDS = $(shell cat crates/nscd/args)
 
@@ -30,7 +31,7 @@ build/frames: tools/make-frames examples/machine.txt $(wildcard examples/machine
 test:
 	@.ci/run
 
-build: build/nscd
+build: build/nscd build/nscd-trials
 
 # A copy under another name first: a run that is cut off leaves no half of a program behind.
 build/nscd: $(PROGRAM)
@@ -38,14 +39,25 @@ build/nscd: $(PROGRAM)
 	cp $(PROGRAM) build/nscd.new
 	mv build/nscd.new build/nscd
 
+build/nscd-trials: $(TRIALS)
+	@mkdir -p build
+	cp $(TRIALS) build/nscd-trials.new
+	mv build/nscd-trials.new build/nscd-trials
+
 # rt links the program once all is proved. The touch comes since rt leaves a program alone that a change of the sources
 # did not alter, as one in a comment, and make would then prove again each time.
 $(PROGRAM): $(SOURCES)
 	cd crates/nscd && rt run -- $(WORDS) < stdin > /dev/null
 	@touch $(PROGRAM)
 
+# The trials of the database for many threads; with words the program makes calls for their time.
+$(TRIALS): $(SOURCES)
+	cd crates/nsc_trials && rt run < stdin > /dev/null
+	@touch $(TRIALS)
+
 bench: build
 	bench/replay
+	bench/store
 
 # What is proved already lies in the out folders too, so a build after this one proves from the start.
 clean:

@@ -21,7 +21,7 @@ const NONE: Stats = Stats {
     addfailed: 0,
 };
 
-/// A reply is given until its time is over, though the file has changed; then it is loaded again.
+// A reply is given until its time is over, though the file has changed; then it is loaded again.
 const EXPIRY: Script = Script {
     name: "expiry",
     check_files: false,
@@ -38,7 +38,7 @@ const EXPIRY: Script = Script {
     ],
 };
 
-/// A tick ends every entry where the file changed.
+// A tick ends every entry where the file changed.
 const CHECK_FILES: Script = Script {
     name: "check-files",
     check_files: true,
@@ -53,7 +53,7 @@ const CHECK_FILES: Script = Script {
     ],
 };
 
-/// An entry that nobody asks for is dropped after two reloads.
+// An entry that nobody asks for is dropped after two reloads.
 const UNUSED: Script = Script {
     name: "reloads",
     check_files: false,
@@ -69,7 +69,7 @@ const UNUSED: Script = Script {
     ],
 };
 
-/// A lookup begins the count of reloads anew.
+// A lookup begins the count of reloads anew.
 const USED: Script = Script {
     name: "reloads of a used entry",
     check_files: false,
@@ -86,7 +86,7 @@ const USED: Script = Script {
     ],
 };
 
-/// What is counted: a found entry takes 17 words, and one that is not 14.
+// What is counted: a found entry takes 17 words, and one that is not 14.
 const STATISTICS: Script = Script {
     name: "statistics",
     check_files: true,
@@ -114,7 +114,7 @@ const STATISTICS: Script = Script {
     ],
 };
 
-/// A hit leaves the entry as it is.
+// A hit leaves the entry as it is.
 const HITS: Script = Script {
     name: "hits",
     check_files: true,
@@ -140,7 +140,7 @@ const HITS: Script = Script {
     ],
 };
 
-/// A pass that met another one finds what that one loaded.
+// A pass that met another one finds what that one loaded.
 const MEETINGS: Script = Script {
     name: "meetings",
     check_files: true,
@@ -153,7 +153,7 @@ const MEETINGS: Script = Script {
     ],
 };
 
-/// An invalidation ends every entry, and frees its words.
+// An invalidation ends every entry, and frees its words.
 const INVALIDATIONS: Script = Script {
     name: "invalidations",
     check_files: true,
@@ -181,7 +181,7 @@ const INVALIDATIONS: Script = Script {
     ],
 };
 
-/// A tick over an unchanged file at which nothing is due changes nothing.
+// A tick over an unchanged file at which nothing is due changes nothing.
 const QUIET: Script = Script {
     name: "quiet ticks",
     check_files: true,

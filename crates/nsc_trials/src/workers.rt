@@ -10,19 +10,22 @@ use std::sync::Wait;
 use std::thread;
 use std::thread::Threads;
 
-// How many lookups a thread does that looks up.
+// How many lookups each thread does.
 const LOOKUPS: u32 = 6;
 
-/// What one thread does.
+// How many requests there are.
+const REQUESTS: u32 = 6;
+
+// What one thread does beside its lookups.
 #[derive(Clone, Copy, Debug)]
 enum Work {
-    /// It looks users up.
+    // Nothing.
     Look,
-    /// It ticks at a moment.
+    // A tick.
     Tick,
-    /// It invalidates.
+    // An invalidation.
     Invalidate,
-    /// It looks users up, and changes the file in between.
+    // It changes the file.
     Change,
 }
 
@@ -82,7 +85,7 @@ impl<S: Store, R: Wait> Worker<'_, '_, S, R> {
     // anew once the thread had seen that the file has changed.
     fn looks(&mut self) -> bool {
         let is_changed = self.changed.is_set();
-        let asked = Asked::ALL[self.dice.below(6) as usize];
+        let asked = Asked::ALL[self.dice.below(REQUESTS) as usize];
         let given = self.caller.find(asked, 0);
         is_answer(asked, &given, is_changed)
     }
@@ -131,12 +134,19 @@ where
 
 // Whether there are no more entries than requests, and after an invalidation each reply is the one over the second file.
 fn rests<S: Store, R: Wait>(caller: &mut Caller<'_, '_, S, R>) -> Result<bool, NoMemory> {
-    let is_short = caller.stats()?.entries <= 6;
+    let is_short = caller.stats()?.entries <= u64::from(REQUESTS);
     let is_invalid = caller.invalidate().is_ok();
     let mut right = is_short && is_invalid;
     for asked in Asked::ALL {
-        let given = caller.find(asked, 0);
-        right = is_answer(asked, &given, true) && right;
+        right = is_second(asked, &caller.find(asked, 0)) && right;
     }
     Ok(right)
+}
+
+// Whether a lookup gave the answer over the second file.
+fn is_second(asked: Asked, given: &Result<Given, LookupFault>) -> bool {
+    match given {
+        Ok(given) => equal(reply_of(given).0.as_slice(), asked.second_reply()),
+        Err(_) => false,
+    }
 }
