@@ -38,8 +38,8 @@ impl Gates {
     }
 }
 
-/// A lookup reads the file while another caller invalidates the database: its answer is given, and not kept. No lock is held while
-/// the file is read, or the invalidation would wait for ever.
+/// A lookup reads the file while another caller invalidates the database: its answer is given, and not kept. The writer's lock is
+/// free while the file is read, or the invalidation would wait until the read gives up.
 pub fn discards<S: Store + Sync, R: Threads + Wait + Clock + Sync>(
     rt: &R,
     reader: &mut Caller<'_, '_, S, R>,
