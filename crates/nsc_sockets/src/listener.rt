@@ -1,0 +1,62 @@
+ghost use Rattle.std.specs.Prelude.{◌≡◌, ℕ, List, Option, IfOk, OnOk, OnErr};
+ghost use Rattle.nsc_outside.specs.Stream.{Rose};
+ghost use Rattle.nsc_sockets.specs.Connections.{Connection, Gives, IsPeer};
+
+use crate::role::Role;
+use nsc_outside::{Failed, Sink, Source};
+
+/// What a listener found.
+#[derive(Drop)]
+pub enum Accepted<R: Drop, K: Drop> {
+    /// A connection, with what its peer sends and what its peer is sent.
+    Conn {
+        /// The socket on which it came.
+        role: Role,
+        /// What the peer sends.
+        input: R,
+        /// What the peer is sent.
+        output: K,
+    },
+    /// No socket had a connection when it was looked at.
+    Quiet,
+}
+
+/// Sockets: those on which connections come, and those of another process.
+pub trait Listener {
+    /// What a peer sends.
+    type In: Source + Send + Drop;
+
+    /// What a peer is sent.
+    type Out: Sink + Send + Drop;
+
+    // How many calls have failed; the count stops at the greatest `u64`.
+    ghost faults: { Self → ℕ };
+
+    // The connections that it gave, the newest first, where it tells them.
+    ghost given: { Self → Option (List Connection) };
+
+    // The bytes of the peer that the next `connect` reaches, where it tells them.
+    ghost peer: { Self → Option (List ℕ) };
+
+    /// Takes connections of this role at the socket of this path from now on.
+    fn bind(&mut self, role: Role, path: &str) -> Result<(), Failed>
+        ensures given { given self.new ≡ given self.old }
+        ensures peer { peer self.new ≡ peer self.old }
+        ensures calm { OnOk result (faults self.new ≡ faults self.old) }
+        ensures failed { OnErr result (Rose (faults self.old) (faults self.new)) };
+
+    /// The next connection, or `Quiet` where none was there when the sockets were looked at.
+    fn accept(&mut self) -> Result<Accepted<Self::In, Self::Out>, Failed>
+        ensures gives { IfOk result (λ accepted. Gives Self.In.left (given self.old) (given self.new) accepted) }
+        ensures stays { OnErr result (given self.new ≡ given self.old) }
+        ensures peer { peer self.new ≡ peer self.old }
+        ensures calm { OnOk result (faults self.new ≡ faults self.old) }
+        ensures failed { OnErr result (Rose (faults self.old) (faults self.new)) };
+
+    /// A connection to the socket of another process at this path.
+    fn connect(&mut self, path: &str) -> Result<(Self::In, Self::Out), Failed>
+        ensures peer { IfOk result (λ ends. IsPeer (peer self.old) (Self.In.left ends.0)) }
+        ensures given { given self.new ≡ given self.old }
+        ensures calm { OnOk result (faults self.new ≡ faults self.old) }
+        ensures failed { OnErr result (Rose (faults self.old) (faults self.new)) };
+}
