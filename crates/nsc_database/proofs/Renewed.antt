@@ -18,7 +18,7 @@ use Rattle.nsc_database.specs.Rests.{IsPacked, Keeps, Rests}
 use Rattle.nsc_database.specs.Ticks.{AreAnew, HasNumber, IsAnew, IsDue, IsRenewed, IsSwept, anew_of, compacted_by, ended_of}
 use Rattle.nsc_database.proofs.Shown.{answered_on, inserts_on}
 use Rattle.nsc_database.proofs.Ended.{keeps_compacted, packed_compacted, packed_spent, replaced_on}
-use Rattle.nsc_database.proofs.Pruning.{all_count, all_leave}
+use Rattle.nsc_database.proofs.Pruning.{all_count, all_due_on, all_leave}
 use Rattle.nsc_database.proofs.Rests.{rests_inserted, rests_through}
 
 -- what is known of the writer after them
@@ -72,6 +72,25 @@ swept_spent settings limit now ticked due w w' all t k p is high =
     let high1 : last_count ≤ w1.cache.cycle = subst (λ (x : Writer). last_count ≤ x.cache.cycle) is high in
     subst (Swept settings limit now ticked due w) (sym is)
     (record { legal = l.told.legal; on = l.on; table = l.table; layout = l.layout; keeps = l.keeps; packed = packed_spent w1 w1 refl high1 (omega arith); gone = l.gone; renewed = c.renewed })
+
+-- what is known of a renewal once the writer was shown to the pass: its entries are due, and what the lock keeps
+pub record Begun (settings : DbConf) (limit : Option ℕ) (now ticked : ℕ) (due_list : List Due) (seen : List Record) (w : Writer) : Type 0 where
+  pub before : IsPrefix seen w.seen
+  pub due : All (IsDue limit now w.seen) due_list
+  pub keeps : Keeps settings limit ticked w
+  pub packed : IsPacked w
+
+pub begun : (settings : DbConf) (limit : Option ℕ) (now ticked : ℕ) (due : List Due) (seen : List Record) (old w : Writer) → w ≡ old → IsPrefix seen old.seen → All (IsDue limit now seen) due → Keeps settings limit ticked old → IsPacked old → Begun settings limit now ticked due seen w
+begun settings limit now ticked due seen old w same before all keeps packed =
+    let on = subst (λ (x : Writer). IsPrefix seen x.seen) (sym same) before in
+    record { before = on; due = all_due_on limit now seen w.seen due on all; keeps = subst (Keeps settings limit ticked) (sym same) keeps; packed = subst IsPacked (sym same) packed }
+
+pub begun_leaves : {settings : DbConf} {limit : Option ℕ} {now ticked : ℕ} {due : List Due} {seen : List Record} (w w' : Writer) → Begun settings limit now ticked due seen w → Tells w.seen w.cache → IsSwept now due w w' → Swept settings limit now ticked due w w'
+begun_leaves {settings} {limit} {now} {ticked} {due} {seen} w w' b t s = swept_leaves settings limit now ticked due w w' b.due t b.keeps b.packed s
+
+pub begun_spent : {settings : DbConf} {limit : Option ℕ} {now ticked : ℕ} {due : List Due} {seen : List Record} (w w' : Writer) → Begun settings limit now ticked due seen w → Tells w.seen w.cache → w' ≡ pruned_by now due w → last_count ≤ w'.cache.cycle
+    → Swept settings limit now ticked due w w'
+begun_spent {settings} {limit} {now} {ticked} {due} {seen} w w' b t is high = swept_spent settings limit now ticked due w w' b.due t b.keeps b.packed is high
 
 pub swept_unmoved : (w' : Writer) (count : ℕ) → IsPacked w' → last_count ≤ w'.cache.cycle → count ≡ last_count → IsUnmoved w'.seen count
 swept_unmoved w' count p high is = record { last = is; cause = inr (let low = p.cycles in omega arith) }

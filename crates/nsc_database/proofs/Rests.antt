@@ -1,6 +1,7 @@
 -- What holds of a writer while its lock is free stays so through each of its calls.
-use Rattle.std.proofs.Common.{◌≡◌, ℕ, zero, suc, ◌+◌, ◌<◌, ◌≤◌, Bool, true, false, cond, eqb, All, List, [], ◌∷◌, ◌++◌, get_or, sum_by, add-zero, Option, Ok, Err, refl, sym, ap, subst, ◌∙◌, arith, inl, inr}
+use Rattle.std.proofs.Common.{◌≡◌, ℕ, zero, suc, ◌+◌, ◌<◌, ◌≤◌, Bool, true, false, not, ◌&&◌, cond, eqb, All, List, [], ◌∷◌, ◌++◌, get_or, sum_by, add-zero, Option, Ok, Err, refl, sym, ap, subst, ◌∙◌, arith, inl, inr}
 use Rattle.std.specs.Bool.{OnTrue}
+use Rattle.std.proofs.lemmas.Bool.{eqb-true, false≢true}
 use Rattle.std.proofs.lemmas.List.Elements.{All-append}
 use Rattle.std.proofs.lemmas.List.Sums.{sum_by-append, sum_by-cons}
 use Rattle.nsc_model.specs.declared.answer.Request.{Request}
@@ -11,7 +12,7 @@ use Rattle.nsc_model.specs.Content.{Content}
 use Rattle.nsc_model.specs.Entry.{Entry}
 use Rattle.nsc_model.specs.Files.{same_files}
 use Rattle.nsc_model.specs.History.{HasLoad, IsLive, IsPrefix, Legal, WasPolled, changes}
-use Rattle.nsc_model.specs.Machine.{Kept, all_words, entry_words, last_count, polled, used_by, used_now}
+use Rattle.nsc_model.specs.Machine.{Kept, all_words, entry_words, is_outdated, last_count, polled, used_by, used_now}
 use Rattle.nsc_model.specs.Kinds.{is_request}
 use Rattle.nsc_model.specs.Reloads.{Reloaded, ends, invalidated_at, replaced}
 use Rattle.nsc_writer.specs.declared.loaded.Inserted.{Inserted}
@@ -125,6 +126,14 @@ keeps_stays settings limit ticked w w' s k = keeps_with settings limit ticked w 
 
 pub packed_stays : (w w' : Writer) → Stays w w' → IsPacked w → IsPacked w'
 packed_stays w w' s p = packed_with w w' s.adds.ends_are s.entries s.used s.cycle p
+
+-- where the newest version is the one that the last tick found, or that does not count, it may stand for that
+pub keeps_current : (settings : DbConf) (limit : Option ℕ) (ticked newest : ℕ) (w : Writer) → is_outdated settings newest ticked ≡ false → Keeps settings limit ticked w → Keeps settings limit newest w
+keeps_current settings limit ticked newest w current k = record { reloaded = k.reloaded; counted = k.counted; found = by_checks settings.check_files (eqb newest ticked) refl current k.found } where
+  by_checks : (b same : Bool) → eqb newest ticked ≡ same → (b && not same) ≡ false → OnTrue b (ticked ≤ invalidated_at w.seen) → OnTrue b (newest ≤ invalidated_at w.seen)
+  by_checks true true is off low = let e = eqb-true newest ticked is in omega arith
+  by_checks true false is off low = absurd (false≢true (sym off))
+  by_checks false same is off low = low
 
 -- ---- polls
 

@@ -60,6 +60,11 @@ pub record Ticking (seen noted mid after : List Record) (epoch : ℕ) (polled : 
   pub to_after : IsPrefix mid after
   pub legal_after : Legal after
 
+pub ticking : (seen noted mid after : List Record) (epoch : ℕ) (polled : Polled) → IsPrefix seen noted → Legal noted → epoch ≡ invalidations noted → IsPrefix noted mid → Legal mid → IsPolled noted mid epoch polled → IsPrefix mid after → Legal after
+    → Ticking seen noted mid after epoch polled
+ticking seen noted mid after epoch polled before legal epoch_is to_mid legal_mid is_polled to_after legal_after =
+    record { before = before; legal = legal; epoch_is = epoch_is; to_mid = to_mid; legal_mid = legal_mid; is_polled = is_polled; to_after = to_after; legal_after = legal_after }
+
 pub looked_at : (seen noted mid after last : List Record) (epoch : ℕ) (polled : Polled) → Ticking seen noted mid after epoch polled → IsPrefix after last → LookedBetween seen last polled.stamp.version
 looked_at seen noted mid after last epoch polled t p =
     let l = t.is_polled.looked in

@@ -1,4 +1,5 @@
 pub mod Rooms
+pub mod Steady
 pub mod Rests
 pub mod Holds
 pub mod Ticks

@@ -1,10 +1,13 @@
 ghost use Rattle.std.specs.Prelude.{◌≡◌, ◌≤◌, ◌<◌, ◌^◌, length, IfOk, IfErr, OnOk};
-ghost use Rattle.std.specs.Bool.{OnTrue};
+ghost use Rattle.std.specs.Bool.{OnFalse, OnTrue};
+ghost use Rattle.nsc_model.specs.declared.store.Given.TheVariants as given;
+ghost use Rattle.nsc_model.specs.declared.store.Why.TheVariants as why;
 ghost use Rattle.nsc_model.specs.Entry.{key_limit};
 ghost use Rattle.nsc_model.specs.History.{Answered, IsPrefix, Legal};
 ghost use Rattle.nsc_model.specs.Machine.{room_of};
 ghost use Rattle.nsc_model.specs.Stores.{IsCounted, IsEmptied, IsFault, IsGiven, IsTickFault, IsUnmoved, reply_of};
 ghost use Rattle.nsc_database.specs.Lookups.{IsMade};
+ghost use Rattle.nsc_database.specs.Steady.{IsCalm, IsOfHeld, NoFileFault};
 ghost use Rattle.nsc_database.specs.Ticks.{IsTickedOver};
 
 use crate::base::Base;
@@ -44,7 +47,8 @@ impl<F: FileSet + Drop, A: Answerer + Drop, B: Room> Model for Database<F, A, B>
 
 impl<F: FileSet + Drop, A: Answerer + Drop, B: Room> Database<F, A, B> {
     /// As `Store::lookup`; and where the reply is not that of a live entry, the files that the database reads were read in this
-    /// call, and the reply is the answer over what the reads gave, as far as the file set tells that.
+    /// call, and the reply is the answer over what the reads gave, as far as the file set tells that. Where the database is not
+    /// cached, no reply is kept. Where the file sets of the room tell what they hold, each reply is the answer over that.
     pub fn lookup_told<R: Wait>(
         &self,
         rt: &R,
@@ -62,6 +66,36 @@ impl<F: FileSet + Drop, A: Answerer + Drop, B: Room> Database<F, A, B> {
         ensures answered { IfOk result (λ g. Answered pass.old.pass.seen pass.new.pass.seen (record { kind = kind; key = key.now }) (reply_of g)) }
         ensures given { IfOk result (λ g. IsGiven g self.now.settings now pass.old.pass.seen pass.new.pass.seen (record { kind = kind; key = key.now })) }
         ensures made { IfOk result (λ g. IsMade self.now.db (F.reads pass.old.files) (F.reads pass.new.files) (F.latest pass.new.files) (record { kind = kind; key = key.now }) g) }
+        ensures uncached { OnFalse self.now.settings.enabled (IfOk result (λ g. g ≡ given.Fresh (reply_of g) why.Disabled)) }
+        ensures held { IfOk result (λ g. IsOfHeld B.held self.now.db (record { kind = kind; key = key.now }) (reply_of g)) }
+        ensures fault { IfErr result (λ fault. IsFault fault pass.new.pass.seen (F.faults pass.old.files) (F.faults pass.new.files) (F.file_faults pass.old.files) (F.file_faults pass.new.files)) }
+        ensures calm { IsCalm F.faults → IfErr result NoFileFault }
+    {
+        let given = self.looked_up(rt, alloc, pass, kind, key, now);
+        pass.pass.learn();
+        pass.learn();
+        given
+    }
+
+    // A lookup in the database that it is.
+    fn looked_up<R: Wait>(
+        &self,
+        rt: &R,
+        alloc: Global,
+        pass: &mut DbPass<F, B>,
+        kind: Kind,
+        key: &[u8],
+        now: u64,
+    ) -> Result<Given, LookupFault>
+        requires pass { pass.old.db ≡ self.now.db }
+        requires key { length key.now ≤ key_limit }
+        requires moment { now < 2 ^ 62 }
+        ensures pass { pass.new.db ≡ pass.old.db }
+        ensures before { IsPrefix pass.old.pass.seen pass.new.pass.seen }
+        ensures answered { IfOk result (λ g. Answered pass.old.pass.seen pass.new.pass.seen (record { kind = kind; key = key.now }) (reply_of g)) }
+        ensures given { IfOk result (λ g. IsGiven g self.now.settings now pass.old.pass.seen pass.new.pass.seen (record { kind = kind; key = key.now })) }
+        ensures made { IfOk result (λ g. IsMade self.now.db (F.reads pass.old.files) (F.reads pass.new.files) (F.latest pass.new.files) (record { kind = kind; key = key.now }) g) }
+        ensures uncached { OnFalse self.now.settings.enabled (IfOk result (λ g. g ≡ given.Fresh (reply_of g) why.Disabled)) }
         ensures fault { IfErr result (λ fault. IsFault fault pass.new.pass.seen (F.faults pass.old.files) (F.faults pass.new.files) (F.file_faults pass.old.files) (F.file_faults pass.new.files)) }
     {
         match &self.bases {
@@ -95,6 +129,26 @@ impl<F: FileSet + Drop, A: Answerer + Drop, B: Room> Database<F, A, B> {
     /// As `Store::tick`; and the files that the database reads were read in this call, and the version that was looked at is what
     /// the reads gave, as far as the file set tells that.
     pub fn tick_told<R: Wait>(
+        &self,
+        rt: &R,
+        alloc: Global,
+        pass: &mut DbPass<F, B>,
+        now: u64,
+    ) -> Result<(), LookupFault>
+        requires pass { pass.old.db ≡ self.now.db }
+        requires moment { now < 2 ^ 62 }
+        ensures pass { pass.new.db ≡ pass.old.db }
+        ensures before { IsPrefix pass.old.pass.seen pass.new.pass.seen }
+        ensures legal { Legal pass.new.pass.seen }
+        ensures ticked { OnOk result (OnTrue self.now.settings.enabled (IsTickedOver self.now.db (F.reads pass.old.files) (F.reads pass.new.files) (F.latest pass.new.files) self.now.settings self.now.reloads now pass.old.pass.seen pass.new.pass.seen)) }
+        ensures fault { IfErr result (λ fault. IsTickFault fault pass.new.pass.seen (F.faults pass.old.files) (F.faults pass.new.files) (F.file_faults pass.old.files) (F.file_faults pass.new.files)) }
+        ensures calm { IsCalm F.faults → IfErr result NoFileFault }
+    {
+        self.ticked(rt, alloc, pass, now)
+    }
+
+    // A tick of the database that it is.
+    fn ticked<R: Wait>(
         &self,
         rt: &R,
         alloc: Global,

@@ -12,6 +12,7 @@ ghost use Rattle.nsc_model.specs.Stores.{IsCounted, IsEmptied, IsSpent, IsUnmove
 ghost use Rattle.nsc_writer.specs.Uses.{counted};
 ghost use Rattle.nsc_database.specs.declared.renewal.Checked.TheVariants as is_checked;
 ghost use Rattle.nsc_database.specs.Holds.{IsInserted, IsLooked, IsPolled};
+ghost use Rattle.nsc_database.specs.Steady.{IsPart, IsSteady};
 ghost use Rattle.nsc_database.specs.Ticks.{AreAnew, AreOver, IsChecked, IsDue, IsHoldFault};
 
 use crate::holds::Looked;
@@ -41,12 +42,13 @@ pub struct Desk<D: OfDb, B: Room> {
 impl<D: OfDb, B: Room> Model for Desk<D, B> {
     ghost use Rattle.nsc_model.specs.Settings.{settings_of};
     ghost use Rattle.nsc_database.specs.Rests.{Desk, IsPacked, Keeps};
+    ghost use Rattle.nsc_database.specs.Steady.{StaysStill};
 
     ghost Value = { Desk };
 
     ghost view = { λ d. record { writer = d.writer; ticked = d.ticked } };
 
-    ghost invariant = { λ d. Keeps (settings_of B.conf D.db) B.conf.reloads d.ticked d.writer × IsPacked d.writer };
+    ghost invariant = { λ d. Keeps (settings_of B.conf D.db) B.conf.reloads d.ticked d.writer × IsPacked d.writer × StaysStill B.held D.db d.writer.cache };
 }
 
 /// Its source book.
@@ -55,7 +57,7 @@ pub struct Shelved<D: OfDb, F: FileSet + Drop, A: Answerer, B: Room> {
     pub book: SourceBook<F, A>,
     pub of: PhantomData<D>,
     pub room: PhantomData<B>,
-    pub ghost own: { (book.table ≡ B.table D.db) × (book.db ≡ D.db) },
+    pub ghost own: { (book.table ≡ B.table D.db) × (book.db ≡ D.db) × (book.held ≡ B.held) },
 }
 
 impl<D: OfDb, B: Room> Desk<D, B> {
@@ -63,6 +65,7 @@ impl<D: OfDb, B: Room> Desk<D, B> {
     pub fn pass(&mut self) -> Pass
         ensures table { result.table ≡ B.table D.db }
         ensures legal { Legal result.seen }
+        ensures steady { IsSteady B.held D.db result.seen }
     {
         self.writer.learn();
         self.writer.pass()
@@ -105,6 +108,7 @@ impl<D: OfDb, B: Room> Desk<D, B> {
         requires db { pass.old.db ≡ D.db }
         requires newest { OnTrue fetched.is_newest (fetched.content ≡ shelved.old.book.newest) }
         requires epoch { epoch ≤ invalidations pass.old.pass.seen }
+        requires part { IsPart B.held D.db fetched.content }
         ensures db { pass.new.db ≡ pass.old.db }
         ensures files { pass.new.files ≡ pass.old.files }
         ensures before { IsPrefix pass.old.pass.seen pass.new.pass.seen }
@@ -311,7 +315,8 @@ fn is_outdated(settings: &DbConf, newest: u64, ticked: u64) -> bool
 impl<D: OfDb, F: FileSet + Drop, A: Answerer, B: Room> Shelved<D, F, A, B> {
     /// A file set that is split from the kept one. Fails only for want of memory.
     pub fn split(&self, alloc: Global) -> Result<F, NoMemory>
-        ensures { IfOk result (λ set. F.faults set ≡ 0) }
+        ensures calm { IfOk result (λ set. F.faults set ≡ 0) }
+        ensures held { IfOk result (λ set. F.held set ≡ B.held) }
     {
         self.book.split(alloc)
     }

@@ -7,6 +7,10 @@ ghost use Rattle.nsc_writer.specs.Writer.{IsAnswered};
 ghost use Rattle.nsc_model.specs.Machine.{last_count};
 ghost use Rattle.nsc_model.specs.Stores.{IsCounted, IsEmptied, IsSpent, IsUnmoved};
 ghost use Rattle.nsc_database.specs.Holds.{IsInserted, IsLooked, IsPolled};
+ghost use Rattle.nsc_model.specs.Content.{Content};
+ghost use Rattle.nsc_model.specs.Files.{part_of};
+ghost use Rattle.nsc_model.specs.declared.kind.Db.{Db};
+ghost use Rattle.nsc_database.specs.Steady.{HasOne, IsStill, KeepsVersion};
 ghost use Rattle.nsc_database.specs.Rests.{FindsNewest, IsLeft, IsPacked, Rests};
 
 use nsc_base::Buf;
@@ -39,6 +43,8 @@ pub fn look(writer: &mut Writer, pass: &mut Pass, kind: Kind, key: &[u8], reply:
     ensures legal { Legal pass.new.seen }
     ensures looked { IsLooked result pass.new.seen (record { kind = kind; key = key.now }) reply.new.content }
     ensures rests { Rests writer.old writer.new }
+    ensures version { KeepsVersion writer.old.cache writer.new.cache }
+    ensures steady { (files : Content) (which : Db) → IsStill files which writer.old.cache → HasOne files which pass.new.seen }
     ensures limit { reply.new.limit ≡ reply.old.limit }
 {
     writer.show(pass);
@@ -64,13 +70,15 @@ pub fn poll<F: FileSet + Drop, A: Answerer>(
     requires newest { OnTrue fetched.is_newest (fetched.content ≡ book.old.newest) }
     requires epoch { epoch ≤ invalidations pass.old.seen }
     ensures writer { writer.new.table ≡ writer.old.table }
-    ensures book { (book.new.table ≡ book.old.table) × (book.new.db ≡ book.old.db) }
+    ensures book { (book.new.table ≡ book.old.table) × (book.new.db ≡ book.old.db) × (book.new.held ≡ book.old.held) }
     ensures pass { pass.new.table ≡ pass.old.table }
     ensures before { IsPrefix pass.old.seen pass.new.seen }
     ensures legal { Legal pass.new.seen }
     ensures content { IfOk result (λ polled. polled.content ≡ fetched.content) }
     ensures polled { IfOk result (λ polled. IsPolled pass.old.seen pass.new.seen epoch polled) }
     ensures rests { Rests writer.old writer.new }
+    ensures still { (files : Content) (which : Db) → IsStill files which writer.old.cache → fetched.content ≡ part_of which files → IsStill files which writer.new.cache }
+    ensures steady { (files : Content) (which : Db) → IsStill files which writer.old.cache → fetched.content ≡ part_of which files → HasOne files which pass.new.seen }
     ensures spent { IfErr result (λ spent. IsSpent pass.new.seen spent.count) }
 {
     writer.show(pass);
@@ -102,6 +110,8 @@ pub fn insert(
     ensures legal { Legal pass.new.seen }
     ensures inserted { IsInserted writer.old.layout.arena result.0 loaded pass.old.seen pass.new.seen }
     ensures rests { Rests writer.old writer.new }
+    ensures version { KeepsVersion writer.old.cache writer.new.cache }
+    ensures steady { (files : Content) (which : Db) → IsStill files which writer.old.cache → HasOne files which pass.new.seen }
     ensures back { result.1 ≡ loaded }
 {
     pass.learn();
@@ -126,6 +136,8 @@ pub fn invalidate(writer: &mut Writer, pass: &mut Pass) -> Result<u64, Spent>
     ensures found { OnOk result (FindsNewest writer.old writer.new) }
     ensures shown { OnOk result (pass.new.seen ≡ writer.new.seen) }
     ensures rests { Rests writer.old writer.new }
+    ensures version { KeepsVersion writer.old.cache writer.new.cache }
+    ensures steady { (files : Content) (which : Db) → IsStill files which writer.old.cache → HasOne files which pass.new.seen }
     ensures spent { IfErr result (λ spent. IsUnmoved pass.new.seen spent.count) }
 {
     let is_empty = writer.is_empty();
@@ -153,6 +165,7 @@ fn end_all(writer: &mut Writer, pass: &mut Pass) -> Result<u64, Spent>
     ensures done { IfOk result (λ epoch. IsEmptied pass.old.seen pass.new.seen epoch) }
     ensures emptied { OnOk result (IsLeft writer.old writer.new pass.new.seen) }
     ensures stays { IfErr result (λ _. writer.new ≡ writer.old) }
+    ensures steady { (files : Content) (which : Db) → IsStill files which writer.old.cache → HasOne files which pass.new.seen }
     ensures spent { IfErr result (λ spent. (spent.count ≡ last_count) × (invalidations pass.new.seen ≡ spent.count)) }
 {
     writer.show(pass);
@@ -176,6 +189,7 @@ pub fn stats(writer: &mut Writer, pass: &mut Pass) -> Stats
     ensures before { IsPrefix pass.old.seen pass.new.seen }
     ensures legal { Legal pass.new.seen }
     ensures counted { IsCounted writer.old.layout.arena pass.new.seen result }
+    ensures steady { (files : Content) (which : Db) → IsStill files which writer.old.cache → HasOne files which pass.new.seen }
 {
     writer.show(pass);
     writer.learn();

@@ -1,5 +1,6 @@
 // Lookups.
 ghost use Rattle.std.specs.Prelude.{◌≡◌, ◌≤◌, ◌<◌, ◌^◌, false, length, IfOk, IfErr};
+ghost use Rattle.std.specs.Bool.{OnFalse};
 ghost use Rattle.nsc_model.specs.declared.store.Given.TheVariants as given;
 ghost use Rattle.nsc_model.specs.declared.store.Why.TheVariants as why;
 ghost use Rattle.nsc_model.specs.Entry.{key_limit};
@@ -36,6 +37,7 @@ impl<D: OfDb, F: FileSet + Drop, A: Answerer + Drop, B: Room> Base<D, F, A, B> {
         ensures answered { IfOk result (λ g. Answered pass.old.pass.seen pass.new.pass.seen (record { kind = kind; key = key.now }) (reply_of g)) }
         ensures given { IfOk result (λ g. IsGiven g self.now.settings now pass.old.pass.seen pass.new.pass.seen (record { kind = kind; key = key.now })) }
         ensures made { IfOk result (λ g. IsMade D.db (F.reads pass.old.files) (F.reads pass.new.files) (F.latest pass.new.files) (record { kind = kind; key = key.now }) g) }
+        ensures uncached { OnFalse self.now.settings.enabled (IfOk result (λ g. g ≡ given.Fresh (reply_of g) why.Disabled)) }
         ensures fault { IfErr result (λ fault. IsFault fault pass.new.pass.seen (F.faults pass.old.files) (F.faults pass.new.files) (F.file_faults pass.old.files) (F.file_faults pass.new.files)) }
     {
         pass.pass.learn();

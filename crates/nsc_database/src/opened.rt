@@ -5,6 +5,7 @@ ghost use Rattle.nsc_model.specs.Files.{part_of};
 ghost use Rattle.nsc_model.specs.Machine.{room_of};
 ghost use Rattle.nsc_model.specs.Settings.{settings_of};
 ghost use Rattle.nsc_database.specs.Rests.{IsNew};
+ghost use Rattle.nsc_database.specs.Steady.{IsPart};
 ghost use Rattle.nsc_sourcebook.specs.Reads.{AllRose, AreAsTold, FaultRose, IsPartOf, TellsLength};
 
 use crate::base::Base;
@@ -29,7 +30,7 @@ pub struct Opened<F: FileSet + Drop, A: Answerer + Drop> {
     book: SourceBook<F, A>,
     writer: Writer,
     pub pass: Pass,
-    files: F,
+    pub files: F,
     reply: Buf,
     answers: A,
     pub db: Db,
@@ -38,6 +39,9 @@ pub struct Opened<F: FileSet + Drop, A: Answerer + Drop> {
     pub ghost tied: { (book.table ≡ pass.table) × (book.db ≡ db) × (writer.table ≡ pass.table) },
     pub ghost new: { IsNew writer book.newest (room_of settings) },
     pub ghost buffer: { reply.limit ≡ kept_limit },
+    pub ghost held: { book.held ≡ F.held files },
+    pub ghost part: { IsPart (F.held files) db book.newest },
+    pub ghost first: { pass.seen ≡ record_of.Change 0 book.newest ∷ [] },
 }
 
 impl<F: FileSet + Drop, A: Answerer + Drop> Opened<F, A> {
@@ -56,6 +60,7 @@ impl<F: FileSet + Drop, A: Answerer + Drop> Opened<F, A> {
         ensures told { IfOk result (λ o. AreAsTold db (F.latest files.new) o.book.newest) }
         ensures part { IfOk result (λ o. IsPartOf db (F.held files.old) o.book.newest) }
         ensures only { IfOk result (λ o. o.book.newest ≡ part_of db o.book.newest) }
+        ensures held { IfOk result (λ o. F.held o.files ≡ F.held files.old) }
         ensures read { OnOk result (AllRose db (F.reads files.old) (F.reads files.new)) }
         ensures faults { IfErr result (λ fault. FaultRose fault (F.faults files.old) (F.faults files.new) (F.file_faults files.old) (F.file_faults files.new)) }
         ensures length { IfErr result (λ fault. TellsLength fault (F.held files.old)) }
@@ -86,6 +91,7 @@ impl<F: FileSet + Drop, A: Answerer + Drop> Opened<F, A> {
     pub fn enter<B: Room>(self) -> Result<(Database<F, A, B>, DbPass<F, B>), NoMemory>
         requires table { self.pass.table ≡ B.table self.db }
         requires conf { (self.settings ≡ settings_of B.conf self.db) × (self.reloads ≡ B.conf.reloads) }
+        requires held { F.held self.files ≡ B.held }
         ensures database { IfOk result (λ r. r.0 ≡ record { db = self.db; settings = self.settings; reloads = self.reloads }) }
         ensures pass { IfOk result (λ r. (r.1.db ≡ self.db) × (r.1.pass.seen ≡ self.pass.seen)) }
     {
@@ -148,6 +154,8 @@ impl<F: FileSet + Drop, A: Answerer + Drop> Parts<F, A> {
         requires tables { (self.book.table ≡ B.table D.db) × (self.writer.table ≡ B.table D.db) × (self.map.table ≡ B.table D.db) }
         requires conf { (self.settings ≡ settings_of B.conf D.db) × (self.reloads ≡ B.conf.reloads) }
         requires new { IsNew self.writer self.book.newest (room_of self.settings) }
+        requires held { self.book.held ≡ B.held }
+        requires part { IsPart B.held D.db self.book.newest }
         ensures { (result.settings ≡ self.settings) × (result.reloads ≡ self.reloads) }
     {
         let Parts {

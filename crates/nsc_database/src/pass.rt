@@ -1,6 +1,7 @@
 ghost use Rattle.std.specs.Prelude.{◌≡◌};
 ghost use Rattle.nsc_model.specs.Entry.{kept_limit};
 ghost use Rattle.nsc_model.specs.History.{IsPrefix};
+ghost use Rattle.nsc_database.specs.Steady.{IsSteady};
 
 use crate::room::Room;
 use nsc_base::Buf;
@@ -20,9 +21,19 @@ pub struct DbPass<F: FileSet + Drop, B: Room> {
     pub(crate) room: PhantomData<B>,
     pub ghost own: { (pass.table ≡ B.table db) × (map.table ≡ B.table db) },
     pub ghost buffer: { reply.limit ≡ kept_limit },
+    pub ghost held: { F.held files ≡ B.held },
+    pub ghost steady: { IsSteady B.held db pass.seen },
 }
 
 impl<F: FileSet + Drop, B: Room> DbPass<F, B> {
+    /// Where the file sets of the room tell what they hold, the history that it has seen has one version, its database's part of
+    /// that.
+    pub fn learn(&self)
+        ensures { IsSteady B.held self.now.db self.now.pass.seen }
+    {
+        let _ = &self.pass;
+    }
+
     /// It has seen, then, all that it and the other one had seen.
     pub(crate) fn meet(&mut self, other: DbPass<F, B>)
         requires { other.db ≡ self.old.db }

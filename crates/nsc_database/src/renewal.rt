@@ -6,7 +6,10 @@ ghost use Rattle.nsc_model.specs.History.{IsPrefix, Legal, invalidations};
 ghost use Rattle.nsc_model.specs.Machine.{last_count};
 ghost use Rattle.nsc_model.specs.Stores.{IsUnmoved};
 ghost use Rattle.nsc_writer.specs.Due.{IsOver, marked_by, pruned_by};
+ghost use Rattle.nsc_model.specs.Content.{Content};
+ghost use Rattle.nsc_model.specs.declared.kind.Db.{Db};
 ghost use Rattle.nsc_database.specs.Rests.{IsPacked, Keeps, Rests};
+ghost use Rattle.nsc_database.specs.Steady.{HasOne, IsStill, KeepsVersion};
 ghost use Rattle.nsc_database.specs.Ticks.{AreAnew, AreOver, IsDue, IsListing, IsRenewed, IsSwept};
 
 use nsc_base::NoMemory;
@@ -20,7 +23,7 @@ use std::alloc::Global;
 pub enum Checked {
     /// Every entry ended, since the files changed.
     Emptied,
-    /// Those of these ended whose time is over.
+    /// Each live entry is over the newest version, where changes of the files count, and the time of these is over.
     Listed(Vec<Due>),
 }
 
@@ -32,6 +35,7 @@ pub fn note(writer: &mut Writer, pass: &mut Pass) -> u64
     ensures before { IsPrefix pass.old.seen pass.new.seen }
     ensures legal { Legal pass.new.seen }
     ensures noted { result ≡ invalidations pass.new.seen }
+    ensures steady { (files : Content) (which : Db) → IsStill files which writer.old.cache → HasOne files which pass.new.seen }
 {
     writer.show(pass);
     writer.learn();
@@ -52,6 +56,7 @@ pub fn list(
     ensures before { IsPrefix pass.old.seen pass.new.seen }
     ensures legal { Legal pass.new.seen }
     ensures shown { pass.new.seen ≡ writer.old.seen }
+    ensures steady { (files : Content) (which : Db) → IsStill files which writer.old.cache → HasOne files which pass.new.seen }
     ensures listed { IfOk result (λ due. IsListing limit now writer.old pass.new.seen due.items) }
 {
     writer.show(pass);
@@ -85,6 +90,8 @@ pub fn renew(
     ensures keeps { (settings : DbConf) (limit : Option ℕ) (ticked : ℕ) → All (IsDue limit now pass.old.seen) due.old → Keeps settings limit ticked writer.old → Keeps settings limit ticked writer.new }
     ensures packed { IsPacked writer.new }
     ensures over { OnOk result (AreOver epoch pass.new.seen due.old) }
+    ensures version { KeepsVersion writer.old.cache writer.new.cache }
+    ensures steady { (files : Content) (which : Db) → IsStill files which writer.old.cache → HasOne files which pass.new.seen }
     ensures spent { IfErr result (λ spent. IsUnmoved pass.new.seen spent.count) }
 {
     writer.show(pass);
@@ -129,7 +136,8 @@ fn reload(writer: &mut Writer, alloc: Global, due: &[Due], loads: &[Option<Loade
     requires legal { Legal writer.old.seen }
     requires due { All (IsRenewed writer.old.seen) due.now }
     requires loads { AreAnew writer.old.seen due.now loads.now }
-    ensures { Rests writer.old writer.new }
+    ensures rests { Rests writer.old writer.new }
+    ensures version { KeepsVersion writer.old.cache writer.new.cache }
 {
     for (at, load) in loads.iter().enumerate() {
         if let Some(loaded) = load {

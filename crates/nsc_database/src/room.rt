@@ -1,23 +1,31 @@
 use std::marker::Brand;
 
-/// Names the words of each database, and the configuration that they run under.
+/// Names the words of each database, the configuration that they run under, and the files that their file sets tell.
 pub trait Room {
     ghost use Rattle.atomic_table.specs.Seated.{TableId};
+    ghost use Rattle.std.specs.Prelude.{Option};
+    ghost use Rattle.nsc_model.specs.Content.{Content};
     ghost use Rattle.nsc_model.specs.declared.conf.Conf.{Conf};
     ghost use Rattle.nsc_model.specs.declared.kind.Db.{Db};
 
     ghost table: { Db → TableId };
 
     ghost conf: { Conf };
+
+    // The files that every file set of the room holds, where they tell them.
+    ghost held: { Option Content };
 }
 
 impl Room for Brand {
+    ghost use Rattle.std.specs.Prelude.{None};
     ghost use Rattle.nsc_model.specs.Settings.{default_settings};
     ghost use Rattle.nsc_database.specs.Rooms.{no_table};
 
     ghost table = { λ db. no_table };
 
     ghost conf = { default_settings };
+
+    ghost held = { None };
 }
 
 /// Names a database.

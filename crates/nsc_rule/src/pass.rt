@@ -1,4 +1,4 @@
-ghost use Rattle.std.specs.Prelude.{◌≡◌, [], ◌∷◌};
+ghost use Rattle.std.specs.Prelude.{◌≡◌, ◌⊎◌, [], ◌∷◌};
 ghost use Rattle.nsc_model.specs.History.{Legal, IsPrefix};
 ghost use Rattle.nsc_rule.specs.Seats.{reader_view};
 
@@ -76,6 +76,7 @@ impl Pass {
         ensures table { self.new.table ≡ self.old.table }
         ensures before { IsPrefix self.old.seen self.new.seen }
         ensures other { IsPrefix other.seen self.new.seen }
+        ensures either { (self.new.seen ≡ self.old.seen) ⊎ (self.new.seen ≡ other.seen) }
     {
         let words = map.words();
         let other = other.into_seat();

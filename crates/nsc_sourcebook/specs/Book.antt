@@ -1,5 +1,5 @@
 -- What a source book is, and what its calls give.
-use Rattle.std.specs.Prelude.{◌≡◌, ℕ, Bool, Result, Ok, Err}
+use Rattle.std.specs.Prelude.{◌≡◌, ℕ, Bool, Option, Result, Ok, Err}
 use Rattle.atomic_table.specs.Seated.{TableId}
 use Rattle.nsc_model.specs.declared.kind.Db.{Db}
 use Rattle.nsc_model.specs.declared.store.Spent.{Spent}
@@ -8,11 +8,12 @@ use Rattle.nsc_model.specs.Machine.{polled}
 use Rattle.nsc_writer.specs.declared.loaded.Stamp.{Stamp}
 use Rattle.nsc_writer.specs.Writer.{Writer, Polls}
 
--- the database, the words of its writer, and the newest content
+-- the database, the words of its writer, the newest content, and the files that its file set holds, where that tells them
 pub record SourceBook : Type 0 where
   pub db : Db
   pub table : TableId
   pub newest : Content
+  pub held : Option Content
 
 -- a content that was read, and whether it is known to be the newest one
 pub record Fetched : Type 0 where

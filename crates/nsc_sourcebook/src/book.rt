@@ -93,7 +93,7 @@ impl<F: FileSet + Drop, A: Answerer> Model for SourceBook<F, A> {
 
     ghost Value = { SourceBook };
 
-    ghost view = { λ b. record { db = b.db; table = b.pass.table; newest = A.prepared_from (arc_value b.ready) } };
+    ghost view = { λ b. record { db = b.db; table = b.pass.table; newest = A.prepared_from (arc_value b.ready); held = F.held b.files } };
 
     ghost invariant = { λ b. version_in b.pass.seen b.version ≡ Some (A.prepared_from (arc_value b.ready)) };
 }
@@ -110,6 +110,7 @@ impl<F: FileSet + Drop, A: Answerer> SourceBook<F, A> {
     ) -> Result<(SourceBook<F, A>, Writer, Pass), PollFault>
         requires { layout.arena ≤ most_words }
         ensures book { IfOk result (λ r. (r.0.db ≡ db) × (r.0.table ≡ r.2.table)) }
+        ensures held { IfOk result (λ r. (r.0.held ≡ F.held files.old) × (F.held files.new ≡ F.held files.old)) }
         ensures writer { IfOk result (λ r. r.1 ≡ record { table = r.2.table; layout = layout; seen = record_of.Change 0 r.0.newest ∷ []; cache = new_cache r.0.newest; hits = record { found = 0; not_found = 0 }; misses = record { found = 0; not_found = 0 } }) }
         ensures pass { IfOk result (λ r. r.2.seen ≡ record_of.Change 0 r.0.newest ∷ []) }
         ensures told { IfOk result (λ r. AreAsTold db (F.latest files.new) r.0.newest) }
@@ -136,7 +137,8 @@ impl<F: FileSet + Drop, A: Answerer> SourceBook<F, A> {
 
     /// A file set that is split from the kept one. Fails only for want of memory.
     pub fn split(&self, alloc: Global) -> Result<F, NoMemory>
-        ensures { IfOk result (λ set. F.faults set ≡ 0) }
+        ensures calm { IfOk result (λ set. F.faults set ≡ 0) }
+        ensures held { IfOk result (λ set. F.held set ≡ self.now.held) }
     {
         self.files.split(alloc)
     }

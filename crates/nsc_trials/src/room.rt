@@ -1,4 +1,4 @@
-ghost use Rattle.std.specs.Prelude.{◌≡◌};
+ghost use Rattle.std.specs.Prelude.{◌≡◌, None};
 ghost use Rattle.nsc_model.specs.declared.kind.Db.TheVariants as db;
 ghost use Rattle.nsc_model.specs.Settings.{settings_of};
 
@@ -25,6 +25,7 @@ pub fn done_in<B: Room + Send, R: Threads + Wait + Clock + Clone + Drop + Send +
     requires conf { conf.now ≡ B.conf }
     requires settings { (opened.settings ≡ settings_of conf.now opened.db) × (opened.reloads ≡ conf.now.reloads) }
     requires users { opened.db ≡ db.Passwd }
+    requires held { B.held ≡ None }
 {
     match opened.enter::<B>() {
         Ok((database, pass)) => task

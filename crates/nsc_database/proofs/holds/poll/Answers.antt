@@ -10,6 +10,8 @@ use Rattle.nsc_model.specs.Stores.{IsSpent}
 use Rattle.nsc_database.specs.Holds.{IsPolled}
 use Rattle.nsc_database.proofs.Shown.{invalidations_on, is_polled, is_spent, polls_looks, spent_stays, stamp_epoch}
 use Rattle.nsc_database.proofs.Rests.{rests_polled, rests_same, rests_through}
+use Rattle.nsc_database.specs.Steady.{HasOne, IsStill}
+use Rattle.nsc_database.proofs.Steady.{one_of_still, still_polled}
 use Rattle.nsc_database.proofs.holds.poll.Goals as goal
 
 pub poll-requires-clause-epoch : goal.poll-requires-clause-epoch
@@ -71,3 +73,11 @@ pub returns-in-Err-clause-rests : goal.returns-in-Err-clause-rests
 returns-in-Err-clause-rests g c =
     let stays = spent_stays c.args.fetched.content c.args.epoch c.show.new.self c.poll.new.writer c.in-Err.spent c.in-Err.ensures.polls.0 in
     rests_same c.args.writer.now c.poll.new.writer (stays ∙ c.show.ensures.same)
+
+pub returns-in-Ok-clause-steady : goal.returns-in-Ok-clause-steady
+returns-in-Ok-clause-steady g c files which s part =
+    let w = c.show.new.self in
+    let w' = c.poll.new.writer in
+    let still = subst (λ (x : Writer). IsStill files which x.cache) (sym c.show.ensures.same) s in
+    subst (HasOne files which) (sym (ap (λ (q : Pass). q.seen) c.show-in-Ok.ensures.pass))
+    (one_of_still files which w'.seen w'.cache c.learn-in-Ok.ensures.told (still_polled c.args.fetched.content files which c.args.epoch w w' c.in-Ok.polled.stamp c.in-Ok.ensures.polls.0 still part))

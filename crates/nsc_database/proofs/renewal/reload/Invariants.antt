@@ -1,5 +1,6 @@
 use Rattle.nsc_database.specs.Rests.{Rests}
+use Rattle.nsc_database.specs.Steady.{KeepsVersion}
 use Rattle.nsc_database.proofs.renewal.reload.Given as goal
 
 abbrev pub invariant-loop-at : goal.invariant-loop-at
-invariant-loop-at l = Rests l.initial.writer l.writer
+invariant-loop-at l = Rests l.initial.writer l.writer × KeepsVersion l.initial.writer.cache l.writer.cache

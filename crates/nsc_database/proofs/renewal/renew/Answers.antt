@@ -8,9 +8,11 @@ use Rattle.nsc_writer.specs.Writer.{Writer}
 use Rattle.nsc_writer.proofs.Later.{end_on, prefix_through}
 use Rattle.nsc_database.specs.Rests.{IsPacked, Keeps}
 use Rattle.nsc_database.specs.Ticks.{AreAnew, IsRenewed}
-use Rattle.nsc_database.proofs.Pruning.{all_due_on, anew_marked}
+use Rattle.nsc_database.proofs.Pruning.{anew_marked}
 use Rattle.nsc_database.proofs.Shown.{invalidations_on}
-use Rattle.nsc_database.proofs.Renewed.{all_over, anew_on, swept_leaves, swept_spent, swept_unmoved}
+use Rattle.nsc_database.proofs.Renewed.{all_over, anew_on, begun, begun_leaves, begun_spent, swept_unmoved}
+use Rattle.nsc_database.specs.Steady.{HasOne, IsStill, KeepsVersion}
+use Rattle.nsc_database.proofs.Steady.{keeps_same, keeps_through, one_of_still, still_kept, version_pruned, version_swept}
 use Rattle.nsc_database.proofs.renewal.renew.Goals as goal
 
 pub returns-then-epoch-clause-over : goal.returns-then-epoch-clause-over
@@ -25,159 +27,90 @@ returns-then-epoch-clause-over c =
 pub end_due-requires : goal.end_due-requires
 end_due-requires c =
     let w = c.show.new.self in
-    let before = subst (λ (x : Writer). IsPrefix c.args.pass.now.seen x.seen) (sym c.show.ensures.same) c.show.ensures.before in
-    let settings = c.requires.due.0 in
-    let limit = c.requires.due.1 in
-    let ticked = c.requires.due.2 in
-    let due = all_due_on limit c.args.now c.args.pass.now.seen w.seen c.args.due.now before c.requires.due.3 in
-    let keeps = subst (Keeps settings limit ticked) (sym c.show.ensures.same) c.requires.due.4 in
-    let packed = subst IsPacked (sym c.show.ensures.same) c.requires.packed in
-    all_over limit c.args.now w.seen c.args.due.now due
+    let b = begun c.requires.due.0 c.requires.due.1 c.args.now c.requires.due.2 c.args.due.now c.args.pass.now.seen c.args.writer.now w c.show.ensures.same c.show.ensures.before c.requires.due.3 c.requires.due.4 c.requires.packed in
+    all_over c.requires.due.1 c.args.now w.seen c.args.due.now b.due
 
 pub reload-requires-clause-legal : goal.reload-requires-clause-legal
 reload-requires-clause-legal c =
     let w = c.show.new.self in
-    let before = subst (λ (x : Writer). IsPrefix c.args.pass.now.seen x.seen) (sym c.show.ensures.same) c.show.ensures.before in
-    let settings = c.requires.due.0 in
-    let limit = c.requires.due.1 in
-    let ticked = c.requires.due.2 in
-    let due = all_due_on limit c.args.now c.args.pass.now.seen w.seen c.args.due.now before c.requires.due.3 in
-    let keeps = subst (Keeps settings limit ticked) (sym c.show.ensures.same) c.requires.due.4 in
-    let packed = subst IsPacked (sym c.show.ensures.same) c.requires.packed in
-    let s = swept_leaves settings limit c.args.now ticked c.args.due.now w c.end_due.new.writer due c.learn.ensures.told keeps packed c.in-Ok.ensures.swept in
+    let b = begun c.requires.due.0 c.requires.due.1 c.args.now c.requires.due.2 c.args.due.now c.args.pass.now.seen c.args.writer.now w c.show.ensures.same c.show.ensures.before c.requires.due.3 c.requires.due.4 c.requires.packed in
+    let s = begun_leaves w c.end_due.new.writer b c.learn.ensures.told c.in-Ok.ensures.swept in
     s.legal
 
 pub reload-requires-clause-due : goal.reload-requires-clause-due
 reload-requires-clause-due c =
     let w = c.show.new.self in
-    let before = subst (λ (x : Writer). IsPrefix c.args.pass.now.seen x.seen) (sym c.show.ensures.same) c.show.ensures.before in
-    let settings = c.requires.due.0 in
-    let limit = c.requires.due.1 in
-    let ticked = c.requires.due.2 in
-    let due = all_due_on limit c.args.now c.args.pass.now.seen w.seen c.args.due.now before c.requires.due.3 in
-    let keeps = subst (Keeps settings limit ticked) (sym c.show.ensures.same) c.requires.due.4 in
-    let packed = subst IsPacked (sym c.show.ensures.same) c.requires.packed in
-    let s = swept_leaves settings limit c.args.now ticked c.args.due.now w c.end_due.new.writer due c.learn.ensures.told keeps packed c.in-Ok.ensures.swept in
+    let b = begun c.requires.due.0 c.requires.due.1 c.args.now c.requires.due.2 c.args.due.now c.args.pass.now.seen c.args.writer.now w c.show.ensures.same c.show.ensures.before c.requires.due.3 c.requires.due.4 c.requires.packed in
+    let s = begun_leaves w c.end_due.new.writer b c.learn.ensures.told c.in-Ok.ensures.swept in
     subst (All (IsRenewed c.end_due.new.writer.seen)) (sym c.in-Ok.ensures.marked) s.renewed
 
 pub reload-requires-clause-loads : goal.reload-requires-clause-loads
 reload-requires-clause-loads c =
     let w = c.show.new.self in
-    let before = subst (λ (x : Writer). IsPrefix c.args.pass.now.seen x.seen) (sym c.show.ensures.same) c.show.ensures.before in
-    let settings = c.requires.due.0 in
-    let limit = c.requires.due.1 in
-    let ticked = c.requires.due.2 in
-    let due = all_due_on limit c.args.now c.args.pass.now.seen w.seen c.args.due.now before c.requires.due.3 in
-    let keeps = subst (Keeps settings limit ticked) (sym c.show.ensures.same) c.requires.due.4 in
-    let packed = subst IsPacked (sym c.show.ensures.same) c.requires.packed in
-    let s = swept_leaves settings limit c.args.now ticked c.args.due.now w c.end_due.new.writer due c.learn.ensures.told keeps packed c.in-Ok.ensures.swept in
-    let after = prefix_through c.args.pass.now.seen w.seen c.end_due.new.writer.seen before s.on in
+    let b = begun c.requires.due.0 c.requires.due.1 c.args.now c.requires.due.2 c.args.due.now c.args.pass.now.seen c.args.writer.now w c.show.ensures.same c.show.ensures.before c.requires.due.3 c.requires.due.4 c.requires.packed in
+    let s = begun_leaves w c.end_due.new.writer b c.learn.ensures.told c.in-Ok.ensures.swept in
+    let after = prefix_through c.args.pass.now.seen w.seen c.end_due.new.writer.seen b.before s.on in
     let anew = anew_on c.args.pass.now.seen c.end_due.new.writer.seen c.args.due.now c.args.loads.now c.requires.legal s.legal after c.requires.loads in
     subst (λ (ds : List Due). AreAnew c.end_due.new.writer.seen ds c.args.loads.now) (sym c.in-Ok.ensures.marked) (anew_marked c.args.now c.end_due.new.writer.seen c.args.due.now w c.args.loads.now anew)
 
 pub show-requires-in-Ok : goal.show-requires-in-Ok
 show-requires-in-Ok c =
     let w = c.show.new.self in
-    let before = subst (λ (x : Writer). IsPrefix c.args.pass.now.seen x.seen) (sym c.show.ensures.same) c.show.ensures.before in
-    let settings = c.requires.due.0 in
-    let limit = c.requires.due.1 in
-    let ticked = c.requires.due.2 in
-    let due = all_due_on limit c.args.now c.args.pass.now.seen w.seen c.args.due.now before c.requires.due.3 in
-    let keeps = subst (Keeps settings limit ticked) (sym c.show.ensures.same) c.requires.due.4 in
-    let packed = subst IsPacked (sym c.show.ensures.same) c.requires.packed in
-    let s = swept_leaves settings limit c.args.now ticked c.args.due.now w c.end_due.new.writer due c.learn.ensures.told keeps packed c.in-Ok.ensures.swept in
-    ap (λ (p : Pass). p.table) c.show.ensures.pass ∙ c.requires.table ∙ sym (c.reload.ensures.table ∙ s.table ∙ ap (λ (x : Writer). x.table) c.show.ensures.same)
+    let b = begun c.requires.due.0 c.requires.due.1 c.args.now c.requires.due.2 c.args.due.now c.args.pass.now.seen c.args.writer.now w c.show.ensures.same c.show.ensures.before c.requires.due.3 c.requires.due.4 c.requires.packed in
+    let s = begun_leaves w c.end_due.new.writer b c.learn.ensures.told c.in-Ok.ensures.swept in
+    ap (λ (p : Pass). p.table) c.show.ensures.pass ∙ c.requires.table ∙ sym (c.reload.ensures.rests.table ∙ s.table ∙ ap (λ (x : Writer). x.table) c.show.ensures.same)
 
 pub show-requires-in-Err : goal.show-requires-in-Err
 show-requires-in-Err c =
     let w = c.show.new.self in
-    let before = subst (λ (x : Writer). IsPrefix c.args.pass.now.seen x.seen) (sym c.show.ensures.same) c.show.ensures.before in
-    let settings = c.requires.due.0 in
-    let limit = c.requires.due.1 in
-    let ticked = c.requires.due.2 in
-    let due = all_due_on limit c.args.now c.args.pass.now.seen w.seen c.args.due.now before c.requires.due.3 in
-    let keeps = subst (Keeps settings limit ticked) (sym c.show.ensures.same) c.requires.due.4 in
-    let packed = subst IsPacked (sym c.show.ensures.same) c.requires.packed in
-    let s = swept_spent settings limit c.args.now ticked c.args.due.now w c.end_due.new.writer due c.learn.ensures.told keeps packed c.in-Err.ensures.spent.2 c.in-Err.ensures.spent.1 in
+    let b = begun c.requires.due.0 c.requires.due.1 c.args.now c.requires.due.2 c.args.due.now c.args.pass.now.seen c.args.writer.now w c.show.ensures.same c.show.ensures.before c.requires.due.3 c.requires.due.4 c.requires.packed in
+    let s = begun_spent w c.end_due.new.writer b c.learn.ensures.told c.in-Err.ensures.spent.2 c.in-Err.ensures.spent.1 in
     ap (λ (p : Pass). p.table) c.show.ensures.pass ∙ c.requires.table ∙ sym (s.table ∙ ap (λ (x : Writer). x.table) c.show.ensures.same)
 
 pub returns-in-Ok-clause-writer : goal.returns-in-Ok-clause-writer
 returns-in-Ok-clause-writer c =
     let w = c.show.new.self in
-    let before = subst (λ (x : Writer). IsPrefix c.args.pass.now.seen x.seen) (sym c.show.ensures.same) c.show.ensures.before in
-    let settings = c.requires.due.0 in
-    let limit = c.requires.due.1 in
-    let ticked = c.requires.due.2 in
-    let due = all_due_on limit c.args.now c.args.pass.now.seen w.seen c.args.due.now before c.requires.due.3 in
-    let keeps = subst (Keeps settings limit ticked) (sym c.show.ensures.same) c.requires.due.4 in
-    let packed = subst IsPacked (sym c.show.ensures.same) c.requires.packed in
-    let s = swept_leaves settings limit c.args.now ticked c.args.due.now w c.end_due.new.writer due c.learn.ensures.told keeps packed c.in-Ok.ensures.swept in
+    let b = begun c.requires.due.0 c.requires.due.1 c.args.now c.requires.due.2 c.args.due.now c.args.pass.now.seen c.args.writer.now w c.show.ensures.same c.show.ensures.before c.requires.due.3 c.requires.due.4 c.requires.packed in
+    let s = begun_leaves w c.end_due.new.writer b c.learn.ensures.told c.in-Ok.ensures.swept in
     let first = ap (λ (x : Writer). x.table) c.show.ensures.same in
     let layout = ap (λ (x : Writer). x.layout) c.show.ensures.same in
     let last = c.show-in-Ok.ensures.same in
-    (ap (λ (x : Writer). x.table) last ∙ c.reload.ensures.table ∙ s.table ∙ first, ap (λ (x : Writer). x.layout) last ∙ c.reload.ensures.layout ∙ s.layout ∙ layout)
+    (ap (λ (x : Writer). x.table) last ∙ c.reload.ensures.rests.table ∙ s.table ∙ first, ap (λ (x : Writer). x.layout) last ∙ c.reload.ensures.rests.layout ∙ s.layout ∙ layout)
 
 pub returns-in-Ok-clause-before : goal.returns-in-Ok-clause-before
 returns-in-Ok-clause-before c =
     let w = c.show.new.self in
-    let before = subst (λ (x : Writer). IsPrefix c.args.pass.now.seen x.seen) (sym c.show.ensures.same) c.show.ensures.before in
-    let settings = c.requires.due.0 in
-    let limit = c.requires.due.1 in
-    let ticked = c.requires.due.2 in
-    let due = all_due_on limit c.args.now c.args.pass.now.seen w.seen c.args.due.now before c.requires.due.3 in
-    let keeps = subst (Keeps settings limit ticked) (sym c.show.ensures.same) c.requires.due.4 in
-    let packed = subst IsPacked (sym c.show.ensures.same) c.requires.packed in
-    let s = swept_leaves settings limit c.args.now ticked c.args.due.now w c.end_due.new.writer due c.learn.ensures.told keeps packed c.in-Ok.ensures.swept in
-    let after = prefix_through c.args.pass.now.seen c.end_due.new.writer.seen c.reload.new.writer.seen (prefix_through c.args.pass.now.seen w.seen c.end_due.new.writer.seen before s.on) c.reload.ensures.on in
+    let b = begun c.requires.due.0 c.requires.due.1 c.args.now c.requires.due.2 c.args.due.now c.args.pass.now.seen c.args.writer.now w c.show.ensures.same c.show.ensures.before c.requires.due.3 c.requires.due.4 c.requires.packed in
+    let s = begun_leaves w c.end_due.new.writer b c.learn.ensures.told c.in-Ok.ensures.swept in
+    let after = prefix_through c.args.pass.now.seen c.end_due.new.writer.seen c.reload.new.writer.seen (prefix_through c.args.pass.now.seen w.seen c.end_due.new.writer.seen b.before s.on) c.reload.ensures.rests.on in
     subst (IsPrefix c.args.pass.now.seen) (sym (ap (λ (p : Pass). p.seen) c.show-in-Ok.ensures.pass)) after
 
 pub returns-in-Ok-clause-keeps : goal.returns-in-Ok-clause-keeps
 returns-in-Ok-clause-keeps c settings limit ticked all k =
     let w = c.show.new.self in
-    let before = subst (λ (x : Writer). IsPrefix c.args.pass.now.seen x.seen) (sym c.show.ensures.same) c.show.ensures.before in
-    let due = all_due_on limit c.args.now c.args.pass.now.seen w.seen c.args.due.now before all in
-    let keeps = subst (Keeps settings limit ticked) (sym c.show.ensures.same) k in
-    let packed = subst IsPacked (sym c.show.ensures.same) c.requires.packed in
-    let s = swept_leaves settings limit c.args.now ticked c.args.due.now w c.end_due.new.writer due c.learn.ensures.told keeps packed c.in-Ok.ensures.swept in
-    subst (Keeps settings limit ticked) (sym c.show-in-Ok.ensures.same) (c.reload.ensures.keeps settings limit ticked s.keeps)
+    let b = begun settings limit c.args.now ticked c.args.due.now c.args.pass.now.seen c.args.writer.now w c.show.ensures.same c.show.ensures.before all k c.requires.packed in
+    let s = begun_leaves w c.end_due.new.writer b c.learn.ensures.told c.in-Ok.ensures.swept in
+    subst (Keeps settings limit ticked) (sym c.show-in-Ok.ensures.same) (c.reload.ensures.rests.keeps settings limit ticked s.keeps)
 
 pub returns-in-Ok-clause-packed : goal.returns-in-Ok-clause-packed
 returns-in-Ok-clause-packed c =
     let w = c.show.new.self in
-    let before = subst (λ (x : Writer). IsPrefix c.args.pass.now.seen x.seen) (sym c.show.ensures.same) c.show.ensures.before in
-    let settings = c.requires.due.0 in
-    let limit = c.requires.due.1 in
-    let ticked = c.requires.due.2 in
-    let due = all_due_on limit c.args.now c.args.pass.now.seen w.seen c.args.due.now before c.requires.due.3 in
-    let keeps = subst (Keeps settings limit ticked) (sym c.show.ensures.same) c.requires.due.4 in
-    let packed = subst IsPacked (sym c.show.ensures.same) c.requires.packed in
-    let s = swept_leaves settings limit c.args.now ticked c.args.due.now w c.end_due.new.writer due c.learn.ensures.told keeps packed c.in-Ok.ensures.swept in
-    subst IsPacked (sym c.show-in-Ok.ensures.same) (c.reload.ensures.packed s.packed)
+    let b = begun c.requires.due.0 c.requires.due.1 c.args.now c.requires.due.2 c.args.due.now c.args.pass.now.seen c.args.writer.now w c.show.ensures.same c.show.ensures.before c.requires.due.3 c.requires.due.4 c.requires.packed in
+    let s = begun_leaves w c.end_due.new.writer b c.learn.ensures.told c.in-Ok.ensures.swept in
+    subst IsPacked (sym c.show-in-Ok.ensures.same) (c.reload.ensures.rests.packed s.packed)
 
 pub returns-in-Ok-clause-over : goal.returns-in-Ok-clause-over
 returns-in-Ok-clause-over c =
     let w = c.show.new.self in
-    let before = subst (λ (x : Writer). IsPrefix c.args.pass.now.seen x.seen) (sym c.show.ensures.same) c.show.ensures.before in
-    let settings = c.requires.due.0 in
-    let limit = c.requires.due.1 in
-    let ticked = c.requires.due.2 in
-    let due = all_due_on limit c.args.now c.args.pass.now.seen w.seen c.args.due.now before c.requires.due.3 in
-    let keeps = subst (Keeps settings limit ticked) (sym c.show.ensures.same) c.requires.due.4 in
-    let packed = subst IsPacked (sym c.show.ensures.same) c.requires.packed in
-    let s = swept_leaves settings limit c.args.now ticked c.args.due.now w c.end_due.new.writer due c.learn.ensures.told keeps packed c.in-Ok.ensures.swept in
-    inr (λ n has. subst (λ (h : List Record). HasEnd h n) (sym (ap (λ (p : Pass). p.seen) c.show-in-Ok.ensures.pass)) (end_on c.end_due.new.writer.seen c.reload.new.writer.seen n c.reload.ensures.on (s.gone n has)))
+    let b = begun c.requires.due.0 c.requires.due.1 c.args.now c.requires.due.2 c.args.due.now c.args.pass.now.seen c.args.writer.now w c.show.ensures.same c.show.ensures.before c.requires.due.3 c.requires.due.4 c.requires.packed in
+    let s = begun_leaves w c.end_due.new.writer b c.learn.ensures.told c.in-Ok.ensures.swept in
+    inr (λ n has. subst (λ (h : List Record). HasEnd h n) (sym (ap (λ (p : Pass). p.seen) c.show-in-Ok.ensures.pass)) (end_on c.end_due.new.writer.seen c.reload.new.writer.seen n c.reload.ensures.rests.on (s.gone n has)))
 
 pub returns-in-Err-clause-writer : goal.returns-in-Err-clause-writer
 returns-in-Err-clause-writer c =
     let w = c.show.new.self in
-    let before = subst (λ (x : Writer). IsPrefix c.args.pass.now.seen x.seen) (sym c.show.ensures.same) c.show.ensures.before in
-    let settings = c.requires.due.0 in
-    let limit = c.requires.due.1 in
-    let ticked = c.requires.due.2 in
-    let due = all_due_on limit c.args.now c.args.pass.now.seen w.seen c.args.due.now before c.requires.due.3 in
-    let keeps = subst (Keeps settings limit ticked) (sym c.show.ensures.same) c.requires.due.4 in
-    let packed = subst IsPacked (sym c.show.ensures.same) c.requires.packed in
-    let s = swept_spent settings limit c.args.now ticked c.args.due.now w c.end_due.new.writer due c.learn.ensures.told keeps packed c.in-Err.ensures.spent.2 c.in-Err.ensures.spent.1 in
+    let b = begun c.requires.due.0 c.requires.due.1 c.args.now c.requires.due.2 c.args.due.now c.args.pass.now.seen c.args.writer.now w c.show.ensures.same c.show.ensures.before c.requires.due.3 c.requires.due.4 c.requires.packed in
+    let s = begun_spent w c.end_due.new.writer b c.learn.ensures.told c.in-Err.ensures.spent.2 c.in-Err.ensures.spent.1 in
     let first = ap (λ (x : Writer). x.table) c.show.ensures.same in
     let layout = ap (λ (x : Writer). x.layout) c.show.ensures.same in
     let last = c.show-in-Err.ensures.same in
@@ -186,48 +119,59 @@ returns-in-Err-clause-writer c =
 pub returns-in-Err-clause-before : goal.returns-in-Err-clause-before
 returns-in-Err-clause-before c =
     let w = c.show.new.self in
-    let before = subst (λ (x : Writer). IsPrefix c.args.pass.now.seen x.seen) (sym c.show.ensures.same) c.show.ensures.before in
-    let settings = c.requires.due.0 in
-    let limit = c.requires.due.1 in
-    let ticked = c.requires.due.2 in
-    let due = all_due_on limit c.args.now c.args.pass.now.seen w.seen c.args.due.now before c.requires.due.3 in
-    let keeps = subst (Keeps settings limit ticked) (sym c.show.ensures.same) c.requires.due.4 in
-    let packed = subst IsPacked (sym c.show.ensures.same) c.requires.packed in
-    let s = swept_spent settings limit c.args.now ticked c.args.due.now w c.end_due.new.writer due c.learn.ensures.told keeps packed c.in-Err.ensures.spent.2 c.in-Err.ensures.spent.1 in
-    subst (IsPrefix c.args.pass.now.seen) (sym (ap (λ (p : Pass). p.seen) c.show-in-Err.ensures.pass)) (prefix_through c.args.pass.now.seen w.seen c.end_due.new.writer.seen before s.on)
+    let b = begun c.requires.due.0 c.requires.due.1 c.args.now c.requires.due.2 c.args.due.now c.args.pass.now.seen c.args.writer.now w c.show.ensures.same c.show.ensures.before c.requires.due.3 c.requires.due.4 c.requires.packed in
+    let s = begun_spent w c.end_due.new.writer b c.learn.ensures.told c.in-Err.ensures.spent.2 c.in-Err.ensures.spent.1 in
+    subst (IsPrefix c.args.pass.now.seen) (sym (ap (λ (p : Pass). p.seen) c.show-in-Err.ensures.pass)) (prefix_through c.args.pass.now.seen w.seen c.end_due.new.writer.seen b.before s.on)
 
 pub returns-in-Err-clause-keeps : goal.returns-in-Err-clause-keeps
 returns-in-Err-clause-keeps c settings limit ticked all k =
     let w = c.show.new.self in
-    let before = subst (λ (x : Writer). IsPrefix c.args.pass.now.seen x.seen) (sym c.show.ensures.same) c.show.ensures.before in
-    let due = all_due_on limit c.args.now c.args.pass.now.seen w.seen c.args.due.now before all in
-    let keeps = subst (Keeps settings limit ticked) (sym c.show.ensures.same) k in
-    let packed = subst IsPacked (sym c.show.ensures.same) c.requires.packed in
-    let s = swept_spent settings limit c.args.now ticked c.args.due.now w c.end_due.new.writer due c.learn.ensures.told keeps packed c.in-Err.ensures.spent.2 c.in-Err.ensures.spent.1 in
+    let b = begun settings limit c.args.now ticked c.args.due.now c.args.pass.now.seen c.args.writer.now w c.show.ensures.same c.show.ensures.before all k c.requires.packed in
+    let s = begun_spent w c.end_due.new.writer b c.learn.ensures.told c.in-Err.ensures.spent.2 c.in-Err.ensures.spent.1 in
     subst (Keeps settings limit ticked) (sym c.show-in-Err.ensures.same) s.keeps
 
 pub returns-in-Err-clause-packed : goal.returns-in-Err-clause-packed
 returns-in-Err-clause-packed c =
     let w = c.show.new.self in
-    let before = subst (λ (x : Writer). IsPrefix c.args.pass.now.seen x.seen) (sym c.show.ensures.same) c.show.ensures.before in
-    let settings = c.requires.due.0 in
-    let limit = c.requires.due.1 in
-    let ticked = c.requires.due.2 in
-    let due = all_due_on limit c.args.now c.args.pass.now.seen w.seen c.args.due.now before c.requires.due.3 in
-    let keeps = subst (Keeps settings limit ticked) (sym c.show.ensures.same) c.requires.due.4 in
-    let packed = subst IsPacked (sym c.show.ensures.same) c.requires.packed in
-    let s = swept_spent settings limit c.args.now ticked c.args.due.now w c.end_due.new.writer due c.learn.ensures.told keeps packed c.in-Err.ensures.spent.2 c.in-Err.ensures.spent.1 in
+    let b = begun c.requires.due.0 c.requires.due.1 c.args.now c.requires.due.2 c.args.due.now c.args.pass.now.seen c.args.writer.now w c.show.ensures.same c.show.ensures.before c.requires.due.3 c.requires.due.4 c.requires.packed in
+    let s = begun_spent w c.end_due.new.writer b c.learn.ensures.told c.in-Err.ensures.spent.2 c.in-Err.ensures.spent.1 in
     subst IsPacked (sym c.show-in-Err.ensures.same) s.packed
 
 pub returns-in-Err-clause-spent : goal.returns-in-Err-clause-spent
 returns-in-Err-clause-spent c =
     let w = c.show.new.self in
-    let before = subst (λ (x : Writer). IsPrefix c.args.pass.now.seen x.seen) (sym c.show.ensures.same) c.show.ensures.before in
-    let settings = c.requires.due.0 in
-    let limit = c.requires.due.1 in
-    let ticked = c.requires.due.2 in
-    let due = all_due_on limit c.args.now c.args.pass.now.seen w.seen c.args.due.now before c.requires.due.3 in
-    let keeps = subst (Keeps settings limit ticked) (sym c.show.ensures.same) c.requires.due.4 in
-    let packed = subst IsPacked (sym c.show.ensures.same) c.requires.packed in
-    let s = swept_spent settings limit c.args.now ticked c.args.due.now w c.end_due.new.writer due c.learn.ensures.told keeps packed c.in-Err.ensures.spent.2 c.in-Err.ensures.spent.1 in
+    let b = begun c.requires.due.0 c.requires.due.1 c.args.now c.requires.due.2 c.args.due.now c.args.pass.now.seen c.args.writer.now w c.show.ensures.same c.show.ensures.before c.requires.due.3 c.requires.due.4 c.requires.packed in
+    let s = begun_spent w c.end_due.new.writer b c.learn.ensures.told c.in-Err.ensures.spent.2 c.in-Err.ensures.spent.1 in
     subst (λ (h : List Record). IsUnmoved h c.in-Err.spent.count) (sym (ap (λ (p : Pass). p.seen) c.show-in-Err.ensures.pass)) (swept_unmoved c.end_due.new.writer c.in-Err.spent.count s.packed c.in-Err.ensures.spent.1 c.in-Err.ensures.spent.0)
+
+pub returns-in-Ok-clause-version : goal.returns-in-Ok-clause-version
+returns-in-Ok-clause-version c =
+    let w = c.show.new.self in
+    keeps_through c.args.writer.now.cache w.cache c.show-in-Ok.new.self.cache (keeps_same c.args.writer.now w c.show.ensures.same)
+    (keeps_through w.cache c.reload.new.writer.cache c.show-in-Ok.new.self.cache
+    (keeps_through w.cache c.end_due.new.writer.cache c.reload.new.writer.cache (version_swept c.args.now c.args.due.now w c.end_due.new.writer c.in-Ok.ensures.swept) c.reload.ensures.version)
+    (keeps_same c.reload.new.writer c.show-in-Ok.new.self c.show-in-Ok.ensures.same))
+
+pub returns-in-Ok-clause-steady : goal.returns-in-Ok-clause-steady
+returns-in-Ok-clause-steady c files which s =
+    let w = c.show.new.self in
+    let w' = c.reload.new.writer in
+    let first = subst (λ (x : Writer). IsStill files which x.cache) (sym c.show.ensures.same) s in
+    let last = still_kept files which c.end_due.new.writer.cache w'.cache c.reload.ensures.version (still_kept files which w.cache c.end_due.new.writer.cache (version_swept c.args.now c.args.due.now w c.end_due.new.writer c.in-Ok.ensures.swept) first) in
+    subst (HasOne files which) (sym (ap (λ (p : Pass). p.seen) c.show-in-Ok.ensures.pass)) (one_of_still files which w'.seen w'.cache c.learn-in-Ok.ensures.told last)
+
+pub returns-in-Err-clause-version : goal.returns-in-Err-clause-version
+returns-in-Err-clause-version c =
+    let w = c.show.new.self in
+    keeps_through c.args.writer.now.cache w.cache c.show-in-Err.new.self.cache (keeps_same c.args.writer.now w c.show.ensures.same)
+    (keeps_through w.cache c.end_due.new.writer.cache c.show-in-Err.new.self.cache
+    (subst (λ (x : Writer). KeepsVersion w.cache x.cache) (sym c.in-Err.ensures.spent.2) (version_pruned c.args.now c.args.due.now w))
+    (keeps_same c.end_due.new.writer c.show-in-Err.new.self c.show-in-Err.ensures.same))
+
+pub returns-in-Err-clause-steady : goal.returns-in-Err-clause-steady
+returns-in-Err-clause-steady c files which s =
+    let w = c.show.new.self in
+    let w' = c.end_due.new.writer in
+    let first = subst (λ (x : Writer). IsStill files which x.cache) (sym c.show.ensures.same) s in
+    let last = still_kept files which w.cache w'.cache (subst (λ (x : Writer). KeepsVersion w.cache x.cache) (sym c.in-Err.ensures.spent.2) (version_pruned c.args.now c.args.due.now w)) first in
+    subst (HasOne files which) (sym (ap (λ (p : Pass). p.seen) c.show-in-Err.ensures.pass)) (one_of_still files which w'.seen w'.cache c.learn-in-Err.ensures.told last)

@@ -3,7 +3,7 @@ use Rattle.std.proofs.lemmas.Bool.{OnTrue_from}
 use Rattle.nsc_model.specs.History.{NoneLive}
 use Rattle.nsc_writer.proofs.Later.{prefix_through}
 use Rattle.nsc_database.specs.Ticks.{AreListed}
-use Rattle.nsc_database.proofs.Ticked.{Ticking, emptied_over, listed_over, noted_low, since_low, version_low}
+use Rattle.nsc_database.proofs.Ticked.{emptied_over, listed_over, noted_low, since_low, ticking, version_low}
 use Rattle.nsc_database.proofs.base.Base.tick.Goals as goal
 
 pub returns-in-Err-clause-before : goal.returns-in-Err-clause-before
@@ -25,16 +25,7 @@ returns-in-Emptied-clause-ticked g c = OnTrue_from c.args.self.now.settings.enab
     let noted = c.note-epoch.new.pass.pass.seen in
     let mid = c.poll.new.pass.pass.seen in
     let after = c.check.new.pass.pass.seen in
-    let t : Ticking seen noted mid after c.note-epoch.result c.in-Ok.polled = record {
-      before = c.note-epoch.ensures.before;
-      legal = c.note-epoch.ensures.legal;
-      epoch_is = c.note-epoch.ensures.noted;
-      to_mid = c.in-Ok.ensures.before;
-      legal_mid = c.in-Ok.ensures.legal;
-      is_polled = c.in-Ok.ensures.polled;
-      to_after = c.in-Ok-check.ensures.before;
-      legal_after = c.in-Ok-check.ensures.legal;
-    } in
+    let t = ticking seen noted mid after c.note-epoch.result c.in-Ok.polled c.note-epoch.ensures.before c.note-epoch.ensures.legal c.note-epoch.ensures.noted c.in-Ok.ensures.before c.in-Ok.ensures.legal c.in-Ok.ensures.polled c.in-Ok-check.ensures.before c.in-Ok-check.ensures.legal in
     let none : NoneLive after = rw c.in-Emptied.is at c.in-Ok-check.ensures.checked in
     emptied_over g.D.OfDb.db g.F.FileSet.reads g.F.FileSet.latest c.args.self.now.settings c.args.self.now.reloads c.args.now seen noted mid after c.note-epoch.result c.in-Ok.polled c.args.pass.now.files c.note-epoch.new.pass.files c.poll.new.pass.files c.check.new.pass.files t
     c.note-epoch.ensures.files c.in-Ok-check.ensures.files c.in-Ok.ensures.read c.in-Ok.ensures.told none c.in-Ok-check.ensures.reloaded)
@@ -45,16 +36,7 @@ renew-requires-clause-noted g c =
     let noted = c.note-epoch.new.pass.pass.seen in
     let mid = c.poll.new.pass.pass.seen in
     let after = c.check.new.pass.pass.seen in
-    let t : Ticking seen noted mid after c.note-epoch.result c.in-Ok.polled = record {
-      before = c.note-epoch.ensures.before;
-      legal = c.note-epoch.ensures.legal;
-      epoch_is = c.note-epoch.ensures.noted;
-      to_mid = c.in-Ok.ensures.before;
-      legal_mid = c.in-Ok.ensures.legal;
-      is_polled = c.in-Ok.ensures.polled;
-      to_after = c.in-Ok-check.ensures.before;
-      legal_after = c.in-Ok-check.ensures.legal;
-    } in
+    let t = ticking seen noted mid after c.note-epoch.result c.in-Ok.polled c.note-epoch.ensures.before c.note-epoch.ensures.legal c.note-epoch.ensures.noted c.in-Ok.ensures.before c.in-Ok.ensures.legal c.in-Ok.ensures.polled c.in-Ok-check.ensures.before c.in-Ok-check.ensures.legal in
     noted_low seen noted mid after c.note-epoch.result c.in-Ok.polled t
 
 pub renew-requires-clause-version : goal.renew-requires-clause-version
@@ -63,16 +45,7 @@ renew-requires-clause-version g c =
     let noted = c.note-epoch.new.pass.pass.seen in
     let mid = c.poll.new.pass.pass.seen in
     let after = c.check.new.pass.pass.seen in
-    let t : Ticking seen noted mid after c.note-epoch.result c.in-Ok.polled = record {
-      before = c.note-epoch.ensures.before;
-      legal = c.note-epoch.ensures.legal;
-      epoch_is = c.note-epoch.ensures.noted;
-      to_mid = c.in-Ok.ensures.before;
-      legal_mid = c.in-Ok.ensures.legal;
-      is_polled = c.in-Ok.ensures.polled;
-      to_after = c.in-Ok-check.ensures.before;
-      legal_after = c.in-Ok-check.ensures.legal;
-    } in
+    let t = ticking seen noted mid after c.note-epoch.result c.in-Ok.polled c.note-epoch.ensures.before c.note-epoch.ensures.legal c.note-epoch.ensures.noted c.in-Ok.ensures.before c.in-Ok.ensures.legal c.in-Ok.ensures.polled c.in-Ok-check.ensures.before c.in-Ok-check.ensures.legal in
     version_low seen noted mid after c.note-epoch.result c.in-Ok.polled t
 
 pub renew-requires-clause-since : goal.renew-requires-clause-since
@@ -81,16 +54,7 @@ renew-requires-clause-since g c =
     let noted = c.note-epoch.new.pass.pass.seen in
     let mid = c.poll.new.pass.pass.seen in
     let after = c.check.new.pass.pass.seen in
-    let t : Ticking seen noted mid after c.note-epoch.result c.in-Ok.polled = record {
-      before = c.note-epoch.ensures.before;
-      legal = c.note-epoch.ensures.legal;
-      epoch_is = c.note-epoch.ensures.noted;
-      to_mid = c.in-Ok.ensures.before;
-      legal_mid = c.in-Ok.ensures.legal;
-      is_polled = c.in-Ok.ensures.polled;
-      to_after = c.in-Ok-check.ensures.before;
-      legal_after = c.in-Ok-check.ensures.legal;
-    } in
+    let t = ticking seen noted mid after c.note-epoch.result c.in-Ok.polled c.note-epoch.ensures.before c.note-epoch.ensures.legal c.note-epoch.ensures.noted c.in-Ok.ensures.before c.in-Ok.ensures.legal c.in-Ok.ensures.polled c.in-Ok-check.ensures.before c.in-Ok-check.ensures.legal in
     since_low seen noted mid after c.note-epoch.result c.in-Ok.polled t
 
 pub returns-in-Ok-renew-clause-before : goal.returns-in-Ok-renew-clause-before
@@ -111,16 +75,7 @@ returns-in-Ok-renew-clause-ticked g c = OnTrue_from c.args.self.now.settings.ena
     let noted = c.note-epoch.new.pass.pass.seen in
     let mid = c.poll.new.pass.pass.seen in
     let after = c.check.new.pass.pass.seen in
-    let t : Ticking seen noted mid after c.note-epoch.result c.in-Ok.polled = record {
-      before = c.note-epoch.ensures.before;
-      legal = c.note-epoch.ensures.legal;
-      epoch_is = c.note-epoch.ensures.noted;
-      to_mid = c.in-Ok.ensures.before;
-      legal_mid = c.in-Ok.ensures.legal;
-      is_polled = c.in-Ok.ensures.polled;
-      to_after = c.in-Ok-check.ensures.before;
-      legal_after = c.in-Ok-check.ensures.legal;
-    } in
+    let t = ticking seen noted mid after c.note-epoch.result c.in-Ok.polled c.note-epoch.ensures.before c.note-epoch.ensures.legal c.note-epoch.ensures.noted c.in-Ok.ensures.before c.in-Ok.ensures.legal c.in-Ok.ensures.polled c.in-Ok-check.ensures.before c.in-Ok-check.ensures.legal in
     let listed : AreListed c.args.self.now.settings c.args.self.now.reloads c.args.now after c.in-Listed.due.items = rw c.in-Listed.is at c.in-Ok-check.ensures.checked in
     listed_over g.D.OfDb.db g.F.FileSet.reads g.F.FileSet.latest c.args.self.now.settings c.args.self.now.reloads c.args.now seen noted mid after c.renew.new.pass.pass.seen c.note-epoch.result c.in-Ok.polled c.in-Listed.due.items
     c.args.pass.now.files c.note-epoch.new.pass.files c.poll.new.pass.files c.renew.new.pass.files t c.note-epoch.ensures.files (c.renew.ensures.files ∙ c.in-Ok-check.ensures.files) c.in-Ok.ensures.read c.in-Ok.ensures.told listed

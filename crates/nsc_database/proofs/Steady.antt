@@ -1,0 +1,160 @@
+-- The one version of a database whose file sets all tell one content.
+use Rattle.std.proofs.Common.{◌≡◌, ◌∙◌, ℕ, ◌+◌, Bool, true, false, cond, eqb, List, [], ◌∷◌, Option, Some, None, Ok, Err, refl, sym, ap, subst, arith, inl, inr}
+use Rattle.std.proofs.lemmas.Bool.{false≢true}
+use Rattle.nsc_model.specs.declared.answer.Request.{Request}
+use Rattle.nsc_model.specs.declared.kind.Db.{Db}
+use Rattle.nsc_model.specs.declared.kind.FileId.{FileId}
+use Rattle.nsc_model.specs.declared.store.LookupFault.{LookupFault}
+use Rattle.nsc_model.specs.declared.store.LookupFault.TheVariants as fault
+use Rattle.nsc_model.specs.declared.record.Record.{Record}
+use Rattle.nsc_model.specs.declared.record.Record.TheVariants.{Change, Poll, Load, End, Invalid}
+use Rattle.nsc_model.specs.Answers.{answer_of}
+use Rattle.nsc_model.specs.Content.{Content}
+use Rattle.nsc_model.specs.Entry.{Entry}
+use Rattle.nsc_model.specs.Files.{part_of, same_files}
+use Rattle.nsc_model.specs.History.{Answered, HasLoad, IsTrueAnswer, Legal, changes, version_in}
+use Rattle.nsc_model.specs.Machine.{Cache, last_count, new_cache, polled}
+use Rattle.nsc_model.specs.Stores.{FaultsRose, IsFault, IsTickFault}
+use Rattle.nsc_model.proofs.Contents.{content_same}
+use Rattle.nsc_laws.specs.Calls.{Tells}
+use Rattle.nsc_laws.proofs.SpelledHistories.{version_below}
+use Rattle.nsc_sourcebook.specs.Reads.{IsPartOf}
+use Rattle.nsc_writer.specs.declared.loaded.Inserted.{Inserted}
+use Rattle.nsc_writer.specs.declared.loaded.Inserted.TheVariants as inserted
+use Rattle.nsc_writer.specs.declared.loaded.Stamp.{Stamp}
+use Rattle.nsc_writer.specs.declared.uses.Uses.{Uses}
+use Rattle.nsc_writer.specs.Due.{Due, due_cause_of, pruned_by, pruned_one}
+use Rattle.nsc_writer.specs.Shelf.{has_number}
+use Rattle.nsc_writer.specs.Loaded.{Loaded}
+use Rattle.nsc_writer.specs.Writer.{Writer, Inserts, Polls, emptied_by, ending_of, without_entry}
+use Rattle.nsc_writer.proofs.Later.{version_on}
+use Rattle.nsc_database.specs.Steady.{HasOne, IsOfHeld, IsPart, IsSteady, IsStill, KeepsVersion, NoFileFault, StaysStill}
+use Rattle.nsc_database.specs.Ticks.{IsSwept}
+
+pub is_part : (held : Option Content) (which : Db) (content : Content) → IsPartOf which held content → IsPart held which content
+is_part None which content p files e = absurd cc
+is_part (Some all) which content p files e = p ∙ ap (part_of which) (some_is all files e) where
+  some_is : (a b : Content) → Some a ≡ Some b → a ≡ b
+  some_is a b s = cc
+
+-- ---- a cache that keeps its version
+
+pub still_kept : (files : Content) (which : Db) (before after : Cache) → KeepsVersion before after → IsStill files which before → IsStill files which after
+still_kept files which before after k s = record { first = k.version ∙ s.first; part = k.sources ∙ s.part }
+
+pub keeps_same : (w w' : Writer) → w' ≡ w → KeepsVersion w.cache w'.cache
+keeps_same w w' is = record { version = ap (λ (x : Writer). x.cache.newest_version) is; sources = ap (λ (x : Writer). x.cache.sources) is }
+
+-- a writer that counted a miss
+pub version_missed : (m : Uses) (w w' : Writer) → w' ≡ record w { misses = m } → KeepsVersion w.cache w'.cache
+version_missed m w w' is = subst (λ (x : Writer). KeepsVersion w.cache x.cache) (sym is) (record { version = refl; sources = refl })
+
+pub keeps_through : (a b c : Cache) → KeepsVersion a b → KeepsVersion b c → KeepsVersion a c
+keeps_through a b c k l = record { version = l.version ∙ k.version; sources = l.sources ∙ k.sources }
+
+pub version_inserted : (said : Inserted) (loaded : Loaded) (w w' : Writer) → Inserts said loaded w w' → KeepsVersion w.cache w'.cache
+version_inserted (inserted.Done number) loaded w w' i = subst (λ (x : Writer). KeepsVersion w.cache x.cache) (sym i.2) (record { version = refl; sources = refl })
+version_inserted (inserted.TooLarge size) loaded w w' i = keeps_same w w' i.1
+version_inserted (inserted.Discarded noted epoch) loaded w w' i = keeps_same w w' i.1
+version_inserted (inserted.Present number) loaded w w' i = keeps_same w w' i.1
+version_inserted (inserted.Spent count) loaded w w' i = keeps_same w w' i.1
+version_inserted (inserted.Full need free) loaded w w' i = subst (λ (x : Writer). KeepsVersion w.cache x.cache) (sym i.1) (record { version = refl; sources = refl })
+version_inserted inserted.NoMemory loaded w w' i = keeps_same w w' i
+
+pub version_emptied : (w w' : Writer) → w' ≡ emptied_by w → KeepsVersion w.cache w'.cache
+version_emptied w w' is = subst (λ (x : Writer). KeepsVersion w.cache x.cache) (sym is) (record { version = refl; sources = refl })
+
+version_pruned_one : (now : ℕ) (d : Due) (w : Writer) → KeepsVersion w.cache (pruned_one now d w).cache
+version_pruned_one now d w = by_test (has_number d.number w.cache.entries) where
+  by_test : (b : Bool) → KeepsVersion w.cache (cond b (without_entry d.number (ending_of (due_cause_of now d)) w) w).cache
+  by_test true = record { version = refl; sources = refl }
+  by_test false = record { version = refl; sources = refl }
+
+pub version_pruned : (now : ℕ) (due : List Due) (w : Writer) → KeepsVersion w.cache (pruned_by now due w).cache
+version_pruned now [] w = record { version = refl; sources = refl }
+version_pruned now (d ∷ due) w = keeps_through w.cache (pruned_one now d w).cache (pruned_by now due (pruned_one now d w)).cache (version_pruned_one now d w) (version_pruned now due (pruned_one now d w))
+
+pub version_swept : (now : ℕ) (due : List Due) (w w' : Writer) → IsSwept now due w w' → KeepsVersion w.cache w'.cache
+version_swept now due w w' s = elim s.swept [
+  | inl none ↦ subst (λ (x : Writer). KeepsVersion w.cache x.cache) (sym none.1) (version_pruned now due w)
+  | inr some ↦ let v = version_pruned now due w in subst (λ (x : Writer). KeepsVersion w.cache x.cache) (sym some.1) (record { version = v.version; sources = v.sources })
+]
+
+-- a poll of the database's part of the files confirms the version
+pub still_polled : (files : Content) (all : Content) (which : Db) (epoch : ℕ) (w w' : Writer) (stamp : Stamp) → Polls (polled files w.cache) epoch w w' (Ok stamp) → IsStill all which w.cache → files ≡ part_of which all → IsStill all which w'.cache
+still_polled files all which epoch w w' stamp p s part = by_same (same_files files w.cache.sources) refl p where
+  same : same_files files w.cache.sources ≡ true
+  same = subst (λ (c : Content). same_files files c ≡ true) (part ∙ sym s.part) (content_same files)
+
+  by_same : (b : Bool) → same_files files w.cache.sources ≡ b → Polls (cond b (Ok (record { cache = w.cache; adds = Poll w.cache.newest_version ∷ [] })) (cond (eqb w.cache.newest_version last_count) (Err (record { cache = w.cache; adds = []; count = last_count }))
+      (Ok (record { cache = record w.cache { sources = files; newest_version = w.cache.newest_version + 1 }; adds = Change (w.cache.newest_version + 1) files ∷ [] })))) epoch w w' (Ok stamp) → IsStill all which w'.cache
+  by_same true is q = subst (λ (x : Writer). IsStill all which x.cache) (sym q.1) (record { first = s.first; part = s.part })
+  by_same false is q = absurd (false≢true (sym is ∙ same))
+
+-- ---- its history
+
+pub one_of_still : (files : Content) (which : Db) (h : List Record) (cache : Cache) → Tells h cache → IsStill files which cache → HasOne files which h
+one_of_still files which h cache t s =
+    let counted : changes h ≡ cache.newest_version + 1 = t.counted in
+    let first : cache.newest_version ≡ 0 = s.first in
+    record { one = omega arith; part = subst (λ (n : ℕ). version_in h n ≡ Some (part_of which files)) s.first (t.held ∙ ap (λ (c : Content). Some c) s.part) }
+
+pub opening_steady : (held : Option Content) (which : Db) (content : Content) → IsPart held which content → IsSteady held which (Change 0 content ∷ [])
+opening_steady held which content p files e = record { one = refl; part = ap (λ (c : Content). Some c) (p files e) }
+
+pub opening_still : (held : Option Content) (which : Db) (content : Content) (cache : Cache) → cache ≡ new_cache content → IsPart held which content → StaysStill held which cache
+opening_still held which content cache is p files e = subst (IsStill files which) (sym is) (record { first = refl; part = p files e })
+
+-- ---- answers over it
+
+true_answer : (h : List Record) (e : Entry) → Legal h → HasLoad h e → IsTrueAnswer h e
+true_answer [] e l a = absurd l
+true_answer (Change v c ∷ []) e l a = absurd a
+true_answer (Change v c ∷ r ∷ before) e l a = on (true_answer (r ∷ before) e l.0 a) where
+  on : IsTrueAnswer (r ∷ before) e → IsTrueAnswer (Change v c ∷ r ∷ before) e
+  on t = (t.0, version_on (r ∷ before) (Change v c ∷ r ∷ before) e.version t.0 l l.0 (Change v c ∷ [], refl) t.1, t.2)
+true_answer (Poll v ∷ before) e l a = true_answer before e l.0 a
+true_answer (Load entry ∷ before) e l (inl same) = subst (λ (x : Entry). IsTrueAnswer before x) same l.3
+true_answer (Load entry ∷ before) e l (inr a) = true_answer before e l.0 a
+true_answer (End n cause ∷ before) e l a = true_answer before e l.0 a
+true_answer (Invalid n ∷ before) e l a = true_answer before e l.0 a
+
+only_version : (files : Content) (which : Db) (h : List Record) (n : ℕ) (c : Content) → Legal h → HasOne files which h → version_in h n ≡ Some c → c ≡ part_of which files
+only_version files which h n c l one is = some_is c (part_of which files) (sym (subst (λ (m : ℕ). version_in h m ≡ Some c) zero_is is) ∙ one.part) where
+  some_is : (a b : Content) → Some a ≡ Some b → a ≡ b
+  some_is a b s = cc
+
+  zero_is : n ≡ 0
+  zero_is = let low = version_below h n c l is in let count : changes h ≡ 1 = one.one in omega arith
+
+pub one_answer : (files : Content) (which : Db) (seen h : List Record) (request : Request) (bytes : List ℕ) → Legal h → HasOne files which h → Answered seen h request bytes → bytes ≡ (answer_of (part_of which files) request).bytes
+one_answer files which seen h request bytes l one a = elim a.source [
+  | inl e ↦
+      let t = true_answer h e.entry_is l e.inserted in
+      let c = only_version files which h e.entry_is.version t.0 l one t.1 in
+      sym e.said ∙ ap (λ x. x.bytes) t.2 ∙ (λ i. (answer_of (c i) (e.answers i)).bytes)
+  | inr p ↦
+      let c = only_version files which h p.version_is p.files_are l one p.holds in
+      sym p.said ∙ ap (λ (x : Content). (answer_of x request).bytes) c
+]
+
+pub is_of_held : (held : Option Content) (which : Db) (seen h : List Record) (request : Request) (bytes : List ℕ) → Legal h → IsSteady held which h → Answered seen h request bytes → IsOfHeld held which request bytes
+is_of_held held which seen h request bytes l steady a files e = one_answer files which seen h request bytes l (steady files e) a
+
+-- ---- calm file sets
+
+never_rose : (before after : ℕ) → before ≡ 0 → after ≡ 0 → FaultsRose before after → ⊥
+never_rose before after b a (inl more) = omega arith
+never_rose before after b a (inr full) = let high = full.0 in absurd (omega arith)
+
+pub calm_lookup : (cause : LookupFault) (seen : List Record) (before after : ℕ) (each each' : FileId → ℕ) → before ≡ 0 → after ≡ 0 → IsFault cause seen before after each each' → NoFileFault cause
+calm_lookup fault.NoMemory seen before after each each' b a f = tt
+calm_lookup (fault.Spent count) seen before after each each' b a f = tt
+calm_lookup (fault.SourceFault file) seen before after each each' b a f = never_rose before after b a f.0
+calm_lookup (fault.TooLong file size) seen before after each each' b a f = never_rose before after b a f.0
+
+pub calm_tick : (cause : LookupFault) (seen : List Record) (before after : ℕ) (each each' : FileId → ℕ) → before ≡ 0 → after ≡ 0 → IsTickFault cause seen before after each each' → NoFileFault cause
+calm_tick fault.NoMemory seen before after each each' b a f = tt
+calm_tick (fault.Spent count) seen before after each each' b a f = tt
+calm_tick (fault.SourceFault file) seen before after each each' b a f = never_rose before after b a f.0
+calm_tick (fault.TooLong file size) seen before after each each' b a f = never_rose before after b a f.0

@@ -1,0 +1,52 @@
+-- What holds of a database whose file sets all tell one content, whatever was read of them.
+use Rattle.std.specs.Prelude.{◌≡◌, ℕ, List, Option, Some}
+use Rattle.nsc_model.specs.declared.answer.Request.{Request}
+use Rattle.nsc_model.specs.declared.kind.Db.{Db}
+use Rattle.nsc_model.specs.declared.record.Record.{Record}
+use Rattle.nsc_model.specs.declared.store.LookupFault.{LookupFault}
+use Rattle.nsc_model.specs.declared.store.LookupFault.TheVariants as fault
+use Rattle.nsc_model.specs.Content.{Content}
+use Rattle.nsc_model.specs.Answers.{answer_of}
+use Rattle.nsc_model.specs.Files.{part_of}
+use Rattle.nsc_model.specs.History.{changes, version_in}
+use Rattle.nsc_model.specs.Machine.{Cache}
+
+-- a content is the database's part of the files, where these are told
+abbrev pub IsPart : Option Content → Db → Content → Type 0
+IsPart held which content = (files : Content) → held ≡ Some files → content ≡ part_of which files
+
+-- the newest version of a cache is its first one, and is the database's part of these files
+pub record IsStill (files : Content) (which : Db) (cache : Cache) : Type 0 where
+  pub first : cache.newest_version ≡ 0
+  pub part : cache.sources ≡ part_of which files
+
+abbrev pub StaysStill : Option Content → Db → Cache → Type 0
+StaysStill held which cache = (files : Content) → held ≡ Some files → IsStill files which cache
+
+-- a history has one version, which is the database's part of these files
+pub record HasOne (files : Content) (which : Db) (history : List Record) : Type 0 where
+  pub one : changes history ≡ 1
+  pub part : version_in history 0 ≡ Some (part_of which files)
+
+abbrev pub IsSteady : Option Content → Db → List Record → Type 0
+IsSteady held which history = (files : Content) → held ≡ Some files → HasOne files which history
+
+-- no version was added, and none replaced
+pub record KeepsVersion (before after : Cache) : Type 0 where
+  pub version : after.newest_version ≡ before.newest_version
+  pub sources : after.sources ≡ before.sources
+
+-- a reply is the answer over the one content that the file sets tell, where they tell it
+abbrev pub IsOfHeld : Option Content → Db → Request → List ℕ → Type 0
+IsOfHeld held which request bytes = (files : Content) → held ≡ Some files → bytes ≡ (answer_of (part_of which files) request).bytes
+
+-- no read through a file set of this type ever fails, or meets a file that is too long
+abbrev pub IsCalm : {F : Type 0} → (F → ℕ) → Type 0
+IsCalm {F} faults = (files : F) → faults files ≡ 0
+
+-- no file is at fault
+abbrev pub NoFileFault : LookupFault → Type 0
+NoFileFault fault.NoMemory = Unit {0}
+NoFileFault (fault.Spent count) = Unit {0}
+NoFileFault (fault.SourceFault file) = ⊥
+NoFileFault (fault.TooLong file size) = ⊥
