@@ -52,7 +52,7 @@ FindsNext (Some wait) arrivals found after left = (GoesOn wait found after × (l
 
 -- what a listener answers that found this
 abbrev pub answer_to : Option Arrival → Result (Accepted (List ℕ) SharedSink) Failed
-answer_to None = Err (record { })
+answer_to None = Err (record {})
 answer_to (Some (arrival.Conn role input output)) = Ok (accepted.Conn role input output)
 answer_to (Some arrival.Quiet) = Ok accepted.Quiet
 answer_to (Some (arrival.QuietUntil flag)) = Ok accepted.Quiet

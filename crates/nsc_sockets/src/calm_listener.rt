@@ -82,6 +82,7 @@ impl Listener for CalmListener {
     ghost use Rattle.std.specs.Prelude.{Some, [], slice_get};
 
     type In = PeerSource;
+
     type Out = CalmSink;
 
     ghost faults = { λ l. l.faults };

@@ -186,6 +186,7 @@ impl Listener for MemListener {
     ghost use Rattle.std.specs.Prelude.{Some, slice_get, option_map};
 
     type In = PeerSource;
+
     type Out = SharedSink;
 
     ghost faults = { λ l. l.faults };
@@ -213,11 +214,13 @@ impl Listener for MemListener {
         ensures counted { OnErr result (self.new.faults ≡ risen self.old.faults) }
     {
         match self.next() {
-            Some(Arrival::Conn {
-                role,
-                input,
-                output,
-            }) => Ok(Accepted::Conn {
+            Some(
+                Arrival::Conn {
+                    role,
+                    input,
+                    output,
+                },
+            ) => Ok(Accepted::Conn {
                 role,
                 input: PeerSource::new(input),
                 output,

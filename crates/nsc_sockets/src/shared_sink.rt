@@ -96,7 +96,6 @@ impl SharedSink {
     {
         self.faults
     }
-
 }
 
 // Sets a flag, if there is one.
