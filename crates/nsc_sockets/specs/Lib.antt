@@ -1,1 +1,5 @@
 pub mod Connections
+pub mod MemClock
+pub mod CalmListener
+pub mod SharedSink
+pub mod MemListener

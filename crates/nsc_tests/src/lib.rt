@@ -17,6 +17,8 @@ mod runs;
 #[cfg(test)]
 mod settings;
 #[cfg(test)]
+mod sockets;
+#[cfg(test)]
 mod streams;
 #[cfg(test)]
 mod texts;

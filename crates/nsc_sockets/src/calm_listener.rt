@@ -1,0 +1,127 @@
+ghost use Rattle.std.specs.Prelude.{◌≡◌, ◌≤◌, ◌<◌, drop, length, slice_get, is_err, is_none, Some, IfOk, IfErr, OnOk, OnErr};
+ghost use Rattle.nsc_outside.specs.Stream.{Rose};
+ghost use Rattle.nsc_outside.specs.Plan.{risen};
+ghost use Rattle.nsc_sockets.specs.Connections.{IsPeer};
+ghost use Rattle.nsc_sockets.specs.CalmListener.{CalmListener};
+
+use crate::listener::{Accepted, Listener};
+use crate::peer_source::PeerSource;
+use crate::role::Role;
+use nsc_base::Bytes;
+use nsc_outside::{Failed, Sink};
+use std::collections::VecDeque;
+use std::marker::Model;
+
+/// A sink that takes all bytes and keeps none. No call fails.
+#[derive(Debug, Drop)]
+pub struct CalmSink;
+
+impl Sink for CalmSink {
+    ghost use Rattle.std.specs.Prelude.{None};
+
+    ghost taken = { λ _. None };
+
+    ghost faults = { λ _. 0 };
+
+    /// Takes all bytes.
+    fn write(&mut self, bytes: &[u8]) -> Result<usize, Failed>
+        ensures count { IfOk result (λ n. n ≤ length bytes.now) }
+        ensures some { IfOk result (λ n. 0 < length bytes.now → 0 < n) }
+
+        ensures amount { IfOk result (λ n. n ≡ length bytes.now) }
+        ensures never { IfErr result (λ _. ⊥) }
+    {
+        Ok(bytes.len())
+    }
+}
+
+/// A listener on which no connection comes, but which reaches the sockets of peers: what these send is told beforehand.
+#[derive(Debug, Drop)]
+pub struct CalmListener {
+    peers: VecDeque<Bytes>,
+    faults: u64,
+}
+
+impl Model for CalmListener {
+    ghost use Rattle.nsc_sockets.specs.CalmListener.{CalmListener};
+
+    ghost Value = { CalmListener };
+
+    ghost view = { λ l. record { peers = l.peers.items; faults = l.faults } };
+}
+
+impl CalmListener {
+    /// A listener that reaches a peer for each of these, in this order, and no more.
+    pub fn new(peers: Vec<Bytes>) -> CalmListener
+        ensures { result ≡ record { peers = peers.items; faults = 0 } }
+    {
+        CalmListener {
+            peers: VecDeque::from(peers),
+            faults: 0,
+        }
+    }
+
+    /// How many calls have failed; the count stops at the greatest `u64`.
+    pub fn faults(&self) -> u64
+        ensures { result ≡ self.now.faults }
+    {
+        self.faults
+    }
+
+    // Counts a fault.
+    fn fault(&mut self) -> Failed
+        ensures counted { self.new ≡ record self.old { faults = risen self.old.faults } }
+        ensures rose { Rose self.old.faults self.new.faults }
+    {
+        self.faults = self.faults.saturating_add(1);
+        Failed
+    }
+}
+
+impl Listener for CalmListener {
+    ghost use Rattle.std.specs.Prelude.{Some, [], slice_get};
+
+    type In = PeerSource;
+
+    type Out = CalmSink;
+
+    ghost faults = { λ l. l.faults };
+
+    ghost given = { λ _. Some [] };
+
+    ghost peer = { λ l. slice_get l.peers 0 };
+
+    /// Fails.
+    fn bind(&mut self, _role: Role, _path: &str) -> Result<(), Failed>
+        ensures always { IfOk result (λ _. ⊥) }
+        ensures after { self.new ≡ record self.old { faults = risen self.old.faults } }
+        ensures failed { OnErr result (Rose self.old.faults self.new.faults) }
+    {
+        Err(self.fault())
+    }
+
+    /// Fails.
+    fn accept(&mut self) -> Result<Accepted<PeerSource, CalmSink>, Failed>
+        ensures always { IfOk result (λ _. ⊥) }
+        ensures after { self.new ≡ record self.old { faults = risen self.old.faults } }
+        ensures failed { OnErr result (Rose self.old.faults self.new.faults) }
+    {
+        Err(self.fault())
+    }
+
+    /// Reaches the next peer, and fails where none is left.
+    fn connect(&mut self, _path: &str) -> Result<(PeerSource, CalmSink), Failed>
+        ensures peer { IfOk result (λ ends. IsPeer (slice_get self.old.peers 0) (Some ends.0)) }
+        ensures failed { OnErr result (Rose self.old.faults self.new.faults) }
+
+        ensures reached { IfOk result (λ ends. slice_get self.old.peers 0 ≡ Some ends.0) }
+        ensures rest { OnOk result (self.new ≡ record self.old { peers = drop 1 self.old.peers }) }
+        ensures none { is_err result ≡ is_none (slice_get self.old.peers 0) }
+        ensures counted { OnErr result (self.new ≡ record self.old { faults = risen self.old.faults }) }
+    {
+        match self.peers.pop_front() {
+            Some(bytes) => Ok((PeerSource::new(bytes), CalmSink)),
+            None => Err(self.fault()),
+        }
+    }
+}
