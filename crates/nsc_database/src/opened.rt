@@ -61,6 +61,7 @@ impl<F: FileSet + Drop, A: Answerer + Drop> Opened<F, A> {
         ensures part { IfOk result (λ o. IsPartOf db (F.held files.old) o.book.newest) }
         ensures only { IfOk result (λ o. o.book.newest ≡ part_of db o.book.newest) }
         ensures held { IfOk result (λ o. F.held o.files ≡ F.held files.old) }
+        ensures stays { OnOk result (F.held files.new ≡ F.held files.old) }
         ensures read { OnOk result (AllRose db (F.reads files.old) (F.reads files.new)) }
         ensures faults { IfErr result (λ fault. FaultRose fault (F.faults files.old) (F.faults files.new) (F.file_faults files.old) (F.file_faults files.new)) }
         ensures length { IfErr result (λ fault. TellsLength fault (F.held files.old)) }
