@@ -58,8 +58,8 @@ impl Admitted {
     ghost use Rattle.nsc_server.specs.Outcomes.{replied_to};
 
     // What comes of the connection once the reply is written.
-    pub(crate) fn replied(self) -> Served
-        ensures { (bytes : List ℕ) → result ≡ replied_to (asked_by bytes (wire_of self)) }
+    pub(crate) fn replied(&self) -> Served
+        ensures { (bytes : List ℕ) → result ≡ replied_to (asked_by bytes (wire_of self.now)) }
     {
         match self {
             Admitted::ShutDown => Served::ShutDown,

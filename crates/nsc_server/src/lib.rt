@@ -11,7 +11,6 @@ mod serve;
 mod served;
 mod statistics;
 
-
 pub use passes::{Passes, Stores};
 pub use room::Room;
 pub use serve::serve_one;

@@ -1,5 +1,5 @@
-ghost use Rattle.std.specs.Prelude.{◌≡◌, ◌<◌, ◌≤◌, [], length, IfOk, OnOk, OnErr};
-ghost use Rattle.nsc_outside.specs.Stream.{Rose, Moves, MovesFewer, IsDrained};
+ghost use Rattle.std.specs.Prelude.{◌≡◌, ◌+◌, ◌≤◌, [], length, IfOk, OnOk, OnErr};
+ghost use Rattle.nsc_outside.specs.Stream.{Rose, Moves, MovesFewer};
 ghost use Rattle.nsc_model.specs.Wire.{request_of};
 ghost use Rattle.nsc_wire.specs.Request.{KeyFits, KeyIsIn, asked_by};
 ghost use Rattle.nsc_server.specs.Requests.{GetsMore, GetsShort, IsDrainedIfShort, IsNeeded, Wants};
@@ -63,28 +63,36 @@ impl Room {
         ensures drained { OnOk result (IsDrainedIfShort (R.left input.new) (request_of self.new)) }
         ensures calm { OnOk result (R.faults input.new ≡ R.faults input.old) }
 
-        ensures fewer { OnErr result (GetsShort (R.left input.old) (R.left input.new)) }
+        ensures short { OnErr result (GetsShort (R.left input.old) (R.left input.new)) }
         ensures failed { OnErr result (Rose (R.faults input.old) (R.faults input.new)) }
     {
-        self.read_fields(input)?;
-        let more = self.wanted();
-        self.read_key(input, more)?;
+        self.clear();
+        self.read_on(input, FIELDS)?;
+        let key = self.wanted();
+        self.read_on(input, key)?;
         Ok(read_request(self.bytes()))
     }
 
-    // Reads the fields.
-    fn read_fields<R: Source>(&mut self, input: &mut R) -> Result<(), Failed>
-        ensures moved { OnOk result (Moves (R.left input.old) (R.left input.new) self.new) }
-        ensures within { OnOk result (length self.new ≤ 12) }
-        ensures drained { OnOk result (length self.new < 12 → IsDrained (R.left input.new)) }
+    // Forgets the bytes that it holds.
+    fn clear(&mut self)
+        ensures { self.new ≡ [] }
+    {
+        self.have = 0;
+    }
+
+    // Reads so many bytes more, or fewer where the input ends.
+    fn read_on<R: Source>(&mut self, input: &mut R, more: usize) -> Result<(), Failed>
+        requires { length self.old + more ≤ 1036 }
+        ensures more { OnOk result (GetsMore (R.left input.old) (R.left input.new) self.old self.new more) }
         ensures calm { OnOk result (R.faults input.new ≡ R.faults input.old) }
 
-        ensures fewer { OnErr result (MovesFewer (R.left input.old) (R.left input.new) 12) }
+        ensures fewer { OnErr result (MovesFewer (R.left input.old) (R.left input.new) more) }
         ensures failed { OnErr result (Rose (R.faults input.old) (R.faults input.new)) }
     {
+        let from = self.have;
         let bytes = self.bytes.as_mut_slice();
-        let have = fill(input, &mut bytes[..FIELDS])?;
-        self.have = have;
+        let got = fill(input, &mut bytes[from..from + more])?;
+        self.have = from + got;
         Ok(())
     }
 
@@ -101,21 +109,5 @@ impl Room {
             Wire::Short { .. } => u32_at(fields, KEY_LENGTH) as usize,
             _ => 0,
         }
-    }
-
-    // Reads so many bytes of the key.
-    fn read_key<R: Source>(&mut self, input: &mut R, more: usize) -> Result<(), Failed>
-        requires { Wants self.old more }
-        ensures moved { OnOk result (GetsMore (R.left input.old) (R.left input.new) self.old self.new more) }
-        ensures calm { OnOk result (R.faults input.new ≡ R.faults input.old) }
-
-        ensures fewer { OnErr result (MovesFewer (R.left input.old) (R.left input.new) more) }
-        ensures failed { OnErr result (Rose (R.faults input.old) (R.faults input.new)) }
-    {
-        let from = self.have;
-        let bytes = self.bytes.as_mut_slice();
-        let got = fill(input, &mut bytes[from..from + more])?;
-        self.have = from + got;
-        Ok(())
     }
 }

@@ -49,7 +49,7 @@ pub fn serve_one<RT: AllocGlobal + Wait, S: Store, R: Source, K: Sink>(
         Err(_) => return Served::ReadFault,
     };
     match admit(wire, role) {
-        Ok(admitted) => answer(rt, stores, passes, room.bytes(), admitted, conn_out, now),
+        Ok(admitted) => answer(rt, stores, passes, room.bytes(), &admitted, conn_out, now),
         Err(served) => served,
     }
 }
@@ -60,19 +60,19 @@ fn answer<RT: AllocGlobal + Wait, S: Store, K: Sink>(
     stores: &Stores<S>,
     passes: &mut Passes<S::Pass>,
     bytes: &[u8],
-    admitted: Admitted,
+    admitted: &Admitted,
     conn_out: &mut K,
     now: u64,
 ) -> Served
-    requires key { KeyIsIn bytes.now (wire_of admitted) }
-    requires limit { KeyFits bytes.now (wire_of admitted) }
+    requires key { KeyIsIn bytes.now (wire_of admitted.now) }
+    requires limit { KeyFits bytes.now (wire_of admitted.now) }
     requires named { AreNamed S.Store stores.now }
     requires passes { ArePasses S.Store stores.now passes.old }
     requires moment { now < 2 ^ 62 }
     ensures passes { ArePasses S.Store stores.now passes.new }
     ensures before { SawMore (passes_at S.Store passes.old) (passes_at S.Store passes.new) }
-    ensures others { OthersStay (asked_by bytes.now (wire_of admitted)) (passes_at S.Store passes.old) (passes_at S.Store passes.new) }
-    ensures answers { Answers (settings_of S.Store stores.now) (asked_by bytes.now (wire_of admitted)) (side S.Store K.Sink passes.old conn_out.old) (side S.Store K.Sink passes.new conn_out.new) result }
+    ensures others { OthersStay (asked_by bytes.now (wire_of admitted.now)) (passes_at S.Store passes.old) (passes_at S.Store passes.new) }
+    ensures answers { Answers (settings_of S.Store stores.now) (asked_by bytes.now (wire_of admitted.now)) (side S.Store K.Sink passes.old conn_out.old) (side S.Store K.Sink passes.new conn_out.new) result }
 {
     match make(rt, stores, passes, bytes, admitted, now) {
         Ok(made) => reply(conn_out, made.as_slice(), admitted.replied()),
@@ -96,22 +96,22 @@ fn make<RT: AllocGlobal + Wait, S: Store>(
     stores: &Stores<S>,
     passes: &mut Passes<S::Pass>,
     bytes: &[u8],
-    admitted: Admitted,
+    admitted: &Admitted,
     now: u64,
 ) -> Result<Made, Served>
-    requires key { KeyIsIn bytes.now (wire_of admitted) }
-    requires limit { KeyFits bytes.now (wire_of admitted) }
+    requires key { KeyIsIn bytes.now (wire_of admitted.now) }
+    requires limit { KeyFits bytes.now (wire_of admitted.now) }
     requires named { AreNamed S.Store stores.now }
     requires passes { ArePasses S.Store stores.now passes.old }
     requires moment { now < 2 ^ 62 }
     ensures passes { ArePasses S.Store stores.now passes.new }
     ensures before { SawMore (passes_at S.Store passes.old) (passes_at S.Store passes.new) }
-    ensures others { OthersStay (asked_by bytes.now (wire_of admitted)) (passes_at S.Store passes.old) (passes_at S.Store passes.new) }
-    ensures made { IfOk result (λ made. IsReply (settings_of S.Store stores.now) (asked_by bytes.now (wire_of admitted)) (passes_at S.Store passes.old) (passes_at S.Store passes.new) (bytes_of made)) }
-    ensures refused { IfErr result (IsRefusal (asked_by bytes.now (wire_of admitted)) (passes_at S.Store passes.old) (passes_at S.Store passes.new)) }
+    ensures others { OthersStay (asked_by bytes.now (wire_of admitted.now)) (passes_at S.Store passes.old) (passes_at S.Store passes.new) }
+    ensures made { IfOk result (λ made. IsReply (settings_of S.Store stores.now) (asked_by bytes.now (wire_of admitted.now)) (passes_at S.Store passes.old) (passes_at S.Store passes.new) (bytes_of made)) }
+    ensures refused { IfErr result (IsRefusal (asked_by bytes.now (wire_of admitted.now)) (passes_at S.Store passes.old) (passes_at S.Store passes.new)) }
 {
     match admitted {
-        Admitted::Look { kind, key } => looked(rt, stores, passes, kind, key.of(bytes), now),
+        Admitted::Look { kind, key } => looked(rt, stores, passes, *kind, key.of(bytes), now),
         Admitted::Invalidate { key } => emptied(rt, stores, passes, key.of(bytes)),
         Admitted::Stat => told(rt, stores, passes),
         Admitted::ShutDown => Ok(Made::Done),

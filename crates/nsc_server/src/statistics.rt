@@ -69,7 +69,7 @@ fn put_ending(out: &mut Vec<u8>, stats: &Stats) -> Result<(), NoMemory>
     put_line(out, b"invalidations ", stats.invalidations)?;
     put_line(out, b"compactions ", stats.compactions)?;
     put_line(out, b"not added ", stats.addfailed)?;
-    Ok(out.push(b'\n')?)
+    Ok(out.extend_from_slice(b"\n")?)
 }
 
 // Puts what is counted, the count in decimal, and a newline.
