@@ -33,13 +33,13 @@ gets_on before after old buf items written room have got more held same room_is 
     let buf_held : take have buf ≡ old = ap (take have) same ∙ held in
     let old_is : length old ≡ have = ap length (sym buf_held) ∙ length-take-le have buf in_buf in
     let part_is : length (take (have + more - have) (drop have buf)) ≡ more =
-        length-take-le (have + more - have) (drop have buf) (rw (length-drop have buf) (omega (arith, old_is, room_is, within.0, fits))) ∙ omega arith in
+    length-take-le (have + more - have) (drop have buf) (rw (length-drop have buf) (omega (arith, old_is, room_is, within.0, fits))) ∙ omega arith in
     let got_fits : got ≤ length written = omega (arith, length_is, count) in
     let whole : List ℕ = put_mid have (have + more - have) buf written in
     let whole_is : length whole ≡ length buf = same_len_mid have (have + more - have) buf written length_is in
     let front : new ≡ take (have + got) whole =
-        is ∙ take-take (have + got) room (whole ++ drop (length whole) items) (omega (arith, room_is, old_is, fits, within.0, part_is, count))
-        ∙ take-append-le (have + got) whole (drop (length whole) items) (omega (arith, whole_is, room_is, old_is, fits, within.0, part_is, count)) in
+    is ∙ take-take (have + got) room (whole ++ drop (length whole) items) (omega (arith, room_is, old_is, fits, within.0, part_is, count))
+    ∙ take-append-le (have + got) whole (drop (length whole) items) (omega (arith, whole_is, room_is, old_is, fits, within.0, part_is, count)) in
     record {
       more = take got written;
       moved = moved;
@@ -54,7 +54,7 @@ gets_on before after old buf items written room have got more held same room_is 
 field-append : (at : ℕ) (bytes more : List ℕ) → at + 4 ≤ length bytes → field_in (bytes ++ more) at ≡ field_in bytes at
 field-append at bytes more within =
     let front : take 4 (drop at (bytes ++ more)) ≡ take 4 (drop at bytes) =
-        ap (take 4) (drop-append-le at bytes more (omega arith)) ∙ take-append-le 4 (drop at bytes) more (rw (length-drop at bytes) (omega arith)) in
+    ap (take 4) (drop-append-le at bytes more (omega arith)) ∙ take-append-le 4 (drop at bytes) more (rw (length-drop at bytes) (omega arith)) in
     sym (little_from-take 0 4 4 (drop at (bytes ++ more)) (omega arith)) ∙ ap (little_number 4) front ∙ little_from-take 0 4 4 (drop at bytes) (omega arith)
 
 -- a request is whole, or refused
@@ -196,19 +196,19 @@ gets_few before after m = (m.0, m.2, (λ n h. few_needed m.0 n h (omega (arith, 
 pub all_needed : (fields more : List ℕ) (size : ℕ) → length fields ≤ 12 → Wants fields size → length more ≤ size → IsNeeded (fields ++ more)
 all_needed fields more size limit w within n h =
     elim (cases_lt n 12) [
-      inl few ↦ few_needed (fields ++ more) n h few
-    | inr all ↦ later all
+      | inl few ↦ few_needed (fields ++ more) n h few
+      | inr all ↦ later all
     ] where
-  later : 12 ≤ n → request_of (take n (fields ++ more)) ≡ Short n
-  later all =
-      let sizes : length (fields ++ more) ≡ length fields + length more = length-append fields more in
-      let wanted : 0 < size = omega (arith, h, sizes, limit, within) in
-      let twelve : length fields ≡ 12 = w.whole wanted in
-      let rest : ℕ = n - 12 in
-      let few : rest < length more = omega (arith, h, sizes, twelve) in
-      let front : take n (fields ++ more) ≡ fields ++ take rest more = ap (λ m. take m (fields ++ more)) (omega (arith, twelve)) ∙ take-append-add fields more rest in
-      let size_is : length (take rest more) ≡ rest = length-take-le rest more (omega arith) in
-      ap request_of front ∙ w.short (take rest more) (omega (arith, size_is, few, within)) ∙ ap Short (omega (arith, size_is, twelve))
+      later : 12 ≤ n → request_of (take n (fields ++ more)) ≡ Short n
+      later all =
+          let sizes : length (fields ++ more) ≡ length fields + length more = length-append fields more in
+          let wanted : 0 < size = omega (arith, h, sizes, limit, within) in
+          let twelve : length fields ≡ 12 = w.whole wanted in
+          let rest : ℕ = n - 12 in
+          let few : rest < length more = omega (arith, h, sizes, twelve) in
+          let front : take n (fields ++ more) ≡ fields ++ take rest more = ap (λ m. take m (fields ++ more)) (omega (arith, twelve)) ∙ take-append-add fields more rest in
+          let size_is : length (take rest more) ≡ rest = length-take-le rest more (omega arith) in
+          ap request_of front ∙ w.short (take rest more) (omega (arith, size_is, few, within)) ∙ ap Short (omega (arith, size_is, twelve))
 
 -- the bytes that two readings gave, the first of which began with none
 first_moved : (before after : Option (List ℕ)) (old fields : List ℕ) (size : ℕ) → old ≡ [] → GetsMore before after old fields size → Moves before after fields
@@ -229,9 +229,12 @@ both_needed between after fields whole size limit w second = subst IsNeeded (sym
 -- the input failed while the key was read
 pub gets_cut : (before between after : Option (List ℕ)) (old fields : List ℕ) (size : ℕ) → old ≡ [] → GetsMore before between old fields 12 → Wants fields size
     → MovesFewer between after size → GetsShort before after
-gets_cut before between after old fields size none first w m =
-    (fields ++ m.0, Moves-then before between after fields m.0 (first_moved before between old fields 12 none first) m.2,
-    all_needed fields m.0 size (first_limit before between old fields 12 none first) w (omega (arith, m.1)), w.short m.0 m.1 ∙ ap Short (sym (length-append fields m.0)))
+gets_cut before between after old fields size none first w m = (
+  fields ++ m.0,
+  Moves-then before between after fields m.0 (first_moved before between old fields 12 none first) m.2,
+  all_needed fields m.0 size (first_limit before between old fields 12 none first) w (omega (arith, m.1)),
+  w.short m.0 m.1 ∙ ap Short (sym (length-append fields m.0)),
+)
 
 -- nothing is left where the request is not whole
 drained_if : (left : Option (List ℕ)) (asked : Asked) → ((have : ℕ) → asked ≡ Short have → IsDrained left) → IsDrainedIfShort left asked
@@ -256,13 +259,13 @@ pub both_drained : (before between after : Option (List ℕ)) (old fields whole 
     → GetsMore between after fields whole size → IsDrainedIfShort after (request_of whole)
 both_drained before between after old fields whole size none first w second = drained_if after (request_of whole) (λ have is.
     elim (cases_lt (length second.more) size) [
-      inl fewer ↦ second.drained fewer
-    | inr all ↦ late have is all
+      | inl fewer ↦ second.drained fewer
+      | inr all ↦ late have is all
     ]) where
-  late : (have : ℕ) → request_of whole ≡ Short have → size ≤ length second.more → IsDrained after
-  late have is all =
-      let few : length fields < 12 = w.enough second.more have (omega (arith, second.limit, all)) (ap request_of (sym second.joined) ∙ is) in
-      let fields_is : length fields ≡ length first.more = ap length (first.joined ∙ ap (λ o. o ++ first.more) none) in
-      let ended : IsDrained between = first.drained (omega (arith, few, fields_is)) in
-      let no_key : size ≡ 0 = elim (cases_lt 0 size) [ inl some ↦ absurd (omega (arith, w.whole some, few)) | inr nothing ↦ omega (arith, nothing) ] in
-      subst IsDrained (sym (stays between after second.more (omega (arith, second.limit, no_key)) second.moved)) ended
+      late : (have : ℕ) → request_of whole ≡ Short have → size ≤ length second.more → IsDrained after
+      late have is all =
+          let few : length fields < 12 = w.enough second.more have (omega (arith, second.limit, all)) (ap request_of (sym second.joined) ∙ is) in
+          let fields_is : length fields ≡ length first.more = ap length (first.joined ∙ ap (λ o. o ++ first.more) none) in
+          let ended : IsDrained between = first.drained (omega (arith, few, fields_is)) in
+          let no_key : size ≡ 0 = elim (cases_lt 0 size) [ inl some ↦ absurd (omega (arith, w.whole some, few)) | inr nothing ↦ omega (arith, nothing) ] in
+          subst IsDrained (sym (stays between after second.more (omega (arith, second.limit, no_key)) second.moved)) ended

@@ -4,3 +4,4 @@ pub mod Stats
 pub mod Outcomes
 pub mod Admitted
 pub mod Made
+pub mod Jobs

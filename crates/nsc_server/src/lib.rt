@@ -3,6 +3,7 @@
 
 mod admitted;
 mod counts;
+mod jobs;
 mod made;
 mod names;
 mod passes;
@@ -11,6 +12,7 @@ mod serve;
 mod served;
 mod statistics;
 
+pub use jobs::{Job, Jobs, work};
 pub use passes::{Passes, Stores};
 pub use room::Room;
 pub use serve::serve_one;

@@ -80,10 +80,18 @@ pub(crate) fn look_up<R: Wait, S: Store>(
     ensures fault { IfErr result (λ fault. IsFault fault (database_in (passes_at S.Store passes.new) db).seen (database_in (passes_at S.Store passes.old) db).faults (database_in (passes_at S.Store passes.new) db).faults (database_in (passes_at S.Store passes.old) db).file_faults (database_in (passes_at S.Store passes.new) db).file_faults) }
 {
     match db {
-        Db::Passwd => stores.passwd.lookup(rt, alloc, &mut passes.passwd, kind, key, now),
-        Db::Group => stores.group.lookup(rt, alloc, &mut passes.group, kind, key, now),
-        Db::Hosts => stores.hosts.lookup(rt, alloc, &mut passes.hosts, kind, key, now),
-        Db::Services => stores.services.lookup(rt, alloc, &mut passes.services, kind, key, now),
+        Db::Passwd => stores
+            .passwd
+            .lookup(rt, alloc, &mut passes.passwd, kind, key, now),
+        Db::Group => stores
+            .group
+            .lookup(rt, alloc, &mut passes.group, kind, key, now),
+        Db::Hosts => stores
+            .hosts
+            .lookup(rt, alloc, &mut passes.hosts, kind, key, now),
+        Db::Services => stores
+            .services
+            .lookup(rt, alloc, &mut passes.services, kind, key, now),
     }
 }
 

@@ -11,13 +11,13 @@ ghost use Rattle.nsc_server.specs.Passes.{AreNamed, ArePasses, OthersThan, SawMo
 ghost use Rattle.nsc_server.specs.Requests.{TakesRequests};
 
 use crate::admitted::{Admitted, admit};
+use crate::counts::all_stats;
 use crate::made::{Made, empty, look_up, reply_bytes};
 use crate::names::database_named;
 use crate::passes::{Passes, Stores};
 use crate::room::Room;
 use crate::served::Served;
 use crate::statistics::stat_text;
-use crate::counts::all_stats;
 use nsc_model::{Db, Kind, Store};
 use nsc_outside::{Sink, Source, write_all};
 use nsc_sockets::Role;
@@ -50,7 +50,7 @@ pub fn serve_one<RT: AllocGlobal + Wait, S: Store, R: Source, K: Sink>(
     };
     match admit(wire, role) {
         Ok(admitted) => answer(rt, stores, passes, room.bytes(), &admitted, conn_out, now),
-        Err(served) => served,
+        Err(refused) => refused,
     }
 }
 

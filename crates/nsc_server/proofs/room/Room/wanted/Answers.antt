@@ -16,5 +16,5 @@ pub returns-in_default : goal.returns-in_default
 returns-in_default c =
     let fields : List ℕ = c.bytes-fields.result.now in
     subst (λ (t : List ℕ). Wants t 0) c.bytes-fields.ensures (wants_none fields (λ have is.
-        let s = short_wire fields c.read_request.result have (c.read_request.ensures.asked ∙ is) in
-        c.in_default.not-Short s.0 s.1))
+    let s = short_wire fields c.read_request.result have (c.read_request.ensures.asked ∙ is) in
+    c.in_default.not-Short s.0 s.1))
