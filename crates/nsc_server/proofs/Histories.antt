@@ -1,5 +1,5 @@
 -- What passes have seen.
-use Rattle.std.proofs.Common.{◌≡◌, ◌++◌, List, [], refl, ◌∙◌, ap, sym, append_assoc}
+use Rattle.std.proofs.Common.{◌++◌, List, ◌∙◌, ap, sym, append_assoc}
 use Rattle.nsc_model.specs.declared.record.Record.{Record}
 use Rattle.nsc_model.specs.declared.databases.Databases.{Databases}
 use Rattle.nsc_model.specs.History.{IsPrefix}

@@ -1,5 +1,5 @@
 -- Requests that are admitted on a socket, and those that are not.
-use Rattle.std.specs.Prelude.{◌≡◌, ℕ, List, Option, Some, None}
+use Rattle.std.specs.Prelude.{◌≡◌, ℕ, List, Some, None}
 use Rattle.nsc_wire.specs.Request.{asked_by}
 use Rattle.nsc_wire.specs.declared.request.Wire.{Wire}
 use Rattle.nsc_wire.specs.declared.request.Wire.TheVariants as wire

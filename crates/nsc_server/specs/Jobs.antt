@@ -1,5 +1,5 @@
 -- Connections that wait to be served.
-use Rattle.std.specs.Prelude.{ℕ, ◌<◌, ◌^◌}
+use Rattle.std.specs.Prelude.{◌<◌, ◌^◌}
 use Rattle.nsc_server.specs.declared.jobs.Job.{Job}
 use Rattle.nsc_server.specs.Requests.{TakesRequests}
 

@@ -1,12 +1,10 @@
 -- What came of one connection.
-use Rattle.std.specs.Prelude.{◌≡◌, ◌≢◌, ℕ, List, [], ◌∷◌, ◌++◌, ◌⊎◌, Bool, Option, Some, None, IsSomeAnd, if◌then◌else◌}
+use Rattle.std.specs.Prelude.{◌≡◌, ◌≢◌, ℕ, List, [], ◌∷◌, ◌⊎◌, Option, Some, None, IfSome, if◌then◌else◌}
 use Rattle.std.specs.Str.{bytes_eq}
 use Rattle.nsc_outside.specs.Stream.{Rose, Moves, IsDrained, Grows, GrowsByFront}
 use Rattle.nsc_model.specs.declared.kind.Db.{Db}
 use Rattle.nsc_model.specs.declared.kind.Db.TheVariants as db
-use Rattle.nsc_model.specs.declared.kind.FileId.{FileId}
 use Rattle.nsc_model.specs.declared.conf.DbConf.{DbConf}
-use Rattle.nsc_model.specs.declared.record.Record.{Record}
 use Rattle.nsc_model.specs.declared.answer.Request.{Request}
 use Rattle.nsc_model.specs.declared.databases.Databases.{Databases}
 use Rattle.nsc_model.specs.declared.store.LookupFault.{LookupFault}
@@ -18,8 +16,8 @@ use Rattle.nsc_model.specs.Databases.{database_in}
 use Rattle.nsc_model.specs.History.{Answered}
 use Rattle.nsc_model.specs.Kinds.{database_of}
 use Rattle.nsc_model.specs.Machine.{room_of}
-use Rattle.nsc_model.specs.Stores.{IsCounted, IsEmptied, IsFault, IsInvalidateFault}
-use Rattle.nsc_model.specs.Wire.{Asked, Look, Shutdown, Stat, Invalidate, Descriptor, Netgroup, Short, BadVersion, BadType, BadLength, field, request_of}
+use Rattle.nsc_model.specs.Stores.{FaultsRose, IsCounted, IsEmptied, IsFault, IsInvalidateFault, IsSpent, IsUnmoved}
+use Rattle.nsc_model.specs.Wire.{Asked, Look, Shutdown, Stat, Invalidate, Short, field, request_of}
 use Rattle.nsc_sockets.specs.declared.role.Role.{Role}
 use Rattle.nsc_server.specs.declared.served.Served.{Served}
 use Rattle.nsc_server.specs.declared.served.Served.TheVariants as served
@@ -196,6 +194,37 @@ abbrev pub CountsInput : Served → ℕ → ℕ → Type 0
 CountsInput served.ReadFault before after = Rose before after
 CountsInput _ before after = after ≡ before
 
+-- ---- completeness
+
+-- of a lookup: no count of faults of the pass rose, and the count of versions is not at its end
+pub record NoLookFault (before after : PassAt) : Type 0 where
+  pub calm : FaultsRose before.faults after.faults → ⊥
+  pub count_left : (count : ℕ) → IsSpent after.seen count → ⊥
+
+-- of an invalidation: no count that it needs is at its end
+abbrev pub NoInvalidateFault : PassAt → Type 0
+NoInvalidateFault after = (count : ℕ) → IsUnmoved after.seen count → ⊥
+
+abbrev pub NoStoreFault : Asked → Databases PassAt → Databases PassAt → Type 0
+NoStoreFault (Look request) before after = NoLookFault (database_in before (database_of request.kind)) (database_in after (database_of request.kind))
+NoStoreFault (Invalidate name) before after = IfSome (db_named name) (λ which. NoInvalidateFault (database_in after which))
+NoStoreFault _ before after = Unit {0}
+
+-- nothing failed
+pub record NoFault (asked : Asked) (input input' : StreamAt) (before after : Side) : Type 0 where
+  pub input_calm : Rose input.faults input'.faults → ⊥
+  pub output_calm : Rose before.output.faults after.output.faults → ⊥
+  pub store_calm : NoStoreFault asked before.passes after.passes
+
+-- what was asked is whole, and may be asked on a socket of this role
+pub record IsAnswerable (on : Role) (asked : Asked) : Type 0 where
+  pub open_to : closing_of on asked ≡ None
+  pub whole : (have : ℕ) → asked ≡ Short have → ⊥
+
+-- it is answered where nothing failed, unless memory was wanting
+abbrev pub Completes : Role → Asked → StreamAt → StreamAt → Side → Side → Served → Type 0
+Completes on asked input input' before after by = IsAnswerable on asked → NoFault asked input input' before after → (by ≡ replied_to asked) ⊎ (by ≡ served.NoMemory)
+
 -- one connection: what was read of the input, no further than it was needed, and what came of it
 pub record Serves (settings : Databases DbConf) (on : Role) (input input' : StreamAt) (before after : Side) (by : Served) : Type 0 where
   pub front : List ℕ
@@ -203,3 +232,4 @@ pub record Serves (settings : Databases DbConf) (on : Role) (input input' : Stre
   pub needed : IsNeeded front
   pub counted : CountsInput by input.faults input'.faults
   pub ends : Ends settings on (request_of front) input'.bytes before after by
+  pub complete : Completes on (request_of front) input input' before after by

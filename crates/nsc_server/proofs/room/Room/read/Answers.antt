@@ -1,4 +1,3 @@
-use Rattle.std.proofs.Common.{List, ℕ}
 use Rattle.std.proofs.lemmas.Result.{err_from_is_err_and}
 use Rattle.nsc_server.proofs.Reading.{both_drained, both_moved, both_needed, first_limit, gets_cut, gets_few}
 use Rattle.nsc_server.proofs.room.Room.read.Goals as goal

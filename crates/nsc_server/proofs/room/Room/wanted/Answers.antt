@@ -1,5 +1,4 @@
 use Rattle.std.proofs.Common.{◌≡◌, ℕ, List, length, arith, sym, ap, ◌∙◌, subst}
-use Rattle.nsc_model.specs.Wire.{field_in, request_of}
 use Rattle.nsc_wire.specs.Request.{asked_by}
 use Rattle.nsc_server.specs.Requests.{Wants}
 use Rattle.nsc_server.proofs.Reading.{wants_key, wants_none, short_wire}
