@@ -1,0 +1,123 @@
+-- A connection on which nothing failed is answered.
+use Rattle.std.proofs.Common.{◌≡◌, inl, inr, ℕ, List, length, Option, Some, None, IfSome, refl, sym, ◌∙◌, ap, subst}
+use Rattle.nsc_outside.specs.Stream.{Moves, Rose}
+use Rattle.nsc_model.specs.declared.kind.Db.{Db}
+use Rattle.nsc_model.specs.declared.conf.DbConf.{DbConf}
+use Rattle.nsc_model.specs.declared.databases.Databases.{Databases}
+use Rattle.nsc_model.specs.declared.store.LookupFault.{LookupFault}
+use Rattle.nsc_model.specs.declared.store.LookupFault.TheVariants as fault
+use Rattle.nsc_model.specs.declared.store.InvalidateFault.{InvalidateFault}
+use Rattle.nsc_model.specs.declared.store.InvalidateFault.TheVariants as invalidate_fault
+use Rattle.nsc_model.specs.Databases.{database_in}
+use Rattle.nsc_model.specs.Kinds.{database_of}
+use Rattle.nsc_model.specs.Stores.{IsFault, IsInvalidateFault}
+use Rattle.nsc_model.specs.Wire.{Asked, Look, Shutdown, Stat, Invalidate, Descriptor, Netgroup, Short, BadVersion, BadType, BadLength, request_of}
+use Rattle.nsc_sockets.specs.declared.role.Role.{Role}
+use Rattle.nsc_server.specs.declared.served.Served.{Served}
+use Rattle.nsc_server.specs.declared.served.Served.TheVariants as served
+use Rattle.nsc_server.specs.declared.served.Closing.{Closing}
+use Rattle.nsc_server.specs.Passes.{PassAt}
+use Rattle.nsc_server.specs.Requests.{GetsShort, IsNeeded, closing_of}
+use Rattle.nsc_server.specs.Outcomes.{Answers, Completes, CountsInput, Ends, IsRefusal, IsInvalidateRefusal, NoInvalidateFault, NoLookFault, NoStoreFault, OthersStay, Serves, Side, StreamAt, db_named, replied_to, served_by, served_after}
+
+look_lacked : (f : LookupFault) (before after : PassAt) → IsFault f after.seen before.faults after.faults before.file_faults after.file_faults
+    → NoLookFault before after → served_by f ≡ served.NoMemory
+look_lacked fault.NoMemory before after is calm = refl
+look_lacked (fault.Spent count) before after is calm = absurd (calm.count_left count is)
+look_lacked (fault.SourceFault file) before after is calm = absurd (calm.calm is.0)
+look_lacked (fault.TooLong file size) before after is calm = absurd (calm.calm is.0)
+
+invalidate_lacked : (f : InvalidateFault) (after : PassAt) → IsInvalidateFault f after.seen → NoInvalidateFault after → served_after f ≡ served.NoMemory
+invalidate_lacked invalidate_fault.NoMemory after is calm = refl
+invalidate_lacked (invalidate_fault.Spent count) after is calm = absurd (calm count is)
+
+named_lacked : (which : Option Db) (after : Databases PassAt) (by : Served) → IsInvalidateRefusal which after by → IfSome which (λ db. NoInvalidateFault (database_in after db)) → by ≡ served.NoMemory
+named_lacked (Some which) after by is calm = is.1 ∙ invalidate_lacked is.0 (database_in after which) is.2 calm
+named_lacked None after by is calm = absurd is
+
+-- a reply that is refused though no fault came is refused for want of memory
+lacked : (asked : Asked) (before after : Databases PassAt) (by : Served) → IsRefusal asked before after by → NoStoreFault asked before after → by ≡ served.NoMemory
+lacked (Look request) before after by is calm =
+    is.1 ∙ look_lacked is.0 (database_in before (database_of request.kind)) (database_in after (database_of request.kind)) is.2 calm
+lacked Shutdown before after by is calm = absurd is
+lacked Stat before after by is calm = is
+lacked (Invalidate name) before after by is calm = named_lacked (db_named name) after by is calm
+lacked Descriptor before after by is calm = absurd is
+lacked Netgroup before after by is calm = absurd is
+lacked (Short have) before after by is calm = absurd is
+lacked (BadVersion version) before after by is calm = absurd is
+lacked (BadType type) before after by is calm = absurd is
+lacked (BadLength size) before after by is calm = absurd is
+
+abbrev IsClosed : Option Closing → Type 0
+IsClosed None = ⊥
+IsClosed (Some why) = Unit {0}
+
+-- where nothing failed, what may be asked is answered, or memory was wanting
+pub completes : (settings : Databases DbConf) (on : Role) (asked : Asked) (left : Option (List ℕ)) (input input' : StreamAt) (before after : Side) (by : Served)
+    → Ends settings on asked left before after by → CountsInput by input.faults input'.faults → Completes on asked input input' before after by
+completes settings on asked left input input' before after served.Replied e n a f = inl (sym e.2.0)
+completes settings on asked left input input' before after served.ShutDown e n a f = inl (ap replied_to (sym e.2.0))
+completes settings on asked left input input' before after (served.Closed why) e n a f = absurd (subst IsClosed (sym e.0 ∙ a.open_to) tt)
+completes settings on asked left input input' before after (served.Ended have) e n a f = absurd (a.whole have e.0)
+completes settings on asked left input input' before after served.ReadFault e n a f = absurd (f.input_calm n)
+completes settings on asked left input input' before after served.WriteFault e n a f = absurd (f.output_calm e.2.failed)
+completes settings on asked left input input' before after (served.SourceFault file) e n a f =
+    inr (lacked asked before.passes after.passes (served.SourceFault file) e.2.refusal f.store_calm)
+completes settings on asked left input input' before after (served.TooLong file size) e n a f =
+    inr (lacked asked before.passes after.passes (served.TooLong file size) e.2.refusal f.store_calm)
+completes settings on asked left input input' before after (served.Spent count) e n a f =
+    inr (lacked asked before.passes after.passes (served.Spent count) e.2.refusal f.store_calm)
+completes settings on asked left input input' before after served.NoMemory e n a f = inr refl
+
+-- ---- the whole
+
+-- what came of an admitted request
+ends_answered : (settings : Databases DbConf) (on : Role) (asked : Asked) (left : Option (List ℕ)) (before after : Side) (by : Served)
+    → closing_of on asked ≡ None → OthersStay asked before.passes after.passes → Answers settings asked before after by → Ends settings on asked left before after by
+ends_answered settings on asked left before after served.Replied o s a = (o, s, a)
+ends_answered settings on asked left before after served.ShutDown o s a = (o, s, a)
+ends_answered settings on asked left before after (served.Closed why) o s a = absurd a
+ends_answered settings on asked left before after (served.Ended have) o s a = absurd a
+ends_answered settings on asked left before after served.ReadFault o s a = absurd a
+ends_answered settings on asked left before after served.WriteFault o s a = (o, s, a)
+ends_answered settings on asked left before after (served.SourceFault file) o s a = (o, s, a)
+ends_answered settings on asked left before after (served.TooLong file size) o s a = (o, s, a)
+ends_answered settings on asked left before after (served.Spent count) o s a = (o, s, a)
+ends_answered settings on asked left before after served.NoMemory o s a = (o, s, a)
+
+counts_answered : (settings : Databases DbConf) (asked : Asked) (before after : Side) (by : Served) (count count' : ℕ) → Answers settings asked before after by → count' ≡ count → CountsInput by count count'
+counts_answered settings asked before after served.Replied count count' a e = e
+counts_answered settings asked before after served.ShutDown count count' a e = e
+counts_answered settings asked before after (served.Closed why) count count' a e = e
+counts_answered settings asked before after (served.Ended have) count count' a e = e
+counts_answered settings asked before after served.ReadFault count count' a e = absurd a
+counts_answered settings asked before after served.WriteFault count count' a e = e
+counts_answered settings asked before after (served.SourceFault file) count count' a e = e
+counts_answered settings asked before after (served.TooLong file size) count count' a e = e
+counts_answered settings asked before after (served.Spent count'') count count' a e = e
+counts_answered settings asked before after served.NoMemory count count' a e = e
+
+serves : (settings : Databases DbConf) (on : Role) (input input' : StreamAt) (before after : Side) (by : Served) (front : List ℕ) → Moves input.bytes input'.bytes front → IsNeeded front
+    → CountsInput by input.faults input'.faults → Ends settings on (request_of front) input'.bytes before after by → Serves settings on input input' before after by
+serves settings on input input' before after by front moved needed counted ends = record {
+  front = front;
+  moved = moved;
+  needed = needed;
+  counted = counted;
+  ends = ends;
+  complete = completes settings on (request_of front) input'.bytes input input' before after by ends counted;
+}
+
+-- a connection whose input failed
+pub serves_failed : (settings : Databases DbConf) (on : Role) (input input' : StreamAt) (side_is : Side) → GetsShort input.bytes input'.bytes → Rose input.faults input'.faults
+    → Serves settings on input input' side_is side_is served.ReadFault
+serves_failed settings on input input' side_is short rose = serves settings on input input' side_is side_is served.ReadFault short.0 short.1 short.2 rose ((length short.0, short.3), refl)
+
+-- a connection whose request was admitted
+pub serves_admitted : (settings : Databases DbConf) (on : Role) (input input' : StreamAt) (before after : Side) (by : Served) (front : List ℕ) (asked : Asked) → asked ≡ request_of front
+    → Moves input.bytes input'.bytes front → IsNeeded front → input'.faults ≡ input.faults → closing_of on asked ≡ None → OthersStay asked before.passes after.passes
+    → Answers settings asked before after by → Serves settings on input input' before after by
+serves_admitted settings on input input' before after by front asked is moved needed calm open_to others answers =
+    serves settings on input input' before after by front moved needed (counts_answered settings asked before after by input.faults input'.faults answers calm)
+    (subst (λ (a : Asked). Ends settings on a input'.bytes before after by) is (ends_answered settings on asked input'.bytes before after by open_to others answers))

@@ -1,0 +1,4 @@
+pub mod Reading
+pub mod Histories
+pub mod Texts
+pub mod Complete

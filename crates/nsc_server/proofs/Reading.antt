@@ -1,0 +1,271 @@
+-- How far a request is read.
+use Rattle.std.proofs.Common.{◌≡◌, ℕ, ◌+◌, ◌-◌, ◌<◌, ◌≤◌, ◌==◌, nat_lt, if◌then◌else◌, ℤ, Bool, true, false, true≢false, List, [], ◌∷◌, ◌++◌, length, take, drop, Option, Some, None, refl, sym, ◌∙◌, ap, subst, inl, inr, arith, length-append, length-drop, append-nil}
+use Rattle.std.proofs.lemmas.List.{length-take-le, take-take, take-append-le, drop-append-le}
+use Rattle.std.proofs.lemmas.Bool.{cases_lt, lt-ltb, le-ltb, ltb-true, ltb-false}
+use Rattle.std.proofs.Math.Seq.{take-append-add}
+use borrow.Rule.Slice.PartMut.{put_mid, same_len_mid}
+use Rattle.byteorder.specs.Endian.{little_number}
+use Rattle.byteorder.specs.Numbers.{little_from-take}
+use Rattle.nsc_outside.specs.Stream.{Moves, MovesFewer, IsDrained}
+use Rattle.nsc_outside.proofs.Streams.{Moves-then, take-written}
+use Rattle.nsc_model.specs.declared.kind.Kind.{Kind}
+use Rattle.nsc_model.specs.Entry.{key_limit}
+use Rattle.nsc_model.specs.Kinds.{kind_numbered}
+use Rattle.nsc_model.specs.Wire.{Asked, Look, Shutdown, Stat, Invalidate, Descriptor, Netgroup, Short, BadVersion, BadType, BadLength, request_of, field_in, signed_field_in, asked_look, text_key}
+use Rattle.nsc_wire.specs.Request.{asked_by}
+use Rattle.nsc_wire.specs.declared.request.Wire.{Wire}
+use Rattle.nsc_wire.specs.declared.request.Wire.TheVariants as wire
+use Rattle.nsc_server.specs.Requests.{IsNeeded, Wants, GetsShort, GetsMore, IsDrainedIfShort}
+
+-- fewer bytes than the fields are never a whole request
+pub short_below : (bytes : List ℕ) → length bytes < 12 → request_of bytes ≡ Short (length bytes)
+short_below bytes below = rw (lt-ltb (length bytes) 12 below) refl
+
+-- what a buffer holds once a part of it was filled, from the place on up to which it was held before
+pub gets_on : (before after : Option (List ℕ)) (old buf items written : List ℕ) (room have got more : ℕ) → take have items ≡ old → buf ≡ items → length buf ≡ room
+    → (room ≡ 1036) × (have ≤ 1036) → length old + more ≤ 1036 → length written ≡ length (take (have + more - have) (drop have buf))
+    → got ≤ length (take (have + more - have) (drop have buf)) → (got < length (take (have + more - have) (drop have buf)) → IsDrained after)
+    → Moves before after (take got written) → (new : List ℕ)
+    → new ≡ take (have + got) (take room (put_mid have (have + more - have) buf written ++ drop (length (put_mid have (have + more - have) buf written)) items))
+    → GetsMore before after old new more
+gets_on before after old buf items written room have got more held same room_is within fits length_is count ended moved new is =
+    let in_buf : have ≤ length buf = omega (arith, room_is, within.0, within.1) in
+    let buf_held : take have buf ≡ old = ap (take have) same ∙ held in
+    let old_is : length old ≡ have = ap length (sym buf_held) ∙ length-take-le have buf in_buf in
+    let part_is : length (take (have + more - have) (drop have buf)) ≡ more =
+    length-take-le (have + more - have) (drop have buf) (rw (length-drop have buf) (omega (arith, old_is, room_is, within.0, fits))) ∙ omega arith in
+    let got_fits : got ≤ length written = omega (arith, length_is, count) in
+    let whole : List ℕ = put_mid have (have + more - have) buf written in
+    let whole_is : length whole ≡ length buf = same_len_mid have (have + more - have) buf written length_is in
+    let front : new ≡ take (have + got) whole =
+    is ∙ take-take (have + got) room (whole ++ drop (length whole) items) (omega (arith, room_is, old_is, fits, within.0, part_is, count))
+    ∙ take-append-le (have + got) whole (drop (length whole) items) (omega (arith, whole_is, room_is, old_is, fits, within.0, part_is, count)) in
+    record {
+      more = take got written;
+      moved = moved;
+      joined = front ∙ take-written have (have + more - have) got buf written in_buf got_fits ∙ ap (λ t. t ++ take got written) buf_held;
+      limit = rw (length-take-le got written got_fits) (omega (arith, part_is, count));
+      drained = λ fewer. ended (omega (arith, part_is, length-take-le got written got_fits, fewer));
+    }
+
+-- ---- the fields
+
+-- a field of the first twelve bytes is not changed by those that follow
+field-append : (at : ℕ) (bytes more : List ℕ) → at + 4 ≤ length bytes → field_in (bytes ++ more) at ≡ field_in bytes at
+field-append at bytes more within =
+    let front : take 4 (drop at (bytes ++ more)) ≡ take 4 (drop at bytes) =
+    ap (take 4) (drop-append-le at bytes more (omega arith)) ∙ take-append-le 4 (drop at bytes) more (rw (length-drop at bytes) (omega arith)) in
+    sym (little_from-take 0 4 4 (drop at (bytes ++ more)) (omega arith)) ∙ ap (little_number 4) front ∙ little_from-take 0 4 4 (drop at bytes) (omega arith)
+
+-- a request is whole, or refused
+abbrev Whole : Asked → Type 0
+Whole (Short have) = ⊥
+Whole _ = Unit {0}
+
+-- the tests of a request
+abbrev tested : (few known high long cut : Bool) (size : ℕ) (version type key : ℤ) (asked : Asked) → Asked
+tested few known high long cut size version type key asked =
+    if few then Short size else (
+    if known then (
+    if high then BadType type else (
+    if long then BadLength key else (
+    if cut then Short size else asked)))
+    else BadVersion version)
+
+-- of the twelve bytes or more of a request that is not whole, and not refused, the fields are good, and the key is cut
+record Cut (known high long cut : Bool) : Type 0 where
+  is_known : known ≡ true
+  not_high : high ≡ false
+  not_long : long ≡ false
+  is_cut : cut ≡ true
+
+cut_by : (few known high long cut : Bool) (size : ℕ) (version type key : ℤ) (asked : Asked) (have : ℕ) → few ≡ false → Whole asked
+    → tested few known high long cut size version type key asked ≡ Short have → Cut known high long cut
+cut_by true known high long cut size version type key asked have f w e = absurd (true≢false f)
+cut_by false false high long cut size version type key asked have f w e = absurd (subst Whole e tt)
+cut_by false true true long cut size version type key asked have f w e = absurd (subst Whole e tt)
+cut_by false true false true cut size version type key asked have f w e = absurd (subst Whole e tt)
+cut_by false true false false false size version type key asked have f w e = absurd (subst Whole e w)
+cut_by false true false false true size version type key asked have f w e = record { is_known = refl; not_high = refl; not_long = refl; is_cut = refl }
+
+is_cut_by : (few known high long cut : Bool) (size : ℕ) (version type key : ℤ) (asked : Asked) → few ≡ false → Cut known high long cut
+    → tested few known high long cut size version type key asked ≡ Short size
+is_cut_by few known high long cut size version type key asked f c = rw (f, c.is_known, c.not_high, c.not_long, c.is_cut) refl
+
+whole_otherwise : (a b c d e : Bool) (key : List ℕ) → Whole (if a then Shutdown else (if b then Stat else (if c then Invalidate key else (if d then Netgroup else (if e then Netgroup else Descriptor)))))
+whole_otherwise true b c d e key = tt
+whole_otherwise false true c d e key = tt
+whole_otherwise false false true d e key = tt
+whole_otherwise false false false true e key = tt
+whole_otherwise false false false false true key = tt
+whole_otherwise false false false false false key = tt
+
+whole_look : (kind : Option Kind) (type : ℕ) (key : List ℕ) → Whole (asked_look kind type key)
+whole_look (Some kind) type key = tt
+whole_look None type key = whole_otherwise (type == 8) (type == 9) (type == 10) (type == 19) (type == 20) (text_key key)
+
+-- ---- what is wanted
+
+-- nothing more is wanted of fields that are not whole
+pub wants_whole : (fields : List ℕ) → length fields < 12 → Wants fields 0
+wants_whole fields few = record { limit = omega arith; whole = λ h. absurd (omega arith); short = λ more h. absurd (omega arith); enough = λ more have size is. few }
+
+-- nor of a request that is whole without a key, or refused
+pub wants_none : (fields : List ℕ) → ((have : ℕ) → request_of fields ≡ Short have → ⊥) → Wants fields 0
+wants_none fields not_short = record {
+  limit = omega arith;
+  whole = λ h. absurd (omega arith);
+  short = λ more h. absurd (omega arith);
+  enough = λ more have size is. absurd (none more size have is);
+} where
+  none : (more : List ℕ) → length more ≡ 0 → (have : ℕ) → request_of (fields ++ more) ≡ Short have → ⊥
+  none [] size have is = not_short have (ap request_of (sym (append-nil fields)) ∙ is)
+  none (x ∷ xs) size have is = absurd (omega (arith, size))
+
+-- else the key is wanted
+pub wants_key : (fields : List ℕ) (have : ℕ) → length fields ≡ 12 → request_of fields ≡ Short have → Wants fields (field_in fields 8)
+wants_key fields have twelve is = record {
+  limit = ltb-false key_limit (field_in fields 8) good.not_long;
+  whole = λ h. twelve;
+  short = λ more fewer. shortened more fewer ∙ ap Short (length-append fields more);
+  enough = λ more also size again. absurd (enough_is more also size again);
+} where
+  tests : (bytes : List ℕ) → 12 ≤ length bytes → (also : ℕ) → request_of bytes ≡ Short also
+      → Cut (field_in bytes 0 == 2) (nat_lt 21 (field_in bytes 4)) (nat_lt key_limit (field_in bytes 8)) (nat_lt (length bytes) (12 + field_in bytes 8))
+  tests bytes all also e =
+      let key : List ℕ = take (field_in bytes 8) (drop 12 bytes) in
+      let not_few : nat_lt (length bytes) 12 ≡ false = le-ltb (length bytes) 12 all in
+      cut_by (nat_lt (length bytes) 12) (field_in bytes 0 == 2) (nat_lt 21 (field_in bytes 4)) (nat_lt key_limit (field_in bytes 8)) (nat_lt (length bytes) (12 + field_in bytes 8))
+      (length bytes) (signed_field_in bytes 0) (signed_field_in bytes 4) (signed_field_in bytes 8) (asked_look (kind_numbered (field_in bytes 4)) (field_in bytes 4) key) also
+      not_few (whole_look (kind_numbered (field_in bytes 4)) (field_in bytes 4) key) e
+
+  good : Cut (field_in fields 0 == 2) (nat_lt 21 (field_in fields 4)) (nat_lt key_limit (field_in fields 8)) (nat_lt (length fields) (12 + field_in fields 8))
+  good = tests fields (omega (arith, twelve)) have is
+
+  size_of : (more : List ℕ) → length (fields ++ more) ≡ 12 + length more
+  size_of more = length-append fields more ∙ ap (λ n. n + length more) twelve
+
+  same : (at : ℕ) → at + 4 ≤ 12 → (more : List ℕ) → field_in (fields ++ more) at ≡ field_in fields at
+  same at within more = field-append at fields more (omega (arith, twelve, within))
+
+  shortened : (more : List ℕ) → length more < field_in fields 8 → request_of (fields ++ more) ≡ Short (length (fields ++ more))
+  shortened more fewer =
+      let bytes : List ℕ = fields ++ more in
+      let not_few : nat_lt (length bytes) 12 ≡ false = le-ltb (length bytes) 12 (omega (arith, size_of more)) in
+      is_cut_by (nat_lt (length bytes) 12) (field_in bytes 0 == 2) (nat_lt 21 (field_in bytes 4)) (nat_lt key_limit (field_in bytes 8)) (nat_lt (length bytes) (12 + field_in bytes 8))
+      (length bytes) (signed_field_in bytes 0) (signed_field_in bytes 4) (signed_field_in bytes 8)
+      (asked_look (kind_numbered (field_in bytes 4)) (field_in bytes 4) (take (field_in bytes 8) (drop 12 bytes))) not_few
+      record {
+        is_known = ap (λ n. n == 2) (same 0 (omega arith) more) ∙ good.is_known;
+        not_high = ap (λ n. nat_lt 21 n) (same 4 (omega arith) more) ∙ good.not_high;
+        not_long = ap (λ n. nat_lt key_limit n) (same 8 (omega arith) more) ∙ good.not_long;
+        is_cut = lt-ltb (length bytes) (12 + field_in bytes 8) (omega (arith, fewer, size_of more, same 8 (omega arith) more));
+      }
+
+  enough_is : (more : List ℕ) (also : ℕ) → length more ≡ field_in fields 8 → request_of (fields ++ more) ≡ Short also → ⊥
+  enough_is more also size again =
+      let cut = tests (fields ++ more) (omega (arith, size_of more)) also again in
+      let below : length (fields ++ more) < 12 + field_in (fields ++ more) 8 = ltb-true (length (fields ++ more)) (12 + field_in (fields ++ more) 8) cut.is_cut in
+      omega (arith, below, size_of more, size, same 8 (omega arith) more)
+
+-- a reading that tells that the request is not whole says it of the bytes
+pub short_wire : (bytes : List ℕ) (read : Wire) (have : ℕ) → asked_by bytes read ≡ Short have → (n : ℕ) × (read ≡ wire.Short n)
+short_wire bytes (wire.Request kind key) have e = absurd (subst Whole e tt)
+short_wire bytes wire.Descriptor have e = absurd (subst Whole e tt)
+short_wire bytes wire.Netgroup have e = absurd (subst Whole e tt)
+short_wire bytes wire.Shutdown have e = absurd (subst Whole e tt)
+short_wire bytes wire.Stat have e = absurd (subst Whole e tt)
+short_wire bytes (wire.Invalidate key) have e = absurd (subst Whole e tt)
+short_wire bytes (wire.Short n) have e = (n, refl)
+short_wire bytes (wire.BadVersion version) have e = absurd (subst Whole e tt)
+short_wire bytes (wire.BadType type) have e = absurd (subst Whole e tt)
+short_wire bytes (wire.BadLength size) have e = absurd (subst Whole e tt)
+
+-- ---- the whole reading
+
+few_needed : (front : List ℕ) (n : ℕ) → n < length front → n < 12 → request_of (take n front) ≡ Short n
+few_needed front n within few =
+    let size : length (take n front) ≡ n = length-take-le n front (omega arith) in
+    short_below (take n front) (omega (arith, size)) ∙ ap Short size
+
+-- what was read of the fields before the input failed
+pub gets_few : (before after : Option (List ℕ)) → MovesFewer before after 12 → GetsShort before after
+gets_few before after m = (m.0, m.2, (λ n h. few_needed m.0 n h (omega (arith, m.1))), short_below m.0 m.1)
+
+-- fields, and no more of a key than is wanted, hold no byte that is not needed
+pub all_needed : (fields more : List ℕ) (size : ℕ) → length fields ≤ 12 → Wants fields size → length more ≤ size → IsNeeded (fields ++ more)
+all_needed fields more size limit w within n h =
+    elim (cases_lt n 12) [
+      | inl few ↦ few_needed (fields ++ more) n h few
+      | inr all ↦ later all
+    ] where
+      later : 12 ≤ n → request_of (take n (fields ++ more)) ≡ Short n
+      later all =
+          let sizes : length (fields ++ more) ≡ length fields + length more = length-append fields more in
+          let wanted : 0 < size = omega (arith, h, sizes, limit, within) in
+          let twelve : length fields ≡ 12 = w.whole wanted in
+          let rest : ℕ = n - 12 in
+          let few : rest < length more = omega (arith, h, sizes, twelve) in
+          let front : take n (fields ++ more) ≡ fields ++ take rest more = ap (λ m. take m (fields ++ more)) (omega (arith, twelve)) ∙ take-append-add fields more rest in
+          let size_is : length (take rest more) ≡ rest = length-take-le rest more (omega arith) in
+          ap request_of front ∙ w.short (take rest more) (omega (arith, size_is, few, within)) ∙ ap Short (omega (arith, size_is, twelve))
+
+-- the bytes that two readings gave, the first of which began with none
+first_moved : (before after : Option (List ℕ)) (old fields : List ℕ) (size : ℕ) → old ≡ [] → GetsMore before after old fields size → Moves before after fields
+first_moved before after old fields size none first = subst (λ t. Moves before after t) (sym (first.joined ∙ ap (λ o. o ++ first.more) none)) first.moved
+
+pub first_limit : (before after : Option (List ℕ)) (old fields : List ℕ) (size : ℕ) → old ≡ [] → GetsMore before after old fields size → length fields ≤ size
+first_limit before after old fields size none first = rw (first.joined ∙ ap (λ o. o ++ first.more) none) first.limit
+
+pub both_moved : (before between after : Option (List ℕ)) (old fields whole : List ℕ) (first_size size : ℕ) → old ≡ [] → GetsMore before between old fields first_size
+    → GetsMore between after fields whole size → Moves before after whole
+both_moved before between after old fields whole first_size size none first second =
+    subst (λ t. Moves before after t) (sym second.joined) (Moves-then before between after fields second.more (first_moved before between old fields first_size none first) second.moved)
+
+-- no byte of them was not needed
+pub both_needed : (between after : Option (List ℕ)) (fields whole : List ℕ) (size : ℕ) → length fields ≤ 12 → Wants fields size → GetsMore between after fields whole size → IsNeeded whole
+both_needed between after fields whole size limit w second = subst IsNeeded (sym second.joined) (all_needed fields second.more size limit w second.limit)
+
+-- the input failed while the key was read
+pub gets_cut : (before between after : Option (List ℕ)) (old fields : List ℕ) (size : ℕ) → old ≡ [] → GetsMore before between old fields 12 → Wants fields size
+    → MovesFewer between after size → GetsShort before after
+gets_cut before between after old fields size none first w m = (
+  fields ++ m.0,
+  Moves-then before between after fields m.0 (first_moved before between old fields 12 none first) m.2,
+  all_needed fields m.0 size (first_limit before between old fields 12 none first) w (omega (arith, m.1)),
+  w.short m.0 m.1 ∙ ap Short (sym (length-append fields m.0)),
+)
+
+-- nothing is left where the request is not whole
+drained_if : (left : Option (List ℕ)) (asked : Asked) → ((have : ℕ) → asked ≡ Short have → IsDrained left) → IsDrainedIfShort left asked
+drained_if left (Look request) h = tt
+drained_if left Shutdown h = tt
+drained_if left Stat h = tt
+drained_if left (Invalidate name) h = tt
+drained_if left Descriptor h = tt
+drained_if left Netgroup h = tt
+drained_if left (Short have) h = h have refl
+drained_if left (BadVersion version) h = tt
+drained_if left (BadType type) h = tt
+drained_if left (BadLength size) h = tt
+
+-- a reading of no bytes leaves what was left
+stays : (before after : Option (List ℕ)) (moved : List ℕ) → length moved ≡ 0 → Moves before after moved → after ≡ before
+stays None after moved none m = m
+stays (Some left) after [] none m = m.1 ∙ ap Some (sym m.2)
+stays (Some left) after (x ∷ xs) none m = absurd (omega (arith, none))
+
+pub both_drained : (before between after : Option (List ℕ)) (old fields whole : List ℕ) (size : ℕ) → old ≡ [] → GetsMore before between old fields 12 → Wants fields size
+    → GetsMore between after fields whole size → IsDrainedIfShort after (request_of whole)
+both_drained before between after old fields whole size none first w second = drained_if after (request_of whole) (λ have is.
+    elim (cases_lt (length second.more) size) [
+      | inl fewer ↦ second.drained fewer
+      | inr all ↦ late have is all
+    ]) where
+      late : (have : ℕ) → request_of whole ≡ Short have → size ≤ length second.more → IsDrained after
+      late have is all =
+          let few : length fields < 12 = w.enough second.more have (omega (arith, second.limit, all)) (ap request_of (sym second.joined) ∙ is) in
+          let fields_is : length fields ≡ length first.more = ap length (first.joined ∙ ap (λ o. o ++ first.more) none) in
+          let ended : IsDrained between = first.drained (omega (arith, few, fields_is)) in
+          let no_key : size ≡ 0 = elim (cases_lt 0 size) [ inl some ↦ absurd (omega (arith, w.whole some, few)) | inr nothing ↦ omega (arith, nothing) ] in
+          subst IsDrained (sym (stays between after second.more (omega (arith, second.limit, no_key)) second.moved)) ended

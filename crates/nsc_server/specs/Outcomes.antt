@@ -1,0 +1,235 @@
+-- What came of one connection.
+use Rattle.std.specs.Prelude.{◌≡◌, ◌≢◌, ℕ, List, [], ◌∷◌, ◌⊎◌, Option, Some, None, IfSome, if◌then◌else◌}
+use Rattle.std.specs.Str.{bytes_eq}
+use Rattle.nsc_outside.specs.Stream.{Rose, Moves, IsDrained, Grows, GrowsByFront}
+use Rattle.nsc_model.specs.declared.kind.Db.{Db}
+use Rattle.nsc_model.specs.declared.kind.Db.TheVariants as db
+use Rattle.nsc_model.specs.declared.conf.DbConf.{DbConf}
+use Rattle.nsc_model.specs.declared.answer.Request.{Request}
+use Rattle.nsc_model.specs.declared.databases.Databases.{Databases}
+use Rattle.nsc_model.specs.declared.store.LookupFault.{LookupFault}
+use Rattle.nsc_model.specs.declared.store.LookupFault.TheVariants as fault
+use Rattle.nsc_model.specs.declared.store.InvalidateFault.{InvalidateFault}
+use Rattle.nsc_model.specs.declared.store.InvalidateFault.TheVariants as invalidate_fault
+use Rattle.nsc_model.specs.declared.store.Stats.{Stats}
+use Rattle.nsc_model.specs.Databases.{database_in}
+use Rattle.nsc_model.specs.History.{Answered}
+use Rattle.nsc_model.specs.Kinds.{database_of}
+use Rattle.nsc_model.specs.Machine.{room_of}
+use Rattle.nsc_model.specs.Stores.{FaultsRose, IsCounted, IsEmptied, IsFault, IsInvalidateFault, IsSpent, IsUnmoved}
+use Rattle.nsc_model.specs.Wire.{Asked, Look, Shutdown, Stat, Invalidate, Short, field, request_of}
+use Rattle.nsc_sockets.specs.declared.role.Role.{Role}
+use Rattle.nsc_server.specs.declared.served.Served.{Served}
+use Rattle.nsc_server.specs.declared.served.Served.TheVariants as served
+use Rattle.nsc_server.specs.Requests.{IsNeeded, closing_of}
+use Rattle.nsc_server.specs.Passes.{PassAt, OthersThan, passes_at}
+use Rattle.nsc_server.specs.declared.passes.Passes.{Passes}
+use Rattle.nsc_outside.specs.declared.stream.Source as source
+use Rattle.nsc_outside.specs.declared.stream.Sink as sink
+use Rattle.nsc_model.specs.declared.store.Store as store
+use Rattle.nsc_server.specs.Stats.{name_of, stats_text}
+
+-- ---- faults of a store
+
+-- what a fault of a lookup, and one of an invalidation, are for a connection
+abbrev pub served_by : LookupFault → Served
+served_by fault.NoMemory = served.NoMemory
+served_by (fault.Spent count) = served.Spent count
+served_by (fault.SourceFault file) = served.SourceFault file
+served_by (fault.TooLong file size) = served.TooLong file size
+
+abbrev pub served_after : InvalidateFault → Served
+served_after invalidate_fault.NoMemory = served.NoMemory
+served_after (invalidate_fault.Spent count) = served.Spent count
+
+-- ---- replies
+
+-- the database of this name
+abbrev pub db_named : List ℕ → Option Db
+db_named name =
+    if bytes_eq name (name_of db.Passwd) then Some db.Passwd else (
+    if bytes_eq name (name_of db.Group) then Some db.Group else (
+    if bytes_eq name (name_of db.Hosts) then Some db.Hosts else (
+    if bytes_eq name (name_of db.Services) then Some db.Services else None)))
+
+-- the fields that answer a control request: done, and EINVAL where the name is no database
+abbrev pub done : List ℕ
+done = field 0
+
+abbrev pub no_database : List ℕ
+no_database = field 22
+
+-- a pass was answered
+abbrev pub IsLookReply : Request → PassAt → PassAt → List ℕ → Type 0
+IsLookReply request before after reply = Answered before.seen after.seen request reply
+
+-- a database was emptied, or none has the name
+abbrev pub IsInvalidateReply : Option Db → Databases PassAt → Databases PassAt → List ℕ → Type 0
+IsInvalidateReply (Some which) before after reply = (reply ≡ done) × (epoch : ℕ) × IsEmptied (database_in before which).seen (database_in after which).seen epoch
+IsInvalidateReply None before after reply = (reply ≡ no_database) × (after ≡ before)
+
+-- the counts are those of a database of these settings, as the pass has seen it
+pub record IsCountOf (settings : DbConf) (after : PassAt) (stats : Stats) : Type 0 where
+  pub counted : IsCounted (room_of settings) after.seen stats
+  pub enabled : stats.enabled ≡ settings.enabled
+
+-- the counts of the four databases, in the order passwd, group, hosts and services
+pub record AreCounts (settings : Databases DbConf) (after : Databases PassAt) (stats : List Stats) : Type 0 where
+  pub passwd : Stats
+  pub group : Stats
+  pub hosts : Stats
+  pub services : Stats
+  pub passwd_is : IsCountOf settings.passwd after.passwd passwd
+  pub group_is : IsCountOf settings.group after.group group
+  pub hosts_is : IsCountOf settings.hosts after.hosts hosts
+  pub services_is : IsCountOf settings.services after.services services
+  pub all : stats ≡ passwd ∷ group ∷ hosts ∷ services ∷ []
+
+-- the text of their counts
+abbrev pub IsStatReply : Databases DbConf → Databases PassAt → List ℕ → Type 0
+IsStatReply settings after reply = (stats : List Stats) × AreCounts settings after stats × (reply ≡ stats_text stats)
+
+-- the reply to what was asked, where the passes were so at entry and are so at exit
+abbrev pub IsReply : Databases DbConf → Asked → Databases PassAt → Databases PassAt → List ℕ → Type 0
+IsReply settings (Look request) before after reply = IsLookReply request (database_in before (database_of request.kind)) (database_in after (database_of request.kind)) reply
+IsReply settings Shutdown before after reply = (reply ≡ done) × (after ≡ before)
+IsReply settings Stat before after reply = IsStatReply settings after reply
+IsReply settings (Invalidate name) before after reply = IsInvalidateReply (db_named name) before after reply
+IsReply settings _ before after reply = ⊥
+
+-- why there is no reply: as the store's call answered
+abbrev pub IsLookFault : PassAt → PassAt → Served → Type 0
+IsLookFault before after by = (f : LookupFault) × (by ≡ served_by f) × IsFault f after.seen before.faults after.faults before.file_faults after.file_faults
+
+abbrev pub IsInvalidateRefusal : Option Db → Databases PassAt → Served → Type 0
+IsInvalidateRefusal (Some which) after by = (f : InvalidateFault) × (by ≡ served_after f) × IsInvalidateFault f (database_in after which).seen
+IsInvalidateRefusal None after by = ⊥
+
+abbrev pub IsRefusal : Asked → Databases PassAt → Databases PassAt → Served → Type 0
+IsRefusal (Look request) before after by = IsLookFault (database_in before (database_of request.kind)) (database_in after (database_of request.kind)) by
+IsRefusal Stat before after by = by ≡ served.NoMemory
+IsRefusal (Invalidate name) before after by = IsInvalidateRefusal (db_named name) after by
+IsRefusal _ before after by = ⊥
+
+-- the passes of the databases that what was asked does not concern are as before
+abbrev pub OthersStay : Asked → Databases PassAt → Databases PassAt → Type 0
+OthersStay (Look request) before after = OthersThan (database_of request.kind) before after
+OthersStay (Invalidate name) before after = (other : Db) → db_named name ≢ Some other → database_in after other ≡ database_in before other
+OthersStay Stat before after = Unit {0}
+OthersStay _ before after = after ≡ before
+
+-- ---- the whole
+
+-- at one moment: what a stream has left or took, where it tells that, and the count of its faults
+pub record StreamAt : Type 0 where
+  pub bytes : Option (List ℕ)
+  pub faults : ℕ
+
+-- what an answer changes: the output, and the passes
+pub record Side : Type 0 where
+  pub output : StreamAt
+  pub passes : Databases PassAt
+
+abbrev pub stream_in : {R : Type 0} → source.Ghosts R → R → StreamAt
+stream_in g input = record { bytes = g.left input; faults = g.faults input }
+
+abbrev pub stream_out : {K : Type 0} → sink.Ghosts K → K → StreamAt
+stream_out g output = record { bytes = g.taken output; faults = g.faults output }
+
+abbrev pub side : {S P K : Type 0} → store.Ghosts S P → sink.Ghosts K → Passes P → K → Side
+side stores sinks passes output = record { output = stream_out sinks output; passes = passes_at stores passes }
+
+-- a reply was written, and this came of it; or the output failed, and took a front of it
+abbrev pub WritesReply : StreamAt → StreamAt → List ℕ → Served → Served → Type 0
+WritesReply before after reply replied by =
+    ((by ≡ replied) × Grows before.bytes after.bytes reply × (after.faults ≡ before.faults))
+    ⊎ ((by ≡ served.WriteFault) × GrowsByFront before.bytes after.bytes reply × Rose before.faults after.faults)
+
+-- the reply was written whole
+pub record IsReplied (settings : Databases DbConf) (asked : Asked) (before after : Side) : Type 0 where
+  pub reply : List ℕ
+  pub is_reply : IsReply settings asked before.passes after.passes reply
+  pub grown : Grows before.output.bytes after.output.bytes reply
+  pub calm : after.output.faults ≡ before.output.faults
+
+-- the output failed, and took a front of the reply
+pub record IsCutShort (settings : Databases DbConf) (asked : Asked) (before after : Side) : Type 0 where
+  pub reply : List ℕ
+  pub is_reply : IsReply settings asked before.passes after.passes reply
+  pub front : GrowsByFront before.output.bytes after.output.bytes reply
+  pub failed : Rose before.output.faults after.output.faults
+
+-- nothing was written, since there is no reply
+pub record IsRefused (asked : Asked) (before after : Side) (by : Served) : Type 0 where
+  pub silent : after.output ≡ before.output
+  pub refusal : IsRefusal asked before.passes after.passes by
+
+-- SHUTDOWN is told by an outcome of its own
+abbrev pub replied_to : Asked → Served
+replied_to Shutdown = served.ShutDown
+replied_to _ = served.Replied
+
+-- what was asked is answered, or the answer fails
+abbrev pub Answers : Databases DbConf → Asked → Side → Side → Served → Type 0
+Answers settings asked before after served.Replied = (replied_to asked ≡ served.Replied) × IsReplied settings asked before after
+Answers settings asked before after served.ShutDown = (asked ≡ Shutdown) × IsReplied settings asked before after
+Answers settings asked before after served.WriteFault = IsCutShort settings asked before after
+Answers settings asked before after (served.Closed why) = ⊥
+Answers settings asked before after (served.Ended have) = ⊥
+Answers settings asked before after served.ReadFault = ⊥
+Answers settings asked before after (served.SourceFault file) = IsRefused asked before after (served.SourceFault file)
+Answers settings asked before after (served.TooLong file size) = IsRefused asked before after (served.TooLong file size)
+Answers settings asked before after (served.Spent count) = IsRefused asked before after (served.Spent count)
+Answers settings asked before after served.NoMemory = IsRefused asked before after served.NoMemory
+
+-- what came of a connection on which this was asked: it is refused, or not whole, or answered
+abbrev pub Ends : Databases DbConf → Role → Asked → Option (List ℕ) → Side → Side → Served → Type 0
+Ends settings on asked left before after (served.Closed why) = (closing_of on asked ≡ Some why) × (after ≡ before)
+Ends settings on asked left before after (served.Ended have) = (asked ≡ Short have) × IsDrained left × (after ≡ before)
+Ends settings on asked left before after served.ReadFault = ((have : ℕ) × (asked ≡ Short have)) × (after ≡ before)
+Ends settings on asked left before after by = (closing_of on asked ≡ None) × OthersStay asked before.passes after.passes × Answers settings asked before after by
+
+-- the input's count of faults rose where it failed, and else stays
+abbrev pub CountsInput : Served → ℕ → ℕ → Type 0
+CountsInput served.ReadFault before after = Rose before after
+CountsInput _ before after = after ≡ before
+
+-- ---- completeness
+
+-- of a lookup: no count of faults of the pass rose, and the count of versions is not at its end
+pub record NoLookFault (before after : PassAt) : Type 0 where
+  pub calm : FaultsRose before.faults after.faults → ⊥
+  pub count_left : (count : ℕ) → IsSpent after.seen count → ⊥
+
+-- of an invalidation: no count that it needs is at its end
+abbrev pub NoInvalidateFault : PassAt → Type 0
+NoInvalidateFault after = (count : ℕ) → IsUnmoved after.seen count → ⊥
+
+abbrev pub NoStoreFault : Asked → Databases PassAt → Databases PassAt → Type 0
+NoStoreFault (Look request) before after = NoLookFault (database_in before (database_of request.kind)) (database_in after (database_of request.kind))
+NoStoreFault (Invalidate name) before after = IfSome (db_named name) (λ which. NoInvalidateFault (database_in after which))
+NoStoreFault _ before after = Unit {0}
+
+-- nothing failed
+pub record NoFault (asked : Asked) (input input' : StreamAt) (before after : Side) : Type 0 where
+  pub input_calm : Rose input.faults input'.faults → ⊥
+  pub output_calm : Rose before.output.faults after.output.faults → ⊥
+  pub store_calm : NoStoreFault asked before.passes after.passes
+
+-- what was asked is whole, and may be asked on a socket of this role
+pub record IsAnswerable (on : Role) (asked : Asked) : Type 0 where
+  pub open_to : closing_of on asked ≡ None
+  pub whole : (have : ℕ) → asked ≡ Short have → ⊥
+
+-- it is answered where nothing failed, unless memory was wanting
+abbrev pub Completes : Role → Asked → StreamAt → StreamAt → Side → Side → Served → Type 0
+Completes on asked input input' before after by = IsAnswerable on asked → NoFault asked input input' before after → (by ≡ replied_to asked) ⊎ (by ≡ served.NoMemory)
+
+-- one connection: what was read of the input, no further than it was needed, and what came of it
+pub record Serves (settings : Databases DbConf) (on : Role) (input input' : StreamAt) (before after : Side) (by : Served) : Type 0 where
+  pub front : List ℕ
+  pub moved : Moves input.bytes input'.bytes front
+  pub needed : IsNeeded front
+  pub counted : CountsInput by input.faults input'.faults
+  pub ends : Ends settings on (request_of front) input'.bytes before after by
+  pub complete : Completes on (request_of front) input input' before after by

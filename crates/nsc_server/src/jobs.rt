@@ -1,0 +1,76 @@
+ghost use Rattle.std.specs.Prelude.{◌^◌, ◌≤◌, IfSome};
+ghost use Rattle.nsc_server.specs.Jobs.{IsServable};
+ghost use Rattle.nsc_server.specs.Passes.{AreNamed, ArePasses, SawMore, passes_at};
+
+use crate::passes::{Passes, Stores};
+use crate::room::Room;
+use crate::serve::serve_one;
+use nsc_model::Store;
+use nsc_outside::{Sink, Source};
+use nsc_sockets::Role;
+use std::sync::Wait;
+
+/// A connection that is to be served.
+#[derive(Drop)]
+pub struct Job<R: Drop, K: Drop> {
+    /// The socket on which it came: Plain or Admin.
+    pub role: Role,
+    /// What the peer sends.
+    pub input: R,
+    /// What the peer is sent.
+    pub output: K,
+    /// The moment at which it is served, in seconds, below 2^62.
+    pub now: u64,
+}
+
+/// Where a worker gets its connections from.
+pub trait Jobs {
+    /// What a peer sends.
+    type In: Source + Drop;
+
+    /// What a peer is sent.
+    type Out: Sink + Drop;
+
+    /// The next connection, which may be waited for. `None` where no more is to come.
+    fn next<R: Wait>(&mut self, rt: &R) -> Option<Job<Self::In, Self::Out>>
+        ensures { IfSome result IsServable };
+}
+
+/// Serves connections until none is to come, and gives their number, which stays at 2^62.
+pub fn work<RT: AllocGlobal + Wait, J: Jobs, S: Store>(
+    rt: &RT,
+    jobs: &mut J,
+    stores: &Stores<S>,
+    passes: &mut Passes<S::Pass>,
+    room: &mut Room,
+) -> u64
+    requires named { AreNamed S.Store stores.now }
+    requires passes { ArePasses S.Store stores.now passes.old }
+    ensures passes { ArePasses S.Store stores.now passes.new }
+    ensures before { SawMore (passes_at S.Store passes.old) (passes_at S.Store passes.new) }
+    ensures limit { result ≤ 2 ^ 62 }
+{
+    let mut count = 0;
+    for _ in rt.forever() {
+        let Some(mut job) = jobs.next(rt) else {
+            break;
+        };
+        serve_one(
+            rt,
+            stores,
+            passes,
+            room,
+            &mut job.input,
+            &mut job.output,
+            job.role,
+            job.now,
+        );
+        if count < COUNT_LIMIT {
+            count += 1;
+        }
+    }
+    count
+}
+
+// Where the number of connections stays: 2^62.
+const COUNT_LIMIT: u64 = 4_611_686_018_427_387_904;

@@ -1,0 +1,118 @@
+ghost use Rattle.std.specs.Prelude.{◌≡◌, ◌≤◌, ◌<◌, ◌^◌, length, IfErr, IfOk};
+ghost use Rattle.nsc_base.specs.Text.{part};
+ghost use Rattle.nsc_model.specs.declared.kind.Db.{Db};
+ghost use Rattle.nsc_model.specs.Databases.{database_in};
+ghost use Rattle.nsc_model.specs.Stores.{IsFault, IsInvalidateFault, IsEmptied, reply_of};
+ghost use Rattle.nsc_model.specs.History.{Answered};
+ghost use Rattle.nsc_model.specs.Entry.{key_limit};
+ghost use Rattle.nsc_model.specs.Kinds.{database_of};
+ghost use Rattle.nsc_server.specs.Made.{bytes_of};
+ghost use Rattle.nsc_server.specs.Passes.{AreNamed, ArePasses, SawMore, OthersThan, passes_at, settings_of};
+ghost use Rattle.nsc_server.specs.Outcomes.{db_named, IsInvalidateRefusal, IsInvalidateReply};
+
+use crate::passes::{Passes, Stores};
+use crate::served::Served;
+use nsc_base::Bytes;
+use nsc_model::{Db, Given, InvalidateFault, Kind, LookupFault, Store};
+use std::alloc::Global;
+use std::sync::Wait;
+
+// A reply.
+#[derive(Drop)]
+pub(crate) enum Made {
+    // Of a lookup, or the text of statistics.
+    Told(Bytes),
+    // What was asked is done.
+    Done,
+    // No database has the name.
+    NoDatabase,
+}
+
+// The fields of four bytes that answer control requests: 0, and EINVAL of errno.h.
+const DONE: [u8; 4] = [0, 0, 0, 0];
+
+const NO_DATABASE: [u8; 4] = [22, 0, 0, 0];
+
+impl Made {
+    // Its bytes.
+    pub(crate) fn as_slice(&self) -> &[u8]
+        ensures { result.now ≡ bytes_of self.now }
+    {
+        match self {
+            Made::Told(bytes) => bytes.as_slice(),
+            Made::Done => &DONE,
+            Made::NoDatabase => &NO_DATABASE,
+        }
+    }
+}
+
+// The reply that a lookup gave.
+pub(crate) fn reply_bytes(given: Given) -> Bytes
+    ensures { result ≡ reply_of given }
+{
+    match given {
+        Given::Hit { bytes, .. } | Given::Loaded { bytes, .. } | Given::Fresh { bytes, .. } => {
+            bytes
+        }
+    }
+}
+
+// A lookup in one of the databases.
+pub(crate) fn look_up<R: Wait, S: Store>(
+    rt: &R,
+    alloc: Global,
+    stores: &Stores<S>,
+    passes: &mut Passes<S::Pass>,
+    kind: Kind,
+    key: &[u8],
+    now: u64,
+    db: Db,
+) -> Result<Given, LookupFault>
+    requires named { AreNamed S.Store stores.now }
+    requires passes { ArePasses S.Store stores.now passes.old }
+    requires db { database_of kind ≡ db }
+    requires key { length key.now ≤ key_limit }
+    requires moment { now < 2 ^ 62 }
+    ensures passes { ArePasses S.Store stores.now passes.new }
+    ensures before { SawMore (passes_at S.Store passes.old) (passes_at S.Store passes.new) }
+    ensures others { OthersThan db (passes_at S.Store passes.old) (passes_at S.Store passes.new) }
+    ensures answered { IfOk result (λ g. Answered (database_in (passes_at S.Store passes.old) db).seen (database_in (passes_at S.Store passes.new) db).seen (record { kind = kind; key = key.now }) (reply_of g)) }
+    ensures fault { IfErr result (λ fault. IsFault fault (database_in (passes_at S.Store passes.new) db).seen (database_in (passes_at S.Store passes.old) db).faults (database_in (passes_at S.Store passes.new) db).faults (database_in (passes_at S.Store passes.old) db).file_faults (database_in (passes_at S.Store passes.new) db).file_faults) }
+{
+    match db {
+        Db::Passwd => stores
+            .passwd
+            .lookup(rt, alloc, &mut passes.passwd, kind, key, now),
+        Db::Group => stores
+            .group
+            .lookup(rt, alloc, &mut passes.group, kind, key, now),
+        Db::Hosts => stores
+            .hosts
+            .lookup(rt, alloc, &mut passes.hosts, kind, key, now),
+        Db::Services => stores
+            .services
+            .lookup(rt, alloc, &mut passes.services, kind, key, now),
+    }
+}
+
+// Empties one of the databases.
+pub(crate) fn empty<R: Wait, S: Store>(
+    rt: &R,
+    stores: &Stores<S>,
+    passes: &mut Passes<S::Pass>,
+    db: Db,
+) -> Result<u64, InvalidateFault>
+    requires { ArePasses S.Store stores.now passes.old }
+    ensures passes { ArePasses S.Store stores.now passes.new }
+    ensures before { SawMore (passes_at S.Store passes.old) (passes_at S.Store passes.new) }
+    ensures others { OthersThan db (passes_at S.Store passes.old) (passes_at S.Store passes.new) }
+    ensures done { IfOk result (λ epoch. IsEmptied (database_in (passes_at S.Store passes.old) db).seen (database_in (passes_at S.Store passes.new) db).seen epoch) }
+    ensures fault { IfErr result (λ fault. IsInvalidateFault fault (database_in (passes_at S.Store passes.new) db).seen) }
+{
+    match db {
+        Db::Passwd => stores.passwd.invalidate(rt, &mut passes.passwd),
+        Db::Group => stores.group.invalidate(rt, &mut passes.group),
+        Db::Hosts => stores.hosts.invalidate(rt, &mut passes.hosts),
+        Db::Services => stores.services.invalidate(rt, &mut passes.services),
+    }
+}

@@ -1,0 +1,99 @@
+use nsc_base::NoMemory;
+use nsc_model::{FileId, InvalidateFault, LookupFault};
+
+/// What came of one connection.
+#[derive(Clone, Copy, Debug, PartialEq, Eq)]
+pub enum Served {
+    /// The whole reply was written.
+    Replied,
+    /// The whole reply to SHUTDOWN was written.
+    ShutDown,
+    /// The request was refused, and nothing was written.
+    Closed(Closing),
+    /// The input ended before the request did, and nothing was written.
+    Ended {
+        /// After how many bytes it ended.
+        have: usize,
+    },
+    /// The input failed, and nothing was written.
+    ReadFault,
+    /// The output failed. A front of the reply may be written.
+    WriteFault,
+    /// A file is there, or may be, and could not be read. Nothing was written.
+    SourceFault {
+        /// The file.
+        file: FileId,
+    },
+    /// A file is longer than 16,777,216 bytes. Nothing was written.
+    TooLong {
+        /// The file.
+        file: FileId,
+        /// The length in bytes, as far as it is known.
+        length: u64,
+    },
+    /// A count that the request needs stands at its end. Nothing was written.
+    Spent {
+        /// The count, 2^62.
+        count: u64,
+    },
+    /// Memory was wanting. Nothing was written.
+    NoMemory,
+}
+
+/// Why a request was refused.
+#[derive(Clone, Copy, Debug, PartialEq, Eq)]
+pub enum Closing {
+    /// It is of another version than 2.
+    BadVersion(i32),
+    /// Its type is below 0 or above 21.
+    BadType(i32),
+    /// The length of its key is below 0 or above 1,024.
+    BadLength(i32),
+    /// It asks for the descriptor of a database's memory.
+    Descriptor,
+    /// It asks of the netgroups, which are not cached.
+    Netgroup,
+    /// It controls the daemon, and came on a socket where only lookups may be asked.
+    RoleDenied,
+}
+
+impl From<LookupFault> for Served {
+    ghost use Rattle.std.specs.Prelude.{◌≡◌};
+    ghost use Rattle.nsc_server.specs.Outcomes.{served_by};
+
+    ghost from_gives = { λ fault served. served ≡ served_by fault };
+
+    fn from(fault: LookupFault) -> Served {
+        match fault {
+            LookupFault::NoMemory => Served::NoMemory,
+            LookupFault::Spent { count } => Served::Spent { count },
+            LookupFault::SourceFault { file } => Served::SourceFault { file },
+            LookupFault::TooLong { file, length } => Served::TooLong { file, length },
+        }
+    }
+}
+
+impl From<InvalidateFault> for Served {
+    ghost use Rattle.std.specs.Prelude.{◌≡◌};
+    ghost use Rattle.nsc_server.specs.Outcomes.{served_after};
+
+    ghost from_gives = { λ fault served. served ≡ served_after fault };
+
+    fn from(fault: InvalidateFault) -> Served {
+        match fault {
+            InvalidateFault::NoMemory => Served::NoMemory,
+            InvalidateFault::Spent { count } => Served::Spent { count },
+        }
+    }
+}
+
+impl From<NoMemory> for Served {
+    ghost use Rattle.std.specs.Prelude.{◌≡◌};
+    ghost use Rattle.nsc_server.specs.declared.served.Served.TheVariants.{NoMemory as Memory};
+
+    ghost from_gives = { λ _ served. served ≡ Memory };
+
+    fn from(_e: NoMemory) -> Served {
+        Served::NoMemory
+    }
+}
