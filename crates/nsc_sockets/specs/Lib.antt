@@ -1,1 +1,3 @@
+pub mod Adapters
 pub mod Connections
+pub mod Requests
