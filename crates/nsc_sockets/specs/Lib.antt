@@ -1,3 +1,4 @@
 pub mod Adapters
 pub mod Connections
+pub mod Modes
 pub mod Requests
