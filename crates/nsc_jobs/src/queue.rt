@@ -83,9 +83,7 @@ impl<T: Drop> Queue<T> {
         ensures called { IsTrue result → self.new.is_called ≡ true }
         ensures jobs { self.new.jobs.items ≡ self.old.jobs.items }
     {
-        let is_wanted = self.sleeping > 0
-            && !self.is_called
-            && self.looking < self.len();
+        let is_wanted = self.sleeping > 0 && !self.is_called && self.looking < self.len();
         if is_wanted {
             self.is_called = true;
         }

@@ -3,14 +3,13 @@ ghost use Rattle.nsc_sockets.specs.Modes.{mode_of};
 
 use crate::role::Role;
 use std::alloc::Global;
-use std::fs;
 use std::fs::{DirBuilder, Permissions};
-use std::io;
 use std::io::ErrorKind;
 use std::net::Net;
 use std::os::unix::fs::{DirBuilderExt, FileTypeExt, PermissionsExt};
 use std::os::unix::net::UnixListener;
 use std::rt::Files;
+use std::{fs, io};
 
 // The mode of a folder that is made: everyone may find the sockets in it.
 const FOLDER: u32 = 0o755;

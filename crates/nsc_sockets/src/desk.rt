@@ -10,13 +10,12 @@ use crate::waiting_room::WaitingRoom;
 use mio::{Events, Poll, Token};
 use std::alloc::Global;
 use std::collections::VecDeque;
-use std::io;
 use std::net::Net;
 use std::os::unix::net::UnixListener;
 use std::sync::Arc;
 use std::sync::atomic::AtomicU64;
-use std::thread;
 use std::time::{Clock, Duration};
+use std::{io, thread};
 
 // The tokens of doors begin here; those below are seats of the waiting room.
 const DOORS: usize = 1 << 20;
@@ -168,12 +167,12 @@ impl Desk {
         }
     }
 
-    // Waits until the system tells of something, at most for as long as is left. It does not sleep while connections stand or
-    // may wait at a door, nor at first while they are near each other.
+    // Waits until the system tells of something, at most for as long as is left. It does not sleep while there is work, nor at
+    // first while connections are near each other.
     fn rest(&mut self, turn: u32, left: Duration) -> io::Result<()> {
         let is_unknown = self.doors.iter().any(|door| door.is_unknown());
         let looks_on = self.is_wakeful && self.pace.is_near() && turn < WAKEFUL;
-        let is_awake = is_unknown || looks_on || self.room.has_standing();
+        let is_awake = looks_on || self.has_work();
         let limit = if is_awake { Duration::ZERO } else { left };
         self.poll.poll(&mut self.events, Some(limit))?;
         let has_news = !self.events.is_empty();
@@ -184,6 +183,13 @@ impl Desk {
             thread::yield_now();
         }
         Ok(())
+    }
+
+    // Whether there is somebody to look at of whom the system is not going to tell again.
+    fn has_work(&self) -> bool {
+        !self.stirred.is_empty()
+            || self.room.has_standing()
+            || self.doors.iter().any(|door| !door.is_quiet())
     }
 
     // Notes whom the system told of.

@@ -55,6 +55,11 @@ impl Door {
         self.more == More::Yes
     }
 
+    /// Whether no connection waits of which the system is not going to tell.
+    pub(crate) fn is_quiet(&self) -> bool {
+        self.more == More::No
+    }
+
     /// Whether connections may wait of which the system is not going to tell.
     pub(crate) fn is_unknown(&self) -> bool {
         self.more == More::Unknown

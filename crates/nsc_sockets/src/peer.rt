@@ -1,12 +1,11 @@
 ghost use Rattle.std.specs.Prelude.{◌≤◌, length, IfOk};
 
+use crate::request::LONGEST;
 use std::io;
 use std::io::{ErrorKind, Read, Write};
 use std::net::TcpStream;
 use std::os::fd::{AsRawFd, OwnedFd, RawFd};
 use std::time::Duration;
-
-use crate::request::LONGEST;
 
 /// A connection to another process. No call on it waits, but for those that are told how long they may.
 ///

@@ -76,7 +76,8 @@ impl UnixOutput {
         let outcome = if before < PATIENT {
             self.send_in_turns(part)
         } else {
-            self.peer.write_within(part, Duration::from_millis(SHORT_TURN))
+            self.peer
+                .write_within(part, Duration::from_millis(SHORT_TURN))
         };
         self.waiting.fetch_sub(1, Ordering::SeqCst);
         outcome
