@@ -11,11 +11,15 @@ mod files;
 #[cfg(test)]
 mod held;
 #[cfg(test)]
+mod jobs;
+#[cfg(test)]
 mod lookups;
 #[cfg(test)]
 mod runs;
 #[cfg(test)]
 mod settings;
+#[cfg(test)]
+mod sockets;
 #[cfg(test)]
 mod streams;
 #[cfg(test)]
