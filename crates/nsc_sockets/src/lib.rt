@@ -1,22 +1,38 @@
-//! Moments and connections: the traits of a clock and of a listener, each with forms in memory.
+//! Moments and connections: the traits of a clock and of a listener, each with forms in memory and one over the system's.
 #![tactic(auto)]
 
 mod arrival;
+mod binding;
 mod calm_listener;
 mod clock;
+mod desk;
+mod door;
+mod guest;
+mod host_clock;
 mod listener;
 mod mem_clock;
 mod mem_listener;
+mod pace;
+mod peer;
 mod peer_source;
+mod request;
 mod role;
 mod shared_sink;
+mod unix_input;
+mod unix_listener;
+mod unix_output;
+mod waiting_room;
 
 pub use arrival::{Arrival, Peer};
 pub use calm_listener::{CalmListener, CalmSink};
 pub use clock::Clock;
+pub use host_clock::HostClock;
 pub use listener::{Accepted, Listener};
 pub use mem_clock::MemClock;
 pub use mem_listener::MemListener;
 pub use peer_source::PeerSource;
 pub use role::Role;
 pub use shared_sink::{SharedSink, SinkReader};
+pub use unix_input::UnixInput;
+pub use unix_listener::UnixListener;
+pub use unix_output::UnixOutput;

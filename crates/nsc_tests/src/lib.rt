@@ -11,6 +11,10 @@ mod files;
 #[cfg(test)]
 mod held;
 #[cfg(test)]
+mod host_sockets;
+#[cfg(test)]
+mod jobs;
+#[cfg(test)]
 mod lookups;
 #[cfg(test)]
 mod runs;

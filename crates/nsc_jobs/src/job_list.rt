@@ -1,0 +1,95 @@
+use crate::queue::{Idle, Queue};
+use nsc_base::NoMemory;
+use std::alloc::Global;
+use std::sync::atomic::{AtomicU64, Ordering};
+use std::sync::{Condvar, Mutex, MutexGuard, Wait};
+use std::thread;
+use std::time::{Clock, Duration};
+
+// How often a worker looks for a job before it sleeps.
+const LOOKS: u32 = 100;
+
+/// Jobs that one thread puts and others take, in order. No worker is woken without need: at most one is on its way at a time,
+/// and while jobs follow each other closely one that has done its job looks for the next for a moment before it sleeps.
+#[derive(Drop)]
+pub struct JobList<T: Drop> {
+    queue: Mutex<Queue<T>>,
+    woken: Condvar,
+    // The number of jobs, for a look without the lock.
+    jobs: AtomicU64,
+    may_look: bool,
+}
+
+impl<T: Drop> JobList<T> {
+    /// An open list without jobs. With fewer than three processors no worker looks for jobs, which would keep others from
+    /// running.
+    pub fn new(alloc: Global, processors: usize) -> JobList<T> {
+        JobList {
+            queue: Mutex::new(Queue::new(alloc)),
+            woken: Condvar::new(),
+            jobs: AtomicU64::new(0),
+            may_look: processors >= 3,
+        }
+    }
+
+    /// Puts a job at the end, and calls a worker where one is wanted. Where there is no memory for it the job is dropped.
+    pub fn put<R: Wait + Clock>(&self, rt: &R, job: T) -> Result<(), NoMemory> {
+        let now = rt.monotonic().unwrap_or(Duration::ZERO);
+        let mut queue = self.queue.lock(rt);
+        queue.push(job, now)?;
+        self.end_turn(queue);
+        Ok(())
+    }
+
+    /// Tells the workers that no more jobs will come. Those that were put before are still taken.
+    pub fn close<R: Wait>(&self, rt: &R) {
+        self.queue.lock(rt).close();
+        self.woken.notify_all();
+    }
+
+    /// Takes the first job, and waits where there is none. `None` exactly where it found the list closed and without jobs.
+    pub fn take<R: Wait>(&self, rt: &R) -> Option<T> {
+        let mut may_look = self.may_look;
+        for _ in rt.forever() {
+            let mut queue = self.queue.lock(rt);
+            if let Some(job) = queue.pop() {
+                self.end_turn(queue);
+                return Some(job);
+            }
+            match queue.idle(may_look) {
+                Idle::Leave => return None,
+                Idle::Look => {
+                    drop(queue);
+                    self.look();
+                    self.queue.lock(rt).end_look();
+                    may_look = false;
+                }
+                Idle::Sleep => {
+                    self.woken.wait(rt, queue).wake();
+                    may_look = self.may_look;
+                }
+            }
+        }
+        unreachable!()
+    }
+
+    // Gives the lock up after a change of the jobs, and then calls a worker where one is wanted.
+    fn end_turn(&self, mut queue: MutexGuard<'_, Queue<T>>) {
+        self.jobs.store(queue.len(), Ordering::SeqCst);
+        let is_wanted = queue.call();
+        drop(queue);
+        if is_wanted {
+            self.woken.notify_one();
+        }
+    }
+
+    // Looks whether there are jobs, until there are or it has looked often enough.
+    fn look(&self) {
+        for _ in 0..LOOKS {
+            if self.jobs.load(Ordering::SeqCst) > 0 {
+                return;
+            }
+            thread::yield_now();
+        }
+    }
+}

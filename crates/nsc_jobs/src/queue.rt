@@ -1,0 +1,137 @@
+ghost use Rattle.std.specs.Prelude.{◌≡◌, ◌++◌, ◌∷◌, [], ◌↔◌, ◌+◌, ◌-◌, IsTrue, length, false, true, min, OnOk, OnErr, option_to_list};
+ghost use Rattle.nsc_jobs.specs.Jobs.{IsWorkerWanted};
+
+use nsc_base::NoMemory;
+use std::alloc::Global;
+use std::collections::VecDeque;
+use std::time::Duration;
+
+// Jobs are near each other where so much time at most lies between two, in microseconds.
+const NEAR: u64 = 100;
+
+/// The jobs of a list, in order, and what its workers do.
+#[derive(Drop)]
+pub(crate) struct Queue<T: Drop> {
+    pub(crate) jobs: VecDeque<T>,
+    pub(crate) sleeping: u64,
+    pub(crate) looking: u64,
+    // Whether a worker was called that has not come yet.
+    pub(crate) is_called: bool,
+    pub(crate) is_closed: bool,
+    is_near: bool,
+    latest: Duration,
+}
+
+/// What a worker does that found no job.
+#[derive(Clone, Copy, Debug, PartialEq, Eq)]
+pub(crate) enum Idle {
+    /// It leaves: no job will come.
+    Leave,
+    /// It looks for a job for a moment.
+    Look,
+    /// It sleeps until it is called.
+    Sleep,
+}
+
+impl<T: Drop> Queue<T> {
+    /// No job, and no worker.
+    pub(crate) fn new(alloc: Global) -> Queue<T>
+        ensures jobs { result.jobs.items ≡ [] }
+        ensures closed { result.is_closed ≡ false }
+    {
+        Queue {
+            jobs: VecDeque::new(alloc),
+            sleeping: 0,
+            looking: 0,
+            is_called: false,
+            is_closed: false,
+            is_near: false,
+            latest: Duration::ZERO,
+        }
+    }
+
+    /// Puts a job at the end, at this moment.
+    pub(crate) fn push(&mut self, job: T, now: Duration) -> Result<(), NoMemory>
+        ensures put { OnOk result (self.new.jobs.items ≡ self.old.jobs.items ++ job ∷ []) }
+        ensures stays { OnErr result (self.new.jobs.items ≡ self.old.jobs.items) }
+        ensures closed { self.new.is_closed ≡ self.old.is_closed }
+    {
+        self.is_near = now.saturating_sub(self.latest) < Duration::from_micros(NEAR);
+        self.latest = now;
+        self.jobs.push_back(job)?;
+        Ok(())
+    }
+
+    /// How many jobs there are.
+    pub(crate) fn len(&self) -> u64
+        ensures { result ≡ length self.now.jobs.items }
+    {
+        self.jobs.len() as u64
+    }
+
+    /// Takes the job at the front.
+    pub(crate) fn pop(&mut self) -> Option<T>
+        ensures jobs { self.old.jobs.items ≡ option_to_list result ++ self.new.jobs.items }
+        ensures closed { self.new.is_closed ≡ self.old.is_closed }
+    {
+        self.jobs.pop_front()
+    }
+
+    /// Whether one more worker is to be called, which is then on its way.
+    pub(crate) fn call(&mut self) -> bool
+        ensures wanted { IsTrue result ↔ IsWorkerWanted self.old }
+        ensures called { IsTrue result → self.new.is_called ≡ true }
+        ensures jobs { self.new.jobs.items ≡ self.old.jobs.items }
+    {
+        let is_wanted = self.sleeping > 0 && !self.is_called && self.looking < self.len();
+        if is_wanted {
+            self.is_called = true;
+        }
+        is_wanted
+    }
+
+    /// What a worker does for which there is no job, and notes that it does so. It looks for one only where it may, jobs are
+    /// near each other, and no other worker looks.
+    pub(crate) fn idle(&mut self, may_look: bool) -> Idle
+        ensures leaves { (result ≡ Idle.Leave) ↔ (self.old.is_closed ≡ true) }
+        ensures looks { result ≡ Idle.Look → self.new.looking ≡ self.old.looking + 1 }
+        ensures sleeps { result ≡ Idle.Sleep → self.new.sleeping ≡ min (self.old.sleeping + 1) u64.MAX }
+        ensures jobs { self.new.jobs.items ≡ self.old.jobs.items }
+    {
+        if self.is_closed {
+            Idle::Leave
+        } else if may_look && self.is_near && self.looking == 0 {
+            self.looking = 1;
+            Idle::Look
+        } else {
+            self.sleeping = self.sleeping.saturating_add(1);
+            Idle::Sleep
+        }
+    }
+
+    /// A worker looks no more.
+    pub(crate) fn end_look(&mut self)
+        ensures looking { self.new.looking ≡ self.old.looking - 1 }
+        ensures jobs { self.new.jobs.items ≡ self.old.jobs.items }
+    {
+        self.looking = self.looking.saturating_sub(1);
+    }
+
+    /// A worker sleeps no more, so the one that was called has come.
+    pub(crate) fn wake(&mut self)
+        ensures sleeping { self.new.sleeping ≡ self.old.sleeping - 1 }
+        ensures called { self.new.is_called ≡ false }
+        ensures jobs { self.new.jobs.items ≡ self.old.jobs.items }
+    {
+        self.sleeping = self.sleeping.saturating_sub(1);
+        self.is_called = false;
+    }
+
+    /// No more jobs will come.
+    pub(crate) fn close(&mut self)
+        ensures closed { self.new.is_closed ≡ true }
+        ensures jobs { self.new.jobs.items ≡ self.old.jobs.items }
+    {
+        self.is_closed = true;
+    }
+}

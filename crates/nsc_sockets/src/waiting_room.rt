@@ -1,0 +1,129 @@
+use crate::guest::{Guest, Look, Ready};
+use mio::unix::SourceFd;
+use mio::{Interest, Registry, Token};
+use slab::Slab;
+use std::alloc::{AllocError, Global};
+use std::collections::VecDeque;
+use std::os::fd::AsRawFd;
+use std::time::Duration;
+
+// So many new connections are looked at again on each turn, and so often each. Most requests come at once.
+const STANDING: usize = 8;
+
+const LOOKS: u32 = 50;
+
+// So many connections may wait for bytes that the system tells of.
+const SEATS: usize = 256;
+
+// How long a connection may sit without a whole request, in seconds.
+const STAY: u64 = 5;
+
+/// Connections of which too little came to give them out. At first they stand and are looked at on each turn, then they sit
+/// until the system tells of bytes. Each seat is its connection's token.
+#[derive(Drop)]
+pub(crate) struct WaitingRoom {
+    alloc: Global,
+    standing: VecDeque<Guest>,
+    seats: Slab<Guest>,
+}
+
+impl WaitingRoom {
+    /// A room with nobody in it.
+    pub(crate) fn new(alloc: Global) -> Result<WaitingRoom, AllocError> {
+        Ok(WaitingRoom {
+            alloc,
+            standing: VecDeque::with_capacity(alloc, STANDING)?,
+            seats: Slab::with_capacity(alloc, SEATS)?,
+        })
+    }
+
+    /// Whether some stand, so that nobody may sleep.
+    pub(crate) fn has_standing(&self) -> bool {
+        !self.standing.is_empty()
+    }
+
+    /// Looks at a new connection, and takes it in where it cannot be given out yet.
+    pub(crate) fn receive(&mut self, registry: &Registry, mut guest: Guest) -> Option<Ready> {
+        match guest.look(self.alloc, false) {
+            Look::Settled(ahead) => return Some(guest.ready(ahead)),
+            Look::Pending if self.standing.len() < STANDING => {
+                let _ = self.standing.push_back(guest);
+            }
+            Look::Pending => self.seat(registry, guest),
+            Look::Lost => {}
+        }
+        None
+    }
+
+    /// Looks once at those that stand, up to the first that can be given out. Who was looked at often enough sits down.
+    pub(crate) fn next_standing(&mut self, registry: &Registry) -> Option<Ready> {
+        for _ in 0..self.standing.len() {
+            let mut guest = self.standing.pop_front()?;
+            match guest.look(self.alloc, false) {
+                Look::Settled(ahead) => return Some(guest.ready(ahead)),
+                Look::Pending if guest.looks() < LOOKS => {
+                    let _ = self.standing.push_back(guest);
+                }
+                Look::Pending => self.seat(registry, guest),
+                Look::Lost => {}
+            }
+        }
+        None
+    }
+
+    /// Looks at the one in this seat, of which the system told that bytes came, or that no more will.
+    pub(crate) fn stir(&mut self, seat: usize, has_ended: bool) -> Option<Ready> {
+        match self.seats.get_mut(seat)?.look(self.alloc, has_ended) {
+            Look::Settled(ahead) => Some(self.seats.try_remove(seat)?.ready(ahead)),
+            Look::Pending => None,
+            Look::Lost => {
+                drop(self.seats.try_remove(seat));
+                None
+            }
+        }
+    }
+
+    // From now on the system tells of its bytes, also of those that came meanwhile. Without a free seat the oldest leaves.
+    fn seat(&mut self, registry: &Registry, guest: Guest) {
+        if self.seats.len() >= SEATS {
+            self.close_oldest();
+        }
+        let seat = self.seats.vacant_key();
+        let socket = guest.as_raw_fd();
+        let mut source = SourceFd(&socket);
+        if registry
+            .register(&mut source, Token(seat), Interest::READABLE)
+            .is_ok()
+        {
+            let _ = self.seats.insert(guest);
+        }
+    }
+
+    /// Closes those that have stayed too long at this moment.
+    pub(crate) fn sweep(&mut self, now: Duration) {
+        let stay = Duration::from_secs(STAY);
+        self.seats
+            .retain(|_, guest| now.saturating_sub(guest.since()) < stay);
+    }
+
+    /// Closes the oldest connection, and gives false where there is none.
+    pub(crate) fn close_oldest(&mut self) -> bool {
+        match self.oldest() {
+            Some(seat) => drop(self.seats.try_remove(seat)),
+            None => return self.standing.pop_front().is_some(),
+        }
+        true
+    }
+
+    // The seat of the oldest who sits.
+    fn oldest(&self) -> Option<usize> {
+        let mut oldest: Option<(usize, Duration)> = None;
+        for (seat, guest) in self.seats.iter() {
+            match oldest {
+                Some((_, since)) if since <= guest.since() => {}
+                _ => oldest = Some((seat, guest.since())),
+            }
+        }
+        oldest.map(|(seat, _)| seat)
+    }
+}

@@ -1,0 +1,67 @@
+use nsc_outside::{Failed, Sink, Source, fill, write_all};
+use nsc_sockets::{Accepted, Clock, HostClock, Listener, Role, UnixListener};
+use std::os::unix::fs::PermissionsExt;
+use std::test::Fail;
+use std::{fs, process};
+
+#[test]
+fn clock_of_the_system(rt: HostRuntime) {
+    let mut clock = HostClock::new(&rt);
+    let first = clock.now();
+    assert!(rt; first <= clock.now());
+    assert!(rt; clock.now() < first + 60);
+}
+
+// The permissions of the file at a path, without its kind.
+fn mode(rt: &HostRuntime, path: &str) -> Result<u32, Fail> {
+    Ok(fs::metadata(rt, path)?.permissions().mode() & 0o777)
+}
+
+// Reads a request of this many bytes, answers it, and gives whether all went well.
+fn answer<R: Source, K: Sink>(input: &mut R, output: &mut K, size: usize) -> bool {
+    let mut room = [0u8; 32];
+    let Some(room) = room.get_mut(..size) else {
+        return false;
+    };
+    fill(input, room) == Ok(size) && write_all(output, b"reply") == Ok(())
+}
+
+// A request goes through, a silent connection before it is passed over, and a second process finds the path taken.
+#[test]
+fn sockets_of_the_system(rt: HostRuntime) -> Result<(), Fail> {
+    let folder = format!(in rt.alloc(); "nsc-sockets-{}", process::id(rt.process()))?;
+    let path = format!(in rt.alloc(); "{folder}/socket")?;
+    let mut net = UnixListener::new(rt.alloc(), &rt, 4);
+    assert_eq!(rt; net.bind(Role::Plain, path.as_str()), Ok(()));
+    assert_eq!(rt; mode(&rt, path.as_str())?, 0o666);
+
+    let silent = net.connect(path.as_str());
+    assert!(rt; silent.is_ok());
+    let Ok((mut input, mut output)) = net.connect(path.as_str()) else {
+        return Err(Fail::new("no connection"));
+    };
+    let request = b"\x02\0\0\0\0\0\0\0\x05\0\0\0root\0";
+    assert_eq!(rt; write_all(&mut output, request.as_slice()), Ok(()));
+    match net.accept() {
+        Ok(
+            Accepted::Conn {
+                role: Role::Plain,
+                mut input,
+                mut output,
+            },
+        ) => assert!(rt; answer(&mut input, &mut output, request.len())),
+        _ => return Err(Fail::new("no request")),
+    }
+    let mut reply = [0u8; 8];
+    assert_eq!(rt; fill(&mut input, &mut reply), Ok(5));
+    assert_eq!(rt; &reply[..5], b"reply".as_slice());
+
+    let mut other = UnixListener::new(rt.alloc(), &rt, 4);
+    assert_eq!(rt; other.bind(Role::Admin, path.as_str()), Err(Failed));
+    assert_eq!(rt; (net.faults(), other.faults()), (0, 1));
+    drop(net);
+    assert_eq!(rt; other.bind(Role::Admin, path.as_str()), Ok(()));
+    assert_eq!(rt; mode(&rt, path.as_str())?, 0o600);
+    fs::remove_dir_all(&rt, folder.as_str())?;
+    Ok(())
+}

@@ -1,0 +1,43 @@
+use nsc_jobs::JobList;
+use std::sync::Wait;
+use std::thread;
+
+// Takes jobs until the list is closed, and gives their sum.
+fn sum<R: Wait>(rt: &R, jobs: &JobList<u64>) -> u64 {
+    let mut sum: u64 = 0;
+    for _ in rt.forever() {
+        match jobs.take(rt) {
+            Some(job) => sum = sum.wrapping_add(job),
+            None => break,
+        }
+    }
+    sum
+}
+
+#[test]
+fn jobs_of_one_thread(rt: HostRuntime) {
+    let jobs = JobList::new(rt.alloc(), 1);
+    assert!(rt; jobs.put(&rt, 1u64).is_ok());
+    assert!(rt; jobs.put(&rt, 2).is_ok());
+    jobs.close(&rt);
+    assert_eq!(rt; jobs.take(&rt), Some(1));
+    assert_eq!(rt; jobs.take(&rt), Some(2));
+    assert_eq!(rt; jobs.take(&rt), None);
+}
+
+// Two workers take each job of a third thread once.
+#[test]
+fn jobs_of_many_threads(rt: HostRuntime) {
+    let jobs = JobList::new(rt.alloc(), 4);
+    let (_, (first, second)) = thread::join(
+        &rt,
+        || {
+            for job in 1..=1000u64 {
+                let _ = jobs.put(&rt, job);
+            }
+            jobs.close(&rt);
+        },
+        || thread::join(&rt, || sum(&rt, &jobs), || sum(&rt, &jobs)),
+    );
+    assert_eq!(rt; first.wrapping_add(second), 500_500);
+}
