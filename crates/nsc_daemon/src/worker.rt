@@ -1,0 +1,73 @@
+ghost use Rattle.std.specs.Prelude.{IfOk};
+ghost use Rattle.std.specs.Arc.{arc_value};
+ghost use Rattle.nsc_server.specs.Passes.{AreNamed, ArePasses};
+
+use crate::queue::{Queue, Waitings};
+use nsc_base::NoMemory;
+use nsc_model::Store;
+use nsc_outside::{Sink, Source};
+use nsc_server::{Passes, Room, Stores, work};
+use std::alloc::Global;
+use std::sync::{Arc, Wait};
+
+/// One thread that serves connections: its passes, its buffer, and the connections that wait.
+#[derive(Drop)]
+pub struct Worker<S: Store + Drop, R: Source + Drop, K: Sink + Drop> {
+    pub stores: Arc<Stores<S>, Global>,
+    pub passes: Passes<S::Pass>,
+    pub room: Room,
+    pub queue: Queue<R, K>,
+    pub ghost own: { AreNamed S.Store (arc_value stores) × ArePasses S.Store (arc_value stores) passes },
+}
+
+impl<S: Store + Drop, R: Source + Drop, K: Sink + Drop> Worker<S, R, K> {
+    /// A worker with passes of its own. Fails only for want of memory.
+    pub fn new<RT: AllocGlobal + Wait>(
+        rt: &RT,
+        stores: &Arc<Stores<S>, Global>,
+        list: &Waitings<R, K>,
+    ) -> Result<Worker<S, R, K>, NoMemory>
+        requires { AreNamed S.Store (arc_value stores.now) }
+    {
+        let passes = attach_all(rt, stores)?;
+        let room = Room::new(rt.alloc())?;
+        let list = Arc::try_clone(list)?;
+        let stores = Arc::try_clone(stores)?;
+        Ok(Worker {
+            stores,
+            passes,
+            room,
+            queue: Queue { list },
+        })
+    }
+
+    /// Serves connections until no more will come.
+    pub fn run<RT: AllocGlobal + Wait>(mut self, rt: &RT) -> u64 {
+        work(
+            rt,
+            &mut self.queue,
+            &self.stores,
+            &mut self.passes,
+            &mut self.room,
+        )
+    }
+}
+
+/// A pass of each store. Fails only for want of memory.
+pub fn attach_all<RT: AllocGlobal + Wait, S: Store>(
+    rt: &RT,
+    stores: &Stores<S>,
+) -> Result<Passes<S::Pass>, NoMemory>
+    ensures { IfOk result (ArePasses S.Store stores.now) }
+{
+    let passwd = stores.passwd.attach(rt, rt.alloc())?;
+    let group = stores.group.attach(rt, rt.alloc())?;
+    let hosts = stores.hosts.attach(rt, rt.alloc())?;
+    let services = stores.services.attach(rt, rt.alloc())?;
+    Ok(Passes {
+        passwd,
+        group,
+        hosts,
+        services,
+    })
+}
