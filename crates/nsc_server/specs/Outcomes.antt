@@ -11,12 +11,13 @@ use Rattle.nsc_model.specs.declared.store.LookupFault.{LookupFault}
 use Rattle.nsc_model.specs.declared.store.LookupFault.TheVariants as fault
 use Rattle.nsc_model.specs.declared.store.InvalidateFault.{InvalidateFault}
 use Rattle.nsc_model.specs.declared.store.InvalidateFault.TheVariants as invalidate_fault
+use Rattle.nsc_model.specs.declared.store.Given.{Given}
 use Rattle.nsc_model.specs.declared.store.Stats.{Stats}
 use Rattle.nsc_model.specs.Databases.{database_in}
 use Rattle.nsc_model.specs.History.{Answered}
 use Rattle.nsc_model.specs.Kinds.{database_of}
 use Rattle.nsc_model.specs.Machine.{room_of}
-use Rattle.nsc_model.specs.Stores.{FaultsRose, IsCounted, IsEmptied, IsFault, IsInvalidateFault, IsSpent, IsUnmoved}
+use Rattle.nsc_model.specs.Stores.{FaultsRose, IsCounted, IsEmptied, IsFault, IsGiven, IsInvalidateFault, IsSpent, IsUnmoved, reply_of}
 use Rattle.nsc_model.specs.Wire.{Asked, Look, Shutdown, Stat, Invalidate, Short, field, request_of}
 use Rattle.nsc_sockets.specs.declared.role.Role.{Role}
 use Rattle.nsc_server.specs.declared.served.Served.{Served}
@@ -59,9 +60,12 @@ done = field 0
 abbrev pub no_database : List ℕ
 no_database = field 22
 
--- a pass was answered
-abbrev pub IsLookReply : Request → PassAt → PassAt → List ℕ → Type 0
-IsLookReply request before after reply = Answered before.seen after.seen request reply
+-- a pass was answered, as its store says at this moment
+pub record IsLookReply (settings : DbConf) (moment : ℕ) (request : Request) (before after : PassAt) (reply : List ℕ) : Type 0 where
+  pub answered : Answered before.seen after.seen request reply
+  pub given : Given
+  pub says : reply_of given ≡ reply
+  pub as_given : IsGiven given settings moment before.seen after.seen request
 
 -- a database was emptied, or none has the name
 abbrev pub IsInvalidateReply : Option Db → Databases PassAt → Databases PassAt → List ℕ → Type 0
@@ -90,12 +94,12 @@ abbrev pub IsStatReply : Databases DbConf → Databases PassAt → List ℕ → 
 IsStatReply settings after reply = (stats : List Stats) × AreCounts settings after stats × (reply ≡ stats_text stats)
 
 -- the reply to what was asked, where the passes were so at entry and are so at exit
-abbrev pub IsReply : Databases DbConf → Asked → Databases PassAt → Databases PassAt → List ℕ → Type 0
-IsReply settings (Look request) before after reply = IsLookReply request (database_in before (database_of request.kind)) (database_in after (database_of request.kind)) reply
-IsReply settings Shutdown before after reply = (reply ≡ done) × (after ≡ before)
-IsReply settings Stat before after reply = IsStatReply settings after reply
-IsReply settings (Invalidate name) before after reply = IsInvalidateReply (db_named name) before after reply
-IsReply settings _ before after reply = ⊥
+abbrev pub IsReply : Databases DbConf → ℕ → Asked → Databases PassAt → Databases PassAt → List ℕ → Type 0
+IsReply settings moment (Look request) before after reply = IsLookReply (database_in settings (database_of request.kind)) moment request (database_in before (database_of request.kind)) (database_in after (database_of request.kind)) reply
+IsReply settings moment Shutdown before after reply = (reply ≡ done) × (after ≡ before)
+IsReply settings moment Stat before after reply = IsStatReply settings after reply
+IsReply settings moment (Invalidate name) before after reply = IsInvalidateReply (db_named name) before after reply
+IsReply settings moment _ before after reply = ⊥
 
 -- why there is no reply: as the store's call answered
 abbrev pub IsLookFault : PassAt → PassAt → Served → Type 0
@@ -146,16 +150,16 @@ WritesReply before after reply replied by =
     ⊎ ((by ≡ served.WriteFault) × GrowsByFront before.bytes after.bytes reply × Rose before.faults after.faults)
 
 -- the reply was written whole
-pub record IsReplied (settings : Databases DbConf) (asked : Asked) (before after : Side) : Type 0 where
+pub record IsReplied (settings : Databases DbConf) (moment : ℕ) (asked : Asked) (before after : Side) : Type 0 where
   pub reply : List ℕ
-  pub is_reply : IsReply settings asked before.passes after.passes reply
+  pub is_reply : IsReply settings moment asked before.passes after.passes reply
   pub grown : Grows before.output.bytes after.output.bytes reply
   pub calm : after.output.faults ≡ before.output.faults
 
 -- the output failed, and took a front of the reply
-pub record IsCutShort (settings : Databases DbConf) (asked : Asked) (before after : Side) : Type 0 where
+pub record IsCutShort (settings : Databases DbConf) (moment : ℕ) (asked : Asked) (before after : Side) : Type 0 where
   pub reply : List ℕ
-  pub is_reply : IsReply settings asked before.passes after.passes reply
+  pub is_reply : IsReply settings moment asked before.passes after.passes reply
   pub front : GrowsByFront before.output.bytes after.output.bytes reply
   pub failed : Rose before.output.faults after.output.faults
 
@@ -170,24 +174,24 @@ replied_to Shutdown = served.ShutDown
 replied_to _ = served.Replied
 
 -- what was asked is answered, or the answer fails
-abbrev pub Answers : Databases DbConf → Asked → Side → Side → Served → Type 0
-Answers settings asked before after served.Replied = (replied_to asked ≡ served.Replied) × IsReplied settings asked before after
-Answers settings asked before after served.ShutDown = (asked ≡ Shutdown) × IsReplied settings asked before after
-Answers settings asked before after served.WriteFault = IsCutShort settings asked before after
-Answers settings asked before after (served.Closed why) = ⊥
-Answers settings asked before after (served.Ended have) = ⊥
-Answers settings asked before after served.ReadFault = ⊥
-Answers settings asked before after (served.SourceFault file) = IsRefused asked before after (served.SourceFault file)
-Answers settings asked before after (served.TooLong file size) = IsRefused asked before after (served.TooLong file size)
-Answers settings asked before after (served.Spent count) = IsRefused asked before after (served.Spent count)
-Answers settings asked before after served.NoMemory = IsRefused asked before after served.NoMemory
+abbrev pub Answers : Databases DbConf → ℕ → Asked → Side → Side → Served → Type 0
+Answers settings moment asked before after served.Replied = (replied_to asked ≡ served.Replied) × IsReplied settings moment asked before after
+Answers settings moment asked before after served.ShutDown = (asked ≡ Shutdown) × IsReplied settings moment asked before after
+Answers settings moment asked before after served.WriteFault = IsCutShort settings moment asked before after
+Answers settings moment asked before after (served.Closed why) = ⊥
+Answers settings moment asked before after (served.Ended have) = ⊥
+Answers settings moment asked before after served.ReadFault = ⊥
+Answers settings moment asked before after (served.SourceFault file) = IsRefused asked before after (served.SourceFault file)
+Answers settings moment asked before after (served.TooLong file size) = IsRefused asked before after (served.TooLong file size)
+Answers settings moment asked before after (served.Spent count) = IsRefused asked before after (served.Spent count)
+Answers settings moment asked before after served.NoMemory = IsRefused asked before after served.NoMemory
 
 -- what came of a connection on which this was asked: it is refused, or not whole, or answered
-abbrev pub Ends : Databases DbConf → Role → Asked → Option (List ℕ) → Side → Side → Served → Type 0
-Ends settings on asked left before after (served.Closed why) = (closing_of on asked ≡ Some why) × (after ≡ before)
-Ends settings on asked left before after (served.Ended have) = (asked ≡ Short have) × IsDrained left × (after ≡ before)
-Ends settings on asked left before after served.ReadFault = ((have : ℕ) × (asked ≡ Short have)) × (after ≡ before)
-Ends settings on asked left before after by = (closing_of on asked ≡ None) × OthersStay asked before.passes after.passes × Answers settings asked before after by
+abbrev pub Ends : Databases DbConf → ℕ → Role → Asked → Option (List ℕ) → Side → Side → Served → Type 0
+Ends settings moment on asked left before after (served.Closed why) = (closing_of on asked ≡ Some why) × (after ≡ before)
+Ends settings moment on asked left before after (served.Ended have) = (asked ≡ Short have) × IsDrained left × (after ≡ before)
+Ends settings moment on asked left before after served.ReadFault = ((have : ℕ) × (asked ≡ Short have)) × (after ≡ before)
+Ends settings moment on asked left before after by = (closing_of on asked ≡ None) × OthersStay asked before.passes after.passes × Answers settings moment asked before after by
 
 -- the input's count of faults rose where it failed, and else stays
 abbrev pub CountsInput : Served → ℕ → ℕ → Type 0
@@ -226,10 +230,10 @@ abbrev pub Completes : Role → Asked → StreamAt → StreamAt → Side → Sid
 Completes on asked input input' before after by = IsAnswerable on asked → NoFault asked input input' before after → (by ≡ replied_to asked) ⊎ (by ≡ served.NoMemory)
 
 -- one connection: what was read of the input, no further than it was needed, and what came of it
-pub record Serves (settings : Databases DbConf) (on : Role) (input input' : StreamAt) (before after : Side) (by : Served) : Type 0 where
+pub record Serves (settings : Databases DbConf) (moment : ℕ) (on : Role) (input input' : StreamAt) (before after : Side) (by : Served) : Type 0 where
   pub front : List ℕ
   pub moved : Moves input.bytes input'.bytes front
   pub needed : IsNeeded front
   pub counted : CountsInput by input.faults input'.faults
-  pub ends : Ends settings on (request_of front) input'.bytes before after by
+  pub ends : Ends settings moment on (request_of front) input'.bytes before after by
   pub complete : Completes on (request_of front) input input' before after by

@@ -1,14 +1,11 @@
 ghost use Rattle.std.specs.Prelude.{◌≡◌, ◌≤◌, ◌<◌, ◌^◌, length, IfErr, IfOk};
-ghost use Rattle.nsc_base.specs.Text.{part};
-ghost use Rattle.nsc_model.specs.declared.kind.Db.{Db};
 ghost use Rattle.nsc_model.specs.Databases.{database_in};
-ghost use Rattle.nsc_model.specs.Stores.{IsFault, IsInvalidateFault, IsEmptied, reply_of};
+ghost use Rattle.nsc_model.specs.Stores.{IsFault, IsGiven, IsInvalidateFault, IsEmptied, reply_of};
 ghost use Rattle.nsc_model.specs.History.{Answered};
 ghost use Rattle.nsc_model.specs.Entry.{key_limit};
 ghost use Rattle.nsc_model.specs.Kinds.{database_of};
 ghost use Rattle.nsc_server.specs.Made.{bytes_of};
 ghost use Rattle.nsc_server.specs.Passes.{AreNamed, ArePasses, SawMore, OthersThan, passes_at, settings_of};
-ghost use Rattle.nsc_server.specs.Outcomes.{db_named, IsInvalidateRefusal, IsInvalidateReply};
 
 use crate::passes::{Passes, Stores};
 use crate::served::Served;
@@ -77,6 +74,7 @@ pub(crate) fn look_up<R: Wait, S: Store>(
     ensures before { SawMore (passes_at S.Store passes.old) (passes_at S.Store passes.new) }
     ensures others { OthersThan db (passes_at S.Store passes.old) (passes_at S.Store passes.new) }
     ensures answered { IfOk result (λ g. Answered (database_in (passes_at S.Store passes.old) db).seen (database_in (passes_at S.Store passes.new) db).seen (record { kind = kind; key = key.now }) (reply_of g)) }
+    ensures given { IfOk result (λ g. IsGiven g (database_in (settings_of S.Store stores.now) db) now (database_in (passes_at S.Store passes.old) db).seen (database_in (passes_at S.Store passes.new) db).seen (record { kind = kind; key = key.now })) }
     ensures fault { IfErr result (λ fault. IsFault fault (database_in (passes_at S.Store passes.new) db).seen (database_in (passes_at S.Store passes.old) db).faults (database_in (passes_at S.Store passes.new) db).faults (database_in (passes_at S.Store passes.old) db).file_faults (database_in (passes_at S.Store passes.new) db).file_faults) }
 {
     match db {

@@ -42,7 +42,7 @@ pub fn serve_one<RT: AllocGlobal + Wait, S: Store, R: Source, K: Sink>(
     requires moment { now < 2 ^ 62 }
     ensures passes { ArePasses S.Store stores.now passes.new }
     ensures before { SawMore (passes_at S.Store passes.old) (passes_at S.Store passes.new) }
-    ensures served { Serves (settings_of S.Store stores.now) role (stream_in R.Source conn_in.old) (stream_in R.Source conn_in.new) (side S.Store K.Sink passes.old conn_out.old) (side S.Store K.Sink passes.new conn_out.new) result }
+    ensures served { Serves (settings_of S.Store stores.now) now role (stream_in R.Source conn_in.old) (stream_in R.Source conn_in.new) (side S.Store K.Sink passes.old conn_out.old) (side S.Store K.Sink passes.new conn_out.new) result }
 {
     let wire = match room.read(conn_in) {
         Ok(wire) => wire,
@@ -72,7 +72,7 @@ fn answer<RT: AllocGlobal + Wait, S: Store, K: Sink>(
     ensures passes { ArePasses S.Store stores.now passes.new }
     ensures before { SawMore (passes_at S.Store passes.old) (passes_at S.Store passes.new) }
     ensures others { OthersStay (asked_by bytes.now (wire_of admitted.now)) (passes_at S.Store passes.old) (passes_at S.Store passes.new) }
-    ensures answers { Answers (settings_of S.Store stores.now) (asked_by bytes.now (wire_of admitted.now)) (side S.Store K.Sink passes.old conn_out.old) (side S.Store K.Sink passes.new conn_out.new) result }
+    ensures answers { Answers (settings_of S.Store stores.now) now (asked_by bytes.now (wire_of admitted.now)) (side S.Store K.Sink passes.old conn_out.old) (side S.Store K.Sink passes.new conn_out.new) result }
 {
     match make(rt, stores, passes, bytes, admitted, now) {
         Ok(made) => reply(conn_out, made.as_slice(), admitted.replied()),
@@ -107,7 +107,7 @@ fn make<RT: AllocGlobal + Wait, S: Store>(
     ensures passes { ArePasses S.Store stores.now passes.new }
     ensures before { SawMore (passes_at S.Store passes.old) (passes_at S.Store passes.new) }
     ensures others { OthersStay (asked_by bytes.now (wire_of admitted.now)) (passes_at S.Store passes.old) (passes_at S.Store passes.new) }
-    ensures made { IfOk result (λ made. IsReply (settings_of S.Store stores.now) (asked_by bytes.now (wire_of admitted.now)) (passes_at S.Store passes.old) (passes_at S.Store passes.new) (bytes_of made)) }
+    ensures made { IfOk result (λ made. IsReply (settings_of S.Store stores.now) now (asked_by bytes.now (wire_of admitted.now)) (passes_at S.Store passes.old) (passes_at S.Store passes.new) (bytes_of made)) }
     ensures refused { IfErr result (IsRefusal (asked_by bytes.now (wire_of admitted.now)) (passes_at S.Store passes.old) (passes_at S.Store passes.new)) }
 {
     match admitted {
@@ -134,7 +134,7 @@ fn looked<RT: AllocGlobal + Wait, S: Store>(
     ensures passes { ArePasses S.Store stores.now passes.new }
     ensures before { SawMore (passes_at S.Store passes.old) (passes_at S.Store passes.new) }
     ensures others { OthersThan (database_of kind) (passes_at S.Store passes.old) (passes_at S.Store passes.new) }
-    ensures made { IfOk result (λ made. IsLookReply (record { kind = kind; key = key.now }) (database_in (passes_at S.Store passes.old) (database_of kind)) (database_in (passes_at S.Store passes.new) (database_of kind)) (bytes_of made)) }
+    ensures made { IfOk result (λ made. IsLookReply (database_in (settings_of S.Store stores.now) (database_of kind)) now (record { kind = kind; key = key.now }) (database_in (passes_at S.Store passes.old) (database_of kind)) (database_in (passes_at S.Store passes.new) (database_of kind)) (bytes_of made)) }
     ensures refused { IfErr result (IsLookFault (database_in (passes_at S.Store passes.old) (database_of kind)) (database_in (passes_at S.Store passes.new) (database_of kind))) }
 {
     let db = Db::of(kind);

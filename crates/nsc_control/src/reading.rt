@@ -1,0 +1,40 @@
+ghost use Rattle.std.specs.Prelude.{◌≡◌, ◌≤◌, length, IfErr, IfOk, OnOk};
+ghost use Rattle.nsc_outside.specs.Stream.{IsDrained, Moves};
+ghost use Rattle.nsc_control.specs.Commands.{IsUnread, stream_in};
+
+use crate::commands::Commanded;
+use nsc_base::{Bytes, NoMemory};
+use nsc_outside::{Source, fill};
+use std::alloc::Global;
+
+// The longest reply, in bytes.
+const REPLY_LIMIT: usize = 65_536;
+
+// Reads a connection to its end: all that it had. `BadReply` where more than 65,536 bytes came, which is one byte more.
+pub(crate) fn read_reply<R: Source>(alloc: Global, conn_in: &mut R) -> Result<Bytes, Commanded>
+    ensures came { IfOk result (λ reply. Moves (R.left conn_in.old) (R.left conn_in.new) reply) }
+    ensures all { OnOk result (IsDrained (R.left conn_in.new)) }
+    ensures limit { IfOk result (λ reply. length reply ≤ 65536) }
+    ensures unread { IfErr result (IsUnread (stream_in R.Source conn_in.old) (stream_in R.Source conn_in.new)) }
+{
+    let Ok(mut bytes) = room(alloc) else {
+        return Err(Commanded::NoMemory);
+    };
+    let Ok(count) = fill(conn_in, bytes.as_mut_slice()) else {
+        return Err(Commanded::NetFault);
+    };
+    if count > REPLY_LIMIT {
+        return Err(Commanded::BadReply);
+    }
+    bytes.truncate(count);
+    Ok(Bytes::from_vec(bytes))
+}
+
+// Room for one byte more than a reply may have.
+fn room(alloc: Global) -> Result<Vec<u8>, NoMemory>
+    ensures { IfOk result (λ bytes. length bytes.items ≡ 65537) }
+{
+    let mut bytes = Vec::with_capacity(alloc, REPLY_LIMIT + 1)?;
+    bytes.resize(REPLY_LIMIT + 1, 0)?;
+    Ok(bytes)
+}
