@@ -62,6 +62,7 @@ impl<F: FileSet + Drop, A: Answerer + Drop> Opened<F, A> {
         ensures only { IfOk result (λ o. o.book.newest ≡ part_of db o.book.newest) }
         ensures held { IfOk result (λ o. F.held o.files ≡ F.held files.old) }
         ensures stays { OnOk result (F.held files.new ≡ F.held files.old) }
+        ensures calm { OnOk result (F.faults files.new ≡ F.faults files.old) }
         ensures read { OnOk result (AllRose db (F.reads files.old) (F.reads files.new)) }
         ensures faults { IfErr result (λ fault. FaultRose fault (F.faults files.old) (F.faults files.new) (F.file_faults files.old) (F.file_faults files.new)) }
         ensures length { IfErr result (λ fault. TellsLength fault (F.held files.old)) }
