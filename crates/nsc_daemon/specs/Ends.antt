@@ -25,10 +25,14 @@ ready_line = codes "nscd: ready" ++ 10 ∷ []
 
 -- ---- connections
 
+-- bytes are the request SHUTDOWN, and what may stand after a request
+abbrev pub AsksEnd : List ℕ → Type 0
+AsksEnd bytes = (front : List ℕ) × (rest : List ℕ) × (bytes ≡ front ++ rest) × (request_of front ≡ Shutdown)
+
 -- a connection of this role, whose peer sends these bytes where that is told, tells the daemon to end
 pub record TellsEnd (on : Role) (left : Option (List ℕ)) : Type 0 where
   pub admin : on ≡ role.Admin
-  pub asked : IfSome left (λ bytes. request_of bytes ≡ Shutdown)
+  pub asked : IfSome left AsksEnd
 
 abbrev pub IsToldEnd : {R K : Type 0} → (R → Option (List ℕ)) → Accepted R K → Type 0
 IsToldEnd left (accepted.Conn on input output) = TellsEnd on (left input)
@@ -45,7 +49,7 @@ pub record IsLast (given : List Connection) (after : Option (List Connection)) :
   pub more : List Connection
   pub all : after ≡ Some (last ∷ more ++ given)
   pub admin : last.role ≡ role.Admin
-  pub asked : request_of last.bytes ≡ Shutdown
+  pub asked : AsksEnd last.bytes
 
 abbrev pub EndsBy : Option (List Connection) → Option (List Connection) → Type 0
 EndsBy before after = IfSome before (λ given. IsLast given after)
@@ -85,3 +89,16 @@ EndsSo ended.SourceFault before after = Rose before.source_faults after.source_f
 EndsSo (ended.TooLong size) before after = Rose before.source_faults after.source_faults × IsSilent before after
 EndsSo ended.NetFault before after = Rose before.net_faults after.net_faults × (IsSilent before after ⊎ IsReady before after)
 EndsSo ended.NoMemory before after = IsSilent before after
+
+-- why the databases were not opened: memory was wanting, or a file failed, as its set counts it
+abbrev pub IsOpeningFault : Ended → ℕ → ℕ → Type 0
+IsOpeningFault ended.NoMemory faults faults' = Unit {0}
+IsOpeningFault ended.SourceFault faults faults' = Rose faults faults'
+IsOpeningFault (ended.TooLong size) faults faults' = Rose faults faults'
+IsOpeningFault _ faults faults' = ⊥
+
+-- the sockets were not bound
+abbrev pub NotBound : Ended → ℕ → ℕ → Type 0
+NotBound ended.NoMemory faults faults' = Unit {0}
+NotBound ended.NetFault faults faults' = Rose faults faults'
+NotBound _ faults faults' = ⊥

@@ -1,8 +1,6 @@
 // The thread that accepts connections, serves those of the admin socket, and ticks.
 ghost use Rattle.std.specs.Prelude.{◌≡◌, ◌<◌, ◌^◌, IfSome};
 ghost use Rattle.std.specs.Bool.{OnTrue};
-ghost use Rattle.std.specs.Arc.{arc_value};
-ghost use Rattle.nsc_server.specs.Passes.{AreNamed, ArePasses};
 ghost use Rattle.nsc_server.specs.Requests.{TakesRequests};
 ghost use Rattle.nsc_daemon.specs.Ends.{IsToldEnd, StopsSo, TellsEnd};
 
@@ -10,9 +8,10 @@ use crate::ended::Ended;
 use crate::queue::{Waiting, Waitings};
 use nsc_model::Store;
 use nsc_outside::{Sink, Source};
-use nsc_server::{Job, Passes, Room, Served, Stores, serve_one};
+use nsc_server::{Passes, Room, Served, Stores, serve_one};
 use nsc_sockets::{Accepted, Clock, Listener, Role};
 use std::alloc::Global;
+use std::marker::Model;
 use std::sync::{Arc, Wait};
 use std::time::Duration;
 use std::{thread, time};
@@ -58,7 +57,18 @@ pub struct Desk<S: Store + Drop, R: Source + Drop, K: Sink + Drop> {
     pub room: Room,
     pub ticked: u64,
     pub waitings: Option<Waitings<R, K>>,
-    pub ghost own: { AreNamed S.Store (arc_value stores) × ArePasses S.Store (arc_value stores) passes },
+}
+
+impl<S: Store + Drop, R: Source + Drop, K: Sink + Drop> Model for Desk<S, R, K> {
+    ghost use Rattle.std.specs.Arc.{arc_value};
+    ghost use Rattle.nsc_server.specs.Passes.{AreNamed, ArePasses};
+    ghost use Rattle.nsc_daemon.specs.Workers.{Desk};
+
+    ghost Value = { Desk };
+
+    ghost view = { λ d. record { ticked = d.ticked } };
+
+    ghost invariant = { λ d. AreNamed S.Store (arc_value d.stores) × ArePasses S.Store (arc_value d.stores) d.passes };
 }
 
 impl<S: Store + Drop, R: Source + Drop, K: Sink + Drop> Desk<S, R, K> {
@@ -108,14 +118,9 @@ impl<S: Store + Drop, R: Source + Drop, K: Sink + Drop> Desk<S, R, K> {
             Role::Admin => self.serve(rt, role, input, output, now),
             Role::Plain => match &self.waitings {
                 Some(waitings) => {
-                    let job = Job {
-                        role,
-                        input,
-                        output,
-                        now,
-                    };
+                    let waiting = Waiting { input, output, now };
                     // Where there is no memory for it, it is closed.
-                    let _ = waitings.put(rt, Waiting { job });
+                    let _ = waitings.put(rt, waiting);
                     false
                 }
                 None => self.serve(rt, role, input, output, now),

@@ -1,5 +1,5 @@
 // The four databases, opened and not yet shared.
-ghost use Rattle.std.specs.Prelude.{◌≡◌, IfErr, IfOk, OnOk};
+ghost use Rattle.std.specs.Prelude.{◌≡◌, ◌≤◌, IfErr, IfOk, OnOk};
 ghost use Rattle.nsc_model.specs.Sizes.{SizesFit};
 ghost use Rattle.nsc_model.specs.Settings.{settings_of};
 ghost use Rattle.nsc_model.specs.declared.kind.Db.TheVariants as db_is;
@@ -29,7 +29,14 @@ fn opened<F: FileSet + Drop>(
     files: &mut F,
     db: Db,
     conf: &Conf,
-) -> Result<Opened<F, Plain>, Ended> {
+) -> Result<Opened<F, Plain>, Ended>
+    requires { (settings_of conf.now db).size ≤ 65536 }
+    ensures db { IfOk result (λ o. (o.db ≡ db) × (o.settings ≡ settings_of conf.now db) × (o.reloads ≡ conf.now.reloads)) }
+    ensures held { IfOk result (λ o. F.held o.files ≡ F.held files.old) }
+    ensures stays { OnOk result (F.held files.new ≡ F.held files.old) }
+    ensures calm { OnOk result (F.faults files.new ≡ F.faults files.old) }
+    ensures fault { IfErr result (λ ended. IsOpeningFault ended (F.faults files.old) (F.faults files.new)) }
+{
     match Opened::open(alloc, files, Plain, db, conf) {
         Ok(opened) => Ok(opened),
         Err(fault) => Err(Ended::from(fault)),
@@ -38,7 +45,15 @@ fn opened<F: FileSet + Drop>(
 
 impl<F: FileSet + Drop> Openings<F> {
     /// Opens the four databases over what their files hold.
-    pub fn open(alloc: Global, files: &mut F, conf: &Conf) -> Result<Openings<F>, Ended> {
+    pub fn open(alloc: Global, files: &mut F, conf: &Conf) -> Result<Openings<F>, Ended>
+        requires { SizesFit conf.now }
+        ensures passwd { IfOk result (λ o. (o.passwd.db ≡ db_is.Passwd) × (o.passwd.settings ≡ settings_of conf.now db_is.Passwd) × (o.passwd.reloads ≡ conf.now.reloads) × (F.held o.passwd.files ≡ F.held files.old)) }
+        ensures group { IfOk result (λ o. (o.group.db ≡ db_is.Group) × (o.group.settings ≡ settings_of conf.now db_is.Group) × (o.group.reloads ≡ conf.now.reloads) × (F.held o.group.files ≡ F.held files.old)) }
+        ensures hosts { IfOk result (λ o. (o.hosts.db ≡ db_is.Hosts) × (o.hosts.settings ≡ settings_of conf.now db_is.Hosts) × (o.hosts.reloads ≡ conf.now.reloads) × (F.held o.hosts.files ≡ F.held files.old)) }
+        ensures services { IfOk result (λ o. (o.services.db ≡ db_is.Services) × (o.services.settings ≡ settings_of conf.now db_is.Services) × (o.services.reloads ≡ conf.now.reloads) × (F.held o.services.files ≡ F.held files.old)) }
+        ensures calm { OnOk result (F.faults files.new ≡ F.faults files.old) }
+        ensures fault { IfErr result (λ ended. IsOpeningFault ended (F.faults files.old) (F.faults files.new)) }
+    {
         let passwd = opened(alloc, files, Db::Passwd, conf)?;
         let group = opened(alloc, files, Db::Group, conf)?;
         let hosts = opened(alloc, files, Db::Hosts, conf)?;
@@ -54,7 +69,16 @@ impl<F: FileSet + Drop> Openings<F> {
     /// Enters a room, in which threads may share them.
     pub fn enter<B: Room>(
         self,
-    ) -> Result<(Stores<Database<F, Plain, B>>, Passes<DbPass<F, B>>), NoMemory> {
+    ) -> Result<(Stores<Database<F, Plain, B>>, Passes<DbPass<F, B>>), NoMemory>
+        requires names { (self.passwd.db ≡ db_is.Passwd) × (self.group.db ≡ db_is.Group) × (self.hosts.db ≡ db_is.Hosts) × (self.services.db ≡ db_is.Services) }
+        requires tables { (self.passwd.pass.table ≡ B.table db_is.Passwd) × (self.group.pass.table ≡ B.table db_is.Group) × (self.hosts.pass.table ≡ B.table db_is.Hosts) × (self.services.pass.table ≡ B.table db_is.Services) }
+        requires passwd { (self.passwd.settings ≡ settings_of B.conf db_is.Passwd) × (self.passwd.reloads ≡ B.conf.reloads) × (F.held self.passwd.files ≡ B.held) }
+        requires group { (self.group.settings ≡ settings_of B.conf db_is.Group) × (self.group.reloads ≡ B.conf.reloads) × (F.held self.group.files ≡ B.held) }
+        requires hosts { (self.hosts.settings ≡ settings_of B.conf db_is.Hosts) × (self.hosts.reloads ≡ B.conf.reloads) × (F.held self.hosts.files ≡ B.held) }
+        requires services { (self.services.settings ≡ settings_of B.conf db_is.Services) × (self.services.reloads ≡ B.conf.reloads) × (F.held self.services.files ≡ B.held) }
+        ensures named { IfOk result (λ r. (r.0.passwd.db ≡ db_is.Passwd) × (r.0.group.db ≡ db_is.Group) × (r.0.hosts.db ≡ db_is.Hosts) × (r.0.services.db ≡ db_is.Services)) }
+        ensures passes { IfOk result (λ r. (r.1.passwd.db ≡ r.0.passwd.db) × (r.1.group.db ≡ r.0.group.db) × (r.1.hosts.db ≡ r.0.hosts.db) × (r.1.services.db ≡ r.0.services.db)) }
+    {
         let Openings {
             passwd,
             group,

@@ -1,17 +1,19 @@
-ghost use Rattle.std.specs.Prelude.{IfSome};
-ghost use Rattle.nsc_server.specs.Jobs.{IsServable};
+ghost use Rattle.std.specs.Prelude.{◌<◌, ◌^◌};
 
 use nsc_jobs::JobList;
 use nsc_outside::{Sink, Source};
 use nsc_server::{Job, Jobs};
+use nsc_sockets::Role;
 use std::alloc::Global;
 use std::sync::{Arc, Wait};
 
-/// A connection that waits for a worker.
+/// A connection to the plain socket that waits for a worker.
 #[derive(Drop)]
 pub struct Waiting<R: Drop, K: Drop> {
-    pub job: Job<R, K>,
-    pub ghost servable: { IsServable job },
+    pub input: R,
+    pub output: K,
+    pub now: u64,
+    pub ghost moment: { now < 2 ^ 62 },
 }
 
 /// The connections that wait, as the workers and the thread that accepts share them.
@@ -31,8 +33,13 @@ impl<R: Source + Drop, K: Sink + Drop> Jobs for Queue<R, K> {
     fn next<RT: Wait>(&mut self, rt: &RT) -> Option<Job<R, K>> {
         match self.list.take(rt) {
             Some(waiting) => {
-                let Waiting { job } = waiting;
-                Some(job)
+                let Waiting { input, output, now } = waiting;
+                Some(Job {
+                    role: Role::Plain,
+                    input,
+                    output,
+                    now,
+                })
             }
             None => None,
         }

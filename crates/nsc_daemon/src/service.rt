@@ -1,3 +1,12 @@
+ghost use Rattle.std.specs.Prelude.{◌≡◌, ℕ, IfErr, OnOk};
+ghost use Rattle.std.specs.Arc.{arc_value};
+ghost use Rattle.nsc_outside.specs.Stream.{Rose};
+ghost use Rattle.nsc_model.specs.Settings.{settings_of};
+ghost use Rattle.nsc_model.specs.Sizes.{SizesFit};
+ghost use Rattle.nsc_model.specs.declared.kind.Db.TheVariants as db_is;
+ghost use Rattle.nsc_server.specs.Passes.{AreNamed, ArePasses};
+ghost use Rattle.nsc_daemon.specs.Ends.{EndsSo, NotBound, StopsSo};
+
 use crate::desk::{Desk, accept_all};
 use crate::ended::Ended;
 use crate::opening::Openings;
@@ -17,7 +26,12 @@ use std::thread;
 use std::thread::{JoinHandle, Threads};
 use std::time;
 
-/// Runs the daemon until a connection to its admin socket tells it to end.
+/// Runs the daemon: opens the four databases over these files, binds `socket` and `admin` in the folder, tells the output that it is
+/// ready, and serves connections and ticks until one on the admin socket tells it to end.
+///
+/// At `ShutDown` the line was written, and the newest connection that the listener gave asked for the end. `SourceFault` and
+/// `TooLong` come only where a file failed at the start, `NetFault` where a call on the listener failed, and `WriteFault` where
+/// one on the output did, which may have taken a front of the line. At `NoMemory` nothing was written.
 pub fn daemon<
     RT: AllocGlobal + Threads + Wait + time::Clock + Clone + Drop + Send + Sync + 'static,
     K: Sink,
@@ -35,6 +49,8 @@ pub fn daemon<
 where
     N::In: 'static,
     N::Out: 'static,
+    requires { SizesFit terms.now.conf.now }
+    ensures { EndsSo result (record { taken = K.taken output.old; output_faults = K.faults output.old; source_faults = F.faults files.old; given = N.given net.old; net_faults = N.faults net.old }) (record { taken = K.taken output.new; output_faults = K.faults output.new; source_faults = F.faults files.new; given = N.given net.new; net_faults = N.faults net.new }) }
 {
     match Openings::open(rt.alloc(), files, terms.conf) {
         Ok(openings) => in_room::<Brand, RT, K, F, C, N>(rt, terms, openings, output, clock, net),
@@ -61,6 +77,13 @@ fn in_room<
 where
     N::In: 'static,
     N::Out: 'static,
+    requires names { (openings.passwd.db ≡ db_is.Passwd) × (openings.group.db ≡ db_is.Group) × (openings.hosts.db ≡ db_is.Hosts) × (openings.services.db ≡ db_is.Services) }
+    requires tables { (openings.passwd.pass.table ≡ B.table db_is.Passwd) × (openings.group.pass.table ≡ B.table db_is.Group) × (openings.hosts.pass.table ≡ B.table db_is.Hosts) × (openings.services.pass.table ≡ B.table db_is.Services) }
+    requires passwd { (openings.passwd.settings ≡ settings_of B.conf db_is.Passwd) × (openings.passwd.reloads ≡ B.conf.reloads) × (F.held openings.passwd.files ≡ B.held) }
+    requires group { (openings.group.settings ≡ settings_of B.conf db_is.Group) × (openings.group.reloads ≡ B.conf.reloads) × (F.held openings.group.files ≡ B.held) }
+    requires hosts { (openings.hosts.settings ≡ settings_of B.conf db_is.Hosts) × (openings.hosts.reloads ≡ B.conf.reloads) × (F.held openings.hosts.files ≡ B.held) }
+    requires services { (openings.services.settings ≡ settings_of B.conf db_is.Services) × (openings.services.reloads ≡ B.conf.reloads) × (F.held openings.services.files ≡ B.held) }
+    ensures { (faults : ℕ) → EndsSo result (record { taken = K.taken output.old; output_faults = K.faults output.old; source_faults = faults; given = N.given net.old; net_faults = N.faults net.old }) (record { taken = K.taken output.new; output_faults = K.faults output.new; source_faults = faults; given = N.given net.new; net_faults = N.faults net.new }) }
 {
     match openings.enter::<B>() {
         Ok((stores, passes)) => serve(rt, terms, stores, passes, output, clock, net),
@@ -88,6 +111,9 @@ where
     S::Pass: Send + 'static,
     N::In: 'static,
     N::Out: 'static,
+    requires named { AreNamed S.Store stores }
+    requires passes { ArePasses S.Store stores passes }
+    ensures { (faults : ℕ) → EndsSo result (record { taken = K.taken output.old; output_faults = K.faults output.old; source_faults = faults; given = N.given net.old; net_faults = N.faults net.old }) (record { taken = K.taken output.new; output_faults = K.faults output.new; source_faults = faults; given = N.given net.new; net_faults = N.faults net.new }) }
 {
     let alloc = rt.alloc();
     let room = match Room::new(alloc) {
@@ -106,11 +132,13 @@ where
         Ok(list) => list,
         Err(_) => return Ended::NoMemory,
     };
-    if let Err(ended) = bind(alloc, terms.run_dir, net) {
-        return ended;
+    match bind(alloc, terms.run_dir, net) {
+        Ok(()) => {}
+        Err(ended) => return ended,
     }
-    if write_all(output, b"nscd: ready\n").is_err() {
-        return Ended::WriteFault;
+    match write_all(output, b"nscd: ready\n") {
+        Ok(()) => {}
+        Err(_) => return Ended::WriteFault,
     }
     let ticked = clock.now();
     let mut desk = Desk {
@@ -124,7 +152,11 @@ where
 }
 
 // Binds the two sockets.
-fn bind<N: Listener>(alloc: Global, run_dir: &str, net: &mut N) -> Result<(), Ended> {
+fn bind<N: Listener>(alloc: Global, run_dir: &str, net: &mut N) -> Result<(), Ended>
+    ensures given { N.given net.new ≡ N.given net.old }
+    ensures calm { OnOk result (N.faults net.new ≡ N.faults net.old) }
+    ensures fault { IfErr result (λ ended. NotBound ended (N.faults net.old) (N.faults net.new)) }
+{
     let plain = format!(in alloc; "{run_dir}/socket")?;
     let admin = format!(in alloc; "{run_dir}/admin")?;
     if net.bind(Role::Plain, plain.as_str()).is_err() {
@@ -154,6 +186,7 @@ where
     S::Pass: Send + 'static,
     N::In: 'static,
     N::Out: 'static,
+    ensures { StopsSo result (N.given net.old) (N.given net.new) (N.faults net.old) (N.faults net.new) }
 {
     let threads = started(rt, workers, desk, list);
     if !threads.is_empty() {

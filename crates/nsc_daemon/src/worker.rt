@@ -8,6 +8,7 @@ use nsc_model::Store;
 use nsc_outside::{Sink, Source};
 use nsc_server::{Passes, Room, Stores, work};
 use std::alloc::Global;
+use std::marker::Model;
 use std::sync::{Arc, Wait};
 
 /// One thread that serves connections: its passes, its buffer, and the connections that wait.
@@ -17,7 +18,18 @@ pub struct Worker<S: Store + Drop, R: Source + Drop, K: Sink + Drop> {
     pub passes: Passes<S::Pass>,
     pub room: Room,
     pub queue: Queue<R, K>,
-    pub ghost own: { AreNamed S.Store (arc_value stores) × ArePasses S.Store (arc_value stores) passes },
+}
+
+impl<S: Store + Drop, R: Source + Drop, K: Sink + Drop> Model for Worker<S, R, K> {
+    ghost use Rattle.std.specs.Arc.{arc_value};
+    ghost use Rattle.nsc_server.specs.Passes.{AreNamed, ArePasses};
+    ghost use Rattle.nsc_daemon.specs.Workers.{Worker};
+
+    ghost Value = { Worker };
+
+    ghost view = { λ w. record { } };
+
+    ghost invariant = { λ w. AreNamed S.Store (arc_value w.stores) × ArePasses S.Store (arc_value w.stores) w.passes };
 }
 
 impl<S: Store + Drop, R: Source + Drop, K: Sink + Drop> Worker<S, R, K> {
@@ -42,14 +54,14 @@ impl<S: Store + Drop, R: Source + Drop, K: Sink + Drop> Worker<S, R, K> {
     }
 
     /// Serves connections until no more will come.
-    pub fn run<RT: AllocGlobal + Wait>(mut self, rt: &RT) -> u64 {
-        work(
-            rt,
-            &mut self.queue,
-            &self.stores,
-            &mut self.passes,
-            &mut self.room,
-        )
+    pub fn run<RT: AllocGlobal + Wait>(self, rt: &RT) -> u64 {
+        let Worker {
+            stores,
+            mut passes,
+            mut room,
+            mut queue,
+        } = self;
+        work(rt, &mut queue, &stores, &mut passes, &mut room)
     }
 }
 

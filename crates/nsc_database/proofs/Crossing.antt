@@ -1,7 +1,7 @@
 -- Databases may be shared, and their passes go to other threads.
 use denote.RattleType.{RattleType}
 use denote.Enum.Declared.{shape}
-use denote.Param.Send.{IsSend, IsSync, enum_sync, sendable}
+use denote.Param.Send.{IsSend, IsSync, enum_send, enum_sync, sendable}
 use Rattle.std.proofs.Crossing.{crosses}
 use Rattle.nsc_base.specs.contracts.buf.Buf as buf
 use Rattle.nsc_model.specs.declared.answerer.Answerer as answerer
@@ -62,3 +62,15 @@ module _ (F A B R : RattleType) (f : file_set.Ghosts F.Denot) (a : answerer.Ghos
 
   pub database-sync : IsSync (database.the_row F A B R f a r)
   database-sync = search (sendable, crosses, bases-sync) depth 30
+
+  base-send : (D : RattleType) (o : of_db.Ghosts D.Denot) → IsSend A → IsSend D → IsSend (base.the_field D F A B R o f a r).row
+  base-send D o owned d = search (sendable, crosses, desk-send, shelved-send, rule.map-send) depth 30
+
+  bases-send : IsSend A → IsSend (bases.the_field F A B R f a r).row
+  bases-send owned = enum_send (shape (bases.the_type F A B R f a r)) (
+    (base-send passwd.the_row of_passwd.ghosts owned passwd-send, tt),
+    ((base-send group.the_row of_group.ghosts owned group-send, tt), ((base-send hosts.the_row of_hosts.ghosts owned hosts-send, tt), ((base-send services.the_row of_services.ghosts owned services-send, tt), tt))),
+  )
+
+  pub database-send : IsSend A → IsSend (database.the_row F A B R f a r)
+  database-send owned = search (sendable, crosses, bases-send) depth 30

@@ -1,0 +1,73 @@
+-- How the thread that accepts ends.
+use Rattle.std.proofs.Common.{◌≡◌, ◌∙◌, ℕ, List, [], ◌∷◌, ◌++◌, Option, Some, None, IfSome, refl, sym, ap, subst, inr}
+use Rattle.nsc_outside.specs.Stream.{Moves}
+use Rattle.nsc_model.specs.Wire.{Asked, Shutdown, request_of}
+use Rattle.nsc_server.specs.Requests.{closing_of}
+use Rattle.nsc_sockets.specs.Connections.{Connection, Gives}
+use Rattle.nsc_sockets.specs.declared.listener.Accepted.{Accepted}
+use Rattle.nsc_sockets.specs.declared.listener.Accepted.TheVariants as accepted
+use Rattle.nsc_sockets.specs.declared.role.Role.{Role}
+use Rattle.nsc_sockets.specs.declared.role.Role.TheVariants as role
+use Rattle.nsc_daemon.specs.declared.ended.Ended.{Ended}
+use Rattle.nsc_daemon.specs.declared.ended.Ended.TheVariants as ended
+use Rattle.nsc_daemon.specs.Ends.{AsksEnd, EndsBy, EndsSo, GoesOn, IsReady, IsToldEnd, Outside, StopsSo, TellsEnd}
+
+pub told_end : (on : Role) (left left' : Option (List ℕ)) (front : List ℕ) → Moves left left' front → closing_of on (request_of front) ≡ None → request_of front ≡ Shutdown → TellsEnd on left
+told_end on left left' front moved free asked = record { admin = by_role on (subst (λ (a : Asked). closing_of on a ≡ None) asked free); asked = by_left left moved } where
+  by_role : (r : Role) → closing_of r Shutdown ≡ None → r ≡ role.Admin
+  by_role role.Plain e = absurd cc
+  by_role role.Admin e = refl
+  by_role role.Gate e = absurd cc
+
+  by_left : (l : Option (List ℕ)) → Moves l left' front → IfSome l AsksEnd
+  by_left None m = tt
+  by_left (Some bytes) m = (front, m.0, m.2, asked)
+
+-- the listener gave nothing more
+pub goes_same : (given : Option (List Connection)) → GoesOn given given
+goes_same None = refl
+goes_same (Some given) = ([], refl)
+
+-- it gave what was accepted
+pub goes_given : {R K : Type 0} (left : R → Option (List ℕ)) (first before after : Option (List Connection)) (got : Accepted R K) → GoesOn first before → Gives left before after got → GoesOn first after
+goes_given left None before after (accepted.Conn on input output) g gives = gives_none before g gives where
+  gives_none : (b : Option (List Connection)) → b ≡ None → Gives left b after (accepted.Conn on input output) → after ≡ None
+  gives_none None e given = given
+  gives_none (Some old) e given = absurd cc
+goes_given left None before after accepted.Quiet g gives = gives ∙ g
+goes_given left (Some given) before after (accepted.Conn on input output) g gives = gives_one before g.1 gives where
+  gives_one : (b : Option (List Connection)) → b ≡ Some (g.0 ++ given) → Gives left b after (accepted.Conn on input output) → GoesOn (Some given) after
+  gives_one None e got = absurd cc
+  gives_one (Some old) e got = (record { role = on; bytes = got.0 } ∷ g.0, got.2 ∙ ap (λ (l : List Connection). Some (record { role = on; bytes = got.0 } ∷ l)) (some_is old (g.0 ++ given) e)) where
+    some_is : (a b : List Connection) → Some a ≡ Some b → a ≡ b
+    some_is a b s = cc
+goes_given left (Some given) before after accepted.Quiet g gives = (g.0, gives ∙ g.1)
+
+-- what was accepted told the daemon to end
+pub ends_by : {R K : Type 0} (left : R → Option (List ℕ)) (first before after : Option (List Connection)) (got : Accepted R K) → GoesOn first before → Gives left before after got → IsToldEnd left got → EndsBy first after
+ends_by left None before after got g gives told = tt
+ends_by left (Some given) before after (accepted.Conn on input output) g gives told = by_before before g.1 gives where
+  by_before : (b : Option (List Connection)) → b ≡ Some (g.0 ++ given) → Gives left b after (accepted.Conn on input output) → EndsBy (Some given) after
+  by_before None e got = absurd cc
+  by_before (Some old) e got = record {
+    last = record { role = on; bytes = got.0 };
+    more = g.0;
+    all = got.2 ∙ ap (λ (l : List Connection). Some (record { role = on; bytes = got.0 } ∷ l)) (some_is old (g.0 ++ given) e);
+    admin = told.admin;
+    asked = asks (left input) got.1 told.asked;
+  } where
+    some_is : (a b : List Connection) → Some a ≡ Some b → a ≡ b
+    some_is a b s = cc
+
+    asks : (l : Option (List ℕ)) → l ≡ Some got.0 → IfSome l AsksEnd → AsksEnd got.0
+    asks l is a = subst (λ (x : Option (List ℕ)). IfSome x AsksEnd) is a
+ends_by left (Some given) before after accepted.Quiet g gives told = absurd told
+
+-- the daemon ends as the thread that accepts did, once it was ready
+pub ready_so : (by : Ended) (before after : Outside) → IsReady before after → after.source_faults ≡ before.source_faults → StopsSo by before.given after.given before.net_faults after.net_faults → EndsSo by before after
+ready_so ended.ShutDown before after r s stops = (r, stops.0, stops.1, s)
+ready_so ended.NetFault before after r s stops = (stops, inr r)
+ready_so ended.WriteFault before after r s stops = absurd stops
+ready_so ended.SourceFault before after r s stops = absurd stops
+ready_so (ended.TooLong size) before after r s stops = absurd stops
+ready_so ended.NoMemory before after r s stops = absurd stops
