@@ -1,5 +1,5 @@
 -- How the thread that accepts ends.
-use Rattle.std.proofs.Common.{◌≡◌, ◌∙◌, ℕ, List, [], ◌∷◌, ◌++◌, Option, Some, None, IfSome, refl, sym, ap, subst, inr}
+use Rattle.std.proofs.Common.{◌≡◌, ◌∙◌, ℕ, List, [], ◌∷◌, ◌++◌, Option, Some, None, IfSome, refl, ap, subst, inr}
 use Rattle.nsc_outside.specs.Stream.{Moves}
 use Rattle.nsc_model.specs.Wire.{Asked, Shutdown, request_of}
 use Rattle.nsc_server.specs.Requests.{closing_of}

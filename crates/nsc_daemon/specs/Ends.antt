@@ -1,7 +1,6 @@
 -- How a daemon ends, and what its outside tells of it: the output, the files, and the listener.
-use Rattle.std.specs.Prelude.{◌≡◌, ℕ, ◌<◌, ◌⊎◌, List, ◌∷◌, ◌++◌, [], Option, Some, None, IfSome, codes}
+use Rattle.std.specs.Prelude.{◌≡◌, ℕ, ◌⊎◌, List, ◌∷◌, ◌++◌, [], Option, Some, None, IfSome, codes}
 use Rattle.nsc_outside.specs.Stream.{Grows, GrowsByFront, Rose}
-use Rattle.nsc_model.specs.Files.{file_limit}
 use Rattle.nsc_model.specs.Wire.{Shutdown, request_of}
 use Rattle.nsc_sourcebook.specs.declared.fault.PollFault.{PollFault}
 use Rattle.nsc_sourcebook.specs.declared.fault.PollFault.TheVariants as poll

@@ -23,12 +23,7 @@ const TICK: u64 = 15;
 const REST: u64 = 10;
 
 /// Accepts connections until one tells the daemon to end, or the listener fails.
-pub fn accept_all<
-    RT: AllocGlobal + Wait + time::Clock,
-    S: Store + Drop,
-    C: Clock,
-    N: Listener,
->(
+pub fn accept_all<RT: AllocGlobal + Wait + time::Clock, S: Store + Drop, C: Clock, N: Listener>(
     rt: &RT,
     desk: &mut Desk<S, N::In, N::Out>,
     clock: &mut C,
@@ -162,9 +157,21 @@ impl<S: Store + Drop, R: Source + Drop, K: Sink + Drop> Desk<S, R, K> {
             return;
         }
         self.ticked = now;
-        let _ = self.stores.passwd.tick(rt, rt.alloc(), &mut self.passes.passwd, now);
-        let _ = self.stores.group.tick(rt, rt.alloc(), &mut self.passes.group, now);
-        let _ = self.stores.hosts.tick(rt, rt.alloc(), &mut self.passes.hosts, now);
-        let _ = self.stores.services.tick(rt, rt.alloc(), &mut self.passes.services, now);
+        let _ = self
+            .stores
+            .passwd
+            .tick(rt, rt.alloc(), &mut self.passes.passwd, now);
+        let _ = self
+            .stores
+            .group
+            .tick(rt, rt.alloc(), &mut self.passes.group, now);
+        let _ = self
+            .stores
+            .hosts
+            .tick(rt, rt.alloc(), &mut self.passes.hosts, now);
+        let _ = self
+            .stores
+            .services
+            .tick(rt, rt.alloc(), &mut self.passes.services, now);
     }
 }

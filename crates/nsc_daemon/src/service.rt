@@ -22,9 +22,8 @@ use nsc_sockets::{Clock, Listener, Role};
 use std::alloc::Global;
 use std::marker::Brand;
 use std::sync::{Arc, Wait};
-use std::thread;
 use std::thread::{JoinHandle, Threads};
-use std::time;
+use std::{thread, time};
 
 /// Runs the daemon: opens the four databases over these files, binds `socket` and `admin` in the folder, tells the output that it is
 /// ready, and serves connections and ticks until one on the admin socket tells it to end.
@@ -38,14 +37,7 @@ pub fn daemon<
     F: FileSet + Send + Drop + 'static,
     C: Clock,
     N: Listener,
->(
-    rt: &RT,
-    terms: &Terms<'_>,
-    output: &mut K,
-    files: &mut F,
-    clock: &mut C,
-    net: &mut N,
-) -> Ended
+>(rt: &RT, terms: &Terms<'_>, output: &mut K, files: &mut F, clock: &mut C, net: &mut N) -> Ended
 where
     N::In: 'static,
     N::Out: 'static,
@@ -208,12 +200,7 @@ fn started<
     S: Store + Drop + Send + Sync + 'static,
     R: Source + Send + Drop + 'static,
     K: Sink + Send + Drop + 'static,
->(
-    rt: &RT,
-    workers: u32,
-    desk: &Desk<S, R, K>,
-    list: &Waitings<R, K>,
-) -> Vec<JoinHandle<u64>>
+>(rt: &RT, workers: u32, desk: &Desk<S, R, K>, list: &Waitings<R, K>) -> Vec<JoinHandle<u64>>
 where
     S::Pass: Send + 'static,
 {

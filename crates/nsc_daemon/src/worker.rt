@@ -27,7 +27,7 @@ impl<S: Store + Drop, R: Source + Drop, K: Sink + Drop> Model for Worker<S, R, K
 
     ghost Value = { Worker };
 
-    ghost view = { λ w. record { } };
+    ghost view = { λ w. record {} };
 
     ghost invariant = { λ w. AreNamed S.Store (arc_value w.stores) × ArePasses S.Store (arc_value w.stores) w.passes };
 }
