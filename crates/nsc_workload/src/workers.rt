@@ -1,0 +1,106 @@
+ghost use Rattle.std.specs.Prelude.{◌≡◌, ◌≤◌, ◌<◌, IfOk, vec_len};
+ghost use Rattle.nsc_workload.specs.Runs.{AreShares, IsShare, first_of, replies_from};
+ghost use Rattle.nsc_workload.specs.Workload.{request_count};
+
+use crate::fixed_files::OfContent;
+use crate::job::Job;
+use nsc_base::{Bytes, NoMemory, Texts};
+use nsc_database::Room;
+use nsc_model::Store;
+use std::alloc::Global;
+use std::sync::Wait;
+use std::thread;
+use std::thread::Threads;
+
+// How often the database ticks while the workers look up, and how many seconds lie before each tick.
+const TICKS: u64 = 20;
+const SECONDS: u64 = 30;
+
+impl<C: OfContent + Send, B: Room + Send> Job<'_, C, B> {
+    /// The replies to all requests in order. The workers look them up, each in a thread of its own, while another thread ticks.
+    /// Fails only for want of memory.
+    pub(crate) fn all_replies<R: Threads + Wait + Sync>(
+        &self,
+        rt: &R,
+        alloc: Global,
+    ) -> Result<Vec<Bytes>, NoMemory>
+        ensures { IfOk result (λ replies. replies.items ≡ replies_from self.now.number 0 (request_count self.now.number)) }
+    {
+        let (shares, ticked) = thread::join(
+            rt,
+            || self.shares(rt, alloc),
+            || self.ticks(rt, alloc),
+        );
+        ticked?;
+        self.gathered(alloc, shares?)
+    }
+
+    // Ticks as often, at moments that lie as far apart.
+    fn ticks<R: Wait>(&self, rt: &R, alloc: Global) -> Result<(), NoMemory> {
+        let mut pass = self.database.attach(rt, alloc)?;
+        for turn in 0..TICKS {
+            let moment = SECONDS * (turn + 1);
+            let ticked = self.database.tick(rt, alloc, &mut pass, moment);
+            if ticked.is_err() {
+                return Err(NoMemory);
+            }
+        }
+        Ok(())
+    }
+
+    // What each worker gives, in order.
+    fn shares<R: Threads + Wait + Sync>(
+        &self,
+        rt: &R,
+        alloc: Global,
+    ) -> Result<Vec<Option<Texts>>, NoMemory>
+        ensures len { IfOk result (λ shares. vec_len shares ≡ self.now.workers) }
+        ensures each { IfOk result (λ shares. AreShares self.now.number self.now.workers shares.items) }
+    {
+        let count = self.workers as usize;
+        let shares = thread::map_indices(
+            rt,
+            alloc,
+            count,
+            &|worker: usize|
+                requires { worker < self.now.workers }
+                ensures { IsShare self.now.number self.now.workers worker result }
+            { self.share(rt, alloc, worker as u32) },
+        )?;
+        Ok(shares)
+    }
+
+    // The replies of a worker; `None` where memory was wanting.
+    fn share<R: Wait>(&self, rt: &R, alloc: Global, worker: u32) -> Option<Texts>
+        requires { worker < self.now.workers }
+        ensures { IsShare self.now.number self.now.workers worker result }
+    {
+        let from = first(self.number, self.workers, worker);
+        let to = first(self.number, self.workers, worker + 1);
+        self.replies(rt, alloc, from, to - from).ok()
+    }
+
+    // The replies of all workers as one list.
+    fn gathered(&self, alloc: Global, shares: Vec<Option<Texts>>) -> Result<Vec<Bytes>, NoMemory>
+        requires len { vec_len shares ≡ self.now.workers }
+        requires each { AreShares self.now.number self.now.workers shares.items }
+        ensures { IfOk result (λ replies. replies.items ≡ replies_from self.now.number 0 (request_count self.now.number)) }
+    {
+        let mut replies = Vec::new(alloc);
+        for share in shares {
+            let mut texts = share.ok_or(NoMemory)?.into_vec();
+            replies.append(&mut texts)?;
+        }
+        Ok(replies)
+    }
+}
+
+// The place of the first request of a worker; for the number of workers itself, that of the end.
+fn first(number: u32, workers: u32, worker: u32) -> u32
+    requires number { number ≤ 1000 }
+    requires workers { (0 < workers) × (workers ≤ 64) }
+    requires worker { worker ≤ workers }
+    ensures { result ≡ first_of number workers worker }
+{
+    64 * number * worker / workers
+}
