@@ -14,6 +14,7 @@ use std::sync::Wait;
 
 impl<C: OfContent, B: Room> Job<'_, C, B> {
     /// The replies to as many requests in order, from one on, by a pass of their own. Fails only for want of memory.
+    #[tactic(auto, using(crate::proofs::Joined::next))]
     pub(crate) fn replies<R: Wait>(
         &self,
         rt: &R,

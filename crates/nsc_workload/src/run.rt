@@ -33,15 +33,23 @@ pub fn workload<RT: AllocGlobal + Threads + Wait + Sync, K: Sink>(
 ) -> Worked
     requires number { (0 < number) × (number ≤ 1000) }
     requires workers { (0 < workers) × (workers ≤ 64) }
-    ensures written { IsWritten result number (K.taken output.old) (K.taken output.new) }
+    ensures written { IsWritten result (workload_of number) (K.taken output.old) (K.taken output.new) }
     ensures counted { IsCounted result (K.faults output.old) (K.faults output.new) }
 {
     match lines(rt, rt.alloc(), number, workers) {
         Err(_) => Worked::NoMemory,
-        Ok(text) => match write_all(output, text.as_slice()) {
-            Ok(()) => Worked::Done,
-            Err(_) => Worked::WriteFault,
-        },
+        Ok(text) => write(output, text.as_slice()),
+    }
+}
+
+// Writes a text.
+fn write<K: Sink>(output: &mut K, text: &[u8]) -> Worked
+    ensures written { IsWritten result text.now (K.taken output.old) (K.taken output.new) }
+    ensures counted { IsCounted result (K.faults output.old) (K.faults output.new) }
+{
+    match write_all(output, text) {
+        Ok(()) => Worked::Done,
+        Err(_) => Worked::WriteFault,
     }
 }
 

@@ -1,4 +1,4 @@
-ghost use Rattle.std.specs.Prelude.{◌≡◌, ◌≤◌, ◌<◌, IfOk, vec_len};
+ghost use Rattle.std.specs.Prelude.{◌≡◌, ◌≤◌, ◌<◌, ◌++◌, IfOk, OnOk, length, vec_len};
 ghost use Rattle.nsc_workload.specs.Runs.{AreShares, IsShare, first_of, replies_from};
 ghost use Rattle.nsc_workload.specs.Workload.{request_count};
 
@@ -28,11 +28,27 @@ impl<C: OfContent + Send, B: Room + Send> Job<'_, C, B> {
     {
         let (shares, ticked) = thread::join(
             rt,
-            || self.shares(rt, alloc),
+            ||
+                ensures { IfOk result (λ shares. (vec_len shares ≡ self.entry.now.workers) × AreShares self.entry.now.number self.entry.now.workers shares.items) }
+            { self.shares(rt, alloc) },
             || self.ticks(rt, alloc),
         );
+        self.together(alloc, shares, ticked)
+    }
+
+    // The replies of all workers, where neither they nor the thread that ticked lacked memory.
+    fn together(
+        &self,
+        alloc: Global,
+        shares: Result<Vec<Option<Texts>>, NoMemory>,
+        ticked: Result<(), NoMemory>,
+    ) -> Result<Vec<Bytes>, NoMemory>
+        requires { IfOk shares (λ shares. (vec_len shares ≡ self.now.workers) × AreShares self.now.number self.now.workers shares.items) }
+        ensures { IfOk result (λ replies. replies.items ≡ replies_from self.now.number 0 (request_count self.now.number)) }
+    {
         ticked?;
-        self.gathered(alloc, shares?)
+        let shares = shares?;
+        self.gathered(alloc, shares.as_slice())
     }
 
     // Ticks as often, at moments that lie as far apart.
@@ -64,7 +80,7 @@ impl<C: OfContent + Send, B: Room + Send> Job<'_, C, B> {
             count,
             &|worker: usize|
                 requires { worker < self.now.workers }
-                ensures { IsShare self.now.number self.now.workers worker result }
+                ensures { IsShare self.entry.now.number self.entry.now.workers worker result }
             { self.share(rt, alloc, worker as u32) },
         )?;
         Ok(shares)
@@ -81,18 +97,30 @@ impl<C: OfContent + Send, B: Room + Send> Job<'_, C, B> {
     }
 
     // The replies of all workers as one list.
-    fn gathered(&self, alloc: Global, shares: Vec<Option<Texts>>) -> Result<Vec<Bytes>, NoMemory>
-        requires len { vec_len shares ≡ self.now.workers }
-        requires each { AreShares self.now.number self.now.workers shares.items }
+    fn gathered(&self, alloc: Global, shares: &[Option<Texts>]) -> Result<Vec<Bytes>, NoMemory>
+        requires len { length shares.now ≡ self.now.workers }
+        requires each { AreShares self.now.number self.now.workers shares.now }
         ensures { IfOk result (λ replies. replies.items ≡ replies_from self.now.number 0 (request_count self.now.number)) }
     {
         let mut replies = Vec::new(alloc);
         for share in shares {
-            let mut texts = share.ok_or(NoMemory)?.into_vec();
-            replies.append(&mut texts)?;
+            match share {
+                Some(texts) => put_copies(alloc, &mut replies, texts.as_slice())?,
+                None => return Err(NoMemory),
+            }
         }
         Ok(replies)
     }
+}
+
+// Puts copies of texts after those that are there.
+fn put_copies(alloc: Global, out: &mut Vec<Bytes>, texts: &[Bytes]) -> Result<(), NoMemory>
+    ensures { OnOk result (out.new.items ≡ out.old.items ++ texts.now) }
+{
+    for text in texts {
+        out.push(Bytes::copy(alloc, text.as_slice())?)?;
+    }
+    Ok(())
 }
 
 // The place of the first request of a worker; for the number of workers itself, that of the end.

@@ -1,0 +1,7 @@
+use Rattle.std.proofs.Common.{◌∙◌}
+use Rattle.std.proofs.lemmas.Result.{IfOk-weaker}
+use Rattle.nsc_workload.proofs.Told.{told}
+use Rattle.nsc_workload.proofs.room.lines_in.Goals as goal
+
+pub returns-in-Ok : goal.returns-in-Ok
+returns-in-Ok g c = IfOk-weaker c.lines.result _ _ (λ text is. is ∙ told c.args.number c.as_slice.result.now (c.as_slice.ensures.value ∙ c.in_ok-replies-in-Ok.ensures)) c.lines.ensures
