@@ -12,19 +12,25 @@ map-bytes [] after = refl
 map-bytes (a ∷ before) after = ap (λ rest. a.bytes ∷ rest) (map-bytes before after)
 
 pub next : (n from count : ℕ) → replies_from n from (count + 1) ≡ replies_from n from count ++ (answer_at n (from + count)).bytes ∷ []
-next n from count = map-bytes (answers_from n from count) (answer_at n (from + count) ∷ [])
+next n from count =
+    let more : count + 1 ≡ suc count = omega arith in
+    rw more (map-bytes (answers_from n from count) (answer_at n (from + count) ∷ []))
 
 answers-join : (n from a b : ℕ) → answers_from n from (a + b) ≡ answers_from n from a ++ answers_from n (from + a) b
-answers-join n from a zero = sym (append-nil (answers_from n from a))
+answers-join n from a zero =
+    let sum : a + zero ≡ a = omega arith in
+    rw sum (sym (append-nil (answers_from n from a)))
 answers-join n from a (suc b) =
     let earlier = answers-join n from a b in
     let place : from + a + b ≡ from + (a + b) = omega arith in
-    rw (place, earlier) (append_assoc (answers_from n from a) (answers_from n (from + a) b) (answer_at n (from + (a + b)) ∷ []))
+    let sum : a + suc b ≡ suc (a + b) = omega arith in
+    rw (sum, place, earlier) (append_assoc (answers_from n from a) (answers_from n (from + a) b) (answer_at n (from + (a + b)) ∷ []))
 
 pub join : (n a b : ℕ) → a ≤ b → replies_from n 0 a ++ replies_from n a (b - a) ≡ replies_from n 0 b
 join n a b within =
     let sum : a + (b - a) ≡ b = omega (arith, within) in
-    let all : answers_from n 0 b ≡ answers_from n 0 a ++ answers_from n a (b - a) = subst (λ k. answers_from n 0 k ≡ answers_from n 0 a ++ answers_from n a (b - a)) sum (answers-join n 0 a (b - a)) in
+    let start : 0 + a ≡ a = omega arith in
+    let all : answers_from n 0 b ≡ answers_from n 0 a ++ answers_from n a (b - a) = subst (λ k. answers_from n 0 k ≡ answers_from n 0 a ++ answers_from n a (b - a)) sum (subst (λ k. answers_from n 0 (a + (b - a)) ≡ answers_from n 0 a ++ answers_from n k (b - a)) start (answers-join n 0 a (b - a))) in
     sym (ap (λ answers. map (λ a. a.bytes) answers) all ∙ map-bytes (answers_from n 0 a) (answers_from n a (b - a)))
 
 -- ---- where the part of each worker begins

@@ -6,6 +6,7 @@ ghost use Rattle.nsc_workload.specs.Workload.{files_of, workload_of};
 use crate::fixed_files::{FixedFiles, OfContent};
 use crate::job::Job;
 use crate::lines::lines;
+use crate::workers::all_replies;
 use nsc_answer::Plain;
 use nsc_base::NoMemory;
 use nsc_database::{Opened, Room};
@@ -73,7 +74,7 @@ fn lines_in<B: Room + Send, C: OfContent + Send, R: Threads + Wait + Sync>(
                 number,
                 workers,
             };
-            let replies = job.all_replies(rt, alloc)?;
+            let replies = all_replies(rt, alloc, &job)?;
             lines(alloc, replies.as_slice())
         }
         Err(_) => Err(NoMemory),

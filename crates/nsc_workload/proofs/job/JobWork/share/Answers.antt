@@ -1,5 +1,5 @@
 use Rattle.nsc_workload.proofs.Joined.{part_fits}
-use Rattle.nsc_workload.proofs.job.Job.share.Goals as goal
+use Rattle.nsc_workload.proofs.job.JobWork.share.Goals as goal
 
 pub replies-requires : goal.replies-requires
 replies-requires g c =
