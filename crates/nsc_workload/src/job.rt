@@ -37,7 +37,8 @@ impl<C: OfContent, B: Room> Work for Job<'_, C, B> {
         self.workers
     }
 
-    fn share<R: Wait>(&self, rt: &R, alloc: Global, worker: u32) -> Option<Texts> {
+    fn share<R: Wait>(&self, rt: &R, alloc: Global, worker: usize) -> Option<Texts> {
+        let worker = worker as u32;
         let from = first(self.number, self.workers, worker);
         let to = first(self.number, self.workers, worker + 1);
         self.replies(rt, alloc, from, to - from).ok()

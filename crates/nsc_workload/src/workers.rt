@@ -24,7 +24,7 @@ pub(crate) trait Work {
         ensures some { 0 < result };
 
     /// The replies of a worker; `None` where memory was wanting.
-    fn share<R: Wait>(&self, rt: &R, alloc: Global, worker: u32) -> Option<Texts>
+    fn share<R: Wait>(&self, rt: &R, alloc: Global, worker: usize) -> Option<Texts>
         requires { worker < workers self.now }
         ensures { IsShare (number self.now) (workers self.now) worker result };
 
@@ -68,7 +68,7 @@ fn shares<W: Work + Sync, R: Threads + Wait + Sync>(
         &|worker: usize|
             requires { worker < W.workers work.now }
             ensures { IsShare (W.number work.entry.now) (W.workers work.entry.now) worker result }
-        { work.share(rt, alloc, worker as u32) },
+        { work.share(rt, alloc, worker) },
     )?;
     Ok(shares)
 }

@@ -16,5 +16,5 @@ returns g c =
     let number = g.W.Work.number c.args.work.now in
     let workers = g.W.Work.workers c.args.work.now in
     let last : c.loop-share.share-index ≡ workers = omega (arith, c.loop-share-test.false, c.loop-share.auto.share-index-end, c.requires.len) in
-    let some : 0 < workers = omega (arith, c.count-_count.ensures.count, c.count-_count.ensures.some) in
+    let some : 0 < workers = omega (arith, c.count-count.ensures.count, c.count-count.ensures.some) in
     rw (c.loop-share.invariant, last) (ap (λ count. replies_from number 0 count) (ends number workers some))
