@@ -14,6 +14,7 @@ use std::sync::Wait;
 
 // How often the database ticks while the workers look up, and how many seconds lie before each tick.
 const TICKS: u64 = 20;
+
 const SECONDS: u64 = 30;
 
 /// A workload that is to be done: its number, how many workers do it, and the database of users that they ask.

@@ -7,9 +7,9 @@ mod job;
 mod lines;
 mod lookups;
 mod room;
+mod run;
 mod users;
 mod workers;
-mod run;
 
 pub use fixed_files::{FixedFiles, OfContent};
 pub use run::{Worked, workload};

@@ -64,6 +64,7 @@ fn bytes_of(given: Given) -> Bytes
     ensures { result ≡ reply_of given }
 {
     match given {
-        Given::Hit { bytes, .. } | Given::Loaded { bytes, .. } | Given::Fresh { bytes, .. } => bytes,
+        Given::Hit { bytes, .. } | Given::Loaded { bytes, .. } | Given::Fresh { bytes, .. } =>
+            bytes,
     }
 }

@@ -41,11 +41,7 @@ pub(crate) fn all_replies<W: Work + Sync, R: Threads + Wait + Sync>(
 ) -> Result<Vec<Bytes>, NoMemory>
     ensures { IfOk result (λ replies. replies.items ≡ replies_from (W.number work.now) 0 (request_count (W.number work.now))) }
 {
-    let (shares, ticked) = thread::join(
-        rt,
-        || shares(rt, alloc, work),
-        || work.tick(rt, alloc),
-    );
+    let (shares, ticked) = thread::join(rt, || shares(rt, alloc, work), || work.tick(rt, alloc));
     ticked?;
     let shares = shares?;
     gathered(alloc, work, shares.as_slice())
