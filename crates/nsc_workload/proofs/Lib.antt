@@ -1,0 +1,4 @@
+mod Joined
+mod Marks
+mod Told
+pub mod Crossing

@@ -1,0 +1,38 @@
+-- A workload that runs: the replies of each worker, and how it ends.
+use Rattle.std.specs.Prelude.{◌≡◌, ℕ, ◌<◌, ◌+◌, ◌*◌, ◌-◌, ◌/◌, ◌==◌, Bool, List, map, Option, Some, None}
+use Rattle.std.specs.List.{slice_index_or}
+use Rattle.nsc_outside.specs.Stream.{Grows, GrowsByFront, Rose}
+use Rattle.nsc_workload.specs.declared.run.Worked.{Worked}
+use Rattle.nsc_workload.specs.declared.run.Worked.TheVariants as worked
+use Rattle.nsc_workload.specs.Workload.{answers_from, request_count}
+
+-- the replies to as many requests in order, from one on
+abbrev pub replies_from : ℕ → ℕ → ℕ → List (List ℕ)
+replies_from n from count = map (λ a. a.bytes) (answers_from n from count)
+
+-- the first request of a worker: each has as many as the others, but for one
+abbrev pub first_of : ℕ → ℕ → ℕ → ℕ
+first_of n workers worker = request_count n * worker / workers
+
+-- the replies of a worker, where memory did not run out
+abbrev pub IsShare : ℕ → ℕ → ℕ → Option (List (List ℕ)) → Type 0
+IsShare n workers worker None = Unit {0}
+IsShare n workers worker (Some replies) = replies ≡ replies_from n (first_of n workers worker) (first_of n workers (worker + 1) - first_of n workers worker)
+
+abbrev pub AreShares : ℕ → ℕ → List (Option (List (List ℕ))) → Type 0
+AreShares n workers shares = (worker : ℕ) (d : Option (List (List ℕ))) → worker < workers → IsShare n workers worker (slice_index_or shares worker d)
+
+-- the second field of a reply tells whether it has a row
+abbrev pub has_row : List ℕ → Bool
+has_row reply = slice_index_or reply 4 0 == 1
+
+-- what was written of a text, by how it ended: all of it, a front of it, or nothing
+abbrev pub IsWritten : Worked → List ℕ → Option (List ℕ) → Option (List ℕ) → Type 0
+IsWritten worked.Done text before after = Grows before after text
+IsWritten worked.WriteFault text before after = GrowsByFront before after text
+IsWritten worked.NoMemory text before after = after ≡ before
+
+-- the count of the output's faults rose exactly where it ended so
+abbrev pub IsCounted : Worked → ℕ → ℕ → Type 0
+IsCounted worked.WriteFault before after = Rose before after
+IsCounted _ before after = after ≡ before

@@ -1,0 +1,15 @@
+//! A workload that is made from a number: users, requests over them, and workers that ask a database for them in threads.
+#![tactic(auto)]
+
+mod asked;
+mod fixed_files;
+mod job;
+mod lines;
+mod lookups;
+mod room;
+mod run;
+mod users;
+mod workers;
+
+pub use fixed_files::{FixedFiles, OfContent};
+pub use run::{Worked, workload};

@@ -1,0 +1,101 @@
+ghost use Rattle.std.specs.Prelude.{◌≡◌, ◌≤◌, ◌<◌, ◌++◌, IfOk, OnOk, length, vec_len};
+ghost use Rattle.nsc_workload.specs.Runs.{AreShares, IsShare, replies_from};
+ghost use Rattle.nsc_workload.specs.Workload.{request_count};
+
+use nsc_base::{Bytes, NoMemory, Texts};
+use std::alloc::Global;
+use std::sync::Wait;
+use std::thread;
+use std::thread::Threads;
+
+/// What the threads of a workload do.
+pub(crate) trait Work {
+    ghost use Rattle.std.specs.Prelude.{ℕ};
+
+    // The number that the workload is made from.
+    ghost number: { Self → ℕ };
+
+    // How many workers there are.
+    ghost workers: { Self → ℕ };
+
+    /// How many workers there are.
+    fn count(&self) -> u32
+        ensures count { result ≡ workers self.now }
+        ensures some { 0 < result };
+
+    /// The replies of a worker; `None` where memory was wanting.
+    fn share<R: Wait>(&self, rt: &R, alloc: Global, worker: usize) -> Option<Texts>
+        requires { worker < workers self.now }
+        ensures { IsShare (number self.now) (workers self.now) worker result };
+
+    /// Ticks. Fails only for want of memory.
+    fn tick<R: Wait>(&self, rt: &R, alloc: Global) -> Result<(), NoMemory>;
+}
+
+/// The replies to all requests in order. The workers look them up, each in a thread of its own, while another thread ticks.
+/// Fails only for want of memory.
+pub(crate) fn all_replies<W: Work + Sync, R: Threads + Wait + Sync>(
+    rt: &R,
+    alloc: Global,
+    work: &W,
+) -> Result<Vec<Bytes>, NoMemory>
+    ensures { IfOk result (λ replies. replies.items ≡ replies_from (W.number work.now) 0 (request_count (W.number work.now))) }
+{
+    let (shares, ticked) = thread::join(rt, || shares(rt, alloc, work), || work.tick(rt, alloc));
+    ticked?;
+    let shares = shares?;
+    gathered(alloc, work, shares.as_slice())
+}
+
+// What each worker gives, in order.
+fn shares<W: Work + Sync, R: Threads + Wait + Sync>(
+    rt: &R,
+    alloc: Global,
+    work: &W,
+) -> Result<Vec<Option<Texts>>, NoMemory>
+    ensures len { IfOk result (λ shares. vec_len shares ≡ W.workers work.now) }
+    ensures each { IfOk result (λ shares. AreShares (W.number work.now) (W.workers work.now) shares.items) }
+{
+    let count = work.count() as usize;
+    let shares = thread::map_indices(
+        rt,
+        alloc,
+        count,
+        &|worker: usize|
+            requires { worker < W.workers work.now }
+            ensures { IsShare (W.number work.entry.now) (W.workers work.entry.now) worker result }
+        { work.share(rt, alloc, worker) },
+    )?;
+    Ok(shares)
+}
+
+// The replies of all workers as one list.
+fn gathered<W: Work>(
+    alloc: Global,
+    work: &W,
+    shares: &[Option<Texts>],
+) -> Result<Vec<Bytes>, NoMemory>
+    requires len { length shares.now ≡ W.workers work.now }
+    requires each { AreShares (W.number work.now) (W.workers work.now) shares.now }
+    ensures { IfOk result (λ replies. replies.items ≡ replies_from (W.number work.now) 0 (request_count (W.number work.now))) }
+{
+    let _count = work.count();
+    let mut replies = Vec::new(alloc);
+    for share in shares {
+        match share {
+            Some(texts) => put_copies(alloc, &mut replies, texts.as_slice())?,
+            None => return Err(NoMemory),
+        }
+    }
+    Ok(replies)
+}
+
+// Puts copies of texts after those that are there.
+fn put_copies(alloc: Global, out: &mut Vec<Bytes>, texts: &[Bytes]) -> Result<(), NoMemory>
+    ensures { OnOk result (out.new.items ≡ out.old.items ++ texts.now) }
+{
+    for text in texts {
+        out.push(Bytes::copy(alloc, text.as_slice())?)?;
+    }
+    Ok(())
+}
