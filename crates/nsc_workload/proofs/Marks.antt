@@ -1,5 +1,5 @@
 -- The second field of a reply tells whether its answer is a not-found one.
-use Rattle.std.proofs.Common.{◌≡◌, ℕ, Bool, true, false, not, List, [], ◌∷◌, refl}
+use Rattle.std.proofs.Common.{◌≡◌, ℕ, false, not, refl}
 use Rattle.nsc_model.specs.declared.kind.Kind.{Kind}
 use Rattle.nsc_model.specs.declared.row.Looked.{Looked}
 use Rattle.nsc_model.specs.declared.row.Looked.TheVariants.{Found, NotFound, Unavail}

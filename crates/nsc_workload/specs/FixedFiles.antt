@@ -1,5 +1,5 @@
 -- A set of files that holds one content and never fails.
-use Rattle.std.specs.Prelude.{◌≡◌, ℕ, List, Some}
+use Rattle.std.specs.Prelude.{ℕ, List}
 use Rattle.std.specs.List.{slice_index_or}
 use Rattle.nsc_model.specs.Kinds.{file_number}
 use Rattle.nsc_model.specs.declared.kind.FileId.{FileId}

@@ -1,5 +1,5 @@
 -- The workload of a number: a file of users, requests over it, and the lines that tell of their answers.
-use Rattle.std.specs.Prelude.{ℕ, zero, suc, ◌+◌, ◌*◌, ◌%◌, ◌==◌, if◌then◌else◌, Bool, not, List, [], ◌∷◌, ◌++◌, count_by, flat_map, codes, decimal, Some}
+use Rattle.std.specs.Prelude.{ℕ, zero, suc, ◌+◌, ◌*◌, ◌%◌, ◌==◌, if◌then◌else◌, not, List, [], ◌∷◌, ◌++◌, count_by, flat_map, codes, decimal, Some}
 use Rattle.hex.specs.Hex.{encode_lower}
 use Rattle.sha2.specs.Sha256.{sha256}
 use Rattle.nsc_model.specs.declared.answer.Request.{Request}

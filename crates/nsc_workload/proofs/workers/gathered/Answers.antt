@@ -1,4 +1,4 @@
-use Rattle.std.proofs.Common.{◌≡◌, ◌<◌, length, ◌∙◌, refl, ap, subst, arith}
+use Rattle.std.proofs.Common.{◌≡◌, ◌<◌, ap, arith}
 use Rattle.nsc_workload.specs.Runs.{replies_from}
 use Rattle.nsc_workload.proofs.Joined.{ends, goes_on}
 use Rattle.nsc_workload.proofs.workers.gathered.Goals as goal
