@@ -1,3 +1,5 @@
 pub mod Ends
 pub mod Matched
 pub mod Courses
+pub mod Added
+pub mod Refusals
