@@ -3,3 +3,4 @@ pub mod Matched
 pub mod Courses
 pub mod Added
 pub mod Refusals
+pub mod Claims

@@ -1,5 +1,5 @@
 -- Words that clap refuses.
-use Rattle.std.proofs.Common.{◌≡◌, ◌⊎◌, List, [], ◌∷◌, Bool, true, false, ap, refl, inl, inr}
+use Rattle.std.proofs.Common.{◌≡◌, ◌⊎◌, List, [], ◌∷◌, Bool, true, false, ap, refl, inl, inr, rules, subst}
 use Rattle.clap.specs.Faults.{is_simple_and_free}
 use Rattle.clap.specs.Kinds.{IsAmong, Kinds}
 use Rattle.clap.specs.Simple.{is_simple}
@@ -21,8 +21,11 @@ exit_for : (k : ErrorKind) → IsRefusal false (error_exit k)
 exit_for kind.OutOfMemory = inl refl
 exit_for _ = inr (refl, refl)
 
+not_empty : (k : ErrorKind) (ks : Kinds) → false ≡ is_empty (k ∷ ks)
+not_empty k ks = search rules
+
 -- the exit for a kind of error that may come
 pub refused_by : (kinds : Kinds) (k : ErrorKind) → (k ≡ kind.OutOfMemory) ⊎ IsAmong k kinds → IsRefusal (is_empty kinds) (error_exit k)
 refused_by kinds k (inl e) = inl (ap error_exit e)
 refused_by [] k (inr never) = absurd never
-refused_by (x ∷ xs) k (inr h) = exit_for k
+refused_by (x ∷ xs) k (inr h) = subst (λ good. IsRefusal good (error_exit k)) (not_empty x xs) (exit_for k)

@@ -128,6 +128,14 @@ impl From<AllocError> for Exit {
     }
 }
 
+impl From<NoMemory> for Exit {
+    ghost from_gives = { λ _ exit. exit ≡ Memory };
+
+    fn from(_e: NoMemory) -> Exit {
+        Exit::NoMemory
+    }
+}
+
 impl From<ReadCause> for Exit {
     ghost use Rattle.nsc_run.specs.Exits.{cause_exit};
 
