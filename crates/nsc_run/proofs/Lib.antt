@@ -1,3 +1,6 @@
 pub mod Ends
 pub mod Matched
 pub mod Courses
+pub mod Added
+pub mod Refusals
+pub mod Claims

@@ -1,14 +1,5 @@
--- The command words, the configuration that they name, and what the program claims of a whole run.
-use Rattle.std.specs.Prelude.{◌≡◌, ℕ, ◌⊎◌, Bool, true, false, ◌&&◌, List, drop, map, Option, Some, None, IfSome, Result, Ok, Err, codes}
-use Rattle.std.specs.Option.{option_map_or}
-use Rattle.std.specs.Str.{bytes_eq}
-use Rattle.std.specs.String.{string_bytes}
-use Rattle.std.specs.declared.string.String.{String}
-use Rattle.clap.specs.Walk.{Rule, first_of, is_empty}
-use Rattle.clap.specs.Simple.{App, matches_of, new_app, new_rule, on_top, with_rule}
-use Rattle.clap.specs.Faults.{fault_of}
-use Rattle.clap.specs.declared.builder.action.ArgAction.TheVariants.{Set, SetTrue}
-use Rattle.clap.specs.declared.builder.value_parser.ValueParser.TheVariants.{NonEmptyString}
+-- The configuration that words name, and what is claimed of a replay.
+use Rattle.std.specs.Prelude.{◌≡◌, ℕ, ◌⊎◌, Bool, false, List, ◌++◌, drop, Option, Some, None, IfSome, Result, Ok, Err, codes, unwrap_or, min, max}
 use Rattle.nsc_outside.specs.Stream.{Rose, Grows}
 use Rattle.nsc_outside.specs.FileSets.{IsAsTold, IsPastLimit}
 use Rattle.nsc_model.specs.Frames.{Finish, Done, Bad, Long, Spent}
@@ -25,43 +16,13 @@ use Rattle.nsc_run.specs.declared.exit.Exit.{Exit}
 use Rattle.nsc_run.specs.declared.exit.Exit.TheVariants as exits
 use Rattle.nsc_run.specs.Exits.{exit_of}
 
--- ---- the words
-
--- `--replay`
-abbrev pub replay_rule : Rule
-replay_rule = record (new_rule (codes "replay")) { long = Some (codes "replay"); action = Some SetTrue }
-
--- `-f FILE` (102 is `f`) or `--config-file FILE`, a text that is not empty
-abbrev pub config_rule : Rule
-config_rule = record (new_rule (codes "config-file")) { short = Some 102; long = Some (codes "config-file"); action = Some Set; parser = Some NonEmptyString }
-
--- the program's command, which has these two options, no option for help or the version, and words with no program's name
-abbrev pub command_app : App
-command_app = with_rule (with_rule (on_top (λ s. record s { no_binary_name = true; disable_help_flag = true; disable_version_flag = true }) (new_app (codes "nscd"))) replay_rule) config_rule
-
--- clap refuses the words of the command for no reason, so it takes them, but for want of memory
-abbrev pub is_command : List (List ℕ) → Bool
-is_command words = is_empty (fault_of command_app words)
-
--- `--replay` is among the words of a command
-abbrev pub has_replay : List (List ℕ) → Bool
-has_replay words = option_map_or (λ text. bytes_eq text (codes "true")) (first_of (codes "replay") (matches_of command_app words)) false
-
--- the words of the replay
-abbrev pub is_replay : List (List ℕ) → Bool
-is_replay words = is_command words && has_replay words
-
--- the words as bytes
-abbrev pub texts : {Z : Type 0} → List (String Z) → List (List ℕ)
-texts words = map (λ w. string_bytes w) words
-
--- the path of the configuration file that the words of a command name
-abbrev pub config_of : List (List ℕ) → Option (List ℕ)
-config_of words = first_of (codes "config-file") (matches_of command_app words)
-
 -- why words are refused, by the exit: memory was wanting, or they are not what they should be
 abbrev pub IsRefusal : Bool → Exit → Type 0
 IsRefusal good exit = (exit ≡ exits.NoMemory) ⊎ ((exit ≡ exits.Usage) × (good ≡ false))
+
+-- the same of what was made of them
+abbrev pub IsRefused : {A : Type 0} → Option A → Exit → Type 0
+IsRefused made exit = (exit ≡ exits.NoMemory) ⊎ ((exit ≡ exits.Usage) × (made ≡ None))
 
 -- ---- the configuration
 
@@ -70,9 +31,16 @@ abbrev pub config_told : (List ℕ → Option (Option (List ℕ))) → Option (L
 config_told held None = Some None
 config_told held (Some path) = held path
 
--- what is told of the configuration that the words of a command name
-abbrev pub named_config : (List ℕ → Option (Option (List ℕ))) → List (List ℕ) → Option (Option (List ℕ))
-named_config held words = config_told held (config_of words)
+-- the path of the configuration file of a daemon: the one that is named, or else the one beside nsswitch.conf, which is in the
+-- folder of the source files where one is named
+abbrev pub conf_path : Option (List ℕ) → Option (List ℕ) → List ℕ
+conf_path etc (Some path) = path
+conf_path (Some folder) None = folder ++ codes "/nscd.conf"
+conf_path None None = codes "/etc/nscd.conf"
+
+-- how many workers there are: the number that is named, or else that of the settings, but at least 1 and at most 64
+abbrev pub worker_count : Option ℕ → Conf → ℕ
+worker_count named settings = unwrap_or named (max 1 (min 64 settings.threads))
 
 -- the settings that a configuration gives, or why it is refused; an absent one gives the defaults
 abbrev pub settings_by : Option (List ℕ) → Result Conf ConfFault
@@ -145,13 +113,6 @@ pub record Untouched (streams : Streams) : Type 0 where
   pub left_stays : streams.after.left ≡ streams.before.left
   pub taken_stays : streams.after.taken ≡ streams.before.taken
 
--- the exits that come before a replay only
-abbrev pub ComesBefore : Exit → Type 0
-ComesBefore exits.Usage = Unit {0}
-ComesBefore exits.SourceFault = Unit {0}
-ComesBefore (exits.BadConf fault) = Unit {0}
-ComesBefore _ = ⊥
-
 -- the replay began, with settings that were read
 pub record Ran (told : Option (Option (List ℕ))) (faults_before faults_after : ℕ) (streams : Streams) (exit : Exit) : Type 0 where
   pub settings : Conf
@@ -163,12 +124,6 @@ abbrev pub Course : Option (Option (List ℕ)) → ℕ → ℕ → Streams → E
 Course told faults_before faults_after streams exit =
     Ran told faults_before faults_after streams exit
     ⊎ (NotSet told faults_before faults_after exit × Untouched streams)
-
--- the configuration that is told, where it is told, has this length, which is more than a file may have; and the set's count
--- of faults rose
-pub record IsLongConf (told : Option (Option (List ℕ))) (faults_before faults_after size : ℕ) : Type 0 where
-  pub long : IsPastLimit told size
-  pub rose : Rose faults_before faults_after
 
 -- the replay of what the source had is done, with settings that were read
 pub record IsReplayedBy (told : Option (Option (List ℕ))) (streams : Streams) : Type 0 where

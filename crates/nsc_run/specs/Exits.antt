@@ -8,6 +8,10 @@ use Rattle.nsc_daemonconf.specs.declared.lines.ConfFault.{ConfFault}
 use Rattle.nsc_daemonconf.specs.declared.lines.ConfFault.TheVariants as lines
 use Rattle.nsc_replay.specs.declared.ended.Ended.{Ended}
 use Rattle.nsc_replay.specs.declared.ended.Ended.TheVariants as ended
+use Rattle.nsc_control.specs.declared.commands.Commanded.{Commanded}
+use Rattle.nsc_control.specs.declared.commands.Commanded.TheVariants as commanded
+use Rattle.nsc_daemon.specs.declared.ended.Ended as daemon
+use Rattle.nsc_daemon.specs.declared.ended.Ended.TheVariants as daemon_ended
 use Rattle.nsc_run.specs.declared.exit.Exit.{Exit}
 use Rattle.nsc_run.specs.declared.exit.Exit.TheVariants as exits
 
@@ -19,9 +23,11 @@ status_of exits.WriteFault = 4
 status_of (exits.BadFrame offset) = 5
 status_of (exits.BadConf fault) = 6
 status_of exits.SourceFault = 7
+status_of exits.NetFault = 8
 status_of (exits.Spent count) = 9
 status_of exits.NoMemory = 10
 status_of (exits.TooLong size) = 11
+status_of exits.BadReply = 12
 
 -- the line of a configuration that is refused, and why
 abbrev pub conf_text : ConfFault → List ℕ
@@ -38,9 +44,11 @@ text_of exits.WriteFault = codes "nscd: output failed"
 text_of (exits.BadFrame offset) = codes "nscd: bad frame at " ++ decimal offset
 text_of (exits.BadConf fault) = conf_text fault
 text_of exits.SourceFault = codes "nscd: source file failed"
+text_of exits.NetFault = codes "nscd: socket failed"
 text_of (exits.Spent count) = codes "nscd: counter spent"
 text_of exits.NoMemory = codes "nscd: no memory"
 text_of (exits.TooLong size) = codes "nscd: file of " ++ decimal size ++ codes " bytes is too long"
+text_of exits.BadReply = codes "nscd: bad reply from server"
 
 -- the same with a newline, and nothing at all where the command was done
 abbrev pub line_of : Exit → List ℕ
@@ -67,3 +75,20 @@ exit_of (ended.BadFrame offset) = exits.BadFrame offset
 exit_of (ended.TooLong size) = exits.TooLong size
 exit_of (ended.Spent count) = exits.Spent count
 exit_of ended.NoMemory = exits.NoMemory
+
+-- the exit where a daemon was asked something
+abbrev pub command_exit : Commanded → Exit
+command_exit commanded.Done = exits.Ok
+command_exit commanded.WriteFault = exits.WriteFault
+command_exit commanded.NetFault = exits.NetFault
+command_exit commanded.BadReply = exits.BadReply
+command_exit commanded.NoMemory = exits.NoMemory
+
+-- the exit where the daemon ended so
+abbrev pub daemon_exit : daemon.Ended → Exit
+daemon_exit daemon_ended.ShutDown = exits.Ok
+daemon_exit daemon_ended.WriteFault = exits.WriteFault
+daemon_exit daemon_ended.SourceFault = exits.SourceFault
+daemon_exit (daemon_ended.TooLong size) = exits.TooLong size
+daemon_exit daemon_ended.NetFault = exits.NetFault
+daemon_exit daemon_ended.NoMemory = exits.NoMemory

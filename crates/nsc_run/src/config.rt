@@ -1,7 +1,9 @@
-ghost use Rattle.std.specs.Prelude.{IfOk, IfErr, option_map};
-ghost use Rattle.nsc_run.specs.Commands.{IsSet, NotSet, config_told};
+ghost use Rattle.std.specs.Prelude.{◌≡◌, IfOk, IfErr, option_map};
+ghost use Rattle.std.specs.String.{string_bytes};
+ghost use Rattle.nsc_run.specs.Commands.{IsSet, NotSet, conf_path, config_told};
 
 use crate::exit::Exit;
+use nsc_base::NoMemory;
 use nsc_daemonconf::read_conf;
 use nsc_model::Conf;
 use nsc_outside::FileSet;
@@ -22,4 +24,16 @@ pub fn conf_at<F: FileSet>(alloc: Global, path: Option<&str>, files: &mut F) -> 
         return Ok(Conf::defaults());
     };
     Ok(read_conf(text.as_slice())?)
+}
+
+/// The path of a daemon's configuration file: the one that is named, or else that of the nscd.conf beside nsswitch.conf. Fails
+/// only for want of memory.
+pub fn conf_path(alloc: Global, etc: Option<&str>, config: Option<&str>) -> Result<String, NoMemory>
+    ensures { IfOk result (λ path. string_bytes path ≡ conf_path (option_map (λ p. p.now) etc.entry) (option_map (λ p. p.now) config.entry)) }
+{
+    match (etc, config) {
+        (_, Some(path)) => Ok(String::from_str(alloc, path)?),
+        (Some(folder), None) => Ok(format!(in alloc; "{folder}/nscd.conf")?),
+        (None, None) => Ok(String::from_str(alloc, "/etc/nscd.conf")?),
+    }
 }

@@ -2,6 +2,7 @@ ghost use Rattle.std.specs.Prelude.{◌≡◌};
 ghost use Rattle.nsc_run.specs.declared.exit.Exit.TheVariants.{NoMemory as Memory};
 
 use nsc_base::{Bytes, NoMemory};
+use nsc_control::Commanded;
 use nsc_daemonconf::ConfFault;
 use nsc_outside::ReadCause;
 use nsc_replay::Ended;
@@ -31,6 +32,8 @@ pub enum Exit {
     },
     /// A source file is there, or may be, and could not be read.
     SourceFault,
+    /// A socket failed.
+    NetFault,
     /// A count that the machine needed stands at its end.
     Spent {
         /// The count.
@@ -43,6 +46,8 @@ pub enum Exit {
         /// The length in bytes: as it is announced, or as far as it is known.
         length: u64,
     },
+    /// The reply of a daemon is none.
+    BadReply,
 }
 
 impl Exit {
@@ -61,9 +66,11 @@ impl Exit {
             Exit::BadFrame { .. } => 5,
             Exit::BadConf { .. } => 6,
             Exit::SourceFault => 7,
+            Exit::NetFault => 8,
             Exit::Spent { .. } => 9,
             Exit::NoMemory => 10,
             Exit::TooLong { .. } => 11,
+            Exit::BadReply => 12,
         }
     }
 
@@ -104,9 +111,11 @@ impl fmt::Display for Exit {
                 fault: ConfFault::UnknownAttribute { line },
             } => write!(f, "nscd: configuration line {line}: unknown attribute"),
             Exit::SourceFault => write!(f, "nscd: source file failed"),
+            Exit::NetFault => write!(f, "nscd: socket failed"),
             Exit::Spent { .. } => write!(f, "nscd: counter spent"),
             Exit::NoMemory => write!(f, "nscd: no memory"),
             Exit::TooLong { length } => write!(f, "nscd: file of {length} bytes is too long"),
+            Exit::BadReply => write!(f, "nscd: bad reply from server"),
         }
     }
 }
@@ -115,6 +124,14 @@ impl From<AllocError> for Exit {
     ghost from_gives = { λ _ exit. exit ≡ Memory };
 
     fn from(_e: AllocError) -> Exit {
+        Exit::NoMemory
+    }
+}
+
+impl From<NoMemory> for Exit {
+    ghost from_gives = { λ _ exit. exit ≡ Memory };
+
+    fn from(_e: NoMemory) -> Exit {
         Exit::NoMemory
     }
 }
@@ -157,6 +174,39 @@ impl From<Ended> for Exit {
             Ended::TooLong { length } => Exit::TooLong { length },
             Ended::Spent { count } => Exit::Spent { count },
             Ended::NoMemory => Exit::NoMemory,
+        }
+    }
+}
+
+impl From<Commanded> for Exit {
+    ghost use Rattle.nsc_run.specs.Exits.{command_exit};
+
+    ghost from_gives = { λ commanded exit. exit ≡ command_exit commanded };
+
+    fn from(commanded: Commanded) -> Exit {
+        match commanded {
+            Commanded::Done => Exit::Ok,
+            Commanded::WriteFault => Exit::WriteFault,
+            Commanded::NetFault => Exit::NetFault,
+            Commanded::BadReply => Exit::BadReply,
+            Commanded::NoMemory => Exit::NoMemory,
+        }
+    }
+}
+
+impl From<nsc_daemon::Ended> for Exit {
+    ghost use Rattle.nsc_run.specs.Exits.{daemon_exit};
+
+    ghost from_gives = { λ ended exit. exit ≡ daemon_exit ended };
+
+    fn from(ended: nsc_daemon::Ended) -> Exit {
+        match ended {
+            nsc_daemon::Ended::ShutDown => Exit::Ok,
+            nsc_daemon::Ended::WriteFault => Exit::WriteFault,
+            nsc_daemon::Ended::SourceFault => Exit::SourceFault,
+            nsc_daemon::Ended::TooLong { length } => Exit::TooLong { length },
+            nsc_daemon::Ended::NetFault => Exit::NetFault,
+            nsc_daemon::Ended::NoMemory => Exit::NoMemory,
         }
     }
 }

@@ -4,6 +4,8 @@
 mod command;
 mod config;
 mod exit;
+mod form;
+mod forms;
 mod words;
 
 pub use command::{replay, run};

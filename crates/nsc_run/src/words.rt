@@ -1,36 +1,26 @@
-ghost use Rattle.std.specs.Prelude.{◌≡◌, ◌⊎◌, IfOk, IfErr, true, false, option_map, codes};
-ghost use Rattle.std.specs.Option.{option_map_or};
-ghost use Rattle.std.specs.Str.{bytes_eq};
-ghost use Rattle.clap.specs.Words.{app_of, first_of, found_of, kind_of, matches_of, rows_of};
-ghost use Rattle.nsc_run.specs.Commands.{IsRefusal, command_app, config_of, is_command, is_replay, texts};
+ghost use Rattle.std.specs.Prelude.{◌≡◌, ◌⊎◌, IfOk, IfErr, Some, None, true, false};
+ghost use Rattle.clap.specs.Words.{app_of, found_of, kind_of, matches_of, rows_of, rule_of};
+ghost use Rattle.nsc_run.specs.Commands.{IsRefusal, IsRefused};
+ghost use Rattle.nsc_run.specs.Forms.{command_app, errand_app, flag, form_of, is_command, lettered, texts, valued};
+ghost use Rattle.nsc_run.specs.Shown.{shown};
 ghost use Rattle.nsc_run.specs.Exits.{error_exit};
 
 use crate::exit::Exit;
+use crate::form::{Form, Options};
 use clap::builder::ValueParser;
 use clap::error::ErrorKind;
 use clap::{Arg, ArgAction, ArgMatches, Command, Error};
 use std::alloc::{AllocError, Global};
 
-/// What the words of the replay ask.
-#[derive(Clone, Copy, Debug)]
-pub struct Asked<'a> {
-    /// The path of the configuration file, where one is named.
-    pub config: Option<&'a str>,
-}
-
-/// Reads the words of the replay: `--replay`, and `-f FILE` or `--config-file FILE` with a text that is not empty, in
-/// any order and each at most once. Other words are `Usage`.
-pub fn read_words<'a>(alloc: Global, words: &'a [String]) -> Result<Asked<'a>, Exit>
-    ensures ok { IfOk result (λ asked. (is_replay (texts words.entry.now) ≡ true) × (option_map (λ p. p.now) asked.config ≡ config_of (texts words.entry.now))) }
-    ensures err { IfErr result (λ exit. IsRefusal (is_replay (texts words.entry.now)) exit) }
+/// Reads the command words. Words that have no form are `Usage`.
+pub fn read_words<'a>(alloc: Global, words: &'a [String]) -> Result<Form<'a>, Exit>
+    ensures ok { IfOk result (λ form. form_of (texts words.entry.now) ≡ Some (shown form)) }
+    ensures err { IfErr result (λ exit. IsRefused (form_of (texts words.entry.now)) exit) }
 {
-    let matches = parsed(alloc, words)?;
-    if !has_replay(&matches) {
-        return Err(Exit::Usage);
+    match Options::of(&parsed(alloc, words)?).form() {
+        Some(form) => Ok(form),
+        None => Err(Exit::Usage),
     }
-    Ok(Asked {
-        config: value(&matches, "config-file"),
-    })
 }
 
 // The matches of the program's command.
@@ -55,39 +45,47 @@ fn refusal(error: &Error) -> Exit
     }
 }
 
-// The program's command: its two options, with no option for help or the version.
+// The program's command.
 fn command<'a>(alloc: Global) -> Result<Command<'a>, AllocError>
     ensures { IfOk result (λ c. app_of c ≡ command_app) }
 {
-    let replay = Arg::new(alloc, "replay")
-        .long("replay")
-        .action(ArgAction::SetTrue);
-    let config = Arg::new(alloc, "config-file")
-        .short('f')
-        .long("config-file")
-        .action(ArgAction::Set)
-        .value_parser(ValueParser::NonEmptyString);
+    errands(alloc)?
+        .arg(valued(alloc, "config-file").short('f'))?
+        .arg(flag(alloc, "foreground").short('F'))?
+        .arg(valued(alloc, "nthreads").short('t'))?
+        .arg(valued(alloc, "etc"))?
+        .arg(valued(alloc, "run-dir"))
+}
+
+// The command with the options alone that say what to do. No option is for help or the version.
+fn errands<'a>(alloc: Global) -> Result<Command<'a>, AllocError>
+    ensures { IfOk result (λ c. app_of c ≡ errand_app) }
+{
     Command::new(alloc, "nscd")
         .no_binary_name(true)
         .disable_help_flag(true)
         .disable_version_flag(true)
-        .arg(replay)?
-        .arg(config)
+        .arg(flag(alloc, "replay"))?
+        .arg(flag(alloc, "statistics").short('g'))?
+        .arg(flag(alloc, "shutdown").short('K'))?
+        .arg(valued(alloc, "invalidate").short('i'))
 }
 
-// Whether `--replay` is among the matches.
-fn has_replay(matches: &ArgMatches<'_>) -> bool
-    ensures { result ≡ option_map_or (λ text. bytes_eq text (codes "true")) (first_of (codes "replay") (rows_of (found_of matches.now))) false }
+// An option with no value.
+fn flag<'a>(alloc: Global, name: &'a str) -> Arg<'a>
+    ensures rule { rule_of result ≡ flag name.entry.now }
+    ensures local { result.global ≡ false }
 {
-    match value(matches, "replay") {
-        Some(text) => text == "true",
-        None => false,
-    }
+    Arg::new(alloc, name).long(name).action(ArgAction::SetTrue)
 }
 
-// The first value of an option.
-fn value<'a>(matches: &ArgMatches<'a>, id: &str) -> Option<&'a str>
-    ensures { option_map (λ s. s.now) result ≡ first_of id.now (rows_of (found_of matches.now)) }
+// An option whose value is a text that is not empty.
+fn valued<'a>(alloc: Global, name: &'a str) -> Arg<'a>
+    ensures rule { rule_of result ≡ valued name.entry.now }
+    ensures local { result.global ≡ false }
 {
-    matches.get_str(id)
+    Arg::new(alloc, name)
+        .long(name)
+        .action(ArgAction::Set)
+        .value_parser(ValueParser::NonEmptyString)
 }

@@ -1,16 +1,25 @@
-//! nscd: the name service cache daemon. The program takes its words, its input and its output, runs the command, and
-//! ends with its status.
+//! nscd: the name service cache daemon. The program takes its words and what the system offers, runs the command, and ends with
+//! its status.
 #![tactic(auto)]
 
 use nsc_outside::{HostFiles, StdSink, StdSource};
 use nsc_run::{Exit, run};
+use nsc_sockets::{HostClock, UnixListener};
 use std::alloc::AllocError;
-use std::io::{BufReader, ErrorKind, Write};
+use std::io::{BufReader, ErrorKind, Input, Print, Write};
+use std::net::Net;
 use std::process::ExitCode;
-use std::{env, io};
+use std::rt::Files;
+use std::sync::Wait;
+use std::thread::Threads;
+use std::time::Clock;
+use std::{env, io, thread};
 
 fn main(rt: HostRuntime) -> ExitCode {
-    let exit = command(&rt);
+    let exit = match words(&rt) {
+        Ok(words) => command(&rt, &words),
+        Err(error) => exit_of(&error),
+    };
     if let Ok(text) = exit.text(rt.alloc()) {
         // Where standard error fails there is nobody left to tell; the status still says why.
         let _ = rt.stderr().write_all(text.as_slice());
@@ -18,20 +27,55 @@ fn main(rt: HostRuntime) -> ExitCode {
     ExitCode::from(exit.status())
 }
 
-// Runs the command over the standard streams and the system's files.
-fn command(rt: &HostRuntime) -> Exit {
-    let words = match words(rt) {
-        Ok(words) => words,
-        Err(error) => return exit_of(&error),
-    };
+// Runs the command over the standard streams, and the system's files, clock and sockets.
+fn command<
+    RT: AllocGlobal
+        + Input
+        + Print
+        + Files
+        + Net
+        + Clock
+        + Threads
+        + Wait
+        + Clone
+        + Drop
+        + Send
+        + Sync
+        + 'static,
+>(
+    rt: &RT,
+    words: &[String],
+) -> Exit {
     let reader = match BufReader::new(rt.alloc(), rt.reader()) {
         Ok(reader) => reader,
         Err(_) => return Exit::NoMemory,
     };
+    // The daemon's threads read files too, so the set owns its runtime.
+    let mut files = match rt.clone() {
+        Ok(system) => HostFiles::new(system),
+        Err(_) => return Exit::NoMemory,
+    };
     let mut input = StdSource::new(reader);
     let mut output = StdSink::new(io::writer(rt));
-    let mut files = HostFiles::new(rt);
-    run(rt, &words, &mut input, &mut output, &mut files)
+    let mut clock = HostClock::new(rt);
+    let mut net = UnixListener::new(rt.alloc(), rt, processors(rt));
+    run(
+        rt,
+        words,
+        &mut input,
+        &mut output,
+        &mut files,
+        &mut clock,
+        &mut net,
+    )
+}
+
+// How many processors there are, and 1 where the system does not tell.
+fn processors(rt: &impl Threads) -> usize {
+    match thread::available_parallelism(rt) {
+        Ok(number) => number.get(),
+        Err(_) => 1,
+    }
 }
 
 // The command words without the program's own name.

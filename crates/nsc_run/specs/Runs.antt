@@ -1,0 +1,168 @@
+-- What the program claims of a run, by the form of its words.
+use Rattle.std.specs.Prelude.{◌≡◌, ℕ, ◌⊎◌, List, Option, Some, None, IfSome, Result, Ok, Err}
+use Rattle.nsc_outside.specs.Stream.{Rose}
+use Rattle.nsc_outside.specs.declared.stream.Source as source
+use Rattle.nsc_outside.specs.declared.stream.Sink as sink
+use Rattle.nsc_outside.specs.declared.files.FileSet as files
+use Rattle.nsc_sockets.specs.Connections.{Connection, IsPeer}
+use Rattle.nsc_sockets.specs.declared.listener.Listener as listener
+use Rattle.nsc_model.specs.declared.conf.Conf.{Conf}
+use Rattle.nsc_daemonconf.specs.declared.lines.ConfFault.{ConfFault}
+use Rattle.nsc_replay.specs.Streams.{Streams, StreamsAt, streams_at}
+use Rattle.nsc_control.specs.Commands as control
+use Rattle.nsc_control.specs.declared.ask.AdminAsk.{AdminAsk}
+use Rattle.nsc_control.specs.declared.commands.Commanded.{Commanded}
+use Rattle.nsc_control.specs.declared.commands.Commanded.TheVariants as commanded
+use Rattle.nsc_daemon.specs.Ends as daemon
+use Rattle.nsc_daemon.specs.declared.ended.Ended as daemon_end
+use Rattle.nsc_daemon.specs.declared.ended.Ended.TheVariants as ended
+use Rattle.nsc_run.specs.declared.exit.Exit.{Exit}
+use Rattle.nsc_run.specs.declared.exit.Exit.TheVariants as exits
+use Rattle.nsc_run.specs.Exits.{command_exit, daemon_exit}
+use Rattle.nsc_run.specs.Forms.{Form, Replay, Ask, Daemon, Service}
+use Rattle.nsc_run.specs.Commands.{ConfGives, Counted, Course, IsReplayedBy, NoFault, NotSet, TellsAll, TellsFault, conf_path, config_told, settings_by}
+
+-- What the outside tells at one moment: of the input and the output, of the files, and of the listener.
+pub record Outside : Type 0 where
+  pub streams : StreamsAt
+  pub conf_held : List ℕ → Option (Option (List ℕ))
+  pub source_faults : ℕ
+  pub given : Option (List Connection)
+  pub peer : Option (List ℕ)
+  pub net_faults : ℕ
+
+abbrev pub outside : {R K F N I O : Type 0} → source.Ghosts R → sink.Ghosts K → files.Ghosts F → listener.Ghosts N I O → R → K → F → N → Outside
+outside r k f n input output set net = record {
+  streams = streams_at r k input output;
+  conf_held = f.conf_held set;
+  source_faults = f.faults set;
+  given = n.given net;
+  peer = n.peer net;
+  net_faults = n.faults net;
+}
+
+abbrev pub streams_of : Outside → Outside → Streams
+streams_of before after = record { before = before.streams; after = after.streams }
+
+abbrev pub output_of : Outside → control.StreamAt
+output_of o = record { bytes = o.streams.taken; faults = o.streams.output_faults }
+
+abbrev pub daemon_outside : Outside → daemon.Outside
+daemon_outside o = record { taken = o.streams.taken; output_faults = o.streams.output_faults; source_faults = o.source_faults; given = o.given; net_faults = o.net_faults }
+
+-- nothing was read of the input
+pub record InputStays (before after : Outside) : Type 0 where
+  pub left_stays : after.streams.left ≡ before.streams.left
+  pub calm : after.streams.input_faults ≡ before.streams.input_faults
+
+-- the listener and the files tell what they told
+pub record NetStays (before after : Outside) : Type 0 where
+  pub given_stays : after.given ≡ before.given
+  pub peer_stays : after.peer ≡ before.peer
+  pub calm : after.net_faults ≡ before.net_faults
+
+pub record FilesStay (before after : Outside) : Type 0 where
+  pub held_stays : after.conf_held ≡ before.conf_held
+  pub calm : after.source_faults ≡ before.source_faults
+
+-- no count of the files, of the output, or of the listener rose
+abbrev pub SourcesCalm : Outside → Outside → Type 0
+SourcesCalm before after = Rose before.source_faults after.source_faults → ⊥
+
+abbrev pub OutputCalm : Outside → Outside → Type 0
+OutputCalm before after = Rose before.streams.output_faults after.streams.output_faults → ⊥
+
+abbrev pub NetCalm : Outside → Outside → Type 0
+NetCalm before after = Rose before.net_faults after.net_faults → ⊥
+
+-- ---- a question to a daemon
+
+-- over a connection that was made, to the peer that was told, where one was told, this came of the question
+pub record IsAsked {I O : Type 0} (i : source.Ghosts I) (o : sink.Ghosts O) (asked : AdminAsk) (peer : Option (List ℕ)) (before after : control.StreamAt) (came : Commanded) : Type 0 where
+  pub conn_in : I
+  pub conn_in' : I
+  pub conn_out : O
+  pub conn_out' : O
+  pub reached : IsPeer peer (i.left conn_in)
+  pub commands : control.Commands asked
+      (record { conn_in = control.stream_in i conn_in; conn_out = control.stream_out o conn_out; output = before })
+      (record { conn_in = control.stream_in i conn_in'; conn_out = control.stream_out o conn_out'; output = after })
+      came
+
+-- what came of it: it was asked, or memory was wanting for a path, or there was no connection
+abbrev pub Asks : {I O : Type 0} → source.Ghosts I → sink.Ghosts O → AdminAsk → Option (List ℕ) → control.StreamAt → control.StreamAt → ℕ → ℕ → Exit → Type 0
+Asks i o asked peer before after faults faults' exit =
+    ((came : Commanded) × (exit ≡ command_exit came) × IsAsked i o asked peer before after came × (faults' ≡ faults))
+    ⊎ ((exit ≡ exits.NoMemory) × (after ≡ before) × (faults' ≡ faults))
+    ⊎ ((exit ≡ exits.NetFault) × (after ≡ before) × Rose faults faults')
+
+-- the ends of connections never fail
+pub record NeverFail {I O : Type 0} (i : source.Ghosts I) (o : sink.Ghosts O) : Type 0 where
+  pub inputs : (x : I) → i.faults x ≡ 0
+  pub outputs : (x : O) → o.faults x ≡ 0
+
+-- an answer came, good or bad, unless memory was wanting
+abbrev pub IsAnswered : Exit → Type 0
+IsAnswered exit = (exit ≡ exits.Ok) ⊎ (exit ≡ exits.NoMemory) ⊎ (exit ≡ exits.BadReply)
+
+-- ---- the daemon
+
+-- settings were read, and a daemon ended so under them
+pub record Served (told : Option (Option (List ℕ))) (before after : daemon.Outside) (exit : Exit) : Type 0 where
+  pub settings : Conf
+  pub of_config : ConfGives told (Ok settings)
+  pub ended : daemon_end.Ended
+  pub exit_is : exit ≡ daemon_exit ended
+  pub ends : daemon.EndsSo ended before after
+
+-- a daemon ended, or no settings were read and it did not begin
+abbrev pub Serves : Option (Option (List ℕ)) → daemon.Outside → daemon.Outside → Exit → Type 0
+Serves told before after exit =
+    Served told before after exit
+    ⊎ (NotSet told before.source_faults after.source_faults exit × (after ≡ record before { source_faults = after.source_faults }))
+
+-- the daemon was told to end, or why a line is refused, unless memory was wanting
+abbrev pub TellsServed : Result Conf ConfFault → Exit → Type 0
+TellsServed (Ok settings) exit = (exit ≡ exits.Ok) ⊎ (exit ≡ exits.NoMemory)
+TellsServed (Err fault) exit = TellsFault fault exit
+
+-- ---- by the form
+
+-- the configuration file of a replay, and of a daemon, as it is told
+abbrev pub replay_told : Outside → Option (List ℕ) → Option (Option (List ℕ))
+replay_told before config = config_told before.conf_held config
+
+abbrev pub daemon_told : Outside → Service → Option (Option (List ℕ))
+daemon_told before service = before.conf_held (conf_path service.etc service.config)
+
+-- What came of a run. Where the words have no form nothing was done.
+abbrev pub Runs : {I O : Type 0} → source.Ghosts I → sink.Ghosts O → Option Form → Outside → Outside → Exit → Type 0
+Runs i o None before after exit = ((exit ≡ exits.Usage) ⊎ (exit ≡ exits.NoMemory)) × (after ≡ before)
+Runs i o (Some (Replay config)) before after exit =
+    Course (replay_told before config) before.source_faults after.source_faults (streams_of before after) exit
+    × Counted exit (streams_of before after) × NetStays before after
+Runs i o (Some (Ask asked folder)) before after exit =
+    Asks i o asked before.peer (output_of before) (output_of after) before.net_faults after.net_faults exit
+    × InputStays before after × FilesStay before after
+Runs i o (Some (Daemon service)) before after exit =
+    Serves (daemon_told before service) (daemon_outside before) (daemon_outside after) exit × InputStays before after
+
+-- The command was done: the input was read to the end of its first E, and the output is that of the replay; or a daemon did what
+-- was asked; or the daemon was ready, and was told to end.
+abbrev pub IsDone : {I O : Type 0} → source.Ghosts I → sink.Ghosts O → Option Form → Outside → Outside → Type 0
+IsDone i o None before after = ⊥
+IsDone i o (Some (Replay config)) before after = IsReplayedBy (replay_told before config) (streams_of before after)
+IsDone i o (Some (Ask asked folder)) before after = IsAsked i o asked before.peer (output_of before) (output_of after) commanded.Done
+IsDone i o (Some (Daemon service)) before after = daemon.IsReady (daemon_outside before) (daemon_outside after) × daemon.EndsBy before.given after.given
+
+-- What the exit tells where no fault came.
+abbrev pub Tells : {I O : Type 0} → source.Ghosts I → sink.Ghosts O → Option Form → Outside → Outside → Exit → Type 0
+Tells i o None before after exit = (exit ≡ exits.Usage) ⊎ (exit ≡ exits.NoMemory)
+Tells i o (Some (Replay config)) before after exit =
+    SourcesCalm before after → NoFault (streams_of before after)
+    → IfSome (replay_told before config) (λ text. TellsAll before.streams.left (settings_by text) exit)
+Tells i o (Some (Ask asked folder)) before after exit =
+    NeverFail i o → NetCalm before after → OutputCalm before after → IsAnswered exit
+Tells i o (Some (Daemon service)) before after exit =
+    SourcesCalm before after → NetCalm before after → OutputCalm before after
+    → IfSome (daemon_told before service) (λ text. TellsServed (settings_by text) exit)

@@ -1,0 +1,219 @@
+ghost use Rattle.std.specs.Prelude.{◌≡◌, option_map};
+ghost use Rattle.nsc_run.specs.Forms.{ask_form, daemon_form, db_named, form_with, has_flag, is_no_service, options_of, replay_form, run_dir_of, workers_in};
+ghost use Rattle.nsc_run.specs.Shown.{shown};
+ghost use Rattle.clap.specs.Words.{first_of, found_of, rows_of};
+
+use clap::ArgMatches;
+use nsc_base::decimal;
+use nsc_control::AdminAsk;
+use nsc_model::Db;
+use std::marker::Model;
+
+// The folder of the sockets where no other is named.
+const RUN_DIR: &str = "/var/run/nscd";
+
+/// How a daemon is to run.
+#[derive(Clone, Copy, Debug)]
+pub struct Service<'a> {
+    /// The path of the configuration file, where one is named.
+    pub config: Option<&'a str>,
+    /// How many threads serve connections, 1 to 64, where that is said.
+    pub workers: Option<u32>,
+    /// The folder of the source files, where one is named.
+    pub etc: Option<&'a str>,
+    /// The folder of the sockets.
+    pub run_dir: &'a str,
+}
+
+/// What the words ask for.
+#[derive(Clone, Copy, Debug)]
+pub enum Form<'a> {
+    /// To replay the input.
+    Replay {
+        /// The path of the configuration file, where one is named.
+        config: Option<&'a str>,
+    },
+    /// To ask something of a daemon.
+    Ask {
+        /// What is asked.
+        ask: AdminAsk,
+        /// The folder of its sockets.
+        run_dir: &'a str,
+    },
+    /// To be the daemon.
+    Daemon {
+        /// How.
+        service: Service<'a>,
+    },
+}
+
+// The options that occur, and their values.
+#[derive(Drop)]
+pub struct Options<'a> {
+    replay: bool,
+    statistics: bool,
+    shutdown: bool,
+    invalidate: Option<&'a str>,
+    config: Option<&'a str>,
+    foreground: bool,
+    threads: Option<&'a str>,
+    etc: Option<&'a str>,
+    run_dir: Option<&'a str>,
+}
+
+impl<'a> Model for Options<'a> {
+    ghost use Rattle.std.specs.Prelude.{option_map};
+    ghost use Rattle.nsc_run.specs.Forms.{Options};
+
+    ghost Value = { Options };
+
+    ghost view = { λ o. record {
+        replay = o.replay;
+        statistics = o.statistics;
+        shutdown = o.shutdown;
+        invalidate = option_map (λ p. p.now) o.invalidate;
+        config = option_map (λ p. p.now) o.config;
+        foreground = o.foreground;
+        threads = option_map (λ p. p.now) o.threads;
+        etc = option_map (λ p. p.now) o.etc;
+        run_dir = option_map (λ p. p.now) o.run_dir;
+    } };
+}
+
+impl<'a> Options<'a> {
+    // The options among the matches.
+    pub fn of(matches: &ArgMatches<'a>) -> Options<'a>
+        ensures { result ≡ options_of (rows_of (found_of matches.now)) }
+    {
+        Options {
+            replay: has_flag(matches, "replay"),
+            statistics: has_flag(matches, "statistics"),
+            shutdown: has_flag(matches, "shutdown"),
+            invalidate: value(matches, "invalidate"),
+            config: value(matches, "config-file"),
+            foreground: has_flag(matches, "foreground"),
+            threads: value(matches, "nthreads"),
+            etc: value(matches, "etc"),
+            run_dir: value(matches, "run-dir"),
+        }
+    }
+
+    // The form that they make, if any: at most one of four says what to do.
+    pub fn form(&self) -> Option<Form<'a>>
+        ensures { option_map shown result ≡ form_with self.now }
+    {
+        match (
+            self.replay,
+            self.statistics,
+            self.shutdown,
+            self.invalidate,
+        ) {
+            (true, false, false, None) => self.replay_form(),
+            (false, true, false, None) => self.ask_form(AdminAsk::Stat),
+            (false, false, true, None) => self.ask_form(AdminAsk::Shutdown),
+            (false, false, false, Some(name)) => self.ask_form(AdminAsk::Invalidate {
+                db: db_named(name)?,
+            }),
+            (false, false, false, None) => self.daemon_form(),
+            _ => None,
+        }
+    }
+
+    fn replay_form(&self) -> Option<Form<'a>>
+        ensures { option_map shown result ≡ replay_form self.now }
+    {
+        if self.is_no_service() && self.run_dir.is_none() {
+            Some(Form::Replay {
+                config: self.config,
+            })
+        } else {
+            None
+        }
+    }
+
+    fn ask_form(&self, ask: AdminAsk) -> Option<Form<'a>>
+        ensures { option_map shown result ≡ ask_form ask self.now }
+    {
+        if self.is_no_service() && self.config.is_none() {
+            Some(Form::Ask {
+                ask,
+                run_dir: self.run_dir(),
+            })
+        } else {
+            None
+        }
+    }
+
+    fn daemon_form(&self) -> Option<Form<'a>>
+        ensures { option_map shown result ≡ daemon_form self.now }
+    {
+        let workers = match self.threads {
+            Some(text) => Some(workers_in(text)?),
+            None => None,
+        };
+        Some(Form::Daemon {
+            service: Service {
+                config: self.config,
+                workers,
+                etc: self.etc,
+                run_dir: self.run_dir(),
+            },
+        })
+    }
+
+    // Whether no option occurs that is the daemon's alone.
+    fn is_no_service(&self) -> bool
+        ensures { result ≡ is_no_service self.now }
+    {
+        !self.foreground && self.threads.is_none() && self.etc.is_none()
+    }
+
+    // The folder of the sockets.
+    fn run_dir(&self) -> &'a str
+        ensures { result.now ≡ run_dir_of self.now.run_dir }
+    {
+        self.run_dir.unwrap_or(RUN_DIR)
+    }
+}
+
+// A number of workers: decimal, 1 to 64.
+fn workers_in(text: &str) -> Option<u32>
+    ensures { result ≡ workers_in text.now }
+{
+    let number = decimal(text.as_bytes())?;
+    if number > 0 && number < 65 {
+        Some(number)
+    } else {
+        None
+    }
+}
+
+// The database of this name. `None` where there is none.
+fn db_named(name: &str) -> Option<Db>
+    ensures { result ≡ db_named name.now }
+{
+    match name {
+        "passwd" => Some(Db::Passwd),
+        "group" => Some(Db::Group),
+        "hosts" => Some(Db::Hosts),
+        "services" => Some(Db::Services),
+        _ => None,
+    }
+}
+
+// Whether a flag is among the matches.
+fn has_flag(matches: &ArgMatches<'_>, name: &str) -> bool
+    ensures { result ≡ has_flag name.now (rows_of (found_of matches.now)) }
+{
+    match value(matches, name) {
+        Some(text) => text == "true",
+        None => false,
+    }
+}
+
+// The first value of an option.
+fn value<'a>(matches: &ArgMatches<'a>, name: &str) -> Option<&'a str>
+    ensures { option_map (λ s. s.now) result ≡ first_of name.now (rows_of (found_of matches.now)) }
+{
+    matches.get_str(name)
+}

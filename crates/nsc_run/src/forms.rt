@@ -1,0 +1,119 @@
+// Each form of the command words.
+ghost use Rattle.std.specs.Prelude.{◌≡◌, IfErr, IfOk, option_map};
+ghost use Rattle.nsc_replay.specs.Streams.{streams};
+ghost use Rattle.nsc_control.specs.Commands.{stream_out};
+ghost use Rattle.nsc_run.specs.Commands.{Counted, Course, conf_path, IsSet, NotSet, config_told, worker_count};
+ghost use Rattle.nsc_run.specs.Runs.{Asks, Serves};
+ghost use Rattle.nsc_run.specs.Shown.{service_shown};
+
+use crate::command::replay;
+use crate::config::{conf_at, conf_path};
+use crate::exit::Exit;
+use crate::form::Service;
+use nsc_control::{AdminAsk, command};
+use nsc_daemon::{Terms, daemon};
+use nsc_model::Conf;
+use nsc_outside::{FileSet, Sink, Source};
+use nsc_sockets::{Clock, Listener};
+use std::alloc::Global;
+use std::sync::Wait;
+use std::thread::Threads;
+use std::time;
+
+/// The replay under the configuration file at this path.
+pub fn replay_under<RT: AllocGlobal, R: Source, K: Sink, F: FileSet>(
+    rt: &RT,
+    config: Option<&str>,
+    input: &mut R,
+    output: &mut K,
+    files: &mut F,
+) -> Exit
+    ensures run { Course (config_told (F.conf_held files.old) (option_map (λ p. p.now) config.entry)) (F.faults files.old) (F.faults files.new) (streams R.Source K.Sink input.old input.new output.old output.new) result }
+    ensures counts { Counted result (streams R.Source K.Sink input.old input.new output.old output.new) }
+{
+    match conf_at(rt.alloc(), config, files) {
+        Ok(conf) => replay(rt, &conf, input, output),
+        Err(exit) => exit,
+    }
+}
+
+/// Asks something of the daemon whose sockets stand in this folder.
+pub fn ask<K: Sink, N: Listener>(
+    alloc: Global,
+    asked: AdminAsk,
+    run_dir: &str,
+    output: &mut K,
+    net: &mut N,
+) -> Exit
+    ensures asks { Asks N.In.Source N.Out.Sink asked (N.peer net.old) (stream_out K.Sink output.old) (stream_out K.Sink output.new) (N.faults net.old) (N.faults net.new) result }
+    ensures given { N.given net.new ≡ N.given net.old }
+{
+    let Ok(path) = format!(in alloc; "{run_dir}/admin") else {
+        return Exit::NoMemory;
+    };
+    match net.connect(path.as_str()) {
+        Ok((mut input, mut to_daemon)) => {
+            Exit::from(command(alloc, asked, &mut input, &mut to_daemon, output))
+        }
+        Err(_) => Exit::NetFault,
+    }
+}
+
+/// Is the daemon, as it is asked for.
+pub fn serve<
+    RT: AllocGlobal + Threads + Wait + time::Clock + Clone + Drop + Send + Sync + 'static,
+    K: Sink,
+    F: FileSet + Send + Drop + 'static,
+    C: Clock,
+    N: Listener,
+>(
+    rt: &RT,
+    service: &Service<'_>,
+    output: &mut K,
+    files: &mut F,
+    clock: &mut C,
+    net: &mut N,
+) -> Exit
+where
+    N::In: 'static,
+    N::Out: 'static,
+    ensures { Serves (F.conf_held files.old (conf_path (service_shown service.now).etc (service_shown service.now).config)) (record { taken = K.taken output.old; output_faults = K.faults output.old; source_faults = F.faults files.old; given = N.given net.old; net_faults = N.faults net.old }) (record { taken = K.taken output.new; output_faults = K.faults output.new; source_faults = F.faults files.new; given = N.given net.new; net_faults = N.faults net.new }) result }
+{
+    match settings(rt.alloc(), service, files) {
+        Ok(conf) => {
+            let terms = Terms {
+                conf: &conf,
+                workers: worker_count(service.workers, &conf),
+                run_dir: service.run_dir,
+            };
+            Exit::from(daemon(rt, &terms, output, files, clock, net))
+        }
+        Err(exit) => exit,
+    }
+}
+
+// The settings of a daemon, with its files from now on in the folder that it is told.
+fn settings<F: FileSet>(
+    alloc: Global,
+    service: &Service<'_>,
+    files: &mut F,
+) -> Result<Conf, Exit>
+    ensures ok { IfOk result (λ conf. IsSet (F.conf_held files.old (conf_path (service_shown service.now).etc (service_shown service.now).config)) (F.faults files.old) (F.faults files.new) conf) }
+    ensures err { IfErr result (λ exit. NotSet (F.conf_held files.old (conf_path (service_shown service.now).etc (service_shown service.now).config)) (F.faults files.old) (F.faults files.new) exit) }
+{
+    let path = conf_path(alloc, service.etc, service.config)?;
+    if let Some(folder) = service.etc {
+        files.under(alloc, folder)?;
+    }
+    conf_at(alloc, Some(path.as_str()), files)
+}
+
+// How many workers there are: as it is told, or as the settings say, but 1 to 64.
+fn worker_count(named: Option<u32>, conf: &Conf) -> u32
+    ensures { result ≡ worker_count named conf.now }
+{
+    match named {
+        Some(number) => number,
+        None => conf.threads.clamp(1, 64),
+    }
+}
