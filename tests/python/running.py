@@ -20,7 +20,7 @@ FILES = {
     "passwd": b"root:x:0:0:root:/root:/bin/bash\nmaud:x:4242:4243:Maud:/home/maud:/bin/sh\n",
     # The C library puts a user's own group first without a daemon, and last with one that does not tell it; here it does.
     "group": b"root:x:0:\nmaud:x:4243:maud\nfriends:x:4244:root,maud\nbig:x:4245:" + MEMBERS + b"\n",
-    "hosts": b"127.0.0.1 localhost\n::1 localhost\n192.0.2.7 box.example box\n2001:db8::7 box.example box\n",
+    "hosts": b"127.0.0.1 localhost\n::1 ip6-localhost\n192.0.2.7 box.example box\n2001:db8::7 box.example box\n",
     "services": b"http 80/tcp www\ndomain 53/udp\n",
     "nsswitch.conf": b"passwd: files\ngroup: files\nhosts: files\nservices: files\n",
 }
