@@ -97,9 +97,7 @@ fn exit_of<RT: AllocGlobal + Threads + Wait + Clock + Clone + Drop + Send + Sync
     }
     let mut clock = MemClock::new(0, 1);
     let mut net = CalmListener::new(peers);
-    Ok(run(
-        rt, &texts, source, sink, files, &mut clock, &mut net,
-    ))
+    Ok(run(rt, &texts, source, sink, files, &mut clock, &mut net))
 }
 
 // The exit of the command over a configuration file, whose read fails if the number is 1, and the bytes that were written.
@@ -211,6 +209,9 @@ fn rare_exits(rt: HostRuntime) -> Result<(), Fail> {
     assert_eq!(rt; text.as_slice(), b"nscd: no memory\n".as_slice());
     let text = Exit::BadReply.text(rt.alloc())?;
     assert_eq!(rt; (Exit::NetFault.status(), Exit::BadReply.status()), (8, 12));
-    assert_eq!(rt; text.as_slice(), b"nscd: bad reply from server\n".as_slice());
+    assert_eq!(rt;
+        text.as_slice(),
+        b"nscd: bad reply from server\n".as_slice()
+    );
     Ok(())
 }
