@@ -1,5 +1,5 @@
 -- Options added to a command.
-use Rattle.std.proofs.Common.{◌≡◌, ◌∙◌, ap, ap₂, false}
+use Rattle.std.proofs.Common.{◌≡◌, ◌∙◌, ap₂, false}
 use Rattle.clap.specs.Built.{AddsArg}
 use Rattle.clap.specs.Simple.{App, app_of, with_rule}
 use Rattle.clap.specs.Walk.{Rule, rule_of}

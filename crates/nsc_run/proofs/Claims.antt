@@ -1,12 +1,11 @@
 -- What a run says at Ok and where no fault came, from what came of it, form by form.
-use Rattle.std.proofs.Common.{◌≡◌, ◌∙◌, ◌⊎◌, ℕ, List, Option, Some, None, Result, Ok, Err, refl, sym, ap, subst, inl, inr, arith}
+use Rattle.std.proofs.Common.{◌≡◌, ◌∙◌, ℕ, List, Option, Some, None, Result, Ok, Err, refl, sym, ap, subst, inl, inr, arith}
 use Rattle.std.specs.Prelude.{IfSome}
 use Rattle.nsc_outside.specs.Stream.{Rose}
 use Rattle.nsc_outside.specs.declared.stream.Source as source
 use Rattle.nsc_outside.specs.declared.stream.Sink as sink
 use Rattle.nsc_model.specs.declared.conf.Conf.{Conf}
 use Rattle.nsc_daemonconf.specs.declared.lines.ConfFault.{ConfFault}
-use Rattle.nsc_model.specs.Replay.{replay}
 use Rattle.nsc_replay.specs.declared.ended.Ended.{Ended}
 use Rattle.nsc_replay.specs.declared.ended.Ended.TheVariants as ended
 use Rattle.nsc_replay.specs.Streams as streams
@@ -21,9 +20,9 @@ use Rattle.nsc_daemon.specs.declared.ended.Ended.TheVariants as daemon_ended
 use Rattle.nsc_run.specs.declared.exit.Exit.{Exit}
 use Rattle.nsc_run.specs.declared.exit.Exit.TheVariants as exits
 use Rattle.nsc_run.specs.Exits.{exit_of, command_exit, daemon_exit}
-use Rattle.nsc_run.specs.Commands.{ConfGives, Counted, Course, IsRefused, NoFault, NotSet, TellsAll, TellsFault, settings_by}
-use Rattle.nsc_run.specs.Forms.{Form, Replay, Ask, Daemon, Service}
-use Rattle.nsc_run.specs.Runs.{Asks, IsAnswered, IsAsked, IsDone, NeverFail, Outside, Runs, Served, Serves, Tells, TellsServed}
+use Rattle.nsc_run.specs.Commands.{ConfGives, Counted, Course, IsRefused, NoFault, NotSet, TellsAll, settings_by}
+use Rattle.nsc_run.specs.Forms.{Form, Replay, Ask, Daemon}
+use Rattle.nsc_run.specs.Runs.{Asks, IsAnswered, IsAsked, IsDone, NeverFail, Outside, Runs, Serves, Tells, TellsServed}
 use Rattle.nsc_run.proofs.Courses.{done_by}
 use Rattle.nsc_run.proofs.Ends.{tells}
 
@@ -74,7 +73,7 @@ replay_tells : (told : Option (Option (List ℕ))) (a b : ℕ) (s : Streams) (ex
 replay_tells told a b s exit (inl ran) counts calm still =
     gives_told told (Ok ran.settings) (λ r. TellsAll s.before.left r exit) ran.is_set.of_config
     (subst (λ (e : Exit). TellsAll s.before.left (Ok ran.settings) e) (sym ran.run.told)
-      (tells ran.settings s ran.run.ended ran.run.run (uncounted ran.run.ended s (subst (λ (e : Exit). Counted e s) ran.run.told counts)) still))
+    (tells ran.settings s ran.run.ended ran.run.run (uncounted ran.run.ended s (subst (λ (e : Exit). Counted e s) ran.run.told counts)) still))
 replay_tells told a b s exit (inr stopped) counts calm still =
     unset_tells told a b (λ r e. TellsAll s.before.left r e) (λ fault. inl refl) (no_memory_tells s.before.left) exit stopped.0 calm
 

@@ -1,12 +1,11 @@
 -- Words that clap refuses.
-use Rattle.std.proofs.Common.{◌≡◌, ◌⊎◌, List, [], ◌∷◌, Bool, true, false, ap, refl, inl, inr, rules, subst}
+use Rattle.std.proofs.Common.{◌≡◌, ◌⊎◌, [], ◌∷◌, true, false, ap, refl, inl, inr, rules, subst}
 use Rattle.clap.specs.Faults.{is_simple_and_free}
 use Rattle.clap.specs.Kinds.{IsAmong, Kinds}
 use Rattle.clap.specs.Simple.{is_simple}
 use Rattle.clap.specs.Walk.{is_empty}
 use Rattle.clap.specs.declared.error.kind.ErrorKind.{ErrorKind}
 use Rattle.clap.specs.declared.error.kind.ErrorKind.TheVariants as kind
-use Rattle.nsc_run.specs.declared.exit.Exit.TheVariants as exits
 use Rattle.nsc_run.specs.Commands.{IsRefusal}
 use Rattle.nsc_run.specs.Exits.{error_exit}
 use Rattle.nsc_run.specs.Forms.{command_app}

@@ -15,7 +15,6 @@ use Rattle.nsc_control.specs.declared.commands.Commanded.{Commanded}
 use Rattle.nsc_control.specs.declared.commands.Commanded.TheVariants as commanded
 use Rattle.nsc_daemon.specs.Ends as daemon
 use Rattle.nsc_daemon.specs.declared.ended.Ended as daemon_end
-use Rattle.nsc_daemon.specs.declared.ended.Ended.TheVariants as ended
 use Rattle.nsc_run.specs.declared.exit.Exit.{Exit}
 use Rattle.nsc_run.specs.declared.exit.Exit.TheVariants as exits
 use Rattle.nsc_run.specs.Exits.{command_exit, daemon_exit}

@@ -96,7 +96,12 @@ where
 {
     match read_words(rt.alloc(), words) {
         Ok(Form::Replay { config }) => replay_under(rt, config, input, output, files),
-        Ok(Form::Ask { ask: asked, run_dir }) => ask(rt.alloc(), asked, run_dir, output, net),
+        Ok(
+            Form::Ask {
+                ask: asked,
+                run_dir,
+            },
+        ) => ask(rt.alloc(), asked, run_dir, output, net),
         Ok(Form::Daemon { service }) => serve(rt, &service, output, files, clock, net),
         Err(exit) => exit,
     }

@@ -68,15 +68,15 @@ impl<'a> Model for Options<'a> {
     ghost Value = { Options };
 
     ghost view = { λ o. record {
-        replay = o.replay;
-        statistics = o.statistics;
-        shutdown = o.shutdown;
-        invalidate = option_map (λ p. p.now) o.invalidate;
-        config = option_map (λ p. p.now) o.config;
-        foreground = o.foreground;
-        threads = option_map (λ p. p.now) o.threads;
-        etc = option_map (λ p. p.now) o.etc;
-        run_dir = option_map (λ p. p.now) o.run_dir;
+      replay = o.replay;
+      statistics = o.statistics;
+      shutdown = o.shutdown;
+      invalidate = option_map (λ p. p.now) o.invalidate;
+      config = option_map (λ p. p.now) o.config;
+      foreground = o.foreground;
+      threads = option_map (λ p. p.now) o.threads;
+      etc = option_map (λ p. p.now) o.etc;
+      run_dir = option_map (λ p. p.now) o.run_dir;
     } };
 }
 
@@ -102,12 +102,7 @@ impl<'a> Options<'a> {
     pub fn form(&self) -> Option<Form<'a>>
         ensures { option_map shown result ≡ form_with self.now }
     {
-        match (
-            self.replay,
-            self.statistics,
-            self.shutdown,
-            self.invalidate,
-        ) {
+        match (self.replay, self.statistics, self.shutdown, self.invalidate) {
             (true, false, false, None) => self.replay_form(),
             (false, true, false, None) => self.ask_form(AdminAsk::Stat),
             (false, false, true, None) => self.ask_form(AdminAsk::Shutdown),

@@ -66,14 +66,7 @@ pub fn serve<
     F: FileSet + Send + Drop + 'static,
     C: Clock,
     N: Listener,
->(
-    rt: &RT,
-    service: &Service<'_>,
-    output: &mut K,
-    files: &mut F,
-    clock: &mut C,
-    net: &mut N,
-) -> Exit
+>(rt: &RT, service: &Service<'_>, output: &mut K, files: &mut F, clock: &mut C, net: &mut N) -> Exit
 where
     N::In: 'static,
     N::Out: 'static,
@@ -93,11 +86,7 @@ where
 }
 
 // The settings of a daemon, with its files from now on in the folder that it is told.
-fn settings<F: FileSet>(
-    alloc: Global,
-    service: &Service<'_>,
-    files: &mut F,
-) -> Result<Conf, Exit>
+fn settings<F: FileSet>(alloc: Global, service: &Service<'_>, files: &mut F) -> Result<Conf, Exit>
     ensures ok { IfOk result (λ conf. IsSet (F.conf_held files.old (conf_path (service_shown service.now).etc (service_shown service.now).config)) (F.faults files.old) (F.faults files.new) conf) }
     ensures err { IfErr result (λ exit. NotSet (F.conf_held files.old (conf_path (service_shown service.now).etc (service_shown service.now).config)) (F.faults files.old) (F.faults files.new) exit) }
 {

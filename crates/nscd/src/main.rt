@@ -42,10 +42,7 @@ fn command<
         + Send
         + Sync
         + 'static,
->(
-    rt: &RT,
-    words: &[String],
-) -> Exit {
+>(rt: &RT, words: &[String]) -> Exit {
     let reader = match BufReader::new(rt.alloc(), rt.reader()) {
         Ok(reader) => reader,
         Err(_) => return Exit::NoMemory,

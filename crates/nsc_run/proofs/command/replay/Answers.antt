@@ -1,4 +1,4 @@
-use Rattle.std.proofs.Common.{List, ℕ, sym, subst}
+use Rattle.std.proofs.Common.{sym, subst}
 use Rattle.std.specs.Prelude.{IfSome}
 use Rattle.nsc_model.specs.Replay.{replay}
 use Rattle.nsc_replay.specs.Streams.{streams}

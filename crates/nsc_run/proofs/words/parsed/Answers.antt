@@ -1,5 +1,4 @@
-use Rattle.std.proofs.Common.{Bool, List, ℕ, map, subst, sym, true, ◌≡◌}
-use Rattle.std.specs.String.{string_bytes}
+use Rattle.std.proofs.Common.{subst, sym, true, ◌≡◌}
 use Rattle.clap.specs.Faults.{fault_of, is_simple_and_free}
 use Rattle.clap.specs.Kinds.{HasKind}
 use Rattle.clap.specs.Simple.{App, HasMatchesOf}
