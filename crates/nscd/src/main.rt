@@ -6,18 +6,34 @@ use nsc_outside::{HostFiles, StdSink, StdSource};
 use nsc_run::{Exit, run};
 use nsc_sockets::{HostClock, UnixListener};
 use std::alloc::AllocError;
-use std::io::{BufReader, ErrorKind, Input, Print, Write};
-use std::net::Net;
+use std::io::{BufReader, ErrorKind, Write};
 use std::process::ExitCode;
-use std::rt::Files;
-use std::sync::Wait;
 use std::thread::Threads;
-use std::time::Clock;
 use std::{env, io, thread};
 
 fn main(rt: HostRuntime) -> ExitCode {
+    let system: Result<_, _> = rt.clone();
     let exit = match words(&rt) {
-        Ok(words) => command(&rt, &words),
+        Ok(words) => match (BufReader::new(rt.alloc(), rt.reader()), system) {
+            // The daemon's threads read files too, so their set owns its runtime.
+            (Ok(reader), Ok(system)) => {
+                let mut input = StdSource::new(reader);
+                let mut output = StdSink::new(io::writer(&rt));
+                let mut files = HostFiles::new(system);
+                let mut clock = HostClock::new(&rt);
+                let mut net = UnixListener::new(rt.alloc(), &rt, processors(&rt));
+                run(
+                    &rt,
+                    &words,
+                    &mut input,
+                    &mut output,
+                    &mut files,
+                    &mut clock,
+                    &mut net,
+                )
+            }
+            _ => Exit::NoMemory,
+        },
         Err(error) => exit_of(&error),
     };
     if let Ok(text) = exit.text(rt.alloc()) {
@@ -25,46 +41,6 @@ fn main(rt: HostRuntime) -> ExitCode {
         let _ = rt.stderr().write_all(text.as_slice());
     }
     ExitCode::from(exit.status())
-}
-
-// Runs the command over the standard streams, and the system's files, clock and sockets.
-fn command<
-    RT: AllocGlobal
-        + Input
-        + Print
-        + Files
-        + Net
-        + Clock
-        + Threads
-        + Wait
-        + Clone
-        + Drop
-        + Send
-        + Sync
-        + 'static,
->(rt: &RT, words: &[String]) -> Exit {
-    let reader = match BufReader::new(rt.alloc(), rt.reader()) {
-        Ok(reader) => reader,
-        Err(_) => return Exit::NoMemory,
-    };
-    // The daemon's threads read files too, so the set owns its runtime.
-    let mut files = match rt.clone() {
-        Ok(system) => HostFiles::new(system),
-        Err(_) => return Exit::NoMemory,
-    };
-    let mut input = StdSource::new(reader);
-    let mut output = StdSink::new(io::writer(rt));
-    let mut clock = HostClock::new(rt);
-    let mut net = UnixListener::new(rt.alloc(), rt, processors(rt));
-    run(
-        rt,
-        words,
-        &mut input,
-        &mut output,
-        &mut files,
-        &mut clock,
-        &mut net,
-    )
 }
 
 // How many processors there are, and 1 where the system does not tell.
