@@ -1,5 +1,5 @@
 pub mod Exits
 pub mod Forms
-pub mod Shown
 pub mod Commands
+pub mod Shown
 pub mod Runs

@@ -40,14 +40,18 @@ outside r k f n input output set net = record {
   net_faults = n.faults net;
 }
 
+-- what a daemon is told of it
+abbrev pub daemon_at : {K F N I O : Type 0} → sink.Ghosts K → files.Ghosts F → listener.Ghosts N I O → K → F → N → daemon.Outside
+daemon_at k f n output set net = record { taken = k.taken output; output_faults = k.faults output; source_faults = f.faults set; given = n.given net; net_faults = n.faults net }
+
+abbrev pub daemon_outside : Outside → daemon.Outside
+daemon_outside o = record { taken = o.streams.taken; output_faults = o.streams.output_faults; source_faults = o.source_faults; given = o.given; net_faults = o.net_faults }
+
 abbrev pub streams_of : Outside → Outside → Streams
 streams_of before after = record { before = before.streams; after = after.streams }
 
 abbrev pub output_of : Outside → control.StreamAt
 output_of o = record { bytes = o.streams.taken; faults = o.streams.output_faults }
-
-abbrev pub daemon_outside : Outside → daemon.Outside
-daemon_outside o = record { taken = o.streams.taken; output_faults = o.streams.output_faults; source_faults = o.source_faults; given = o.given; net_faults = o.net_faults }
 
 -- nothing was read of the input
 pub record InputStays (before after : Outside) : Type 0 where

@@ -1,7 +1,8 @@
 -- What is told of a form that was read.
-use Rattle.std.specs.Prelude.{option_map}
+use Rattle.std.specs.Prelude.{ℕ, List, option_map}
 use Rattle.nsc_run.specs.Forms.{Form, Service}
 use Rattle.nsc_run.specs.Forms as forms
+use Rattle.nsc_run.specs.Commands.{conf_path}
 use Rattle.nsc_run.specs.declared.form.Form as given
 use Rattle.nsc_run.specs.declared.form.Form.TheVariants as form
 use Rattle.nsc_run.specs.declared.form.Service as service
@@ -13,3 +14,7 @@ abbrev pub shown : given.Form → Form
 shown (form.Replay config) = forms.Replay (option_map (λ p. p.now) config)
 shown (form.Ask asked run_dir) = forms.Ask asked run_dir.now
 shown (form.Daemon s) = forms.Daemon (service_shown s)
+
+-- the path of a daemon's configuration file
+abbrev pub conf_path_for : service.Service → List ℕ
+conf_path_for s = conf_path (option_map (λ p. p.now) s.etc) (option_map (λ p. p.now) s.config)

@@ -8,7 +8,7 @@ ghost use Rattle.nsc_run.specs.Runs.{IsDone, Runs, Tells, outside};
 
 use crate::exit::Exit;
 use crate::form::Form;
-use crate::forms::{ask, replay_under, serve};
+use crate::actions::{ask, replay_under, serve};
 use crate::words::read_words;
 use nsc_answer::Plain;
 use nsc_model::Conf;

@@ -32,7 +32,7 @@ pub enum Exit {
     },
     /// A source file is there, or may be, and could not be read.
     SourceFault,
-    /// A socket failed.
+    /// A socket failed, or no daemon is at the other end.
     NetFault,
     /// A count that the machine needed stands at its end.
     Spent {
@@ -46,7 +46,7 @@ pub enum Exit {
         /// The length in bytes: as it is announced, or as far as it is known.
         length: u64,
     },
-    /// The reply of a daemon is none.
+    /// What a daemon replied is no reply.
     BadReply,
 }
 

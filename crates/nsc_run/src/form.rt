@@ -47,7 +47,7 @@ pub enum Form<'a> {
     },
 }
 
-// The options that occur, and their values.
+/// The options that occur, and their values.
 #[derive(Drop)]
 pub struct Options<'a> {
     replay: bool,
@@ -81,7 +81,7 @@ impl<'a> Model for Options<'a> {
 }
 
 impl<'a> Options<'a> {
-    // The options among the matches.
+    /// The options among the matches.
     pub fn of(matches: &ArgMatches<'a>) -> Options<'a>
         ensures { result ≡ options_of (rows_of (found_of matches.now)) }
     {
@@ -98,7 +98,7 @@ impl<'a> Options<'a> {
         }
     }
 
-    // The form that they make, if any: at most one of four says what to do.
+    /// The form that they make, if any: at most one of four says what to do.
     pub fn form(&self) -> Option<Form<'a>>
         ensures { option_map shown result ≡ form_with self.now }
     {

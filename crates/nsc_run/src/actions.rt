@@ -1,10 +1,10 @@
-// Each form of the command words.
+// What is done, form by form.
 ghost use Rattle.std.specs.Prelude.{◌≡◌, IfErr, IfOk, option_map};
 ghost use Rattle.nsc_replay.specs.Streams.{streams};
 ghost use Rattle.nsc_control.specs.Commands.{stream_out};
-ghost use Rattle.nsc_run.specs.Commands.{Counted, Course, conf_path, IsSet, NotSet, config_told, worker_count};
-ghost use Rattle.nsc_run.specs.Runs.{Asks, Serves};
-ghost use Rattle.nsc_run.specs.Shown.{service_shown};
+ghost use Rattle.nsc_run.specs.Commands.{Counted, Course, IsSet, NotSet, config_told, worker_count};
+ghost use Rattle.nsc_run.specs.Runs.{Asks, Serves, daemon_at};
+ghost use Rattle.nsc_run.specs.Shown.{conf_path_for};
 
 use crate::command::replay;
 use crate::config::{conf_at, conf_path};
@@ -59,7 +59,7 @@ pub fn ask<K: Sink, N: Listener>(
     }
 }
 
-/// Is the daemon, as it is asked for.
+/// Is the daemon, as it is asked for. Its files are from then on those of the folder that is named, if one is.
 pub fn serve<
     RT: AllocGlobal + Threads + Wait + time::Clock + Clone + Drop + Send + Sync + 'static,
     K: Sink,
@@ -70,7 +70,7 @@ pub fn serve<
 where
     N::In: 'static,
     N::Out: 'static,
-    ensures { Serves (F.conf_held files.old (conf_path (service_shown service.now).etc (service_shown service.now).config)) (record { taken = K.taken output.old; output_faults = K.faults output.old; source_faults = F.faults files.old; given = N.given net.old; net_faults = N.faults net.old }) (record { taken = K.taken output.new; output_faults = K.faults output.new; source_faults = F.faults files.new; given = N.given net.new; net_faults = N.faults net.new }) result }
+    ensures { Serves (F.conf_held files.old (conf_path_for service.now)) (daemon_at K.Sink F.FileSet N.Listener output.old files.old net.old) (daemon_at K.Sink F.FileSet N.Listener output.new files.new net.new) result }
 {
     match settings(rt.alloc(), service, files) {
         Ok(conf) => {
@@ -87,8 +87,8 @@ where
 
 // The settings of a daemon, with its files from now on in the folder that it is told.
 fn settings<F: FileSet>(alloc: Global, service: &Service<'_>, files: &mut F) -> Result<Conf, Exit>
-    ensures ok { IfOk result (λ conf. IsSet (F.conf_held files.old (conf_path (service_shown service.now).etc (service_shown service.now).config)) (F.faults files.old) (F.faults files.new) conf) }
-    ensures err { IfErr result (λ exit. NotSet (F.conf_held files.old (conf_path (service_shown service.now).etc (service_shown service.now).config)) (F.faults files.old) (F.faults files.new) exit) }
+    ensures ok { IfOk result (λ conf. IsSet (F.conf_held files.old (conf_path_for service.now)) (F.faults files.old) (F.faults files.new) conf) }
+    ensures err { IfErr result (λ exit. NotSet (F.conf_held files.old (conf_path_for service.now)) (F.faults files.old) (F.faults files.new) exit) }
 {
     let path = conf_path(alloc, service.etc, service.config)?;
     if let Some(folder) = service.etc {
