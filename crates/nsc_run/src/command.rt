@@ -6,9 +6,9 @@ ghost use Rattle.nsc_run.specs.Commands.{Counted, IsReplayed, NoFault, Replays, 
 ghost use Rattle.nsc_run.specs.Forms.{form_of, texts};
 ghost use Rattle.nsc_run.specs.Runs.{IsDone, Runs, Tells, outside};
 
+use crate::actions::{ask, replay_under, serve};
 use crate::exit::Exit;
 use crate::form::Form;
-use crate::actions::{ask, replay_under, serve};
 use crate::words::read_words;
 use nsc_answer::Plain;
 use nsc_model::Conf;
