@@ -26,7 +26,7 @@ PROMPT = 0.05  # seconds for a good request beside silent peers
 
 
 def milliseconds(seconds):
-    return f"{seconds * 1000:.1f} ms"
+    return f"{seconds * 1000:.2f} ms"
 
 
 def lookups():
