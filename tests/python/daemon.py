@@ -17,7 +17,7 @@ import time
 sys.dont_write_bytecode = True
 from clients import real_clients
 from running import (
-    ASK_BIG, ASK_ROOT, GETSTAT, INVALIDATE, NO_REPLY, PASSWD_BY_NAME, PATIENCE, PROGRAM, ROOT_REPLY, SHUTDOWN,
+    ASK_BIG, ASK_ROOT, FILES, GETSTAT, INVALIDATE, NO_REPLY, PASSWD_BY_NAME, PATIENCE, PROGRAM, ROOT_REPLY, SHUTDOWN,
     Fault, check, daemon, is_sent_away, read_all, request,
 )  # fmt: skip
 
@@ -52,15 +52,23 @@ def orders():
         run.is_well("before")
         text, _, status = run.command("-g")
         check(status == 0 and text.startswith(b"passwd cache:\nenabled yes\n"), f"-g: {text!r}, {status}")
+        (run.etc / "passwd").write_bytes(FILES["passwd"].replace(b"/bin/bash", b"/bin/dash"))
+        run.is_well("from the cache")
         check(run.command("-i", "passwd") == (b"", b"", 0), "-i passwd")
+        check(run.ask() == ROOT_REPLY.replace(b"/bin/bash", b"/bin/dash"), "after -i passwd: not what the file holds now")
         check(b"\ninvalidations 1\n" in run.command("-g")[0], "-i passwd is not counted")
+        (run.etc / "passwd").write_bytes(FILES["passwd"])
+        check(run.command("-i", "passwd") == (b"", b"", 0), "-i passwd again")
         for kind in (SHUTDOWN, GETSTAT, INVALIDATE):
             check(run.ask(request(kind, b"passwd\0")) == b"", f"an order on the socket of everyone: {kind}")
         run.is_well("after refused orders")
         run.shut_down()
         said = run.command("-K")
         check(said == (b"", b"nscd: socket failed\n", 8), f"-K where none runs: {said}")
-        return "-g and -i do what they say, and only on the socket of the administrator; -K where none runs ends with status 8"
+        return (
+            "-g and -i do what they say, and only on the socket of the administrator; after -i a lookup reads the file again;"
+            " -K where none runs ends with status 8"
+        )
 
 
 def second_start():
