@@ -58,6 +58,7 @@ $(TRIALS): $(SOURCES)
 bench: build
 	bench/replay
 	bench/store
+	bench/daemon
 
 # What is proved already lies in the out folders too, so a build after this one proves from the start.
 clean:

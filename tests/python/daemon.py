@@ -17,7 +17,7 @@ import time
 sys.dont_write_bytecode = True
 from clients import real_clients
 from running import (
-    ASK_BIG, ASK_ROOT, GETSTAT, INVALIDATE, NO_REPLY, PASSWD_BY_NAME, PATIENCE, PROGRAM, ROOT_REPLY, SHUTDOWN,
+    ASK_BIG, ASK_ROOT, FILES, GETSTAT, INVALIDATE, NO_REPLY, PASSWD_BY_NAME, PATIENCE, PROGRAM, ROOT_REPLY, SHUTDOWN,
     Fault, check, daemon, is_sent_away, read_all, request,
 )  # fmt: skip
 
@@ -26,7 +26,7 @@ PROMPT = 0.05  # seconds for a good request beside silent peers
 
 
 def milliseconds(seconds):
-    return f"{seconds * 1000:.1f} ms"
+    return f"{seconds * 1000:.2f} ms"
 
 
 def lookups():
@@ -52,15 +52,23 @@ def orders():
         run.is_well("before")
         text, _, status = run.command("-g")
         check(status == 0 and text.startswith(b"passwd cache:\nenabled yes\n"), f"-g: {text!r}, {status}")
+        (run.etc / "passwd").write_bytes(FILES["passwd"].replace(b"/bin/bash", b"/bin/dash"))
+        run.is_well("from the cache")
         check(run.command("-i", "passwd") == (b"", b"", 0), "-i passwd")
+        check(run.ask() == ROOT_REPLY.replace(b"/bin/bash", b"/bin/dash"), "after -i passwd: not what the file holds now")
         check(b"\ninvalidations 1\n" in run.command("-g")[0], "-i passwd is not counted")
+        (run.etc / "passwd").write_bytes(FILES["passwd"])
+        check(run.command("-i", "passwd") == (b"", b"", 0), "-i passwd again")
         for kind in (SHUTDOWN, GETSTAT, INVALIDATE):
             check(run.ask(request(kind, b"passwd\0")) == b"", f"an order on the socket of everyone: {kind}")
         run.is_well("after refused orders")
         run.shut_down()
         said = run.command("-K")
         check(said == (b"", b"nscd: socket failed\n", 8), f"-K where none runs: {said}")
-        return "-g and -i do what they say, and only on the socket of the administrator; -K where none runs ends with status 8"
+        return (
+            "-g and -i do what they say, and only on the socket of the administrator; after -i a lookup reads the file again;"
+            " -K where none runs ends with status 8"
+        )
 
 
 def second_start():
@@ -107,12 +115,12 @@ def silent_peers():
     with daemon() as run:
         before = run.opened()
         began = time.monotonic()
-        peers = [run.connect(patience=STAY + 3) for _ in range(count)]
+        peers = [run.connect(patience=STAY + 4) for _ in range(count)]
         middle, longest = run.takes(f"beside {count} silent peers")
         check(middle <= PROMPT, f"beside {count} silent peers a reply takes {milliseconds(middle)}")
         check(all(map(is_sent_away, peers)), "a silent peer gets bytes")
         took = time.monotonic() - began
-        check(took <= STAY + 2, f"silent peers stay for {took:.1f} s")
+        check(took <= STAY + 3, f"silent peers stay for {took:.1f} s")
         for peer in peers:
             peer.close()
         run.is_back_at(before, "after silent peers")
@@ -125,7 +133,7 @@ def silent_peers():
 
 def slow_writers():
     with daemon() as run:
-        peers = [run.connect(patience=STAY + 3) for _ in range(32)]
+        peers = [run.connect(patience=STAY + 4) for _ in range(32)]
         began = time.monotonic()
         times = []
         for at in range(4):
@@ -135,7 +143,7 @@ def slow_writers():
             times.append(run.is_well("beside peers of a byte a second"))
         check(all(map(is_sent_away, peers)), "a peer of a byte a second gets bytes")
         took = time.monotonic() - began
-        check(took <= STAY + 2, f"peers of a byte a second stay for {took:.1f} s")
+        check(took <= STAY + 3, f"peers of a byte a second stay for {took:.1f} s")
         peer = run.connect()
         for byte in ASK_ROOT:
             peer.send(bytes([byte]))
@@ -281,7 +289,8 @@ def main(names):
         sys.exit(f"daemon: no case {unknown[0]}; there are {', '.join(CASES)}")
     most = resource.getrlimit(resource.RLIMIT_NOFILE)[1]
     if most != resource.RLIM_INFINITY and most < 2000:
-        sys.exit(f"daemon: skipped, since a process may have only {most} descriptors")
+        print(f"daemon: skipped, since a process may have only {most} descriptors")
+        return
     resource.setrlimit(resource.RLIMIT_NOFILE, (2000, most))
     faults = 0
     for name in names or CASES:

@@ -143,7 +143,7 @@ impl Desk {
         None
     }
 
-    // Takes a connection at an open door. Where none can be taken, one that waits is closed to make room.
+    // Takes a connection at an open door. Where none can be taken, some that wait are closed to make room.
     fn next_at<C: Clock>(&mut self, clock: &C, now: Duration, at: usize) -> Option<Ready> {
         let door = self.doors.get_mut(at)?;
         if !door.is_open() {
@@ -159,7 +159,7 @@ impl Desk {
             }
             Err(error) if error.kind() == io::ErrorKind::WouldBlock => None,
             Err(_) => {
-                if !self.room.close_oldest() {
+                if !self.room.clear() {
                     thread::sleep(clock, Duration::from_millis(PAUSE));
                 }
                 None

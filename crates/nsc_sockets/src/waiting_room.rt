@@ -3,6 +3,7 @@ use mio::unix::SourceFd;
 use mio::{Interest, Registry, Token};
 use slab::Slab;
 use std::alloc::{AllocError, Global};
+use std::cmp;
 use std::collections::VecDeque;
 use std::os::fd::AsRawFd;
 use std::time::Duration;
@@ -15,6 +16,11 @@ const LOOKS: u32 = 50;
 // So many connections may wait for bytes that the system tells of.
 const SEATS: usize = 256;
 
+// Where the process has no descriptor left, so many leave for good, since files are to be read too. This many seats stay.
+const SPARE: usize = 8;
+
+const LEAST: usize = 16;
+
 // How long a connection may sit without a whole request, in seconds.
 const STAY: u64 = 5;
 
@@ -25,6 +31,8 @@ pub(crate) struct WaitingRoom {
     alloc: Global,
     standing: VecDeque<Guest>,
     seats: Slab<Guest>,
+    // So many may sit.
+    most: usize,
 }
 
 impl WaitingRoom {
@@ -34,6 +42,7 @@ impl WaitingRoom {
             alloc,
             standing: VecDeque::with_capacity(alloc, STANDING)?,
             seats: Slab::with_capacity(alloc, SEATS)?,
+            most: SEATS,
         })
     }
 
@@ -85,7 +94,7 @@ impl WaitingRoom {
 
     // From now on the system tells of its bytes, also of those that came meanwhile. Without a free seat the oldest leaves.
     fn seat(&mut self, registry: &Registry, guest: Guest) {
-        if self.seats.len() >= SEATS {
+        if self.seats.len() >= self.most {
             self.close_oldest();
         }
         let seat = self.seats.vacant_key();
@@ -106,8 +115,21 @@ impl WaitingRoom {
             .retain(|_, guest| now.saturating_sub(guest.since()) < stay);
     }
 
-    /// Closes the oldest connection, and gives false where there is none.
-    pub(crate) fn close_oldest(&mut self) -> bool {
+    /// Closes the oldest connections, since the process has room for no more, and lets no more sit from now on than are left.
+    /// Gives false where there is none.
+    pub(crate) fn clear(&mut self) -> bool {
+        if !self.close_oldest() {
+            return false;
+        }
+        for _ in 1..SPARE {
+            self.close_oldest();
+        }
+        self.most = cmp::max(self.seats.len(), LEAST);
+        true
+    }
+
+    // Closes the oldest connection, and gives false where there is none.
+    fn close_oldest(&mut self) -> bool {
         match self.oldest() {
             Some(seat) => drop(self.seats.try_remove(seat)),
             None => return self.standing.pop_front().is_some(),
