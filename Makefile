@@ -21,6 +21,11 @@ run: build/frames
 	    (cd crates/nscd && rt try -- --replay) < build/frames > build/replies 2> build/try.log || { cat build/try.log; exit 1; }; \
 	fi
 	@tools/show-replies build/frames build/replies
+	@if [ -x build/nscd ] && [ -z "$$(find $(SOURCES) -newer build/nscd)" ]; then \
+	    echo 'and as a daemon:'; tools/show-daemon build/nscd build/frames; \
+	else \
+	    echo 'make build, and then make run, shows the daemon too.'; \
+	fi
 
 build/frames: tools/make-frames examples/machine.txt $(wildcard examples/machine/*)
 	@mkdir -p build
