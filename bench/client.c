@@ -22,7 +22,7 @@
 #include <time.h>
 #include <unistd.h>
 
-enum { BUCKETS = 100000, MOST_THREADS = 64, PATIENCE = 5000 };
+enum { BUCKETS = 1000000, MOST_THREADS = 64, PATIENCE = 5000 };
 
 struct asker {
     pthread_t thread;

@@ -158,17 +158,20 @@ def slow_writers():
 def never_read():
     with daemon("-t", "3") as run:
         before = run.opened()
+        began = time.monotonic()
         size = len(run.ask(ASK_BIG))
+        alone = time.monotonic() - began
         check(size > 500_000, f"the large reply has {size} bytes")
         peers = [run.connect() for _ in range(64)]
         for peer in peers:
             peer.sendall(ASK_BIG)
-        took = run.is_well("beside peers that do not read")
-        check(took <= PATIENCE, f"beside peers that do not read a reply took {took:.1f} s")
+        # Two of the three workers may wait for such a peer for their whole patience; the third one goes on.
+        took = run.is_well("beside peers that do not read", 2 * PATIENCE)
+        check(took <= PATIENCE + len(peers) * alone, f"beside peers that do not read a reply took {took:.1f} s")
         later = run.is_well("beside peers that still do not read")
         for peer in peers:
             peer.close()
-        check(len(run.ask(ASK_BIG)) == size, "a large reply afterwards")
+        check(len(run.ask(ASK_BIG, patience=2 * PATIENCE)) == size, "a large reply afterwards")
         run.is_back_at(before, "after peers that do not read")
         return (
             f"behind 64 peers that never read their {size} bytes a reply comes after {took:.2f} s,"

@@ -115,10 +115,10 @@ class Daemon:
             peer.sendall(bytes_sent)
             return read_all(peer)
 
-    def is_well(self, text):
+    def is_well(self, text, patience=PATIENCE):
         """Looks at the reply to a good request, and gives the seconds that it took."""
         began = time.monotonic()
-        check(self.ask() == ROOT_REPLY, f"{text}: another reply")
+        check(self.ask(patience=patience) == ROOT_REPLY, f"{text}: another reply")
         return time.monotonic() - began
 
     def takes(self, text, count=50):
