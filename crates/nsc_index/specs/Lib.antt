@@ -1,0 +1,4 @@
+pub mod Indexes
+pub mod Names
+pub mod Numbers
+pub mod Users

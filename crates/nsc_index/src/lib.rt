@@ -1,0 +1,9 @@
+//! Answers of a name service over a content whose lines stand in order: what the files alone decide is made once, and a lookup
+//! finds its line by a search in the order of the keys.
+#![tactic(auto)]
+
+mod names;
+mod numbers;
+mod users;
+
+pub use users::UserIndex;
