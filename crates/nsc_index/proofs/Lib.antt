@@ -1,3 +1,4 @@
 pub mod InOrder
-pub mod Lines
+pub mod LineRows
 pub mod UserRows
+pub mod GroupRows

@@ -2,3 +2,4 @@ pub mod Indexes
 pub mod Names
 pub mod Numbers
 pub mod Users
+pub mod Groups

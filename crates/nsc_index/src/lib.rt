@@ -2,8 +2,11 @@
 //! finds its line by a search in the order of the keys.
 #![tactic(auto)]
 
+mod groups;
+mod lines;
 mod names;
 mod numbers;
 mod users;
 
+pub use groups::GroupIndex;
 pub use users::UserIndex;

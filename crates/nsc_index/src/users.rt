@@ -1,13 +1,13 @@
-ghost use Rattle.std.specs.Prelude.{◌≡◌, ◌==◌, ◌≤◌, ◌∷◌, IfOk, IfSome, List, length};
-ghost use Rattle.nsc_base.specs.Text.{line_spans};
+ghost use Rattle.std.specs.Prelude.{◌≡◌, ◌==◌, ◌≤◌, IfOk, IfSome, length};
 ghost use Rattle.std.specs.Option.{option_map};
 ghost use Rattle.std.specs.Str.{bytes_eq};
-ghost use Rattle.nsc_base.specs.declared.span.Span.{Span};
 ghost use Rattle.nsc_model.specs.Users.{user_of_line};
 ghost use Rattle.nsc_model.specs.Entries.{first_named};
 ghost use Rattle.nsc_model.specs.Files.{file_limit};
 ghost use Rattle.nsc_accounts.specs.Passwd.{UserLiesIn, user_at, user_places};
+ghost use Rattle.nsc_index.specs.Indexes.{on_line};
 
+use crate::lines::line_on;
 use crate::names::{NameAt, places_of_name, sorted_names};
 use crate::numbers::{NumberAt, places_of_number, sorted_numbers};
 use nsc_accounts::{PasswdAt, passwd_line};
@@ -55,7 +55,7 @@ impl UserIndex {
         ensures inside { IfSome result (UserLiesIn (record { from = 0; to = length text.now })) }
     {
         let at = places_of_name(text, &self.names, name).first()?;
-        user_on(text, at.line as usize)
+        user_on(text, at.line)
     }
 
     /// The first line of this user id that has the form, as places in the file that this is the index of. `None` where there is
@@ -66,16 +66,14 @@ impl UserIndex {
         ensures inside { IfSome result (UserLiesIn (record { from = 0; to = length text.now })) }
     {
         let at = places_of_number(&self.ids, uid).first()?;
-        user_on(text, at.line as usize)
+        user_on(text, at.line)
     }
 }
 
-// The entry of the line that begins at a place.
-fn user_on(text: &[u8], place: usize) -> Option<PasswdAt>
-    requires { place ≤ length text.now }
-    ensures entry { (line : Span) (others : List Span) → line_spans text.now place ≡ line ∷ others → result ≡ user_places text.now line }
+// The entry of the line that begins at a place, where it has the form.
+fn user_on(text: &[u8], place: u32) -> Option<PasswdAt>
+    ensures entry { result ≡ on_line (user_places text.now) text.now place }
     ensures inside { IfSome result (UserLiesIn (record { from = 0; to = length text.now })) }
 {
-    let line = line_at(text, place)?;
-    passwd_line(text, line.span)
+    passwd_line(text, line_on(text, place)?)
 }
