@@ -1,4 +1,6 @@
 pub mod InOrder
 pub mod LineRows
+pub mod NameRows
 pub mod UserRows
 pub mod GroupRows
+pub mod MemberRows
