@@ -4,3 +4,4 @@ pub mod NameRows
 pub mod UserRows
 pub mod GroupRows
 pub mod MemberRows
+pub mod Crossing

@@ -1,5 +1,5 @@
 -- Rows of the lines of a text, and the first line that a request names.
-use Rattle.std.proofs.Common.{◌≡◌, ℕ, ◌+◌, ◌≤◌, Bool, true, false, cond, if◌then◌else◌, List, [], ◌∷◌, ◌++◌, length, drop, filter, Option, Some, None, option_and_then, refl, sym, ◌∙◌, ap, subst, append_assoc, add-one, arith, IfSome, ◌==◌}
+use Rattle.std.proofs.Common.{◌≡◌, ℕ, ◌+◌, Bool, true, false, cond, if◌then◌else◌, List, [], ◌∷◌, ◌++◌, length, drop, filter, Option, Some, None, option_and_then, refl, sym, ◌∙◌, ap, subst, append_assoc, add-one, arith, ◌==◌}
 use Rattle.std.specs.List.{AllByRecursion, cons_option, filter_map, flat_map, slice_get}
 use Rattle.std.specs.declared.cmp.Ordering.{Ordering}
 use Rattle.std.specs.Ordering.{is_eq}
@@ -8,9 +8,9 @@ use Rattle.std.proofs.lemmas.List.{append-nil, drop-drop}
 use Rattle.std.proofs.lemmas.List.Elements.{filter-append, filter_agree}
 use Rattle.nsc_base.specs.declared.span.Line.{Line}
 use Rattle.nsc_base.specs.declared.span.Span.{Span}
-use Rattle.nsc_base.specs.Found.{AllBetween, FirstOf, here, later, nowhere}
+use Rattle.nsc_base.specs.Found.{FirstOf, here, later, nowhere}
 use Rattle.nsc_base.specs.Text.{IsLine, line_spans, lines_of, onto_first, spans_of}
-use Rattle.nsc_base.proofs.LineStarts.{lines-between, no_lines}
+use Rattle.nsc_base.proofs.LineStarts.{no_lines}
 use Rattle.nsc_model.specs.Entries.{first_of, if_named}
 use Rattle.nsc_index.specs.Indexes.{Indexes, on_line, rows_from}
 

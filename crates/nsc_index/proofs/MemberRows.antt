@@ -1,19 +1,18 @@
 -- The groups of a user, by the index of members.
-use Rattle.std.proofs.Common.{◌≡◌, ℕ, ◌+◌, ◌<◌, ◌≤◌, Bool, true, false, cond, ◌==◌, ◌||◌, if◌then◌else◌, List, [], ◌∷◌, ◌++◌, length, drop, filter, map, Option, Some, None, refl, sym, ◌∙◌, ap, subst, append_assoc, arith}
+use Rattle.std.proofs.Common.{◌≡◌, ℕ, ◌+◌, Bool, true, false, cond, ◌==◌, ◌||◌, if◌then◌else◌, List, [], ◌∷◌, ◌++◌, length, filter, map, refl, sym, ◌∙◌, ap, arith}
 use Rattle.std.specs.List.{cons_option, filter_map, list_any}
-use Rattle.std.specs.Option.{option_map}
 use Rattle.std.specs.Str.{bytes_eq}
 use Rattle.std.specs.Cmp.Lexicographic.{texts_ties}
 use Rattle.std.proofs.lemmas.Bool.Decides.{Decides-eqb}
 use Rattle.std.proofs.lemmas.List.Folds.{list_any-append}
 use Rattle.nsc_base.specs.declared.span.Span.{Span}
 use Rattle.nsc_base.specs.Found.{AllBetween}
-use Rattle.nsc_base.specs.Text.{IsField, field_spans, is_filled, line_spans, part}
-use Rattle.nsc_base.proofs.FieldCounts.{field_stands, spans_between}
+use Rattle.nsc_base.specs.Text.{field_spans, is_filled, line_spans, part}
+use Rattle.nsc_base.proofs.FieldCounts.{spans_between}
 use Rattle.nsc_base.proofs.LineStarts.{lines-between}
 use Rattle.nsc_base.proofs.Spans.{field_spans-parts, line_spans-parts}
 use Rattle.nsc_model.specs.Answers.{ids_of}
-use Rattle.nsc_model.specs.Entries.{if_named, named_in}
+use Rattle.nsc_model.specs.Entries.{if_named}
 use Rattle.nsc_model.specs.Groups.{group_of_line, has_member, members_of}
 use Rattle.nsc_accounts.specs.Group.{group_at, group_places}
 use Rattle.nsc_accounts.specs.Once.{all_ids, with_id}
@@ -22,7 +21,7 @@ use Rattle.nsc_accounts.proofs.Collected.{all_once, map_step, member_ids}
 use Rattle.nsc_accounts.proofs.Named.{group_given}
 use Rattle.nsc_index.specs.declared.groups.GroupIndex.{GroupIndex}
 use Rattle.nsc_index.specs.declared.names.NameAt.{NameAt}
-use Rattle.nsc_index.specs.Groups.{IsGroupIndex, group_members, member_spans, members_at}
+use Rattle.nsc_index.specs.Groups.{IsGroupIndex, group_members, member_spans}
 use Rattle.nsc_index.specs.Indexes.{on_line}
 use Rattle.nsc_index.specs.Names.{has_name, place_of_name}
 use Rattle.nsc_index.proofs.LineRows.{Repeats, RowsOf, all_found, again, named_step, nothing, once}
@@ -102,5 +101,5 @@ ids_start text user index is slice slice_is =
     let repeats = all_found (rows_of_member text user) text index.members.items is.members user (λ row. refl) slice slice_is in
     let named = filter (is_of text user) (filter_map (group_places text) (line_spans text 0)) in
     let same : map (λ at. at.gid) named ≡ member_ids user text =
-        sym (ids_at text named) ∙ ap (map (λ g. g.gid)) (named_groups text (has_member user) (line_spans text 0) (lines-between text 0 (omega arith)) ∙ ap (λ (lines : List (List ℕ)). filter (has_member user) (filter_map group_of_line lines)) (line_spans-parts text 0)) in
+    sym (ids_at text named) ∙ ap (map (λ g. g.gid)) (named_groups text (has_member user) (line_spans text 0) (lines-between text 0 (omega arith)) ∙ ap (λ (lines : List (List ℕ)). filter (has_member user) (filter_map group_of_line lines)) (line_spans-parts text 0)) in
     ids_repeated _ _ repeats [] ∙ ap (all_ids []) same ∙ all_once (member_ids user text)

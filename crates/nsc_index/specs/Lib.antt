@@ -3,3 +3,4 @@ pub mod Names
 pub mod Numbers
 pub mod Users
 pub mod Groups
+pub mod Prepared

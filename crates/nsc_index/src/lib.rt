@@ -3,10 +3,14 @@
 #![tactic(auto)]
 
 mod groups;
+mod indexed;
 mod lines;
 mod names;
 mod numbers;
+mod outcomes;
+mod prepared;
+mod services;
 mod users;
 
-pub use groups::GroupIndex;
-pub use users::UserIndex;
+pub use indexed::Indexed;
+pub use prepared::Prepared;

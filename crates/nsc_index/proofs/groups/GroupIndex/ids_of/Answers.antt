@@ -1,4 +1,4 @@
-use Rattle.std.proofs.Common.{filter, sym, ap, ◌∙◌}
+use Rattle.std.proofs.Common.{filter, ap, ◌∙◌}
 use Rattle.nsc_accounts.specs.Once.{all_ids}
 use Rattle.nsc_index.specs.Names.{has_name}
 use Rattle.nsc_index.proofs.MemberRows.{ids_start, row_ids}
