@@ -4,4 +4,5 @@ pub mod NameRows
 pub mod UserRows
 pub mod GroupRows
 pub mod MemberRows
+pub mod NetRows
 pub mod Crossing

@@ -1,18 +1,20 @@
 -- Rows of the lines of a text, and the first line that a request names.
-use Rattle.std.proofs.Common.{◌≡◌, ℕ, ◌+◌, Bool, true, false, cond, if◌then◌else◌, List, [], ◌∷◌, ◌++◌, length, drop, filter, Option, Some, None, option_and_then, refl, sym, ◌∙◌, ap, subst, append_assoc, add-one, arith, ◌==◌}
+use Rattle.std.proofs.Common.{◌≡◌, ℕ, ◌+◌, Bool, true, false, cond, if◌then◌else◌, List, [], ◌∷◌, ◌++◌, length, drop, drop-cons, filter, get_or, map, suc, ◌<◌, ◌&&◌, Option, Some, None, option_and_then, refl, sym, ◌∙◌, ap, subst, append_assoc, add-one, arith, ◌==◌}
 use Rattle.std.specs.List.{AllByRecursion, cons_option, filter_map, flat_map, slice_get}
 use Rattle.std.specs.declared.cmp.Ordering.{Ordering}
 use Rattle.std.specs.Ordering.{is_eq}
-use Rattle.std.specs.Option.{option_map, option_to_list}
+use Rattle.std.specs.Option.{option_map, option_or, option_to_list}
 use Rattle.std.proofs.lemmas.List.{append-nil, drop-drop}
 use Rattle.std.proofs.lemmas.List.Elements.{filter-append, filter_agree}
 use Rattle.nsc_base.specs.declared.span.Line.{Line}
 use Rattle.nsc_base.specs.declared.span.Span.{Span}
 use Rattle.nsc_base.specs.Found.{FirstOf, here, later, nowhere}
-use Rattle.nsc_base.specs.Text.{IsLine, line_spans, lines_of, onto_first, spans_of}
+use Rattle.nsc_base.specs.Text.{IsLine, line_spans, lines_of, onto_first, part, spans_of}
 use Rattle.nsc_base.proofs.LineStarts.{no_lines}
-use Rattle.nsc_model.specs.Entries.{first_of, if_named}
-use Rattle.nsc_index.specs.Indexes.{Indexes, on_line, rows_from}
+use Rattle.nsc_base.proofs.Spans.{line_spans-parts}
+use Rattle.nsc_model.proofs.Firsts.{first_step}
+use Rattle.nsc_model.specs.Entries.{first_named, first_of, if_named}
+use Rattle.nsc_index.specs.Indexes.{Indexes, line_entry, on_line, rows_from}
 
 -- ---- row by row
 
@@ -151,6 +153,40 @@ first_repeated test zs ws (again x xs ys more) =
       | false ↦ λ same. same
     ] (first_repeated test (x ∷ xs) ys more)
 
+-- ---- row after row, up to the first whose entry passes a test
+
+module _ {A X : Type 0} (entry : X → Option A) (test : A → Bool) where
+  abbrev pub first_left : List X → Option A
+  first_left rows = first_of (filter test (filter_map entry rows))
+
+  left_more : (rows : List X) (i : ℕ) (row : X) → i < length rows → row ≡ get_or rows i row → first_left (drop i rows) ≡ option_or (if_named test (entry row)) (first_left (drop (i + 1) rows))
+  left_more rows i row below is =
+      let cut : drop i rows ≡ row ∷ drop (i + 1) rows = drop-cons rows i row below ∙ ap (λ x. x ∷ drop (suc i) rows) (sym is) ∙ ap (λ n. row ∷ drop n rows) (sym (add-one i)) in
+      ap first_left cut ∙ first_step test (entry row) (filter_map entry (drop (i + 1) rows))
+
+  pub left_next : (rows : List X) (i : ℕ) (row : X) (all : Option A) → i < length rows → row ≡ get_or rows i row → if_named test (entry row) ≡ None → first_left (drop i rows) ≡ all → first_left (drop (i + 1) rows) ≡ all
+  left_next rows i row all below is none left = sym (left_more rows i row below is ∙ ap (λ o. option_or o (first_left (drop (i + 1) rows))) none) ∙ left
+
+  pub left_here : (rows : List X) (i : ℕ) (row : X) (a : A) (all : Option A) → i < length rows → row ≡ get_or rows i row → if_named test (entry row) ≡ Some a → first_left (drop i rows) ≡ all → Some a ≡ all
+  left_here rows i row a all below is some left = sym (left_more rows i row below is ∙ ap (λ o. option_or o (first_left (drop (i + 1) rows))) some) ∙ left
+
+filter_twice : {A : Type 0} (test names both : A → Bool) → ((a : A) → both a ≡ (names a && test a)) → (xs : List A) → filter test (filter names xs) ≡ filter both xs
+filter_twice test names both is [] = refl
+filter_twice test names both is (x ∷ xs) =
+    let rest = filter_twice test names both is xs in
+    subst (λ v. filter test (filter names (x ∷ xs)) ≡ cond v (x ∷ filter both xs) (filter both xs)) (sym (is x))
+    (elim (names x) as (λ n. filter test (cond n (x ∷ filter names xs) (filter names xs)) ≡ cond (n && test x) (x ∷ filter both xs) (filter both xs)) [
+      | true ↦ elim (test x) as (λ t. cond t (x ∷ filter test (filter names xs)) (filter test (filter names xs)) ≡ cond t (x ∷ filter both xs) (filter both xs)) [
+        | true ↦ ap (λ more. x ∷ more) rest
+        | false ↦ rest
+      ]
+      | false ↦ rest
+    ])
+
+pub entries_of : {A : Type 0} (entry_of : List ℕ → Option A) (text : List ℕ) (lines : List Span) → filter_map (line_entry entry_of text) lines ≡ filter_map entry_of (map (part text) lines)
+entries_of entry_of text [] = refl
+entries_of entry_of text (line ∷ lines) = ap (cons_option (entry_of (part text line))) (entries_of entry_of text lines)
+
 first_get : {X : Type 0} (xs : List X) → slice_get xs 0 ≡ first_of xs
 first_get [] = refl
 first_get (x ∷ xs) = refl
@@ -231,3 +267,12 @@ module _ {A X : Type 0} {places : Span → Option A} {names : A → Bool} {rows_
 
     pub all_found : (slice : List X) → slice ≡ filter passes index → Repeats (filter_map entry_on slice) (filter names (filter_map places (line_spans text 0)))
     all_found slice slice_is = subst (λ rows. Repeats (filter_map entry_on rows) (filter names (filter_map places (line_spans text 0)))) (sym (slice_is ∙ the_rows)) all_on
+
+-- the first of the rows of a key whose entry passes a further test
+pub first_among : {A X K : Type 0} (entry_of : List ℕ → Option A) (text : List ℕ) {names : A → Bool} {rows_of : Span → List X} {passes : X → Bool} {line_of : X → ℕ} (is : RowsOf (line_entry entry_of text) names rows_of passes line_of) {cmp : K → K → Ordering} {key : X → K} (index : List X)
+    → Indexes cmp key (rows_from rows_of text 0) index → (k : K) → ((row : X) → is_eq (cmp (key row) k) ≡ passes row) → (slice : List X) → slice ≡ filter passes index
+    → (test both : A → Bool) → ((a : A) → both a ≡ (names a && test a)) → first_left (λ row. on_line (line_entry entry_of text) text (line_of row)) test slice ≡ first_named entry_of both text
+first_among entry_of text {names = names} is index indexes k of_key slice slice_is test both test_is =
+    first_repeated test _ _ (all_found is text index indexes k of_key slice slice_is)
+    ∙ ap first_of (filter_twice test names both test_is (filter_map (line_entry entry_of text) (line_spans text 0)))
+    ∙ ap (λ entries. first_of (filter both entries)) (entries_of entry_of text (line_spans text 0) ∙ ap (filter_map entry_of) (line_spans-parts text 0))

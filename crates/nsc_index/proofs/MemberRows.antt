@@ -7,6 +7,7 @@ use Rattle.std.proofs.lemmas.Bool.Decides.{Decides-eqb}
 use Rattle.std.proofs.lemmas.List.Folds.{list_any-append}
 use Rattle.nsc_base.specs.declared.span.Span.{Span}
 use Rattle.nsc_base.specs.Found.{AllBetween}
+use Rattle.nsc_base.specs.declared.search.Case.TheVariants.{Counts}
 use Rattle.nsc_base.specs.Text.{field_spans, is_filled, line_spans, part}
 use Rattle.nsc_base.proofs.FieldCounts.{spans_between}
 use Rattle.nsc_base.proofs.LineStarts.{lines-between}
@@ -50,9 +51,9 @@ members_are text within = parts_filtered text is_filled (field_spans 44 text wit
 abbrev is_of : List ℕ → List ℕ → GroupAt → Bool
 is_of text user at = has_member user (group_at text at)
 
-rows_of_member : (text user : List ℕ) → RowsOf (group_places text) (is_of text user) (group_members text) (has_name text user) (λ row. row.line)
+rows_of_member : (text user : List ℕ) → RowsOf (group_places text) (is_of text user) (group_members text) (has_name Counts text user) (λ row. row.line)
 rows_of_member text user =
-    many_rows text (has_name text user) (λ name. bytes_eq name user) (λ line span. sym (texts_ties (part text span) user)) (group_places text) (is_of text user) (λ line at. member_spans text at.members)
+    many_rows text (has_name Counts text user) (λ name. bytes_eq name user) (λ line span. sym (texts_ties (part text span) user)) (group_places text) (is_of text user) (λ line at. member_spans text at.members)
     (λ line at has. ap (λ (names : List (List ℕ)). list_any (λ name. bytes_eq name user) names) (sym (members_are text at.members)))
 
 -- entries by places, and those that are named
@@ -96,7 +97,7 @@ ids_repeated zs ws (again x xs ys more) ids = ap (λ (those : List ℕ). all_ids
 abbrev pub row_ids : List ℕ → List NameAt → List ℕ
 row_ids text rows = map (λ at. at.gid) (filter_map (λ row. on_line (group_places text) text row.line) rows)
 
-pub ids_start : (text user : List ℕ) (index : GroupIndex) → IsGroupIndex text index → (slice : List NameAt) → slice ≡ filter (has_name text user) index.members.items → all_ids [] (row_ids text slice) ≡ ids_of user text
+pub ids_start : (text user : List ℕ) (index : GroupIndex) → IsGroupIndex text index → (slice : List NameAt) → slice ≡ filter (has_name Counts text user) index.members.items → all_ids [] (row_ids text slice) ≡ ids_of user text
 ids_start text user index is slice slice_is =
     let repeats = all_found (rows_of_member text user) text index.members.items is.members user (λ row. refl) slice slice_is in
     let named = filter (is_of text user) (filter_map (group_places text) (line_spans text 0)) in

@@ -3,6 +3,7 @@ use Rattle.std.specs.Prelude.{ℕ, List, [], filter, map}
 use Rattle.std.specs.Option.{option_map, option_map_or, option_to_list}
 use Rattle.std.specs.Ordering.{nat_cmp}
 use Rattle.std.specs.Cmp.Lexicographic.{slice_cmp}
+use Rattle.nsc_base.specs.declared.search.Case.TheVariants.{Counts}
 use Rattle.nsc_base.specs.declared.span.Span.{Span}
 use Rattle.nsc_base.specs.Text.{field_spans, is_filled, part}
 use Rattle.nsc_accounts.specs.Group.{group_places}
@@ -10,7 +11,7 @@ use Rattle.nsc_index.specs.declared.groups.GroupIndex.{GroupIndex}
 use Rattle.nsc_index.specs.declared.names.NameAt.{NameAt}
 use Rattle.nsc_index.specs.declared.numbers.NumberAt.{NumberAt}
 use Rattle.nsc_index.specs.Indexes.{Indexes, rows_from}
-use Rattle.nsc_index.specs.Names.{name_in, place_of_name}
+use Rattle.nsc_index.specs.Names.{name_key, place_of_name}
 use Rattle.nsc_index.specs.Numbers.{number_in, place_of_number}
 
 -- the name of a line that has the form, and its group id
@@ -33,6 +34,6 @@ group_members text line = option_map_or (λ at. members_at text line at.members)
 
 -- each line that has the form, under its name, under its group id and under the name of each member
 pub record IsGroupIndex (text : List ℕ) (index : GroupIndex) : Type 0 where
-  pub names : Indexes (slice_cmp nat_cmp) (name_in text) (rows_from (group_names text) text 0) index.names.items
+  pub names : Indexes (slice_cmp nat_cmp) (name_key Counts text) (rows_from (group_names text) text 0) index.names.items
   pub ids : Indexes nat_cmp number_in (rows_from (group_ids text) text 0) index.ids.items
-  pub members : Indexes (slice_cmp nat_cmp) (name_in text) (rows_from (group_members text) text 0) index.members.items
+  pub members : Indexes (slice_cmp nat_cmp) (name_key Counts text) (rows_from (group_members text) text 0) index.members.items

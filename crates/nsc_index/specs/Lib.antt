@@ -3,4 +3,7 @@ pub mod Names
 pub mod Numbers
 pub mod Users
 pub mod Groups
+pub mod Addresses
+pub mod Hosts
+pub mod Services
 pub mod Prepared

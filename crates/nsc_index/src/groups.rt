@@ -13,7 +13,7 @@ use crate::lines::line_on;
 use crate::names::{NameAt, places_of_name, sorted_names};
 use crate::numbers::{NumberAt, places_of_number, sorted_numbers};
 use nsc_accounts::{GroupAt, OnceIds, group_line};
-use nsc_base::{Ids, NoMemory, Span, field_at, line_at};
+use nsc_base::{Case, Ids, NoMemory, Span, field_at, line_at};
 use std::alloc::Global;
 
 /// The lines of a group file, group(5), in the order of their names, in that of their group ids, and in that of the names of
@@ -49,9 +49,9 @@ impl GroupIndex {
             from = line.next;
         }
         Ok(GroupIndex {
-            names: sorted_names(text, names)?,
+            names: sorted_names(text, Case::Counts, names)?,
             ids: sorted_numbers(ids)?,
-            members: sorted_names(text, members)?,
+            members: sorted_names(text, Case::Counts, members)?,
         })
     }
 
@@ -62,7 +62,7 @@ impl GroupIndex {
         ensures entry { option_map (group_at text.now) result ≡ first_named group_of_line (λ g. bytes_eq g.name name.now) text.now }
         ensures inside { IfSome result (GroupLiesIn (record { from = 0; to = length text.now })) }
     {
-        let at = places_of_name(text, &self.names, name).first()?;
+        let at = places_of_name(text, Case::Counts, &self.names, name).first()?;
         group_on(text, at.line)
     }
 
@@ -84,7 +84,7 @@ impl GroupIndex {
         ensures { IfOk result (λ ids. ids ≡ ids_of user.now text.now) }
     {
         let mut ids = OnceIds::new(alloc);
-        for at in places_of_name(text, &self.members, user) {
+        for at in places_of_name(text, Case::Counts, &self.members, user) {
             if let Some(group) = group_on(text, at.line) {
                 ids.add(group.gid)?;
             }

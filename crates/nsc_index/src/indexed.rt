@@ -1,5 +1,5 @@
+use crate::lookup::look_up;
 use crate::prepared::Prepared;
-use crate::services::look_up;
 use nsc_answer::answer_with;
 use nsc_base::NoMemory;
 use nsc_model::{Answer, Answerer, Content, Kind};

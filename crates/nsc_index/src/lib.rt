@@ -3,14 +3,18 @@
 #![tactic(auto)]
 
 mod groups;
+mod hosts;
 mod indexed;
 mod lines;
+mod lookup;
 mod names;
+mod net_outcomes;
 mod numbers;
 mod outcomes;
 mod prepared;
 mod services;
 mod users;
+mod words;
 
 pub use indexed::Indexed;
 pub use prepared::Prepared;

@@ -3,9 +3,10 @@ ghost use Rattle.std.specs.List.Sorted.{IsSortedByKey};
 ghost use Rattle.std.specs.Ordering.{nat_cmp};
 ghost use Rattle.std.specs.Cmp.Lexicographic.{slice_cmp};
 ghost use Rattle.nsc_index.specs.Indexes.{Indexes};
-ghost use Rattle.nsc_index.specs.Names.{has_name, name_in, place_of_name};
+ghost use Rattle.nsc_base.specs.declared.search.Case.{Case};
+ghost use Rattle.nsc_index.specs.Names.{cased, has_name, name_in, name_key, place_of_name};
 
-use nsc_base::{NoMemory, Span};
+use nsc_base::{Case, NoMemory, Span};
 use std::cmp::Ordering;
 
 /// Where a name stands in a text, and where the line begins that has it: twelve bytes for a name.
@@ -43,43 +44,59 @@ impl NameAt {
     }
 }
 
-// How two texts stand in order: by their first byte that differs.
-fn order(a: &[u8], b: &[u8]) -> Ordering
-    ensures { result ≡ slice_cmp nat_cmp a.now b.now }
+// How two texts stand in order: by their first byte that differs, with regard to the case of ASCII letters or without.
+fn order(case: Case, a: &[u8], b: &[u8]) -> Ordering
+    ensures { result ≡ slice_cmp nat_cmp (cased case a.now) (cased case b.now) }
 {
-    a.cmp(&b)
+    match case {
+        Case::Counts => a.cmp(&b),
+        Case::Ignored => order_in_any_case(a, b),
+    }
+}
+
+// The same without regard to case.
+fn order_in_any_case(a: &[u8], b: &[u8]) -> Ordering
+    ensures { result ≡ slice_cmp nat_cmp (cased Case.Ignored a.now) (cased Case.Ignored b.now) }
+{
+    let lower_a = a.iter().map(|byte| byte.to_ascii_lowercase());
+    let lower_b = b.iter().map(|byte| byte.to_ascii_lowercase());
+    lower_a.cmp(lower_b)
 }
 
 // How two names of a text stand in order.
-fn order_of(text: &[u8], a: &NameAt, b: &NameAt) -> Ordering
-    ensures { result ≡ slice_cmp nat_cmp (name_in text.now a.now) (name_in text.now b.now) }
+fn order_of(text: &[u8], case: Case, a: &NameAt, b: &NameAt) -> Ordering
+    ensures { result ≡ slice_cmp nat_cmp (name_key case text.now a.now) (name_key case text.now b.now) }
 {
-    order(a.name(text), b.name(text))
+    order(case, a.name(text), b.name(text))
 }
 
 // How a name of a text stands to another.
-fn order_to(text: &[u8], at: &NameAt, name: &[u8]) -> Ordering
-    ensures { result ≡ slice_cmp nat_cmp (name_in text.now at.now) name.now }
+fn order_to(text: &[u8], case: Case, at: &NameAt, name: &[u8]) -> Ordering
+    ensures { result ≡ slice_cmp nat_cmp (name_key case text.now at.now) (cased case name.now) }
 {
-    order(at.name(text), name)
+    order(case, at.name(text), name)
 }
 
 /// The names of a text in their order, and those that are the same in the order in which they were given. Fails only for want
 /// of memory.
-pub fn sorted_names(text: &[u8], mut names: Vec<NameAt>) -> Result<Vec<NameAt>, NoMemory>
-    ensures { IfOk result (λ index. Indexes (slice_cmp nat_cmp) (name_in text.now) names.items index.items) }
+pub fn sorted_names(
+    text: &[u8],
+    case: Case,
+    mut names: Vec<NameAt>,
+) -> Result<Vec<NameAt>, NoMemory>
+    ensures { IfOk result (λ index. Indexes (slice_cmp nat_cmp) (name_key case text.now) names.items index.items) }
 {
-    names.sort_by(|a, b| order_of(text, a, b))?;
+    names.sort_by(|a, b| order_of(text, case, a, b))?;
     Ok(names)
 }
 
 /// The places of a name among the names of a text in their order.
-pub fn places_of_name<'p>(text: &[u8], names: &'p [NameAt], name: &[u8]) -> &'p [NameAt]
-    requires { IsSortedByKey (name_in text.now) (slice_cmp nat_cmp) names.now }
-    ensures { result.now ≡ filter (has_name text.now name.now) names.now }
+pub fn places_of_name<'p>(text: &[u8], case: Case, names: &'p [NameAt], name: &[u8]) -> &'p [NameAt]
+    requires { IsSortedByKey (name_key case text.now) (slice_cmp nat_cmp) names.now }
+    ensures { result.now ≡ filter (has_name case text.now name.now) names.now }
 {
-    let from = names.partition_point(|at| order_to(text, at, name).is_lt());
+    let from = names.partition_point(|at| order_to(text, case, at, name).is_lt());
     let rest = &names[from..];
-    let count = rest.partition_point(|at| order_to(text, at, name).is_eq());
+    let count = rest.partition_point(|at| order_to(text, case, at, name).is_eq());
     &rest[..count]
 }

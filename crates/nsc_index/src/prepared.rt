@@ -6,15 +6,24 @@ ghost use Rattle.nsc_model.specs.Files.{FilesFit, file_limit, file_of};
 ghost use Rattle.nsc_model.specs.Switches.{text_of};
 
 use crate::groups::GroupIndex;
+use crate::hosts::HostIndex;
+use crate::net_outcomes::{
+    addresses_by_name, host_by_address, host_by_name, service_by_name, service_by_port,
+};
 use crate::outcomes::{group_by_id, group_by_name, groups_of_user, user_by_id, user_by_name};
+use crate::services::ServiceIndex;
 use crate::users::UserIndex;
 use nsc_base::NoMemory;
-use nsc_files::{extra_lookup, files_lookup};
 use nsc_model::{Content, Db, FileId, Kind, Looked, SwitchService, SwitchStep};
 use nsc_switch::{Lists, PlainServices, ServiceLook};
 use std::alloc::Global;
 use std::marker::Model;
 use std::sync::Arc;
+
+// The address families of the protocol.
+const IPV4: u8 = 2;
+
+const IPV6: u8 = 10;
 
 /// A content with its service lists and the indexes of its files, which were made once.
 #[derive(Debug, Drop)]
@@ -25,6 +34,8 @@ pub struct Prepared {
     groups: GroupIndex,
     extra_users: UserIndex,
     extra_groups: GroupIndex,
+    hosts: HostIndex,
+    services: ServiceIndex,
 }
 
 impl Model for Prepared {
@@ -57,6 +68,8 @@ impl Prepared {
         let groups = GroupIndex::of(alloc, text_in(&content, FileId::Group))?;
         let extra_users = UserIndex::of(alloc, text_in(&content, FileId::ExtraPasswd))?;
         let extra_groups = GroupIndex::of(alloc, text_in(&content, FileId::ExtraGroup))?;
+        let hosts = HostIndex::of(alloc, text_in(&content, FileId::Hosts))?;
+        let services = ServiceIndex::of(alloc, text_in(&content, FileId::Services))?;
         Ok(Prepared {
             content,
             lists,
@@ -64,6 +77,8 @@ impl Prepared {
             groups,
             extra_users,
             extra_groups,
+            hosts,
+            services,
         })
     }
 
@@ -88,19 +103,21 @@ impl Prepared {
     {
         let passwd = self.content.file(FileId::Passwd);
         let group = self.content.file(FileId::Group);
+        let hosts = self.content.file(FileId::Hosts);
+        let services = self.content.file(FileId::Services);
         match kind {
             Kind::PwName => user_by_name(alloc, passwd, &self.users, key),
             Kind::PwUid => user_by_id(alloc, passwd, &self.users, key),
             Kind::GrName => group_by_name(alloc, group, &self.groups, key),
             Kind::GrGid => group_by_id(alloc, group, &self.groups, key),
             Kind::InitGroups => groups_of_user(alloc, group, &self.groups, key),
-            Kind::HostName
-            | Kind::HostName6
-            | Kind::HostAddr
-            | Kind::HostAddr6
-            | Kind::Ai
-            | Kind::ServName
-            | Kind::ServPort => files_lookup(alloc, &self.content, kind, key),
+            Kind::HostName => host_by_name(alloc, hosts, &self.hosts, key, IPV4),
+            Kind::HostName6 => host_by_name(alloc, hosts, &self.hosts, key, IPV6),
+            Kind::HostAddr => host_by_address(alloc, hosts, &self.hosts, key),
+            Kind::HostAddr6 => host_by_address(alloc, hosts, &self.hosts, key),
+            Kind::Ai => addresses_by_name(alloc, hosts, &self.hosts, key),
+            Kind::ServName => service_by_name(alloc, services, &self.services, key),
+            Kind::ServPort => service_by_port(alloc, services, &self.services, key),
         }
     }
 

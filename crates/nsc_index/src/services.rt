@@ -1,49 +1,94 @@
-ghost use Rattle.std.specs.Prelude.{◌≡◌, IfOk};
-ghost use Rattle.nsc_model.specs.Answers.{looked_up, service_answer};
-ghost use Rattle.nsc_model.specs.Files.{FilesFit};
+ghost use Rattle.std.specs.Prelude.{◌≡◌, ◌≤◌, IfOk, IfSome, length};
+ghost use Rattle.std.specs.Option.{option_map};
+ghost use Rattle.nsc_model.specs.Entries.{first_named, if_named};
+ghost use Rattle.nsc_model.specs.Files.{file_limit};
+ghost use Rattle.nsc_model.specs.ServiceLines.{proto_fits, service_named, service_of_line, service_ported};
+ghost use Rattle.nsc_nets.specs.Services.{ServiceLiesIn, service_at};
+ghost use Rattle.nsc_index.specs.Indexes.{line_entry, on_line};
 
-use crate::prepared::Prepared;
-use nsc_base::NoMemory;
-use nsc_model::{Db, Kind, Looked, SwitchService};
-use nsc_switch::{ServiceLook, switch_over};
+use crate::lines::line_on;
+use crate::names::{NameAt, places_of_name, sorted_names};
+use crate::numbers::{NumberAt, places_of_number, sorted_numbers};
+use crate::words::add_words;
+use nsc_base::{Case, NoMemory, equal, line_at};
+use nsc_nets::{ServiceAt, service_line};
 use std::alloc::Global;
 
-// The services of a database's own list, over a content whose files have indexes.
-#[derive(Drop)]
-struct IndexedServices<'a> {
-    prepared: &'a Prepared,
+/// The lines of a services file, services(5), in the order of their names and aliases, and in that of their ports: eight bytes
+/// for a line, and twelve for each name.
+#[derive(Debug, Drop)]
+pub struct ServiceIndex {
+    /// The names and aliases.
+    pub names: Vec<NameAt>,
+    /// The ports.
+    pub ports: Vec<NumberAt>,
 }
 
-impl<'a> ServiceLook for IndexedServices<'a> {
-    ghost outcome = { λ services. service_answer services.prepared.now };
+impl ServiceIndex {
+    ghost use Rattle.nsc_index.specs.Services.{IsServiceIndex};
 
-    fn look(
-        &self,
-        alloc: Global,
-        service: SwitchService,
-        kind: Kind,
-        key: &[u8],
-    ) -> Result<Looked, NoMemory> {
-        match service {
-            SwitchService::Files => self.prepared.in_files(alloc, kind, key),
-            SwitchService::Extrausers => self.prepared.in_extrausers(alloc, kind, key),
-            SwitchService::Compat => self.prepared.in_compat(alloc, kind, key),
-            SwitchService::Other => Ok(Looked::Unavail),
+    /// The index of a services file. Fails only for want of memory.
+    pub fn of(alloc: Global, text: &[u8]) -> Result<ServiceIndex, NoMemory>
+        requires { length text.now ≤ file_limit }
+        ensures { IfOk result (IsServiceIndex text.now) }
+    {
+        let mut names = Vec::new(alloc);
+        let mut ports = Vec::new(alloc);
+        let mut from = 0;
+        while let Some(line) = line_at(text, from) {
+            if let Some(service) = service_line(text, line.span) {
+                names.push(NameAt::new(service.name, line.span))?;
+                add_words(text, line.span, service.aliases, &mut names)?;
+                ports.push(NumberAt::new(u32::from(service.port), line.span))?;
+            }
+            from = line.next;
         }
+        Ok(ServiceIndex {
+            names: sorted_names(text, Case::Counts, names)?,
+            ports: sorted_numbers(ports)?,
+        })
+    }
+
+    /// The first line that has the form, this name or alias, and this protocol, as places in the file that this is the index of.
+    /// With an empty protocol any will do. `None` where there is none. Takes no memory.
+    pub fn by_name(&self, text: &[u8], name: &[u8], proto: &[u8]) -> Option<ServiceAt>
+        requires { IsServiceIndex text.now self.now }
+        ensures entry { option_map (service_at text.now) result ≡ first_named service_of_line (service_named name.now proto.now) text.now }
+        ensures inside { IfSome result (ServiceLiesIn (record { from = 0; to = length text.now })) }
+    {
+        for at in places_of_name(text, Case::Counts, &self.names, name) {
+            if let Some(service) = service_on(text, at.line, proto) {
+                return Some(service);
+            }
+        }
+        None
+    }
+
+    /// The first line that has the form, this port and this protocol, as places in the file that this is the index of. With an
+    /// empty protocol any will do. `None` where there is none. Takes no memory.
+    pub fn by_port(&self, text: &[u8], port: u16, proto: &[u8]) -> Option<ServiceAt>
+        requires { IsServiceIndex text.now self.now }
+        ensures entry { option_map (service_at text.now) result ≡ first_named service_of_line (service_ported port proto.now) text.now }
+        ensures inside { IfSome result (ServiceLiesIn (record { from = 0; to = length text.now })) }
+    {
+        for at in places_of_number(&self.ports, u32::from(port)) {
+            if let Some(service) = service_on(text, at.line, proto) {
+                return Some(service);
+            }
+        }
+        None
     }
 }
 
-/// The outcome of the switch for the request of this kind and key, over a content whose files have indexes. No file of the content
-/// is longer than a file may be. Fails only for want of memory.
-pub fn look_up(
-    alloc: Global,
-    prepared: &Prepared,
-    kind: Kind,
-    key: &[u8],
-) -> Result<Looked, NoMemory>
-    ensures outcome { IfOk result (λ looked. looked ≡ looked_up prepared.now (record { kind = kind; key = key.now })) }
-    ensures fits { FilesFit prepared.now }
+// The entry of the line that begins at a place, where it has the form and this protocol. With an empty protocol any will do.
+fn service_on(text: &[u8], place: u32, proto: &[u8]) -> Option<ServiceAt>
+    ensures entry { option_map (service_at text.now) result ≡ if_named (proto_fits proto.now) (on_line (line_entry service_of_line text.now) text.now place) }
+    ensures inside { IfSome result (ServiceLiesIn (record { from = 0; to = length text.now })) }
 {
-    let services = IndexedServices { prepared };
-    switch_over(alloc, &services, prepared.list(Db::of(kind)), kind, key)
+    let service = service_line(text, line_on(text, place)?)?;
+    if proto.is_empty() || equal(service.proto.of(text), proto) {
+        Some(service)
+    } else {
+        None
+    }
 }

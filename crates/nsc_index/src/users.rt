@@ -11,7 +11,7 @@ use crate::lines::line_on;
 use crate::names::{NameAt, places_of_name, sorted_names};
 use crate::numbers::{NumberAt, places_of_number, sorted_numbers};
 use nsc_accounts::{PasswdAt, passwd_line};
-use nsc_base::{NoMemory, line_at};
+use nsc_base::{Case, NoMemory, line_at};
 use std::alloc::Global;
 
 /// The lines of a passwd file, passwd(5), in the order of their names and in that of their user ids: twenty bytes for a line.
@@ -42,7 +42,7 @@ impl UserIndex {
             from = line.next;
         }
         Ok(UserIndex {
-            names: sorted_names(text, names)?,
+            names: sorted_names(text, Case::Counts, names)?,
             ids: sorted_numbers(ids)?,
         })
     }
@@ -54,7 +54,7 @@ impl UserIndex {
         ensures entry { option_map (user_at text.now) result ≡ first_named user_of_line (λ p. bytes_eq p.name name.now) text.now }
         ensures inside { IfSome result (UserLiesIn (record { from = 0; to = length text.now })) }
     {
-        let at = places_of_name(text, &self.names, name).first()?;
+        let at = places_of_name(text, Case::Counts, &self.names, name).first()?;
         user_on(text, at.line)
     }
 
