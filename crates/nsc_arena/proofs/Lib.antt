@@ -8,3 +8,5 @@ pub mod Cleared
 pub mod Changed
 pub mod Walks
 pub mod Slides
+pub mod ReadBack
+pub mod Passed

@@ -12,25 +12,25 @@ use Rattle.nsc_arena.proofs.Rows.{end_after, kept, moved, same_below, within}
 
 -- ---- the older nodes of a list
 
-row_of : (start : ℕ) (newer done : List Placed) → InRow start (newer ++ done) → InRow start done
+pub row_of : (start : ℕ) (newer done : List Placed) → InRow start (newer ++ done) → InRow start done
 row_of start [] done row = row
 row_of start (p ∷ newer) done row = row_of start newer done row.1
 
-rising_of : (newer done : List Placed) → Rising (newer ++ done) → Rising done
+pub rising_of : (newer done : List Placed) → Rising (newer ++ done) → Rising done
 rising_of [] done rising = rising
 rising_of (p ∷ newer) done rising = rising_of newer done rising.1
 
-among_of : (newer done : List Placed) (p : Placed) → Among p done → Among p (newer ++ done)
+pub among_of : (newer done : List Placed) (p : Placed) → Among p done → Among p (newer ++ done)
 among_of [] done p among = among
 among_of (q ∷ newer) done p among = inr (among_of newer done p among)
 
 -- they end no later than all, and earlier where there are newer ones
-ends_before : (start : ℕ) (newer done : List Placed) → InRow start (newer ++ done) → end_of start done ≤ end_of start (newer ++ done)
+pub ends_before : (start : ℕ) (newer done : List Placed) → InRow start (newer ++ done) → end_of start done ≤ end_of start (newer ++ done)
 ends_before start [] done row = omega arith
 ends_before start (p ∷ newer) done row = let e = ends_before start newer done row.1 in let f = row.0 in omega arith
 
 -- the oldest of the newer ones
-oldest : (p : Placed) (newer done : List Placed) → (front : List Placed) × (n : Placed) × ((p ∷ newer) ++ done ≡ front ++ (n ∷ done))
+pub oldest : (p : Placed) (newer done : List Placed) → (front : List Placed) × (n : Placed) × ((p ∷ newer) ++ done ≡ front ++ (n ∷ done))
 oldest p [] done = ([], p, refl)
 oldest p (q ∷ newer) done = let w = oldest q newer done in (p ∷ w.0, w.1, ap (λ (ps : List Placed). p ∷ ps) w.2)
 

@@ -16,7 +16,7 @@ pub record Walking (layout : Layout) (kind : ℕ) (key : List ℕ) (nodes : List
   pub known : (at ≡ 0) ⊎ ((p : Placed) × Among p nodes × (p.place ≡ at) × (at + 8 ≤ below) × (bucket_in layout p ≡ bucket_of layout kind key))
   pub newest : (q : Placed) → Among q nodes → answers kind key q ≡ true → q.place ≤ at
 
-both : (a b : Bool) → (a && b) ≡ true → (a ≡ true) × (b ≡ true)
+pub both : (a b : Bool) → (a && b) ≡ true → (a ≡ true) × (b ≡ true)
 both true b e = (refl, e)
 both false b e = absurd (false≢true e)
 

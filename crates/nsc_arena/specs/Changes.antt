@@ -1,11 +1,12 @@
 -- What the calls on nodes come to.
-use Rattle.std.specs.Prelude.{◌≡◌, ℕ, ◌+◌, ◌<◌, ◌≤◌, ◌^◌, ◌==◌, true, false, if◌then◌else◌, List, length, map, slice_index, Option, Some, None}
+use Rattle.std.specs.Prelude.{◌≡◌, ◌≢◌, ℕ, ◌+◌, ◌<◌, ◌≤◌, ◌^◌, ◌==◌, true, false, if◌then◌else◌, List, length, map, slice_index, Option, Some, None}
 use Rattle.nsc_words.specs.declared.layout.Layout.{Layout}
 use Rattle.nsc_words.specs.declared.node.Node.{Node}
 use Rattle.nsc_words.specs.declared.node.Placed.{Placed}
 use Rattle.nsc_words.specs.Laid.{Among, Laid, Stands, end_of, words_in}
 use Rattle.nsc_words.specs.Layout.{arena_start, table_words}
 use Rattle.nsc_arena.specs.Written.{IsSameBelow}
+use Rattle.nsc_arena.specs.declared.placing.Fixed.{Fixed}
 use Rattle.nsc_arena.specs.declared.reading.Head.{Head}
 
 -- a node that is to be linked stands behind those of the list: it is usable, and its number is above theirs
@@ -16,6 +17,10 @@ pub record IsNext (words : List ℕ) (layout : Layout) (nodes : List Placed) (p 
   pub usable : p.usable ≡ true
   pub stands : Stands words p
   pub newest : (q : Placed) → Among q nodes → q.node.number < p.node.number
+
+-- a node of these parts
+abbrev pub node_of : Fixed → List ℕ → List ℕ → Node
+node_of f key reply = record { number = f.number; kind = f.kind; key = key; reply = reply; version = f.version; timeout = f.timeout; reloads = f.reloads; not_found = f.not_found }
 
 abbrev pub usable_at : ℕ → Node → Placed
 usable_at place n = record { place = place; node = n; usable = true }
@@ -45,3 +50,8 @@ pub record IsNodeAt (words : List ℕ) (at : ℕ) (p : Placed) : Type 0 where
   pub stands : Stands words p
   pub inside : at + words_in p.node ≤ length words
   pub size : length words < 2 ^ 63
+
+-- a usable node of a number stands at this place, or there is none
+abbrev pub IsNumbered : ℕ → List Placed → Option ℕ → Type 0
+IsNumbered number nodes None = (p : Placed) → Among p nodes → p.usable ≡ true → p.node.number ≢ number
+IsNumbered number nodes (Some at) = (p : Placed) × Among p nodes × (p.place ≡ at) × (p.usable ≡ true) × (p.node.number ≡ number)

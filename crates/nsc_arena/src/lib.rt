@@ -4,7 +4,9 @@
 
 mod chaining;
 mod changing;
+mod laws;
 mod memory;
+mod numbers;
 mod placing;
 mod reading;
 mod sliding;
@@ -13,9 +15,11 @@ mod writing;
 
 pub use chaining::chain;
 pub use changing::{end_node, set_reloads};
+pub use laws::nodes_are_read_back;
 pub use memory::{VecWords, Words};
 pub use nsc_words::{Node, Placed};
-pub use placing::place;
+pub use numbers::find_number;
+pub use placing::{Fixed, place, place_bytes};
 pub use reading::{Head, head_at, read_bytes};
 pub use sliding::{clear, slide};
 pub use walking::walk;

@@ -74,7 +74,7 @@ low_of_word bytes i c b h l =
 -- ---- bytes by their words
 
 -- a byte by the word that it stands in
-byte_of : (bytes : List ℕ) (k : ℕ) → ((i : ℕ) → slice_index bytes i < 256) → k < length bytes → slice_index bytes k ≡ slice_index (bytes_low_first 0 (k % 8 + 1) (word_of bytes (k / 8))) (k % 8)
+pub byte_of : (bytes : List ℕ) (k : ℕ) → ((i : ℕ) → slice_index bytes i < 256) → k < length bytes → slice_index bytes k ≡ slice_index (bytes_low_first 0 (k % 8 + 1) (word_of bytes (k / 8))) (k % 8)
 byte_of bytes k b h =
     let low = low_of_word bytes (k / 8) (k % 8 + 1) b (omega arith) (omega arith) in
     let at : slice_index (take (k % 8 + 1) (drop (8 * (k / 8)) bytes)) (k % 8) ≡ slice_index bytes (8 * (k / 8) + k % 8) = get_or-take (k % 8 + 1) (drop (8 * (k / 8)) bytes) (k % 8) 0 (omega arith) ∙ get_or-drop (8 * (k / 8)) bytes (k % 8) 0 in

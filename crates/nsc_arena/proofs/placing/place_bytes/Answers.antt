@@ -3,7 +3,7 @@ use Rattle.nsc_arena.specs.Written.{IsSameBelow}
 use Rattle.nsc_words.specs.Laid.{end_of}
 use Rattle.nsc_words.specs.Layout.{arena_start}
 use Rattle.nsc_arena.proofs.Rows.{same_below}
-use Rattle.nsc_arena.proofs.placing.place.Goals as goal
+use Rattle.nsc_arena.proofs.placing.place_bytes.Goals as goal
 
 pub returns-clause-laid : goal.returns-clause-laid
 returns-clause-laid g c = λ nodes laid.
