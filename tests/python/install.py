@@ -7,7 +7,7 @@ import subprocess
 import sys
 
 sys.dont_write_bytecode = True
-from machine import init_case, package_case
+from machine import init_case, package_case, systemd_case
 from places import completions_case, manuals_case, places_case
 from running import PROGRAM, Fault
 from service import calls_case, left_case, unit_case
@@ -26,9 +26,10 @@ CASES = {
     "calls": calls_case,
     "init": init_case,
     "package": package_case,
+    "systemd": systemd_case,
 }
 # These run the program.
-RUNNING = ("settings", "calls", "init", "package")
+RUNNING = ("settings", "calls", "init", "package", "systemd")
 
 
 def main(names):

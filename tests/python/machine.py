@@ -9,12 +9,12 @@ from places import VERSION, a_program, folder
 from running import Fault, check
 
 
-def in_own_root(given, script):
+def in_own_root(given, script, *mode):
     """What the script shows, or why it was skipped."""
     for word in ("unshare", "mount", "chroot", "setpriv", "getent", "useradd"):
         if shutil.which(word) is None:
             return f"skipped, since there is no {word}"
-    words = [ROOT / "tests/machine/enter", ROOT, given, script]
+    words = [ROOT / "tests/machine/enter", ROOT, given, script, *mode]
     done = subprocess.run(words, stdin=subprocess.DEVNULL, capture_output=True, timeout=100, check=False)
     lines = done.stdout.decode(errors="replace").strip().splitlines()
     said = lines[-1] if lines else ""
@@ -53,24 +53,33 @@ Description: stands for another nscd
 """
 
 
-def package_case():
+def packages(given):
+    """The package, one of a later version, and another nscd, in this folder."""
+    program = a_program(given)
+    done = subprocess.run([ROOT / "dist/make-deb", given], capture_output=True, timeout=60, check=False, env={**os.environ, "NSCD": str(program)})
+    check(done.returncode == 0, f"make-deb: {done.stderr.decode()}")
+    made = done.stdout.decode().strip()
+    fields = subprocess.run(["dpkg-deb", "-f", made], capture_output=True, timeout=60, check=True).stdout.decode()
+    for line in (f"Version: {VERSION}", "Provides: nscd", "Conflicts: nscd"):
+        check(line in fields.splitlines(), f"control: no line '{line}'")
+    listed = subprocess.run(["dpkg-deb", "-c", made], capture_output=True, timeout=60, check=True).stdout.decode()
+    check(not [line for line in listed.splitlines() if " root/root " not in line], "the package has files that are not root's")
+    check("trials" not in listed, "the package has more than the program")
+    os.rename(made, given / "nscd.deb")
+    next_one = repacked(given / "nscd.deb", given / "next", [(f"Version: {VERSION}\n", f"Version: {VERSION}+next\n")])
+    os.rename(next_one, given / "nscd-next.deb")
+    (given / "other/DEBIAN").mkdir(parents=True)
+    (given / "other/DEBIAN/control").write_text(OTHER)
+    subprocess.run(["dpkg-deb", "-b", given / "other", given / "nscd-other.deb"], check=True, capture_output=True, timeout=60)
+
+
+def package_case(script="by-dpkg", *mode):
     if shutil.which("dpkg-deb") is None:
         return "skipped, since there is no dpkg-deb"
     with folder() as given:
-        program = a_program(given)
-        done = subprocess.run([ROOT / "dist/make-deb", given], capture_output=True, timeout=60, check=False, env={**os.environ, "NSCD": str(program)})
-        check(done.returncode == 0, f"make-deb: {done.stderr.decode()}")
-        made = done.stdout.decode().strip()
-        fields = subprocess.run(["dpkg-deb", "-f", made], capture_output=True, timeout=60, check=True).stdout.decode()
-        for line in (f"Version: {VERSION}", "Provides: nscd", "Conflicts: nscd"):
-            check(line in fields.splitlines(), f"control: no line '{line}'")
-        listed = subprocess.run(["dpkg-deb", "-c", made], capture_output=True, timeout=60, check=True).stdout.decode()
-        check(not [line for line in listed.splitlines() if " root/root " not in line], "the package has files that are not root's")
-        check("nscd-trials" not in listed, "the package has more than the program")
-        os.rename(made, given / "nscd.deb")
-        next_one = repacked(given / "nscd.deb", given / "next", [(f"Version: {VERSION}\n", f"Version: {VERSION}+next\n")])
-        os.rename(next_one, given / "nscd-next.deb")
-        (given / "other/DEBIAN").mkdir(parents=True)
-        (given / "other/DEBIAN/control").write_text(OTHER)
-        subprocess.run(["dpkg-deb", "-b", given / "other", given / "nscd-other.deb"], check=True, capture_output=True, timeout=60)
-        return in_own_root(given, "by-dpkg")
+        packages(given)
+        return in_own_root(given, script, *mode)
+
+
+def systemd_case():
+    return package_case("by-systemd", "systemd")
