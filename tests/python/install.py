@@ -3,6 +3,7 @@
 Each case ends with a sentence of what it showed, or of what it needed and did not find. With the names of cases only those are tried.
 """
 
+import os
 import subprocess
 import sys
 
@@ -36,6 +37,7 @@ def main(names):
     unknown = [name for name in names if name not in CASES]
     if unknown:
         sys.exit(f"install: no case {unknown[0]}; there are {', '.join(CASES)}")
+    os.environ["PATH"] += ":/usr/sbin:/sbin"
     faults = 0
     for name in names or CASES:
         if name in RUNNING and not PROGRAM.exists():

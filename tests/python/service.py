@@ -7,6 +7,7 @@ import resource
 import shutil
 import socket
 import subprocess
+import sys
 import time
 
 from frames import ROOT
@@ -174,9 +175,10 @@ def calls_case():
         if library.seccomp_load(made) != 0:
             raise Fault("the filter is not taken")
 
-    # Does it refuse anything?
-    refused = subprocess.run(["chroot", "/", "true"], capture_output=True, preexec_fn=confined, timeout=20, check=False)
-    check(refused.returncode != 0, "the filter refuses nothing")
+    # Does it refuse anything? To choose its processor is not in the list.
+    words = [sys.executable, "-c", "import os; os.sched_setaffinity(0, os.sched_getaffinity(0))"]
+    refused = subprocess.run(words, capture_output=True, preexec_fn=confined, timeout=20, check=False)
+    check(b"PermissionError" in refused.stderr, f"the filter refuses nothing: {refused}")
     with folder() as top:
         etc, run = top / "files", top / "run"
         etc.mkdir()
