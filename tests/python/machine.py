@@ -1,8 +1,12 @@
 """The program installed on a machine: this one's files, in a root of its own, which is gone with it."""
 
+import atexit
 import os
 import shutil
 import subprocess
+import tempfile
+from functools import cache
+from pathlib import Path
 
 from frames import ROOT
 from places import VERSION, a_program, folder
@@ -41,7 +45,7 @@ def repacked(package, where, changes):
         text = text.replace(old, new)
     control.write_text(text)
     made = where.with_suffix(".deb")
-    subprocess.run(["dpkg-deb", "--root-owner-group", "-b", where, made], check=True, capture_output=True, timeout=60)
+    subprocess.run(["dpkg-deb", "--root-owner-group", "-Znone", "-b", where, made], check=True, capture_output=True, timeout=60)
     return made
 
 
@@ -53,8 +57,11 @@ Description: stands for another nscd
 """
 
 
-def packages(given):
-    """The package, one of a later version, and another nscd, in this folder."""
+@cache
+def packages():
+    """A folder with the package, one of a later version, and another nscd. It goes with this process."""
+    given = Path(tempfile.mkdtemp(prefix="nscd-packages-"))
+    atexit.register(shutil.rmtree, given)
     program = a_program(given)
     done = subprocess.run([ROOT / "dist/make-deb", given], capture_output=True, timeout=60, check=False, env={**os.environ, "NSCD": str(program)})
     check(done.returncode == 0, f"make-deb: {done.stderr.decode()}")
@@ -71,14 +78,13 @@ def packages(given):
     (given / "other/DEBIAN").mkdir(parents=True)
     (given / "other/DEBIAN/control").write_text(OTHER)
     subprocess.run(["dpkg-deb", "-b", given / "other", given / "nscd-other.deb"], check=True, capture_output=True, timeout=60)
+    return given
 
 
 def package_case(script="by-dpkg", *mode):
     if shutil.which("dpkg-deb") is None:
         return "skipped, since there is no dpkg-deb"
-    with folder() as given:
-        packages(given)
-        return in_own_root(given, script, *mode)
+    return in_own_root(packages(), script, *mode)
 
 
 def systemd_case():

@@ -69,23 +69,30 @@ def room(story):
     story.passes(1)
 
 
-def shown(database, positive, negative, reloads):
-    """A replay that tells one setting of the database from another."""
-    story = Story(database)
-    # A change is seen by a tick, and not before.
+def changes(story):
+    """A change is seen by a tick, and not before."""
     story.file(["here"], "a")
     story.ask("here", "gone")
     story.file(["here", "gone"], "b")
     story.ask("here", "gone")
     story.passes(1)
     story.ask("here", "gone")
-    for seconds in (negative, negative + 1):
-        lives(story, seconds, 1, ["gone"])
-    for seconds in (positive, positive + 1):
-        for times in (reloads, reloads + 1):
-            lives(story, seconds, times, ["here"])
-    room(story)
-    return story.frames + END
+
+
+def shown(database, positive, negative, reloads):
+    """Replays that tell a setting of the database from another: the frames, by the name of the attribute."""
+    stories = {"enable-cache": changes, "check-files": changes, "suggested-size": room}
+    stories["negative-time-to-live"] = lambda story: [lives(story, seconds, 1, ["gone"]) for seconds in (negative, negative + 1)]
+    stories["positive-time-to-live"] = lambda story: [
+        lives(story, seconds, times, ["here"]) for seconds in (positive, positive + 1) for times in (reloads, reloads + 1)
+    ]
+    stories["reload-count"] = stories["positive-time-to-live"]
+    found = {}
+    for name, tells in stories.items():
+        story = Story(database)
+        tells(story)
+        found[name] = story.frames + END
+    return found
 
 
 def output(frames, conf):
@@ -121,18 +128,17 @@ def settings_case():
     for at, database in enumerate(DATABASES):
         positive = int(table["positive-time-to-live"].defaults[at])
         negative = int(table["negative-time-to-live"].defaults[at])
-        frames = shown(database, positive, negative, reloads)
-        plain = output(frames, None)
-        check(output(frames, conf) == plain, f"{database}: another output under nscd.conf")
-        for attribute in table.values():
-            if not attribute.has_effect or attribute.name == "threads":
-                continue
+        for name, frames in shown(database, positive, negative, reloads).items():
+            plain = output(frames, None)
+            check(output(frames, conf) == plain, f"{database}, {name}: another output under nscd.conf")
+            attribute = table[name]
             here = attribute.defaults[at] if attribute.is_of_database() else attribute.defaults[0]
             for value in others(attribute, here):
-                words = [attribute.name] + ([database] if attribute.is_of_database() else []) + [value]
-                line = " ".join(words)
+                line = " ".join([name] + ([database] if attribute.is_of_database() else []) + [value])
                 check(output(frames, conf + line.encode() + b"\n") != plain, f"{line}: the replay does not show it")
                 near += 1
+    told = {name for name, attribute in table.items() if attribute.has_effect and name != "threads"}
+    check(told == set(shown("passwd", 1, 1, 1)), f"no replay shows {told ^ set(shown('passwd', 1, 1, 1))}")
     threads = threads_of()
     check(threads_of("-f", str(DIST / "nscd.conf")) == threads, f"threads: not {threads} under nscd.conf")
     more = str(int(table["threads"].defaults[0]) + 1)
