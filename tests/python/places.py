@@ -129,12 +129,14 @@ def kept_case(top, program):
     check(status != 0 and " is newer than " in said and "make build" in said, f"an old program: {status}, {said}")
     status, said = make("deb", old, root)
     check(status != 0, f"a package of an old program: {status}, {said}")
-    theirs = root / "usr/sbin/nscd"
-    theirs.parent.mkdir(parents=True, exist_ok=True)
-    theirs.write_text("theirs\n")
-    status, said = make("install", program, root, **where)
-    check(status != 0 and f"{theirs} is there already" in said, f"over another nscd: {status}, {said}")
-    check(theirs.read_text() == "theirs\n", "make install replaces another nscd")
+    for place in ("usr/sbin/nscd", "etc/init.d/nscd"):
+        theirs = top / place.replace("/", "-") / place
+        theirs.parent.mkdir(parents=True)
+        theirs.write_text("theirs\n")
+        before = tree(top / place.replace("/", "-"))
+        status, said = make("install", program, top / place.replace("/", "-"), **where)
+        check(status != 0 and f"{theirs} is there already" in said, f"over another nscd: {status}, {said}")
+        check(tree(top / place.replace("/", "-")) == before, "make install beside another nscd leaves something")
     return "settings that were changed are kept; no program, an old one, and another nscd in its place are refused"
 
 
