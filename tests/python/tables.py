@@ -119,14 +119,15 @@ def is_refused(*words):
     return status_of(*words) == (2, "nscd: usage")
 
 
-VALUES = {"DATABASE": "group", "NUMBER": "2", "FILE": "/dev/null", "FOLDER": "/dev/null/x", "": None}
+NO_RUN = "/dev/null/run"  # no folder of sockets can be there
+VALUES = {"invalidate": "group", "workload": "2", "config-file": "/dev/null", "nthreads": "2", "etc": "/none", "run-dir": NO_RUN}
 # What stands in each form in any case; a daemon or an order finds no folder of sockets, and so ends with status 8.
 ALONE = {"d": [], "g": ["-g"], "i": ["-ihosts"], "k": ["-K"], "r": ["--replay"], "w": ["--workload", "1"]}
 ENDS = {"d": 8, "g": 8, "i": 8, "k": 8, "r": 0, "w": 0}
 
 
 def spelled(option, word):
-    return [word] if not option.value else [word, VALUES[option.value]]
+    return [word] if not option.value else [word, VALUES[option.long]]
 
 
 def is_errand(option):
@@ -141,7 +142,7 @@ def tried(option, form):
     for word in option.words():
         words = spelled(option, word) if option.forms == form and is_errand(option) else ALONE[form] + spelled(option, word)
         if form in "dgik" and option.long != "run-dir":
-            words += ["--run-dir", VALUES["FOLDER"]]
+            words += ["--run-dir", NO_RUN]
         status, said = status_of(*words)
         wanted = ENDS[form] if form in option.forms else 2
         check(status == wanted, f"{' '.join(words)}: status {status} ({said}), and not {wanted}")
