@@ -1,11 +1,13 @@
-ghost use Rattle.std.specs.Prelude.{◌<◌, ◌^◌};
+ghost use Rattle.std.specs.Prelude.{◌≡◌, ◌<◌, ◌^◌, IfSome};
+ghost use Rattle.nsc_server.specs.Jobs.{IsServable, given_after};
 
 use nsc_jobs::JobList;
 use nsc_outside::{Sink, Source};
-use nsc_server::{Job, Jobs};
+use nsc_server::{Job, Jobs, one_more};
 use nsc_sockets::Role;
 use std::alloc::Global;
 use std::sync::{Arc, Wait};
+use std::time::Clock;
 
 /// A connection to the plain socket that waits for a worker.
 #[derive(Drop)]
@@ -23,6 +25,8 @@ pub type Waitings<R, K> = Arc<JobList<Waiting<R, K>>, Global>;
 #[derive(Drop)]
 pub struct Queue<R: Drop, K: Drop> {
     pub list: Waitings<R, K>,
+    /// How many it took, a number that stays at 2^62.
+    pub taken: u64,
 }
 
 impl<R: Source + Drop, K: Sink + Drop> Jobs for Queue<R, K> {
@@ -30,9 +34,15 @@ impl<R: Source + Drop, K: Sink + Drop> Jobs for Queue<R, K> {
 
     type Out = K;
 
-    fn next<RT: Wait>(&mut self, rt: &RT) -> Option<Job<R, K>> {
+    ghost given = { λ q. q.taken };
+
+    fn next<RT: Wait + Clock>(&mut self, rt: &RT) -> Option<Job<R, K>>
+        ensures servable { IfSome result IsServable }
+        ensures given { self.new.taken ≡ given_after result self.old.taken }
+    {
         match self.list.take(rt) {
             Some(waiting) => {
+                self.taken = one_more(self.taken);
                 let Waiting { input, output, now } = waiting;
                 Some(Job {
                     role: Role::Plain,

@@ -196,7 +196,7 @@ where
 
 // Starts as many workers as it can, up to this number.
 fn started<
-    RT: AllocGlobal + Threads + Wait + Clone + Drop + Send + Sync + 'static,
+    RT: AllocGlobal + Threads + Wait + time::Clock + Clone + Drop + Send + Sync + 'static,
     S: Store + Drop + Send + Sync + 'static,
     R: Source + Send + Drop + 'static,
     K: Sink + Send + Drop + 'static,

@@ -10,6 +10,7 @@ use nsc_server::{Passes, Room, Stores, work};
 use std::alloc::Global;
 use std::marker::Model;
 use std::sync::{Arc, Wait};
+use std::time::Clock;
 
 /// One thread that serves connections: its passes, its buffer, and the connections that wait.
 #[derive(Drop)]
@@ -49,12 +50,12 @@ impl<S: Store + Drop, R: Source + Drop, K: Sink + Drop> Worker<S, R, K> {
             stores,
             passes,
             room,
-            queue: Queue { list },
+            queue: Queue { list, taken: 0 },
         })
     }
 
     /// Serves connections until no more will come.
-    pub fn run<RT: AllocGlobal + Wait>(self, rt: &RT) -> u64 {
+    pub fn run<RT: AllocGlobal + Wait + Clock>(self, rt: &RT) -> u64 {
         let Worker {
             stores,
             mut passes,

@@ -1,5 +1,6 @@
 use crate::queue::{Idle, Queue};
 use nsc_base::NoMemory;
+use nsc_yields::Yields;
 use std::alloc::Global;
 use std::sync::atomic::{AtomicU64, Ordering};
 use std::sync::{Condvar, Mutex, MutexGuard, Wait};
@@ -10,7 +11,8 @@ use std::time::{Clock, Duration};
 const LOOKS: u32 = 100;
 
 /// Jobs that one thread puts and others take, in order. No worker is woken without need: at most one is on its way at a time,
-/// and while jobs follow each other closely one that has done its job looks for the next for a moment before it sleeps.
+/// and while jobs follow each other closely one that has done its job looks for the next for a moment before it sleeps. It looks
+/// no more where the processors are busy, as its yields tell.
 #[derive(Drop)]
 pub struct JobList<T: Drop> {
     queue: Mutex<Queue<T>>,
@@ -34,7 +36,7 @@ impl<T: Drop> JobList<T> {
 
     /// Puts a job at the end, and calls a worker where one is wanted. Where there is no memory for it the job is dropped.
     pub fn put<R: Wait + Clock>(&self, rt: &R, job: T) -> Result<(), NoMemory> {
-        let now = rt.monotonic().unwrap_or(Duration::ZERO);
+        let now = moment(rt);
         let mut queue = self.queue.lock(rt);
         queue.push(job, now)?;
         self.end_turn(queue);
@@ -48,7 +50,7 @@ impl<T: Drop> JobList<T> {
     }
 
     /// Takes the first job, and waits where there is none. `None` exactly where it found the list closed and without jobs.
-    pub fn take<R: Wait>(&self, rt: &R) -> Option<T> {
+    pub fn take<R: Wait + Clock>(&self, rt: &R) -> Option<T> {
         let mut may_look = self.may_look;
         for _ in rt.forever() {
             let mut queue = self.queue.lock(rt);
@@ -56,12 +58,14 @@ impl<T: Drop> JobList<T> {
                 self.end_turn(queue);
                 return Some(job);
             }
-            match queue.idle(may_look) {
+            let is_free = may_look && queue.yields.may_yield(moment(rt));
+            match queue.idle(is_free) {
                 Idle::Leave => return None,
                 Idle::Look => {
+                    let mut yields = queue.yields;
                     drop(queue);
-                    self.look();
-                    self.queue.lock(rt).end_look();
+                    self.look(rt, &mut yields);
+                    self.queue.lock(rt).end_look(yields);
                     may_look = false;
                 }
                 Idle::Sleep => {
@@ -83,13 +87,22 @@ impl<T: Drop> JobList<T> {
         }
     }
 
-    // Looks whether there are jobs, until there are or it has looked often enough.
-    fn look(&self) {
+    // Looks whether there are jobs, until there are, it has looked often enough, or a yield came back late.
+    fn look<R: Clock>(&self, rt: &R, yields: &mut Yields) {
+        let mut now = moment(rt);
         for _ in 0..LOOKS {
-            if self.jobs.load(Ordering::SeqCst) > 0 {
+            if self.jobs.load(Ordering::SeqCst) > 0 || !yields.may_yield(now) {
                 return;
             }
             thread::yield_now();
+            let later = moment(rt);
+            yields.note(now, later);
+            now = later;
         }
     }
+}
+
+// The moment by the system's clock, and always the same where it has none.
+fn moment<R: Clock>(rt: &R) -> Duration {
+    rt.monotonic().unwrap_or(Duration::ZERO)
 }

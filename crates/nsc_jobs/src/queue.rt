@@ -2,6 +2,7 @@ ghost use Rattle.std.specs.Prelude.{◌≡◌, ◌++◌, ◌∷◌, [], ◌↔�
 ghost use Rattle.nsc_jobs.specs.Jobs.{IsWorkerWanted};
 
 use nsc_base::NoMemory;
+use nsc_yields::Yields;
 use std::alloc::Global;
 use std::collections::VecDeque;
 use std::time::Duration;
@@ -18,6 +19,8 @@ pub(crate) struct Queue<T: Drop> {
     // Whether a worker was called that has not come yet.
     pub(crate) is_called: bool,
     pub(crate) is_closed: bool,
+    // What the looks for jobs tell of yields.
+    pub(crate) yields: Yields,
     is_near: bool,
     latest: Duration,
 }
@@ -45,6 +48,7 @@ impl<T: Drop> Queue<T> {
             looking: 0,
             is_called: false,
             is_closed: false,
+            yields: Yields::new(),
             is_near: false,
             latest: Duration::ZERO,
         }
@@ -109,12 +113,14 @@ impl<T: Drop> Queue<T> {
         }
     }
 
-    /// A worker looks no more.
-    pub(crate) fn end_look(&mut self)
+    /// A worker looks no more, and this is what it learned of yields.
+    pub(crate) fn end_look(&mut self, yields: Yields)
         ensures looking { self.new.looking ≡ self.old.looking - 1 }
+        ensures yields { self.new.yields ≡ yields }
         ensures jobs { self.new.jobs.items ≡ self.old.jobs.items }
     {
         self.looking = self.looking.saturating_sub(1);
+        self.yields = yields;
     }
 
     /// A worker sleeps no more, so the one that was called has come.

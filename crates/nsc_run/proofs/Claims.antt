@@ -1,7 +1,7 @@
 -- What a run says at Ok and where no fault came, from what came of it, form by form.
 use Rattle.std.proofs.Common.{◌≡◌, ◌∙◌, ℕ, List, Option, Some, None, Result, Ok, Err, refl, sym, ap, subst, inl, inr, arith}
 use Rattle.std.specs.Prelude.{IfSome}
-use Rattle.nsc_outside.specs.Stream.{Rose}
+use Rattle.nsc_outside.specs.Stream.{Grows, Rose}
 use Rattle.nsc_outside.specs.declared.stream.Source as source
 use Rattle.nsc_outside.specs.declared.stream.Sink as sink
 use Rattle.nsc_model.specs.declared.conf.Conf.{Conf}
@@ -17,12 +17,16 @@ use Rattle.nsc_control.specs.Commands as control
 use Rattle.nsc_daemon.specs.Ends as daemon
 use Rattle.nsc_daemon.specs.declared.ended.Ended as daemon_end
 use Rattle.nsc_daemon.specs.declared.ended.Ended.TheVariants as daemon_ended
+use Rattle.nsc_workload.specs.declared.run.Worked.{Worked}
+use Rattle.nsc_workload.specs.declared.run.Worked.TheVariants as worked
+use Rattle.nsc_workload.specs.Runs.{IsCounted, IsWritten}
+use Rattle.nsc_workload.specs.Workload.{workload_of}
 use Rattle.nsc_run.specs.declared.exit.Exit.{Exit}
 use Rattle.nsc_run.specs.declared.exit.Exit.TheVariants as exits
-use Rattle.nsc_run.specs.Exits.{exit_of, command_exit, daemon_exit}
+use Rattle.nsc_run.specs.Exits.{exit_of, command_exit, daemon_exit, workload_exit}
 use Rattle.nsc_run.specs.Commands.{ConfGives, Counted, Course, IsRefused, NoFault, NotSet, TellsAll, settings_by}
-use Rattle.nsc_run.specs.Forms.{Form, Replay, Ask, Daemon}
-use Rattle.nsc_run.specs.Runs.{Asks, IsAnswered, IsAsked, IsDone, NeverFail, Outside, Runs, Serves, Tells, TellsServed}
+use Rattle.nsc_run.specs.Forms.{Form, Replay, Ask, Workload, Daemon}
+use Rattle.nsc_run.specs.Runs.{Asks, IsAnswered, IsAsked, IsDone, IsWorked, NeverFail, Outside, Runs, Serves, Tells, TellsServed, Works}
 use Rattle.nsc_run.proofs.Courses.{done_by}
 use Rattle.nsc_run.proofs.Ends.{tells}
 
@@ -112,6 +116,24 @@ module _ {I O : Type 0} (i : source.Ghosts I) (o : sink.Ghosts O) where
   ask_tells asked peer a b n m exit (inr (inl h)) never net calm = inr (inl h.0)
   ask_tells asked peer a b n m exit (inr (inr h)) never net calm = absurd (net h.2)
 
+-- ---- a workload
+
+written_done : (by : Worked) (text : List ℕ) (a b : Option (List ℕ)) → exits.Ok ≡ workload_exit by → IsWritten by text a b → Grows a b text
+written_done worked.Done text a b e h = h
+written_done worked.WriteFault text a b e h = absurd cc
+written_done worked.NoMemory text a b e h = absurd cc
+
+work_done : (n : ℕ) (a b : control.StreamAt) (exit : Exit) → Works n a b exit → exit ≡ exits.Ok → Grows a.bytes b.bytes (workload_of n)
+work_done n a b exit h e = written_done h.ended (workload_of n) a.bytes b.bytes (sym e ∙ h.exit_is) h.written
+
+counted_tells : (by : Worked) (n m : ℕ) → IsCounted by n m → (Rose n m → ⊥) → IsWorked (workload_exit by)
+counted_tells worked.Done n m h calm = inl refl
+counted_tells worked.WriteFault n m h calm = absurd (calm h)
+counted_tells worked.NoMemory n m h calm = inr refl
+
+work_tells : (n : ℕ) (a b : control.StreamAt) (exit : Exit) → Works n a b exit → (Rose a.faults b.faults → ⊥) → IsWorked exit
+work_tells n a b exit h calm = subst IsWorked (sym h.exit_is) (counted_tells h.ended a.faults b.faults h.counted calm)
+
 -- ---- the daemon
 
 -- nothing at Ok but the end that was asked for
@@ -157,6 +179,10 @@ no_question : (came : Commanded) → command_exit came ≡ exits.Usage → ⊥
 no_question commanded.Done e = cc
 no_question _ e = cc
 
+no_workload : (by : Worked) → workload_exit by ≡ exits.Usage → ⊥
+no_workload worked.Done e = cc
+no_workload _ e = cc
+
 no_daemon : (by : daemon_end.Ended) → daemon_exit by ≡ exits.Usage → ⊥
 no_daemon daemon_ended.ShutDown e = cc
 no_daemon _ e = cc
@@ -169,12 +195,14 @@ module _ {I O : Type 0} (i : source.Ghosts I) (o : sink.Ghosts O) (a b : Outside
   ])
   run_done (Some (Replay config)) h e = done_by _ _ _ _ exit h.0 e
   run_done (Some (Ask asked folder)) h e = ask_done i o asked a.peer _ _ _ _ exit h.0 e
+  run_done (Some (Workload number workers)) h e = work_done number _ _ exit h.0 e
   run_done (Some (Daemon service)) h e = served_done _ _ _ exit h.0 e
 
   pub run_tells : (form : Option Form) → Runs i o form a b exit → Tells i o form a b exit
   run_tells None h = h.0
   run_tells (Some (Replay config)) h = replay_tells _ _ _ _ exit h.0 h.1
   run_tells (Some (Ask asked folder)) h = ask_tells i o asked a.peer _ _ _ _ exit h.0
+  run_tells (Some (Workload number workers)) h = work_tells number _ _ exit h.0
   run_tells (Some (Daemon service)) h = served_tells _ _ _ exit h.0
 
   -- Usage comes of no form
@@ -190,6 +218,7 @@ module _ {I O : Type 0} (i : source.Ghosts I) (o : sink.Ghosts O) (a b : Outside
       | inr x ↦ let never : exits.NetFault ≡ exits.Usage = sym x.0 ∙ e in cc
     ]
   ]
+  unused (Workload number workers) h e = let never : workload_exit h.0.ended ≡ exits.Usage = sym h.0.exit_is ∙ e in no_workload h.0.ended never
   unused (Daemon service) h e = elim h.0 [
     | inl x ↦ no_daemon x.ended (sym x.exit_is ∙ e)
     | inr x ↦ subst (NotSet _ _ _) e x.0
@@ -205,6 +234,8 @@ module _ {I O : Type 0} (i : source.Ghosts I) (o : sink.Ghosts O) (a : Outside) 
   unread None = (inr refl, refl)
   unread (Some (Replay config)) = (inr (refl, record { left_stays = refl; taken_stays = refl }), record { input_stays = refl; output_stays = refl }, record { given_stays = refl; peer_stays = refl; calm = refl })
   unread (Some (Ask asked folder)) = (inr (inl (refl, refl, refl)), record { left_stays = refl; calm = refl }, record { held_stays = refl; calm = refl })
+  unread (Some (Workload number workers)) =
+      (record { ended = worked.NoMemory; exit_is = refl; written = refl; counted = refl }, record { left_stays = refl; calm = refl }, record { held_stays = refl; calm = refl }, record { given_stays = refl; peer_stays = refl; calm = refl })
   unread (Some (Daemon service)) = (inr (refl, refl), record { left_stays = refl; calm = refl })
 
   -- the words were refused

@@ -12,6 +12,8 @@ use Rattle.nsc_control.specs.declared.commands.Commanded.{Commanded}
 use Rattle.nsc_control.specs.declared.commands.Commanded.TheVariants as commanded
 use Rattle.nsc_daemon.specs.declared.ended.Ended as daemon
 use Rattle.nsc_daemon.specs.declared.ended.Ended.TheVariants as daemon_ended
+use Rattle.nsc_workload.specs.declared.run.Worked.{Worked}
+use Rattle.nsc_workload.specs.declared.run.Worked.TheVariants as worked
 use Rattle.nsc_run.specs.declared.exit.Exit.{Exit}
 use Rattle.nsc_run.specs.declared.exit.Exit.TheVariants as exits
 
@@ -83,6 +85,12 @@ command_exit commanded.WriteFault = exits.WriteFault
 command_exit commanded.NetFault = exits.NetFault
 command_exit commanded.BadReply = exits.BadReply
 command_exit commanded.NoMemory = exits.NoMemory
+
+-- the exit where a workload ended so
+abbrev pub workload_exit : Worked → Exit
+workload_exit worked.Done = exits.Ok
+workload_exit worked.WriteFault = exits.WriteFault
+workload_exit worked.NoMemory = exits.NoMemory
 
 -- the exit where the daemon ended so
 abbrev pub daemon_exit : daemon.Ended → Exit

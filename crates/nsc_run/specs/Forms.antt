@@ -34,13 +34,14 @@ lettered letter option = record option { short = Some letter }
 abbrev pub bare_app : App
 bare_app = on_top (λ s. record s { no_binary_name = true; disable_help_flag = true; disable_version_flag = true }) (new_app (codes "nscd"))
 
--- the options that say what to do: `--replay`, `-g`, `-K`, and `-i DATABASE`
+-- the options that say what to do: `--replay`, `-g`, `-K`, `-i DATABASE`, and `--workload NUMBER`
 abbrev pub errand_app : App
-errand_app = with_rule (with_rule (with_rule (with_rule bare_app
+errand_app = with_rule (with_rule (with_rule (with_rule (with_rule bare_app
     (flag (codes "replay")))
     (lettered 103 (flag (codes "statistics"))))
     (lettered 75 (flag (codes "shutdown"))))
-    (lettered 105 (valued (codes "invalidate")))
+    (lettered 105 (valued (codes "invalidate"))))
+    (valued (codes "workload"))
 
 -- and those that say how: `-f FILE`, `-F`, `-t NUMBER`, `--etc FOLDER`, `--run-dir FOLDER`
 abbrev pub command_app : App
@@ -65,6 +66,7 @@ pub record Options : Type 0 where
   pub statistics : Bool
   pub shutdown : Bool
   pub invalidate : Option Text
+  pub workload : Option Text
   pub config : Option Text
   pub foreground : Bool
   pub threads : Option Text
@@ -80,6 +82,7 @@ options_of rows = record {
   statistics = has_flag (codes "statistics") rows;
   shutdown = has_flag (codes "shutdown") rows;
   invalidate = first_of (codes "invalidate") rows;
+  workload = first_of (codes "workload") rows;
   config = first_of (codes "config-file") rows;
   foreground = has_flag (codes "foreground") rows;
   threads = first_of (codes "nthreads") rows;
@@ -98,19 +101,24 @@ pub record Service : Type 0 where
   pub run_dir : Text
 
 -- what to do: to replay the input under a configuration file, where one is named; to ask something of the daemon whose sockets
--- stand in a folder; or to be the daemon
+-- stand in a folder; to run the workload of a number by as many workers; or to be the daemon
 pub data Form : Type 0 where
   Replay : Option Text → Form
   Ask : AdminAsk → Text → Form
+  Workload : ℕ → ℕ → Form
   Daemon : Service → Form
 
 -- the folder of the sockets
 abbrev pub run_dir_of : Option Text → Text
 run_dir_of folder = unwrap_or folder (codes "/var/run/nscd")
 
--- a number of workers: decimal, 1 to 64
+-- a decimal number above 0 and below a limit
+abbrev pub number_below : ℕ → Text → Option ℕ
+number_below limit text = option_and_then (λ n. if nat_lt 0 n && nat_lt n limit then Some n else None) (decimal_of text)
+
+-- a number of workers: 1 to 64
 abbrev pub workers_in : Text → Option ℕ
-workers_in text = option_and_then (λ n. if nat_lt 0 n && nat_lt n 65 then Some n else None) (decimal_of text)
+workers_in text = number_below 65 text
 
 -- the same where none need be given
 abbrev pub workers_of : Option Text → Option (Option ℕ)
@@ -137,21 +145,29 @@ replay_form o = if is_no_service o && not (is_some o.run_dir) then Some (Replay 
 abbrev pub ask_form : AdminAsk → Options → Option Form
 ask_form asked o = if is_no_service o && not (is_some o.config) then Some (Ask asked (run_dir_of o.run_dir)) else None
 
+-- a workload has a number, 1 to 1,000, and may have a number of workers, 4 where none is said
+abbrev pub workload_form : Text → Options → Option Form
+workload_form text o =
+    if not o.foreground && not (is_some o.config) && not (is_some o.etc) && not (is_some o.run_dir)
+    then option_and_then (λ number. option_map (λ workers. Workload number (unwrap_or workers 4)) (workers_of o.threads)) (number_below 1001 text)
+    else None
+
 -- a daemon may have all that says how
 abbrev pub daemon_form : Options → Option Form
 daemon_form o = option_map (λ workers. Daemon (record { config = o.config; workers = workers; etc = o.etc; run_dir = run_dir_of o.run_dir })) (workers_of o.threads)
 
 -- At most one option says what to do, and where none does it is the daemon.
-abbrev pub form_by : Bool → Bool → Bool → Option Text → Options → Option Form
-form_by true false false None o = replay_form o
-form_by false true false None o = ask_form ask.Stat o
-form_by false false true None o = ask_form ask.Shutdown o
-form_by false false false (Some name) o = option_and_then (λ which. ask_form (ask.Invalidate which) o) (db_named name)
-form_by false false false None o = daemon_form o
-form_by _ _ _ _ o = None
+abbrev pub form_by : Bool → Bool → Bool → Option Text → Option Text → Options → Option Form
+form_by true false false None None o = replay_form o
+form_by false true false None None o = ask_form ask.Stat o
+form_by false false true None None o = ask_form ask.Shutdown o
+form_by false false false (Some name) None o = option_and_then (λ which. ask_form (ask.Invalidate which) o) (db_named name)
+form_by false false false None (Some text) o = workload_form text o
+form_by false false false None None o = daemon_form o
+form_by _ _ _ _ _ o = None
 
 abbrev pub form_with : Options → Option Form
-form_with o = form_by o.replay o.statistics o.shutdown o.invalidate o
+form_with o = form_by o.replay o.statistics o.shutdown o.invalidate o.workload o
 
 -- the form of words, where they have one
 abbrev pub form_of : List Text → Option Form

@@ -1,6 +1,6 @@
 -- What the program claims of a run, by the form of its words.
 use Rattle.std.specs.Prelude.{◌≡◌, ℕ, ◌⊎◌, List, Option, Some, None, IfSome, Result, Ok, Err}
-use Rattle.nsc_outside.specs.Stream.{Rose}
+use Rattle.nsc_outside.specs.Stream.{Grows, Rose}
 use Rattle.nsc_outside.specs.declared.stream.Source as source
 use Rattle.nsc_outside.specs.declared.stream.Sink as sink
 use Rattle.nsc_outside.specs.declared.files.FileSet as files
@@ -15,10 +15,13 @@ use Rattle.nsc_control.specs.declared.commands.Commanded.{Commanded}
 use Rattle.nsc_control.specs.declared.commands.Commanded.TheVariants as commanded
 use Rattle.nsc_daemon.specs.Ends as daemon
 use Rattle.nsc_daemon.specs.declared.ended.Ended as daemon_end
+use Rattle.nsc_workload.specs.declared.run.Worked.{Worked}
+use Rattle.nsc_workload.specs.Runs.{IsCounted, IsWritten}
+use Rattle.nsc_workload.specs.Workload.{workload_of}
 use Rattle.nsc_run.specs.declared.exit.Exit.{Exit}
 use Rattle.nsc_run.specs.declared.exit.Exit.TheVariants as exits
-use Rattle.nsc_run.specs.Exits.{command_exit, daemon_exit}
-use Rattle.nsc_run.specs.Forms.{Form, Replay, Ask, Daemon, Service}
+use Rattle.nsc_run.specs.Exits.{command_exit, daemon_exit, workload_exit}
+use Rattle.nsc_run.specs.Forms.{Form, Replay, Ask, Workload, Daemon, Service}
 use Rattle.nsc_run.specs.Commands.{ConfGives, Counted, Course, IsReplayedBy, NoFault, NotSet, TellsAll, TellsFault, conf_path, config_told, settings_by}
 
 -- What the outside tells at one moment: of the input and the output, of the files, and of the listener.
@@ -108,6 +111,19 @@ pub record NeverFail {I O : Type 0} (i : source.Ghosts I) (o : sink.Ghosts O) : 
 abbrev pub IsAnswered : Exit → Type 0
 IsAnswered exit = (exit ≡ exits.Ok) ⊎ (exit ≡ exits.NoMemory) ⊎ (exit ≡ exits.BadReply)
 
+-- ---- a workload
+
+-- the workload of a number ended so, and this was written
+pub record Works (number : ℕ) (before after : control.StreamAt) (exit : Exit) : Type 0 where
+  pub ended : Worked
+  pub exit_is : exit ≡ workload_exit ended
+  pub written : IsWritten ended (workload_of number) before.bytes after.bytes
+  pub counted : IsCounted ended before.faults after.faults
+
+-- it was run, unless memory was wanting
+abbrev pub IsWorked : Exit → Type 0
+IsWorked exit = (exit ≡ exits.Ok) ⊎ (exit ≡ exits.NoMemory)
+
 -- ---- the daemon
 
 -- settings were read, and a daemon ended so under them
@@ -147,15 +163,19 @@ Runs i o (Some (Replay config)) before after exit =
 Runs i o (Some (Ask asked folder)) before after exit =
     Asks i o asked before.peer (output_of before) (output_of after) before.net_faults after.net_faults exit
     × InputStays before after × FilesStay before after
+Runs i o (Some (Workload number workers)) before after exit =
+    Works number (output_of before) (output_of after) exit
+    × InputStays before after × FilesStay before after × NetStays before after
 Runs i o (Some (Daemon service)) before after exit =
     Serves (daemon_told before service) (daemon_outside before) (daemon_outside after) exit × InputStays before after
 
 -- The command was done: the input was read to the end of its first E, and the output is that of the replay; or a daemon did what
--- was asked; or the daemon was ready, and was told to end.
+-- was asked; or the lines of the workload were written; or the daemon was ready, and was told to end.
 abbrev pub IsDone : {I O : Type 0} → source.Ghosts I → sink.Ghosts O → Option Form → Outside → Outside → Type 0
 IsDone i o None before after = ⊥
 IsDone i o (Some (Replay config)) before after = IsReplayedBy (replay_told before config) (streams_of before after)
 IsDone i o (Some (Ask asked folder)) before after = IsAsked i o asked before.peer (output_of before) (output_of after) commanded.Done
+IsDone i o (Some (Workload number workers)) before after = Grows before.streams.taken after.streams.taken (workload_of number)
 IsDone i o (Some (Daemon service)) before after = daemon.IsReady (daemon_outside before) (daemon_outside after) × daemon.EndsBy before.given after.given
 
 -- What the exit tells where no fault came.
@@ -166,6 +186,7 @@ Tells i o (Some (Replay config)) before after exit =
     → IfSome (replay_told before config) (λ text. TellsAll before.streams.left (settings_by text) exit)
 Tells i o (Some (Ask asked folder)) before after exit =
     NeverFail i o → NetCalm before after → OutputCalm before after → IsAnswered exit
+Tells i o (Some (Workload number workers)) before after exit = OutputCalm before after → IsWorked exit
 Tells i o (Some (Daemon service)) before after exit =
     SourcesCalm before after → NetCalm before after → OutputCalm before after
     → IfSome (daemon_told before service) (λ text. TellsServed (settings_by text) exit)

@@ -1,5 +1,5 @@
 -- What is told of a form that was read.
-use Rattle.std.specs.Prelude.{ℕ, List, option_map}
+use Rattle.std.specs.Prelude.{ℕ, ◌<◌, ◌≤◌, List, option_map}
 use Rattle.nsc_run.specs.Forms.{Form, Service}
 use Rattle.nsc_run.specs.Forms as forms
 use Rattle.nsc_run.specs.Commands.{conf_path}
@@ -13,8 +13,16 @@ service_shown s = record { config = option_map (λ p. p.now) s.config; workers =
 abbrev pub shown : given.Form → Form
 shown (form.Replay config) = forms.Replay (option_map (λ p. p.now) config)
 shown (form.Ask asked run_dir) = forms.Ask asked run_dir.now
+shown (form.Workload number workers) = forms.Workload number workers
 shown (form.Daemon s) = forms.Daemon (service_shown s)
 
 -- the path of a daemon's configuration file
 abbrev pub conf_path_for : service.Service → List ℕ
 conf_path_for s = conf_path (option_map (λ p. p.now) s.etc) (option_map (λ p. p.now) s.config)
+
+-- a workload that can be run: of a number of 1 to 1,000, by 1 to 64 workers
+abbrev pub CanRun : given.Form → Type 0
+CanRun (form.Replay config) = Unit {0}
+CanRun (form.Ask asked run_dir) = Unit {0}
+CanRun (form.Workload number workers) = (0 < number) × (number ≤ 1000) × (0 < workers) × (workers ≤ 64)
+CanRun (form.Daemon s) = Unit {0}

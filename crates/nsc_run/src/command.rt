@@ -14,6 +14,7 @@ use nsc_answer::Plain;
 use nsc_model::Conf;
 use nsc_outside::{FileSet, Sink, Source};
 use nsc_sockets::{Clock, Listener};
+use nsc_workload::workload;
 use std::sync::Wait;
 use std::thread::Threads;
 use std::time;
@@ -57,6 +58,8 @@ pub fn replay<RT: AllocGlobal, R: Source, K: Sink>(
 ///
 /// `-g`, `-K` and `-i DATABASE` ask something of the daemon whose sockets stand in the folder of `--run-dir`, as
 /// `nsc_control::command` says. Where none is reached, the exit is `NetFault`.
+///
+/// `--workload NUMBER` runs the workload of that number, as `nsc_workload::workload` says, and writes its lines.
 ///
 /// Without any of these it is the daemon, until it is told to end. It takes its files from the folder of `--etc`, and its
 /// settings from the file of `-f`, or else from the nscd.conf beside nsswitch.conf.
@@ -102,6 +105,9 @@ where
                 run_dir,
             },
         ) => ask(rt.alloc(), asked, run_dir, output, net),
+        Ok(Form::Workload { number, workers }) => {
+            Exit::from(workload(rt, number, workers, output))
+        }
         Ok(Form::Daemon { service }) => serve(rt, &service, output, files, clock, net),
         Err(exit) => exit,
     }

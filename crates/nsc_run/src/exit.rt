@@ -6,6 +6,7 @@ use nsc_control::Commanded;
 use nsc_daemonconf::ConfFault;
 use nsc_outside::ReadCause;
 use nsc_replay::Ended;
+use nsc_workload::Worked;
 use std::alloc::{AllocError, Global};
 use std::fmt;
 
@@ -190,6 +191,20 @@ impl From<Commanded> for Exit {
             Commanded::NetFault => Exit::NetFault,
             Commanded::BadReply => Exit::BadReply,
             Commanded::NoMemory => Exit::NoMemory,
+        }
+    }
+}
+
+impl From<Worked> for Exit {
+    ghost use Rattle.nsc_run.specs.Exits.{workload_exit};
+
+    ghost from_gives = { λ worked exit. exit ≡ workload_exit worked };
+
+    fn from(worked: Worked) -> Exit {
+        match worked {
+            Worked::Done => Exit::Ok,
+            Worked::WriteFault => Exit::WriteFault,
+            Worked::NoMemory => Exit::NoMemory,
         }
     }
 }

@@ -1,6 +1,6 @@
-ghost use Rattle.std.specs.Prelude.{◌≡◌, option_map};
-ghost use Rattle.nsc_run.specs.Forms.{ask_form, daemon_form, db_named, form_with, has_flag, is_no_service, options_of, replay_form, run_dir_of, workers_in};
-ghost use Rattle.nsc_run.specs.Shown.{shown};
+ghost use Rattle.std.specs.Prelude.{◌≡◌, ◌<◌, ◌≤◌, IfSome, option_map, unwrap_or};
+ghost use Rattle.nsc_run.specs.Forms.{ask_form, daemon_form, db_named, form_with, has_flag, is_no_service, number_below, options_of, replay_form, run_dir_of, workers_of, workload_form};
+ghost use Rattle.nsc_run.specs.Shown.{CanRun, shown};
 ghost use Rattle.clap.specs.Words.{first_of, found_of, rows_of};
 
 use clap::ArgMatches;
@@ -11,6 +11,9 @@ use std::marker::Model;
 
 // The folder of the sockets where no other is named.
 const RUN_DIR: &str = "/var/run/nscd";
+
+// How many workers a workload has where no number of them is said.
+const WORKLOAD_WORKERS: u32 = 4;
 
 /// How a daemon is to run.
 #[derive(Clone, Copy, Debug)]
@@ -40,6 +43,13 @@ pub enum Form<'a> {
         /// The folder of its sockets.
         run_dir: &'a str,
     },
+    /// To run a workload.
+    Workload {
+        /// The number that it is made from, 1 to 1,000.
+        number: u32,
+        /// How many threads look up, 1 to 64.
+        workers: u32,
+    },
     /// To be the daemon.
     Daemon {
         /// How.
@@ -54,6 +64,7 @@ pub struct Options<'a> {
     statistics: bool,
     shutdown: bool,
     invalidate: Option<&'a str>,
+    workload: Option<&'a str>,
     config: Option<&'a str>,
     foreground: bool,
     threads: Option<&'a str>,
@@ -72,6 +83,7 @@ impl<'a> Model for Options<'a> {
       statistics = o.statistics;
       shutdown = o.shutdown;
       invalidate = option_map (λ p. p.now) o.invalidate;
+      workload = option_map (λ p. p.now) o.workload;
       config = option_map (λ p. p.now) o.config;
       foreground = o.foreground;
       threads = option_map (λ p. p.now) o.threads;
@@ -90,6 +102,7 @@ impl<'a> Options<'a> {
             statistics: has_flag(matches, "statistics"),
             shutdown: has_flag(matches, "shutdown"),
             invalidate: value(matches, "invalidate"),
+            workload: value(matches, "workload"),
             config: value(matches, "config-file"),
             foreground: has_flag(matches, "foreground"),
             threads: value(matches, "nthreads"),
@@ -98,24 +111,33 @@ impl<'a> Options<'a> {
         }
     }
 
-    /// The form that they make, if any: at most one of four says what to do.
+    /// The form that they make, if any: at most one of five says what to do.
     pub fn form(&self) -> Option<Form<'a>>
-        ensures { option_map shown result ≡ form_with self.now }
+        ensures form { option_map shown result ≡ form_with self.now }
+        ensures runs { IfSome result CanRun }
     {
-        match (self.replay, self.statistics, self.shutdown, self.invalidate) {
-            (true, false, false, None) => self.replay_form(),
-            (false, true, false, None) => self.ask_form(AdminAsk::Stat),
-            (false, false, true, None) => self.ask_form(AdminAsk::Shutdown),
-            (false, false, false, Some(name)) => self.ask_form(AdminAsk::Invalidate {
+        match (
+            self.replay,
+            self.statistics,
+            self.shutdown,
+            self.invalidate,
+            self.workload,
+        ) {
+            (true, false, false, None, None) => self.replay_form(),
+            (false, true, false, None, None) => self.ask_form(AdminAsk::Stat),
+            (false, false, true, None, None) => self.ask_form(AdminAsk::Shutdown),
+            (false, false, false, Some(name), None) => self.ask_form(AdminAsk::Invalidate {
                 db: db_named(name)?,
             }),
-            (false, false, false, None) => self.daemon_form(),
+            (false, false, false, None, Some(text)) => self.workload_form(text),
+            (false, false, false, None, None) => self.daemon_form(),
             _ => None,
         }
     }
 
     fn replay_form(&self) -> Option<Form<'a>>
-        ensures { option_map shown result ≡ replay_form self.now }
+        ensures form { option_map shown result ≡ replay_form self.now }
+        ensures runs { IfSome result CanRun }
     {
         if self.is_no_service() && self.run_dir.is_none() {
             Some(Form::Replay {
@@ -127,7 +149,8 @@ impl<'a> Options<'a> {
     }
 
     fn ask_form(&self, ask: AdminAsk) -> Option<Form<'a>>
-        ensures { option_map shown result ≡ ask_form ask self.now }
+        ensures form { option_map shown result ≡ ask_form ask self.now }
+        ensures runs { IfSome result CanRun }
     {
         if self.is_no_service() && self.config.is_none() {
             Some(Form::Ask {
@@ -139,21 +162,47 @@ impl<'a> Options<'a> {
         }
     }
 
-    fn daemon_form(&self) -> Option<Form<'a>>
-        ensures { option_map shown result ≡ daemon_form self.now }
+    fn workload_form(&self, text: &str) -> Option<Form<'a>>
+        ensures form { option_map shown result ≡ workload_form text.now self.now }
+        ensures runs { IfSome result CanRun }
     {
-        let workers = match self.threads {
-            Some(text) => Some(workers_in(text)?),
-            None => None,
-        };
+        if self.foreground || self.config.is_some() {
+            return None;
+        }
+        if self.etc.is_some() || self.run_dir.is_some() {
+            return None;
+        }
+        let number = number_below(1001, text)?;
+        let workers = self.workers()?;
+        Some(Form::Workload {
+            number,
+            workers: workers.unwrap_or(WORKLOAD_WORKERS),
+        })
+    }
+
+    fn daemon_form(&self) -> Option<Form<'a>>
+        ensures form { option_map shown result ≡ daemon_form self.now }
+        ensures runs { IfSome result CanRun }
+    {
         Some(Form::Daemon {
             service: Service {
                 config: self.config,
-                workers,
+                workers: self.workers()?,
                 etc: self.etc,
                 run_dir: self.run_dir(),
             },
         })
+    }
+
+    // The number of workers, where one is said. `None` where what is said is no such number.
+    fn workers(&self) -> Option<Option<u32>>
+        ensures workers { result ≡ workers_of self.now.threads }
+        ensures range { IfSome result (λ said. IfSome said (λ n. (0 < n) × (n ≤ 64))) }
+    {
+        match self.threads {
+            Some(text) => Some(Some(number_below(65, text)?)),
+            None => Some(None),
+        }
     }
 
     // Whether no option occurs that is the daemon's alone.
@@ -171,12 +220,13 @@ impl<'a> Options<'a> {
     }
 }
 
-// A number of workers: decimal, 1 to 64.
-fn workers_in(text: &str) -> Option<u32>
-    ensures { result ≡ workers_in text.now }
+// A decimal number above 0 and below a limit.
+fn number_below(limit: u32, text: &str) -> Option<u32>
+    ensures number { result ≡ number_below limit text.now }
+    ensures range { IfSome result (λ n. (0 < n) × (n < limit)) }
 {
     let number = decimal(text.as_bytes())?;
-    if number > 0 && number < 65 {
+    if number > 0 && number < limit {
         Some(number)
     } else {
         None

@@ -2,7 +2,7 @@ ghost use Rattle.std.specs.Prelude.{◌≡◌, ◌⊎◌, IfOk, IfErr, Some, Non
 ghost use Rattle.clap.specs.Words.{app_of, found_of, kind_of, matches_of, rows_of, rule_of};
 ghost use Rattle.nsc_run.specs.Commands.{IsRefusal, IsRefused};
 ghost use Rattle.nsc_run.specs.Forms.{command_app, errand_app, flag, form_of, is_command, lettered, texts, valued};
-ghost use Rattle.nsc_run.specs.Shown.{shown};
+ghost use Rattle.nsc_run.specs.Shown.{CanRun, shown};
 ghost use Rattle.nsc_run.specs.Exits.{error_exit};
 
 use crate::exit::Exit;
@@ -15,6 +15,7 @@ use std::alloc::{AllocError, Global};
 /// Reads the command words. Words that have no form are `Usage`.
 pub fn read_words<'a>(alloc: Global, words: &'a [String]) -> Result<Form<'a>, Exit>
     ensures ok { IfOk result (λ form. form_of (texts words.entry.now) ≡ Some (shown form)) }
+    ensures runs { IfOk result CanRun }
     ensures err { IfErr result (λ exit. IsRefused (form_of (texts words.entry.now)) exit) }
 {
     match Options::of(&parsed(alloc, words)?).form() {
@@ -68,7 +69,8 @@ fn errands<'a>(alloc: Global) -> Result<Command<'a>, AllocError>
         .arg(flag(alloc, "replay"))?
         .arg(flag(alloc, "statistics").short('g'))?
         .arg(flag(alloc, "shutdown").short('K'))?
-        .arg(valued(alloc, "invalidate").short('i'))
+        .arg(valued(alloc, "invalidate").short('i'))?
+        .arg(valued(alloc, "workload"))
 }
 
 // An option with no value.

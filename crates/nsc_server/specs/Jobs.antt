@@ -1,5 +1,5 @@
 -- Connections that wait to be served.
-use Rattle.std.specs.Prelude.{◌<◌, ◌^◌}
+use Rattle.std.specs.Prelude.{ℕ, ◌+◌, ◌<◌, ◌^◌, min, Option, Some, None}
 use Rattle.nsc_server.specs.declared.jobs.Job.{Job}
 use Rattle.nsc_server.specs.Requests.{TakesRequests}
 
@@ -7,3 +7,8 @@ use Rattle.nsc_server.specs.Requests.{TakesRequests}
 pub record IsServable {R K : Type 0} (job : Job R K) : Type 0 where
   pub on : TakesRequests job.role
   pub bound : job.now < 2 ^ 62
+
+-- how many connections were given, once this was: the number stays at 2^62
+abbrev pub given_after : {J : Type 0} → Option J → ℕ → ℕ
+given_after None given = given
+given_after (Some job) given = min (given + 1) (2 ^ 62)

@@ -1,5 +1,5 @@
-ghost use Rattle.std.specs.Prelude.{◌^◌, ◌≤◌, IfSome};
-ghost use Rattle.nsc_server.specs.Jobs.{IsServable};
+ghost use Rattle.std.specs.Prelude.{◌≡◌, ◌+◌, ◌^◌, ◌≤◌, IfSome, min};
+ghost use Rattle.nsc_server.specs.Jobs.{IsServable, given_after};
 ghost use Rattle.nsc_server.specs.Passes.{AreNamed, ArePasses, SawMore, passes_at};
 
 use crate::passes::{Passes, Stores};
@@ -9,6 +9,7 @@ use nsc_model::Store;
 use nsc_outside::{Sink, Source};
 use nsc_sockets::Role;
 use std::sync::Wait;
+use std::time::Clock;
 
 /// A connection that is to be served.
 #[derive(Drop)]
@@ -25,19 +26,25 @@ pub struct Job<R: Drop, K: Drop> {
 
 /// Where a worker gets its connections from.
 pub trait Jobs {
+    ghost use Rattle.std.specs.Prelude.{ℕ};
+
     /// What a peer sends.
     type In: Source + Drop;
 
     /// What a peer is sent.
     type Out: Sink + Drop;
 
+    // How many connections it gave, a number that stays at 2^62.
+    ghost given: { Self → ℕ };
+
     /// The next connection, which may be waited for. `None` where no more is to come.
-    fn next<R: Wait>(&mut self, rt: &R) -> Option<Job<Self::In, Self::Out>>
-        ensures { IfSome result IsServable };
+    fn next<R: Wait + Clock>(&mut self, rt: &R) -> Option<Job<Self::In, Self::Out>>
+        ensures servable { IfSome result IsServable }
+        ensures given { given self.new ≡ given_after result (given self.old) };
 }
 
 /// Serves connections until none is to come, and gives their number, which stays at 2^62.
-pub fn work<RT: AllocGlobal + Wait, J: Jobs, S: Store>(
+pub fn work<RT: AllocGlobal + Wait + Clock, J: Jobs, S: Store>(
     rt: &RT,
     jobs: &mut J,
     stores: &Stores<S>,
@@ -48,6 +55,7 @@ pub fn work<RT: AllocGlobal + Wait, J: Jobs, S: Store>(
     requires passes { ArePasses S.Store stores.now passes.old }
     ensures passes { ArePasses S.Store stores.now passes.new }
     ensures before { SawMore (passes_at S.Store passes.old) (passes_at S.Store passes.new) }
+    ensures count { J.given jobs.old ≡ 0 → result ≡ J.given jobs.new }
     ensures limit { result ≤ 2 ^ 62 }
 {
     let mut count = 0;
@@ -65,12 +73,21 @@ pub fn work<RT: AllocGlobal + Wait, J: Jobs, S: Store>(
             job.role,
             job.now,
         );
-        if count < COUNT_LIMIT {
-            count += 1;
-        }
+        count = one_more(count);
     }
     count
 }
 
-// Where the number of connections stays: 2^62.
+// Where a number of connections stays: 2^62.
 const COUNT_LIMIT: u64 = 4_611_686_018_427_387_904;
+
+/// A number of connections with one more, which stays at 2^62.
+pub fn one_more(count: u64) -> u64
+    ensures { result ≡ min (count + 1) (2 ^ 62) }
+{
+    if count < COUNT_LIMIT {
+        count + 1
+    } else {
+        COUNT_LIMIT
+    }
+}

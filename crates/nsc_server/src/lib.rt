@@ -12,7 +12,7 @@ mod serve;
 mod served;
 mod statistics;
 
-pub use jobs::{Job, Jobs, work};
+pub use jobs::{Job, Jobs, one_more, work};
 pub use passes::{Passes, Stores};
 pub use room::Room;
 pub use serve::serve_one;

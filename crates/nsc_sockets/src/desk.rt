@@ -8,6 +8,7 @@ use crate::unix_input::UnixInput;
 use crate::unix_output::UnixOutput;
 use crate::waiting_room::WaitingRoom;
 use mio::{Events, Poll, Token};
+use nsc_yields::Yields;
 use std::alloc::Global;
 use std::collections::VecDeque;
 use std::net::Net;
@@ -53,6 +54,7 @@ pub(crate) struct Desk {
     // How many outputs wait for a peer that does not read.
     waiting: Arc<AtomicU64>,
     pace: Pace,
+    yields: Yields,
     is_wakeful: bool,
 }
 
@@ -69,6 +71,7 @@ impl Desk {
             stirred: VecDeque::with_capacity(alloc, EVENTS)?,
             waiting: Arc::new(alloc, AtomicU64::new(0))?,
             pace: Pace::new(),
+            yields: Yields::new(),
             is_wakeful: processors >= 3,
         })
     }
@@ -96,8 +99,12 @@ impl Desk {
             let Some(left) = Duration::from_secs(LONGEST).checked_sub(waited) else {
                 break;
             };
-            self.rest(turn, left)?;
-            now = clock.monotonic()?;
+            let has_yielded = self.rest(turn, now, left)?;
+            let later = clock.monotonic()?;
+            if has_yielded {
+                self.yields.note(now, later);
+            }
+            now = later;
         }
         Ok(Accepted::Quiet)
     }
@@ -122,11 +129,12 @@ impl Desk {
         if let Some(ready) = self.next_stirred() {
             return Some(ready);
         }
-        if let Some(ready) = self.room.next_standing(self.poll.registry()) {
+        let may_stand = self.yields.may_yield(now);
+        if let Some(ready) = self.room.next_standing(self.poll.registry(), may_stand) {
             return Some(ready);
         }
         for at in 0..self.doors.len() {
-            if let Some(ready) = self.next_at(clock, now, at) {
+            if let Some(ready) = self.next_at(clock, now, at, may_stand) {
                 return Some(ready);
             }
         }
@@ -144,7 +152,13 @@ impl Desk {
     }
 
     // Takes a connection at an open door. Where none can be taken, some that wait are closed to make room.
-    fn next_at<C: Clock>(&mut self, clock: &C, now: Duration, at: usize) -> Option<Ready> {
+    fn next_at<C: Clock>(
+        &mut self,
+        clock: &C,
+        now: Duration,
+        at: usize,
+        may_stand: bool,
+    ) -> Option<Ready> {
         let door = self.doors.get_mut(at)?;
         if !door.is_open() {
             return None;
@@ -154,8 +168,8 @@ impl Desk {
         match outcome {
             Ok(socket) => {
                 let peer = Peer::new(socket).ok()?;
-                self.room
-                    .receive(self.poll.registry(), Guest::new(role, peer, now))
+                let guest = Guest::new(role, peer, now);
+                self.room.receive(self.poll.registry(), guest, may_stand)
             }
             Err(error) if error.kind() == io::ErrorKind::WouldBlock => None,
             Err(_) => {
@@ -168,21 +182,24 @@ impl Desk {
     }
 
     // Waits until the system tells of something, at most for as long as is left. It does not sleep while there is work, nor at
-    // first while connections are near each other.
-    fn rest(&mut self, turn: u32, left: Duration) -> io::Result<()> {
+    // first while connections are near each other, unless the processors are busy. Whether it yielded.
+    fn rest(&mut self, turn: u32, now: Duration, left: Duration) -> io::Result<bool> {
         let is_unknown = self.doors.iter().any(|door| door.is_unknown());
-        let looks_on = self.is_wakeful && self.pace.is_near() && turn < WAKEFUL;
+        let may_yield = self.yields.may_yield(now);
+        let looks_on = may_yield && self.is_wakeful && self.pace.is_near() && turn < WAKEFUL;
         let is_awake = looks_on || self.has_work();
         let limit = if is_awake { Duration::ZERO } else { left };
         self.poll.poll(&mut self.events, Some(limit))?;
         let has_news = !self.events.is_empty();
         self.note_events();
+        let yields = may_yield && is_awake && !has_news && !is_unknown;
         if is_unknown {
             self.ask_doors()?;
-        } else if is_awake && !has_news {
+        }
+        if yields {
             thread::yield_now();
         }
-        Ok(())
+        Ok(yields)
     }
 
     // Whether there is somebody to look at of whom the system is not going to tell again.

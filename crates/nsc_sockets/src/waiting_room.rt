@@ -25,7 +25,8 @@ const LEAST: usize = 16;
 const STAY: u64 = 5;
 
 /// Connections of which too little came to give them out. At first they stand and are looked at on each turn, then they sit
-/// until the system tells of bytes. Each seat is its connection's token.
+/// until the system tells of bytes; where no turn may be given to others between looks, they sit at once. Each seat is its
+/// connection's token.
 #[derive(Drop)]
 pub(crate) struct WaitingRoom {
     alloc: Global,
@@ -52,10 +53,15 @@ impl WaitingRoom {
     }
 
     /// Looks at a new connection, and takes it in where it cannot be given out yet.
-    pub(crate) fn receive(&mut self, registry: &Registry, mut guest: Guest) -> Option<Ready> {
+    pub(crate) fn receive(
+        &mut self,
+        registry: &Registry,
+        mut guest: Guest,
+        may_stand: bool,
+    ) -> Option<Ready> {
         match guest.look(self.alloc, false) {
             Look::Settled(ahead) => return Some(guest.ready(ahead)),
-            Look::Pending if self.standing.len() < STANDING => {
+            Look::Pending if may_stand && self.standing.len() < STANDING => {
                 let _ = self.standing.push_back(guest);
             }
             Look::Pending => self.seat(registry, guest),
@@ -65,12 +71,12 @@ impl WaitingRoom {
     }
 
     /// Looks once at those that stand, up to the first that can be given out. Who was looked at often enough sits down.
-    pub(crate) fn next_standing(&mut self, registry: &Registry) -> Option<Ready> {
+    pub(crate) fn next_standing(&mut self, registry: &Registry, may_stand: bool) -> Option<Ready> {
         for _ in 0..self.standing.len() {
             let mut guest = self.standing.pop_front()?;
             match guest.look(self.alloc, false) {
                 Look::Settled(ahead) => return Some(guest.ready(ahead)),
-                Look::Pending if guest.looks() < LOOKS => {
+                Look::Pending if may_stand && guest.looks() < LOOKS => {
                     let _ = self.standing.push_back(guest);
                 }
                 Look::Pending => self.seat(registry, guest),

@@ -1,9 +1,10 @@
 use nsc_jobs::JobList;
 use std::sync::Wait;
 use std::thread;
+use std::time::Clock;
 
 // Takes jobs until the list is closed, and gives their sum.
-fn sum<R: Wait>(rt: &R, jobs: &JobList<u64>) -> u64 {
+fn sum<R: Wait + Clock>(rt: &R, jobs: &JobList<u64>) -> u64 {
     let mut sum: u64 = 0;
     for _ in rt.forever() {
         match jobs.take(rt) {

@@ -17,4 +17,5 @@ returns c =
     let replay = added _ _ _ _ _ c.in_ok-arg.ensures (search rules) bare c.flag.ensures.rule in
     let statistics = added _ _ _ _ (lettered 103 (flag (codes "statistics"))) c.in_ok-arg-2.ensures (search rules) replay (search rules) in
     let shutdown = added _ _ _ _ (lettered 75 (flag (codes "shutdown"))) c.in_ok-arg-3.ensures (search rules) statistics (search rules) in
-    IfOk-weaker c.arg-4.result _ _ (λ r adds. added _ _ r _ (lettered 105 (valued (codes "invalidate"))) adds (search rules) shutdown (search rules)) c.arg-4.ensures
+    let invalidate = added _ _ _ _ (lettered 105 (valued (codes "invalidate"))) c.in_ok-arg-4.ensures (search rules) shutdown (search rules) in
+    IfOk-weaker c.arg-5.result _ _ (λ r adds. added _ _ r _ (valued (codes "workload")) adds (search rules) invalidate (search rules)) c.arg-5.ensures

@@ -1,0 +1,100 @@
+//! Trials of the whole program as a daemon, over connections, files and moments in memory. Each trial prints how the program ended,
+//! what it wrote, and what every peer was sent.
+#![tactic(auto)]
+
+mod files;
+mod requests;
+mod showing;
+mod trial;
+mod trials;
+
+use files::{held, still};
+use nsc_base::{Bytes, NoMemory};
+use nsc_outside::{MemSink, MemSource};
+use nsc_run::run;
+use nsc_sockets::{CalmListener, MemClock, MemListener};
+use showing::{show, show_sent};
+use std::alloc::Global;
+use std::io;
+use trial::{HeldTrial, Trial};
+use trials::{held_trials, still_trials};
+
+// How many bytes the program may write.
+const ROOM: usize = 4096;
+
+fn main(rt: HostRuntime) -> io::Result<()> {
+    let alloc = rt.alloc();
+    for trial in still_trials(alloc).map_err(wanting)? {
+        let Trial {
+            name,
+            words,
+            failing,
+            arrivals,
+            readers,
+        } = trial;
+        let words = owned(alloc, words).map_err(wanting)?;
+        let mut output = MemSink::new(alloc, ROOM).map_err(wanting)?;
+        let exit = run(
+            &rt,
+            words.as_slice(),
+            &mut MemSource::new(Vec::new(alloc)),
+            &mut output,
+            &mut still(alloc, failing).map_err(wanting)?,
+            &mut MemClock::new(0, 0),
+            &mut MemListener::new(alloc, arrivals, Vec::new(alloc)).map_err(wanting)?,
+        );
+        show(&rt, name, exit, output.taken())?;
+        show_sent(&rt, alloc, readers.as_slice())?;
+    }
+    for trial in held_trials(alloc).map_err(wanting)? {
+        let HeldTrial {
+            trial,
+            step,
+            changed,
+            hold,
+        } = trial;
+        let words = owned(alloc, trial.words).map_err(wanting)?;
+        let mut output = MemSink::new(alloc, ROOM).map_err(wanting)?;
+        let system: Result<_, _> = rt.clone();
+        let exit = run(
+            &rt,
+            words.as_slice(),
+            &mut MemSource::new(Vec::new(alloc)),
+            &mut output,
+            &mut held(system?, alloc, changed, hold).map_err(wanting)?,
+            &mut MemClock::new(0, step),
+            &mut MemListener::new(alloc, trial.arrivals, Vec::new(alloc)).map_err(wanting)?,
+        );
+        show(&rt, trial.name, exit, output.taken())?;
+        show_sent(&rt, alloc, trial.readers.as_slice())?;
+    }
+    // A daemon that is told to end replies with another number than 0.
+    let mut peers = Vec::new(alloc);
+    peers.push(Bytes::copy(alloc, b"\x01\0\0\0").map_err(wanting)?)?;
+    let words = owned(alloc, &["-K"]).map_err(wanting)?;
+    let mut output = MemSink::new(alloc, ROOM).map_err(wanting)?;
+    let exit = run(
+        &rt,
+        words.as_slice(),
+        &mut MemSource::new(Vec::new(alloc)),
+        &mut output,
+        &mut still(alloc, &[]).map_err(wanting)?,
+        &mut MemClock::new(0, 0),
+        &mut CalmListener::new(peers),
+    );
+    show(&rt, "a bad reply", exit, output.taken())
+}
+
+// The words as the program has them.
+fn owned(alloc: Global, words: &[&str]) -> Result<Vec<String>, NoMemory> {
+    let mut owned = Vec::with_capacity(alloc, words.len())?;
+    for word in words {
+        owned.push(String::from_str(alloc, word)?)?;
+    }
+    Ok(owned)
+}
+
+// Want of memory, as an error of output.
+fn wanting(_e: NoMemory) -> io::Error {
+    io::Error::from(io::ErrorKind::OutOfMemory)
+}

@@ -1,0 +1,81 @@
+ghost use Rattle.std.specs.Prelude.{◌≡◌, ◌≤◌, nat_lt, not};
+ghost use Rattle.std.specs.Duration.{as_nanos};
+ghost use Rattle.nsc_yields.specs.Yields.{after_yield, longest, next_pause};
+
+use std::marker::Model;
+use std::time::Duration;
+
+// A yield is late that took so long: others ran meanwhile. All times are in nanoseconds.
+const LATE: u128 = 500_000;
+
+const SHORTEST: u128 = 1_000_000_000;
+
+const LONGEST: u128 = 16_000_000_000;
+
+/// Whether a thread that looks out for work may yield the processor between two looks, as it learns from its yields.
+///
+/// Where a processor is free, a yield is the quickest way to let the peer go on for which the thread waits. Where all are
+/// busy, whoever yields waits for all others, while one that sleeps is woken as its work comes. So a yield that came back
+/// after half a millisecond or later is followed by a pause without yields: of a second, and of twice as long each time that
+/// yields are soon late again, up to sixteen.
+#[derive(Clone, Copy, Debug)]
+pub struct Yields {
+    from: u128,
+    pause: u128,
+}
+
+impl Model for Yields {
+    ghost use Rattle.std.specs.Prelude.{◌≤◌};
+    ghost use Rattle.nsc_yields.specs.Yields.{Yields, longest};
+
+    ghost Value = { Yields };
+
+    ghost view = { λ y. record { from = y.from; pause = y.pause } };
+
+    ghost inverse = { λ y. record { from = y.from; pause = y.pause } };
+
+    ghost invariant = { λ y. y.pause ≤ longest };
+}
+
+impl Yields {
+    /// No yield was late so far, so it may.
+    pub fn new() -> Yields
+        ensures { result ≡ record { from = 0; pause = 0 } }
+    {
+        Yields { from: 0, pause: 0 }
+    }
+
+    /// Whether it may yield at this moment.
+    pub fn may_yield(&self, now: Duration) -> bool
+        ensures { result ≡ not (nat_lt (as_nanos now) self.now.from) }
+    {
+        now.as_nanos() >= self.from
+    }
+
+    /// Notes a yield, from a moment before it to one after it.
+    pub fn note(&mut self, began: Duration, ended: Duration)
+        ensures { self.new ≡ after_yield self.old (as_nanos began) (as_nanos ended) }
+    {
+        let ended = ended.as_nanos();
+        if ended.saturating_sub(began.as_nanos()) < LATE {
+            return;
+        }
+        let pause = self.next_pause(ended);
+        *self = Yields {
+            from: ended + pause,
+            pause,
+        };
+    }
+
+    // The pause after a yield that came back late at this moment.
+    fn next_pause(&self, ended: u128) -> u128
+        ensures pause { result ≡ next_pause self.now ended }
+        ensures bound { result ≤ longest }
+    {
+        if ended.saturating_sub(self.from) < LONGEST {
+            (2 * self.pause).min(LONGEST).max(SHORTEST)
+        } else {
+            SHORTEST
+        }
+    }
+}
