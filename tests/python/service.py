@@ -8,7 +8,6 @@ import shutil
 import socket
 import subprocess
 import sys
-import time
 
 from frames import ROOT
 from places import a_program, folder, make
@@ -160,6 +159,41 @@ def asked(run, text):
         return read_all(peer)
 
 
+def obeys(serve, nscd, etc, run, confined):
+    """Starts the daemon as the unit does, each process under the filter, and sees that it does what it is for."""
+
+    def under(*words):
+        done = subprocess.run(words, capture_output=True, preexec_fn=confined, timeout=30, check=False)
+        said = (done.stdout + done.stderr).decode(errors="replace")
+        check(done.returncode == 0, f"{words}: status {done.returncode}: {said}")
+        return said
+
+    words = [serve, "start", "-t", "64"]
+    daemon = subprocess.Popen(words, stdout=subprocess.PIPE, stderr=subprocess.PIPE, preexec_fn=confined)
+    try:
+        under(serve, "open")
+        check(asked(run, ASK_ROOT) == ROOT_REPLY, "a lookup: another reply")
+        check(asked(run, request(PASSWD_BY_NAME, b"nobody1\0")) != b"", "a lookup of nobody: no reply")
+        check(asked(run, request(4, b"box.example\0")) == b"", "a host: a reply, where the database is left to the C library")
+        (etc / "passwd").write_bytes(FILES["passwd"].replace(b"/bin/bash", b"/bin/dash"))
+        for database in DATABASES:
+            under(nscd, "-i", database, "--run-dir", run)
+        check(b"/bin/dash" in asked(run, ASK_ROOT), "after an order: not what the file holds")
+        check(under(nscd, "-g", "--run-dir", run).count("cache:") == 4, "no counts")
+        under(nscd, "-K", "--run-dir", run)
+        under(serve, "gone", str(daemon.pid))
+        check(daemon.wait(5) == 0, f"the daemon ends with {daemon.returncode}")
+        check(daemon.stdout.read() == b"nscd: ready\n", "another output")
+        said = daemon.stderr.read().decode()
+        check(said == "nscd: hosts is left to the C library, since nsswitch.conf asks dns for it\n", f"it says {said!r}")
+    finally:
+        if daemon.poll() is None:
+            daemon.kill()
+            daemon.wait()
+        daemon.stdout.close()
+        daemon.stderr.close()
+
+
 def calls_case():
     if shutil.which("systemd-analyze") is None:
         return "skipped, since there is no systemd-analyze"
@@ -171,7 +205,6 @@ def calls_case():
 
     def confined():
         resource.setrlimit(resource.RLIMIT_NOFILE, (1024, 1024))
-        resource.setrlimit(resource.RLIMIT_CORE, (0, 0))
         if library.seccomp_load(made) != 0:
             raise Fault("the filter is not taken")
 
@@ -187,38 +220,5 @@ def calls_case():
             (etc / file).write_bytes(text)
         (etc / "nsswitch.conf").write_text("passwd: files\nhosts: files dns\n")
         changes = (("\netc=/etc\n", f"\netc={etc}\n"), ("\nrun=/run/nscd\n", f"\nrun={run}\n"))
-        serve = installed(top, a_program(top), *changes)
-        nscd = top / "usr/sbin/nscd"
-
-        def under(*words, status=0):
-            done = subprocess.run(words, capture_output=True, preexec_fn=confined, timeout=30, check=False)
-            said = (done.stdout + done.stderr).decode(errors="replace")
-            check(done.returncode == status, f"{words}: status {done.returncode}: {said}")
-            return said
-
-        daemon = subprocess.Popen([serve, "start", "-t", "64"], stdout=subprocess.PIPE, stderr=subprocess.PIPE, preexec_fn=confined)
-        try:
-            under(serve, "open")
-            check(asked(run, ASK_ROOT) == ROOT_REPLY, "a lookup: another reply")
-            check(asked(run, request(4, b"box.example\0")) == b"", "a host: a reply, where the database is left to the C library")
-            check(asked(run, request(PASSWD_BY_NAME, b"nobody1\0")) != b"", "a lookup of nobody: no reply")
-            for database in DATABASES:
-                under(nscd, "-i", database, "--run-dir", run)
-            (etc / "passwd").write_bytes(FILES["passwd"].replace(b"/bin/bash", b"/bin/dash"))
-            under(nscd, "-i", "passwd", "--run-dir", run)
-            check(b"/bin/dash" in asked(run, ASK_ROOT), "after an order: not what the file holds")
-            check(under(nscd, "-g", "--run-dir", run).count("cache:") == 4, "no counts")
-            time.sleep(0.1)
-            under(nscd, "-K", "--run-dir", run)
-            under(serve, "gone", str(daemon.pid))
-            check(daemon.wait(5) == 0, f"the daemon ends with {daemon.returncode}")
-            check(daemon.stdout.read() == b"nscd: ready\n", "another output")
-            said = daemon.stderr.read().decode()
-            check(said == "nscd: hosts is left to the C library, since nsswitch.conf asks dns for it\n", f"it says {said!r}")
-        finally:
-            if daemon.poll() is None:
-                daemon.kill()
-                daemon.wait()
-            daemon.stdout.close()
-            daemon.stderr.close()
+        obeys(installed(top, a_program(top), *changes), top / "usr/sbin/nscd", etc, run, confined)
     return f"with the {count} system calls of the unit's list, and sockets of the machine alone, it starts, answers, obeys and ends"

@@ -1,6 +1,7 @@
 """The tables of options and attributes, held against the sources, the manual pages, the settings and the program."""
 
 import re
+import string
 import subprocess
 from dataclasses import dataclass
 
@@ -149,10 +150,11 @@ def tried(option, form):
     return len(option.words())
 
 
-def options_case():
-    table = options()
+def check_options(table):
+    """The options and exits of the sources and of nscd(8); how many exits there are."""
     kinds = {"flag": False, "valued": True}
-    found = re.findall(r"\b(flag|valued)\(alloc, \"([\w-]+)\"\)(?:\s*\.short\('(\w)'\))?", source("nsc_run/src/words.rt"))
+    pattern = r"\b(flag|valued)\(alloc, \"([\w-]+)\"\)(?:\s*\.short\('(\w)'\))?"
+    found = re.findall(pattern, source("nsc_run/src/words.rt"))
     alike(
         "options of the table and of the sources",
         [(option.letter, option.long, bool(option.value)) for option in table],
@@ -165,13 +167,19 @@ def options_case():
         alike(f"form {form}", [o.letter or o.long for o in table if form in o.forms], must | may)
         check(len(must) == (form != "d"), f"form {form}: {must} must stand")
     statuses = re.findall(r"Exit::\w+(?: \{ \.\. \})? => (\d+),", source("nsc_run/src/exit.rt"))
-    alike("exits", statuses, re.findall(r"^\.It (\d+)$", section((MAN / "nscd.8").read_text(), "EXIT STATUS"), re.M))
-    said = f"{len(table)} options and {len(statuses)} exits are those of the sources and of nscd(8)"
+    said = re.findall(r"^\.It (\d+)$", section((MAN / "nscd.8").read_text(), "EXIT STATUS"), re.M)
+    alike("exits", statuses, said)
+    return len(statuses)
+
+
+def options_case():
+    table = options()
+    said = f"{len(table)} options and {check_options(table)} exits are those of the sources and of nscd(8)"
     if not PROGRAM.exists():
         return said + "; there is no program to ask"
     count = sum(tried(option, form) for option in table for form in FORMS)
     letters = {option.letter for option in table}
-    others = [letter for letter in "abcdefghijklmnopqrstuvwxyzABCDEFGHIJKLMNOPQRSTUVWXYZ0123456789?" if letter not in letters]
+    others = [letter for letter in string.ascii_letters + string.digits + "?" if letter not in letters]
     for letter in others:
         check(is_refused(f"-{letter}"), f"-{letter} is taken")
     for word in ("debug", "foregroun", "help", "usage", "version", "secure", "gate", "start", "stat"):
@@ -206,25 +214,26 @@ def settings_lines():
 
 
 WRONG = {"answer": "Yes", "number": "-1", "size": "65537", "reloads": "0x", "word": None}
+GOOD = {"answer": "yes", "number": "7", "word": "nobody"}  # where there is no default
 
 
-def line_of(attribute, value):
-    return " ".join([attribute.name] + (["group"] if attribute.is_of_database() else []) + [value]).encode()
-
-
-def attributes_case():
-    table = attributes()
+def check_sources(table):
+    """The names of the attributes and their defaults are those of the sources."""
+    listed = re.findall(r'\(b"([\w-]+)", (OfDatabase|OfDaemon)\(', source("nsc_daemonconf/src/attributes.rt"))
     alike(
         "attributes of the table and of the sources",
-        [(a.name, a.is_of_database()) for a in table],
-        [(name, kind == "OfDatabase") for name, kind in re.findall(r'\(b"([\w-]+)", (OfDatabase|OfDaemon)\(', source("nsc_daemonconf/src/attributes.rt"))],
+        [(attribute.name, attribute.is_of_database()) for attribute in table],
+        [(name, kind == "OfDatabase") for name, kind in listed],
     )
-    text = source("nsc_model/specs/Settings.antt")
-    for name, defaults in cached(text).items():
-        wanted = next(a.defaults for a in table if a.name == name)
+    for name, defaults in cached(source("nsc_model/specs/Settings.antt")).items():
+        wanted = next(attribute.defaults for attribute in table if attribute.name == name)
         check(defaults == wanted, f"{name}: {defaults} in the definitions, {wanted} in the table")
+
+
+def check_manual(table):
+    """What nscd.conf(5) says of each attribute: its words, its default, and whether it has an effect."""
     said = manual_attributes()
-    alike("attributes of the table and of nscd.conf(5)", [a.name for a in table], said)
+    alike("attributes of the table and of nscd.conf(5)", [attribute.name for attribute in table], said)
     for attribute in table:
         text = said[attribute.name]
         check(("Has no effect" in text) != attribute.has_effect, f"{attribute.name}: its effect in nscd.conf(5)")
@@ -233,10 +242,13 @@ def attributes_case():
         check(("Cm yes | no" in head) == (attribute.value == "answer"), f"{attribute.name}: {head}")
         if not attribute.defaults:
             check("No default" in text, f"{attribute.name}: a default in nscd.conf(5)")
-        else:
-            told = defaults_said(text)
-            wanted = attribute.defaults if attribute.is_of_database() else attribute.defaults * 4
-            check(told == wanted, f"{attribute.name}: {told} in nscd.conf(5), {wanted} in the table")
+            continue
+        wanted = attribute.defaults if attribute.is_of_database() else attribute.defaults * 4
+        check(defaults_said(text) == wanted, f"{attribute.name}: {defaults_said(text)} in nscd.conf(5), {wanted} in the table")
+
+
+def check_settings(table):
+    """The lines of nscd.conf, each of which says a default, and the remarks on what has none."""
     lines = [(a.name, db, value) for a in table if a.is_of_database() for db, value in zip(DATABASES, a.defaults)]
     lines += [(a.name, "", a.defaults[0]) for a in table if len(a.defaults) == 1]
     alike("lines of nscd.conf and defaults", settings_lines(), lines)
@@ -244,15 +256,34 @@ def attributes_case():
     for attribute in table:
         if not attribute.defaults:
             check(re.search(rf"^#\t{attribute.name}\t", remarks, re.M), f"{attribute.name}: no remark in nscd.conf")
-    found = f"{len(table)} attributes with their defaults are those of the sources, of nscd.conf(5) and of nscd.conf, in {len(lines)} lines"
+    return len(lines)
+
+
+def check_program(attribute):
+    """The program takes the attribute with a good value, and refuses it with a wrong one, with none, and by another name."""
+
+    def fault(*words):
+        return replay(PROGRAM, END, " ".join(words).encode())[2]
+
+    front = [attribute.name, "group"] if attribute.is_of_database() else [attribute.name]
+    good = attribute.defaults[0] if attribute.defaults else GOOD[attribute.value]
+    wrong = WRONG[attribute.value]
+    check(fault(*front, good) == "", f"{attribute.name} {good} is refused")
+    check(wrong is None or fault(*front, wrong).endswith("bad value"), f"{attribute.name} {wrong} is taken")
+    check(fault(attribute.name).endswith("bad line"), f"{attribute.name} alone is taken")
+    check(fault(attribute.name + "s", *front[1:], good).endswith("unknown attribute"), f"{attribute.name}s is taken")
+
+
+def attributes_case():
+    table = attributes()
+    check_sources(table)
+    check_manual(table)
+    lines = check_settings(table)
+    found = (
+        f"{len(table)} attributes with their defaults are those of the sources, of nscd.conf(5) and of nscd.conf, in {lines} lines"
+    )
     if not PROGRAM.exists():
         return found + "; there is no program to ask"
     for attribute in table:
-        good = attribute.defaults[0] if attribute.defaults else {"answer": "yes", "number": "7"}.get(attribute.value, "nobody")
-        check(replay(PROGRAM, END, line_of(attribute, good))[0] == 0, f"{attribute.name} {good} is refused")
-        wrong = WRONG[attribute.value]
-        if wrong is not None:
-            check(replay(PROGRAM, END, line_of(attribute, wrong))[2].endswith("bad value"), f"{attribute.name} {wrong} is taken")
-        check(replay(PROGRAM, END, attribute.name.encode())[2].endswith("bad line"), f"{attribute.name} alone is taken")
-        check(replay(PROGRAM, END, attribute.name.encode() + b"s 1")[2].endswith("unknown attribute"), f"{attribute.name}s is taken")
+        check_program(attribute)
     return found + "; the program takes and refuses them so"
