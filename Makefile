@@ -9,7 +9,13 @@ WORDS = $(shell cat crates/nscd/args)
 SOURCES := crates.txt HANDLES \
     $(shell find crates -name out -prune -o -type f \( -name '*.rt' -o -name '*.antt' \) -print)
 
-.PHONY: run test build bench clean
+# Where make install puts things, under which root, and the program that it takes.
+PREFIX ?= /usr/local
+SYSCONFDIR ?= /etc
+DESTDIR ?=
+NSCD ?= build/nscd
+
+.PHONY: run test build bench install uninstall deb clean
 
 # The first target, so plain `make` shows the program at work on the shipped example. The proved program runs where it is
 # there and no source is newer; else rt makes one from the sources as they stand, in less than a minute and a half.
@@ -59,6 +65,17 @@ $(PROGRAM): $(SOURCES)
 $(TRIALS): $(SOURCES)
 	cd crates/nsc_trials && rt run < stdin > /dev/null
 	@touch $(TRIALS)
+
+# The proved program and all that belongs to it, as docs/INSTALL.md says. Nothing is built or proved here.
+install:
+	@PREFIX='$(PREFIX)' SYSCONFDIR='$(SYSCONFDIR)' DESTDIR='$(DESTDIR)' NSCD='$(NSCD)' START='$(START)' dist/install in
+
+uninstall:
+	@PREFIX='$(PREFIX)' SYSCONFDIR='$(SYSCONFDIR)' DESTDIR='$(DESTDIR)' dist/install out
+
+# A Debian package, in build.
+deb:
+	@NSCD='$(NSCD)' dist/make-deb build
 
 bench: build
 	bench/replay

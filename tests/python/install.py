@@ -1,0 +1,56 @@
+"""Tries the installation, the packages, the manual pages and what the service runs with.
+
+Each case ends with a sentence of what it showed, or of what it needed and did not find. With the names of cases only those are tried.
+"""
+
+import os
+import subprocess
+import sys
+
+sys.dont_write_bytecode = True
+from machine import init_case, package_case, systemd_case
+from places import completions_case, manuals_case, places_case
+from running import PROGRAM, Fault
+from service import calls_case, left_case, unit_case
+from settings import settings_case
+from tables import attributes_case, options_case
+
+CASES = {
+    "options": options_case,
+    "attributes": attributes_case,
+    "settings": settings_case,
+    "manuals": manuals_case,
+    "completions": completions_case,
+    "places": places_case,
+    "left": left_case,
+    "unit": unit_case,
+    "calls": calls_case,
+    "init": init_case,
+    "package": package_case,
+    "systemd": systemd_case,
+}
+# These run the program.
+RUNNING = ("settings", "calls", "init", "package", "systemd")
+
+
+def main(names):
+    unknown = [name for name in names if name not in CASES]
+    if unknown:
+        sys.exit(f"install: no case {unknown[0]}; there are {', '.join(CASES)}")
+    os.environ["PATH"] += ":/usr/sbin:/sbin"
+    faults = 0
+    for name in names or CASES:
+        if name in RUNNING and not PROGRAM.exists():
+            print(f"install: {name}: skipped, since there is no {PROGRAM}", flush=True)
+            continue
+        try:
+            print(f"install: {name}: {CASES[name]()}", flush=True)
+        except (Fault, OSError, subprocess.SubprocessError) as fault:
+            faults += 1
+            print(f"install: {name}: FAULT: {fault!r}", file=sys.stderr)
+    print(f"install: {len(names or CASES)} cases, {faults} faults")
+    sys.exit(1 if faults else 0)
+
+
+if __name__ == "__main__":
+    main(sys.argv[1:])

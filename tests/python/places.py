@@ -1,0 +1,255 @@
+"""What make install puts where, and how it is taken away; what is made for shells, and how the manual pages are checked."""
+
+import os
+import re
+import shutil
+import stat
+import subprocess
+import tempfile
+import time
+from contextlib import contextmanager
+from pathlib import Path
+
+from frames import ROOT
+from running import PROGRAM, check
+from tables import DATABASES, MAN, options
+
+# Where make install has things, under PREFIX and SYSCONFDIR, and their modes.
+PLACES = {
+    "sbin/nscd": 0o755,
+    "libexec/nscd/nscd-serve": 0o755,
+    "lib/systemd/system/nscd.service": 0o644,
+    "lib/tmpfiles.d/nscd.conf": 0o644,
+    "lib/sysusers.d/nscd.conf": 0o644,
+    "share/man/man8/nscd.8": 0o644,
+    "share/man/man5/nscd.conf.5": 0o644,
+    "share/bash-completion/completions/nscd": 0o644,
+    "share/zsh/site-functions/_nscd": 0o644,
+    "share/nscd/installed": 0o644,
+}
+SETTINGS = {"nscd.conf": 0o644, "init.d/nscd": 0o755}
+VERSION = (ROOT / "VERSION").read_text().strip()
+
+
+@contextmanager
+def folder():
+    made = Path(tempfile.mkdtemp(prefix="nscd-install-"))
+    made.chmod(0o755)
+    try:
+        yield made
+    finally:
+        shutil.rmtree(made)
+
+
+def a_program(where):
+    """A program that is newer than the sources: the built one, or where there is none one that stands for it."""
+    path = where / "nscd"
+    if PROGRAM.exists():
+        shutil.copy(PROGRAM, path)
+    else:
+        path.write_text("#!/bin/sh\nexit 1\n")
+        path.chmod(0o755)
+    return path
+
+
+def make(target, program, root, **places):
+    words = ["make", "-s", "-C", ROOT, target, f"NSCD={program}", f"DESTDIR={root}"]
+    words += [f"{name}={value}" for name, value in places.items()]
+    kept = {name: value for name, value in os.environ.items() if name not in ("MAKEFLAGS", "MFLAGS", "MAKELEVEL")}
+    done = subprocess.run(words, capture_output=True, env=kept, timeout=60, check=False)
+    return done.returncode, (done.stdout + done.stderr).decode()
+
+
+def tree(root):
+    """Each file and folder below, with its mode and, of a file, its bytes."""
+    found = {}
+    for path in sorted(root.rglob("*")):
+        mode = stat.S_IMODE(path.lstat().st_mode)
+        found[str(path.relative_to(root))] = (mode, path.read_bytes() if path.is_file() else None)
+    return found
+
+
+def places_case():
+    if shutil.which("make") is None:
+        return "skipped, since there is no make"
+    with folder() as top:
+        program, root = a_program(top), top / "root"
+        # Some of a system's folders are there, and a file of somebody else's.
+        for name in ("usr/sbin", "usr/lib/systemd/system", "usr/share/man/man8", "etc"):
+            (root / name).mkdir(parents=True)
+        (root / "usr/sbin/other").write_text("other\n")
+        before = tree(root)
+        for prefix, sysconf in (("/usr", "/etc"), ("/opt/nscd", "/opt/nscd/etc")):
+            where = {"PREFIX": prefix, "SYSCONFDIR": sysconf}
+            status, said = make("install", program, root, **where)
+            check((status, said) == (0, ""), f"make install: {status}, {said}")
+            wanted = {f"{prefix}/{name}": mode for name, mode in PLACES.items()}
+            wanted |= {f"{sysconf}/{name}": mode for name, mode in SETTINGS.items()}
+            after = tree(root)
+            files = {f"/{name}": mode for name, (mode, text) in after.items() if text is not None and name not in before}
+            check(files == wanted, f"make install: {set(files.items()) ^ set(wanted.items())}")
+            check(after[f"{prefix}/sbin/nscd"[1:]][1] == program.read_bytes(), "make install: another program")
+            for name, (mode, text) in after.items():
+                check(text is not None or mode == 0o755, f"{name}: mode {mode:o}")
+                check(text is None or name.endswith("sbin/nscd") or not re.search(rb"@[A-Z]+@", text), f"{name}: something is not filled in")
+            for name in ("share/man/man8/nscd.8", "share/man/man5/nscd.conf.5"):
+                check(f"version {VERSION}." in after[f"{prefix}/{name}"[1:]][1].decode(), f"{name}: not version {VERSION}")
+            check(f"conf={sysconf}/nscd.conf\n".encode() in after[f"{prefix}/libexec/nscd/nscd-serve"[1:]][1], "nscd-serve: another nscd.conf")
+            # Once more, and all of it away.
+            check(make("install", program, root, **where) == (0, ""), "make install again")
+            check(tree(root) == after, "make install again changes something")
+            check(make("uninstall", program, root, **where) == (0, ""), "make uninstall")
+            check(tree(root) == before, f"make uninstall leaves {set(tree(root)) ^ set(before)}")
+        return f"make install puts {len(wanted)} files under either prefix, and make uninstall leaves what was there before; {kept_case(top, program)}"
+
+
+def kept_case(top, program):
+    """Settings that were changed are kept, and a program that is missing, old or somebody else's is refused."""
+    root = top / "kept"
+    where = {"PREFIX": "/usr"}
+    conf = root / "etc/nscd.conf"
+    check(make("install", program, root, **where)[0] == 0, "make install")
+    conf.write_text("threads 7\n")
+    for _ in range(2):
+        status, said = make("install", program, root, **where)
+        check((status, said) == (0, f"install: {conf} is left as it is\n"), f"over changed settings: {said}")
+    check(conf.read_text() == "threads 7\n", "make install changes the administrator's settings")
+    status, said = make("uninstall", program, root, **where)
+    check((status, said) == (0, f"install: {conf} was changed, and is left\n"), f"uninstall of changed settings: {said}")
+    check([name for name, (_, text) in tree(root).items() if text is not None] == ["etc/nscd.conf"], "uninstall leaves more than settings")
+    status, said = make("uninstall", program, root, **where)
+    check(status == 0 and "nothing is installed" in said, f"uninstall of nothing: {status}, {said}")
+
+    status, said = make("install", top / "none", root, **where)
+    check(status != 0 and f"there is no {top / 'none'}; make build" in said, f"no program: {status}, {said}")
+    old = top / "old"
+    shutil.copy(program, old)
+    os.utime(old, (0, 0))
+    status, said = make("install", old, root, **where)
+    check(status != 0 and " is newer than " in said and "make build" in said, f"an old program: {status}, {said}")
+    status, said = make("deb", old, root)
+    check(status != 0, f"a package of an old program: {status}, {said}")
+    for place in ("usr/sbin/nscd", "etc/init.d/nscd"):
+        theirs = top / place.replace("/", "-") / place
+        theirs.parent.mkdir(parents=True)
+        theirs.write_text("theirs\n")
+        before = tree(top / place.replace("/", "-"))
+        status, said = make("install", program, top / place.replace("/", "-"), **where)
+        check(status != 0 and f"{theirs} is there already" in said, f"over another nscd: {status}, {said}")
+        check(tree(top / place.replace("/", "-")) == before, "make install beside another nscd leaves something")
+    return "settings that were changed are kept; no program, an old one, and another nscd in its place are refused"
+
+
+# ---- shells
+
+
+COMPLETE = """
+source "$1"
+shift
+COMP_WORDS=("$@")
+COMP_CWORD=$(($# - 1))
+_nscd
+printf '%s\\n' "${COMPREPLY[@]}"
+"""
+
+
+def completed(script, *words):
+    done = subprocess.run(["bash", "--norc", "-c", COMPLETE, "bash", script, "nscd", *words], capture_output=True, timeout=20, check=True)
+    check(done.stderr == b"", f"completion of {words}: {done.stderr!r}")
+    return sorted(done.stdout.decode().split())
+
+
+def names_of(found):
+    return sorted(word for option in found for word in option.words())
+
+
+def bash_case(where):
+    if shutil.which("bash") is None:
+        return "no bash is here"
+    script = where / "nscd.bash"
+    table = options()
+    check(completed(script, "-") == names_of(table), "bash: not all options")
+    check(completed(script, "") == names_of(table), "bash: not all options for nothing")
+    for one in table:
+        for word in one.words():
+            # What may follow an option: those that share a form with it.
+            wanted = [other for other in table if other != one and set(other.forms) & set(one.forms)]
+            found = completed(script, word, *(["x"] if one.value else []), "-")
+            check(found == names_of(wanted), f"bash: after {word}: {found}")
+            if one.value == "DATABASE":
+                check(completed(script, word, "") == sorted(DATABASES), f"bash: {word}")
+                check(completed(script, word, "h") == ["hosts"], f"bash: {word} h")
+            elif one.value == "FOLDER":
+                check(completed(script, word, "/usr/sb") == ["/usr/sbin"], f"bash: {word} /usr/sb")
+            elif one.value == "FILE":
+                check(completed(script, word, "/etc/passw")[0] == "/etc/passwd", f"bash: {word} /etc/passw")
+            elif one.value == "NUMBER":
+                check(completed(script, word, "") == [], f"bash: {word}")
+    return "bash completes each option, and after it those of its forms"
+
+
+# Loads the completion as a shell of an administrator does, and reads what two tabs show.
+ZSH = r"""
+zmodload zsh/zpty || exit 77
+zpty shell zsh -f -i
+zpty -w shell "PS1=; stty -echo; fpath=($1 \$fpath); autoload -Uz compinit; compinit -u -d $1/dump; LISTMAX=1000; zstyle ':completion:*' menu no; setopt no_beep; nscd() { : }; print rea''dy"
+zpty -r shell line '*ready*' || exit 1
+zpty -w -n shell "nscd $2"$'\t\t'
+sleep 1
+zpty -w shell $'\C-uprint do''ne'
+zpty -r shell line '*done*'
+print -r -- $line
+zpty -d shell
+"""
+
+
+def zsh_case(where):
+    if shutil.which("zsh") is None:
+        return "no zsh is here"
+    check(subprocess.run(["zsh", "-n", where / "_nscd"], timeout=20, check=False).returncode == 0, "zsh: the completion is no zsh")
+    told = (where / "_nscd").read_text()
+    for option in options():
+        for word in option.words():
+            check(re.search(rf"\){re.escape(word)}[+=]?\[", told), f"zsh: no {word}")
+    try:
+        done = subprocess.run(["zsh", "-f", "-c", ZSH, "zsh", where, "-"], capture_output=True, timeout=20, check=False)
+    except subprocess.TimeoutExpired:
+        return "zsh reads its completion, which was not tried by a key, since no terminal answers here"
+    shown = done.stdout.decode(errors="replace")
+    if done.returncode != 0:
+        return "zsh reads its completion, which was not tried by a key, since no terminal may be had here"
+    for option in options():
+        check(f"--{option.long} " in shown.replace("\r", " "), f"zsh: --{option.long} is not completed: {shown!r}")
+    return "zsh completes each option"
+
+
+def completions_case():
+    with folder() as where:
+        for shell, name in (("bash", "nscd.bash"), ("zsh", "_nscd")):
+            done = subprocess.run([ROOT / "dist" / "make-completions", shell], capture_output=True, timeout=20, check=True)
+            (where / name).write_bytes(done.stdout)
+        return f"{bash_case(where)}; {zsh_case(where)}"
+
+
+# ---- manual pages
+
+
+def manuals_case():
+    for page in ("nscd.8", "nscd.conf.5"):
+        text = (MAN / page).read_text()
+        check(text.count("@VERSION@") == 1, f"{page}: not one place for the version")
+    check(re.search(rf"^## {re.escape(VERSION)}\b", (ROOT / "CHANGELOG.md").read_text(), re.M), f"CHANGELOG.md: no {VERSION}")
+    if shutil.which("mandoc") is None:
+        return "skipped but for their version, since there is no mandoc"
+    with folder() as where:
+        began = time.monotonic()
+        for page in ("nscd.8", "nscd.conf.5"):
+            (where / page).write_text((MAN / page).read_text().replace("@VERSION@", VERSION))
+            done = subprocess.run(["mandoc", "-Tlint", where / page], capture_output=True, timeout=20, check=False)
+            # Whether the pages of other programs are installed is no matter of these.
+            lines = [line for line in done.stdout.decode().splitlines() if "referenced manual not found" not in line]
+            check(not lines, f"mandoc -Tlint {page}: {lines}")
+            shown = subprocess.run(["mandoc", "-Tutf8", where / page], capture_output=True, timeout=20, check=False)
+            check(len(shown.stdout) > 2000, f"mandoc {page}: nothing is shown")
+        check(time.monotonic() - began < 60, "mandoc takes long")
+        return f"mandoc -Tlint says nothing of either page, and both have version {VERSION}"
