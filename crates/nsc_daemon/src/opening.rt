@@ -6,9 +6,9 @@ ghost use Rattle.nsc_model.specs.declared.kind.Db.TheVariants as db_is;
 ghost use Rattle.nsc_daemon.specs.Ends.{IsOpeningFault};
 
 use crate::ended::Ended;
-use nsc_answer::Plain;
 use nsc_base::NoMemory;
 use nsc_database::{Database, DbPass, Opened, Room};
+use nsc_index::Indexed;
 use nsc_model::{Conf, Db};
 use nsc_outside::FileSet;
 use nsc_server::{Passes, Stores};
@@ -17,10 +17,10 @@ use std::alloc::Global;
 /// The databases, each with its first pass.
 #[derive(Drop)]
 pub struct Openings<F: FileSet + Drop> {
-    pub passwd: Opened<F, Plain>,
-    pub group: Opened<F, Plain>,
-    pub hosts: Opened<F, Plain>,
-    pub services: Opened<F, Plain>,
+    pub passwd: Opened<F, Indexed>,
+    pub group: Opened<F, Indexed>,
+    pub hosts: Opened<F, Indexed>,
+    pub services: Opened<F, Indexed>,
 }
 
 /// Opens a database over what its files hold.
@@ -29,7 +29,7 @@ fn opened<F: FileSet + Drop>(
     files: &mut F,
     db: Db,
     conf: &Conf,
-) -> Result<Opened<F, Plain>, Ended>
+) -> Result<Opened<F, Indexed>, Ended>
     requires { (settings_of conf.now db).size ≤ 65536 }
     ensures db { IfOk result (λ o. (o.db ≡ db) × (o.settings ≡ settings_of conf.now db) × (o.reloads ≡ conf.now.reloads)) }
     ensures held { IfOk result (λ o. F.held o.files ≡ F.held files.old) }
@@ -37,7 +37,7 @@ fn opened<F: FileSet + Drop>(
     ensures calm { OnOk result (F.faults files.new ≡ F.faults files.old) }
     ensures fault { IfErr result (λ ended. IsOpeningFault ended (F.faults files.old) (F.faults files.new)) }
 {
-    match Opened::open(alloc, files, Plain, db, conf) {
+    match Opened::open(alloc, files, Indexed, db, conf) {
         Ok(opened) => Ok(opened),
         Err(fault) => Err(Ended::from(fault)),
     }
@@ -69,7 +69,7 @@ impl<F: FileSet + Drop> Openings<F> {
     /// Enters a room, in which threads may share them.
     pub fn enter<B: Room>(
         self,
-    ) -> Result<(Stores<Database<F, Plain, B>>, Passes<DbPass<F, B>>), NoMemory>
+    ) -> Result<(Stores<Database<F, Indexed, B>>, Passes<DbPass<F, B>>), NoMemory>
         requires names { (self.passwd.db ≡ db_is.Passwd) × (self.group.db ≡ db_is.Group) × (self.hosts.db ≡ db_is.Hosts) × (self.services.db ≡ db_is.Services) }
         requires tables { (self.passwd.pass.table ≡ B.table db_is.Passwd) × (self.group.pass.table ≡ B.table db_is.Group) × (self.hosts.pass.table ≡ B.table db_is.Hosts) × (self.services.pass.table ≡ B.table db_is.Services) }
         requires passwd { (self.passwd.settings ≡ settings_of B.conf db_is.Passwd) × (self.passwd.reloads ≡ B.conf.reloads) × (F.held self.passwd.files ≡ B.held) }

@@ -10,7 +10,7 @@ use crate::actions::{ask, replay_under, serve};
 use crate::exit::Exit;
 use crate::form::Form;
 use crate::words::read_words;
-use nsc_answer::Plain;
+use nsc_index::Indexed;
 use nsc_model::Conf;
 use nsc_outside::{FileSet, Sink, Source};
 use nsc_sockets::{Clock, Listener};
@@ -47,7 +47,7 @@ pub fn replay<RT: AllocGlobal, R: Source, K: Sink>(
     // Where no fault came, the exit tells how the replay of the input ends, unless memory was wanting.
     ensures complete { NoFault (streams R.Source K.Sink input.old input.new output.old output.new) → IfSome (R.left input.old) (λ bytes. TellsEnd (replay conf.now bytes).finish result) }
 {
-    Exit::from(nsc_replay::replay(rt.alloc(), conf, &Plain, input, output))
+    Exit::from(nsc_replay::replay(rt.alloc(), conf, &Indexed, input, output))
 }
 
 /// Runs the command of these words, which leave out the program's own name. Words that have no form are `Usage`, and then

@@ -5,9 +5,9 @@ ghost use Rattle.nsc_workload.specs.Workload.{files_of};
 
 use crate::fixed_files::{FixedFiles, OfContent};
 use crate::workers::Work;
-use nsc_answer::Plain;
 use nsc_base::{NoMemory, Texts};
 use nsc_database::{Database, Room};
+use nsc_index::Indexed;
 use nsc_model::Store;
 use std::alloc::Global;
 use std::sync::Wait;
@@ -20,7 +20,7 @@ const SECONDS: u64 = 30;
 /// A workload that is to be done: its number, how many workers do it, and the database of users that they ask.
 #[derive(Drop)]
 pub(crate) struct Job<'d, C: OfContent, B: Room> {
-    pub(crate) database: &'d Database<FixedFiles<C>, Plain, B>,
+    pub(crate) database: &'d Database<FixedFiles<C>, Indexed, B>,
     pub(crate) number: u32,
     pub(crate) workers: u32,
     pub(crate) ghost number_fits: { (0 < number) × (number ≤ 1000) },

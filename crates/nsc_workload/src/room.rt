@@ -7,9 +7,9 @@ use crate::fixed_files::{FixedFiles, OfContent};
 use crate::job::Job;
 use crate::lines::lines;
 use crate::workers::all_replies;
-use nsc_answer::Plain;
 use nsc_base::NoMemory;
 use nsc_database::{Opened, Room};
+use nsc_index::Indexed;
 use nsc_model::{Conf, Content, Db};
 use std::alloc::Global;
 use std::marker::Brand;
@@ -33,7 +33,7 @@ pub(crate) fn lines_over<C: OfContent + Send, R: Threads + Wait + Sync>(
 {
     let conf = conf();
     let mut files: FixedFiles<C> = FixedFiles::new(alloc, content)?;
-    match Opened::open(alloc, &mut files, Plain, Db::Passwd, &conf) {
+    match Opened::open(alloc, &mut files, Indexed, Db::Passwd, &conf) {
         Ok(opened) => lines_in::<Brand, C, R>(rt, alloc, &conf, opened, number, workers),
         Err(_) => Err(NoMemory),
     }
@@ -53,7 +53,7 @@ fn lines_in<B: Room + Send, C: OfContent + Send, R: Threads + Wait + Sync>(
     rt: &R,
     alloc: Global,
     conf: &Conf,
-    opened: Opened<FixedFiles<C>, Plain>,
+    opened: Opened<FixedFiles<C>, Indexed>,
     number: u32,
     workers: u32,
 ) -> Result<Vec<u8>, NoMemory>

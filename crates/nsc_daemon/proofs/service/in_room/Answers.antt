@@ -1,6 +1,6 @@
 use denote.Param.Send.{sendable}
 use Rattle.std.proofs.Crossing.{crosses}
-use Rattle.nsc_answer.proofs.Crossing.{ready-send, ready-sync}
+use Rattle.nsc_index.proofs.Crossing.{ready-send, ready-sync}
 use Rattle.nsc_database.proofs.Crossing.{database-send, database-sync, pass-send}
 use Rattle.nsc_daemon.proofs.service.in_room.Goals as goal
 
