@@ -63,7 +63,8 @@ def packages():
     given = Path(tempfile.mkdtemp(prefix="nscd-packages-"))
     atexit.register(shutil.rmtree, given)
     program = a_program(given)
-    done = subprocess.run([ROOT / "dist/make-deb", given], capture_output=True, timeout=60, check=False, env={**os.environ, "NSCD": str(program)})
+    environment = {**os.environ, "NSCD": str(program)}
+    done = subprocess.run([ROOT / "dist/make-deb", given], capture_output=True, timeout=60, check=False, env=environment)
     check(done.returncode == 0, f"make-deb: {done.stderr.decode()}")
     made = done.stdout.decode().strip()
     fields = subprocess.run(["dpkg-deb", "-f", made], capture_output=True, timeout=60, check=True).stdout.decode()
