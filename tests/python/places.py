@@ -11,7 +11,7 @@ from contextlib import contextmanager
 from pathlib import Path
 
 from frames import ROOT
-from running import PROGRAM, check
+from running import PROGRAM, Fault, check
 from tables import DATABASES, MAN, options
 
 # Where make install has things, under PREFIX and SYSCONFDIR, and their modes.
@@ -199,7 +199,7 @@ zpty -w shell "PS1=; stty -echo; fpath=($1 \$fpath); autoload -Uz compinit; comp
 zpty -w shell "zstyle ':completion:*' menu no; setopt no_beep; nscd() { : }; print rea''dy"
 zpty -r shell line '*ready*' || exit 1
 zpty -w -n shell "nscd $2"$'\t\t'
-sleep 1
+sleep $3
 zpty -w shell $'\C-uprint do''ne'
 zpty -r shell line '*done*'
 print -r -- $line
@@ -215,16 +215,20 @@ def zsh_case(where):
     for option in options():
         for word in option.words():
             check(re.search(rf"\){re.escape(word)}[+=]?\[", told), f"zsh: no {word}")
-    try:
-        done = subprocess.run(["zsh", "-f", "-c", ZSH, "zsh", where, "-"], capture_output=True, timeout=20, check=False)
-    except subprocess.TimeoutExpired:
-        return "zsh reads its completion, which was not tried by a key, since no terminal answers here"
-    shown = done.stdout.decode(errors="replace")
-    if done.returncode != 0:
-        return "zsh reads its completion, which was not tried by a key, since no terminal may be had here"
-    for option in options():
-        check(f"--{option.long} " in shown.replace("\r", " "), f"zsh: --{option.long} is not completed: {shown!r}")
-    return "zsh completes each option"
+    # A busy machine may take its time.
+    for seconds in ("1", "4", "10"):
+        try:
+            words = ["zsh", "-f", "-c", ZSH, "zsh", where, "-", seconds]
+            done = subprocess.run(words, capture_output=True, timeout=40, check=False)
+        except subprocess.TimeoutExpired:
+            return "zsh reads its completion, which was not tried by a key, since no terminal answers here"
+        if done.returncode != 0:
+            return "zsh reads its completion, which was not tried by a key, since no terminal may be had here"
+        shown = done.stdout.decode(errors="replace").replace("\r", " ")
+        missing = [option.long for option in options() if f"--{option.long} " not in shown]
+        if not missing:
+            return "zsh completes each option"
+    raise Fault(f"zsh: {missing} are not completed: {shown!r}")
 
 
 def completions_case():
