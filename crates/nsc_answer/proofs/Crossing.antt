@@ -12,10 +12,10 @@ step-send = search (sendable, crosses) depth 30
 step-sync : IsSync step.the_row
 step-sync = search (sendable, crosses) depth 30
 
-lists-send : IsSend lists.the_row
+pub lists-send : IsSend lists.the_row
 lists-send = search (sendable, crosses, step-send) depth 30
 
-lists-sync : IsSync lists.the_row
+pub lists-sync : IsSync lists.the_row
 lists-sync = search (sendable, crosses, step-sync) depth 30
 
 pub ready-send : IsSend listed.the_row

@@ -5,4 +5,4 @@ mod listed;
 mod plain;
 
 pub use listed::Listed;
-pub use plain::Plain;
+pub use plain::{Plain, answer_with};

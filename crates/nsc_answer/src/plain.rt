@@ -40,8 +40,8 @@ impl Answerer for Plain {
     }
 }
 
-// The answer that an outcome gives: a reply, and a mark where nothing was found.
-fn answer_with(alloc: Global, kind: Kind, looked: Looked) -> Result<Answer, NoMemory>
+/// The answer that an outcome of a kind gives: its reply, and a mark where nothing was found. Fails only for want of memory.
+pub fn answer_with(alloc: Global, kind: Kind, looked: Looked) -> Result<Answer, NoMemory>
     requires of_kind { IsReplyOf kind (reply_to looked) }
     requires fits { length (spelled kind (reply_to looked)) ≤ reply_limit }
     ensures { IfOk result (λ answer. answer ≡ marked kind looked) }

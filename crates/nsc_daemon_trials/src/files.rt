@@ -2,7 +2,7 @@
 
 use nsc_base::{Bytes, NoMemory};
 use nsc_model::{Content, FileId};
-use nsc_outside::{HeldFiles, Hold, MemFiles, Release};
+use nsc_outside::{HeldFiles, Hold, Release};
 use std::alloc::Global;
 use std::time::Clock;
 
@@ -12,17 +12,9 @@ const SH: &[u8] = b"root:x:0:0:root:/root:/bin/sh\n";
 
 const HOSTS: &[u8] = b"127.0.0.1 localhost\n";
 
-/// A set of files in which root is the one user and localhost the one host, and which does not change. The reads with these
-/// numbers fail.
-pub fn still(alloc: Global, failing: &[u64]) -> Result<MemFiles, NoMemory> {
-    MemFiles::new(alloc)?
-        .with_file(alloc, FileId::Passwd, Some(Bytes::copy(alloc, BASH)?))?
-        .with_file(alloc, FileId::Hosts, Some(Bytes::copy(alloc, HOSTS)?))?
-        .failing_at(alloc, Vec::from_slice(alloc, failing)?)
-}
-
-/// The same files, of which those reads wait, and in which root has another shell once the flag is set.
-pub fn held<R: Clock + Clone + Drop>(
+/// A set of files in which root is the one user and localhost the one host, and of which those reads wait. Root has another
+/// shell once the flag is set.
+pub fn files<R: Clock + Clone + Drop>(
     clock: R,
     alloc: Global,
     changed: Release,

@@ -8,52 +8,34 @@ mod showing;
 mod trial;
 mod trials;
 
-use files::{held, still};
-use nsc_base::{Bytes, NoMemory};
+use files::files;
+use nsc_base::NoMemory;
 use nsc_outside::{MemSink, MemSource};
 use nsc_run::run;
-use nsc_sockets::{CalmListener, MemClock, MemListener};
+use nsc_sockets::{MemClock, MemListener};
 use showing::{show, show_sent};
 use std::alloc::Global;
 use std::io;
-use trial::{HeldTrial, Trial};
-use trials::{held_trials, still_trials};
+use trial::Trial;
+use trials::trials;
 
 // How many bytes the program may write.
 const ROOM: usize = 4096;
 
 fn main(rt: HostRuntime) -> io::Result<()> {
     let alloc = rt.alloc();
-    for trial in still_trials(alloc).map_err(wanting)? {
+    for trial in trials(alloc).map_err(wanting)? {
         let Trial {
             name,
             words,
-            failing,
-            arrivals,
-            readers,
-        } = trial;
-        let words = owned(alloc, words).map_err(wanting)?;
-        let mut output = MemSink::new(alloc, ROOM).map_err(wanting)?;
-        let exit = run(
-            &rt,
-            words.as_slice(),
-            &mut MemSource::new(Vec::new(alloc)),
-            &mut output,
-            &mut still(alloc, failing).map_err(wanting)?,
-            &mut MemClock::new(0, 0),
-            &mut MemListener::new(alloc, arrivals, Vec::new(alloc)).map_err(wanting)?,
-        );
-        show(&rt, name, exit, output.taken())?;
-        show_sent(&rt, alloc, readers.as_slice())?;
-    }
-    for trial in held_trials(alloc).map_err(wanting)? {
-        let HeldTrial {
-            trial,
             step,
             changed,
             hold,
+            arrivals,
+            peers,
+            readers,
         } = trial;
-        let words = owned(alloc, trial.words).map_err(wanting)?;
+        let words = owned(alloc, words).map_err(wanting)?;
         let mut output = MemSink::new(alloc, ROOM).map_err(wanting)?;
         let system: Result<_, _> = rt.clone();
         let exit = run(
@@ -61,28 +43,14 @@ fn main(rt: HostRuntime) -> io::Result<()> {
             words.as_slice(),
             &mut MemSource::new(Vec::new(alloc)),
             &mut output,
-            &mut held(system?, alloc, changed, hold).map_err(wanting)?,
+            &mut files(system?, alloc, changed, hold).map_err(wanting)?,
             &mut MemClock::new(0, step),
-            &mut MemListener::new(alloc, trial.arrivals, Vec::new(alloc)).map_err(wanting)?,
+            &mut MemListener::new(alloc, arrivals, peers).map_err(wanting)?,
         );
-        show(&rt, trial.name, exit, output.taken())?;
-        show_sent(&rt, alloc, trial.readers.as_slice())?;
+        show(&rt, name, exit, output.taken())?;
+        show_sent(&rt, alloc, readers.as_slice())?;
     }
-    // A daemon that is told to end replies with another number than 0.
-    let mut peers = Vec::new(alloc);
-    peers.push(Bytes::copy(alloc, b"\x01\0\0\0").map_err(wanting)?)?;
-    let words = owned(alloc, &["-K"]).map_err(wanting)?;
-    let mut output = MemSink::new(alloc, ROOM).map_err(wanting)?;
-    let exit = run(
-        &rt,
-        words.as_slice(),
-        &mut MemSource::new(Vec::new(alloc)),
-        &mut output,
-        &mut still(alloc, &[]).map_err(wanting)?,
-        &mut MemClock::new(0, 0),
-        &mut CalmListener::new(peers),
-    );
-    show(&rt, "a bad reply", exit, output.taken())
+    Ok(())
 }
 
 // The words as the program has them.

@@ -1,42 +1,49 @@
 use nsc_base::{Bytes, NoMemory};
+use nsc_model::FileId;
 use nsc_outside::{Hold, Release};
-use nsc_sockets::{Arrival, Role, SharedSink, SinkReader};
+use nsc_sockets::{Arrival, Peer, Role, SharedSink, SinkReader};
 use std::alloc::Global;
 
 // How many bytes a peer takes at most.
 const ROOM: usize = 4096;
 
-/// A trial over files that do not change: the words of the program, which reads fail, and who comes, in order. What each peer is
-/// sent can be read after it.
+/// A trial: the words of the program, how many seconds lie between two looks at the clock, when the users change, which reads wait,
+/// who comes, in order, and to whom the program connects. What each peer is sent can be read after it.
 #[derive(Drop)]
 pub struct Trial {
     pub name: &'static str,
     pub words: &'static [&'static str],
-    pub failing: &'static [u64],
-    pub arrivals: Vec<Arrival>,
-    pub readers: Vec<SinkReader>,
-}
-
-/// A trial over files of which some reads wait, and which change once a flag is set, with so many seconds between two looks at the
-/// clock.
-#[derive(Drop)]
-pub struct HeldTrial {
-    pub trial: Trial,
     pub step: u64,
     pub changed: Release,
     pub hold: Hold,
+    pub arrivals: Vec<Arrival>,
+    pub peers: Vec<Peer>,
+    pub readers: Vec<SinkReader>,
 }
 
 impl Trial {
-    /// Nobody comes, and no read fails.
-    pub fn new(alloc: Global, name: &'static str, words: &'static [&'static str]) -> Trial {
-        Trial {
+    /// Nobody comes, nothing changes, no read waits, and the clock stands still.
+    pub fn new(
+        alloc: Global,
+        name: &'static str,
+        words: &'static [&'static str],
+    ) -> Result<Trial, NoMemory> {
+        Ok(Trial {
             name,
             words,
-            failing: &[],
+            step: 0,
+            changed: Release::new(alloc)?,
+            hold: hold_from(alloc, u64::MAX, Release::new(alloc)?)?,
             arrivals: Vec::new(alloc),
+            peers: Vec::new(alloc),
             readers: Vec::new(alloc),
-        }
+        })
+    }
+
+    /// All reads of users but that of the start wait until the flag is set.
+    pub fn hold_until(&mut self, alloc: Global, until: Release) -> Result<(), NoMemory> {
+        self.hold = hold_from(alloc, 2, until)?;
+        Ok(())
     }
 
     /// Then a peer comes, who sends these bytes.
@@ -78,4 +85,23 @@ impl Trial {
         self.arrivals.push(arrival)?;
         Ok(())
     }
+
+    /// The program reaches a daemon that sends these bytes.
+    pub fn reach(&mut self, alloc: Global, input: &[u8]) -> Result<(), NoMemory> {
+        let output = SharedSink::new(alloc, ROOM)?;
+        self.readers.push(output.reader()?)?;
+        let input = Bytes::copy(alloc, input)?;
+        self.peers.push(Peer { input, output })?;
+        Ok(())
+    }
+}
+
+// The reads of users that wait, by the number of the first.
+fn hold_from(alloc: Global, from: u64, until: Release) -> Result<Hold, NoMemory> {
+    Ok(Hold {
+        file: FileId::Passwd,
+        from,
+        reached: Release::new(alloc)?,
+        until,
+    })
 }

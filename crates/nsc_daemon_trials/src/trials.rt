@@ -2,10 +2,9 @@ use crate::requests::{
     DESCRIPTOR, INVALIDATE_PASSWD, INVALIDATE_SHADOW, LOCALHOST, LONG_KEY, LONGEST_KEY,
     NEGATIVE_KEY, NO_KEY, NO_TYPE, OLD_VERSION, ROOT, SHORT, SHUTDOWN, TWO,
 };
-use crate::trial::{HeldTrial, Trial};
+use crate::trial::Trial;
 use nsc_base::NoMemory;
-use nsc_model::FileId;
-use nsc_outside::{Hold, Release};
+use nsc_outside::Release;
 use nsc_sockets::{Arrival, Role};
 use std::alloc::Global;
 
@@ -17,15 +16,14 @@ const BOTH: &[&str] = &["-t", "2"];
 // The longest key that a request may have, in bytes.
 const LONGEST: usize = 1024;
 
-// The read of the users that a first lookup makes: the configuration is read first, then ten files for the four databases, and
-// then for the lookup the service lists before the users.
-const SECOND_USERS: &[u64] = &[13];
-
-/// The trials over files that do not change.
-pub fn still_trials(alloc: Global) -> Result<Vec<Trial>, NoMemory> {
+/// The trials, in order.
+pub fn trials(alloc: Global) -> Result<Vec<Trial>, NoMemory> {
     let mut trials = Vec::new(alloc);
     trials.push(in_turn(alloc, "one worker", &[(Role::Plain, ROOT)])?)?;
-    trials.push(Trial::new(alloc, "no connection", ONE))?;
+    trials.push(two_workers(alloc)?)?;
+    trials.push(Trial::new(alloc, "no connection", ONE)?)?;
+    trials.push(bad_reply(alloc)?)?;
+    trials.push(tick(alloc)?)?;
     trials.push(keys(alloc)?)?;
     trials.push(refused(alloc)?)?;
     trials.push(orders(alloc)?)?;
@@ -34,17 +32,9 @@ pub fn still_trials(alloc: Global) -> Result<Vec<Trial>, NoMemory> {
     Ok(trials)
 }
 
-/// The trials over files that wait, or change.
-pub fn held_trials(alloc: Global) -> Result<Vec<HeldTrial>, NoMemory> {
-    let mut trials = Vec::new(alloc);
-    trials.push(two_workers(alloc)?)?;
-    trials.push(tick(alloc)?)?;
-    Ok(trials)
-}
-
 // These peers, one after another, and then one that ends the daemon.
 fn in_turn(alloc: Global, name: &'static str, peers: &[(Role, &[u8])]) -> Result<Trial, NoMemory> {
-    let mut trial = Trial::new(alloc, name, ONE);
+    let mut trial = Trial::new(alloc, name, ONE)?;
     for (role, input) in peers {
         trial.peer(alloc, *role, input)?;
     }
@@ -96,57 +86,48 @@ fn orders(alloc: Global) -> Result<Trial, NoMemory> {
     in_turn(alloc, "orders", &peers)
 }
 
-// The users cannot be read for the first lookup, and can for the next.
-fn failing_read(alloc: Global) -> Result<Trial, NoMemory> {
-    let peers: [(Role, &[u8]); 2] = [(Role::Plain, ROOT), (Role::Plain, ROOT)];
-    let mut trial = in_turn(alloc, "a read that fails", &peers)?;
-    trial.failing = SECOND_USERS;
-    Ok(trial)
-}
-
 // The lookup of a user waits in its read until the next peer has the reply of a host, so two workers are needed.
-fn two_workers(alloc: Global) -> Result<HeldTrial, NoMemory> {
+fn two_workers(alloc: Global) -> Result<Trial, NoMemory> {
     let answered = Release::new(alloc)?;
-    let hold = Hold {
-        file: FileId::Passwd,
-        from: 2,
-        reached: Release::new(alloc)?,
-        until: answered.share()?,
-    };
-    let mut trial = Trial::new(alloc, "two workers", BOTH);
+    let mut trial = Trial::new(alloc, "two workers", BOTH)?;
+    trial.hold_until(alloc, answered.share()?)?;
     trial.peer(alloc, Role::Plain, ROOT)?;
     trial.peer_setting(alloc, Role::Plain, LOCALHOST, answered)?;
     trial.peer(alloc, Role::Admin, SHUTDOWN)?;
-    Ok(HeldTrial {
-        trial,
-        step: 0,
-        changed: Release::new(alloc)?,
-        hold,
-    })
+    Ok(trial)
+}
+
+// With one worker the same read gives up, so the first lookup fails. Then the host is answered, and the users can be read again.
+fn failing_read(alloc: Global) -> Result<Trial, NoMemory> {
+    let answered = Release::new(alloc)?;
+    let mut trial = Trial::new(alloc, "a read that fails", ONE)?;
+    trial.hold_until(alloc, answered.share()?)?;
+    trial.peer(alloc, Role::Plain, ROOT)?;
+    trial.peer_setting(alloc, Role::Plain, LOCALHOST, answered)?;
+    trial.peer(alloc, Role::Plain, ROOT)?;
+    trial.peer(alloc, Role::Admin, SHUTDOWN)?;
+    Ok(trial)
 }
 
 // The users change once the first lookup is answered. Fifteen seconds pass between any two looks at the clock, so each turn ticks,
-// and the second lookup finds them as they are. No read waits.
-fn tick(alloc: Global) -> Result<HeldTrial, NoMemory> {
+// and the second lookup finds them as they are.
+fn tick(alloc: Global) -> Result<Trial, NoMemory> {
     let answered = Release::new(alloc)?;
+    let mut trial = Trial::new(alloc, "a tick", ONE)?;
+    trial.step = 15;
+    trial.changed = answered.share()?;
     let is_answered = answered.share()?;
-    let changed = answered.share()?;
-    let hold = Hold {
-        file: FileId::Passwd,
-        from: u64::MAX,
-        reached: Release::new(alloc)?,
-        until: Release::new(alloc)?,
-    };
-    let mut trial = Trial::new(alloc, "a tick", ONE);
     trial.peer_setting(alloc, Role::Plain, ROOT, answered)?;
     trial.then(Arrival::QuietUntil(is_answered))?;
     trial.then(Arrival::Quiet)?;
     trial.peer(alloc, Role::Plain, ROOT)?;
     trial.peer(alloc, Role::Admin, SHUTDOWN)?;
-    Ok(HeldTrial {
-        trial,
-        step: 15,
-        changed,
-        hold,
-    })
+    Ok(trial)
+}
+
+// A daemon that is told to end replies with another number than 0.
+fn bad_reply(alloc: Global) -> Result<Trial, NoMemory> {
+    let mut trial = Trial::new(alloc, "a bad reply", &["-K"])?;
+    trial.reach(alloc, b"\x01\0\0\0")?;
+    Ok(trial)
 }

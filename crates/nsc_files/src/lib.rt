@@ -8,3 +8,4 @@ mod services;
 mod users;
 
 pub use lookup::{extra_lookup, files_lookup};
+pub use services::{key_parts, key_port};

@@ -15,7 +15,7 @@ use std::alloc::Global;
 pub fn service_by_name(alloc: Global, text: &[u8], key: &[u8]) -> Result<Looked, NoMemory>
     ensures { IfOk result (λ looked. looked ≡ file_entry Row.Service service_of_line (key_named (service_key key.now)) (Some text.now)) }
 {
-    let (name, proto) = parts(key);
+    let (name, proto) = key_parts(key);
     match find_service(text, name, proto) {
         Some(at) => Ok(Looked::Found(Row::Service(service_row(alloc, text, &at)?))),
         None => Ok(Looked::NotFound),
@@ -28,7 +28,7 @@ pub fn service_by_name(alloc: Global, text: &[u8], key: &[u8]) -> Result<Looked,
 pub fn service_by_port(alloc: Global, text: &[u8], key: &[u8]) -> Result<Looked, NoMemory>
     ensures { IfOk result (λ looked. looked ≡ file_entry Row.Service service_of_line (key_ported (service_key key.now)) (Some text.now)) }
 {
-    let (asked, proto) = parts(key);
+    let (asked, proto) = key_parts(key);
     let Some(port) = key_port(asked) else {
         return Ok(Looked::NotFound);
     };
@@ -38,8 +38,8 @@ pub fn service_by_port(alloc: Global, text: &[u8], key: &[u8]) -> Result<Looked,
     }
 }
 
-// What stands before the last slash of a key and what stands after it; the whole key and nothing where it has none.
-fn parts(key: &[u8]) -> (&[u8], &[u8])
+/// What stands before the last slash of a key and what stands after it; the whole key and nothing where it has none.
+pub fn key_parts(key: &[u8]) -> (&[u8], &[u8])
     ensures { record { asked = result.0.now; proto = result.1.now } ≡ service_key key.now }
 {
     match memrchr(b'/', key) {
@@ -48,8 +48,8 @@ fn parts(key: &[u8]) -> (&[u8], &[u8])
     }
 }
 
-// The port that a key spells in decimal with its two bytes exchanged.
-fn key_port(text: &[u8]) -> Option<u16>
+/// The port that a key spells in decimal with its two bytes exchanged. `None` where it spells none.
+pub fn key_port(text: &[u8]) -> Option<u16>
     ensures { result ≡ option_map exchanged (port_of text.now) }
 {
     let number = decimal(text)?;

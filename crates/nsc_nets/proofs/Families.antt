@@ -21,10 +21,10 @@ use Rattle.nsc_nets.proofs.Unnamed.{no_host_called}
 
 -- ---- every host of a file is of one family or of the other
 
-abbrev IsFamily : ℕ → Type 0
+abbrev pub IsFamily : ℕ → Type 0
 IsFamily family = (family ≡ 2) ⊎ (family ≡ 10)
 
-abbrev AreFamilies : List Host → Type 0
+abbrev pub AreFamilies : List Host → Type 0
 AreFamilies [] = Unit {0}
 AreFamilies (h ∷ hosts) = IsFamily h.family × AreFamilies hosts
 
@@ -79,7 +79,7 @@ once_families (h ∷ hosts) all = (all.0, kept_families (λ other. not (other.fa
 
 -- ---- the first of the other family
 
-abbrev is_other : ℕ → Host → Bool
+abbrev pub is_other : ℕ → Host → Bool
 is_other family h = not (h.family == family)
 
 abbrev pub at_most_one : Option Host → List Host
@@ -117,7 +117,7 @@ twice test (h ∷ hosts) =
       | false ↦ λ is. twice test hosts
     ] refl
 
-once_other : (f : ℕ) (hosts : List Host) → IsFamily f → AreFamilies hosts → filter (is_other f) (family_once hosts) ≡ at_most_one (first_of (filter (is_other f) hosts))
+pub once_other : (f : ℕ) (hosts : List Host) → IsFamily f → AreFamilies hosts → filter (is_other f) (family_once hosts) ≡ at_most_one (first_of (filter (is_other f) hosts))
 once_other f [] is_f all = refl
 once_other f (h ∷ hosts) is_f all =
     let rest = filter (is_other h.family) (family_once hosts) in
@@ -147,7 +147,7 @@ filter-both test names (h ∷ hosts) =
           ]
     ]
 
-file_families : (name file : List ℕ) → AreFamilies (named_in host_of_line (host_has_name name) file)
+pub file_families : (name file : List ℕ) → AreFamilies (named_in host_of_line (host_has_name name) file)
 file_families name file = kept_families (host_has_name name) (filter_map host_of_line (lines_of file)) (lines_families (lines_of file))
 
 once_found : (name file : List ℕ) (h : Host) → IsFamily h.family → family_once (h ∷ named_in host_of_line (host_has_name name) file) ≡ h ∷ at_most_one (first_named host_of_line (of_other_family h.family name) file)
@@ -156,7 +156,7 @@ once_found name file h is =
     ap (λ (hs : List Host). h ∷ hs) (once_other h.family (named_in host_of_line (host_has_name name) file) is (file_families name file)
     ∙ ap (λ (hs : List Host). at_most_one (first_of hs)) (filter-both (is_other h.family) (host_has_name name) all))
 
-made : (text : List ℕ) (first : HostAt) (other : Option HostAt) → Some (record { list = found_at first ∷ founds_at other; canon = part text first.name }) ≡ all_addresses (host_at text first ∷ at_most_one (option_map (host_at text) other))
+pub made : (text : List ℕ) (first : HostAt) (other : Option HostAt) → Some (record { list = found_at first ∷ founds_at other; canon = part text first.name }) ≡ all_addresses (host_at text first ∷ at_most_one (option_map (host_at text) other))
 made text first None = refl
 made text first (Some other) = refl
 

@@ -23,7 +23,7 @@ pub fn ai_of(alloc: Global, text: &[u8], name: &[u8]) -> Result<Option<Ai>, NoMe
     while let Some(line) = line_with(text, from, name, Case::Ignored) {
         if let Some(first) = called_host(text, line.span, name) {
             let other = other_from(text, line.next, name, first.family);
-            return Ok(Some(addresses(alloc, text, first, other)?));
+            return Ok(Some(ai_row(alloc, text, first, other)?));
         }
         from = line.next;
     }
@@ -58,8 +58,9 @@ fn other_host(text: &[u8], line: Span, name: &[u8], family: u8) -> Option<HostAt
     }
 }
 
-// The addresses of a host, with the name of the first.
-fn addresses(
+/// The addresses of a host whose first entry stands at these places of a text, and perhaps one of the other family at others, with
+/// copies of them and of the name of the first. Fails only for want of memory.
+pub fn ai_row(
     alloc: Global,
     text: &[u8],
     first: HostAt,

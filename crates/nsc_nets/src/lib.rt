@@ -9,7 +9,7 @@ mod rows;
 mod services;
 mod words;
 
-pub use addresses::ai_of;
+pub use addresses::{ai_of, ai_row};
 pub use find::{find_host, find_host_by_addr, find_service, find_service_by_port};
 pub use hosts::{HostAt, host_line};
 pub use rows::{host_row, service_row};

@@ -9,15 +9,17 @@ use std::alloc::Global;
 
 /// Where a switch ended: the service, and its outcome.
 #[derive(Drop)]
-pub(crate) struct Decided {
+pub struct Decided {
+    /// The service; where there is no step, one that is not built in.
     pub service: SwitchService,
+    /// Its outcome.
     pub outcome: Looked,
 }
 
 /// The switch over these steps: it ends at the first one whose action at its outcome's status is not to continue, or else
 /// at the last. Over no step it is unavailable. Fails only for want of memory.
 #[tactic(auto, using(crate::proofs::Turns::switch_picks, crate::proofs::Turns::deciding_picks))]
-pub(crate) fn decide<V: ServiceLook>(
+pub fn decide<V: ServiceLook>(
     alloc: Global,
     services: &V,
     steps: &[SwitchStep],

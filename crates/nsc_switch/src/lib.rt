@@ -7,6 +7,7 @@ mod lists;
 mod outcome;
 mod services;
 
+pub use decided::{Decided, decide};
 pub use lists::Lists;
 pub use outcome::{switch, switch_by, switch_over};
 pub use services::{PlainServices, ServiceLook};

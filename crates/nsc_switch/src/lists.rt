@@ -59,7 +59,7 @@ impl Lists {
     }
 
     /// The list that the compat lines of a database ask. Hosts and services have no compat, so theirs is never asked.
-    pub(crate) fn compat_list(&self, db: Db) -> &[SwitchStep]
+    pub fn compat_list(&self, db: Db) -> &[SwitchStep]
         ensures { result.now ≡ compat_list_in self.now db }
     {
         match db {

@@ -9,7 +9,7 @@ use Rattle.nsc_nets.proofs.addresses.ai_of.Goals as goal
 
 pub returns-in-Some-called_host : goal.returns-in-Some-called_host
 returns-in-Some-called_host c =
-    ap (λ (ai : Ai). Some ai) c.in_ok-addresses.ensures
+    ap (λ (ai : Ai). Some ai) c.in_ok-ai_row.ensures
     ∙ addresses_are c.args.name.now c.args.text.now c.loop-line.from c.in-Some.line c.in-Some-called_host.first c.other_from-other.result c.in-Some.ensures c.in-Some-called_host.ensures.entry c.other_from-other.ensures c.loop-line.invariant.left
 
 pub loop-line-preserved : goal.loop-line-preserved

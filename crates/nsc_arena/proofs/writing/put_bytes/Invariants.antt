@@ -1,0 +1,7 @@
+use Rattle.std.proofs.Common.{◌≡◌}
+use Rattle.nsc_words.specs.Words.{word_of}
+use Rattle.nsc_arena.specs.Written.{IsWritten}
+use Rattle.nsc_arena.proofs.writing.put_bytes.Given as goal
+
+abbrev pub invariant-loop-index : goal.invariant-loop-index
+invariant-loop-index g l = IsWritten (g.W.Words.words l.initial.table) (g.W.Words.words l.table) l.at l.index (word_of l.bytes) × (g.W.Words.can_set l.table ≡ g.W.Words.can_set l.initial.table)

@@ -1,0 +1,25 @@
+//! The nodes of a cache in the words of its table: placed one after the other, chained by the hash of their requests, found, ended,
+//! and slid together. What is known of the memory is a trait.
+#![tactic(auto)]
+
+mod chaining;
+mod changing;
+mod laws;
+mod memory;
+mod numbers;
+mod placing;
+mod reading;
+mod sliding;
+mod walking;
+mod writing;
+
+pub use chaining::chain;
+pub use changing::{end_node, set_reloads};
+pub use laws::nodes_are_read_back;
+pub use memory::{Reading, VecWords, Words};
+pub use nsc_words::{Node, Placed};
+pub use numbers::find_number;
+pub use placing::{Fixed, place, place_bytes};
+pub use reading::{Head, head_at, read_bytes};
+pub use sliding::{clear, slide};
+pub use walking::walk;

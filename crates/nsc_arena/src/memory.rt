@@ -1,0 +1,117 @@
+ghost use Rattle.std.specs.Prelude.{◌≡◌, ◌<◌, replicate, length, slice_index, slice_set, true, IfOk};
+
+use nsc_base::NoMemory;
+use std::alloc::Global;
+use std::marker::Model;
+
+/// The words of a table, which one caller reads and writes: all that is known of its memory. A place is a word's number from 0 on.
+pub trait Words {
+    ghost use Rattle.std.specs.Prelude.{ℕ, List, Bool};
+
+    ghost words: { Self → List ℕ };
+
+    ghost can_set: { Self → ℕ → Bool };
+
+    /// How many words there are.
+    fn len(&self) -> usize
+        ensures { result ≡ length (words self.now) };
+
+    /// The word at a place.
+    fn get(&mut self, at: usize) -> u64
+        requires { at < length (words self.old) }
+        ensures value { result ≡ slice_index (words self.old) at }
+        ensures same { words self.new ≡ words self.old }
+        ensures open { can_set self.new ≡ can_set self.old };
+
+    /// Sets the word at a place, which is one that may be set.
+    fn set(&mut self, at: usize, value: u64)
+        requires inside { at < length (words self.old) }
+        requires open { can_set self.old at ≡ true }
+        ensures set { words self.new ≡ slice_set (words self.old) at value }
+        ensures open { can_set self.new ≡ can_set self.old };
+}
+
+/// Words in memory of one owner, each of which may be set.
+#[derive(Debug, Drop)]
+pub struct VecWords {
+    words: Vec<u64>,
+}
+
+impl Model for VecWords {
+    ghost use Rattle.std.specs.Prelude.{List, ℕ};
+
+    ghost Value = { List ℕ };
+
+    ghost view = { λ w. w.words.items };
+}
+
+impl VecWords {
+    /// Words that are 0. Fails only for want of memory.
+    pub fn new(alloc: Global, len: usize) -> Result<VecWords, NoMemory>
+        ensures { IfOk result (λ words. words ≡ replicate len 0) }
+    {
+        Ok(VecWords {
+            words: vec![in alloc; 0; len]?,
+        })
+    }
+
+    /// The word at a place.
+    pub fn word(&self, at: usize) -> u64
+        requires { at < length self.now }
+        ensures { result ≡ slice_index self.now at }
+    {
+        self.words[at]
+    }
+
+    /// The words, lent to be read alone.
+    pub fn reading(&self) -> Reading<'_>
+        ensures { result.words.now ≡ self.now }
+    {
+        Reading { words: self }
+    }
+}
+
+impl Words for VecWords {
+    ghost use Rattle.std.specs.Prelude.{true};
+
+    ghost words = { λ w. w };
+
+    ghost can_set = { λ w at. true };
+
+    fn len(&self) -> usize {
+        self.words.len()
+    }
+
+    fn get(&mut self, at: usize) -> u64 {
+        self.words[at]
+    }
+
+    fn set(&mut self, at: usize, value: u64) {
+        self.words[at] = value;
+    }
+}
+
+/// Words that are lent to be read alone: none may be set.
+#[derive(Debug, Drop)]
+pub struct Reading<'a> {
+    words: &'a VecWords,
+}
+
+impl Words for Reading<'_> {
+    ghost use Rattle.std.specs.Prelude.{false};
+
+    ghost words = { λ r. r.words.now };
+
+    ghost can_set = { λ r at. false };
+
+    fn len(&self) -> usize {
+        let words: &VecWords = self.words;
+        words.words.len()
+    }
+
+    fn get(&mut self, at: usize) -> u64 {
+        self.words.word(at)
+    }
+
+    fn set(&mut self, _at: usize, _value: u64) {}
+}

@@ -1,0 +1,42 @@
+-- The first line of a passwd file that is named, by its index.
+use Rattle.std.proofs.Common.{◌≡◌, ℕ, ◌==◌, List, filter, Option, option_and_then, refl, sym}
+use Rattle.std.specs.List.{slice_get}
+use Rattle.std.specs.Option.{option_map}
+use Rattle.std.specs.Str.{bytes_eq}
+use Rattle.std.specs.Cmp.{unsigned_ties}
+use Rattle.std.specs.Cmp.Lexicographic.{texts_ties}
+use Rattle.nsc_base.specs.declared.search.Case.TheVariants.{Counts}
+use Rattle.nsc_base.specs.Text.{part}
+use Rattle.nsc_model.specs.Entries.{first_named}
+use Rattle.nsc_model.specs.Users.{user_of_line}
+use Rattle.nsc_model.proofs.Firsts.{first_is}
+use Rattle.nsc_accounts.specs.Passwd.{GivesUser, user_at, user_places}
+use Rattle.nsc_accounts.specs.declared.passwd.PasswdAt.{PasswdAt}
+use Rattle.nsc_accounts.proofs.Named.{user_given}
+use Rattle.nsc_index.specs.declared.names.NameAt.{NameAt}
+use Rattle.nsc_index.specs.declared.numbers.NumberAt.{NumberAt}
+use Rattle.nsc_index.specs.declared.users.UserIndex.{UserIndex}
+use Rattle.nsc_index.specs.Indexes.{on_line}
+use Rattle.nsc_index.specs.Names.{has_name, place_of_name}
+use Rattle.nsc_index.specs.Numbers.{has_number, place_of_number}
+use Rattle.nsc_index.specs.Users.{IsUserIndex, user_ids, user_names}
+use Rattle.nsc_index.proofs.LineRows.{RowsOf, found_on, one_row}
+
+rows_of_name : (text name : List ℕ) → RowsOf (user_places text) (λ at. bytes_eq (part text at.name) name) (user_names text) (has_name Counts text name) (λ at. at.line)
+rows_of_name text name = one_row (user_places text) (λ at. bytes_eq (part text at.name) name) (λ line at. place_of_name line at.name) (has_name Counts text name) (λ at. at.line) (λ line at. sym (texts_ties (part text at.name) name)) (λ line at. refl)
+
+rows_of_id : (text : List ℕ) (uid : ℕ) → RowsOf (user_places text) (λ at. at.uid == uid) (user_ids text) (has_number uid) (λ at. at.line)
+rows_of_id text uid = one_row (user_places text) (λ at. at.uid == uid) (λ line at. place_of_number line at.uid) (has_number uid) (λ at. at.line) (λ line at. sym (unsigned_ties at.uid uid)) (λ line at. refl)
+
+module _ (text : List ℕ) (index : UserIndex) (is : IsUserIndex text index) where
+  pub by_name : (name : List ℕ) (slice : List NameAt) (first : Option NameAt) (found : Option PasswdAt) → slice ≡ filter (has_name Counts text name) index.names.items → first ≡ slice_get slice 0 → found ≡ option_and_then (λ at. on_line (user_places text) text at.line) first
+      → option_map (user_at text) found ≡ first_named user_of_line (λ p. bytes_eq p.name name) text
+  by_name name slice first found slice_is is_first on =
+      first_is (GivesUser text (λ at. bytes_eq (part text at.name) name)) text (user_at text) user_of_line (λ p. bytes_eq p.name name) (λ span r ordered ends gives. user_given text (λ p. bytes_eq p.name name) span r ordered ends gives) found
+      (found_on (rows_of_name text name) text index.names.items is.names name (λ row. refl) slice first found slice_is is_first on)
+
+  pub by_id : (uid : ℕ) (slice : List NumberAt) (first : Option NumberAt) (found : Option PasswdAt) → slice ≡ filter (has_number uid) index.ids.items → first ≡ slice_get slice 0 → found ≡ option_and_then (λ at. on_line (user_places text) text at.line) first
+      → option_map (user_at text) found ≡ first_named user_of_line (λ p. p.uid == uid) text
+  by_id uid slice first found slice_is is_first on =
+      first_is (GivesUser text (λ at. at.uid == uid)) text (user_at text) user_of_line (λ p. p.uid == uid) (λ span r ordered ends gives. user_given text (λ p. p.uid == uid) span r ordered ends gives) found
+      (found_on (rows_of_id text uid) text index.ids.items is.ids uid (λ row. refl) slice first found slice_is is_first on)

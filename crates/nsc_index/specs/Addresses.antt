@@ -1,0 +1,6 @@
+-- Addresses as numbers.
+use Rattle.std.specs.Prelude.{ℕ, ◌+◌, ◌*◌, ◌%◌, ◌^◌, List, fold}
+
+-- a number of 32 bits that an address gives
+abbrev pub address_number : List ℕ → ℕ
+address_number address = fold (λ number byte. (number * 31 % 2 ^ 32 + byte) % 2 ^ 32) 0 address

@@ -1,0 +1,9 @@
+pub mod Indexes
+pub mod Names
+pub mod Numbers
+pub mod Users
+pub mod Groups
+pub mod Addresses
+pub mod Hosts
+pub mod Services
+pub mod Prepared

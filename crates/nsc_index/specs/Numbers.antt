@@ -1,0 +1,15 @@
+-- Numbers of lines.
+use Rattle.std.specs.Prelude.{ℕ, Bool}
+use Rattle.std.specs.Ordering.{is_eq, nat_cmp}
+use Rattle.nsc_base.specs.declared.span.Span.{Span}
+use Rattle.nsc_index.specs.declared.numbers.NumberAt.{NumberAt}
+
+-- a number of a line
+abbrev pub place_of_number : Span → ℕ → NumberAt
+place_of_number line number = record { number = number; line = line.from }
+
+abbrev pub number_in : NumberAt → ℕ
+number_in at = at.number
+
+abbrev pub has_number : ℕ → NumberAt → Bool
+has_number number at = is_eq (nat_cmp at.number number)

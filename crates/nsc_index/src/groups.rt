@@ -1,0 +1,124 @@
+ghost use Rattle.std.specs.Prelude.{◌≡◌, ◌==◌, ◌≤◌, ◌<◌, ◌^◌, ◌++◌, IfOk, IfSome, OnOk, length};
+ghost use Rattle.std.specs.Option.{option_map};
+ghost use Rattle.std.specs.Str.{bytes_eq};
+ghost use Rattle.nsc_model.specs.Answers.{ids_of};
+ghost use Rattle.nsc_model.specs.Entries.{first_named};
+ghost use Rattle.nsc_model.specs.Files.{file_limit};
+ghost use Rattle.nsc_model.specs.Groups.{group_of_line};
+ghost use Rattle.nsc_accounts.specs.Group.{GroupLiesIn, group_at, group_places};
+ghost use Rattle.nsc_index.specs.Groups.{members_at};
+ghost use Rattle.nsc_index.specs.Indexes.{on_line};
+
+use crate::lines::line_on;
+use crate::names::{NameAt, places_of_name, sorted_names};
+use crate::numbers::{NumberAt, places_of_number, sorted_numbers};
+use nsc_accounts::{GroupAt, OnceIds, group_line};
+use nsc_base::{Case, Ids, NoMemory, Span, field_at, line_at};
+use std::alloc::Global;
+
+/// The lines of a group file, group(5), in the order of their names, in that of their group ids, and in that of the names of
+/// their members: twenty bytes for a line, and twelve for each member.
+#[derive(Debug, Drop)]
+pub struct GroupIndex {
+    /// The names.
+    pub names: Vec<NameAt>,
+    /// The group ids.
+    pub ids: Vec<NumberAt>,
+    /// The names of the members.
+    pub members: Vec<NameAt>,
+}
+
+impl GroupIndex {
+    ghost use Rattle.nsc_index.specs.Groups.{IsGroupIndex};
+
+    /// The index of a group file. Fails only for want of memory.
+    pub fn of(alloc: Global, text: &[u8]) -> Result<GroupIndex, NoMemory>
+        requires { length text.now ≤ file_limit }
+        ensures { IfOk result (IsGroupIndex text.now) }
+    {
+        let mut names = Vec::new(alloc);
+        let mut ids = Vec::new(alloc);
+        let mut members = Vec::new(alloc);
+        let mut from = 0;
+        while let Some(line) = line_at(text, from) {
+            if let Some(group) = group_line(text, line.span) {
+                names.push(NameAt::new(group.name, line.span))?;
+                ids.push(NumberAt::new(group.gid, line.span))?;
+                add_members(text, line.span, group.members, &mut members)?;
+            }
+            from = line.next;
+        }
+        Ok(GroupIndex {
+            names: sorted_names(text, Case::Counts, names)?,
+            ids: sorted_numbers(ids)?,
+            members: sorted_names(text, Case::Counts, members)?,
+        })
+    }
+
+    /// The first line of this name that has the form, as places in the file that this is the index of. `None` where there is
+    /// none. Takes no memory.
+    pub fn by_name(&self, text: &[u8], name: &[u8]) -> Option<GroupAt>
+        requires { IsGroupIndex text.now self.now }
+        ensures entry { option_map (group_at text.now) result ≡ first_named group_of_line (λ g. bytes_eq g.name name.now) text.now }
+        ensures inside { IfSome result (GroupLiesIn (record { from = 0; to = length text.now })) }
+    {
+        let at = places_of_name(text, Case::Counts, &self.names, name).first()?;
+        group_on(text, at.line)
+    }
+
+    /// The first line of this group id that has the form, as places in the file that this is the index of. `None` where there
+    /// is none. Takes no memory.
+    pub fn by_id(&self, text: &[u8], gid: u32) -> Option<GroupAt>
+        requires { IsGroupIndex text.now self.now }
+        ensures entry { option_map (group_at text.now) result ≡ first_named group_of_line (λ g. g.gid == gid) text.now }
+        ensures inside { IfSome result (GroupLiesIn (record { from = 0; to = length text.now })) }
+    {
+        let at = places_of_number(&self.ids, gid).first()?;
+        group_on(text, at.line)
+    }
+
+    /// The ids of the groups that have the user as a member, in the order of the file that this is the index of, each once.
+    /// Fails only for want of memory.
+    pub fn ids_of(&self, alloc: Global, text: &[u8], user: &[u8]) -> Result<Ids, NoMemory>
+        requires { IsGroupIndex text.now self.now }
+        ensures { IfOk result (λ ids. ids ≡ ids_of user.now text.now) }
+    {
+        let mut ids = OnceIds::new(alloc);
+        for at in places_of_name(text, Case::Counts, &self.members, user) {
+            if let Some(group) = group_on(text, at.line) {
+                ids.add(group.gid)?;
+            }
+        }
+        Ok(ids.into_ids())
+    }
+}
+
+// Adds the members that a part of a line names: the pieces between commas that are not empty.
+fn add_members(
+    text: &[u8],
+    line: Span,
+    within: Span,
+    members: &mut Vec<NameAt>,
+) -> Result<(), NoMemory>
+    requires line { line.to < 2 ^ 32 }
+    requires inside { within.to ≤ length text.now }
+    requires within { within.to < 2 ^ 32 }
+    ensures { OnOk result (members.new.items ≡ members.old.items ++ members_at text.now line within) }
+{
+    let mut from = within.from();
+    while let Some(piece) = field_at(text, within, from, b',') {
+        if !piece.span.of(text).is_empty() {
+            members.push(NameAt::new(piece.span, line))?;
+        }
+        from = piece.next;
+    }
+    Ok(())
+}
+
+// The entry of the line that begins at a place, where it has the form.
+fn group_on(text: &[u8], place: u32) -> Option<GroupAt>
+    ensures entry { result ≡ on_line (group_places text.now) text.now place }
+    ensures inside { IfSome result (GroupLiesIn (record { from = 0; to = length text.now })) }
+{
+    group_line(text, line_on(text, place)?)
+}

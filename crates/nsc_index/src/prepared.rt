@@ -1,0 +1,177 @@
+ghost use Rattle.std.specs.Prelude.{◌≡◌, ◌≤◌, IfOk, length};
+ghost use Rattle.std.specs.Arc.{arc_value};
+ghost use Rattle.nsc_model.specs.declared.switch.SwitchService.TheVariants.{Files, Extrausers, Compat};
+ghost use Rattle.nsc_model.specs.Answers.{service_answer};
+ghost use Rattle.nsc_model.specs.Files.{FilesFit, file_limit, file_of};
+ghost use Rattle.nsc_model.specs.Switches.{text_of};
+
+use crate::groups::GroupIndex;
+use crate::hosts::HostIndex;
+use crate::net_outcomes::{
+    addresses_by_name, host_by_address, host_by_name, service_by_name, service_by_port,
+};
+use crate::outcomes::{group_by_id, group_by_name, groups_of_user, user_by_id, user_by_name};
+use crate::services::ServiceIndex;
+use crate::users::UserIndex;
+use nsc_base::NoMemory;
+use nsc_model::{Content, Db, FileId, Kind, Looked, SwitchService, SwitchStep};
+use nsc_switch::{Lists, PlainServices, ServiceLook};
+use std::alloc::Global;
+use std::marker::Model;
+use std::sync::Arc;
+
+// The address families of the protocol.
+const IPV4: u8 = 2;
+
+const IPV6: u8 = 10;
+
+/// A content with its service lists and the indexes of its files, which were made once.
+#[derive(Debug, Drop)]
+pub struct Prepared {
+    content: Arc<Content>,
+    lists: Lists,
+    users: UserIndex,
+    groups: GroupIndex,
+    extra_users: UserIndex,
+    extra_groups: GroupIndex,
+    hosts: HostIndex,
+    services: ServiceIndex,
+}
+
+impl Model for Prepared {
+    ghost use Rattle.std.specs.Arc.{arc_value};
+    ghost use Rattle.nsc_model.specs.Content.{Content};
+
+    ghost Value = { Content };
+
+    ghost use Rattle.nsc_index.specs.Prepared.{IsPrepared};
+
+    ghost view = { λ p. arc_value p.content };
+
+    ghost invariant = { IsPrepared };
+}
+
+impl Prepared {
+    ghost use Rattle.std.specs.Prelude.{◌≡◌, IfOk};
+    ghost use Rattle.std.specs.Arc.{arc_value};
+    ghost use Rattle.nsc_model.specs.declared.switch.SwitchService.TheVariants.{Files, Extrausers, Compat};
+    ghost use Rattle.nsc_model.specs.Answers.{service_answer};
+    ghost use Rattle.nsc_model.specs.Files.{FilesFit};
+    ghost use Rattle.nsc_switch.specs.Lists.{list_in, lists_of};
+
+    /// A content, once its service lists are read and its files have their indexes. Fails only for want of memory.
+    pub(crate) fn of(alloc: Global, content: Arc<Content>) -> Result<Prepared, NoMemory>
+        ensures { IfOk result (λ prepared. prepared ≡ arc_value content) }
+    {
+        let lists = Lists::of(alloc, &content)?;
+        let users = UserIndex::of(alloc, text_in(&content, FileId::Passwd))?;
+        let groups = GroupIndex::of(alloc, text_in(&content, FileId::Group))?;
+        let extra_users = UserIndex::of(alloc, text_in(&content, FileId::ExtraPasswd))?;
+        let extra_groups = GroupIndex::of(alloc, text_in(&content, FileId::ExtraGroup))?;
+        let hosts = HostIndex::of(alloc, text_in(&content, FileId::Hosts))?;
+        let services = ServiceIndex::of(alloc, text_in(&content, FileId::Services))?;
+        Ok(Prepared {
+            content,
+            lists,
+            users,
+            groups,
+            extra_users,
+            extra_groups,
+            hosts,
+            services,
+        })
+    }
+
+    /// The content.
+    pub(crate) fn content(&self) -> &Arc<Content>
+        ensures { arc_value result.now ≡ self.now }
+    {
+        &self.content
+    }
+
+    /// The service list of a database. No file of the content is longer than a file may be.
+    pub(crate) fn list(&self, db: Db) -> &[SwitchStep]
+        ensures steps { result.now ≡ list_in (lists_of self.now) db }
+        ensures fits { FilesFit self.now }
+    {
+        self.lists.list(db)
+    }
+
+    /// The outcome of the service `files` for the request of this kind and key. Fails only for want of memory.
+    pub(crate) fn in_files(&self, alloc: Global, kind: Kind, key: &[u8]) -> Result<Looked, NoMemory>
+        ensures { IfOk result (λ looked. looked ≡ service_answer self.now (record { kind = kind; key = key.now }) Files) }
+    {
+        let passwd = self.content.file(FileId::Passwd);
+        let group = self.content.file(FileId::Group);
+        let hosts = self.content.file(FileId::Hosts);
+        let services = self.content.file(FileId::Services);
+        match kind {
+            Kind::PwName => user_by_name(alloc, passwd, &self.users, key),
+            Kind::PwUid => user_by_id(alloc, passwd, &self.users, key),
+            Kind::GrName => group_by_name(alloc, group, &self.groups, key),
+            Kind::GrGid => group_by_id(alloc, group, &self.groups, key),
+            Kind::InitGroups => groups_of_user(alloc, group, &self.groups, key),
+            Kind::HostName => host_by_name(alloc, hosts, &self.hosts, key, IPV4),
+            Kind::HostName6 => host_by_name(alloc, hosts, &self.hosts, key, IPV6),
+            Kind::HostAddr => host_by_address(alloc, hosts, &self.hosts, key),
+            Kind::HostAddr6 => host_by_address(alloc, hosts, &self.hosts, key),
+            Kind::Ai => addresses_by_name(alloc, hosts, &self.hosts, key),
+            Kind::ServName => service_by_name(alloc, services, &self.services, key),
+            Kind::ServPort => service_by_port(alloc, services, &self.services, key),
+        }
+    }
+
+    /// The outcome of the service `extrausers` for the request of this kind and key. Fails only for want of memory.
+    pub(crate) fn in_extrausers(
+        &self,
+        alloc: Global,
+        kind: Kind,
+        key: &[u8],
+    ) -> Result<Looked, NoMemory>
+        ensures { IfOk result (λ looked. looked ≡ service_answer self.now (record { kind = kind; key = key.now }) Extrausers) }
+    {
+        let passwd = self.content.file(FileId::ExtraPasswd);
+        let group = self.content.file(FileId::ExtraGroup);
+        match kind {
+            Kind::PwName => user_by_name(alloc, passwd, &self.extra_users, key),
+            Kind::PwUid => user_by_id(alloc, passwd, &self.extra_users, key),
+            Kind::GrName => group_by_name(alloc, group, &self.extra_groups, key),
+            Kind::GrGid => group_by_id(alloc, group, &self.extra_groups, key),
+            Kind::InitGroups => groups_of_user(alloc, group, &self.extra_groups, key),
+            Kind::HostName
+            | Kind::HostName6
+            | Kind::HostAddr
+            | Kind::HostAddr6
+            | Kind::Ai
+            | Kind::ServName
+            | Kind::ServPort => Ok(Looked::Unavail),
+        }
+    }
+
+    /// The outcome of the service `compat` for the request of this kind and key. Fails only for want of memory.
+    pub(crate) fn in_compat(
+        &self,
+        alloc: Global,
+        kind: Kind,
+        key: &[u8],
+    ) -> Result<Looked, NoMemory>
+        ensures { IfOk result (λ looked. looked ≡ service_answer self.now (record { kind = kind; key = key.now }) Compat) }
+    {
+        let services = PlainServices {
+            content: &self.content,
+            lists: &self.lists,
+        };
+        services.look(alloc, SwitchService::Compat, kind, key)
+    }
+}
+
+// The text of a file; an absent one is like an empty one.
+fn text_in(content: &Content, file: FileId) -> &[u8]
+    ensures text { result.now ≡ text_of (file_of content.now file) }
+    ensures fits { length result.now ≤ file_limit }
+{
+    match content.file(file) {
+        Some(text) => text,
+        None => b"",
+    }
+}

@@ -1,0 +1,79 @@
+ghost use Rattle.std.specs.Prelude.{◌≡◌, ◌==◌, ◌≤◌, IfOk, IfSome, length};
+ghost use Rattle.std.specs.Option.{option_map};
+ghost use Rattle.std.specs.Str.{bytes_eq};
+ghost use Rattle.nsc_model.specs.Users.{user_of_line};
+ghost use Rattle.nsc_model.specs.Entries.{first_named};
+ghost use Rattle.nsc_model.specs.Files.{file_limit};
+ghost use Rattle.nsc_accounts.specs.Passwd.{UserLiesIn, user_at, user_places};
+ghost use Rattle.nsc_index.specs.Indexes.{on_line};
+
+use crate::lines::line_on;
+use crate::names::{NameAt, places_of_name, sorted_names};
+use crate::numbers::{NumberAt, places_of_number, sorted_numbers};
+use nsc_accounts::{PasswdAt, passwd_line};
+use nsc_base::{Case, NoMemory, line_at};
+use std::alloc::Global;
+
+/// The lines of a passwd file, passwd(5), in the order of their names and in that of their user ids: twenty bytes for a line.
+#[derive(Debug, Drop)]
+pub struct UserIndex {
+    /// The names.
+    pub names: Vec<NameAt>,
+    /// The user ids.
+    pub ids: Vec<NumberAt>,
+}
+
+impl UserIndex {
+    ghost use Rattle.nsc_index.specs.Users.{IsUserIndex};
+
+    /// The index of a passwd file. Fails only for want of memory.
+    pub fn of(alloc: Global, text: &[u8]) -> Result<UserIndex, NoMemory>
+        requires { length text.now ≤ file_limit }
+        ensures { IfOk result (IsUserIndex text.now) }
+    {
+        let mut names = Vec::new(alloc);
+        let mut ids = Vec::new(alloc);
+        let mut from = 0;
+        while let Some(line) = line_at(text, from) {
+            if let Some(user) = passwd_line(text, line.span) {
+                names.push(NameAt::new(user.name, line.span))?;
+                ids.push(NumberAt::new(user.uid, line.span))?;
+            }
+            from = line.next;
+        }
+        Ok(UserIndex {
+            names: sorted_names(text, Case::Counts, names)?,
+            ids: sorted_numbers(ids)?,
+        })
+    }
+
+    /// The first line of this name that has the form, as places in the file that this is the index of. `None` where there is
+    /// none. Takes no memory.
+    pub fn by_name(&self, text: &[u8], name: &[u8]) -> Option<PasswdAt>
+        requires { IsUserIndex text.now self.now }
+        ensures entry { option_map (user_at text.now) result ≡ first_named user_of_line (λ p. bytes_eq p.name name.now) text.now }
+        ensures inside { IfSome result (UserLiesIn (record { from = 0; to = length text.now })) }
+    {
+        let at = places_of_name(text, Case::Counts, &self.names, name).first()?;
+        user_on(text, at.line)
+    }
+
+    /// The first line of this user id that has the form, as places in the file that this is the index of. `None` where there is
+    /// none. Takes no memory.
+    pub fn by_id(&self, text: &[u8], uid: u32) -> Option<PasswdAt>
+        requires { IsUserIndex text.now self.now }
+        ensures entry { option_map (user_at text.now) result ≡ first_named user_of_line (λ p. p.uid == uid) text.now }
+        ensures inside { IfSome result (UserLiesIn (record { from = 0; to = length text.now })) }
+    {
+        let at = places_of_number(&self.ids, uid).first()?;
+        user_on(text, at.line)
+    }
+}
+
+// The entry of the line that begins at a place, where it has the form.
+fn user_on(text: &[u8], place: u32) -> Option<PasswdAt>
+    ensures entry { result ≡ on_line (user_places text.now) text.now place }
+    ensures inside { IfSome result (UserLiesIn (record { from = 0; to = length text.now })) }
+{
+    passwd_line(text, line_on(text, place)?)
+}

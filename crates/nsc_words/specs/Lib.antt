@@ -1,0 +1,5 @@
+pub mod Words
+pub mod Packing
+pub mod Hash
+pub mod Layout
+pub mod Laid

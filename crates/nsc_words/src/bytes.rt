@@ -1,0 +1,39 @@
+// Bytes in words.
+ghost use Rattle.std.specs.Prelude.{◌≡◌, ◌+◌, ◌<◌, ◌≤◌, ◌*◌, ◌++◌, length};
+ghost use Rattle.byteorder.specs.Endian.{little_bytes};
+ghost use Rattle.nsc_words.specs.Words.{word_of};
+
+use nsc_base::{Buf, u64_at};
+
+/// A word of the bytes, by its number from 0 on: eight bytes a word, the lowest byte first, and zeros past the end.
+pub fn word_of(bytes: &[u8], index: usize) -> u64
+    requires { 8 * index ≤ length bytes.now }
+    ensures { result ≡ word_of bytes.now index }
+{
+    let from = 8 * index;
+    if from + 8 <= bytes.len() {
+        u64_at(bytes, from)
+    } else {
+        last_word(&bytes[from..])
+    }
+}
+
+// The word of the last bytes, fewer than eight of them.
+fn last_word(bytes: &[u8]) -> u64
+    requires { length bytes.now < 8 }
+    ensures { result ≡ word_of bytes.now 0 }
+{
+    let mut word = [0u8; 8];
+    word[..bytes.len()].copy_from_slice(bytes);
+    u64_at(&word, 0)
+}
+
+/// Puts the first `count` bytes of a word, at most eight, its lowest byte first, after those of a buffer. The caller knows that they
+/// fit.
+pub fn push_word(out: &mut Buf, word: u64, count: usize)
+    requires count { count ≤ 8 }
+    requires room { length out.old.content + count ≤ out.old.limit }
+    ensures { out.new ≡ record out.old { content = out.old.content ++ little_bytes count word } }
+{
+    out.push(&word.to_le_bytes()[..count]);
+}
