@@ -62,10 +62,14 @@ def packages():
     """A folder with the package, one of a later version, and another nscd. It goes with this process."""
     given = Path(tempfile.mkdtemp(prefix="nscd-packages-"))
     atexit.register(shutil.rmtree, given)
-    program = a_program(given)
-    done = subprocess.run([ROOT / "dist/make-deb", given], capture_output=True, timeout=60, check=False, env={**os.environ, "NSCD": str(program)})
-    check(done.returncode == 0, f"make-deb: {done.stderr.decode()}")
-    made = done.stdout.decode().strip()
+    environment = {**os.environ, "NSCD": str(a_program(given)), "SOURCE_DATE_EPOCH": "1700000000"}
+    made = []
+    for where in (given, given / "again"):
+        done = subprocess.run([ROOT / "dist/make-deb", where], capture_output=True, timeout=60, check=False, env=environment)
+        check(done.returncode == 0, f"make-deb: {done.stderr.decode()}")
+        made.append(Path(done.stdout.decode().strip()))
+    check(made[0].read_bytes() == made[1].read_bytes(), "make-deb makes another package of the same")
+    made = made[0]
     fields = subprocess.run(["dpkg-deb", "-f", made], capture_output=True, timeout=60, check=True).stdout.decode()
     for line in (f"Version: {VERSION}", "Provides: nscd", "Conflicts: nscd"):
         check(line in fields.splitlines(), f"control: no line '{line}'")

@@ -11,7 +11,7 @@ from contextlib import contextmanager
 from pathlib import Path
 
 from frames import ROOT
-from running import PROGRAM, check
+from running import PROGRAM, Fault, check
 from tables import DATABASES, MAN, options
 
 # Where make install has things, under PREFIX and SYSCONFDIR, and their modes.
@@ -91,16 +91,19 @@ def places_case():
             check(after[f"{prefix}/sbin/nscd"[1:]][1] == program.read_bytes(), "make install: another program")
             for name, (mode, text) in after.items():
                 check(text is not None or mode == 0o755, f"{name}: mode {mode:o}")
-                check(text is None or name.endswith("sbin/nscd") or not re.search(rb"@[A-Z]+@", text), f"{name}: something is not filled in")
+                is_filled = text is None or name.endswith("sbin/nscd") or not re.search(rb"@[A-Z]+@", text)
+                check(is_filled, f"{name}: something is not filled in")
             for name in ("share/man/man8/nscd.8", "share/man/man5/nscd.conf.5"):
                 check(f"version {VERSION}." in after[f"{prefix}/{name}"[1:]][1].decode(), f"{name}: not version {VERSION}")
-            check(f"conf={sysconf}/nscd.conf\n".encode() in after[f"{prefix}/libexec/nscd/nscd-serve"[1:]][1], "nscd-serve: another nscd.conf")
+            serve = after[f"{prefix}/libexec/nscd/nscd-serve"[1:]][1]
+            check(f"conf={sysconf}/nscd.conf\n".encode() in serve, "nscd-serve: another nscd.conf")
             # Once more, and all of it away.
             check(make("install", program, root, **where) == (0, ""), "make install again")
             check(tree(root) == after, "make install again changes something")
             check(make("uninstall", program, root, **where) == (0, ""), "make uninstall")
             check(tree(root) == before, f"make uninstall leaves {set(tree(root)) ^ set(before)}")
-        return f"make install puts {len(wanted)} files under either prefix, and make uninstall leaves what was there before; {kept_case(top, program)}"
+        said = f"make install puts {len(wanted)} files under either prefix, and make uninstall leaves what was there before"
+        return f"{said}; {kept_case(top, program)}"
 
 
 def kept_case(top, program):
@@ -192,10 +195,11 @@ def bash_case(where):
 ZSH = r"""
 zmodload zsh/zpty || exit 77
 zpty shell zsh -f -i
-zpty -w shell "PS1=; stty -echo; fpath=($1 \$fpath); autoload -Uz compinit; compinit -u -d $1/dump; LISTMAX=1000; zstyle ':completion:*' menu no; setopt no_beep; nscd() { : }; print rea''dy"
+zpty -w shell "PS1=; stty -echo; fpath=($1 \$fpath); autoload -Uz compinit; compinit -u -d $1/dump; LISTMAX=1000"
+zpty -w shell "zstyle ':completion:*' menu no; setopt no_beep; nscd() { : }; print rea''dy"
 zpty -r shell line '*ready*' || exit 1
 zpty -w -n shell "nscd $2"$'\t\t'
-sleep 1
+sleep $3
 zpty -w shell $'\C-uprint do''ne'
 zpty -r shell line '*done*'
 print -r -- $line
@@ -211,16 +215,20 @@ def zsh_case(where):
     for option in options():
         for word in option.words():
             check(re.search(rf"\){re.escape(word)}[+=]?\[", told), f"zsh: no {word}")
-    try:
-        done = subprocess.run(["zsh", "-f", "-c", ZSH, "zsh", where, "-"], capture_output=True, timeout=20, check=False)
-    except subprocess.TimeoutExpired:
-        return "zsh reads its completion, which was not tried by a key, since no terminal answers here"
-    shown = done.stdout.decode(errors="replace")
-    if done.returncode != 0:
-        return "zsh reads its completion, which was not tried by a key, since no terminal may be had here"
-    for option in options():
-        check(f"--{option.long} " in shown.replace("\r", " "), f"zsh: --{option.long} is not completed: {shown!r}")
-    return "zsh completes each option"
+    # A busy machine may take its time.
+    for seconds in ("1", "4", "10"):
+        try:
+            words = ["zsh", "-f", "-c", ZSH, "zsh", where, "-", seconds]
+            done = subprocess.run(words, capture_output=True, timeout=40, check=False)
+        except subprocess.TimeoutExpired:
+            return "zsh reads its completion, which was not tried by a key, since no terminal answers here"
+        if done.returncode != 0:
+            return "zsh reads its completion, which was not tried by a key, since no terminal may be had here"
+        shown = done.stdout.decode(errors="replace").replace("\r", " ")
+        missing = [option.long for option in options() if f"--{option.long} " not in shown]
+        if not missing:
+            return "zsh completes each option"
+    raise Fault(f"zsh: {missing} are not completed: {shown!r}")
 
 
 def completions_case():

@@ -113,8 +113,8 @@ def threads_of(*words):
     with daemon(*words) as run:
         run.is_well("a daemon of these settings")
         found = 0
-        for _ in range(50):
-            found = len(os.listdir(f"/proc/{run.process.pid}/task"))
+        for _ in range(100):
+            found = max(found, len(os.listdir(f"/proc/{run.process.pid}/task")))
             time.sleep(0.01)
         run.shut_down()
         return found
