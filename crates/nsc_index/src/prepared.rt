@@ -1,6 +1,6 @@
 ghost use Rattle.std.specs.Prelude.{◌≡◌, ◌≤◌, IfOk, length};
 ghost use Rattle.std.specs.Arc.{arc_value};
-ghost use Rattle.nsc_model.specs.declared.switch.SwitchService.TheVariants.{Files, Extrausers, Compat};
+ghost use Rattle.nsc_model.specs.declared.switch.SwitchService.TheVariants.{Files, Extrausers};
 ghost use Rattle.nsc_model.specs.Answers.{service_answer};
 ghost use Rattle.nsc_model.specs.Files.{FilesFit, file_limit, file_of};
 ghost use Rattle.nsc_model.specs.Switches.{text_of};
@@ -14,8 +14,8 @@ use crate::outcomes::{group_by_id, group_by_name, groups_of_user, user_by_id, us
 use crate::services::ServiceIndex;
 use crate::users::UserIndex;
 use nsc_base::NoMemory;
-use nsc_model::{Content, Db, FileId, Kind, Looked, SwitchService, SwitchStep};
-use nsc_switch::{Lists, PlainServices, ServiceLook};
+use nsc_model::{Content, Db, FileId, Kind, Looked, SwitchStep};
+use nsc_switch::Lists;
 use std::alloc::Global;
 use std::marker::Model;
 use std::sync::Arc;
@@ -54,10 +54,10 @@ impl Model for Prepared {
 impl Prepared {
     ghost use Rattle.std.specs.Prelude.{◌≡◌, IfOk};
     ghost use Rattle.std.specs.Arc.{arc_value};
-    ghost use Rattle.nsc_model.specs.declared.switch.SwitchService.TheVariants.{Files, Extrausers, Compat};
+    ghost use Rattle.nsc_model.specs.declared.switch.SwitchService.TheVariants.{Files, Extrausers};
     ghost use Rattle.nsc_model.specs.Answers.{service_answer};
     ghost use Rattle.nsc_model.specs.Files.{FilesFit};
-    ghost use Rattle.nsc_switch.specs.Lists.{list_in, lists_of};
+    ghost use Rattle.nsc_switch.specs.Lists.{compat_list_in, list_in, lists_of};
 
     /// A content, once its service lists are read and its files have their indexes. Fails only for want of memory.
     pub(crate) fn of(alloc: Global, content: Arc<Content>) -> Result<Prepared, NoMemory>
@@ -148,20 +148,11 @@ impl Prepared {
         }
     }
 
-    /// The outcome of the service `compat` for the request of this kind and key. Fails only for want of memory.
-    pub(crate) fn in_compat(
-        &self,
-        alloc: Global,
-        kind: Kind,
-        key: &[u8],
-    ) -> Result<Looked, NoMemory>
-        ensures { IfOk result (λ looked. looked ≡ service_answer self.now (record { kind = kind; key = key.now }) Compat) }
+    /// The list that the compat lines of a database ask. Hosts and services have no compat, so theirs is never asked.
+    pub(crate) fn compat_list(&self, db: Db) -> &[SwitchStep]
+        ensures { result.now ≡ compat_list_in (lists_of self.now) db }
     {
-        let services = PlainServices {
-            content: &self.content,
-            lists: &self.lists,
-        };
-        services.look(alloc, SwitchService::Compat, kind, key)
+        self.lists.compat_list(db)
     }
 }
 
