@@ -1,14 +1,12 @@
 //! The services that compat lines ask, over a content whose files have indexes.
 
-ghost use Rattle.std.specs.Prelude.{◌≡◌, IfOk, map};
-ghost use Rattle.nsc_model.specs.Answers.{service_pairs, sub_answer};
-ghost use Rattle.nsc_accounts.specs.NamedId.{pair_of};
+ghost use Rattle.nsc_model.specs.Answers.{sub_answer};
 
 use crate::prepared::Prepared;
 use nsc_accounts::NamedId;
 use nsc_base::NoMemory;
 use nsc_compat::SubLookup;
-use nsc_model::{Content, Db, FileId, Kind, Looked, SwitchService};
+use nsc_model::{Content, Db, Kind, Looked, SwitchService};
 use nsc_switch::{ServiceLook, decide, switch_over};
 use std::alloc::Global;
 
@@ -51,26 +49,6 @@ impl<'a> SubLookup for SubServices<'a> {
     fn named_groups(&self, alloc: Global, user: &[u8]) -> Result<Vec<NamedId>, NoMemory> {
         let steps = self.prepared.compat_list(Db::Group);
         let decided = decide(alloc, self, steps, Kind::InitGroups, user)?;
-        groups_by(alloc, self.prepared.content(), decided.service, user)
-    }
-}
-
-// The groups of a user in the file of a service.
-fn groups_by(
-    alloc: Global,
-    content: &Content,
-    service: SwitchService,
-    user: &[u8],
-) -> Result<Vec<NamedId>, NoMemory>
-    ensures { IfOk result (λ groups. map pair_of groups.items ≡ service_pairs content.now user.now service) }
-{
-    let file = match service {
-        SwitchService::Files => content.file(FileId::Group),
-        SwitchService::Extrausers => content.file(FileId::ExtraGroup),
-        SwitchService::Compat | SwitchService::Other => None,
-    };
-    match file {
-        Some(text) => nsc_accounts::named_groups(alloc, text, user),
-        None => Ok(Vec::new(alloc)),
+        self.prepared.named_groups(alloc, decided.service, user)
     }
 }
