@@ -4,5 +4,6 @@ pub mod NameRows
 pub mod UserRows
 pub mod GroupRows
 pub mod MemberRows
+pub mod OnceRows
 pub mod NetRows
 pub mod Crossing

@@ -80,7 +80,7 @@ lines_next (b ∷ bytes) piece others is =
     ] is
 
 -- each of these lines is the first one of those from its own place on
-abbrev AllBegin : List ℕ → List Span → Type 0
+abbrev pub AllBegin : List ℕ → List Span → Type 0
 AllBegin text [] = Unit {0}
 AllBegin text (line ∷ others) = ((after : List Span) × (line_spans text line.from ≡ line ∷ after)) × AllBegin text others
 
@@ -91,11 +91,11 @@ begins text at (piece ∷ pieces) is =
     let next : lines_of (drop (at + length piece + 1) text) ≡ pieces = ap lines_of (sym step) ∙ lines_next (drop at text) piece pieces is in
     ((spans_of (at + length piece + 1) pieces, ap (spans_of at) is), begins text (at + length piece + 1) pieces next)
 
-all_begin : (text : List ℕ) → AllBegin text (line_spans text 0)
+pub all_begin : (text : List ℕ) → AllBegin text (line_spans text 0)
 all_begin text = begins text 0 (lines_of (drop 0 text)) refl
 
 -- what the line gives that begins where another one of the text does
-on_first : {A : Type 0} (gives : Span → Option A) (text : List ℕ) (place : ℕ) (line : Span) (others : List Span) → line_spans text place ≡ line ∷ others → on_line gives text place ≡ gives line
+pub on_first : {A : Type 0} (gives : Span → Option A) (text : List ℕ) (place : ℕ) (line : Span) (others : List Span) → line_spans text place ≡ line ∷ others → on_line gives text place ≡ gives line
 on_first gives text place line others is = ap (λ (spans : List Span). option_and_then gives (first_of spans)) is
 
 -- ---- lines that are named
@@ -258,7 +258,7 @@ module _ {A X : Type 0} {places : Span → Option A} {names : A → Bool} {rows_
     passing : (xs : List X) → filter (λ row. is_eq (cmp (key row) k)) xs ≡ filter passes xs
     passing = filter_agree (λ row. is_eq (cmp (key row) k)) passes of_key
 
-    the_rows : filter passes index ≡ filter passes (rows_from rows_of text 0)
+    pub the_rows : filter passes index ≡ filter passes (rows_from rows_of text 0)
     the_rows = sym (passing index) ∙ indexes.same k ∙ passing (rows_from rows_of text 0)
 
     pub found_on : (slice : List X) (first : Option X) (found : Option A) → slice ≡ filter passes index → first ≡ slice_get slice 0 → found ≡ option_and_then entry_on first → FirstOf (Gives places names) (line_spans text 0) found

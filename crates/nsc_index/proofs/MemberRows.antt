@@ -48,16 +48,16 @@ members_are : (text : List ℕ) (within : Span) → map (part text) (member_span
 members_are text within = parts_filtered text is_filled (field_spans 44 text within) ∙ ap (filter is_filled) (field_spans-parts 44 text within)
 
 -- whether the user is a member of the group that stands in these places
-abbrev is_of : List ℕ → List ℕ → GroupAt → Bool
+abbrev pub is_of : List ℕ → List ℕ → GroupAt → Bool
 is_of text user at = has_member user (group_at text at)
 
-rows_of_member : (text user : List ℕ) → RowsOf (group_places text) (is_of text user) (group_members text) (has_name Counts text user) (λ row. row.line)
+pub rows_of_member : (text user : List ℕ) → RowsOf (group_places text) (is_of text user) (group_members text) (has_name Counts text user) (λ row. row.line)
 rows_of_member text user =
     many_rows text (has_name Counts text user) (λ name. bytes_eq name user) (λ line span. sym (texts_ties (part text span) user)) (group_places text) (is_of text user) (λ line at. member_spans text at.members)
     (λ line at has. ap (λ (names : List (List ℕ)). list_any (λ name. bytes_eq name user) names) (sym (members_are text at.members)))
 
 -- entries by places, and those that are named
-named_groups : (text : List ℕ) (names : _) (lines : List Span) → AllBetween 0 (length text + 1) lines → map (group_at text) (filter (λ at. names (group_at text at)) (filter_map (group_places text) lines)) ≡ filter names (filter_map group_of_line (map (part text) lines))
+pub named_groups : (text : List ℕ) (names : _) (lines : List Span) → AllBetween 0 (length text + 1) lines → map (group_at text) (filter (λ at. names (group_at text at)) (filter_map (group_places text) lines)) ≡ filter names (filter_map group_of_line (map (part text) lines))
 named_groups text names [] between = refl
 named_groups text names (line ∷ lines) between =
     let by_places = λ (at : GroupAt). names (group_at text at) in

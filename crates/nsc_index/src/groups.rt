@@ -1,10 +1,12 @@
-ghost use Rattle.std.specs.Prelude.{◌≡◌, ◌==◌, ◌≤◌, ◌<◌, ◌^◌, ◌++◌, IfOk, IfSome, OnOk, length};
+ghost use Rattle.std.specs.Prelude.{◌≡◌, ◌==◌, ◌≤◌, ◌<◌, ◌^◌, ◌++◌, IfOk, IfSome, OnOk, Some, length, map};
 ghost use Rattle.std.specs.Option.{option_map};
 ghost use Rattle.std.specs.Str.{bytes_eq};
-ghost use Rattle.nsc_model.specs.Answers.{ids_of};
+ghost use Rattle.nsc_model.specs.Answers.{ids_of, pairs_of};
 ghost use Rattle.nsc_model.specs.Entries.{first_named};
 ghost use Rattle.nsc_model.specs.Files.{file_limit};
 ghost use Rattle.nsc_model.specs.Groups.{group_of_line};
+ghost use Rattle.nsc_base.specs.Text.{part};
+ghost use Rattle.nsc_accounts.specs.NamedId.{pair_of};
 ghost use Rattle.nsc_accounts.specs.Group.{GroupLiesIn, group_at, group_places};
 ghost use Rattle.nsc_index.specs.Groups.{members_at};
 ghost use Rattle.nsc_index.specs.Indexes.{on_line};
@@ -12,8 +14,8 @@ ghost use Rattle.nsc_index.specs.Indexes.{on_line};
 use crate::lines::line_on;
 use crate::names::{NameAt, places_of_name, sorted_names};
 use crate::numbers::{NumberAt, places_of_number, sorted_numbers};
-use nsc_accounts::{GroupAt, OnceIds, group_line};
-use nsc_base::{Case, Ids, NoMemory, Span, field_at, line_at};
+use nsc_accounts::{GroupAt, NamedId, OnceIds, group_line};
+use nsc_base::{Bytes, Case, Ids, NoMemory, Span, field_at, line_at};
 use std::alloc::Global;
 
 /// The lines of a group file, group(5), in the order of their names, in that of their group ids, and in that of the names of
@@ -91,6 +93,44 @@ impl GroupIndex {
         }
         Ok(ids.into_ids())
     }
+
+    /// The name and id of each group that has the user as a member, in the order of the file that this is the index of, none
+    /// dropped. Fails only for want of memory.
+    pub fn named_groups(
+        &self,
+        alloc: Global,
+        text: &[u8],
+        user: &[u8],
+    ) -> Result<Vec<NamedId>, NoMemory>
+        requires { IsGroupIndex text.now self.now }
+        ensures { IfOk result (λ groups. map pair_of groups.items ≡ pairs_of user.now (Some text.now)) }
+    {
+        let mut groups = Vec::new(alloc);
+        let mut last = None;
+        for at in places_of_name(text, Case::Counts, &self.members, user) {
+            // A user who is named twice in a line has two rows of it, side by side.
+            if last != Some(at.line) {
+                if let Some(group) = named_on(alloc, text, at.line)? {
+                    groups.push(group)?;
+                }
+            }
+            last = Some(at.line);
+        }
+        Ok(groups)
+    }
+}
+
+// The name and id of the group of the line that begins at a place, where it has the form.
+fn named_on(alloc: Global, text: &[u8], place: u32) -> Result<Option<NamedId>, NoMemory>
+    ensures { IfOk result (λ group. option_map pair_of group ≡ option_map (λ at. (part text.now at.name, at.gid)) (on_line (group_places text.now) text.now place)) }
+{
+    let Some(at) = group_on(text, place) else {
+        return Ok(None);
+    };
+    Ok(Some(NamedId {
+        name: Bytes::copy(alloc, at.name.of(text))?,
+        gid: at.gid,
+    }))
 }
 
 // Adds the members that a part of a line names: the pieces between commas that are not empty.

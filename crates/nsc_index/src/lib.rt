@@ -2,6 +2,7 @@
 //! finds its line by a search in the order of the keys.
 #![tactic(auto)]
 
+mod compat;
 mod groups;
 mod hosts;
 mod indexed;

@@ -2,8 +2,10 @@ ghost use Rattle.std.specs.Prelude.{◌≡◌, IfOk};
 ghost use Rattle.nsc_model.specs.Answers.{looked_up, service_answer};
 ghost use Rattle.nsc_model.specs.Files.{FilesFit};
 
+use crate::compat::SubServices;
 use crate::prepared::Prepared;
 use nsc_base::NoMemory;
+use nsc_compat::compat_lookup;
 use nsc_model::{Db, Kind, Looked, SwitchService};
 use nsc_switch::{ServiceLook, switch_over};
 use std::alloc::Global;
@@ -27,7 +29,12 @@ impl<'a> ServiceLook for IndexedServices<'a> {
         match service {
             SwitchService::Files => self.prepared.in_files(alloc, kind, key),
             SwitchService::Extrausers => self.prepared.in_extrausers(alloc, kind, key),
-            SwitchService::Compat => self.prepared.in_compat(alloc, kind, key),
+            SwitchService::Compat => {
+                let sub = SubServices {
+                    prepared: self.prepared,
+                };
+                compat_lookup(alloc, kind, key, &sub)
+            }
             SwitchService::Other => Ok(Looked::Unavail),
         }
     }

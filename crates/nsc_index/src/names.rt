@@ -86,6 +86,7 @@ pub fn sorted_names(
 ) -> Result<Vec<NameAt>, NoMemory>
     ensures { IfOk result (λ index. Indexes (slice_cmp nat_cmp) (name_key case text.now) names.items index.items) }
 {
+    names.shrink_to_fit();
     names.sort_by(|a, b| order_of(text, case, a, b))?;
     Ok(names)
 }

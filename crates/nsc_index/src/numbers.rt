@@ -48,6 +48,7 @@ fn order_to(at: &NumberAt, number: u32) -> Ordering
 pub fn sorted_numbers(mut numbers: Vec<NumberAt>) -> Result<Vec<NumberAt>, NoMemory>
     ensures { IfOk result (λ index. Indexes nat_cmp number_in numbers.items index.items) }
 {
+    numbers.shrink_to_fit();
     numbers.sort_by(|a, b| order_of(a, b))?;
     Ok(numbers)
 }

@@ -1,7 +1,11 @@
-ghost use Rattle.std.specs.Prelude.{◌≡◌, ◌≤◌, IfOk, length};
+ghost use Rattle.std.specs.Prelude.{◌≡◌, ◌≤◌, IfOk, length, map};
 ghost use Rattle.std.specs.Arc.{arc_value};
-ghost use Rattle.nsc_model.specs.declared.switch.SwitchService.TheVariants.{Files, Extrausers, Compat};
+ghost use Rattle.nsc_model.specs.declared.switch.SwitchService.TheVariants.{Files, Extrausers};
 ghost use Rattle.nsc_model.specs.Answers.{service_answer};
+ghost use Rattle.std.specs.Option.{option_copied};
+ghost use Rattle.nsc_accounts.specs.NamedId.{pair_of};
+ghost use Rattle.nsc_model.specs.Answers.{pairs_of};
+ghost use Rattle.nsc_index.specs.Groups.{IsGroupIndex};
 ghost use Rattle.nsc_model.specs.Files.{FilesFit, file_limit, file_of};
 ghost use Rattle.nsc_model.specs.Switches.{text_of};
 
@@ -13,9 +17,10 @@ use crate::net_outcomes::{
 use crate::outcomes::{group_by_id, group_by_name, groups_of_user, user_by_id, user_by_name};
 use crate::services::ServiceIndex;
 use crate::users::UserIndex;
+use nsc_accounts::NamedId;
 use nsc_base::NoMemory;
 use nsc_model::{Content, Db, FileId, Kind, Looked, SwitchService, SwitchStep};
-use nsc_switch::{Lists, PlainServices, ServiceLook};
+use nsc_switch::Lists;
 use std::alloc::Global;
 use std::marker::Model;
 use std::sync::Arc;
@@ -54,10 +59,12 @@ impl Model for Prepared {
 impl Prepared {
     ghost use Rattle.std.specs.Prelude.{◌≡◌, IfOk};
     ghost use Rattle.std.specs.Arc.{arc_value};
-    ghost use Rattle.nsc_model.specs.declared.switch.SwitchService.TheVariants.{Files, Extrausers, Compat};
-    ghost use Rattle.nsc_model.specs.Answers.{service_answer};
+    ghost use Rattle.nsc_model.specs.declared.switch.SwitchService.TheVariants.{Files, Extrausers};
+    ghost use Rattle.std.specs.Prelude.{map};
+    ghost use Rattle.nsc_accounts.specs.NamedId.{pair_of};
+    ghost use Rattle.nsc_model.specs.Answers.{service_answer, service_pairs};
     ghost use Rattle.nsc_model.specs.Files.{FilesFit};
-    ghost use Rattle.nsc_switch.specs.Lists.{list_in, lists_of};
+    ghost use Rattle.nsc_switch.specs.Lists.{compat_list_in, list_in, lists_of};
 
     /// A content, once its service lists are read and its files have their indexes. Fails only for want of memory.
     pub(crate) fn of(alloc: Global, content: Arc<Content>) -> Result<Prepared, NoMemory>
@@ -148,20 +155,45 @@ impl Prepared {
         }
     }
 
-    /// The outcome of the service `compat` for the request of this kind and key. Fails only for want of memory.
-    pub(crate) fn in_compat(
+    /// The list that the compat lines of a database ask. Hosts and services have no compat, so theirs is never asked.
+    pub(crate) fn compat_list(&self, db: Db) -> &[SwitchStep]
+        ensures { result.now ≡ compat_list_in (lists_of self.now) db }
+    {
+        self.lists.compat_list(db)
+    }
+
+    /// The names and ids of the groups of a user in the file of a service, none dropped. Fails only for want of memory.
+    pub(crate) fn named_groups(
         &self,
         alloc: Global,
-        kind: Kind,
-        key: &[u8],
-    ) -> Result<Looked, NoMemory>
-        ensures { IfOk result (λ looked. looked ≡ service_answer self.now (record { kind = kind; key = key.now }) Compat) }
+        service: SwitchService,
+        user: &[u8],
+    ) -> Result<Vec<NamedId>, NoMemory>
+        ensures { IfOk result (λ groups. map pair_of groups.items ≡ service_pairs self.now user.now service) }
     {
-        let services = PlainServices {
-            content: &self.content,
-            lists: &self.lists,
-        };
-        services.look(alloc, SwitchService::Compat, kind, key)
+        let group = self.content.file(FileId::Group);
+        let extra_group = self.content.file(FileId::ExtraGroup);
+        match service {
+            SwitchService::Files => groups_in(alloc, group, &self.groups, user),
+            SwitchService::Extrausers => groups_in(alloc, extra_group, &self.extra_groups, user),
+            SwitchService::Compat | SwitchService::Other => Ok(Vec::new(alloc)),
+        }
+    }
+}
+
+// The names and ids of the groups of a user in a group file; in an absent one there are none.
+fn groups_in(
+    alloc: Global,
+    file: Option<&[u8]>,
+    groups: &GroupIndex,
+    user: &[u8],
+) -> Result<Vec<NamedId>, NoMemory>
+    requires { IsGroupIndex (text_of (option_copied file)) groups.now }
+    ensures { IfOk result (λ groups. map pair_of groups.items ≡ pairs_of user.now (option_copied file.entry)) }
+{
+    match file {
+        Some(text) => groups.named_groups(alloc, text, user),
+        None => Ok(Vec::new(alloc)),
     }
 }
 

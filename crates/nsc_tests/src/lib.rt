@@ -13,6 +13,8 @@ mod held;
 #[cfg(test)]
 mod host_sockets;
 #[cfg(test)]
+mod indexes;
+#[cfg(test)]
 mod jobs;
 #[cfg(test)]
 mod lookups;

@@ -1,0 +1,33 @@
+use nsc_base::{Bytes, NoMemory};
+use nsc_index::{Indexed, Prepared};
+use nsc_model::{Answerer, Content, FileId, Kind};
+use std::alloc::Global;
+use std::sync::Arc;
+use std::test::Fail;
+
+// The entry of the first line, which has the name of the third and the id of the second.
+const FIRST: &[u8] =
+    b"\x02\0\0\0\x01\0\0\0\x02\0\0\0\x02\0\0\0\x01\0\0\0\x01\0\0\0\x01\0\0\0\x01\0\0\0\x01\0\0\0a\0x\0\0\0\0";
+
+const THIRD: &[u8] =
+    b"\x02\0\0\0\x01\0\0\0\x02\0\0\0\x02\0\0\0\x02\0\0\0\x02\0\0\0\x01\0\0\0\x01\0\0\0\x01\0\0\0a\0x\0\0\0\0";
+
+fn prepared(alloc: Global) -> Result<Prepared, NoMemory> {
+    let file = Bytes::copy(alloc, b"a:x:1:1:::\nb:x:1:1:::\na:x:2:2:::\n")?;
+    let mut content = Content::none();
+    content.set(FileId::Passwd, Some(file));
+    Indexed.prepare(alloc, Arc::new(alloc, content)?)
+}
+
+#[test]
+fn finds_first_lines(rt: HostRuntime) -> Result<(), Fail> {
+    let alloc = rt.alloc();
+    let ready = prepared(alloc)?;
+    let by_name = Indexed.answer(alloc, &ready, Kind::PwName, b"a")?;
+    assert_eq!(rt; by_name.bytes(), FIRST);
+    let by_id = Indexed.answer(alloc, &ready, Kind::PwUid, b"1")?;
+    assert_eq!(rt; by_id.bytes(), FIRST);
+    let other_id = Indexed.answer(alloc, &ready, Kind::PwUid, b"2")?;
+    assert_eq!(rt; other_id.bytes(), THIRD);
+    Ok(())
+}
