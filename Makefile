@@ -81,6 +81,7 @@ bench: build
 	bench/replay
 	bench/store
 	bench/daemon
+	bench/index
 
 # What is proved already lies in the out folders too, so a build after this one proves from the start.
 clean:

@@ -251,4 +251,5 @@ def main():
     sys.exit(bool(broken))
 
 
-main()
+if __name__ == "__main__":
+    main()
