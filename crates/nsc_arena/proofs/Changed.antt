@@ -189,12 +189,12 @@ one_ended layout nodes n at row among place =
     map_twice (at_place at ended) (ended_if at) nodes
     ∙ same_map (λ p. at_place at ended (ended_if at p)) (ended_if (at + words_in n.node)) nodes (λ p m. ⊎_elim
     (λ (l : p.place < at).
-        let ne : p.place ≢ at = omega arith in
-        ap (at_place at ended) (ends_if at p l) ∙ ap (λ (b : Bool). cond b (ended (ended p)) (ended p)) (ne_eqb p.place at ne) ∙ sym (ends_if (at + words_in n.node) p (omega arith)))
+    let ne : p.place ≢ at = omega arith in
+    ap (at_place at ended) (ends_if at p l) ∙ ap (λ (b : Bool). cond b (ended (ended p)) (ended p)) (ne_eqb p.place at ne) ∙ sym (ends_if (at + words_in n.node) p (omega arith)))
     (λ (h : at ≤ p.place). ap (at_place at ended) (stays_if at p h) ∙ ⊎_elim
-        (λ (e : p.place ≡ at). ap (λ (b : Bool). cond b (ended p) p) (eq-eqb p.place at e) ∙ sym (ends_if (at + words_in n.node) p (omega arith)))
-        (λ (ne : p.place ≢ at). let far = apart (arena_start layout) nodes n p row among m (omega arith) in ap (λ (b : Bool). cond b (ended p) p) (ne_eqb p.place at ne) ∙ sym (stays_if (at + words_in n.node) p (omega arith)))
-        (cases_eq p.place at))
+    (λ (e : p.place ≡ at). ap (λ (b : Bool). cond b (ended p) p) (eq-eqb p.place at e) ∙ sym (ends_if (at + words_in n.node) p (omega arith)))
+    (λ (ne : p.place ≢ at). let far = apart (arena_start layout) nodes n p row among m (omega arith) in ap (λ (b : Bool). cond b (ended p) p) (ne_eqb p.place at ne) ∙ sym (stays_if (at + words_in n.node) p (omega arith)))
+    (cases_eq p.place at))
     (cases_lt p.place at))
 
 -- a node that did not end so far is one of the changed ones

@@ -8,5 +8,4 @@ ghost use Rattle.nsc_arena.specs.ReadBack.{nodes_in};
 /// Words hold one list of nodes at most, and that is the one that is read back.
 pub fn nodes_are_read_back()
     ensures { (words : List ℕ) (map : Layout) (nodes : List Placed) → Laid words map nodes → nodes_in words map ≡ nodes }
-{
-}
+{}

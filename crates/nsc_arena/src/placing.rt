@@ -48,11 +48,23 @@ pub fn place<W: Words>(table: &mut W, map: Layout, node: &Node) -> Option<usize>
         reloads: node.reloads,
         not_found: node.not_found,
     };
-    place_bytes(table, map, fixed, node.key.as_slice(), node.reply.as_slice())
+    place_bytes(
+        table,
+        map,
+        fixed,
+        node.key.as_slice(),
+        node.reply.as_slice(),
+    )
 }
 
 /// The same with a key and a reply that are lent.
-pub fn place_bytes<W: Words>(table: &mut W, map: Layout, fixed: Fixed, key: &[u8], reply: &[u8]) -> Option<usize>
+pub fn place_bytes<W: Words>(
+    table: &mut W,
+    map: Layout,
+    fixed: Fixed,
+    key: &[u8],
+    reply: &[u8],
+) -> Option<usize>
     requires layout { IsLayout map }
     requires kind { fixed.kind < 256 }
     requires key { length key.now ≤ 1024 }

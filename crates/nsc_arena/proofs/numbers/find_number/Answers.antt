@@ -1,9 +1,9 @@
-use Rattle.std.proofs.Common.{◌≡◌, ◌≢◌, ℕ, ◌+◌, ◌<◌, ◌≤◌, ⊎_elim, Bool, true, false, ◌&&◌, eqb, List, [], ◌∷◌, slice_index, refl, sym, ap, subst, ◌∙◌, arith}
+use Rattle.std.proofs.Common.{◌≡◌, ◌≢◌, ℕ, ◌+◌, ◌<◌, ⊎_elim, Bool, true, ◌&&◌, eqb, List, [], ◌∷◌, sym, ap, subst, ◌∙◌, arith}
 use Rattle.std.proofs.lemmas.Bool.{eqb-true, eq-eqb, false≢true}
 use Rattle.nsc_words.specs.declared.node.Placed.{Placed}
-use Rattle.nsc_words.specs.Laid.{Among, Laid, end_of, words_in}
+use Rattle.nsc_words.specs.Laid.{Among, end_of, words_in}
 use Rattle.nsc_words.specs.Layout.{arena_start}
-use Rattle.nsc_arena.specs.Changes.{IsNodeAt, IsNumbered}
+use Rattle.nsc_arena.specs.Changes.{IsNodeAt}
 use Rattle.nsc_arena.proofs.Passed.{Passed, passed_none, passed_next, passed_all}
 use Rattle.nsc_arena.proofs.Walks.{both}
 use Rattle.nsc_arena.proofs.numbers.find_number.Goals as goal
@@ -87,25 +87,25 @@ nodes-smaller g c =
     omega arith
 
 pub nodes-preserved : goal.nodes-preserved
-nodes-preserved g c =
-    ( c.words_at-at.ensures.same ∙ c.is_numbered.ensures.same ∙ c.nodes.invariant.0
-    , c.words_at-at.ensures.open ∙ c.is_numbered.ensures.open ∙ c.nodes.invariant.1
-    , λ nodes laid.
-        let layout = c.args.map in
-        let old : List ℕ = g.W.Words.words c.args.table.now in
-        let done = c.nodes.invariant.2 nodes laid in
-        let end : c.get-end.result ≡ end_of (arena_start layout) nodes = c.get-end.ensures.value ∙ laid.first_free in
-        let low = c.nodes-test.true in
-        let more : c.nodes.at < end_of (arena_start layout) nodes = omega arith in
-        let n = passed_next old layout nodes done.0 c.nodes.at c.requires.layout laid done.1 more in
-        let same : g.W.Words.words c.nodes.table ≡ old = c.nodes.invariant.0 in
-        let count : c.words_at-at.result ≡ words_in n.node.node = c.words_at-at.ensures.words n.node (subst (λ (ws : List ℕ). IsNodeAt ws c.nodes.at n.node) (sym (c.is_numbered.ensures.same ∙ same)) n.here) in
-        let other : n.node.usable ≡ true → n.node.node.number ≢ c.args.number = λ usable e. false≢true (sym c.if-is_numbered.false ∙ c.is_numbered.ensures.is n.node (subst (λ (ws : List ℕ). IsNodeAt ws c.nodes.at n.node) (sym same) n.here) ∙ ap (λ (b : Bool). b && eqb n.node.node.number c.args.number) usable ∙ eq-eqb n.node.node.number c.args.number e) in
-        ( n.node ∷ done.0
-        , subst (λ (k : ℕ). Passed layout nodes (n.node ∷ done.0) (c.nodes.at + k)) (sym count) n.passed
-        , λ p among usable. ⊎_elim (λ (e : p ≡ n.node). λ (same_number : p.node.number ≡ c.args.number). other (ap (λ (q : Placed). q.usable) (sym e) ∙ usable) (ap (λ (q : Placed). q.node.number) (sym e) ∙ same_number)) (λ (m : Among p done.0). done.2 p m usable) among
-        )
-    )
+nodes-preserved g c = (
+  c.words_at-at.ensures.same ∙ c.is_numbered.ensures.same ∙ c.nodes.invariant.0,
+  c.words_at-at.ensures.open ∙ c.is_numbered.ensures.open ∙ c.nodes.invariant.1,
+  λ nodes laid.
+      let layout = c.args.map in
+      let old : List ℕ = g.W.Words.words c.args.table.now in
+      let done = c.nodes.invariant.2 nodes laid in
+      let end : c.get-end.result ≡ end_of (arena_start layout) nodes = c.get-end.ensures.value ∙ laid.first_free in
+      let low = c.nodes-test.true in
+      let more : c.nodes.at < end_of (arena_start layout) nodes = omega arith in
+      let n = passed_next old layout nodes done.0 c.nodes.at c.requires.layout laid done.1 more in
+      let same : g.W.Words.words c.nodes.table ≡ old = c.nodes.invariant.0 in
+      let count : c.words_at-at.result ≡ words_in n.node.node = c.words_at-at.ensures.words n.node (subst (λ (ws : List ℕ). IsNodeAt ws c.nodes.at n.node) (sym (c.is_numbered.ensures.same ∙ same)) n.here) in
+      let other : n.node.usable ≡ true → n.node.node.number ≢ c.args.number = λ usable e. false≢true (sym c.if-is_numbered.false ∙ c.is_numbered.ensures.is n.node (subst (λ (ws : List ℕ). IsNodeAt ws c.nodes.at n.node) (sym same) n.here) ∙ ap (λ (b : Bool). b && eqb n.node.node.number c.args.number) usable ∙ eq-eqb n.node.node.number c.args.number e) in (
+        n.node ∷ done.0,
+        subst (λ (k : ℕ). Passed layout nodes (n.node ∷ done.0) (c.nodes.at + k)) (sym count) n.passed,
+        λ p among usable. ⊎_elim (λ (e : p ≡ n.node). λ (same_number : p.node.number ≡ c.args.number). other (ap (λ (q : Placed). q.usable) (sym e) ∙ usable) (ap (λ (q : Placed). q.node.number) (sym e) ∙ same_number)) (λ (m : Among p done.0). done.2 p m usable) among,
+      ),
+)
 
 pub returns-clause-same : goal.returns-clause-same
 returns-clause-same g c = c.nodes.invariant.0
