@@ -1,12 +1,12 @@
 -- A node that is changed where it stands.
-use Rattle.std.proofs.Common.{◌≡◌, ◌≢◌, ℕ, ◌+◌, ◌<◌, ◌≤◌, inl, inr, ⊎_elim, Bool, true, false, cond, eqb, eq-eqb, List, [], ◌∷◌, length, map, set, slice_index, refl, sym, ap, subst, ◌∙◌, arith, get_or-set_other, get_or-set_same}
+use Rattle.std.proofs.Common.{◌≡◌, ◌≢◌, ℕ, ◌+◌, ◌<◌, ◌≤◌, inl, inr, ⊎_elim, Bool, true, false, cond, eqb, eq-eqb, ltb, List, [], ◌∷◌, length, map, set, slice_index, refl, sym, ap, subst, ◌∙◌, arith, get_or-set_other, get_or-set_same}
 use Rattle.std.proofs.Math.ListN.{length-set}
-use Rattle.std.proofs.lemmas.Bool.{cases_eq, cases_lt, false≢true, ne_eqb}
+use Rattle.std.proofs.lemmas.Bool.{cases_eq, cases_lt, false≢true, ne_eqb, lt-ltb, le-ltb}
 use Rattle.nsc_words.specs.declared.layout.Layout.{Layout}
 use Rattle.nsc_words.specs.declared.node.Placed.{Placed}
 use Rattle.nsc_words.specs.Laid.{Among, InRow, Laid, Leads, Rising, Stands, bucket_in, end_of, words_in}
 use Rattle.nsc_words.specs.Layout.{IsLayout, arena_start}
-use Rattle.nsc_arena.specs.Changes.{changed_at, ended, with_reloads}
+use Rattle.nsc_arena.specs.Changes.{IsNodeAt, changed_at, ended, with_reloads}
 use Rattle.nsc_arena.proofs.Rows.{kept, moved_but, within, apart}
 
 -- a change that leaves a node where it is, with its number and its request; it does not make an ended one usable
@@ -35,6 +35,11 @@ at_change layout place change is = record {
 
   by : (P : Placed → Type 0) (p : Placed) → P (change p) → P p → P (cond (eqb p.place place) (change p) p)
   by P p here other = cases (eqb p.place place) P p here other
+
+into_map : (f : Placed → Placed) (nodes : List Placed) (p : Placed) → Among p nodes → Among (f p) (map f nodes)
+into_map f [] p among = absurd among
+into_map f (q ∷ nodes) p (inl e) = inl (ap f e)
+into_map f (q ∷ nodes) p (inr among) = inr (into_map f nodes p among)
 
 module _ (layout : Layout) (f : Placed → Placed) (is : IsChange layout f) where
   -- a node of the new list is one of the old list, changed
@@ -146,3 +151,62 @@ reloads_laid old new layout nodes p at count sizes laid among place is =
       node = record { kind = stands.node.kind; key = stands.node.key; reply = stands.node.reply; key_bytes = stands.node.key_bytes; reply_bytes = stands.node.reply_bytes };
       holds = moved_but old new q.place q.place q.node q.usable count q.usable (λ i more a b c. same i a) stands.holds value (same 6 (omega arith) ∙ stands.holds.state);
     })
+
+-- ---- all nodes end, from the oldest one on
+
+abbrev pub ended_if : ℕ → Placed → Placed
+ended_if at p = cond (ltb p.place at) (ended p) p
+
+pub same_map : (f g : Placed → Placed) (nodes : List Placed) → ((p : Placed) → Among p nodes → f p ≡ g p) → map f nodes ≡ map g nodes
+same_map f g [] same = refl
+same_map f g (p ∷ nodes) same = λ i. same p (inl refl) i ∷ same_map f g nodes (λ q m. same q (inr m)) i
+
+map_twice : (f g : Placed → Placed) (nodes : List Placed) → map f (map g nodes) ≡ map (λ p. f (g p)) nodes
+map_twice f g [] = refl
+map_twice f g (p ∷ nodes) = ap (λ (ps : List Placed). f (g p) ∷ ps) (map_twice f g nodes)
+
+same_list : (nodes : List Placed) → map (λ p. p) nodes ≡ nodes
+same_list [] = refl
+same_list (p ∷ nodes) = ap (λ (ps : List Placed). p ∷ ps) (same_list nodes)
+
+stays_if : (at : ℕ) (p : Placed) → at ≤ p.place → ended_if at p ≡ p
+stays_if at p high = ap (λ (b : Bool). cond b (ended p) p) (le-ltb p.place at high)
+
+ends_if : (at : ℕ) (p : Placed) → p.place < at → ended_if at p ≡ ended p
+ends_if at p low = ap (λ (b : Bool). cond b (ended p) p) (lt-ltb p.place at low)
+
+-- before the first none ended
+pub none_ended : (layout : Layout) (nodes : List Placed) (at : ℕ) → InRow (arena_start layout) nodes → at ≡ arena_start layout → map (ended_if at) nodes ≡ nodes
+none_ended layout nodes at row is = same_map (ended_if at) (λ p. p) nodes (λ p m. let here = within (arena_start layout) nodes p row m in stays_if at p (omega arith)) ∙ same_list nodes
+
+-- behind the last all did
+pub whole_ended : (layout : Layout) (nodes : List Placed) (at : ℕ) → InRow (arena_start layout) nodes → end_of (arena_start layout) nodes ≤ at → map (ended_if at) nodes ≡ map ended nodes
+whole_ended layout nodes at row over = same_map (ended_if at) ended nodes (λ p m. let here = within (arena_start layout) nodes p row m in ends_if at p (omega arith))
+
+-- one more ends
+pub one_ended : (layout : Layout) (nodes : List Placed) (n : Placed) (at : ℕ) → InRow (arena_start layout) nodes → Among n nodes → n.place ≡ at → changed_at at ended (map (ended_if at) nodes) ≡ map (ended_if (at + words_in n.node)) nodes
+one_ended layout nodes n at row among place =
+    map_twice (at_place at ended) (ended_if at) nodes
+    ∙ same_map (λ p. at_place at ended (ended_if at p)) (ended_if (at + words_in n.node)) nodes (λ p m. ⊎_elim
+    (λ (l : p.place < at).
+    let ne : p.place ≢ at = omega arith in
+    ap (at_place at ended) (ends_if at p l) ∙ ap (λ (b : Bool). cond b (ended (ended p)) (ended p)) (ne_eqb p.place at ne) ∙ sym (ends_if (at + words_in n.node) p (omega arith)))
+    (λ (h : at ≤ p.place). ap (at_place at ended) (stays_if at p h) ∙ ⊎_elim
+    (λ (e : p.place ≡ at). ap (λ (b : Bool). cond b (ended p) p) (eq-eqb p.place at e) ∙ sym (ends_if (at + words_in n.node) p (omega arith)))
+    (λ (ne : p.place ≢ at). let far = apart (arena_start layout) nodes n p row among m (omega arith) in ap (λ (b : Bool). cond b (ended p) p) (ne_eqb p.place at ne) ∙ sym (stays_if (at + words_in n.node) p (omega arith)))
+    (cases_eq p.place at))
+    (cases_lt p.place at))
+
+-- a node that did not end so far is one of the changed ones
+pub still_among : (nodes : List Placed) (n : Placed) (at : ℕ) → Among n nodes → n.place ≡ at → Among n (map (ended_if at) nodes)
+still_among nodes n at among place = subst (λ (q : Placed). Among q (map (ended_if at) nodes)) (stays_if at n (omega arith)) (into_map (ended_if at) nodes n among)
+
+pub ended_at : (words : List ℕ) (layout : Layout) (nodes : List Placed) (n : Placed) (at : ℕ) → IsLayout layout → Among n nodes → n.place ≡ at → Laid words layout (map (ended_if at) nodes) → IsNodeAt words at n
+ended_at words layout nodes n at sizes among place laid =
+    let still = still_among nodes n at among place in
+    let here = within (arena_start layout) (map (ended_if at) nodes) n laid.row still in
+    let room = laid.room in
+    let table = laid.table in
+    let few = sizes.buckets in
+    let small = sizes.room in
+    record { place = place; stands = laid.stands n still; inside = omega arith; size = omega arith }

@@ -1,10 +1,10 @@
 -- Nodes passed one after the other, from the oldest one on.
-use Rattle.std.proofs.Common.{◌≡◌, ℕ, ◌+◌, ◌<◌, ◌≤◌, inl, List, [], ◌∷◌, ◌++◌, length, refl, sym, ap, subst, ◌∙◌, arith}
+use Rattle.std.proofs.Common.{◌≡◌, ℕ, ◌+◌, ◌<◌, ◌≤◌, inl, List, [], ◌∷◌, ◌++◌, refl, sym, ap, subst, ◌∙◌, arith}
 use Rattle.std.proofs.lemmas.List.{append-nil}
 use Rattle.nsc_words.specs.declared.layout.Layout.{Layout}
 use Rattle.nsc_words.specs.declared.node.Placed.{Placed}
 use Rattle.nsc_words.specs.Laid.{Among, InRow, Laid, end_of, words_in}
-use Rattle.nsc_words.specs.Layout.{IsLayout, arena_start, table_words}
+use Rattle.nsc_words.specs.Layout.{IsLayout, arena_start}
 use Rattle.nsc_arena.specs.Changes.{IsNodeAt}
 use Rattle.nsc_arena.proofs.Rows.{within}
 use Rattle.nsc_arena.proofs.Slides.{among_of, ends_before, oldest, row_of}

@@ -1,17 +1,16 @@
 -- Words that hold nodes hold no others.
-use Rattle.std.proofs.Common.{◌≡◌, ◌≢◌, ℕ, zero, suc, ◌+◌, ◌-◌, ◌*◌, ◌/◌, ◌%◌, ◌<◌, ◌≤◌, Bool, true, false, cond, eqb, eq-eqb, ltb, inl, List, [], ◌∷◌, ◌++◌, length, map, take, slice_index, refl, sym, ap, subst, ◌∙◌, arith}
-use Rattle.std.specs.List.{All, range_with_len}
+use Rattle.std.proofs.Common.{◌≡◌, ◌≢◌, ℕ, zero, suc, ◌+◌, ◌*◌, ◌/◌, ◌%◌, ◌<◌, ◌≤◌, Bool, true, false, cond, eqb, eq-eqb, ltb, inl, List, [], ◌∷◌, ◌++◌, length, take, slice_index, refl, sym, ap, subst, ◌∙◌, arith}
+use Rattle.std.specs.List.{All}
 use Rattle.std.specs.Int.{bytes_low_first}
 use Rattle.std.proofs.lemmas.Bool.{ne_eqb, lt-ltb, le-ltb}
 use Rattle.std.proofs.lemmas.List.{append-nil, get_or-take}
 use Rattle.std.proofs.lemmas.List.FromFn.{fill_by_all}
-use Rattle.byteorder.specs.Endian.{little_bytes}
 use Rattle.nsc_base.specs.Nodes.{words_for}
 use Rattle.nsc_words.specs.declared.layout.Layout.{Layout}
 use Rattle.nsc_words.specs.declared.node.Node.{Node}
 use Rattle.nsc_words.specs.declared.node.Placed.{Placed}
-use Rattle.nsc_words.specs.Laid.{Among, Holds, InRow, Laid, Stands, end_of, words_in}
-use Rattle.nsc_words.specs.Layout.{arena_start, table_words}
+use Rattle.nsc_words.specs.Laid.{Among, InRow, Laid, Stands, end_of, words_in}
+use Rattle.nsc_words.specs.Layout.{arena_start}
 use Rattle.nsc_words.specs.Words.{HoldsBytes, word_of}
 use Rattle.nsc_words.proofs.Lows.{byte_of, take_low}
 use Rattle.nsc_arena.specs.ReadBack.{byte_in, bytes_in, node_by, placed_in, nodes_from, nodes_in}

@@ -1,5 +1,5 @@
 -- Nodes one after the other.
-use Rattle.std.proofs.Common.{◌≡◌, ◌≢◌, ℕ, ◌+◌, ◌^◌, ◌<◌, ◌≤◌, inl, inr, Bool, cond, List, [], ◌∷◌, length, slice_index, sym, ap, subst, ◌∙◌, arith}
+use Rattle.std.proofs.Common.{◌≡◌, ◌≢◌, ℕ, ◌+◌, ◌^◌, ◌<◌, ◌≤◌, inl, inr, Bool, cond, List, [], ◌∷◌, length, set, slice_index, sym, ap, subst, ◌∙◌, arith, length-set, get_or-set_other}
 use Rattle.nsc_base.specs.Nodes.{words_for}
 use Rattle.nsc_words.specs.declared.layout.Layout.{Layout}
 use Rattle.nsc_words.specs.declared.node.Node.{Node}
@@ -94,3 +94,24 @@ inside words layout nodes p sizes laid among =
     let room = laid.room in
     let size = laid.table in
     (omega arith, omega arith, omega arith)
+
+-- writes at the head, but for FIRST_FREE, leave the nodes
+pub same_body : (old new : List ℕ) (layout : Layout) (nodes : List Placed) → Laid old layout nodes → length new ≡ length old → slice_index new 3 ≡ slice_index old 3 → ((i : ℕ) → 16 ≤ i → slice_index new i ≡ slice_index old i) → Laid new layout nodes
+same_body old new layout nodes laid size first same =
+    let start : ℕ = arena_start layout in
+    record {
+      table = size ∙ laid.table;
+      first_free = first ∙ laid.first_free;
+      room = laid.room;
+      row = laid.row;
+      rising = laid.rising;
+      stands = λ p among. let at = within start nodes p laid.row among in kept old new p (λ i more other. same (p.place + i) (omega arith)) (laid.stands p among);
+      buckets = λ i more. subst (λ (to : ℕ). Leads layout nodes (16 + i) (end_of start nodes) to) (sym (same (16 + i) (omega arith))) (laid.buckets i more);
+      nexts = λ p among. let at = within start nodes p laid.row among in subst (λ (to : ℕ). Leads layout nodes (bucket_in layout p) p.place to) (sym (same (p.place + 7) (omega arith))) (laid.nexts p among);
+    }
+
+pub set_head : (old new : List ℕ) (layout : Layout) (nodes : List Placed) (k value : ℕ) → k < 16 → k ≢ 3 → new ≡ set old k value → Laid old layout nodes → Laid new layout nodes
+set_head old new layout nodes k value low other is laid =
+    same_body old new layout nodes laid (ap length is ∙ length-set old k value)
+    (let ne : 3 ≢ k = omega arith in ap (λ (ws : List ℕ). slice_index ws 3) is ∙ get_or-set_other old k 3 value 0 ne)
+    (λ i high. let ne : i ≢ k = omega arith in ap (λ (ws : List ℕ). slice_index ws i) is ∙ get_or-set_other old k i value 0 ne)

@@ -37,13 +37,13 @@ oldest p (q ∷ newer) done = let w = oldest q newer done in (p ∷ w.0, w.1, ap
 -- ---- what was slid
 
 -- a node that was slid is one of those before, at another place
-slid_from : (start : ℕ) (nodes : List Placed) (q : Placed) → Among q (slid start nodes) → (p : Placed) × Among p nodes × (q.node ≡ p.node)
+pub slid_from : (start : ℕ) (nodes : List Placed) (q : Placed) → Among q (slid start nodes) → (p : Placed) × Among p nodes × (q.node ≡ p.node) × (q.usable ≡ p.usable)
 slid_from start [] q among = absurd among
 slid_from start (p ∷ older) q among = by p.usable among (slid_from start older q) where
-  by : (b : Bool) → Among q (cond b (record p { place = end_of start (slid start older) } ∷ slid start older) (slid start older)) → (Among q (slid start older) → (r : Placed) × Among r older × (q.node ≡ r.node)) → (r : Placed) × Among r (p ∷ older) × (q.node ≡ r.node)
-  by true (inl e) rest = (p, inl refl, ap (λ (s : Placed). s.node) e)
-  by true (inr m) rest = let w = rest m in (w.0, inr w.1, w.2)
-  by false m rest = let w = rest m in (w.0, inr w.1, w.2)
+  by : (b : Bool) → Among q (cond b (record p { place = end_of start (slid start older) } ∷ slid start older) (slid start older)) → (Among q (slid start older) → (r : Placed) × Among r older × (q.node ≡ r.node) × (q.usable ≡ r.usable)) → (r : Placed) × Among r (p ∷ older) × (q.node ≡ r.node) × (q.usable ≡ r.usable)
+  by true (inl e) rest = (p, inl refl, ap (λ (s : Placed). s.node) e, ap (λ (s : Placed). s.usable) e)
+  by true (inr m) rest = let w = rest m in (w.0, inr w.1, w.2, w.3)
+  by false m rest = let w = rest m in (w.0, inr w.1, w.2, w.3)
 
 -- ---- how far it has come
 

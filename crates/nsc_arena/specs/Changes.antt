@@ -37,6 +37,9 @@ changed_at place change nodes = map (λ p. if p.place == place then change p els
 abbrev pub ended : Placed → Placed
 ended p = record p { usable = false }
 
+abbrev pub all_ended : List Placed → List Placed
+all_ended nodes = map ended nodes
+
 abbrev pub with_reloads : ℕ → Placed → Placed
 with_reloads count p = record p { node = record p.node { reloads = count } }
 

@@ -4,6 +4,7 @@
 
 mod chaining;
 mod changing;
+mod ending;
 mod laws;
 mod memory;
 mod numbers;
@@ -15,6 +16,7 @@ mod writing;
 
 pub use chaining::chain;
 pub use changing::{end_node, set_reloads};
+pub use ending::end_nodes;
 pub use laws::nodes_are_read_back;
 pub use memory::{Reading, VecWords, Words};
 pub use nsc_words::{Node, Placed};

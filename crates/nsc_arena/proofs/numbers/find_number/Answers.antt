@@ -1,9 +1,9 @@
-use Rattle.std.proofs.Common.{◌≡◌, ◌≢◌, ℕ, ◌+◌, ◌<◌, ◌≤◌, ⊎_elim, Bool, true, false, ◌&&◌, eqb, List, [], ◌∷◌, slice_index, refl, sym, ap, subst, ◌∙◌, arith}
+use Rattle.std.proofs.Common.{◌≡◌, ◌≢◌, ℕ, ◌+◌, ◌<◌, ⊎_elim, Bool, true, ◌&&◌, eqb, List, [], ◌∷◌, sym, ap, subst, ◌∙◌, arith}
 use Rattle.std.proofs.lemmas.Bool.{eqb-true, eq-eqb, false≢true}
 use Rattle.nsc_words.specs.declared.node.Placed.{Placed}
-use Rattle.nsc_words.specs.Laid.{Among, Laid, end_of, words_in}
+use Rattle.nsc_words.specs.Laid.{Among, end_of, words_in}
 use Rattle.nsc_words.specs.Layout.{arena_start}
-use Rattle.nsc_arena.specs.Changes.{IsNodeAt, IsNumbered}
+use Rattle.nsc_arena.specs.Changes.{IsNodeAt}
 use Rattle.nsc_arena.proofs.Passed.{Passed, passed_none, passed_next, passed_all}
 use Rattle.nsc_arena.proofs.Walks.{both}
 use Rattle.nsc_arena.proofs.numbers.find_number.Goals as goal

@@ -1,0 +1,33 @@
+use Rattle.std.proofs.Common.{◌≡◌, ◌≢◌, ℕ, ◌-◌, ◌<◌, List, [], replicate, slice_index, refl, ap, ◌∙◌, arith}
+use Rattle.nsc_words.specs.declared.layout.Layout.{Layout}
+use Rattle.nsc_words.specs.Laid.{Laid}
+use Rattle.nsc_words.specs.Layout.{arena_start}
+use Rattle.nsc_shelf.specs.Shelf.{AreEntries}
+use Rattle.nsc_shelf.proofs.States.{view_by, shelf_by}
+use Rattle.std.proofs.lemmas.List.{get_or-replicate}
+use Rattle.nsc_shelf.proofs.shelf.Shelf.new.Goals as goal
+
+zeros : (n i : ℕ) → i < n → slice_index (replicate n 0) i ≡ 0
+zeros n i h = get_or-replicate n i 0 0 h
+
+none : AreEntries [] 0
+none = record { kinds = λ p m. absurd m; numbers = λ p m. absurd m; apart = λ p q m. absurd m }
+
+pub invariant_of-result : goal.invariant_of-result
+invariant_of-result c =
+    let w = c.clear.new.table in
+    let laid : Laid w c.args.map [] = c.clear.ensures.laid in
+    let size = c.words.ensures in
+    let e4 : slice_index w 4 ≡ 0 = c.clear.ensures.head 4 (omega arith) (omega arith) ∙ ap (λ (ws : List ℕ). slice_index ws 4) c.in_ok-words.ensures ∙ zeros c.words.result 4 (omega arith) in
+    shelf_by w c.args.map [] 0 0 c.requires laid none e4 (omega arith) refl
+
+pub returns : goal.returns
+returns c =
+    let w = c.clear.new.table in
+    let m : Layout = c.args.map in
+    let laid : Laid w m [] = c.clear.ensures.laid in
+    let size = c.words.ensures in
+    let zero : (i : ℕ) → i < 16 → i ≢ 3 → slice_index w i ≡ 0 = λ i low other. c.clear.ensures.head i low other ∙ ap (λ (ws : List ℕ). slice_index ws i) c.in_ok-words.ensures ∙ zeros c.words.result i (omega arith) in
+    let view = view_by w m [] 0 0 0 laid (zero 4 (omega arith) (omega arith)) (zero 0 (omega arith) (omega arith)) (zero 9 (omega arith) (omega arith)) in
+    let used : arena_start m - arena_start m ≡ 0 = omega arith in
+    view ∙ (λ i. record { entries = []; used = used i; inserted = 0; cycle = 0; add_failed = 0; layout = m })

@@ -1,0 +1,227 @@
+ghost use Rattle.std.specs.Prelude.{◌≡◌, ◌≤◌, ◌<◌, ◌+◌, ◌^◌, ◌++◌, [], ◌∷◌, None, length, min, IfOk, IfErr, IfNone, IfSome};
+ghost use Rattle.nsc_words.specs.Layout.{IsLayout};
+ghost use Rattle.nsc_base.specs.Nodes.{node_words};
+ghost use Rattle.nsc_model.specs.Entry.{key_limit, kept_limit};
+ghost use Rattle.nsc_model.specs.Machine.{all_words, entry_words, last_count, live_entry, used_now};
+ghost use Rattle.nsc_shelf.specs.Shelf.{Gives, fresh_entry, has_number, number_of, others_than};
+
+use nsc_arena::{
+    Fixed, VecWords, Words, chain, clear, end_node, end_nodes, find_number, head_at, place_bytes,
+    read_bytes, set_reloads, slide, walk,
+};
+use nsc_base::{Buf, NoMemory};
+use nsc_model::{Answer, Kind, Spent};
+use nsc_plain::LAST_COUNT;
+use nsc_words::{ADD_FAILED, CYCLE, FIRST_FREE, KEY, LOADS, Layout};
+use std::alloc::Global;
+use std::marker::Model;
+
+/// A live entry that answered a lookup.
+#[derive(Clone, Copy, Debug, PartialEq, Eq)]
+pub struct Hit {
+    /// Its number.
+    pub number: u64,
+    /// The version that its answer was made over.
+    pub version: u64,
+    /// Whether its reply is a not-found reply.
+    pub not_found: bool,
+}
+
+/// The live entries of a database as nodes in the words of a table, with their counts at its head; it knows of no content and of no
+/// history. Its memory is taken when it is made.
+#[derive(Drop)]
+pub struct Shelf {
+    words: VecWords,
+    map: Layout,
+    live: usize,
+}
+
+impl Model for Shelf {
+    ghost use Rattle.nsc_shelf.specs.Shelf.{IsShelf, Shelf, shelf_of};
+
+    ghost Value = { Shelf };
+
+    ghost view = { λ s. shelf_of s.words s.map };
+
+    ghost invariant = { λ s. IsShelf s.words s.map s.live };
+}
+
+impl Shelf {
+    /// No entry. Fails only for want of memory.
+    pub fn new(alloc: Global, map: Layout) -> Result<Shelf, NoMemory>
+        requires { IsLayout map }
+        ensures { IfOk result (λ s. s ≡ record { entries = []; used = 0; inserted = 0; cycle = 0; add_failed = 0; layout = map }) }
+    {
+        let mut words = VecWords::new(alloc, map.words())?;
+        clear(&mut words, map);
+        Ok(Shelf {
+            words,
+            map,
+            live: 0,
+        })
+    }
+
+    /// How many entries there are.
+    pub fn len(&self) -> usize
+        ensures { result ≡ length self.now.entries }
+    {
+        self.live
+    }
+
+    /// How many words the entries take, with those that ended since the last compaction.
+    pub fn used(&self) -> usize
+        ensures { result ≡ self.now.used }
+    {
+        self.words.word(FIRST_FREE) as usize - self.map.arena_start()
+    }
+
+    /// How many entries were inserted.
+    pub fn inserted(&self) -> u64
+        ensures value { result ≡ self.now.inserted }
+        ensures bound { result ≤ last_count }
+    {
+        self.words.word(LOADS)
+    }
+
+    /// The count of compactions, which goes on by two at each.
+    pub fn cycle(&self) -> u64
+        ensures { result ≡ self.now.cycle }
+    {
+        self.words.word(CYCLE)
+    }
+
+    /// How many insertions found no room.
+    pub fn add_failed(&self) -> u64
+        ensures { result ≡ self.now.add_failed }
+    {
+        self.words.word(ADD_FAILED)
+    }
+
+    /// The entry that answers the request of this kind and key, if there is one: the buffer then has its reply, and its count of
+    /// reloads begins anew. It is found by the hash of the request.
+    pub fn hit(&mut self, kind: Kind, key: &[u8], reply: &mut Buf) -> Option<Hit>
+        requires { kept_limit ≤ reply.old.limit }
+        ensures gives { Gives (live_entry (record { kind = kind; key = key.now }) self.old.entries) result reply.new.content }
+        ensures stays { IfNone result (self.new ≡ self.old) }
+        ensures used { IfSome result (λ _. self.new ≡ record self.old { entries = used_now (record { kind = kind; key = key.now }) self.old.entries }) }
+        ensures limit { reply.new.limit ≡ reply.old.limit }
+    {
+        reply.clear();
+        let Some(at) = walk(&mut self.words, self.map, kind.number(), key) else {
+            return None;
+        };
+        let head = head_at(&mut self.words, at);
+        let text = at + KEY + head.key_len.div_ceil(8);
+        read_bytes(&mut self.words, text, head.reply_len, reply);
+        set_reloads(&mut self.words, self.map, at, 0);
+        Some(Hit {
+            number: head.number,
+            version: head.version,
+            not_found: head.not_found,
+        })
+    }
+
+    /// The number of the entry that answers the request of this kind and key, if there is one.
+    pub fn number_of(&self, kind: Kind, key: &[u8]) -> Option<u64>
+        ensures { result ≡ number_of (live_entry (record { kind = kind; key = key.now }) self.now.entries) }
+    {
+        let mut words = self.words.reading();
+        match walk(&mut words, self.map, kind.number(), key) {
+            Some(at) => Some(head_at(&mut words, at).number),
+            None => None,
+        }
+    }
+
+    /// Puts an entry after the others: the answer to the request of this kind and key over a version, until its time is over, reloaded
+    /// so often. It takes the next number.
+    pub fn put(
+        &mut self,
+        kind: Kind,
+        key: &[u8],
+        answer: &Answer,
+        version: u64,
+        timeout: u64,
+        reloads: u64,
+    )
+        requires key { length key.now ≤ key_limit }
+        requires reply { length answer.now.bytes ≤ kept_limit }
+        requires new { live_entry (record { kind = kind; key = key.now }) self.old.entries ≡ None }
+        requires count { self.old.inserted < last_count }
+        requires room { self.old.used + node_words (length key.now) (length answer.now.bytes) ≤ self.old.layout.arena }
+        ensures { self.new ≡ record self.old { entries = self.old.entries ++ fresh_entry self.old.inserted kind key.now answer.now version timeout reloads ∷ []; used = self.old.used + node_words (length key.now) (length answer.now.bytes); inserted = self.old.inserted + 1 } }
+    {
+        let number = self.words.word(LOADS);
+        let fixed = Fixed {
+            number,
+            kind: kind.number(),
+            version,
+            timeout,
+            reloads,
+            not_found: answer.is_not_found(),
+        };
+        if let Some(at) = place_bytes(&mut self.words, self.map, fixed, key, answer.bytes()) {
+            chain(&mut self.words, self.map, at);
+            self.words.set(LOADS, number + 1);
+            self.live += 1;
+        }
+    }
+
+    /// Counts an insertion that found no room.
+    pub fn fail(&mut self)
+        ensures { self.new ≡ record self.old { add_failed = min (self.old.add_failed + 1) last_count } }
+    {
+        let count = self.words.word(ADD_FAILED);
+        self.words.set(ADD_FAILED, next_count(count));
+    }
+
+    /// Whether an entry has this number.
+    pub fn has(&self, number: u64) -> bool
+        ensures { result ≡ has_number number self.now.entries }
+    {
+        find_number(&mut self.words.reading(), self.map, number).is_some()
+    }
+
+    /// The entry of this number leaves, if there is one. Its words stay in use.
+    pub fn take_out(&mut self, number: u64)
+        ensures { self.new ≡ record self.old { entries = others_than number self.old.entries } }
+    {
+        if let Some(at) = find_number(&mut self.words, self.map, number) {
+            end_node(&mut self.words, self.map, at);
+            self.live -= 1;
+        }
+    }
+
+    /// Every entry leaves. Their words stay in use.
+    pub fn clear(&mut self)
+        ensures { self.new ≡ record self.old { entries = [] } }
+    {
+        end_nodes(&mut self.words, self.map);
+        self.live = 0;
+    }
+
+    /// The words of entries that left are free again; it gives their number. At `Spent` nothing changed: the count of
+    /// compactions stands at its end.
+    pub fn compact(&mut self) -> Result<u64, Spent>
+        ensures done { IfOk result (λ freed. (self.old.cycle < last_count) × (freed + all_words self.old.entries ≡ self.old.used) × (self.new ≡ record self.old { cycle = self.old.cycle + 2; used = all_words self.old.entries })) }
+        ensures spent { IfErr result (λ spent. (last_count ≤ self.old.cycle) × (spent.count ≡ last_count) × (self.new ≡ self.old)) }
+    {
+        let cycle = self.words.word(CYCLE);
+        if cycle >= LAST_COUNT {
+            return Err(Spent { count: LAST_COUNT });
+        }
+        let freed = slide(&mut self.words, self.map);
+        self.words.set(CYCLE, cycle + 2);
+        Ok(freed as u64)
+    }
+}
+
+// The next count, that stays at its end.
+fn next_count(count: u64) -> u64
+    ensures { result ≡ min (count + 1) last_count }
+{
+    if count < LAST_COUNT {
+        count + 1
+    } else {
+        LAST_COUNT
+    }
+}
