@@ -18,7 +18,7 @@ pub use chaining::chain;
 pub use changing::{end_node, set_reloads};
 pub use ending::end_nodes;
 pub use laws::nodes_are_read_back;
-pub use memory::{Reading, VecWords, Words};
+pub use memory::{VecWords, Words};
 pub use nsc_words::{Node, Placed};
 pub use numbers::find_number;
 pub use placing::{Fixed, place, place_bytes};

@@ -62,13 +62,6 @@ impl VecWords {
     {
         self.words[at]
     }
-
-    /// The words, lent to be read alone.
-    pub fn reading(&self) -> Reading<'_>
-        ensures { result.words.now ≡ self.now }
-    {
-        Reading { words: self }
-    }
 }
 
 impl Words for VecWords {
@@ -89,29 +82,4 @@ impl Words for VecWords {
     fn set(&mut self, at: usize, value: u64) {
         self.words[at] = value;
     }
-}
-
-/// Words that are lent to be read alone: none may be set.
-#[derive(Debug, Drop)]
-pub struct Reading<'a> {
-    words: &'a VecWords,
-}
-
-impl Words for Reading<'_> {
-    ghost use Rattle.std.specs.Prelude.{false};
-
-    ghost words = { λ r. r.words.now };
-
-    ghost can_set = { λ r at. false };
-
-    fn len(&self) -> usize {
-        let words: &VecWords = self.words;
-        words.words.len()
-    }
-
-    fn get(&mut self, at: usize) -> u64 {
-        self.words.word(at)
-    }
-
-    fn set(&mut self, _at: usize, _value: u64) {}
 }

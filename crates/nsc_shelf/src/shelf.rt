@@ -122,12 +122,12 @@ impl Shelf {
     }
 
     /// The number of the entry that answers the request of this kind and key, if there is one.
-    pub fn number_of(&self, kind: Kind, key: &[u8]) -> Option<u64>
-        ensures { result ≡ number_of (live_entry (record { kind = kind; key = key.now }) self.now.entries) }
+    pub fn number_of(&mut self, kind: Kind, key: &[u8]) -> Option<u64>
+        ensures number { result ≡ number_of (live_entry (record { kind = kind; key = key.now }) self.old.entries) }
+        ensures same { self.new ≡ self.old }
     {
-        let mut words = self.words.reading();
-        match walk(&mut words, self.map, kind.number(), key) {
-            Some(at) => Some(head_at(&mut words, at).number),
+        match walk(&mut self.words, self.map, kind.number(), key) {
+            Some(at) => Some(head_at(&mut self.words, at).number),
             None => None,
         }
     }
@@ -175,10 +175,11 @@ impl Shelf {
     }
 
     /// Whether an entry has this number.
-    pub fn has(&self, number: u64) -> bool
-        ensures { result ≡ has_number number self.now.entries }
+    pub fn has(&mut self, number: u64) -> bool
+        ensures has { result ≡ has_number number self.old.entries }
+        ensures same { self.new ≡ self.old }
     {
-        find_number(&mut self.words.reading(), self.map, number).is_some()
+        find_number(&mut self.words, self.map, number).is_some()
     }
 
     /// The entry of this number leaves, if there is one. Its words stay in use.

@@ -17,37 +17,37 @@ head_at-requires-clause-inside c =
     let w = c.self.inside.words in
     let m : Layout = c.self.inside.map in
     let nodes : List Placed = nodes_in w m in
-    let read : Laid c.reading-words.result.words.now m nodes = subst (λ (ws : List ℕ). Laid ws m nodes) (sym c.reading-words.ensures) c.self.invariant.laid in
+    let read : Laid w m nodes = c.self.invariant.laid in
     let n = found_place (answers c.number.result c.args.key.now) nodes c.in-Some.at (sym (c.in-Some.ensures.newest nodes read)) in
     let here = inside w m nodes n.0 c.self.invariant.sizes c.self.invariant.laid n.1 in
     let place = n.2 in
     let fits = here.1 in
-    let same : length c.walk.new.table.words.now ≡ length w = ap length (c.walk.ensures.same ∙ c.reading-words.ensures) in
+    let same : length c.walk.new.table ≡ length w = ap length (c.walk.ensures.same) in
     omega arith
 
-pub returns-in-Some : goal.returns-in-Some
-returns-in-Some c =
+pub returns-in-Some-clause-number : goal.returns-in-Some-clause-number
+returns-in-Some-clause-number c =
     let w = c.self.inside.words in
     let m : Layout = c.self.inside.map in
     let nodes : List Placed = nodes_in w m in
     let kind = c.args.kind in
     let key : List ℕ = c.args.key.now in
-    let read : Laid c.reading-words.result.words.now m nodes = subst (λ (ws : List ℕ). Laid ws m nodes) (sym c.reading-words.ensures) c.self.invariant.laid in
+    let read : Laid w m nodes = c.self.invariant.laid in
     let n = found_place (answers c.number.result key) nodes c.in-Some.at (sym (c.in-Some.ensures.newest nodes read)) in
     let answered : answers (type_number kind) key n.0 ≡ true = ap (λ (k : ℕ). answers k key n.0) (sym c.number.ensures) ∙ n.3 in
     let live = live_at nodes (slice_index w 4) kind key n.0 c.self.invariant.entries c.self.invariant.laid.rising n.1 answered in
-    let stands = subst (λ (ws : List ℕ). Stands ws n.0) (sym (c.walk.ensures.same ∙ c.reading-words.ensures)) (c.self.invariant.laid.stands n.0 n.1) in
+    let stands = subst (λ (ws : List ℕ). Stands ws n.0) (sym (c.walk.ensures.same)) (c.self.invariant.laid.stands n.0 n.1) in
     let number = ap (λ (h : Head). h.number) (c.head_at.ensures.head n.0 stands n.2) in
     ap (λ (k : ℕ). Some k) number ∙ sym (ap number_of live) ∙ ap (λ (s : Shelf). number_of (live_entry (record { kind = kind; key = key }) s.entries)) c.self.view_is
 
-pub returns-in-None : goal.returns-in-None
-returns-in-None c =
+pub returns-in-None-clause-number : goal.returns-in-None-clause-number
+returns-in-None-clause-number c =
     let w = c.self.inside.words in
     let m : Layout = c.self.inside.map in
     let nodes : List Placed = nodes_in w m in
     let kind = c.args.kind in
     let key : List ℕ = c.args.key.now in
-    let read : Laid c.reading-words.result.words.now m nodes = subst (λ (ws : List ℕ). Laid ws m nodes) (sym c.reading-words.ensures) c.self.invariant.laid in
+    let read : Laid w m nodes = c.self.invariant.laid in
     let none = missing_place (answers c.number.result key) nodes (sym (c.in-None.ensures.newest nodes read)) in
     let live = live_none nodes (slice_index w 4) kind key c.self.invariant.entries (λ p among. ap (λ (k : ℕ). answers k key p) (sym c.number.ensures) ∙ none p among) in
     sym (ap number_of live) ∙ ap (λ (s : Shelf). number_of (live_entry (record { kind = kind; key = key }) s.entries)) c.self.view_is
