@@ -87,7 +87,7 @@ impl<T: Drop> JobList<T> {
         }
     }
 
-    // Looks whether there are jobs, until there are, it has looked often enough, or a yield came back late.
+    // Looks whether there are jobs, until there are, it has looked often enough, or it may not yield.
     fn look<R: Clock>(&self, rt: &R, yields: &mut Yields) {
         let mut now = moment(rt);
         for _ in 0..LOOKS {
