@@ -1,11 +1,11 @@
 -- Nodes passed one after the other, from the oldest one on.
-use Rattle.std.proofs.Common.{◌≡◌, ℕ, ◌+◌, ◌<◌, ◌≤◌, inl, List, [], ◌∷◌, ◌++◌, refl, sym, ap, subst, ◌∙◌, arith}
+use Rattle.std.proofs.Common.{◌≡◌, ℕ, ◌+◌, ◌<◌, ◌≤◌, ◌⊎◌, inl, inr, ⊎_elim, List, [], ◌∷◌, ◌++◌, refl, sym, ap, subst, ◌∙◌, arith}
 use Rattle.std.proofs.lemmas.List.{append-nil}
 use Rattle.nsc_words.specs.declared.layout.Layout.{Layout}
 use Rattle.nsc_words.specs.declared.node.Placed.{Placed}
-use Rattle.nsc_words.specs.Laid.{Among, InRow, Laid, end_of, words_in}
+use Rattle.nsc_words.specs.Laid.{Among, InRow, Laid, Rising, end_of, words_in}
 use Rattle.nsc_words.specs.Layout.{IsLayout, arena_start}
-use Rattle.nsc_arena.specs.Changes.{IsNodeAt}
+use Rattle.nsc_arena.specs.Changes.{IsMark, IsNodeAt}
 use Rattle.nsc_arena.proofs.Rows.{within}
 use Rattle.nsc_arena.proofs.Slides.{among_of, ends_before, oldest, row_of}
 
@@ -62,3 +62,30 @@ passed_all words layout nodes done at laid passed over = by passed.newer passed.
       let first = row.0 in
       let at_end = passed.end in
       absurd (omega arith)
+
+-- ---- marks
+
+-- a node at or behind one has no lower number, or it was passed before
+pub not_older : (newer done : List Placed) (n q : Placed) → Rising (newer ++ (n ∷ done)) → Among q (newer ++ (n ∷ done)) → (Among q done) ⊎ (n.node.number ≤ q.node.number)
+not_older [] done n q rising (inl e) = inr (let same : q.node.number ≡ n.node.number = ap (λ (p : Placed). p.node.number) e in omega arith)
+not_older [] done n q rising (inr m) = inl m
+not_older (p ∷ newer) done n q rising (inl e) = inr (let less = rising.0 n (among_of newer (n ∷ done) n (inl refl)) in let same : q.node.number ≡ p.node.number = ap (λ (r : Placed). r.node.number) e in omega arith)
+not_older (p ∷ newer) done n q rising (inr m) = not_older newer done n q rising.1 m
+
+-- at the oldest node each number is below any
+pub mark_at_start : (layout : Layout) (nodes : List Placed) (from number : ℕ) → from ≡ arena_start layout → IsMark layout nodes from number
+mark_at_start layout nodes from number is = record { newer = nodes; older = []; split = sym (append-nil nodes); place = is; below = λ p among. absurd among }
+
+-- a node is a mark of its number
+pub mark_at : (layout : Layout) (nodes : List Placed) (n : Placed) → InRow (arena_start layout) nodes → Rising nodes → Among n nodes → IsMark layout nodes n.place n.node.number
+mark_at layout [] n row rising among = absurd among
+mark_at layout (p ∷ older) n row rising (inl e) = record {
+  newer = p ∷ [];
+  older = older;
+  split = refl;
+  place = ap (λ (q : Placed). q.place) e ∙ row.0;
+  below = λ q m. let less = rising.0 q m in let same : n.node.number ≡ p.node.number = ap (λ (r : Placed). r.node.number) e in omega arith;
+}
+mark_at layout (p ∷ older) n row rising (inr m) =
+    let rest = mark_at layout older n row.1 rising.1 m in
+    record { newer = p ∷ rest.newer; older = rest.older; split = ap (λ (l : List Placed). p ∷ l) rest.split; place = rest.place; below = rest.below }

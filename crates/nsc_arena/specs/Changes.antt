@@ -1,5 +1,5 @@
 -- What the calls on nodes come to.
-use Rattle.std.specs.Prelude.{◌≡◌, ◌≢◌, ℕ, ◌+◌, ◌<◌, ◌≤◌, ◌^◌, ◌==◌, true, false, if◌then◌else◌, List, length, map, slice_index, Option, Some, None}
+use Rattle.std.specs.Prelude.{◌≡◌, ℕ, ◌+◌, ◌<◌, ◌≤◌, ◌^◌, ◌==◌, true, false, if◌then◌else◌, List, ◌++◌, length, map, slice_index, Option, Some, None}
 use Rattle.nsc_words.specs.declared.layout.Layout.{Layout}
 use Rattle.nsc_words.specs.declared.node.Node.{Node}
 use Rattle.nsc_words.specs.declared.node.Placed.{Placed}
@@ -54,7 +54,17 @@ pub record IsNodeAt (words : List ℕ) (at : ℕ) (p : Placed) : Type 0 where
   pub inside : at + words_in p.node ≤ length words
   pub size : length words < 2 ^ 63
 
--- a usable node of a number stands at this place, or there is none
-abbrev pub IsNumbered : ℕ → List Placed → Option ℕ → Type 0
-IsNumbered number nodes None = (p : Placed) → Among p nodes → p.usable ≡ true → p.node.number ≢ number
-IsNumbered number nodes (Some at) = (p : Placed) × Among p nodes × (p.place ≡ at) × (p.usable ≡ true) × (p.node.number ≡ number)
+-- a place before which there are no nodes but some of a number below this one
+pub record IsMark (layout : Layout) (nodes : List Placed) (from number : ℕ) : Type 0 where
+  pub newer : List Placed
+  pub older : List Placed
+  pub split : nodes ≡ newer ++ older
+  pub place : from ≡ end_of (arena_start layout) older
+  pub below : (p : Placed) → Among p older → p.node.number < number
+
+-- the oldest usable node of at least this number stands at this place, or there is none
+abbrev pub IsFirst : ℕ → List Placed → Option ℕ → Type 0
+IsFirst number nodes None = (p : Placed) → Among p nodes → p.usable ≡ true → p.node.number < number
+IsFirst number nodes (Some at) =
+    (p : Placed) × Among p nodes × (p.place ≡ at) × (p.usable ≡ true) × (number ≤ p.node.number)
+    × ((q : Placed) → Among q nodes → q.usable ≡ true → number ≤ q.node.number → p.node.number ≤ q.node.number)

@@ -20,7 +20,7 @@ pub use ending::end_nodes;
 pub use laws::nodes_are_read_back;
 pub use memory::{VecWords, Words};
 pub use nsc_words::{Node, Placed};
-pub use numbers::find_number;
+pub use numbers::first_from;
 pub use placing::{Fixed, place, place_bytes};
 pub use reading::{Head, head_at, read_bytes};
 pub use sliding::{clear, slide};

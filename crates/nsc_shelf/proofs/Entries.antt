@@ -45,13 +45,13 @@ none_found test (q ∷ older) e p among usable = by q.usable refl e among (none_
   by false u h (inl same) rest = absurd (false≢true (sym u ∙ ap (λ (r : Placed). r.usable) (sym same) ∙ usable))
   by false u h (inr m) rest = rest h p m usable
 
--- this entry passes, and those that pass have its number
-pub find_one : (test : Kept → Bool) (nodes : List Placed) (n : Placed) → Rising nodes → Among n nodes → n.usable ≡ true → test (kept_in n) ≡ true → ((p : Placed) → Among p nodes → p.usable ≡ true → test (kept_in p) ≡ true → p.node.number ≡ n.node.number) → find test (entries_in nodes) ≡ Some (kept_in n)
+-- this entry passes, and those that pass have its number or a higher one
+pub find_one : (test : Kept → Bool) (nodes : List Placed) (n : Placed) → Rising nodes → Among n nodes → n.usable ≡ true → test (kept_in n) ≡ true → ((p : Placed) → Among p nodes → p.usable ≡ true → test (kept_in p) ≡ true → n.node.number ≤ p.node.number) → find test (entries_in nodes) ≡ Some (kept_in n)
 find_one test [] n rising among usable passes alone = absurd among
 find_one test (p ∷ older) n rising (inl e) usable passes alone =
     let own : p.usable ≡ true = ap (λ (q : Placed). q.usable) (sym e) ∙ usable in
     let test_p : test (kept_in p) ≡ true = ap (λ (q : Placed). test (kept_in q)) (sym e) ∙ passes in
-    let older_fail : (q : Placed) → Among q older → q.usable ≡ true → test (kept_in q) ≡ false = λ q m u. fails (test (kept_in q)) (λ t. let same = alone q (inr m) u t in let less = rising.0 q m in let f : n.node.number ≡ p.node.number = ap (λ (r : Placed). r.node.number) e in absurd (omega arith)) in
+    let older_fail : (q : Placed) → Among q older → q.usable ≡ true → test (kept_in q) ≡ false = λ q m u. fails (test (kept_in q)) (λ t. let most = alone q (inr m) u t in let less = rising.0 q m in let f : n.node.number ≡ p.node.number = ap (λ (r : Placed). r.node.number) e in absurd (omega arith)) in
     ap (find test) (one_more p older own) ∙ find-append test (entries_in older) (kept_in p ∷ []) ∙ ap (λ (o : Option Kept). option_or o (find test (kept_in p ∷ []))) (find_none test older older_fail) ∙ ap (λ (b : Bool). cond b (Some (kept_in p)) None) test_p ∙ ap (λ (q : Placed). Some (kept_in q)) (sym e)
   where
     fails : (b : Bool) → (b ≡ true → ⊥) → b ≡ false

@@ -4,13 +4,14 @@ use Rattle.std.specs.Bool.{Decides}
 use Rattle.std.specs.Str.{bytes_eq}
 use Rattle.std.proofs.lemmas.Bool.{cases_eq, eqb-true, false≢true, ne_eqb}
 use Rattle.std.proofs.lemmas.Bool.Decides.{same_from_decides}
+use Rattle.std.proofs.lemmas.List.{map-append}
 use Rattle.std.proofs.lemmas.Slice.Eq.{bytes_eq-Decides}
 use Rattle.nsc_words.specs.declared.layout.Layout.{Layout}
 use Rattle.nsc_words.specs.declared.node.Node.{Node}
 use Rattle.nsc_words.specs.declared.node.Placed.{Placed}
 use Rattle.nsc_words.specs.Laid.{Among, Laid, Rising, answers, end_of, place_of, slid, words_in}
 use Rattle.nsc_words.specs.Layout.{IsLayout, arena_start}
-use Rattle.nsc_arena.specs.Changes.{changed_at, ended, with_reloads}
+use Rattle.nsc_arena.specs.Changes.{IsMark, changed_at, ended, with_reloads}
 use Rattle.nsc_arena.proofs.ReadBack.{read_back}
 use Rattle.nsc_arena.proofs.Slides.{slid_from}
 use Rattle.nsc_arena.proofs.Rows.{same_place}
@@ -20,6 +21,7 @@ use Rattle.nsc_model.specs.declared.kind.Kind.{Kind}
 use Rattle.nsc_model.specs.declared.kind.Kind.TheVariants.{PwName, PwUid, GrName, GrGid, HostName, HostName6, HostAddr, HostAddr6, Ai, InitGroups, ServName, ServPort}
 use Rattle.nsc_model.specs.Kinds.{is_request, type_number}
 use Rattle.nsc_model.specs.Machine.{Kept, last_count, live_entry, used_by, used_now}
+use Rattle.nsc_shelf.specs.declared.finding.Mark.{Mark}
 use Rattle.nsc_shelf.specs.Shelf.{AreEntries, IsShelf, entries_in, is_numbered, kept_in, kind_of, others_than, request_in, shelf_of}
 use Rattle.nsc_shelf.proofs.Entries.{find_none, find_one, left, mapped, none_found, one_less, unmoved}
 
@@ -31,8 +33,8 @@ view_by words map nodes inserted cycle failed laid e4 e0 e9 =
     let first = laid.first_free in
     λ i. record { entries = entries_in (same i); used = first i - arena_start map; inserted = e4 i; cycle = e0 i; add_failed = e9 i; layout = map }
 
-pub shelf_by : (words : List ℕ) (map : Layout) (nodes : List Placed) (inserted count : ℕ) → IsLayout map → Laid words map nodes → AreEntries nodes inserted → slice_index words 4 ≡ inserted → inserted ≤ last_count → count ≡ length (entries_in nodes) → IsShelf words map count
-shelf_by words map nodes inserted count sizes laid entries e4 counted live =
+pub shelf_by : (words : List ℕ) (map : Layout) (nodes : List Placed) (inserted count : ℕ) (mark : Mark) → IsLayout map → Laid words map nodes → AreEntries nodes inserted → slice_index words 4 ≡ inserted → inserted ≤ last_count → count ≡ length (entries_in nodes) → IsMark map nodes mark.place mark.number → IsShelf words map count mark
+shelf_by words map nodes inserted count mark sizes laid entries e4 counted live marked =
     let same = sym (read_back words map nodes laid) in
     record {
       sizes = sizes;
@@ -40,6 +42,7 @@ shelf_by words map nodes inserted count sizes laid entries e4 counted live =
       entries = subst (λ (ps : List Placed). AreEntries ps (slice_index words 4)) same (subst (AreEntries nodes) (sym e4) entries);
       counted = omega arith;
       live = live ∙ ap (λ (ps : List Placed). length (entries_in ps)) same;
+      marked = subst (λ (ps : List Placed). IsMark map ps mark.place mark.number) same marked;
     }
 
 -- ---- the entries of other nodes
@@ -70,6 +73,8 @@ pub record Leaves (f : Placed → Placed) : Type 0 where
   pub kind : (p : Placed) → (f p).node.kind ≡ p.node.kind
   pub request : (p : Placed) → request_in (f p) ≡ request_in p
   pub usable : (p : Placed) → (f p).usable ≡ true → p.usable ≡ true
+  pub place : (p : Placed) → (f p).place ≡ p.place
+  pub words : (p : Placed) → words_in (f p).node ≡ words_in p.node
 
 pub changed_entries : (f : Placed → Placed) (nodes : List Placed) (inserted : ℕ) → Leaves f → AreEntries nodes inserted → AreEntries (map f nodes) inserted
 changed_entries f nodes inserted leaves are = record {
@@ -88,6 +93,23 @@ changed_entries f nodes inserted leaves are = record {
       let uy = leaves.usable y.0 (sym (ap (λ (r : Placed). r.usable) y.2) ∙ v) in
       nx ∙ are.apart x.0 y.0 x.1 y.1 ux uy two ∙ sym ny;
 }
+
+-- a mark stays one
+pub marked_still : (f : Placed → Placed) (layout : Layout) (nodes : List Placed) (from number : ℕ) → Leaves f → IsMark layout nodes from number → IsMark layout (map f nodes) from number
+marked_still f layout nodes from number leaves mark = record {
+  newer = map f mark.newer;
+  older = map f mark.older;
+  split = ap (map f) mark.split ∙ map-append f mark.newer mark.older;
+  place = mark.place ∙ sym (ends mark.older);
+  below = λ q among. let w = from_map f mark.older q among in subst (λ (n : ℕ). n < number) (sym (ap (λ (r : Placed). r.node.number) w.2 ∙ leaves.number w.0)) (mark.below w.0 w.1);
+} where
+  ends : (ps : List Placed) → end_of (arena_start layout) (map f ps) ≡ end_of (arena_start layout) ps
+  ends [] = refl
+  ends (p ∷ ps) = λ i. leaves.place p i + leaves.words p i
+
+-- and where a newer node comes
+pub marked_more : (layout : Layout) (nodes : List Placed) (p : Placed) (from number : ℕ) → IsMark layout nodes from number → IsMark layout (p ∷ nodes) from number
+marked_more layout nodes p from number mark = record { newer = p ∷ mark.newer; older = mark.older; split = ap (λ (ps : List Placed). p ∷ ps) mark.split; place = mark.place; below = mark.below }
 
 -- ---- requests
 
@@ -121,7 +143,7 @@ live_at nodes inserted kind key n are rising among e =
     let r : Request = record { kind = kind; key = key } in
     let usable = usable_answers (type_number kind) key n e in
     let here : is_request r (request_in n) ≡ true = sym (asked kind key n (are.kinds n among) usable) ∙ e in
-    find_one (λ k. is_request r k.entry.request) nodes n rising among usable here (λ p m u t. are.apart p n m among u usable (same_asked r p n t here))
+    find_one (λ k. is_request r k.entry.request) nodes n rising among usable here (λ p m u t. let same = are.apart p n m among u usable (same_asked r p n t here) in omega arith)
 
 pub live_none : (nodes : List Placed) (inserted : ℕ) (kind : Kind) (key : List ℕ) → AreEntries nodes inserted → ((p : Placed) → Among p nodes → answers (type_number kind) key p ≡ false) → live_entry (record { kind = kind; key = key }) (entries_in nodes) ≡ None
 live_none nodes inserted kind key are none =
@@ -154,7 +176,7 @@ same_number (r ∷ older) p q rising (inr a) (inr b) e = same_number older p q r
 -- ---- the changes
 
 pub ended_leaves : Leaves ended
-ended_leaves = record { number = λ p. refl; kind = λ p. refl; request = λ p. refl; usable = λ p e. absurd (false≢true e) }
+ended_leaves = record { number = λ p. refl; kind = λ p. refl; request = λ p. refl; usable = λ p e. absurd (false≢true e); place = λ p. refl; words = λ p. refl }
 
 pub same_end : (start : ℕ) (nodes : List Placed) → end_of start (map ended nodes) ≡ end_of start nodes
 same_end start [] = refl
@@ -167,6 +189,8 @@ leaves_at place change is = record {
   kind = λ p. by (eqb p.place place) (λ (q : Placed). q.node.kind ≡ p.node.kind) p (is.kind p) refl;
   request = λ p. by (eqb p.place place) (λ (q : Placed). request_in q ≡ request_in p) p (is.request p) refl;
   usable = λ p. by (eqb p.place place) (λ (q : Placed). q.usable ≡ true → p.usable ≡ true) p (is.usable p) (λ e. e);
+  place = λ p. by (eqb p.place place) (λ (q : Placed). q.place ≡ p.place) p (is.place p) refl;
+  words = λ p. by (eqb p.place place) (λ (q : Placed). words_in q.node ≡ words_in p.node) p (is.words p) refl;
 } where
   by : (b : Bool) (P : Placed → Type 0) (p : Placed) → P (change p) → P p → P (cond b (change p) p)
   by true P p here other = here
@@ -215,7 +239,7 @@ none_taken number nodes none =
 -- ---- an entry is used
 
 pub reloads_leaves : (count : ℕ) → Leaves (with_reloads count)
-reloads_leaves count = record { number = λ p. refl; kind = λ p. refl; request = λ p. refl; usable = λ p e. e }
+reloads_leaves count = record { number = λ p. refl; kind = λ p. refl; request = λ p. refl; usable = λ p e. e; place = λ p. refl; words = λ p. refl }
 
 reloads_usable : (at : ℕ) (p : Placed) → (cond (eqb p.place at) (with_reloads 0 p) p).usable ≡ p.usable
 reloads_usable at p = by (eqb p.place at) where

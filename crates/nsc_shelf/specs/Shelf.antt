@@ -1,10 +1,11 @@
 -- The live entries of a database with their counts, apart from contents and history, and the words in which they stand.
-use Rattle.std.specs.Prelude.{◌≡◌, ℕ, ◌-◌, ◌<◌, ◌≤◌, ◌==◌, not, Bool, true, if◌then◌else◌, List, [], ◌∷◌, ◌++◌, filter, length, Option, Some, None, slice_index}
+use Rattle.std.specs.Prelude.{◌≡◌, ℕ, ◌-◌, ◌<◌, ◌≤◌, ◌+◌, ◌==◌, nat_le, not, Bool, true, if◌then◌else◌, List, [], ◌∷◌, ◌++◌, filter, find, length, Option, Some, None, slice_index}
 use Rattle.std.specs.List.{list_any}
 use Rattle.nsc_words.specs.declared.layout.Layout.{Layout}
 use Rattle.nsc_words.specs.declared.node.Placed.{Placed}
 use Rattle.nsc_words.specs.Laid.{Among, Laid}
 use Rattle.nsc_words.specs.Layout.{IsLayout, arena_start}
+use Rattle.nsc_arena.specs.Changes.{IsMark}
 use Rattle.nsc_arena.specs.ReadBack.{nodes_in}
 use Rattle.nsc_model.specs.declared.answer.Request.{Request}
 use Rattle.nsc_model.specs.declared.kind.Kind.{Kind}
@@ -12,7 +13,9 @@ use Rattle.nsc_model.specs.declared.kind.Kind.TheVariants.{PwName}
 use Rattle.nsc_model.specs.Kinds.{is_request, kind_numbered, type_number}
 use Rattle.nsc_model.specs.Answer.{Answer}
 use Rattle.nsc_model.specs.Machine.{Kept, last_count}
-use Rattle.nsc_shelf.specs.declared.shelf.Hit.{Hit}
+use Rattle.nsc_shelf.specs.declared.entry.EntryAt.{EntryAt}
+use Rattle.nsc_shelf.specs.declared.entry.Hit.{Hit}
+use Rattle.nsc_shelf.specs.declared.finding.Mark.{Mark}
 
 -- the entries, the words that they take, the counts of entries, compactions and insertions that found no room, and the layout of
 -- the words
@@ -64,13 +67,14 @@ pub record AreEntries (nodes : List Placed) (inserted : ℕ) : Type 0 where
   pub numbers : (p : Placed) → Among p nodes → p.node.number < inserted
   pub apart : (p q : Placed) → Among p nodes → Among q nodes → p.usable ≡ true → q.usable ≡ true → is_request (request_in p) (request_in q) ≡ true → p.node.number ≡ q.node.number
 
--- what the words of a shelf are, and the count of its entries
-pub record IsShelf (words : List ℕ) (map : Layout) (count : ℕ) : Type 0 where
+-- what the words of a shelf are, the count of its entries, and the mark from which a search by number goes on
+pub record IsShelf (words : List ℕ) (map : Layout) (count : ℕ) (mark : Mark) : Type 0 where
   pub sizes : IsLayout map
   pub laid : Laid words map (nodes_in words map)
   pub entries : AreEntries (nodes_in words map) (slice_index words 4)
   pub counted : slice_index words 4 ≤ last_count
   pub live : count ≡ length (entries_in (nodes_in words map))
+  pub marked : IsMark map (nodes_in words map) mark.place mark.number
 
 -- a new entry
 abbrev pub fresh_entry : ℕ → Kind → List ℕ → Answer → ℕ → ℕ → ℕ → Kept
@@ -99,3 +103,21 @@ Gives (Some k) hit reply = (hit ≡ Some (record { number = k.entry.number; vers
 abbrev pub number_of : Option Kept → Option ℕ
 number_of None = None
 number_of (Some k) = Some k.entry.number
+
+-- the oldest entry of at least this number
+abbrev pub entry_from : ℕ → List Kept → Option Kept
+entry_from number entries = find (λ k. nat_le number k.entry.number) entries
+
+-- what is told of an entry, if there is one; the next one has a number behind its own
+abbrev pub IsTold : Option Kept → Option EntryAt → Type 0
+IsTold None said = said ≡ None
+IsTold (Some k) said = said ≡ Some (record { number = k.entry.number; kind = k.entry.request.kind; version = k.entry.version; timeout = k.entry.timeout; reloads = k.reloads; not_found = k.entry.answer.not_found; next = k.entry.number + 1 })
+
+-- its key and its reply, or nothing
+abbrev pub key_or : Option Kept → List ℕ
+key_or None = []
+key_or (Some k) = k.entry.request.key
+
+abbrev pub reply_or : Option Kept → List ℕ
+reply_or None = []
+reply_or (Some k) = k.entry.answer.bytes

@@ -1,6 +1,9 @@
 //! The live entries of a database as nodes in the words of a table, found by the hash of their requests.
 #![tactic(auto)]
 
+mod entry;
+mod finding;
 mod shelf;
 
-pub use shelf::{Hit, Shelf};
+pub use entry::{EntryAt, Hit};
+pub use shelf::Shelf;

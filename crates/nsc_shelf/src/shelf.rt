@@ -3,11 +3,13 @@ ghost use Rattle.nsc_words.specs.Layout.{IsLayout};
 ghost use Rattle.nsc_base.specs.Nodes.{node_words};
 ghost use Rattle.nsc_model.specs.Entry.{key_limit, kept_limit};
 ghost use Rattle.nsc_model.specs.Machine.{all_words, entry_words, last_count, live_entry, used_now};
-ghost use Rattle.nsc_shelf.specs.Shelf.{Gives, fresh_entry, has_number, number_of, others_than};
+ghost use Rattle.nsc_shelf.specs.Shelf.{Gives, IsTold, entry_from, fresh_entry, has_number, key_or, kind_of, number_of, others_than, reply_or};
 
+use crate::entry::{EntryAt, Hit};
+use crate::finding::{Mark, find_from};
 use nsc_arena::{
-    Fixed, VecWords, Words, chain, clear, end_node, end_nodes, find_number, head_at, place_bytes,
-    read_bytes, set_reloads, slide, walk,
+    Fixed, VecWords, Words, chain, clear, end_node, end_nodes, head_at, place_bytes, read_bytes,
+    set_reloads, slide, walk,
 };
 use nsc_base::{Buf, NoMemory};
 use nsc_model::{Answer, Kind, Spent};
@@ -16,17 +18,6 @@ use nsc_words::{ADD_FAILED, CYCLE, FIRST_FREE, KEY, LOADS, Layout};
 use std::alloc::Global;
 use std::marker::Model;
 
-/// A live entry that answered a lookup.
-#[derive(Clone, Copy, Debug, PartialEq, Eq)]
-pub struct Hit {
-    /// Its number.
-    pub number: u64,
-    /// The version that its answer was made over.
-    pub version: u64,
-    /// Whether its reply is a not-found reply.
-    pub not_found: bool,
-}
-
 /// The live entries of a database as nodes in the words of a table, with their counts at its head; it knows of no content and of no
 /// history. Its memory is taken when it is made.
 #[derive(Drop)]
@@ -34,6 +25,7 @@ pub struct Shelf {
     words: VecWords,
     map: Layout,
     live: usize,
+    mark: Mark,
 }
 
 impl Model for Shelf {
@@ -43,7 +35,7 @@ impl Model for Shelf {
 
     ghost view = { λ s. shelf_of s.words s.map };
 
-    ghost invariant = { λ s. IsShelf s.words s.map s.live };
+    ghost invariant = { λ s. IsShelf s.words s.map s.live s.mark };
 }
 
 impl Shelf {
@@ -58,6 +50,7 @@ impl Shelf {
             words,
             map,
             live: 0,
+            mark: Mark::start(map),
         })
     }
 
@@ -179,15 +172,67 @@ impl Shelf {
         ensures has { result ≡ has_number number self.old.entries }
         ensures same { self.new ≡ self.old }
     {
-        find_number(&mut self.words, self.map, number).is_some()
+        let Some(found) = find_from(&mut self.words, self.map, &mut self.mark, number) else {
+            return false;
+        };
+        found.head.number == number
+    }
+
+    /// The oldest entry of at least this number, if there is one. Where each number is that behind the one before, all of them are
+    /// passed once.
+    pub fn next(&mut self, number: u64) -> Option<EntryAt>
+        ensures told { IsTold (entry_from number self.old.entries) result }
+        ensures same { self.new ≡ self.old }
+    {
+        let Some(found) = find_from(&mut self.words, self.map, &mut self.mark, number) else {
+            return None;
+        };
+        let head = found.head;
+        Some(EntryAt {
+            number: head.number,
+            kind: kind_or_any(head.kind),
+            version: head.version,
+            timeout: head.timeout,
+            reloads: head.reloads,
+            not_found: head.not_found,
+            next: head.number + 1,
+        })
+    }
+
+    /// Puts the key of the oldest entry of at least this number into a buffer; nothing, where there is none.
+    pub fn key(&mut self, number: u64, key: &mut Buf)
+        requires { key_limit ≤ key.old.limit }
+        ensures key { key.new ≡ record { content = key_or (entry_from number self.old.entries); limit = key.old.limit } }
+        ensures same { self.new ≡ self.old }
+    {
+        key.clear();
+        if let Some(found) = find_from(&mut self.words, self.map, &mut self.mark, number) {
+            read_bytes(&mut self.words, found.at + KEY, found.head.key_len, key);
+        }
+    }
+
+    /// Puts the reply of the oldest entry of at least this number into a buffer; nothing, where there is none.
+    pub fn reply(&mut self, number: u64, reply: &mut Buf)
+        requires { kept_limit ≤ reply.old.limit }
+        ensures reply { reply.new ≡ record { content = reply_or (entry_from number self.old.entries); limit = reply.old.limit } }
+        ensures same { self.new ≡ self.old }
+    {
+        reply.clear();
+        if let Some(found) = find_from(&mut self.words, self.map, &mut self.mark, number) {
+            let text = found.at + KEY + found.head.key_len.div_ceil(8);
+            read_bytes(&mut self.words, text, found.head.reply_len, reply);
+        }
     }
 
     /// The entry of this number leaves, if there is one. Its words stay in use.
     pub fn take_out(&mut self, number: u64)
         ensures { self.new ≡ record self.old { entries = others_than number self.old.entries } }
     {
-        if let Some(at) = find_number(&mut self.words, self.map, number) {
-            end_node(&mut self.words, self.map, at);
+        let Some(found) = find_from(&mut self.words, self.map, &mut self.mark, number) else {
+            return;
+        };
+        if found.head.number == number {
+            end_node(&mut self.words, self.map, found.at);
             self.live -= 1;
         }
     }
@@ -212,6 +257,7 @@ impl Shelf {
         }
         let freed = slide(&mut self.words, self.map);
         self.words.set(CYCLE, cycle + 2);
+        self.mark = Mark::start(self.map);
         Ok(freed as u64)
     }
 }
@@ -224,5 +270,15 @@ fn next_count(count: u64) -> u64
         count + 1
     } else {
         LAST_COUNT
+    }
+}
+
+// The kind of this number; the kind of users by name, where it is that of none.
+fn kind_or_any(number: u32) -> Kind
+    ensures { result ≡ kind_of number }
+{
+    match Kind::numbered(number) {
+        Some(kind) => kind,
+        None => Kind::PwName,
     }
 }

@@ -8,7 +8,7 @@ use Rattle.nsc_shelf.specs.Shelf.{Shelf, shelf_of}
 use Rattle.nsc_shelf.proofs.States.{view_by, shelf_by}
 use Rattle.nsc_arena.specs.Changes.{all_ended, ended}
 use Rattle.nsc_shelf.proofs.Entries.{none_left}
-use Rattle.nsc_shelf.proofs.States.{changed_entries, ended_leaves, same_end}
+use Rattle.nsc_shelf.proofs.States.{changed_entries, ended_leaves, marked_still, same_end}
 use Rattle.nsc_shelf.proofs.shelf.Shelf.clear.Goals as goal
 
 pub invariant_of-self : goal.invariant_of-self
@@ -19,7 +19,7 @@ invariant_of-self c =
     let new = c.end_nodes.new.table in
     let laid = c.end_nodes.ensures.laid nodes c.self.invariant.laid in
     let e4 : slice_index new 4 ≡ slice_index w 4 = c.end_nodes.ensures.head 4 (omega arith) (omega arith) in
-    shelf_by new m (all_ended nodes) (slice_index w 4) 0 c.self.invariant.sizes laid (changed_entries ended nodes (slice_index w 4) ended_leaves c.self.invariant.entries) e4 c.self.invariant.counted (ap length (sym (none_left nodes)))
+    shelf_by new m (all_ended nodes) (slice_index w 4) 0 c.self.inside.mark c.self.invariant.sizes laid (changed_entries ended nodes (slice_index w 4) ended_leaves c.self.invariant.entries) e4 c.self.invariant.counted (ap length (sym (none_left nodes))) (marked_still ended m nodes c.self.inside.mark.place c.self.inside.mark.number ended_leaves c.self.invariant.marked)
 
 pub returns : goal.returns
 returns c =

@@ -10,6 +10,8 @@ use Rattle.nsc_shelf.proofs.States.{view_by, shelf_by}
 use Rattle.nsc_arena.proofs.Rows.{set_head}
 use Rattle.nsc_shelf.proofs.Entries.{slid_same, words_fit, words_slid}
 use Rattle.nsc_shelf.proofs.States.{slid_entries}
+use Rattle.nsc_arena.proofs.Passed.{mark_at_start}
+use Rattle.nsc_shelf.specs.declared.finding.Mark.{Mark}
 use Rattle.nsc_shelf.proofs.shelf.Shelf.compact.Goals as goal
 
 pub invariant_of-self : goal.invariant_of-self
@@ -21,7 +23,7 @@ invariant_of-self c =
     let laid : Laid c.slide-freed.new.table m after = c.slide-freed.ensures.laid nodes c.self.invariant.laid in
     let laid_set = set_head c.slide-freed.new.table c.set.new.self m after 0 (c.word-cycle.result + 2) (omega arith) (omega arith) c.set.ensures.set laid in
     let e4 : slice_index c.set.new.self 4 ≡ slice_index w 4 = ap (λ (ws : List ℕ). slice_index ws 4) c.set.ensures.set ∙ get_or-set_other c.slide-freed.new.table 0 4 (c.word-cycle.result + 2) 0 (omega arith) ∙ c.slide-freed.ensures.head 4 (omega arith) (omega arith) in
-    shelf_by c.set.new.self m after (slice_index w 4) c.self.inside.live c.self.invariant.sizes laid_set (slid_entries (arena_start m) nodes (slice_index w 4) c.self.invariant.entries) e4 c.self.invariant.counted (c.self.invariant.live ∙ ap length (sym (slid_same (arena_start m) nodes)))
+    shelf_by c.set.new.self m after (slice_index w 4) c.self.inside.live c.start-self-inside.result c.self.invariant.sizes laid_set (slid_entries (arena_start m) nodes (slice_index w 4) c.self.invariant.entries) e4 c.self.invariant.counted (c.self.invariant.live ∙ ap length (sym (slid_same (arena_start m) nodes))) (mark_at_start m after c.start-self-inside.result.place c.start-self-inside.result.number (ap (λ (k : Mark). k.place) c.start-self-inside.ensures))
 
 pub returns-clause-done : goal.returns-clause-done
 returns-clause-done c =

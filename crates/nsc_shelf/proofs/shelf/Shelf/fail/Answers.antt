@@ -17,7 +17,7 @@ invariant_of-self c =
     let new : List ℕ = c.set.new.self in
     let laid = set_head w new m nodes 9 c.next_count.result (omega arith) (omega arith) c.set.ensures.set c.self.invariant.laid in
     let e4 : slice_index new 4 ≡ slice_index w 4 = ap (λ (ws : List ℕ). slice_index ws 4) c.set.ensures.set ∙ get_or-set_other w 9 4 c.next_count.result 0 (omega arith) in
-    shelf_by new m nodes (slice_index w 4) c.self.inside.live c.self.invariant.sizes laid c.self.invariant.entries e4 c.self.invariant.counted c.self.invariant.live
+    shelf_by new m nodes (slice_index w 4) c.self.inside.live c.self.inside.mark c.self.invariant.sizes laid c.self.invariant.entries e4 c.self.invariant.counted c.self.invariant.live c.self.invariant.marked
 
 pub returns : goal.returns
 returns c =

@@ -1,19 +1,33 @@
-use Rattle.std.proofs.Common.{◌≡◌, ℕ, List, Option, Some, None, sym, ap, ◌∙◌}
+use Rattle.std.proofs.Common.{◌≡◌, ℕ, List, Option, Some, None, sym, ap, subst, ◌∙◌}
+use Rattle.nsc_words.specs.declared.layout.Layout.{Layout}
 use Rattle.nsc_words.specs.declared.node.Placed.{Placed}
 use Rattle.nsc_arena.specs.ReadBack.{nodes_in}
-use Rattle.nsc_shelf.specs.Shelf.{Shelf, entries_in}
-use Rattle.std.specs.Option.{is_some}
-use Rattle.nsc_arena.specs.Changes.{IsNumbered}
+use Rattle.nsc_shelf.specs.Shelf.{Shelf}
+use Rattle.nsc_shelf.proofs.Found.{remarked}
 use Rattle.nsc_shelf.specs.Shelf.{has_number}
-use Rattle.nsc_shelf.proofs.Entries.{number_among, number_missing}
+use Rattle.nsc_shelf.proofs.Found.{has_by, has_none}
 use Rattle.nsc_shelf.proofs.shelf.Shelf.has.Goals as goal
 
-has_by : (number : ℕ) (nodes : List Placed) (o : Option ℕ) → IsNumbered number nodes o → is_some o ≡ has_number number (entries_in nodes)
-has_by number nodes None none = sym (number_missing number nodes none)
-has_by number nodes (Some at) w = sym (number_among number nodes w.0 w.1 w.3 w.4)
+pub invariant_of-self : goal.invariant_of-self
+invariant_of-self c =
+    let m : Layout = c.self.inside.map in
+    let nodes : List Placed = nodes_in c.self.inside.words m in
+    remarked c.self.inside.words c.find_from.new.words m c.self.inside.live c.self.inside.mark c.find_from.new.mark c.find_from.ensures.same c.self.invariant (c.find_from.ensures.marked nodes c.self.invariant.laid c.self.invariant.marked)
+
+pub invariant_of-self-2 : goal.invariant_of-self-2
+invariant_of-self-2 c =
+    let m : Layout = c.self.inside.map in
+    let nodes : List Placed = nodes_in c.self.inside.words m in
+    remarked c.self.inside.words c.find_from.new.words m c.self.inside.live c.self.inside.mark c.find_from.new.mark c.find_from.ensures.same c.self.invariant (c.find_from.ensures.marked nodes c.self.invariant.laid c.self.invariant.marked)
+
+pub returns-in_default-clause-has : goal.returns-in_default-clause-has
+returns-in_default-clause-has c =
+    let m : Layout = c.self.inside.map in
+    let nodes : List Placed = nodes_in c.self.inside.words m in
+    sym (has_none c.args.number nodes (c.in_default.ensures.found nodes c.self.invariant.laid c.self.invariant.marked)) ∙ ap (λ (s : Shelf). has_number c.args.number s.entries) c.self.view_is
 
 pub returns-clause-has : goal.returns-clause-has
 returns-clause-has c =
-    let nodes : List Placed = nodes_in c.self.inside.words c.self.inside.map in
-    let found : IsNumbered c.args.number nodes c.find_number.result = c.find_number.ensures.found nodes c.self.invariant.laid in
-    c.is_some.ensures ∙ has_by c.args.number nodes c.find_number.result found ∙ ap (λ (s : Shelf). has_number c.args.number s.entries) c.self.view_is
+    let m : Layout = c.self.inside.map in
+    let nodes : List Placed = nodes_in c.self.inside.words m in
+    has_by c.args.number nodes c.in-Some.found (c.in-Some.ensures.found nodes c.self.invariant.laid c.self.invariant.marked) ∙ ap (λ (s : Shelf). has_number c.args.number s.entries) c.self.view_is

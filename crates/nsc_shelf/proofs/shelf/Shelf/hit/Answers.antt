@@ -16,9 +16,9 @@ use Rattle.nsc_words.specs.Words.{HoldsBytes}
 use Rattle.nsc_arena.specs.declared.reading.Head.{Head}
 use Rattle.nsc_arena.specs.Changes.{changed_at, with_reloads}
 use Rattle.nsc_arena.proofs.Rows.{inside, within}
-use Rattle.nsc_shelf.specs.declared.shelf.Hit.{Hit}
+use Rattle.nsc_shelf.specs.declared.entry.Hit.{Hit}
 use Rattle.nsc_shelf.specs.Shelf.{Gives}
-use Rattle.nsc_shelf.proofs.States.{changed_entries, found_place, leaves_at, live_at, live_none, missing_place, reloads_end, reloads_leaves, used_same}
+use Rattle.nsc_shelf.proofs.States.{changed_entries, found_place, leaves_at, live_at, live_none, marked_still, missing_place, reloads_end, reloads_leaves, used_same}
 use Rattle.std.proofs.lemmas.List.{length-map}
 use Rattle.nsc_shelf.proofs.shelf.Shelf.hit.Goals as goal
 
@@ -211,7 +211,7 @@ invariant_of-self-2 c =
     let used = used_same w m nodes (slice_index w 4) kind key n.0 at c.self.invariant.laid c.self.invariant.entries n.1 n.2 answered in
     let r : Request = record { kind = kind; key = key } in
     let count : c.self.inside.live ≡ length (entries_in (changed_at at (with_reloads 0) nodes)) = c.self.invariant.live ∙ sym (ap length used ∙ length-map (entries_in nodes) (used_by r)) in
-    shelf_by c.set_reloads.new.table m (changed_at at (with_reloads 0) nodes) (slice_index w 4) c.self.inside.live c.self.invariant.sizes laid (changed_entries _ nodes (slice_index w 4) (leaves_at at (with_reloads 0) (reloads_leaves 0)) c.self.invariant.entries) e4 c.self.invariant.counted count
+    shelf_by c.set_reloads.new.table m (changed_at at (with_reloads 0) nodes) (slice_index w 4) c.self.inside.live c.self.inside.mark c.self.invariant.sizes laid (changed_entries _ nodes (slice_index w 4) (leaves_at at (with_reloads 0) (reloads_leaves 0)) c.self.invariant.entries) e4 c.self.invariant.counted count (marked_still _ m nodes c.self.inside.mark.place c.self.inside.mark.number (leaves_at at (with_reloads 0) (reloads_leaves 0)) c.self.invariant.marked)
 
 pub returns-clause-gives : goal.returns-clause-gives
 returns-clause-gives c =

@@ -5,6 +5,8 @@ use Rattle.nsc_words.specs.Layout.{arena_start}
 use Rattle.nsc_shelf.specs.Shelf.{AreEntries}
 use Rattle.nsc_shelf.proofs.States.{view_by, shelf_by}
 use Rattle.std.proofs.lemmas.List.{get_or-replicate}
+use Rattle.nsc_arena.proofs.Passed.{mark_at_start}
+use Rattle.nsc_shelf.specs.declared.finding.Mark.{Mark}
 use Rattle.nsc_shelf.proofs.shelf.Shelf.new.Goals as goal
 
 zeros : (n i : ℕ) → i < n → slice_index (replicate n 0) i ≡ 0
@@ -19,7 +21,7 @@ invariant_of-result c =
     let laid : Laid w c.args.map [] = c.clear.ensures.laid in
     let size = c.words.ensures in
     let e4 : slice_index w 4 ≡ 0 = c.clear.ensures.head 4 (omega arith) (omega arith) ∙ ap (λ (ws : List ℕ). slice_index ws 4) c.in_ok-words.ensures ∙ zeros c.words.result 4 (omega arith) in
-    shelf_by w c.args.map [] 0 0 c.requires laid none e4 (omega arith) refl
+    shelf_by w c.args.map [] 0 0 c.start.result c.requires laid none e4 (omega arith) refl (mark_at_start c.args.map [] c.start.result.place c.start.result.number (ap (λ (k : Mark). k.place) c.start.ensures))
 
 pub returns : goal.returns
 returns c =

@@ -16,7 +16,7 @@ use Rattle.nsc_arena.specs.Changes.{IsNext, node_of, usable_at}
 use Rattle.nsc_arena.proofs.Rows.{end_after, set_head}
 use Rattle.nsc_shelf.specs.Shelf.{fresh_entry, kind_of, request_in}
 use Rattle.nsc_shelf.proofs.Entries.{few_entries, one_more}
-use Rattle.nsc_shelf.proofs.States.{kind_back, new_entries}
+use Rattle.nsc_shelf.proofs.States.{kind_back, marked_more, new_entries}
 use Rattle.nsc_shelf.proofs.shelf.Shelf.put.Goals as goal
 
 pub chain-requires-clause-next : goal.chain-requires-clause-next
@@ -118,7 +118,7 @@ invariant_of-self c =
     let below : slice_index w 4 < last_count = subst (λ (s : Shelf). s.inserted < last_count) (sym c.self.view_is) c.requires.count in
     let more : length (entries_in (p ∷ nodes)) ≡ length (entries_in nodes) + 1 = ap length (one_more p nodes refl) ∙ length-append (entries_in nodes) (kept_in p ∷ []) in
     let live = c.self.invariant.live in
-    shelf_by new m (p ∷ nodes) (slice_index w 4 + 1) (c.self.inside.live + 1) c.self.invariant.sizes laid fresh e4 (omega arith) (omega arith)
+    shelf_by new m (p ∷ nodes) (slice_index w 4 + 1) (c.self.inside.live + 1) c.self.inside.mark c.self.invariant.sizes laid fresh e4 (omega arith) (omega arith) (marked_more m nodes p c.self.inside.mark.place c.self.inside.mark.number c.self.invariant.marked)
 
 pub returns-in-Some : goal.returns-in-Some
 returns-in-Some c =

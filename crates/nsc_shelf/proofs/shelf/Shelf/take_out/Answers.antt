@@ -1,4 +1,4 @@
-use Rattle.std.proofs.Common.{◌≡◌, ◌≢◌, ℕ, ◌-◌, ◌<◌, List, slice_index, sym, ap, subst, ◌∙◌, arith}
+use Rattle.std.proofs.Common.{◌≡◌, ◌≢◌, ℕ, ◌-◌, ◌<◌, ◌≤◌, List, slice_index, sym, ap, subst, ◌∙◌, arith}
 use Rattle.nsc_words.specs.declared.layout.Layout.{Layout}
 use Rattle.nsc_words.specs.declared.node.Placed.{Placed}
 use Rattle.nsc_words.specs.Laid.{Laid, end_of}
@@ -6,9 +6,11 @@ use Rattle.nsc_words.specs.Layout.{arena_start}
 use Rattle.nsc_arena.specs.ReadBack.{nodes_in}
 use Rattle.nsc_shelf.specs.Shelf.{Shelf, shelf_of}
 use Rattle.nsc_shelf.proofs.States.{view_by, shelf_by}
+use Rattle.nsc_arena.specs.declared.reading.Head.{Head}
 use Rattle.nsc_arena.specs.Changes.{changed_at, ended}
 use Rattle.nsc_shelf.specs.Shelf.{others_than}
-use Rattle.nsc_shelf.proofs.States.{changed_entries, ended_leaves, leaves_at, none_taken, taken_end, taken_less, taken_out}
+use Rattle.nsc_shelf.proofs.States.{changed_entries, ended_leaves, leaves_at, marked_still, none_taken, taken_end, taken_less, taken_out}
+use Rattle.nsc_shelf.proofs.Found.{remarked}
 use Rattle.nsc_shelf.proofs.shelf.Shelf.take_out.Goals as goal
 
 pub overflow_sub-self : goal.overflow_sub-self
@@ -16,40 +18,41 @@ overflow_sub-self c =
     let w = c.self.inside.words in
     let m : Layout = c.self.inside.map in
     let nodes : List Placed = nodes_in w m in
-    let n = c.in-Some.ensures.found nodes c.self.invariant.laid in
-    let less = taken_less w m nodes n.0 c.in-Some.at c.self.invariant.laid n.1 n.2 n.3 in
+    let n = c.in-Some.ensures.found nodes c.self.invariant.laid c.self.invariant.marked in
+    let less = taken_less w m nodes n.0 c.in-Some.found.at c.self.invariant.laid n.1 n.2 n.3 in
     let live = c.self.invariant.live in
     omega arith
 
-pub invariant_of-self : goal.invariant_of-self
-invariant_of-self c =
+pub invariant_of-self-then-found-number : goal.invariant_of-self-then-found-number
+invariant_of-self-then-found-number c =
     let w = c.self.inside.words in
     let m : Layout = c.self.inside.map in
     let nodes : List Placed = nodes_in w m in
-    let at = c.in-Some.at in
-    let n = c.in-Some.ensures.found nodes c.self.invariant.laid in
-    let same : Laid c.find_number.new.table m nodes = subst (λ (ws : List ℕ). Laid ws m nodes) (sym c.find_number.ensures.same) c.self.invariant.laid in
+    let at = c.in-Some.found.at in
+    let n = c.in-Some.ensures.found nodes c.self.invariant.laid c.self.invariant.marked in
+    let same : Laid c.find_from.new.words m nodes = subst (λ (ws : List ℕ). Laid ws m nodes) (sym c.find_from.ensures.same) c.self.invariant.laid in
     let laid = c.end_node.ensures.laid nodes n.0 same n.1 n.2 in
-    let e4 : slice_index c.end_node.new.table 4 ≡ slice_index w 4 = c.end_node.ensures.head 4 (omega arith) (omega arith) ∙ ap (λ (ws : List ℕ). slice_index ws 4) c.find_number.ensures.same in
+    let e4 : slice_index c.end_node.new.table 4 ≡ slice_index w 4 = c.end_node.ensures.head 4 (omega arith) (omega arith) ∙ ap (λ (ws : List ℕ). slice_index ws 4) c.find_from.ensures.same in
     let less = taken_less w m nodes n.0 at c.self.invariant.laid n.1 n.2 n.3 in
     let live = c.self.invariant.live in
-    shelf_by c.end_node.new.table m (changed_at at ended nodes) (slice_index w 4) (c.self.inside.live - 1) c.self.invariant.sizes laid (changed_entries _ nodes (slice_index w 4) (leaves_at at ended ended_leaves) c.self.invariant.entries) e4 c.self.invariant.counted (omega arith)
+    shelf_by c.end_node.new.table m (changed_at at ended nodes) (slice_index w 4) (c.self.inside.live - 1) c.find_from.new.mark c.self.invariant.sizes laid (changed_entries _ nodes (slice_index w 4) (leaves_at at ended ended_leaves) c.self.invariant.entries) e4 c.self.invariant.counted (omega arith) (marked_still _ m nodes c.find_from.new.mark.place c.find_from.new.mark.number (leaves_at at ended ended_leaves) (c.find_from.ensures.marked nodes c.self.invariant.laid c.self.invariant.marked))
 
-pub returns-in-Some : goal.returns-in-Some
-returns-in-Some c =
+pub returns-then-found-number : goal.returns-then-found-number
+returns-then-found-number c =
     let w = c.self.inside.words in
     let m : Layout = c.self.inside.map in
     let nodes : List Placed = nodes_in w m in
-    let at = c.in-Some.at in
+    let at = c.in-Some.found.at in
     let new = c.end_node.new.table in
     let v : Shelf = shelf_of w m in
-    let n = c.in-Some.ensures.found nodes c.self.invariant.laid in
-    let same : Laid c.find_number.new.table m nodes = subst (λ (ws : List ℕ). Laid ws m nodes) (sym c.find_number.ensures.same) c.self.invariant.laid in
+    let n = c.in-Some.ensures.found nodes c.self.invariant.laid c.self.invariant.marked in
+    let same : Laid c.find_from.new.words m nodes = subst (λ (ws : List ℕ). Laid ws m nodes) (sym c.find_from.ensures.same) c.self.invariant.laid in
     let laid = c.end_node.ensures.laid nodes n.0 same n.1 n.2 in
-    let other : (i : ℕ) → i < 16 → i ≢ 3 → slice_index new i ≡ slice_index w i = λ i low a. c.end_node.ensures.head i low a ∙ ap (λ (ws : List ℕ). slice_index ws i) c.find_number.ensures.same in
+    let other : (i : ℕ) → i < 16 → i ≢ 3 → slice_index new i ≡ slice_index w i = λ i low a. c.end_node.ensures.head i low a ∙ ap (λ (ws : List ℕ). slice_index ws i) c.find_from.ensures.same in
     let view = view_by new m (changed_at at ended nodes) (slice_index w 4) (slice_index w 0) (slice_index w 9) laid (other 4 (omega arith) (omega arith)) (other 0 (omega arith) (omega arith)) (other 9 (omega arith) (omega arith)) in
     let before : end_of (arena_start m) (changed_at at ended nodes) ≡ slice_index w 3 = taken_end (arena_start m) at nodes ∙ sym c.self.invariant.laid.first_free in
-    let left = taken_out w m nodes n.0 at c.args.number c.self.invariant.laid n.1 n.2 n.4 in
+    let is_number : n.0.node.number ≡ c.args.number = sym (ap (λ (h : Head). h.number) n.6) ∙ c.if-found-number.true in
+    let left = taken_out w m nodes n.0 at c.args.number c.self.invariant.laid n.1 n.2 is_number in
     let is : shelf_of new m ≡ record v { entries = others_than c.args.number v.entries } = view ∙ (λ i. record { entries = left i; used = before i - arena_start m; inserted = slice_index w 4; cycle = slice_index w 0; add_failed = slice_index w 9; layout = m }) in
     is ∙ ap (λ (s : Shelf). record s { entries = others_than c.args.number s.entries }) c.self.view_is
 
@@ -59,6 +62,33 @@ returns-in_default c =
     let m : Layout = c.self.inside.map in
     let nodes : List Placed = nodes_in w m in
     let v : Shelf = shelf_of w m in
-    let none = none_taken c.args.number nodes (c.in_default.ensures.found nodes c.self.invariant.laid) in
-    let is : shelf_of c.find_number.new.table m ≡ record v { entries = others_than c.args.number v.entries } = ap (λ (ws : List ℕ). shelf_of ws m) c.find_number.ensures.same ∙ (λ i. record v { entries = sym none i }) in
+    let none = none_taken c.args.number nodes (λ p among usable same. let less = c.in_default.ensures.found nodes c.self.invariant.laid c.self.invariant.marked p among usable in omega arith) in
+    let is : shelf_of c.find_from.new.words m ≡ record v { entries = others_than c.args.number v.entries } = ap (λ (ws : List ℕ). shelf_of ws m) c.find_from.ensures.same ∙ (λ i. record v { entries = sym none i }) in
+    is ∙ ap (λ (s : Shelf). record s { entries = others_than c.args.number s.entries }) c.self.view_is
+
+pub invariant_of-self : goal.invariant_of-self
+invariant_of-self c =
+    let w = c.self.inside.words in
+    let m : Layout = c.self.inside.map in
+    let nodes : List Placed = nodes_in w m in
+    remarked w c.find_from.new.words m c.self.inside.live c.self.inside.mark c.find_from.new.mark c.find_from.ensures.same c.self.invariant (c.find_from.ensures.marked nodes c.self.invariant.laid c.self.invariant.marked)
+
+pub invariant_of-self-else-found-number : goal.invariant_of-self-else-found-number
+invariant_of-self-else-found-number c =
+    let w = c.self.inside.words in
+    let m : Layout = c.self.inside.map in
+    let nodes : List Placed = nodes_in w m in
+    remarked w c.find_from.new.words m c.self.inside.live c.self.inside.mark c.find_from.new.mark c.find_from.ensures.same c.self.invariant (c.find_from.ensures.marked nodes c.self.invariant.laid c.self.invariant.marked)
+
+pub returns-else-found-number : goal.returns-else-found-number
+returns-else-found-number c =
+    let w = c.self.inside.words in
+    let m : Layout = c.self.inside.map in
+    let nodes : List Placed = nodes_in w m in
+    let v : Shelf = shelf_of w m in
+    let n = c.in-Some.ensures.found nodes c.self.invariant.laid c.self.invariant.marked in
+    let is : c.in-Some.found.head.number ≡ n.0.node.number = ap (λ (h : Head). h.number) n.6 in
+    let least : c.args.number ≤ n.0.node.number = n.4 in
+    let none = none_taken c.args.number nodes (λ p among usable same. let most : n.0.node.number ≤ p.node.number = n.5 p among usable (omega arith) in c.if-found-number.false (omega arith)) in
+    let is : shelf_of c.find_from.new.words m ≡ record v { entries = others_than c.args.number v.entries } = ap (λ (ws : List ℕ). shelf_of ws m) c.find_from.ensures.same ∙ (λ i. record v { entries = sym none i }) in
     is ∙ ap (λ (s : Shelf). record s { entries = others_than c.args.number s.entries }) c.self.view_is

@@ -1,0 +1,96 @@
+-- Entries that are found by numbers.
+use Rattle.std.proofs.Common.{◌≡◌, ◌≢◌, ℕ, ◌+◌, ◌<◌, ◌≤◌, ◌^◌, ⊎_elim, All, false, leb, eqb, eq-eqb, List, length, Option, Some, None, sym, ap, subst, ◌∙◌, arith}
+use Rattle.std.proofs.lemmas.Bool.{cases_eq, leb-true, le-leb, lt-leb, ne_eqb}
+use Rattle.nsc_words.specs.declared.layout.Layout.{Layout}
+use Rattle.nsc_words.specs.declared.node.Placed.{Placed}
+use Rattle.nsc_words.specs.Laid.{Among, Laid, Rising}
+use Rattle.nsc_base.specs.Nodes.{words_for}
+use Rattle.nsc_words.specs.Layout.{IsLayout, arena_start}
+use Rattle.nsc_words.specs.Words.{HoldsBytes}
+use Rattle.nsc_arena.specs.Changes.{IsFirst, IsMark}
+use Rattle.nsc_arena.specs.ReadBack.{nodes_in}
+use Rattle.nsc_arena.specs.declared.reading.Head.{Head}
+use Rattle.nsc_arena.proofs.Passed.{mark_at}
+use Rattle.nsc_arena.proofs.Rows.{within}
+use Rattle.nsc_model.specs.Entry.{key_limit, kept_limit}
+use Rattle.nsc_shelf.specs.declared.finding.Found.{Found}
+use Rattle.nsc_shelf.specs.declared.finding.Mark.{Mark}
+use Rattle.nsc_shelf.specs.Finding.{IsFound}
+use Rattle.nsc_shelf.specs.Shelf.{IsShelf, entries_in, entry_from, has_number, kept_in}
+use Rattle.nsc_shelf.proofs.Entries.{find_none, find_one, number_among, number_missing}
+
+-- the oldest entry of at least a number
+pub found_entry : (number : ℕ) (nodes : List Placed) (f : Found) (w : IsFound number nodes (Some f)) → Rising nodes → entry_from number (entries_in nodes) ≡ Some (kept_in w.0)
+found_entry number nodes f w rising =
+    find_one (λ k. leb number k.entry.number) nodes w.0 rising w.1 w.3 (le-leb number w.0.node.number w.4) (λ q m u t. w.5 q m u (leb-true number q.node.number t))
+
+pub found_none : (number : ℕ) (nodes : List Placed) → IsFirst number nodes None → entry_from number (entries_in nodes) ≡ None
+found_none number nodes none = find_none (λ k. leb number k.entry.number) nodes (λ q m u. lt-leb number q.node.number (none q m u))
+
+-- whether an entry has a number
+pub has_by : (number : ℕ) (nodes : List Placed) (f : Found) → IsFound number nodes (Some f) → eqb f.head.number number ≡ has_number number (entries_in nodes)
+has_by number nodes f w =
+    let is : f.head.number ≡ w.0.node.number = ap (λ (h : Head). h.number) w.6 in
+    let least : number ≤ w.0.node.number = w.4 in
+    ⊎_elim
+    (λ (e : f.head.number ≡ number). eq-eqb f.head.number number e ∙ sym (number_among number nodes w.0 w.1 w.3 (sym is ∙ e)))
+    (λ (n : f.head.number ≢ number). ne_eqb f.head.number number n ∙ sym (number_missing number nodes (λ q m u same. let most : w.0.node.number ≤ q.node.number = w.5 q m u (omega arith) in n (omega arith))))
+    (cases_eq f.head.number number)
+
+pub has_none : (number : ℕ) (nodes : List Placed) → IsFirst number nodes None → has_number number (entries_in nodes) ≡ false
+has_none number nodes none = number_missing number nodes (λ q m u same. let less = none q m u in absurd (omega arith))
+
+-- the same words with another mark
+pub remarked : (words words' : List ℕ) (map : Layout) (count : ℕ) (mark mark' : Mark) → words' ≡ words → IsShelf words map count mark → IsMark map (nodes_in words map) mark'.place mark'.number → IsShelf words' map count mark'
+remarked words words' map count mark mark' same is marked = subst (λ (ws : List ℕ). IsShelf ws map count mark') (sym same) (record { sizes = is.sizes; laid = is.laid; entries = is.entries; counted = is.counted; live = is.live; marked = marked })
+
+-- a mark of a lower number
+pub marked_above : (map : Layout) (nodes : List Placed) (from low high : ℕ) → low ≤ high → IsMark map nodes from low → IsMark map nodes from high
+marked_above map nodes from low high more mark = record { newer = mark.newer; older = mark.older; split = mark.split; place = mark.place; below = λ p among. let less = mark.below p among in omega arith }
+
+-- the place of a node is one of its number
+pub marked_found : (words : List ℕ) (map : Layout) (nodes : List Placed) (at number : ℕ) (p : Placed) → Laid words map nodes → Among p nodes → p.place ≡ at → number ≡ p.node.number → IsMark map nodes at number
+marked_found words map nodes at number p laid among place is = subst (λ (x : ℕ × ℕ). IsMark map nodes x.0 x.1) (λ i. (place i, sym is i)) (mark_at map nodes p laid.row laid.rising among)
+
+-- ---- the bytes of a node that was found
+
+-- its parts, in words that are the same, by what was read of it
+pub record Text (words : List ℕ) (f : Found) (p : Placed) : Type 0 where
+  pub key_len : f.head.key_len ≡ length p.node.key
+  pub reply_len : f.head.reply_len ≡ length p.node.reply
+  pub short_key : length p.node.key ≤ key_limit
+  pub short_reply : length p.node.reply ≤ kept_limit
+  pub inside : f.at + 8 + words_for f.head.key_len + words_for f.head.reply_len ≤ length words
+  pub size : length words < 2 ^ 63
+  pub key_bytes : All (λ b. b < 256) p.node.key
+  pub reply_bytes : All (λ b. b < 256) p.node.reply
+  pub key : HoldsBytes words (f.at + 8) p.node.key
+  pub reply : HoldsBytes words (f.at + 8 + words_for f.head.key_len) p.node.reply
+
+pub text_of : (old words : List ℕ) (map : Layout) (nodes : List Placed) (number : ℕ) (f : Found) (w : IsFound number nodes (Some f)) → words ≡ old → IsLayout map → Laid old map nodes → Text words f w.0
+text_of old words map nodes number f w same sizes laid =
+    let p : Placed = w.0 in
+    let key_len : f.head.key_len ≡ length p.node.key = ap (λ (h : Head). h.key_len) w.6 in
+    let reply_len : f.head.reply_len ≡ length p.node.reply = ap (λ (h : Head). h.reply_len) w.6 in
+    let here = within (arena_start map) nodes p laid.row w.1 in
+    let place = w.2 in
+    let room = laid.room in
+    let table = laid.table in
+    let few = sizes.buckets in
+    let small = sizes.room in
+    let long : length words ≡ length old = ap length same in
+    let own = laid.stands p w.1 in
+    let at_key : p.place + 8 ≡ f.at + 8 = omega arith in
+    let at_reply : p.place + 8 + words_for (length p.node.key) ≡ f.at + 8 + words_for f.head.key_len = omega arith in
+    record {
+      key_len = key_len;
+      reply_len = reply_len;
+      short_key = own.node.key;
+      short_reply = own.node.reply;
+      inside = omega arith;
+      size = omega arith;
+      key_bytes = own.node.key_bytes;
+      reply_bytes = own.node.reply_bytes;
+      key = subst (λ (ws : List ℕ). HoldsBytes ws (f.at + 8) p.node.key) (sym same) (subst (λ (a : ℕ). HoldsBytes old a p.node.key) at_key own.holds.key);
+      reply = subst (λ (ws : List ℕ). HoldsBytes ws (f.at + 8 + words_for f.head.key_len) p.node.reply) (sym same) (subst (λ (a : ℕ). HoldsBytes old a p.node.reply) at_reply own.holds.reply);
+    }
