@@ -17,7 +17,7 @@ use Rattle.nsc_laws.specs.Calls.{Tells, entries_of}
 use Rattle.nsc_laws.proofs.CoreLawRecords.{ended_or_not}
 use Rattle.nsc_laws.proofs.MachineLawEnds.{changes_ends}
 use Rattle.nsc_laws.proofs.MachineLawLists.{same_load}
-use Rattle.nsc_writer.specs.Shelf.{has_number, is_numbered}
+use Rattle.nsc_shelf.specs.Shelf.{has_number, is_numbered}
 use Rattle.nsc_writer.specs.Writer.{Writer, emptied_by, without_entry}
 use Rattle.nsc_database.specs.Rests.{IsPacked, IsReloaded, Keeps}
 use Rattle.nsc_database.proofs.Rests.{invalidated_low}

@@ -148,7 +148,6 @@ by_said (inserted.Spent count) g seen mid after request epoch polled settings no
     subst (λ (x : Given). IsGiven x settings now seen after request) (sym is) (i, inr (none_on seen after request (prefix_through seen mid after a.on p) a.none))
 by_said (inserted.Full need free) g seen mid after request epoch polled settings now a p i is =
     subst (λ (x : Given). IsGiven x settings now seen after request) (sym is) (i, inr (none_on seen after request (prefix_through seen mid after a.on p) a.none))
-by_said inserted.NoMemory g seen mid after request epoch polled settings now a p i is = absurd is
 
 pub anew_given : (g : Given) (seen mid after : List Record) (request : Request) (epoch : ℕ) (polled : Polled) (settings : DbConf) (now : ℕ) → Anew seen mid request epoch polled → IsPrefix mid after
     → IsKept (room_of settings) (loaded_of settings now request polled) mid after g → IsGiven g settings now seen after request
@@ -162,7 +161,6 @@ said_reply (inserted.Discarded noted epoch) bytes g is = ap reply_of is
 said_reply (inserted.Present number) bytes g is = ap reply_of is
 said_reply (inserted.Spent count) bytes g is = ap reply_of is
 said_reply (inserted.Full need free) bytes g is = ap reply_of is
-said_reply inserted.NoMemory bytes g is = absurd is
 
 pub kept_reply : (arena : ℕ) (l : Loaded) (seen after : List Record) (g : Given) → IsKept arena l seen after g → reply_of g ≡ l.answer.bytes
 kept_reply arena l seen after g k = said_reply k.said l.answer.bytes g k.gives

@@ -209,7 +209,6 @@ keeps_insert settings limit ticked (inserted.Discarded noted epoch) loaded w w' 
 keeps_insert settings limit ticked (inserted.Present number) loaded w w' i low k = subst (Keeps settings limit ticked) (sym i.1) k
 keeps_insert settings limit ticked (inserted.Spent count) loaded w w' i low k = subst (Keeps settings limit ticked) (sym i.1) k
 keeps_insert settings limit ticked (inserted.Full need free) loaded w w' i low k = subst (Keeps settings limit ticked) (sym i.1) (record { reloaded = k.reloaded; counted = k.counted; found = k.found })
-keeps_insert settings limit ticked inserted.NoMemory loaded w w' i low k = subst (Keeps settings limit ticked) (sym i) k
 
 pub packed_insert : (said : Inserted) (loaded : Loaded) (w w' : Writer) → Inserts said loaded w w' → IsPacked w → IsPacked w'
 packed_insert (inserted.Done number) loaded w w' i p = subst IsPacked (sym i.2) (packed_entry (kept_of loaded w.cache.inserted) w p)
@@ -218,7 +217,6 @@ packed_insert (inserted.Discarded noted epoch) loaded w w' i p = subst IsPacked 
 packed_insert (inserted.Present number) loaded w w' i p = subst IsPacked (sym i.1) p
 packed_insert (inserted.Spent count) loaded w w' i p = subst IsPacked (sym i.1) p
 packed_insert (inserted.Full need free) loaded w w' i p = subst IsPacked (sym i.1) (record { taken = p.taken; cycles = p.cycles })
-packed_insert inserted.NoMemory loaded w w' i p = subst IsPacked (sym i) p
 
 -- ---- whole calls
 

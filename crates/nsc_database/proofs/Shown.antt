@@ -22,9 +22,9 @@ use Rattle.nsc_laws.proofs.MachineLawLists.{found}
 use Rattle.nsc_writer.specs.declared.loaded.Inserted.{Inserted}
 use Rattle.nsc_writer.specs.declared.loaded.Inserted.TheVariants as inserted
 use Rattle.nsc_writer.specs.declared.loaded.Stamp.{Stamp}
-use Rattle.nsc_writer.specs.declared.uses.Hit.{Hit}
+use Rattle.nsc_shelf.specs.declared.entry.Hit.{Hit}
 use Rattle.nsc_writer.specs.Loaded.{Loaded, kept_of}
-use Rattle.nsc_writer.specs.Shelf.{Gives, number_of}
+use Rattle.nsc_shelf.specs.Shelf.{Gives, number_of}
 use Rattle.nsc_writer.specs.Writer.{Writer, Inserts, IsAnswered, IsNewest, IsRefused, Polls, emptied_by}
 use Rattle.nsc_sourcebook.specs.Book.{Polled}
 use Rattle.nsc_sourcebook.proofs.Newest.{newest_held}
@@ -151,7 +151,6 @@ inserts_on (inserted.Discarded noted epoch) loaded w w' i = same_writer w w' i.1
 inserts_on (inserted.Present number) loaded w w' i = same_writer w w' i.1
 inserts_on (inserted.Spent count) loaded w w' i = same_writer w w' i.1
 inserts_on (inserted.Full need free) loaded w w' i = subst (GoesOn w) (sym i.1) (record { on = ([], refl); table = refl; layout = refl })
-inserts_on inserted.NoMemory loaded w w' i = same_writer w w' i
 
 loads_rise : (more h : List Record) → loads h ≤ loads (more ++ h)
 loads_rise [] h = omega arith
@@ -203,7 +202,6 @@ is_inserted (inserted.Spent count) loaded seen w w' t packed p i r = (r.0, ap (�
 is_inserted (inserted.Full need free) loaded seen w w' t packed p i r =
     let same : w'.seen ≡ w.seen = ap (λ (x : Writer). x.seen) i.1 in
     subst (λ (h : List Record). IsFull w.layout.arena h loaded.request loaded.answer.bytes need free) (sym same) (record { needed = r.0; less = r.2; left = is_free w.seen w free t refl packed r.1 })
-is_inserted inserted.NoMemory loaded seen w w' t packed p i r = tt
 
 pub stamp_epoch : (files : Content) (epoch : ℕ) (w w' : Writer) (stamp : Stamp) → Polls (polled files w.cache) epoch w w' (Ok stamp) → stamp.epoch ≡ epoch
 stamp_epoch files epoch w w' stamp p = by_same (same_files files w.cache.sources) p where

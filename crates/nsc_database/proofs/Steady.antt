@@ -24,7 +24,7 @@ use Rattle.nsc_writer.specs.declared.loaded.Inserted.TheVariants as inserted
 use Rattle.nsc_writer.specs.declared.loaded.Stamp.{Stamp}
 use Rattle.nsc_writer.specs.declared.uses.Uses.{Uses}
 use Rattle.nsc_writer.specs.Due.{Due, due_cause_of, pruned_by, pruned_one}
-use Rattle.nsc_writer.specs.Shelf.{has_number}
+use Rattle.nsc_shelf.specs.Shelf.{has_number}
 use Rattle.nsc_writer.specs.Loaded.{Loaded}
 use Rattle.nsc_writer.specs.Writer.{Writer, Inserts, Polls, emptied_by, ending_of, without_entry}
 use Rattle.nsc_writer.proofs.Later.{version_on}
@@ -59,7 +59,6 @@ version_inserted (inserted.Discarded noted epoch) loaded w w' i = keeps_same w w
 version_inserted (inserted.Present number) loaded w w' i = keeps_same w w' i.1
 version_inserted (inserted.Spent count) loaded w w' i = keeps_same w w' i.1
 version_inserted (inserted.Full need free) loaded w w' i = subst (λ (x : Writer). KeepsVersion w.cache x.cache) (sym i.1) (record { version = refl; sources = refl })
-version_inserted inserted.NoMemory loaded w w' i = keeps_same w w' i
 
 pub version_emptied : (w w' : Writer) → w' ≡ emptied_by w → KeepsVersion w.cache w'.cache
 version_emptied w w' is = subst (λ (x : Writer). KeepsVersion w.cache x.cache) (sym is) (record { version = refl; sources = refl })

@@ -34,4 +34,3 @@ IsInserted arena (inserted.Discarded noted epoch) loaded seen after = (noted ≡
 IsInserted arena (inserted.Present number) loaded seen after = (e : Entry) × IsLive after e × (e.number ≡ number) × (e.request ≡ loaded.request)
 IsInserted arena (inserted.Spent count) loaded seen after = (count ≡ last_count) × (loads after ≡ count)
 IsInserted arena (inserted.Full need free) loaded seen after = IsFull arena after loaded.request loaded.answer.bytes need free
-IsInserted arena inserted.NoMemory loaded seen after = Unit {0}

@@ -24,7 +24,6 @@ Gives (inserted.Discarded noted epoch) bytes g = g ≡ given.Fresh bytes (why.Di
 Gives (inserted.Present number) bytes g = g ≡ given.Fresh bytes (why.Present number)
 Gives (inserted.Spent count) bytes g = g ≡ given.Fresh bytes (why.Spent count)
 Gives (inserted.Full need free) bytes g = g ≡ given.Fresh bytes (why.Full need free)
-Gives inserted.NoMemory bytes g = ⊥
 
 -- an insertion into an arena of so many words was tried, and the lookup gives this
 pub record IsKept (arena : ℕ) (loaded : Loaded) (seen after : List Record) (g : Given) : Type 0 where

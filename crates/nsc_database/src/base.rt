@@ -107,10 +107,9 @@ impl<D: OfDb, F: FileSet + Drop, A: Answerer + Drop, B: Room> Base<D, F, A, B> {
     pub fn keep<R: Wait>(
         &self,
         rt: &R,
-        alloc: Global,
         pass: &mut DbPass<F, B>,
         loaded: Loaded,
-    ) -> Result<Given, NoMemory>
+    ) -> Given
         requires db { pass.old.db ≡ D.db }
         requires answered { IsAnswered pass.old.pass.seen loaded }
         requires new { loaded.reloads ≡ 0 }
@@ -118,9 +117,9 @@ impl<D: OfDb, F: FileSet + Drop, A: Answerer + Drop, B: Room> Base<D, F, A, B> {
         ensures files { pass.new.files ≡ pass.old.files }
         ensures before { IsPrefix pass.old.pass.seen pass.new.pass.seen }
         ensures legal { Legal pass.new.pass.seen }
-        ensures kept { IfOk result (λ given. IsKept (room_of self.now.settings) loaded pass.old.pass.seen pass.new.pass.seen given) }
+        ensures kept { IsKept (room_of self.now.settings) loaded pass.old.pass.seen pass.new.pass.seen result }
     {
-        let (said, loaded) = self.desk.lock(rt).insert(pass, alloc, loaded);
+        let (said, loaded) = self.desk.lock(rt).insert(pass, loaded);
         given_after(said, loaded.into_reply())
     }
 
@@ -205,17 +204,16 @@ pub fn life_of(settings: &DbConf, answer: &Answer) -> u64
 }
 
 // What a lookup gives after its insertion, with this reply.
-fn given_after(said: Inserted, bytes: Bytes) -> Result<Given, NoMemory>
-    ensures { IfOk result (λ given. Gives said bytes given) }
+fn given_after(said: Inserted, bytes: Bytes) -> Given
+    ensures { Gives said bytes result }
 {
     let why = match said {
-        Inserted::Done { number } => return Ok(Given::Loaded { bytes, number }),
+        Inserted::Done { number } => return Given::Loaded { bytes, number },
         Inserted::TooLarge { length } => Why::TooLarge { length },
         Inserted::Discarded { loaded, epoch } => Why::Discarded { loaded, epoch },
         Inserted::Present { number } => Why::Present { number },
         Inserted::Spent { count } => Why::Spent { count },
         Inserted::Full { need, free } => Why::Full { need, free },
-        Inserted::NoMemory => return Err(NoMemory),
     };
-    Ok(Given::Fresh { bytes, why })
+    Given::Fresh { bytes, why }
 }

@@ -130,7 +130,6 @@ impl<D: OfDb, B: Room> Desk<D, B> {
     pub fn insert<F: FileSet + Drop>(
         &mut self,
         pass: &mut DbPass<F, B>,
-        alloc: Global,
         loaded: Loaded,
     ) -> (Inserted, Loaded)
         requires db { pass.old.db ≡ D.db }
@@ -143,7 +142,7 @@ impl<D: OfDb, B: Room> Desk<D, B> {
         ensures inserted { IsInserted (room_of (settings_of B.conf D.db)) result.0 loaded pass.old.pass.seen pass.new.pass.seen }
         ensures back { result.1 ≡ loaded }
     {
-        holds::insert(&mut self.writer, &mut pass.pass, alloc, loaded)
+        holds::insert(&mut self.writer, &mut pass.pass, loaded)
     }
 
     /// Ends every entry, and gives the new number of invalidations. At `Spent` that number stands at its end; or every entry
@@ -274,7 +273,6 @@ impl<D: OfDb, B: Room> Desk<D, B> {
     pub fn renew<F: FileSet + Drop>(
         &mut self,
         pass: &mut DbPass<F, B>,
-        alloc: Global,
         epoch: u64,
         due: &mut [Due],
         loads: &[Option<Loaded>],
@@ -296,7 +294,6 @@ impl<D: OfDb, B: Room> Desk<D, B> {
         renewal::renew(
             &mut self.writer,
             &mut pass.pass,
-            alloc,
             epoch,
             due,
             loads,

@@ -18,8 +18,8 @@ use nsc_model::{Answerer, Kind, Spent, Stats};
 use nsc_outside::FileSet;
 use nsc_rule::Pass;
 use nsc_sourcebook::{Fetched, Polled, SourceBook};
-use nsc_writer::{Hit, Inserted, Loaded, Writer};
-use std::alloc::Global;
+use nsc_shelf::Hit;
+use nsc_writer::{Inserted, Loaded, Writer};
 
 /// What a look for a live entry found.
 #[derive(Clone, Copy, Debug, PartialEq, Eq)]
@@ -97,7 +97,6 @@ pub fn poll<F: FileSet + Drop, A: Answerer>(
 pub fn insert(
     writer: &mut Writer,
     pass: &mut Pass,
-    alloc: Global,
     loaded: Loaded,
 ) -> (Inserted, Loaded)
     requires table { pass.old.table ≡ writer.old.table }
@@ -118,7 +117,7 @@ pub fn insert(
     writer.show(pass);
     writer.miss(loaded.answer().is_not_found());
     writer.learn();
-    let outcome = writer.insert(alloc, loaded);
+    let outcome = writer.insert(loaded);
     writer.learn();
     writer.show(pass);
     outcome

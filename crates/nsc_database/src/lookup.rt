@@ -93,10 +93,7 @@ impl<D: OfDb, F: FileSet + Drop, A: Answerer + Drop, B: Room> Base<D, F, A, B> {
             Ok(loaded) => loaded,
             Err(_) => return Err(LookupFault::NoMemory),
         };
-        match self.keep(rt, alloc, pass, loaded) {
-            Ok(given) => Ok(given),
-            Err(_) => Err(LookupFault::NoMemory),
-        }
+        Ok(self.keep(rt, pass, loaded))
     }
 
     // A lookup where the database is not cached.

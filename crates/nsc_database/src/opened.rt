@@ -4,6 +4,7 @@ ghost use Rattle.nsc_model.specs.Entry.{kept_limit};
 ghost use Rattle.nsc_model.specs.Files.{part_of};
 ghost use Rattle.nsc_model.specs.Machine.{room_of};
 ghost use Rattle.nsc_model.specs.Settings.{settings_of};
+ghost use Rattle.nsc_model.specs.Sizes.{SizeFits};
 ghost use Rattle.nsc_database.specs.Rests.{IsNew};
 ghost use Rattle.nsc_database.specs.Steady.{IsPart};
 ghost use Rattle.nsc_sourcebook.specs.Reads.{AllRose, AreAsTold, FaultRose, IsPartOf, TellsLength};
@@ -54,7 +55,7 @@ impl<F: FileSet + Drop, A: Answerer + Drop> Opened<F, A> {
         db: Db,
         conf: &Conf,
     ) -> Result<Opened<F, A>, PollFault>
-        requires { (settings_of conf.now db).size ≤ 65536 }
+        requires { SizeFits (settings_of conf.now db) }
         ensures db { IfOk result (λ o. (o.db ≡ db) × (o.settings ≡ settings_of conf.now db) × (o.reloads ≡ conf.now.reloads)) }
         ensures seen { IfOk result (λ o. o.pass.seen ≡ record_of.Change 0 o.book.newest ∷ []) }
         ensures told { IfOk result (λ o. AreAsTold db (F.latest files.new) o.book.newest) }

@@ -70,7 +70,6 @@ pub fn list(
 pub fn renew(
     writer: &mut Writer,
     pass: &mut Pass,
-    alloc: Global,
     epoch: u64,
     due: &mut [Due],
     loads: &[Option<Loaded>],
@@ -101,7 +100,7 @@ pub fn renew(
     }
     match end_due(writer, due, now) {
         Ok(()) => {
-            reload(writer, alloc, due, loads);
+            reload(writer, due, loads);
             writer.learn();
             writer.show(pass);
             Ok(())
@@ -132,7 +131,7 @@ fn end_due(writer: &mut Writer, due: &mut [Due], now: u64) -> Result<(), Spent>
 }
 
 // Loads those again that were ended and are to be, one after the other; one whose insertion is refused is gone.
-fn reload(writer: &mut Writer, alloc: Global, due: &[Due], loads: &[Option<Loaded>])
+fn reload(writer: &mut Writer, due: &[Due], loads: &[Option<Loaded>])
     requires legal { Legal writer.old.seen }
     requires due { All (IsRenewed writer.old.seen) due.now }
     requires loads { AreAnew writer.old.seen due.now loads.now }
@@ -143,7 +142,7 @@ fn reload(writer: &mut Writer, alloc: Global, due: &[Due], loads: &[Option<Loade
         if let Some(loaded) = load {
             if due[at].is_ended() {
                 writer.learn();
-                let _said = writer.insert_copy(alloc, loaded);
+                let _said = writer.insert_lent(loaded);
             }
         }
     }

@@ -116,7 +116,7 @@ impl<D: OfDb, F: FileSet + Drop, A: Answerer + Drop, B: Room> Base<D, F, A, B> {
         match self
             .desk
             .lock(rt)
-            .renew(pass, alloc, epoch, &mut due, &loads, now)
+            .renew(pass, epoch, &mut due, &loads, now)
         {
             Ok(()) => Ok(()),
             Err(spent) => Err(LookupFault::Spent { count: spent.count }),

@@ -62,7 +62,7 @@ longer seen told = if nat_lt (length seen) (length told) then told else seen
 abbrev pub said_record : Said → Record
 said_record (said.Change version content) = record_of.Change version content.value
 said_record (said.Poll version) = record_of.Poll version
-said_record (said.Load entry) = record_of.Load entry.value
+said_record (said.Load number kind key version answer timeout) = record_of.Load (record { number = number; request = record { kind = kind; key = key.value }; version = version; answer = answer.value; timeout = timeout })
 said_record (said.End number cause) = record_of.End number cause
 said_record (said.Invalid epoch) = record_of.Invalid epoch
 

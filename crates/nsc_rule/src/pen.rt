@@ -10,7 +10,8 @@ use crate::map::Map;
 use crate::pass::Pass;
 use crate::view::{Adds, Copies, EPOCH, Learns, SOURCE, Said, Tells, View};
 use atomic_table::Seat;
-use nsc_model::{Content, Ending, Entry};
+use nsc_base::Bytes;
+use nsc_model::{Answer, Content, Ending, Kind};
 use std::marker::Model;
 use std::snapshot::Snapshot;
 
@@ -133,14 +134,30 @@ impl Pen {
         self.version = version;
     }
 
-    /// Adds the record of an insertion.
-    pub fn insert(&mut self, map: &Map, entry: &Entry)
+    /// Adds the record of the insertion of an entry: its number, its request by kind and key, and the answer over a version, until
+    /// its time is over.
+    pub fn insert(
+        &mut self,
+        map: &Map,
+        number: u64,
+        kind: Kind,
+        key: &Bytes,
+        answer: &Answer,
+        version: u64,
+        timeout: u64,
+    )
         requires map { map.now.table ≡ self.old.table }
-        requires legal { Legal (record_of.Load entry.now ∷ self.old.seen) }
-        ensures { self.new ≡ record self.old { seen = record_of.Load entry.now ∷ self.old.seen } }
+        requires legal { Legal (record_of.Load (record { number = number; request = record { kind = kind; key = key.now }; version = version; answer = answer.now; timeout = timeout }) ∷ self.old.seen) }
+        ensures { self.new ≡ record self.old { seen = record_of.Load (record { number = number; request = record { kind = kind; key = key.now }; version = version; answer = answer.now; timeout = timeout }) ∷ self.old.seen } }
     {
-        let entry = Snapshot::of(entry);
-        let said = Said::Load { entry };
+        let said = Said::Load {
+            number,
+            kind,
+            key: Snapshot::of(key),
+            version,
+            answer: Snapshot::of(answer),
+            timeout,
+        };
         add(
             &mut self.seat,
             map,

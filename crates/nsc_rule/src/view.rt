@@ -1,6 +1,7 @@
 // What the seats at the words know, and what their steps tell.
 use atomic_table::{Join, Play, Split, TableRule};
-use nsc_model::{Content, Ending, Entry, Record};
+use nsc_base::Bytes;
+use nsc_model::{Answer, Content, Ending, Kind, Record};
 use std::collections::LinkedList;
 use std::snapshot::Snapshot;
 
@@ -29,7 +30,12 @@ pub enum Said {
         version: u64,
     },
     Load {
-        entry: Snapshot<Entry>,
+        number: u64,
+        kind: Kind,
+        key: Snapshot<Bytes>,
+        version: u64,
+        answer: Snapshot<Answer>,
+        timeout: u64,
     },
     End {
         number: u64,

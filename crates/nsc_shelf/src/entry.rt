@@ -27,6 +27,6 @@ pub struct EntryAt {
     pub reloads: u64,
     /// Whether its reply is a not-found reply.
     pub not_found: bool,
-    /// From which number on the next one is found.
-    pub next: u64,
+    /// The number from which on the next one is found.
+    pub next: usize,
 }

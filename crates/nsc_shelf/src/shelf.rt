@@ -195,7 +195,7 @@ impl Shelf {
             timeout: head.timeout,
             reloads: head.reloads,
             not_found: head.not_found,
-            next: head.number + 1,
+            next: (head.number + 1) as usize,
         })
     }
 

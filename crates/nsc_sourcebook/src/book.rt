@@ -5,7 +5,8 @@ ghost use Rattle.nsc_model.specs.declared.record.Record.TheVariants as record_of
 ghost use Rattle.nsc_model.specs.Files.{part_of};
 ghost use Rattle.nsc_model.specs.History.{PolledSince};
 ghost use Rattle.nsc_model.specs.Machine.{new_cache, polled};
-ghost use Rattle.nsc_writer.specs.Writer.{IsNewest, Polls, most_words};
+ghost use Rattle.nsc_words.specs.Layout.{IsLayout};
+ghost use Rattle.nsc_writer.specs.Writer.{IsNewest, Polls};
 ghost use Rattle.nsc_sourcebook.specs.Reads.{AllRose, AreAsTold, FaultRose, IsPartOf, TellsLength};
 ghost use Rattle.nsc_sourcebook.specs.Book.{PollsBook};
 ghost use Rattle.nsc_sourcebook.specs.declared.fault.PollFault.TheVariants.{NoMemory as Memory};
@@ -108,7 +109,7 @@ impl<F: FileSet + Drop, A: Answerer> SourceBook<F, A> {
         answers: &A,
         db: Db,
     ) -> Result<(SourceBook<F, A>, Writer, Pass), PollFault>
-        requires { layout.arena ≤ most_words }
+        requires { IsLayout layout }
         ensures book { IfOk result (λ r. (r.0.db ≡ db) × (r.0.table ≡ r.2.table)) }
         ensures held { IfOk result (λ r. (r.0.held ≡ F.held files.old) × (F.held files.new ≡ F.held files.old)) }
         ensures writer { IfOk result (λ r. r.1 ≡ record { table = r.2.table; layout = layout; seen = record_of.Change 0 r.0.newest ∷ []; cache = new_cache r.0.newest; hits = record { found = 0; not_found = 0 }; misses = record { found = 0; not_found = 0 } }) }

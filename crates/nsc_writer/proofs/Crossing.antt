@@ -4,7 +4,7 @@ use Rattle.std.proofs.Crossing.{crosses}
 use Rattle.nsc_model.proofs.Crossing.{content-send, content-sync, entry-send}
 use Rattle.nsc_plain.specs.contracts.kept.Kept as kept
 use Rattle.nsc_rule.proofs.Crossing.{map-send, pen-send}
-use Rattle.nsc_writer.specs.contracts.shelf.Shelf as shelf
+use Rattle.nsc_shelf.specs.contracts.shelf.Shelf as shelf
 use Rattle.nsc_writer.specs.contracts.writer.Writer as writer
 
 kept-send : IsSend kept.the_row

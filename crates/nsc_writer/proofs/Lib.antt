@@ -1,5 +1,5 @@
-pub mod Shelves
 pub mod Told
 pub mod Pruned
 pub mod Later
 pub mod Crossing
+pub mod Rest

@@ -9,7 +9,7 @@ use Rattle.std.specs.Bool.{OnTrue, OnFalse}
 use Rattle.nsc_laws.proofs.MachineLawLists.{same_load}
 use Rattle.nsc_writer.specs.Due.{Due, IsOver, due_cause_of, marked_by, pruned_by, pruned_one}
 use Rattle.nsc_writer.specs.declared.writer.Cause.{Cause}
-use Rattle.nsc_writer.specs.Shelf.{has_number}
+use Rattle.nsc_shelf.specs.Shelf.{has_number}
 use Rattle.nsc_writer.specs.Writer.{Writer, ending_of, without_entry}
 
 -- what is left to end, and what is marked so far, make the whole

@@ -22,7 +22,7 @@ use Rattle.nsc_laws.proofs.MachineLawSteps.{retells}
 use Rattle.nsc_laws.proofs.MachineLawParts.{none_of, kept_tells, inserted_by, invalid_tells}
 use Rattle.nsc_writer.specs.Loaded.{Loaded, kept_of}
 use Rattle.nsc_rule.specs.Pen.{Pen}
-use Rattle.nsc_writer.specs.Shelf.{Shelf, has_number, is_numbered, others_than}
+use Rattle.nsc_shelf.specs.Shelf.{Shelf, has_number, is_numbered, others_than}
 use Rattle.nsc_writer.specs.Writer.{IsAnswered, cache_of}
 
 -- ---- polls

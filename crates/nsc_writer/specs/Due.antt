@@ -7,7 +7,7 @@ use Rattle.nsc_model.specs.History.{HasLoad}
 use Rattle.nsc_model.specs.Machine.{Kept, is_dropped}
 use Rattle.nsc_writer.specs.declared.writer.Cause.{Cause}
 use Rattle.nsc_writer.specs.declared.writer.Cause.TheVariants as cause
-use Rattle.nsc_writer.specs.Shelf.{has_number}
+use Rattle.nsc_shelf.specs.Shelf.{has_number}
 use Rattle.nsc_writer.specs.Writer.{Writer, ending_of, without_entry}
 
 -- its number, what it was asked, how often it was reloaded without a use, whether it is dropped, and not reloaded, and whether it

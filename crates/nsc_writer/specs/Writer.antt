@@ -13,15 +13,15 @@ use Rattle.nsc_model.specs.Entry.{kept_limit}
 use Rattle.nsc_model.specs.History.{version_in, PolledSince}
 use Rattle.nsc_model.specs.Machine.{Kept, Cache, Passed, Stopped, Refusal, TooLarge, Discarded, Present, Spent, Full, refusal, last_count, live_entry, entry_words, by_invalidation, emptied, ends_of}
 use Rattle.nsc_model.specs.Answers.{answer_of}
+use Rattle.nsc_shelf.specs.declared.entry.EntryAt.{EntryAt}
+use Rattle.nsc_shelf.specs.Shelf.{IsTold, Shelf, number_of, others_than}
 use Rattle.nsc_writer.specs.declared.loaded.Inserted.{Inserted}
 use Rattle.nsc_writer.specs.declared.loaded.Inserted.TheVariants as inserted
 use Rattle.nsc_writer.specs.declared.loaded.Stamp.{Stamp}
-use Rattle.nsc_writer.specs.declared.uses.EntryAt.{EntryAt}
 use Rattle.nsc_writer.specs.declared.uses.Uses.{Uses}
 use Rattle.nsc_writer.specs.declared.writer.Cause.{Cause}
 use Rattle.nsc_writer.specs.declared.writer.Cause.TheVariants as cause
 use Rattle.nsc_writer.specs.Loaded.{Loaded, kept_of}
-use Rattle.nsc_writer.specs.Shelf.{Shelf, number_of, others_than}
 
 pub record Writer : Type 0 where
   pub table : TableId
@@ -97,7 +97,6 @@ is_full (inserted.Discarded noted epoch) = false
 is_full (inserted.Present number) = false
 is_full (inserted.Spent count) = false
 is_full (inserted.Full need free) = true
-is_full inserted.NoMemory = false
 
 -- what became of an insertion that this refuses, or nothing, and of the writer: an entry was inserted where nothing refuses it
 abbrev pub InsertsBy : Option Refusal → Inserted → Loaded → Writer → Writer → Type 0
@@ -107,7 +106,6 @@ InsertsBy refused (inserted.Discarded noted epoch) loaded before after = (refuse
 InsertsBy refused (inserted.Present number) loaded before after = (refused ≡ Some (Present number)) × (after ≡ before)
 InsertsBy refused (inserted.Spent count) loaded before after = (refused ≡ Some (Spent count)) × (after ≡ before)
 InsertsBy refused (inserted.Full need free) loaded before after = (refused ≡ Some (Full need free)) × (after ≡ with_failed before)
-InsertsBy refused inserted.NoMemory loaded before after = after ≡ before
 
 abbrev pub Inserts : Inserted → Loaded → Writer → Writer → Type 0
 Inserts said loaded before after = InsertsBy (refusal_of before loaded) said loaded before after
@@ -120,7 +118,6 @@ IsRefused (inserted.Discarded noted epoch) loaded w = (noted ≡ loaded.stamp.ep
 IsRefused (inserted.Present number) loaded w = number_of (live_entry loaded.request w.cache.entries) ≡ Some number
 IsRefused (inserted.Spent count) loaded w = (count ≡ last_count) × (w.cache.inserted ≡ count)
 IsRefused (inserted.Full need free) loaded w = (need ≡ entry_words (kept_of loaded w.cache.inserted).entry) × (free + w.cache.used ≡ w.layout.arena) × (free < need)
-IsRefused inserted.NoMemory loaded w = Unit {0}
 
 -- nothing refuses an insertion
 pub record IsFree (w : Writer) (loaded : Loaded) : Type 0 where
@@ -146,9 +143,7 @@ emptied_by w = record w { cache = (emptied w.cache).cache; seen = Invalid (w.cac
 
 -- ---- lists
 
--- an entry at this place, with its key and its reply, if there is one
-abbrev pub Stands : Option Kept → ℕ → Option EntryAt → List ℕ → List ℕ → Type 0
-Stands None at said key reply = said ≡ None
-Stands (Some k) at said key reply =
-    (said ≡ Some (record { number = k.entry.number; kind = k.entry.request.kind; version = k.entry.version; timeout = k.entry.timeout; reloads = k.reloads; not_found = k.entry.answer.not_found; next = at + 1 }))
-    × (key ≡ k.entry.request.key) × (reply ≡ k.entry.answer.bytes)
+-- an entry with its key and its reply, if there is one
+abbrev pub Stands : Option Kept → Option EntryAt → List ℕ → List ℕ → Type 0
+Stands None said key reply = said ≡ None
+Stands (Some k) said key reply = IsTold (Some k) said × (key ≡ k.entry.request.key) × (reply ≡ k.entry.answer.bytes)

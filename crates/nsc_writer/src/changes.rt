@@ -8,16 +8,17 @@ ghost use Rattle.nsc_model.specs.History.{Allows, IsLive, PolledSince};
 ghost use Rattle.nsc_model.specs.Machine.{by_invalidation, ends_of, last_count, polled};
 ghost use Rattle.nsc_model.specs.Live.{AreLive};
 ghost use Rattle.nsc_laws.specs.Calls.{entries_of};
-ghost use Rattle.nsc_writer.specs.Shelf.{has_number};
-ghost use Rattle.nsc_writer.specs.Writer.{Inserts, IsAnswered, IsFree, IsNewest, IsRefused, Polls, SaysRefused, ending_of, emptied_by, is_full, refusal_of, without_entry};
+ghost use Rattle.nsc_shelf.specs.Shelf.{has_number};
+ghost use Rattle.nsc_writer.specs.Loaded.{kept_of};
+ghost use Rattle.nsc_writer.specs.Writer.{Inserts, IsAnswered, IsFree, IsNewest, IsRefused, Polls, SaysRefused, ending_of, emptied_by, is_full, refusal_of, with_entry, without_entry};
 
 use crate::loaded::{Inserted, Loaded, Stamp};
 use crate::writer::{Cause, Writer};
 use nsc_model::{Content, Ending, Spent};
-use nsc_plain::{Kept, LAST_COUNT};
+use nsc_plain::LAST_COUNT;
 use nsc_rule::{Map, Pen};
+use nsc_shelf::Shelf;
 use nsc_words::node_words;
-use std::alloc::Global;
 use std::sync::Arc;
 
 // The longest reply that is kept.
@@ -61,10 +62,11 @@ impl Writer {
     }
 
     // Why the insertion is refused, if it is.
-    fn refusal(&self, loaded: &Loaded) -> Option<Inserted>
-        ensures said { SaysRefused (refusal_of self.now loaded.now) result }
-        ensures why { IfSome result (λ said. IsRefused said loaded.now self.now) }
-        ensures free { IfNone result (IsFree self.now loaded.now) }
+    fn refusal(&mut self, loaded: &Loaded) -> Option<Inserted>
+        ensures said { SaysRefused (refusal_of self.old loaded.now) result }
+        ensures why { IfSome result (λ said. IsRefused said loaded.now self.old) }
+        ensures free { IfNone result (IsFree self.old loaded.now) }
+        ensures same { self.new ≡ self.old }
     {
         let length = loaded.answer().bytes().len();
         if length > KEPT_LIMIT {
@@ -98,19 +100,19 @@ impl Writer {
 
     /// Tries an insertion, and hands back what was to be inserted. It is refused, in this order, where its reply is longer than
     /// 65,536 bytes, where the database was invalidated after its epoch was noted, where an entry of its request is live, where
-    /// no more entries can be counted, and where too few words are free.
-    pub fn insert(&mut self, alloc: Global, loaded: Loaded) -> (Inserted, Loaded)
+    /// no more entries can be counted, and where too few words are free. It takes no memory.
+    pub fn insert(&mut self, loaded: Loaded) -> (Inserted, Loaded)
         requires { IsAnswered self.old.seen loaded }
         ensures inserted { Inserts result.0 loaded self.old self.new }
         ensures why { IsRefused result.0 loaded self.old }
         ensures back { result.1 ≡ loaded }
     {
-        let said = self.insert_copy(alloc, &loaded);
+        let said = self.insert_lent(&loaded);
         (said, loaded)
     }
 
-    /// The same with a copy of what is to be inserted.
-    pub fn insert_copy(&mut self, alloc: Global, loaded: &Loaded) -> Inserted
+    /// The same of what is lent.
+    pub fn insert_lent(&mut self, loaded: &Loaded) -> Inserted
         requires { IsAnswered self.old.seen loaded.now }
         ensures inserted { Inserts result loaded.now self.old self.new }
         ensures why { IsRefused result loaded.now self.old }
@@ -122,15 +124,32 @@ impl Writer {
             return refused;
         }
         let number = self.shelf.inserted();
-        let Ok(kept) = loaded.kept(alloc, number) else {
-            return Inserted::NoMemory;
-        };
-        if self.shelf.reserve().is_err() {
-            return Inserted::NoMemory;
-        }
-        self.pen.insert(&self.map, kept.entry());
-        self.shelf.put(kept);
+        self.put(loaded, number);
         Inserted::Done { number }
+    }
+
+    // Inserts the entry of this number, which nothing refuses.
+    fn put(&mut self, loaded: &Loaded, number: u64)
+        requires answered { IsAnswered self.old.seen loaded.now }
+        requires free { IsFree self.old loaded.now }
+        requires number { number ≡ self.old.cache.inserted }
+        ensures { self.new ≡ with_entry (kept_of loaded.now self.old.cache.inserted) self.old }
+    {
+        let kind = loaded.kind();
+        let key = loaded.owned_key();
+        let answer = loaded.answer();
+        let version = loaded.stamp().version;
+        let timeout = loaded.timeout();
+        self.pen
+            .insert(&self.map, number, kind, key, answer, version, timeout);
+        self.shelf.put(
+            kind,
+            key.as_slice(),
+            answer,
+            version,
+            timeout,
+            loaded.reloads(),
+        );
     }
 
     /// Ends the entry of this number by this cause, which lets it end. It is false exactly where the entry is not live; then
@@ -159,7 +178,7 @@ impl Writer {
         if before == LAST_COUNT {
             return Err(Spent { count: LAST_COUNT });
         }
-        end_all(&mut self.pen, &self.map, self.shelf.entries());
+        end_all(&mut self.pen, &self.map, &mut self.shelf);
         self.pen.invalidate(&self.map);
         self.shelf.clear();
         Ok(before + 1)
@@ -185,13 +204,16 @@ impl Cause {
     }
 }
 
-// Ends these live entries, one after the other, as invalidated.
-fn end_all(pen: &mut Pen, map: &Map, entries: &[Kept])
+// Ends the live entries, one after the other, as invalidated. They stay on their shelf.
+fn end_all(pen: &mut Pen, map: &Map, shelf: &mut Shelf)
     requires map { map.now.table ≡ pen.old.table }
-    requires live { AreLive pen.old.seen (entries_of entries.now) }
-    ensures { pen.new ≡ record pen.old { seen = ends_of by_invalidation entries.now pen.old.seen } }
+    requires live { AreLive pen.old.seen (entries_of shelf.old.entries) }
+    ensures pen { pen.new ≡ record pen.old { seen = ends_of by_invalidation shelf.old.entries pen.old.seen } }
+    ensures same { shelf.new ≡ shelf.old }
 {
-    for kept in entries {
-        pen.end(map, kept.entry().number(), Ending::Invalidated);
+    let mut from = 0;
+    'entries: while let Some(entry) = shelf.next(from) {
+        pen.end(map, entry.number, Ending::Invalidated);
+        from = entry.number + 1;
     }
 }

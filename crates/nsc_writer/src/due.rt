@@ -1,15 +1,22 @@
 // The entries whose time is over.
-ghost use Rattle.std.specs.Prelude.{◌≡◌, ◌≤◌, All, filter, map, length, IfOk};
+ghost use Rattle.std.specs.Prelude.{◌≡◌, ◌≤◌, ◌||◌, false, All, Some, filter, map, length, IfOk};
 ghost use Rattle.nsc_model.specs.Entry.{key_limit};
-ghost use Rattle.nsc_model.specs.Machine.{due_of, next_reloads};
+ghost use Rattle.nsc_model.specs.Live.{Rise};
+ghost use Rattle.nsc_shelf.specs.Shelf.{IsTold, entry_from};
+ghost use Rattle.nsc_model.specs.Machine.{Kept, due_of, next_reloads, reached};
+ghost use Rattle.nsc_laws.specs.Calls.{entries_of};
 ghost use Rattle.nsc_writer.specs.Due.{IsOver, due_cause_of, due_from, marked_by, pruned_by};
 
 use crate::writer::{Cause, Writer};
-use nsc_base::{Bytes, NoMemory};
+use nsc_base::{Buf, Bytes, NoMemory};
 use nsc_model::{Kind, Request};
-use nsc_plain::{Kept, LAST_COUNT};
+use nsc_plain::LAST_COUNT;
+use nsc_shelf::{EntryAt, Shelf};
 use std::alloc::Global;
 use std::marker::Model;
+
+// The longest key, in bytes.
+const KEY_LIMIT: usize = 1_024;
 
 /// What is known of an entry whose time was over: its number and request, how often it was reloaded without a use, whether it is
 /// dropped, and not reloaded, and whether it was ended since.
@@ -104,10 +111,16 @@ impl Due {
 impl Writer {
     /// The live entries whose time is over at this moment, in seconds, in rising number. Those that were reloaded so often without a
     /// use are dropped, as those are whose reply is a not-found one. Fails only for want of memory.
-    pub fn expired(&self, alloc: Global, limit: Option<u32>, now: u64) -> Result<Vec<Due>, NoMemory>
-        ensures { IfOk result (λ all. all.items ≡ map (due_from limit) (due_of now self.now.cache.entries)) }
+    pub fn expired(
+        &mut self,
+        alloc: Global,
+        limit: Option<u32>,
+        now: u64,
+    ) -> Result<Vec<Due>, NoMemory>
+        ensures all { IfOk result (λ all. all.items ≡ map (due_from limit) (due_of now self.old.cache.entries)) }
+        ensures same { self.new ≡ self.old }
     {
-        due_entries(alloc, self.shelf.entries(), limit, now)
+        due_entries(alloc, &mut self.shelf, limit, now)
     }
 
     /// Ends those of the entries that are live still, one after the other: the dropped ones as expired at this moment, and the others
@@ -152,33 +165,65 @@ fn ended_count(due: &[Due]) -> u64
 // What is known of those of the entries whose time is over.
 fn due_entries(
     alloc: Global,
-    entries: &[Kept],
+    shelf: &mut Shelf,
     limit: Option<u32>,
     now: u64,
 ) -> Result<Vec<Due>, NoMemory>
-    ensures { IfOk result (λ all. all.items ≡ map (due_from limit) (due_of now entries.now)) }
+    requires { Rise (entries_of shelf.old.entries) }
+    ensures all { IfOk result (λ all. all.items ≡ map (due_from limit) (due_of now shelf.old.entries)) }
+    ensures same { shelf.new ≡ shelf.old }
 {
     let mut all = Vec::new(alloc);
-    for kept in entries {
-        if kept.is_due(now) {
-            all.push(due_from(alloc, kept, limit)?)?;
+    let mut key = Buf::new(alloc, KEY_LIMIT)?;
+    let mut from = 0;
+    'entries: while let Some(entry) = shelf.next(from) {
+        if entry.timeout < now {
+            all.push(due_at(alloc, shelf, entry, limit, &mut key)?)?;
         }
+        from = entry.number + 1;
     }
     Ok(all)
 }
 
-// What is known of an entry whose time is over.
-fn due_from(alloc: Global, kept: &Kept, limit: Option<u32>) -> Result<Due, NoMemory>
-    ensures { IfOk result (λ due. due ≡ due_from limit kept.now) }
+// What is known of an entry whose time is over. Its key goes through a buffer.
+fn due_at(
+    alloc: Global,
+    shelf: &mut Shelf,
+    entry: EntryAt,
+    limit: Option<u32>,
+    key: &mut Buf,
+) -> Result<Due, NoMemory>
+    requires { key.old.limit ≡ key_limit }
+    ensures due { IfOk result (λ due. (k : Kept) → entry_from entry.number shelf.old.entries ≡ Some k → IsTold (Some k) (Some entry) → due ≡ due_from limit k) }
+    ensures same { shelf.new ≡ shelf.old }
+    ensures limit { key.new.limit ≡ key_limit }
 {
-    let request = kept.entry().request();
-    let key = Bytes::copy(alloc, request.key.as_slice())?;
-    let kind = request.kind;
+    shelf.key(entry.number, key);
+    due_from(alloc, entry, key.bytes(), limit)
+}
+
+// What is known of an entry with this key, whose time is over.
+fn due_from(alloc: Global, entry: EntryAt, key: &[u8], limit: Option<u32>) -> Result<Due, NoMemory>
+    requires { length key.now ≤ key_limit }
+    ensures { IfOk result (λ due. due ≡ record { number = entry.number; request = record { kind = entry.kind; key = key.now }; reloads = entry.reloads; dropped = entry.not_found || reached limit entry.reloads; ended = false }) }
+{
+    let kind = entry.kind;
+    let key = Bytes::copy(alloc, key)?;
     Ok(Due {
-        number: kept.entry().number(),
+        number: entry.number,
         request: Request { kind, key },
-        reloads: kept.reloads(),
-        dropped: kept.is_dropped(limit),
+        reloads: entry.reloads,
+        dropped: entry.not_found || has_reached(limit, entry.reloads),
         ended: false,
     })
+}
+
+// Whether an entry was reloaded so often without a use.
+fn has_reached(limit: Option<u32>, reloads: u64) -> bool
+    ensures { result ≡ reached limit reloads }
+{
+    match limit {
+        Some(limit) => u64::from(limit) <= reloads,
+        None => false,
+    }
 }

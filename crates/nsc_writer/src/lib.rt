@@ -4,11 +4,10 @@
 mod changes;
 mod due;
 mod loaded;
-mod shelf;
 mod uses;
 mod writer;
 
 pub use due::Due;
 pub use loaded::{Inserted, Loaded, Stamp};
-pub use uses::{EntryAt, Hit, Uses};
+pub use uses::Uses;
 pub use writer::{Cause, Writer};

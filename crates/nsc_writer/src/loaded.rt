@@ -1,10 +1,8 @@
-ghost use Rattle.std.specs.Prelude.{◌≡◌, ◌≤◌, ◌<◌, ◌^◌, length, IfOk};
-ghost use Rattle.nsc_model.specs.Entry.{key_limit, kept_limit};
+ghost use Rattle.std.specs.Prelude.{◌≡◌, ◌≤◌, ◌<◌, ◌^◌, length};
+ghost use Rattle.nsc_model.specs.Entry.{key_limit};
 
-use nsc_base::{Bytes, NoMemory};
-use nsc_model::{Answer, Entry, Kind, Request};
-use nsc_plain::Kept;
-use std::alloc::Global;
+use nsc_base::Bytes;
+use nsc_model::{Answer, Kind};
 use std::marker::Model;
 
 /// A version that was looked at, and how many invalidations there were when its files were about to be read.
@@ -99,19 +97,26 @@ impl Loaded {
         self.stamp
     }
 
-    // A copy of it as the entry of this number. Fails only for want of memory.
-    pub(crate) fn kept(&self, alloc: Global, number: u64) -> Result<Kept, NoMemory>
-        requires { length self.now.answer.bytes ≤ kept_limit }
-        ensures { IfOk result (λ k. k ≡ record { entry = record { number = number; request = self.now.request; version = self.now.stamp.version; answer = self.now.answer; timeout = self.now.timeout }; reloads = self.now.reloads }) }
+    /// The last moment, in seconds, at which its entry is not yet over.
+    pub fn timeout(&self) -> u64
+        ensures { result ≡ self.now.timeout }
     {
-        let request = Request {
-            kind: self.kind,
-            key: Bytes::copy(alloc, self.key.as_slice())?,
-        };
-        let bytes = Bytes::copy(alloc, self.answer.bytes())?;
-        let answer = Answer::new(bytes, self.answer.is_not_found());
-        let entry = Entry::new(number, request, self.stamp.version, answer, self.timeout);
-        Ok(Kept::new(entry, self.reloads))
+        self.timeout
+    }
+
+    /// How many reloads without a use its entry counts.
+    pub fn reloads(&self) -> u64
+        ensures { result ≡ self.now.reloads }
+    {
+        self.reloads
+    }
+
+    // The key of the request, as it is owned.
+    pub(crate) fn owned_key(&self) -> &Bytes
+        ensures value { result.now ≡ self.now.request.key }
+        ensures bound { length result.now ≤ key_limit }
+    {
+        &self.key
     }
 }
 
@@ -152,6 +157,4 @@ pub enum Inserted {
         /// How many are free.
         free: u64,
     },
-    /// Memory was wanting.
-    NoMemory,
 }

@@ -2,38 +2,7 @@ ghost use Rattle.std.specs.Prelude.{◌≡◌, ◌+◌, min};
 ghost use Rattle.nsc_model.specs.Machine.{last_count};
 ghost use Rattle.nsc_writer.specs.Uses.{counted};
 
-use nsc_model::Kind;
 use nsc_plain::LAST_COUNT;
-
-/// A live entry that answered a lookup.
-#[derive(Clone, Copy, Debug, PartialEq, Eq)]
-pub struct Hit {
-    /// Its number.
-    pub number: u64,
-    /// The version that its answer was made over.
-    pub version: u64,
-    /// Whether its reply is a not-found reply.
-    pub not_found: bool,
-}
-
-/// A live entry of a list, whose key and reply stand in buffers.
-#[derive(Clone, Copy, Debug, PartialEq, Eq)]
-pub struct EntryAt {
-    /// Its number.
-    pub number: u64,
-    /// The kind of its request.
-    pub kind: Kind,
-    /// The version that its answer was made over.
-    pub version: u64,
-    /// The last moment, in seconds, at which it is not yet over.
-    pub timeout: u64,
-    /// How often it was reloaded without a use.
-    pub reloads: u64,
-    /// Whether its reply is a not-found reply.
-    pub not_found: bool,
-    /// Where the next one stands.
-    pub next: usize,
-}
 
 /// How many lookups there were of found and of not-found replies.
 #[derive(Clone, Copy, Debug, PartialEq, Eq)]

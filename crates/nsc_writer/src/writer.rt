@@ -7,17 +7,16 @@ ghost use Rattle.nsc_model.specs.History.{Allows, IsLive, IsPrefix};
 ghost use Rattle.nsc_model.specs.Machine.{all_words, emptied, last_count, live_entry, new_cache, polled, used_now};
 ghost use Rattle.nsc_laws.specs.Calls.{Tells};
 ghost use Rattle.nsc_writer.specs.Uses.{counted};
-ghost use Rattle.nsc_writer.specs.Shelf.{Gives, has_number};
+ghost use Rattle.nsc_words.specs.Layout.{IsLayout};
+ghost use Rattle.nsc_shelf.specs.Shelf.{Gives, entry_from};
 ghost use Rattle.nsc_writer.specs.Writer.{Stands, most_words};
 
-use crate::loaded::{Inserted, Loaded, Stamp};
-use crate::shelf::Shelf;
-use crate::uses::{EntryAt, Hit, Uses};
+use crate::uses::Uses;
 use nsc_base::{Buf, NoMemory};
-use nsc_model::{Content, Ending, Kind, Spent, Stats};
-use nsc_plain::{Kept, LAST_COUNT};
+use nsc_model::{Content, Kind, Spent, Stats};
 use nsc_rule::{Map, Pass, Pen, start};
-use nsc_words::{Layout, node_words};
+use nsc_shelf::{EntryAt, Hit, Shelf};
+use nsc_words::Layout;
 use std::alloc::Global;
 use std::marker::Model;
 use std::sync::Arc;
@@ -52,18 +51,18 @@ impl Model for Writer {
 
     ghost view = { λ w. record { table = w.map.table; layout = w.map.layout; seen = w.pen.seen; cache = cache_of (arc_value w.content) w.pen.version w.pen.epoch w.shelf; hits = w.hits; misses = w.misses } };
 
-    ghost invariant = { λ w. (w.pen.table ≡ w.map.table) × Tells w.pen.seen (cache_of (arc_value w.content) w.pen.version w.pen.epoch w.shelf) × (w.shelf.used ≤ w.map.layout.arena) × (w.map.layout.arena ≤ most_words) };
+    ghost invariant = { λ w. (w.pen.table ≡ w.map.table) × Tells w.pen.seen (cache_of (arc_value w.content) w.pen.version w.pen.epoch w.shelf) × (w.shelf.layout ≡ w.map.layout) × (w.shelf.used ≤ w.map.layout.arena) × (w.map.layout.arena ≤ most_words) };
 }
 
 impl Writer {
-    /// A writer of an empty database, and a pass that has seen its history: this content as version 0. Fails only for want of
-    /// memory.
+    /// A writer of an empty database, and a pass that has seen its history: this content as version 0. All words that its entries
+    /// will ever take are taken here; no other call but the one that lists entries takes memory. Fails only for want of it.
     pub fn new(
         alloc: Global,
         layout: Layout,
         content: Arc<Content>,
     ) -> Result<(Writer, Pass), NoMemory>
-        requires { layout.arena ≤ most_words }
+        requires { IsLayout layout }
         ensures writer { IfOk result (λ r. r.0 ≡ record { table = r.1.table; layout = layout; seen = record_of.Change 0 (arc_value content) ∷ []; cache = new_cache (arc_value content); hits = record { found = 0; not_found = 0 }; misses = record { found = 0; not_found = 0 } }) }
         ensures pass { IfOk result (λ r. r.1.seen ≡ record_of.Change 0 (arc_value content) ∷ []) }
     {
@@ -72,7 +71,7 @@ impl Writer {
             map,
             pen,
             content,
-            shelf: Shelf::new(alloc),
+            shelf: Shelf::new(alloc, layout)?,
             hits: Uses::none(),
             misses: Uses::none(),
         };
@@ -151,30 +150,26 @@ impl Writer {
         }
     }
 
-    /// The live entry at this place of the list in rising number, with its key and its reply in the buffers; `None` after the
-    /// last. The list begins at 0, and each entry says where the next one stands, until a call changes the writer.
+    /// The oldest live entry whose number is at least this one, with its key and its reply in the buffers; `None` where there is none,
+    /// which leaves the buffers empty. The list begins at 0, and each entry says from where on the next one is found.
     pub fn entry(&mut self, at: usize, key: &mut Buf, reply: &mut Buf) -> Option<EntryAt>
-        requires place { at ≤ length self.old.cache.entries }
         requires key { key_limit ≤ key.old.limit }
         requires reply { kept_limit ≤ reply.old.limit }
-        ensures entry { Stands (slice_get self.old.cache.entries at) at result key.new.content reply.new.content }
+        ensures entry { Stands (entry_from at self.old.cache.entries) result key.new.content reply.new.content }
         ensures same { self.new ≡ self.old }
         ensures key { key.new.limit ≡ key.old.limit }
         ensures reply { reply.new.limit ≡ reply.old.limit }
     {
-        key.clear();
-        reply.clear();
-        match self.shelf.entries().get(at) {
-            Some(kept) => Some(told(kept, at, key, reply)),
-            None => None,
-        }
+        self.shelf.key(at as u64, key);
+        self.shelf.reply(at as u64, reply);
+        self.shelf.next(at as u64)
     }
 
     /// Whether no entry is live.
     pub fn is_empty(&self) -> bool
         ensures { result ≡ (length self.now.cache.entries == 0) }
     {
-        self.shelf.entries().is_empty()
+        self.shelf.len() == 0
     }
 
     /// What it counts.
@@ -187,7 +182,7 @@ impl Writer {
             negative_hits: self.hits.not_found,
             misses: self.misses.found,
             negative_misses: self.misses.not_found,
-            entries: self.shelf.entries().len() as u64,
+            entries: self.shelf.len() as u64,
             used: self.shelf.used() as u64,
             arena: self.map.layout().arena as u64,
             invalidations: self.pen.epoch(),
@@ -203,28 +198,5 @@ impl Writer {
         ensures spent { IfErr result (λ spent. (last_count ≤ self.old.cache.cycle) × (spent.count ≡ last_count) × (self.new ≡ self.old)) }
     {
         self.shelf.compact()
-    }
-}
-
-// An entry at this place, with its key and its reply in empty buffers.
-fn told(kept: &Kept, at: usize, key: &mut Buf, reply: &mut Buf) -> EntryAt
-    requires place { at < 2 ^ 63 }
-    requires key { (key.old.content ≡ []) × (key_limit ≤ key.old.limit) }
-    requires reply { (reply.old.content ≡ []) × (kept_limit ≤ reply.old.limit) }
-    ensures entry { result ≡ record { number = kept.now.entry.number; kind = kept.now.entry.request.kind; version = kept.now.entry.version; timeout = kept.now.entry.timeout; reloads = kept.now.reloads; not_found = kept.now.entry.answer.not_found; next = at + 1 } }
-    ensures key { key.new ≡ record { content = kept.now.entry.request.key; limit = key.old.limit } }
-    ensures reply { reply.new ≡ record { content = kept.now.entry.answer.bytes; limit = reply.old.limit } }
-{
-    let entry = kept.entry();
-    key.push(entry.request().key.as_slice());
-    reply.push(entry.answer().bytes());
-    EntryAt {
-        number: entry.number(),
-        kind: entry.request().kind,
-        version: entry.version(),
-        timeout: entry.timeout(),
-        reloads: kept.reloads(),
-        not_found: entry.answer().is_not_found(),
-        next: at + 1,
     }
 }

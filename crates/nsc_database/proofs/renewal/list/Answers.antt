@@ -17,4 +17,4 @@ returns-clause-listed c = IfOk-weaker c.expired.result _ _ (λ all is settings t
     let keeps = subst (Keeps settings c.args.limit ticked) (sym c.show.ensures.same) k in
     let same = subst (λ (x : Writer). is_outdated settings x.cache.newest_version ticked ≡ false) (sym c.show.ensures.same) off in
     let listed = are_listed settings c.args.limit c.args.now ticked w c.learn.ensures.told keeps same in
-    subst (λ (x : List Record × List Due). AreListed settings c.args.limit c.args.now x.0 x.1) (λ i. (sym seen i, sym is i)) listed) c.expired.ensures
+    subst (λ (x : List Record × List Due). AreListed settings c.args.limit c.args.now x.0 x.1) (λ i. (sym seen i, sym is i)) listed) c.expired.ensures.all

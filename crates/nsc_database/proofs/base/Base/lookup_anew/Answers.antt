@@ -13,27 +13,24 @@ keep-requires-clause-answered g c =
     let request : Request = record { kind = c.args.kind; key = c.args.key.now } in
     subst (IsAnswered c.poll.new.pass.pass.seen) (sym c.in-Ok-load.ensures) (anew_answers c.args.pass.now.pass.seen c.poll.new.pass.pass.seen request c.args.epoch c.in-Ok.polled c.args.self.now.settings c.args.now c.in-Ok.ensures.polled)
 
-pub returns-in-Ok-keep-clause-before : goal.returns-in-Ok-keep-clause-before
-returns-in-Ok-keep-clause-before g c = prefix_through c.args.pass.now.pass.seen c.poll.new.pass.pass.seen c.keep.new.pass.pass.seen c.poll.ensures.before c.keep.ensures.before
-
-pub returns-in-Ok-keep-clause-answered : goal.returns-in-Ok-keep-clause-answered
-returns-in-Ok-keep-clause-answered g c =
+pub returns-clause-answered : goal.returns-clause-answered
+returns-clause-answered g c =
     let request : Request = record { kind = c.args.kind; key = c.args.key.now } in
     let seen = c.args.pass.now.pass.seen in
     let mid = c.poll.new.pass.pass.seen in
     let after = c.keep.new.pass.pass.seen in
-    let reply = kept_reply (room_of c.args.self.now.settings) c.in-Ok-load.loaded mid after c.in-Ok-keep.given c.in-Ok-keep.ensures.kept ∙ ap (λ (l : Loaded). l.answer.bytes) c.in-Ok-load.ensures in
+    let reply = kept_reply (room_of c.args.self.now.settings) c.in-Ok-load.loaded mid after c.keep.result c.keep.ensures.kept ∙ ap (λ (l : Loaded). l.answer.bytes) c.in-Ok-load.ensures in
     poll_answered seen mid after request c.args.epoch c.in-Ok.polled _ c.keep.ensures.legal c.in-Ok.ensures.legal c.poll.ensures.before c.keep.ensures.before c.in-Ok.ensures.polled (sym reply)
 
-pub returns-in-Ok-keep-clause-given : goal.returns-in-Ok-keep-clause-given
-returns-in-Ok-keep-clause-given g c =
+pub returns-clause-given : goal.returns-clause-given
+returns-clause-given g c =
     let request : Request = record { kind = c.args.kind; key = c.args.key.now } in
     let seen = c.args.pass.now.pass.seen in
     let mid = c.poll.new.pass.pass.seen in
     let after = c.keep.new.pass.pass.seen in
     let anew : Anew seen mid request c.args.epoch c.in-Ok.polled = record { legal = c.requires.legal; legal_mid = c.in-Ok.ensures.legal; on = c.poll.ensures.before; none = c.requires.none; noted = c.requires.epoch; is_polled = c.in-Ok.ensures.polled } in
-    anew_given c.in-Ok-keep.given seen mid after request c.args.epoch c.in-Ok.polled c.args.self.now.settings c.args.now anew c.keep.ensures.before
-    (subst (λ (l : Loaded). IsKept (room_of c.args.self.now.settings) l mid after c.in-Ok-keep.given) c.in-Ok-load.ensures c.in-Ok-keep.ensures.kept)
+    anew_given c.keep.result seen mid after request c.args.epoch c.in-Ok.polled c.args.self.now.settings c.args.now anew c.keep.ensures.before
+    (subst (λ (l : Loaded). IsKept (room_of c.args.self.now.settings) l mid after c.keep.result) c.in-Ok-load.ensures c.keep.ensures.kept)
 
 pub returns-clause-before : goal.returns-clause-before
 returns-clause-before g c = prefix_through c.args.pass.now.pass.seen c.poll.new.pass.pass.seen c.keep.new.pass.pass.seen c.poll.ensures.before c.keep.ensures.before

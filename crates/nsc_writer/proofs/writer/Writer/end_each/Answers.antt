@@ -1,6 +1,6 @@
 use Rattle.std.proofs.Common.{◌≡◌, ◌<◌, ◌+◌, ◌∙◌, All, drop, get_or, length, set, ap, arith, sym, subst}
 use Rattle.nsc_writer.specs.Due.{Due, IsOver}
-use Rattle.nsc_writer.specs.Shelf.{has_number}
+use Rattle.nsc_shelf.specs.Shelf.{has_number}
 use Rattle.nsc_writer.specs.Writer.{ending_of}
 use Rattle.nsc_model.specs.History.{Allows}
 use Rattle.nsc_writer.specs.declared.writer.Cause.{Cause}
