@@ -1,6 +1,6 @@
 // The four databases, opened and not yet shared.
 ghost use Rattle.std.specs.Prelude.{◌≡◌, ◌≤◌, IfErr, IfOk, OnOk};
-ghost use Rattle.nsc_model.specs.Sizes.{SizesFit};
+ghost use Rattle.nsc_model.specs.Sizes.{SizeFits, SizesFit};
 ghost use Rattle.nsc_model.specs.Settings.{settings_of};
 ghost use Rattle.nsc_model.specs.declared.kind.Db.TheVariants as db_is;
 ghost use Rattle.nsc_daemon.specs.Ends.{IsOpeningFault};
@@ -30,7 +30,7 @@ fn opened<F: FileSet + Drop>(
     db: Db,
     conf: &Conf,
 ) -> Result<Opened<F, Indexed>, Ended>
-    requires { (settings_of conf.now db).size ≤ 65536 }
+    requires { SizeFits (settings_of conf.now db) }
     ensures db { IfOk result (λ o. (o.db ≡ db) × (o.settings ≡ settings_of conf.now db) × (o.reloads ≡ conf.now.reloads)) }
     ensures held { IfOk result (λ o. F.held o.files ≡ F.held files.old) }
     ensures stays { OnOk result (F.held files.new ≡ F.held files.old) }

@@ -1,4 +1,5 @@
-ghost use Rattle.std.specs.Prelude.{◌≤◌, ◌<◌, ◌*◌, ◌^◌};
+ghost use Rattle.std.specs.Prelude.{◌<◌, ◌*◌, ◌^◌};
+ghost use Rattle.nsc_model.specs.Sizes.{SizeFits};
 
 use crate::caller::Caller;
 use nsc_base::NoMemory;
@@ -44,7 +45,7 @@ const FEW: u32 = 1500;
 impl Load {
     /// The settings that it runs under: entries are loaded again for ever, and there is room for them.
     pub fn conf(self) -> Conf
-        ensures { result.passwd.size ≤ 65536 }
+        ensures { SizeFits result.passwd }
     {
         let mut conf = Conf::defaults();
         conf.reloads = None;

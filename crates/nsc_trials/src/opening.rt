@@ -1,4 +1,4 @@
-ghost use Rattle.std.specs.Prelude.{◌≤◌};
+ghost use Rattle.nsc_model.specs.Sizes.{SizeFits};
 
 use crate::outcome::Outcome;
 use crate::room::done_in;
@@ -44,7 +44,7 @@ pub fn done<R: Threads + Wait + Clock + Clone + Drop + Send + Sync>(
     mut files: HeldFiles<R>,
     task: Task,
 ) -> Outcome
-    requires { conf.now.passwd.size ≤ 65536 }
+    requires { SizeFits conf.now.passwd }
 {
     match Opened::open(alloc, &mut files, Plain, Db::Passwd, conf) {
         Ok(opened) => done_in::<Brand, R>(rt, alloc, conf, opened, task),

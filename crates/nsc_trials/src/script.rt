@@ -1,4 +1,4 @@
-ghost use Rattle.std.specs.Prelude.{◌≤◌};
+ghost use Rattle.nsc_model.specs.Sizes.{SizeFits};
 
 use crate::asked::Asked;
 use crate::caller::Caller;
@@ -43,7 +43,7 @@ pub struct Script {
 impl Script {
     /// The settings that it runs under.
     pub fn conf(&self) -> Conf
-        ensures { result.passwd.size ≤ 65536 }
+        ensures { SizeFits result.passwd }
     {
         let mut conf = Conf::defaults();
         conf.passwd.check_files = self.check_files;
