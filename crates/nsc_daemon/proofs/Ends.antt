@@ -1,6 +1,7 @@
 -- How the thread that accepts ends.
-use Rattle.std.proofs.Common.{◌≡◌, ◌∙◌, ℕ, List, [], ◌∷◌, ◌++◌, Option, Some, None, IfSome, refl, ap, subst, inr}
-use Rattle.nsc_outside.specs.Stream.{Moves}
+use Rattle.std.proofs.Common.{◌≡◌, ◌∙◌, ℕ, List, [], ◌∷◌, ◌++◌, Option, Some, None, IfSome, refl, ap, subst, inl, inr, arith}
+use Rattle.nsc_outside.specs.Stream.{Moves, Rose}
+use Rattle.nsc_model.specs.Content.{Content}
 use Rattle.nsc_model.specs.Wire.{Asked, Shutdown, request_of}
 use Rattle.nsc_server.specs.Requests.{closing_of}
 use Rattle.nsc_sockets.specs.Connections.{Connection, Gives}
@@ -10,7 +11,7 @@ use Rattle.nsc_sockets.specs.declared.role.Role.{Role}
 use Rattle.nsc_sockets.specs.declared.role.Role.TheVariants as role
 use Rattle.nsc_daemon.specs.declared.ended.Ended.{Ended}
 use Rattle.nsc_daemon.specs.declared.ended.Ended.TheVariants as ended
-use Rattle.nsc_daemon.specs.Ends.{AsksEnd, EndsBy, EndsSo, GoesOn, IsReady, IsToldEnd, Outside, StopsSo, TellsEnd}
+use Rattle.nsc_daemon.specs.Ends.{AsksEnd, EndsBy, EndsSo, GoesOn, IsReady, IsToldEnd, Outside, StopsSo, TellsEnd, TellsLength}
 
 pub told_end : (on : Role) (left left' : Option (List ℕ)) (front : List ℕ) → Moves left left' front → closing_of on (request_of front) ≡ None → request_of front ≡ Shutdown → TellsEnd on left
 told_end on left left' front moved free asked = record { admin = by_role on (subst (λ (a : Asked). closing_of on a ≡ None) asked free); asked = by_left left moved } where
@@ -71,3 +72,15 @@ ready_so ended.WriteFault before after r s stops = absurd stops
 ready_so ended.SourceFault before after r s stops = absurd stops
 ready_so (ended.TooLong size) before after r s stops = absurd stops
 ready_so ended.NoMemory before after r s stops = absurd stops
+
+-- an end to which no count of the files' faults rises is not that of a file that is too long
+pub calm_so : (by : Ended) (held : Option Content) (before after : Outside) → before.source_faults ≡ 0 → after.source_faults ≡ 0 → EndsSo by before after → TellsLength by held
+calm_so ended.ShutDown held before after b a ends = tt
+calm_so ended.WriteFault held before after b a ends = tt
+calm_so ended.SourceFault held before after b a ends = tt
+calm_so (ended.TooLong size) held before after b a ends = absurd (unrisen ends.0) where
+  unrisen : Rose before.source_faults after.source_faults → ⊥
+  unrisen (inl more) = omega arith
+  unrisen (inr full) = omega arith
+calm_so ended.NetFault held before after b a ends = tt
+calm_so ended.NoMemory held before after b a ends = tt

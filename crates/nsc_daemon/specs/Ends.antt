@@ -1,6 +1,10 @@
 -- How a daemon ends, and what its outside tells of it: the output, the files, and the listener.
-use Rattle.std.specs.Prelude.{◌≡◌, ℕ, ◌⊎◌, List, ◌∷◌, ◌++◌, [], Option, Some, None, IfSome, codes}
+use Rattle.std.specs.Prelude.{◌≡◌, ℕ, ◌<◌, ◌⊎◌, List, ◌∷◌, ◌++◌, [], Option, Some, None, IfSome, codes}
 use Rattle.nsc_outside.specs.Stream.{Grows, GrowsByFront, Rose}
+use Rattle.nsc_outside.specs.FileSets.{IsPastLimit, told_of}
+use Rattle.nsc_model.specs.Content.{Content}
+use Rattle.nsc_model.specs.Files.{file_limit}
+use Rattle.nsc_model.specs.declared.kind.FileId.{FileId}
 use Rattle.nsc_model.specs.Wire.{Shutdown, request_of}
 use Rattle.nsc_sourcebook.specs.declared.fault.PollFault.{PollFault}
 use Rattle.nsc_sourcebook.specs.declared.fault.PollFault.TheVariants as poll
@@ -85,11 +89,16 @@ abbrev pub EndsSo : Ended → Outside → Outside → Type 0
 EndsSo ended.ShutDown before after = IsReady before after × EndsBy before.given after.given × (after.net_faults ≡ before.net_faults) × (after.source_faults ≡ before.source_faults)
 EndsSo ended.WriteFault before after = Rose before.output_faults after.output_faults × GrowsByFront before.taken after.taken ready_line
 EndsSo ended.SourceFault before after = Rose before.source_faults after.source_faults × IsSilent before after
-EndsSo (ended.TooLong size) before after = Rose before.source_faults after.source_faults × IsSilent before after
+EndsSo (ended.TooLong size) before after = Rose before.source_faults after.source_faults × IsSilent before after × (file_limit < size)
 EndsSo ended.NetFault before after = Rose before.net_faults after.net_faults × (IsSilent before after ⊎ IsReady before after)
 EndsSo ended.NoMemory before after = IsSilent before after
 
--- why the databases were not opened: memory was wanting, or a file failed, as its set counts it
+-- where a file was too long, the length is that of one of these files, where they are told, and past the limit
+abbrev pub TellsLength : Ended → Option Content → Type 0
+TellsLength (ended.TooLong size) held = (file : FileId) × IsPastLimit (told_of held file) size
+TellsLength _ held = Unit {0}
+
+-- why the databases were not opened: memory was wanting, or a file failed or was too long, as its set counts it
 abbrev pub IsOpeningFault : Ended → ℕ → ℕ → Type 0
 IsOpeningFault ended.NoMemory faults faults' = Unit {0}
 IsOpeningFault ended.SourceFault faults faults' = Rose faults faults'

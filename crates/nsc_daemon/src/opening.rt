@@ -3,7 +3,7 @@ ghost use Rattle.std.specs.Prelude.{◌≡◌, ◌≤◌, IfErr, IfOk, OnOk};
 ghost use Rattle.nsc_model.specs.Sizes.{SizeFits, SizesFit};
 ghost use Rattle.nsc_model.specs.Settings.{settings_of};
 ghost use Rattle.nsc_model.specs.declared.kind.Db.TheVariants as db_is;
-ghost use Rattle.nsc_daemon.specs.Ends.{IsOpeningFault};
+ghost use Rattle.nsc_daemon.specs.Ends.{IsOpeningFault, TellsLength};
 
 use crate::ended::Ended;
 use nsc_base::NoMemory;
@@ -36,6 +36,7 @@ fn opened<F: FileSet + Drop>(
     ensures stays { OnOk result (F.held files.new ≡ F.held files.old) }
     ensures calm { OnOk result (F.faults files.new ≡ F.faults files.old) }
     ensures fault { IfErr result (λ ended. IsOpeningFault ended (F.faults files.old) (F.faults files.new)) }
+    ensures length { IfErr result (λ ended. TellsLength ended (F.held files.old)) }
 {
     match Opened::open(alloc, files, Indexed, db, conf) {
         Ok(opened) => Ok(opened),
@@ -53,6 +54,7 @@ impl<F: FileSet + Drop> Openings<F> {
         ensures services { IfOk result (λ o. (o.services.db ≡ db_is.Services) × (o.services.settings ≡ settings_of conf.now db_is.Services) × (o.services.reloads ≡ conf.now.reloads) × (F.held o.services.files ≡ F.held files.old)) }
         ensures calm { OnOk result (F.faults files.new ≡ F.faults files.old) }
         ensures fault { IfErr result (λ ended. IsOpeningFault ended (F.faults files.old) (F.faults files.new)) }
+        ensures length { IfErr result (λ ended. TellsLength ended (F.held files.old)) }
     {
         let passwd = opened(alloc, files, Db::Passwd, conf)?;
         let group = opened(alloc, files, Db::Group, conf)?;

@@ -5,7 +5,7 @@ ghost use Rattle.nsc_model.specs.Settings.{settings_of};
 ghost use Rattle.nsc_model.specs.Sizes.{SizesFit};
 ghost use Rattle.nsc_model.specs.declared.kind.Db.TheVariants as db_is;
 ghost use Rattle.nsc_server.specs.Passes.{AreNamed, ArePasses};
-ghost use Rattle.nsc_daemon.specs.Ends.{EndsSo, NotBound, StopsSo};
+ghost use Rattle.nsc_daemon.specs.Ends.{EndsSo, NotBound, StopsSo, TellsLength};
 
 use crate::desk::{Desk, accept_all};
 use crate::ended::Ended;
@@ -29,8 +29,9 @@ use std::{thread, time};
 /// ready, and serves connections and ticks until one on the admin socket tells it to end.
 ///
 /// At `ShutDown` the line was written, and the newest connection that the listener gave asked for the end. `SourceFault` and
-/// `TooLong` come only where a file failed at the start, `NetFault` where a call on the listener failed, and `WriteFault` where
-/// one on the output did, which may have taken a front of the line. At `NoMemory` nothing was written.
+/// `TooLong` come only where a file failed at the start, and the length of one that is too long is as the files are told; `NetFault`
+/// comes only where a call on the listener failed, and `WriteFault` where one on the output did, which may have taken a front of the
+/// line. At `NoMemory` nothing was written.
 pub fn daemon<
     RT: AllocGlobal + Threads + Wait + time::Clock + Clone + Drop + Send + Sync + 'static,
     K: Sink,
@@ -42,7 +43,8 @@ where
     N::In: 'static,
     N::Out: 'static,
     requires { SizesFit terms.now.conf.now }
-    ensures { EndsSo result (record { taken = K.taken output.old; output_faults = K.faults output.old; source_faults = F.faults files.old; given = N.given net.old; net_faults = N.faults net.old }) (record { taken = K.taken output.new; output_faults = K.faults output.new; source_faults = F.faults files.new; given = N.given net.new; net_faults = N.faults net.new }) }
+    ensures ends { EndsSo result (record { taken = K.taken output.old; output_faults = K.faults output.old; source_faults = F.faults files.old; given = N.given net.old; net_faults = N.faults net.old }) (record { taken = K.taken output.new; output_faults = K.faults output.new; source_faults = F.faults files.new; given = N.given net.new; net_faults = N.faults net.new }) }
+    ensures length { TellsLength result (F.held files.old) }
 {
     match Openings::open(rt.alloc(), files, terms.conf) {
         Ok(openings) => in_room::<Brand, RT, K, F, C, N>(rt, terms, openings, output, clock, net),

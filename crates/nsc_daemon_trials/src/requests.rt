@@ -41,3 +41,7 @@ pub const LONGEST_KEY: &[u8] = b"\x02\0\0\0\0\0\0\0\0\x04\0\0";
 
 /// Two requests on one connection, of which the first alone is read.
 pub const TWO: &[u8] = b"\x02\0\0\0\0\0\0\0\x05\0\0\0root\0\x02\0\0\0\0\0\0\0\x05\0\0\0root\0";
+
+/// Two orders on one connection, of which the first alone is read.
+pub const TWO_ORDERS: &[u8] =
+    b"\x02\0\0\0\x0a\0\0\0\x07\0\0\0passwd\0\x02\0\0\0\x0a\0\0\0\x07\0\0\0passwd\0";

@@ -1,6 +1,6 @@
 use crate::requests::{
     DESCRIPTOR, INVALIDATE_PASSWD, INVALIDATE_SHADOW, LOCALHOST, LONG_KEY, LONGEST_KEY,
-    NEGATIVE_KEY, NO_KEY, NO_TYPE, OLD_VERSION, ROOT, SHORT, SHUTDOWN, TWO,
+    NEGATIVE_KEY, NO_KEY, NO_TYPE, OLD_VERSION, ROOT, SHORT, SHUTDOWN, TWO, TWO_ORDERS,
 };
 use crate::trial::Trial;
 use nsc_base::NoMemory;
@@ -27,7 +27,7 @@ pub fn trials(alloc: Global) -> Result<Vec<Trial>, NoMemory> {
     trials.push(keys(alloc)?)?;
     trials.push(refused(alloc)?)?;
     trials.push(orders(alloc)?)?;
-    trials.push(in_turn(alloc, "two requests", &[(Role::Plain, TWO)])?)?;
+    trials.push(two_on_one(alloc)?)?;
     trials.push(failing_read(alloc)?)?;
     Ok(trials)
 }
@@ -84,6 +84,12 @@ fn orders(alloc: Global) -> Result<Trial, NoMemory> {
         (Role::Admin, INVALIDATE_PASSWD),
     ];
     in_turn(alloc, "orders", &peers)
+}
+
+// Connections on which two requests come.
+fn two_on_one(alloc: Global) -> Result<Trial, NoMemory> {
+    let peers: [(Role, &[u8]); 2] = [(Role::Plain, TWO), (Role::Admin, TWO_ORDERS)];
+    in_turn(alloc, "two requests", &peers)
 }
 
 // The lookup of a user waits in its read until the next peer has the reply of a host, so two workers are needed.

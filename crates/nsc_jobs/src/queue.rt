@@ -1,5 +1,6 @@
-ghost use Rattle.std.specs.Prelude.{◌≡◌, ◌++◌, ◌∷◌, [], ◌↔◌, ◌+◌, ◌-◌, IsTrue, length, false, true, min, OnOk, OnErr, option_to_list};
-ghost use Rattle.nsc_jobs.specs.Jobs.{IsWorkerWanted};
+ghost use Rattle.std.specs.Prelude.{◌≡◌, ◌<◌, ◌++◌, ◌∷◌, [], ◌↔◌, ◌-◌, IsTrue, length, false, true, if◌then◌else◌, IfNone, OnOk, OnErr, option_to_list};
+ghost use Rattle.std.specs.Duration.{as_nanos};
+ghost use Rattle.nsc_jobs.specs.Jobs.{HasNoWorker, Idles, IsWorkerWanted};
 
 use nsc_base::NoMemory;
 use nsc_yields::Yields;
@@ -41,6 +42,7 @@ impl<T: Drop> Queue<T> {
     pub(crate) fn new(alloc: Global) -> Queue<T>
         ensures jobs { result.jobs.items ≡ [] }
         ensures closed { result.is_closed ≡ false }
+        ensures workers { HasNoWorker result }
     {
         Queue {
             jobs: VecDeque::new(alloc),
@@ -54,11 +56,12 @@ impl<T: Drop> Queue<T> {
         }
     }
 
-    /// Puts a job at the end, at this moment.
+    /// Puts a job at the end, at this moment. Jobs are near each other where less than 100 microseconds lie between the last two.
     pub(crate) fn push(&mut self, job: T, now: Duration) -> Result<(), NoMemory>
         ensures put { OnOk result (self.new.jobs.items ≡ self.old.jobs.items ++ job ∷ []) }
-        ensures stays { OnErr result (self.new.jobs.items ≡ self.old.jobs.items) }
-        ensures closed { self.new.is_closed ≡ self.old.is_closed }
+        ensures lost { OnErr result (self.new.jobs.items ≡ self.old.jobs.items) }
+        ensures near { IsTrue self.new.is_near ↔ (as_nanos now - as_nanos self.old.latest < 100000) }
+        ensures stays { self.new ≡ record self.old { jobs = self.new.jobs; is_near = self.new.is_near; latest = now } }
     {
         self.is_near = now.saturating_sub(self.latest) < Duration::from_micros(NEAR);
         self.latest = now;
@@ -73,10 +76,11 @@ impl<T: Drop> Queue<T> {
         self.jobs.len() as u64
     }
 
-    /// Takes the job at the front.
+    /// Takes the job at the front. `None` only where there is none.
     pub(crate) fn pop(&mut self) -> Option<T>
         ensures jobs { self.old.jobs.items ≡ option_to_list result ++ self.new.jobs.items }
-        ensures closed { self.new.is_closed ≡ self.old.is_closed }
+        ensures empty { IfNone result (self.old.jobs.items ≡ []) }
+        ensures stays { self.new ≡ record self.old { jobs = self.new.jobs } }
     {
         self.jobs.pop_front()
     }
@@ -84,8 +88,7 @@ impl<T: Drop> Queue<T> {
     /// Whether one more worker is to be called, which is then on its way.
     pub(crate) fn call(&mut self) -> bool
         ensures wanted { IsTrue result ↔ IsWorkerWanted self.old }
-        ensures called { IsTrue result → self.new.is_called ≡ true }
-        ensures jobs { self.new.jobs.items ≡ self.old.jobs.items }
+        ensures called { self.new ≡ record self.old { is_called = if result then true else self.old.is_called } }
     {
         let is_wanted = self.sleeping > 0 && !self.is_called && self.looking < self.len();
         if is_wanted {
@@ -97,10 +100,7 @@ impl<T: Drop> Queue<T> {
     /// What a worker does for which there is no job, and notes that it does so. It looks for one only where it may, jobs are
     /// near each other, and no other worker looks.
     pub(crate) fn idle(&mut self, may_look: bool) -> Idle
-        ensures leaves { (result ≡ Idle.Leave) ↔ (self.old.is_closed ≡ true) }
-        ensures looks { result ≡ Idle.Look → self.new.looking ≡ self.old.looking + 1 }
-        ensures sleeps { result ≡ Idle.Sleep → self.new.sleeping ≡ min (self.old.sleeping + 1) u64.MAX }
-        ensures jobs { self.new.jobs.items ≡ self.old.jobs.items }
+        ensures { Idles result may_look self.old self.new }
     {
         if self.is_closed {
             Idle::Leave
@@ -115,9 +115,7 @@ impl<T: Drop> Queue<T> {
 
     /// A worker looks no more, and this is what it learned of yields.
     pub(crate) fn end_look(&mut self, yields: Yields)
-        ensures looking { self.new.looking ≡ self.old.looking - 1 }
-        ensures yields { self.new.yields ≡ yields }
-        ensures jobs { self.new.jobs.items ≡ self.old.jobs.items }
+        ensures { self.new ≡ record self.old { looking = self.old.looking - 1; yields = yields } }
     {
         self.looking = self.looking.saturating_sub(1);
         self.yields = yields;
@@ -125,9 +123,7 @@ impl<T: Drop> Queue<T> {
 
     /// A worker sleeps no more, so the one that was called has come.
     pub(crate) fn wake(&mut self)
-        ensures sleeping { self.new.sleeping ≡ self.old.sleeping - 1 }
-        ensures called { self.new.is_called ≡ false }
-        ensures jobs { self.new.jobs.items ≡ self.old.jobs.items }
+        ensures { self.new ≡ record self.old { sleeping = self.old.sleeping - 1; is_called = false } }
     {
         self.sleeping = self.sleeping.saturating_sub(1);
         self.is_called = false;
@@ -135,8 +131,7 @@ impl<T: Drop> Queue<T> {
 
     /// No more jobs will come.
     pub(crate) fn close(&mut self)
-        ensures closed { self.new.is_closed ≡ true }
-        ensures jobs { self.new.jobs.items ≡ self.old.jobs.items }
+        ensures { self.new ≡ record self.old { is_closed = true } }
     {
         self.is_closed = true;
     }
