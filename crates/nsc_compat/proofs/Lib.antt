@@ -7,3 +7,5 @@ pub mod Absent
 pub mod Passed
 pub mod Silent
 pub mod Asked
+pub mod Walked
+pub mod Filtered

@@ -18,7 +18,7 @@ use Rattle.nsc_compat.specs.Reading.{IsSilentOn}
 use Rattle.nsc_compat.proofs.Scans.{AnswersAmong, scanned_among}
 
 -- what is not named does not answer
-unnamed : {A : Type 0} (scan : Scan A) (excluded : List (List ℕ)) (o : Option A) (replaced : A → A) (next : Looked) → if_named scan.names o ≡ None → answers_or scan scan.names excluded o replaced next ≡ next
+pub unnamed : {A : Type 0} (scan : Scan A) (excluded : List (List ℕ)) (o : Option A) (replaced : A → A) (next : Looked) → if_named scan.names o ≡ None → answers_or scan scan.names excluded o replaced next ≡ next
 unnamed scan excluded None replaced next none = refl
 unnamed scan excluded (Some a) replaced next none =
     elim (scan.names a) as (λ v. (if v then Some a else None) ≡ None → (if v && not (is_excluded excluded (scan.name_of a)) then scan.found (replaced a) else next) ≡ next) [

@@ -1,5 +1,5 @@
 -- The entries of passwd and of group, as scans of compat lines see them.
-use Rattle.std.specs.Prelude.{◌≡◌, ℕ, Bool, not, ◌&&◌, if◌then◌else◌, List, Option, Some, None}
+use Rattle.std.specs.Prelude.{◌≡◌, ℕ, Bool, true, not, ◌&&◌, if◌then◌else◌, List, Option, Some, None}
 use Rattle.std.specs.Str.{bytes_eq}
 use Rattle.nsc_model.specs.declared.kind.Db.{Db}
 use Rattle.nsc_model.specs.declared.kind.Db.TheVariants as db
@@ -73,6 +73,11 @@ is_wanted accounts wanted a = names_entry wanted (accounts.name_of a) (accounts.
 abbrev pub wanted_name : Wanted → Option (List ℕ)
 wanted_name (Name key) = Some key.now
 wanted_name (Id wanted) = None
+
+-- the names that an entry has that is wanted: any, where it is not wanted by its name
+abbrev pub wanted_names : Wanted → List ℕ → Bool
+wanted_names (Name key) name = bytes_eq name key.now
+wanted_names (Id wanted) name = true
 
 -- a request for an entry by its name is of that kind, and the name is its key
 abbrev pub IsAskedBy : {A : Type 0} → Accounts A → Kind → List ℕ → Wanted → Type 0

@@ -3,12 +3,14 @@ ghost use Rattle.nsc_base.specs.Text.{fields_of, part};
 ghost use Rattle.nsc_model.specs.Compat.{scanned, scanned_file};
 ghost use Rattle.nsc_model.specs.Files.{file_of};
 ghost use Rattle.nsc_model.specs.Kinds.{database_of};
-ghost use Rattle.nsc_compat.specs.Accounts.{IsAskedBy, is_wanted, outcome_by, scan_of, wanted_name};
+ghost use Rattle.nsc_model.specs.Switches.{text_of};
+ghost use Rattle.nsc_compat.specs.Accounts.{IsAskedBy, is_wanted, outcome_by, scan_of, wanted_name, wanted_names};
+ghost use Rattle.nsc_compat.specs.Matters.{AreLines, matters};
 
 use crate::account::Account;
 use crate::asking::{Asking, Wanted, names_entry};
 use crate::excluded::Excluded;
-use crate::lines::{LineScan, scan_lines};
+use crate::lines::{LineScan, scan_lines, scan_on};
 use crate::reading::Lines;
 use crate::said::{Said, line_says};
 use crate::sub::SubLookup;
@@ -42,6 +44,29 @@ pub fn entry<E: Account, S: SubLookup>(
         Excluded::new(alloc),
         lines_on(&asking.wanted, text),
     )
+}
+
+/// The same by the lines of the file that matter to the request. Fails only for want of memory.
+pub fn entry_on<E: Account, S: SubLookup>(
+    alloc: Global,
+    asking: Asking,
+    sub: &S,
+    lines: &[Span],
+) -> Result<Looked, NoMemory>
+    requires database { database_of asking.kind ≡ E.accounts.database }
+    requires name { IsAskedBy E.accounts asking.kind asking.key.now asking.wanted }
+    requires lines { AreLines (text_of (file_of (S.content sub.now) E.accounts.file)) (matters E.accounts.entry_of (is_wanted E.accounts asking.wanted) (wanted_names asking.wanted)) lines.now }
+    ensures { IfOk result (λ looked. looked ≡ scanned_file (scan_of E.accounts (S.content sub.now) asking.entry) (file_of (S.content sub.now) E.accounts.file)) }
+{
+    let Some(text) = sub.content().file(E::file()) else {
+        return Ok(Looked::Unavail);
+    };
+    let scan: EntryScan<E, S> = EntryScan {
+        sub,
+        asking,
+        of: PhantomData,
+    };
+    scan_on(alloc, &scan, Excluded::new(alloc), text, lines)
 }
 
 // The lines of a file that may say something of what a request names.

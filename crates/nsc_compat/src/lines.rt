@@ -1,4 +1,4 @@
-ghost use Rattle.std.specs.Prelude.{◌≡◌, ◌≤◌, ◌∷◌, ℕ, List, [], IfOk, length};
+ghost use Rattle.std.specs.Prelude.{◌≡◌, ◌≤◌, ◌∷◌, ℕ, List, [], All, IfOk, length, map};
 ghost use Rattle.nsc_base.specs.Text.{part};
 ghost use Rattle.nsc_model.specs.declared.row.Looked.{Looked};
 ghost use Rattle.nsc_compat.specs.Lines.{looked_or};
@@ -46,6 +46,26 @@ pub fn scan_lines<'t, 'n, L: LineScan<'t>>(
 {
     while let Some(line) = lines.next_line() {
         if let Some(outcome) = scan.take(alloc, lines.text(), line, &mut seen)? {
+            return Ok(outcome);
+        }
+    }
+    Ok(scan.end(seen))
+}
+
+/// The outcome of a scan over these lines of a file: that of the first one that answers, and after it no line is looked at.
+/// Fails only for want of memory.
+pub fn scan_on<'t, L: LineScan<'t>>(
+    alloc: Global,
+    scan: &L,
+    mut seen: L::Seen,
+    text: &'t [u8],
+    lines: &[Span],
+) -> Result<Looked, NoMemory>
+    requires { All (λ line. line.to ≤ length text.now) lines.now }
+    ensures { IfOk result (λ looked. looked ≡ L.comes scan.now seen (map (part text.now) lines.now)) }
+{
+    for line in lines {
+        if let Some(outcome) = scan.take(alloc, text, *line, &mut seen)? {
             return Ok(outcome);
         }
     }

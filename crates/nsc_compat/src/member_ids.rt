@@ -1,4 +1,4 @@
-ghost use Rattle.std.specs.Prelude.{◌≡◌, ◌≤◌, ◌∷◌, ℕ, List, [], IfOk, OnOk, length, map};
+ghost use Rattle.std.specs.Prelude.{◌≡◌, ◌≤◌, ◌∷◌, ℕ, List, [], IfOk, OnOk, length, map, true};
 ghost use Rattle.std.specs.Option.{option_map};
 ghost use Rattle.nsc_base.specs.Text.{part};
 ghost use Rattle.nsc_model.specs.Answers.{found_ids, gathered_file, group_in as group_found, id_scan};
@@ -6,12 +6,14 @@ ghost use Rattle.nsc_model.specs.Compat.{gathered, ids_of_pairs};
 ghost use Rattle.nsc_model.specs.Groups.{group_of_line, has_member as is_member};
 ghost use Rattle.nsc_accounts.specs.Once.{all_ids};
 ghost use Rattle.nsc_compat.specs.Gathered.{member_id, unless_excluded};
+ghost use Rattle.nsc_model.specs.Switches.{text_of};
 ghost use Rattle.nsc_compat.specs.Lines.{ids_or_unavail};
+ghost use Rattle.nsc_compat.specs.Matters.{AreLines, matters};
 ghost use Rattle.nsc_accounts.specs.NamedId.{pair_of};
 
 use crate::account::Account;
 use crate::excluded::Excluded;
-use crate::lines::{LineScan, scan_lines};
+use crate::lines::{LineScan, scan_lines, scan_on};
 use crate::reading::Lines;
 use crate::said::{Said, line_says};
 use crate::sub::SubLookup;
@@ -33,6 +35,26 @@ pub fn ids_of_user<S: SubLookup>(alloc: Global, user: &[u8], sub: &S) -> Result<
         ids: OnceIds::new(alloc),
     };
     scan_lines(alloc, &MemberScan { sub, user }, seen, Lines::every(text))
+}
+
+/// The same by the lines of the group file that matter to the request. Fails only for want of memory.
+pub fn ids_of_user_on<S: SubLookup>(
+    alloc: Global,
+    user: &[u8],
+    sub: &S,
+    lines: &[Span],
+) -> Result<Looked, NoMemory>
+    requires { AreLines (text_of (S.content sub.now).group) (matters group_of_line (is_member user.now) (λ name. true)) lines.now }
+    ensures { IfOk result (λ looked. looked ≡ gathered_file (id_scan (S.content sub.now) user.now) (S.content sub.now).group) }
+{
+    let Some(text) = sub.content().file(FileId::Group) else {
+        return Ok(Looked::Unavail);
+    };
+    let seen = MembersSeen {
+        excluded: Excluded::new(alloc),
+        ids: OnceIds::new(alloc),
+    };
+    scan_on(alloc, &MemberScan { sub, user }, seen, text, lines)
 }
 
 // A scan for the groups of a user: who is asked, and the user's name.

@@ -7,3 +7,6 @@ pub mod MemberRows
 pub mod OnceRows
 pub mod NetRows
 pub mod Crossing
+pub mod PlaceRows
+pub mod SignRows
+pub mod CompatLines

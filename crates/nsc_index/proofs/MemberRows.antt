@@ -1,6 +1,7 @@
 -- The groups of a user, by the index of members.
 use Rattle.std.proofs.Common.{◌≡◌, ℕ, ◌+◌, Bool, true, false, cond, ◌==◌, ◌||◌, if◌then◌else◌, List, [], ◌∷◌, ◌++◌, length, filter, map, refl, sym, ◌∙◌, ap, arith}
 use Rattle.std.specs.List.{cons_option, filter_map, list_any}
+use Rattle.std.specs.Option.{is_some}
 use Rattle.std.specs.Str.{bytes_eq}
 use Rattle.std.specs.Cmp.Lexicographic.{texts_ties}
 use Rattle.std.proofs.lemmas.Bool.Decides.{Decides-eqb}
@@ -25,8 +26,10 @@ use Rattle.nsc_index.specs.declared.names.NameAt.{NameAt}
 use Rattle.nsc_index.specs.Groups.{IsGroupIndex, group_members, member_spans}
 use Rattle.nsc_index.specs.Indexes.{on_line}
 use Rattle.nsc_index.specs.Names.{has_name, place_of_name}
-use Rattle.nsc_index.proofs.LineRows.{Repeats, RowsOf, all_found, again, named_step, nothing, once}
+use Rattle.nsc_index.specs.Signs.{Adds}
+use Rattle.nsc_index.proofs.LineRows.{Repeats, RowsOf, all_found, again, named_step, nothing, once, the_rows}
 use Rattle.nsc_index.proofs.NameRows.{many_rows}
+use Rattle.nsc_index.proofs.SignRows.{added_rows, some_mapped}
 
 -- ---- the members of a line
 
@@ -36,7 +39,7 @@ members_from text line from to = map (place_of_name line) (filter (λ span. is_f
 
 -- ---- the groups of a user
 
-parts_filtered : (text : List ℕ) (test : List ℕ → Bool) (spans : List Span) → map (part text) (filter (λ span. test (part text span)) spans) ≡ filter test (map (part text) spans)
+pub parts_filtered : (text : List ℕ) (test : List ℕ → Bool) (spans : List Span) → map (part text) (filter (λ span. test (part text span)) spans) ≡ filter test (map (part text) spans)
 parts_filtered text test [] = refl
 parts_filtered text test (span ∷ spans) =
     elim (test (part text span)) as (λ v. map (part text) (cond v (span ∷ filter (λ s. test (part text s)) spans) (filter (λ s. test (part text s)) spans)) ≡ cond v (part text span ∷ filter test (map (part text) spans)) (filter test (map (part text) spans))) [
@@ -104,3 +107,12 @@ ids_start text user index is slice slice_is =
     let same : map (λ at. at.gid) named ≡ member_ids user text =
     sym (ids_at text named) ∙ ap (map (λ g. g.gid)) (named_groups text (has_member user) (line_spans text 0) (lines-between text 0 (omega arith)) ∙ ap (λ (lines : List (List ℕ)). filter (has_member user) (filter_map group_of_line lines)) (line_spans-parts text 0)) in
     ids_repeated _ _ repeats [] ∙ ap (all_ids []) same ∙ all_once (member_ids user text)
+
+-- the lines of a user's groups
+pub member_lines : (text user : List ℕ) (index : GroupIndex) → IsGroupIndex text index → (old new : List ℕ) (slice : List NameAt) → slice ≡ filter (has_name Counts text user) index.members.items → new ≡ old ++ map (λ (at : NameAt). at.line) slice → Adds text (λ line. is_some (if_named (has_member user) (group_of_line line))) old new
+member_lines text user index is old new slice slice_is new_is =
+    added_rows (rows_of_member text user) text (λ line. is_some (if_named (has_member user) (group_of_line line)))
+    (λ line ordered ends.
+    let places = if_named (is_of text user) (group_places text line) in
+    sym (some_mapped (group_at text) places) ∙ ap is_some (group_given text (has_member user) line places ordered ends refl)) old new slice new_is
+    (slice_is ∙ the_rows (rows_of_member text user) text index.members.items is.members user (λ row. refl))

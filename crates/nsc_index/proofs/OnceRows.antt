@@ -24,13 +24,16 @@ use Rattle.nsc_index.proofs.MemberRows.{is_of, named_groups, rows_of_member}
 
 -- ---- lines rise
 
-abbrev Rising : ℕ → List Span → Type 0
+abbrev pub Rising : ℕ → List Span → Type 0
 Rising low [] = Unit {0}
 Rising low (line ∷ lines) = (low ≤ line.from) × Rising (line.from + 1) lines
 
 rising : (low at : ℕ) (pieces : List (List ℕ)) → low ≤ at → Rising low (spans_of at pieces)
 rising low at [] le = tt
 rising low at (piece ∷ pieces) le = (le, rising (at + 1) (at + length piece + 1) pieces (omega arith))
+
+pub all_rising : (text : List ℕ) → Rising 0 (line_spans text 0)
+all_rising text = rising 0 0 (lines_of (drop 0 text)) (omega arith)
 
 lower : (low high : ℕ) (lines : List Span) → low ≤ high → Rising high lines → Rising low lines
 lower low high [] le rises = tt
@@ -91,7 +94,7 @@ module _ {A : Type 0} {places : Span → Option A} {names : A → Bool} {rows_of
 
   -- the rows that pass, each line once, are those of the lines that are named
   pub once_on : filter_map entry (lines_once None (filter passes (rows_from rows_of text 0))) ≡ filter names (filter_map places (line_spans text 0))
-  once_on = once_at (line_spans text 0) None (all_begin text) (rising 0 0 (lines_of (drop 0 text)) (omega arith))
+  once_on = once_at (line_spans text 0) None (all_begin text) (all_rising text)
 
 -- ---- the groups of a user with their names
 

@@ -1,13 +1,13 @@
 -- The first line of a passwd file that is named, by its index.
-use Rattle.std.proofs.Common.{◌≡◌, ℕ, ◌==◌, List, filter, Option, option_and_then, refl, sym}
+use Rattle.std.proofs.Common.{◌≡◌, ℕ, ◌==◌, List, ◌++◌, filter, map, Option, option_and_then, refl, sym, ◌∙◌, ap}
 use Rattle.std.specs.List.{slice_get}
-use Rattle.std.specs.Option.{option_map}
+use Rattle.std.specs.Option.{is_some, option_map}
 use Rattle.std.specs.Str.{bytes_eq}
 use Rattle.std.specs.Cmp.{unsigned_ties}
 use Rattle.std.specs.Cmp.Lexicographic.{texts_ties}
 use Rattle.nsc_base.specs.declared.search.Case.TheVariants.{Counts}
 use Rattle.nsc_base.specs.Text.{part}
-use Rattle.nsc_model.specs.Entries.{first_named}
+use Rattle.nsc_model.specs.Entries.{first_named, if_named}
 use Rattle.nsc_model.specs.Users.{user_of_line}
 use Rattle.nsc_model.proofs.Firsts.{first_is}
 use Rattle.nsc_accounts.specs.Passwd.{GivesUser, user_at, user_places}
@@ -20,7 +20,9 @@ use Rattle.nsc_index.specs.Indexes.{on_line}
 use Rattle.nsc_index.specs.Names.{has_name, place_of_name}
 use Rattle.nsc_index.specs.Numbers.{has_number, place_of_number}
 use Rattle.nsc_index.specs.Users.{IsUserIndex, user_ids, user_names}
-use Rattle.nsc_index.proofs.LineRows.{RowsOf, found_on, one_row}
+use Rattle.nsc_index.specs.Signs.{Adds}
+use Rattle.nsc_index.proofs.LineRows.{RowsOf, found_on, one_row, the_rows}
+use Rattle.nsc_index.proofs.SignRows.{added_rows, some_mapped}
 
 rows_of_name : (text name : List ℕ) → RowsOf (user_places text) (λ at. bytes_eq (part text at.name) name) (user_names text) (has_name Counts text name) (λ at. at.line)
 rows_of_name text name = one_row (user_places text) (λ at. bytes_eq (part text at.name) name) (λ line at. place_of_name line at.name) (has_name Counts text name) (λ at. at.line) (λ line at. sym (texts_ties (part text at.name) name)) (λ line at. refl)
@@ -40,3 +42,20 @@ module _ (text : List ℕ) (index : UserIndex) (is : IsUserIndex text index) whe
   by_id uid slice first found slice_is is_first on =
       first_is (GivesUser text (λ at. at.uid == uid)) text (user_at text) user_of_line (λ p. p.uid == uid) (λ span r ordered ends gives. user_given text (λ p. p.uid == uid) span r ordered ends gives) found
       (found_on (rows_of_id text uid) text index.ids.items is.ids uid (λ row. refl) slice first found slice_is is_first on)
+
+  -- the lines of a name, and those of an id
+  pub named_lines : (name old new : List ℕ) (slice : List NameAt) → slice ≡ filter (has_name Counts text name) index.names.items → new ≡ old ++ map (λ (at : NameAt). at.line) slice → Adds text (λ line. is_some (if_named (λ p. bytes_eq p.name name) (user_of_line line))) old new
+  named_lines name old new slice slice_is new_is =
+      added_rows (rows_of_name text name) text (λ line. is_some (if_named (λ p. bytes_eq p.name name) (user_of_line line)))
+      (λ line ordered ends.
+      let places = if_named (λ at. bytes_eq (part text at.name) name) (user_places text line) in
+      sym (some_mapped (user_at text) places) ∙ ap is_some (user_given text (λ p. bytes_eq p.name name) line places ordered ends refl)) old new slice new_is
+      (slice_is ∙ the_rows (rows_of_name text name) text index.names.items is.names name (λ row. refl))
+
+  pub numbered_lines : (uid : ℕ) (old new : List ℕ) (slice : List NumberAt) → slice ≡ filter (has_number uid) index.ids.items → new ≡ old ++ map (λ (at : NumberAt). at.line) slice → Adds text (λ line. is_some (if_named (λ p. p.uid == uid) (user_of_line line))) old new
+  numbered_lines uid old new slice slice_is new_is =
+      added_rows (rows_of_id text uid) text (λ line. is_some (if_named (λ p. p.uid == uid) (user_of_line line)))
+      (λ line ordered ends.
+      let places = if_named (λ at. at.uid == uid) (user_places text line) in
+      sym (some_mapped (user_at text) places) ∙ ap is_some (user_given text (λ p. p.uid == uid) line places ordered ends refl)) old new slice new_is
+      (slice_is ∙ the_rows (rows_of_id text uid) text index.ids.items is.ids uid (λ row. refl))

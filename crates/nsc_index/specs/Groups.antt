@@ -13,6 +13,7 @@ use Rattle.nsc_index.specs.declared.numbers.NumberAt.{NumberAt}
 use Rattle.nsc_index.specs.Indexes.{Indexes, rows_from}
 use Rattle.nsc_index.specs.Names.{name_key, place_of_name}
 use Rattle.nsc_index.specs.Numbers.{number_in, place_of_number}
+use Rattle.nsc_index.specs.Signs.{IsSignIndex}
 
 -- the name of a line that has the form, and its group id
 abbrev pub group_names : List ℕ → Span → List NameAt
@@ -32,8 +33,9 @@ members_at text line within = map (place_of_name line) (member_spans text within
 abbrev pub group_members : List ℕ → Span → List NameAt
 group_members text line = option_map_or (λ at. members_at text line at.members) (group_places text line) []
 
--- each line that has the form, under its name, under its group id and under the name of each member
+-- each line that has the form, under its name, under its group id and under the name of each member, and each that speaks by a sign
 pub record IsGroupIndex (text : List ℕ) (index : GroupIndex) : Type 0 where
   pub names : Indexes (slice_cmp nat_cmp) (name_key Counts text) (rows_from (group_names text) text 0) index.names.items
   pub ids : Indexes nat_cmp number_in (rows_from (group_ids text) text 0) index.ids.items
   pub members : Indexes (slice_cmp nat_cmp) (name_key Counts text) (rows_from (group_members text) text 0) index.members.items
+  pub signs : IsSignIndex text index.signs.items

@@ -1,6 +1,7 @@
 pub mod Indexes
 pub mod Names
 pub mod Numbers
+pub mod Signs
 pub mod Users
 pub mod Groups
 pub mod Addresses

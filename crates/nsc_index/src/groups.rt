@@ -1,25 +1,30 @@
-ghost use Rattle.std.specs.Prelude.{◌≡◌, ◌==◌, ◌≤◌, ◌<◌, ◌^◌, ◌++◌, IfOk, IfSome, OnOk, Some, length, map};
-ghost use Rattle.std.specs.Option.{option_map};
+ghost use Rattle.std.specs.Prelude.{◌≡◌, ◌==◌, ◌≤◌, ◌<◌, ◌^◌, ◌++◌, IfOk, IfSome, OnOk, Some, length, map, true};
+ghost use Rattle.std.specs.Option.{is_some, option_map};
 ghost use Rattle.std.specs.Str.{bytes_eq};
-ghost use Rattle.nsc_model.specs.Answers.{ids_of, pairs_of};
-ghost use Rattle.nsc_model.specs.Entries.{first_named};
+ghost use Rattle.nsc_model.specs.Answers.{group_named, ids_of, is_id, pairs_of};
+ghost use Rattle.nsc_model.specs.Entries.{first_named, if_named};
 ghost use Rattle.nsc_model.specs.Files.{file_limit};
-ghost use Rattle.nsc_model.specs.Groups.{group_of_line};
+ghost use Rattle.nsc_model.specs.Groups.{group_of_line, has_member};
 ghost use Rattle.nsc_base.specs.Text.{part};
 ghost use Rattle.nsc_accounts.specs.NamedId.{pair_of};
 ghost use Rattle.nsc_accounts.specs.Group.{GroupLiesIn, group_at, group_places};
+ghost use Rattle.nsc_compat.specs.Matters.{AreLines, matters};
 ghost use Rattle.nsc_index.specs.Groups.{members_at};
 ghost use Rattle.nsc_index.specs.Indexes.{on_line};
+ghost use Rattle.nsc_index.specs.Signs.{Adds};
 
 use crate::lines::line_on;
 use crate::names::{NameAt, places_of_name, sorted_names};
 use crate::numbers::{NumberAt, places_of_number, sorted_numbers};
+use crate::places::{add_named, add_numbered, lines_at};
+use crate::signs::{add_sign, add_signs, add_signs_on, sorted_signs};
 use nsc_accounts::{GroupAt, NamedId, OnceIds, group_line};
 use nsc_base::{Bytes, Case, Ids, NoMemory, Span, field_at, line_at};
 use std::alloc::Global;
 
 /// The lines of a group file, group(5), in the order of their names, in that of their group ids, and in that of the names of
-/// their members: twenty bytes for a line, and twelve for each member.
+/// their members: twenty bytes for a line, and twelve for each member. Beside them the names on which lines speak by a sign, as
+/// the service compat reads them: twelve bytes for such a line.
 #[derive(Debug, Drop)]
 pub struct GroupIndex {
     /// The names.
@@ -28,6 +33,8 @@ pub struct GroupIndex {
     pub ids: Vec<NumberAt>,
     /// The names of the members.
     pub members: Vec<NameAt>,
+    /// The names after signs.
+    pub signs: Vec<NameAt>,
 }
 
 impl GroupIndex {
@@ -41,6 +48,7 @@ impl GroupIndex {
         let mut names = Vec::new(alloc);
         let mut ids = Vec::new(alloc);
         let mut members = Vec::new(alloc);
+        let mut signs = Vec::new(alloc);
         let mut from = 0;
         while let Some(line) = line_at(text, from) {
             if let Some(group) = group_line(text, line.span) {
@@ -48,12 +56,14 @@ impl GroupIndex {
                 ids.push(NumberAt::new(group.gid, line.span))?;
                 add_members(text, line.span, group.members, &mut members)?;
             }
+            add_sign(text, line.span, &mut signs)?;
             from = line.next;
         }
         Ok(GroupIndex {
             names: sorted_names(text, Case::Counts, names)?,
             ids: sorted_numbers(ids)?,
             members: sorted_names(text, Case::Counts, members)?,
+            signs: sorted_signs(text, signs)?,
         })
     }
 
@@ -117,6 +127,79 @@ impl GroupIndex {
             last = Some(at.line);
         }
         Ok(groups)
+    }
+
+    /// The lines that matter to compat for the entry of this name: those of the name, and those that speak by a sign on it or on
+    /// every name. Fails only for want of memory.
+    pub fn lines_of_name(
+        &self,
+        alloc: Global,
+        text: &[u8],
+        name: &[u8],
+    ) -> Result<Vec<Span>, NoMemory>
+        requires { IsGroupIndex text.now self.now }
+        ensures { IfOk result (λ lines. AreLines text.now (matters group_of_line (group_named name.now) (λ other. bytes_eq other name.now)) lines.items) }
+    {
+        let mut places = Vec::new(alloc);
+        let named = places_of_name(text, Case::Counts, &self.names, name);
+        add_named(named, &mut places)?;
+        add_signs_on(text, &self.signs, name, &mut places)?;
+        let lines = lines_at(alloc, text, places)?;
+        Ok(lines)
+    }
+
+    /// The lines that matter to compat for the entry of this group id, where there is one: those of the id, and all that speak by
+    /// a sign. Fails only for want of memory.
+    pub fn lines_of_id(
+        &self,
+        alloc: Global,
+        text: &[u8],
+        gid: Option<u32>,
+    ) -> Result<Vec<Span>, NoMemory>
+        requires { IsGroupIndex text.now self.now }
+        ensures { IfOk result (λ lines. AreLines text.now (matters group_of_line (λ g. is_id gid g.gid) (λ other. true)) lines.items) }
+    {
+        let mut places = Vec::new(alloc);
+        self.add_lines_of_id(text, gid, &mut places)?;
+        add_signs(text, &self.signs, &mut places)?;
+        let lines = lines_at(alloc, text, places)?;
+        Ok(lines)
+    }
+
+    /// The lines that matter to compat for the groups of a user: those that have the user as a member, and all that speak by a
+    /// sign. Fails only for want of memory.
+    pub fn lines_of_member(
+        &self,
+        alloc: Global,
+        text: &[u8],
+        user: &[u8],
+    ) -> Result<Vec<Span>, NoMemory>
+        requires { IsGroupIndex text.now self.now }
+        ensures { IfOk result (λ lines. AreLines text.now (matters group_of_line (has_member user.now) (λ other. true)) lines.items) }
+    {
+        let mut places = Vec::new(alloc);
+        let named = places_of_name(text, Case::Counts, &self.members, user);
+        add_named(named, &mut places)?;
+        add_signs(text, &self.signs, &mut places)?;
+        let lines = lines_at(alloc, text, places)?;
+        Ok(lines)
+    }
+
+    // Adds the places of the lines of a group id, where there is one.
+    fn add_lines_of_id(
+        &self,
+        text: &[u8],
+        gid: Option<u32>,
+        places: &mut Vec<u32>,
+    ) -> Result<(), NoMemory>
+        requires { IsGroupIndex text.now self.now }
+        ensures { OnOk result (Adds text.now (λ line. is_some (if_named (λ g. is_id gid g.gid) (group_of_line line))) places.old.items places.new.items) }
+    {
+        let Some(gid) = gid else {
+            return Ok(());
+        };
+        add_numbered(places_of_number(&self.ids, gid), places)?;
+        Ok(())
     }
 }
 

@@ -12,8 +12,10 @@ mod names;
 mod net_outcomes;
 mod numbers;
 mod outcomes;
+mod places;
 mod prepared;
 mod services;
+mod signs;
 mod users;
 mod words;
 

@@ -5,7 +5,7 @@ ghost use Rattle.nsc_model.specs.Files.{FilesFit};
 use crate::compat::SubServices;
 use crate::prepared::Prepared;
 use nsc_base::NoMemory;
-use nsc_compat::compat_lookup;
+use nsc_compat::compat_lookup_on;
 use nsc_model::{Db, Kind, Looked, SwitchService};
 use nsc_switch::{ServiceLook, switch_over};
 use std::alloc::Global;
@@ -33,7 +33,8 @@ impl<'a> ServiceLook for IndexedServices<'a> {
                 let sub = SubServices {
                     prepared: self.prepared,
                 };
-                compat_lookup(alloc, kind, key, &sub)
+                let lines = self.prepared.compat_lines(alloc, kind, key)?;
+                compat_lookup_on(alloc, kind, key, &sub, &lines)
             }
             SwitchService::Other => Ok(Looked::Unavail),
         }

@@ -1,5 +1,5 @@
 ghost use Rattle.std.specs.Prelude.{◌≡◌, ◌≤◌, ◌<◌, ◌^◌, IfOk, filter};
-ghost use Rattle.std.specs.List.Sorted.{IsSortedByKey};
+ghost use Rattle.std.specs.List.Sorted.{IsPermutation, IsSortedByKey};
 ghost use Rattle.std.specs.Ordering.{nat_cmp};
 ghost use Rattle.std.specs.Cmp.Lexicographic.{slice_cmp};
 ghost use Rattle.nsc_index.specs.Indexes.{Indexes};
@@ -84,7 +84,8 @@ pub fn sorted_names(
     case: Case,
     mut names: Vec<NameAt>,
 ) -> Result<Vec<NameAt>, NoMemory>
-    ensures { IfOk result (λ index. Indexes (slice_cmp nat_cmp) (name_key case text.now) names.items index.items) }
+    ensures index { IfOk result (λ index. Indexes (slice_cmp nat_cmp) (name_key case text.now) names.items index.items) }
+    ensures same { IfOk result (λ index. IsPermutation names.items index.items) }
 {
     names.shrink_to_fit();
     names.sort_by(|a, b| order_of(text, case, a, b))?;

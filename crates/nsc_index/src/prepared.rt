@@ -18,7 +18,7 @@ use crate::outcomes::{group_by_id, group_by_name, groups_of_user, user_by_id, us
 use crate::services::ServiceIndex;
 use crate::users::UserIndex;
 use nsc_accounts::NamedId;
-use nsc_base::NoMemory;
+use nsc_base::{NoMemory, Span, decimal};
 use nsc_model::{Content, Db, FileId, Kind, Looked, SwitchService, SwitchStep};
 use nsc_switch::Lists;
 use std::alloc::Global;
@@ -62,8 +62,11 @@ impl Prepared {
     ghost use Rattle.nsc_model.specs.declared.switch.SwitchService.TheVariants.{Files, Extrausers};
     ghost use Rattle.std.specs.Prelude.{map};
     ghost use Rattle.nsc_accounts.specs.NamedId.{pair_of};
-    ghost use Rattle.nsc_model.specs.Answers.{service_answer, service_pairs};
+    ghost use Rattle.nsc_model.specs.Answers.{own_file, service_answer, service_pairs};
     ghost use Rattle.nsc_model.specs.Files.{FilesFit};
+    ghost use Rattle.nsc_model.specs.Kinds.{database_of};
+    ghost use Rattle.nsc_model.specs.Switches.{text_of};
+    ghost use Rattle.nsc_compat.specs.Matters.{AreLines, matters_to};
     ghost use Rattle.nsc_switch.specs.Lists.{compat_list_in, list_in, lists_of};
 
     /// A content, once its service lists are read and its files have their indexes. Fails only for want of memory.
@@ -160,6 +163,34 @@ impl Prepared {
         ensures { result.now ≡ compat_list_in (lists_of self.now) db }
     {
         self.lists.compat_list(db)
+    }
+
+    /// The lines of the file of the request's database that matter to compat. Hosts and services have no compat, and so no such
+    /// lines. Fails only for want of memory.
+    pub(crate) fn compat_lines(
+        &self,
+        alloc: Global,
+        kind: Kind,
+        key: &[u8],
+    ) -> Result<Vec<Span>, NoMemory>
+        ensures { IfOk result (λ lines. AreLines (text_of (own_file (database_of kind) self.now)) (matters_to kind key.now) lines.items) }
+    {
+        let passwd = text_in(&self.content, FileId::Passwd);
+        let group = text_in(&self.content, FileId::Group);
+        match kind {
+            Kind::PwName => self.users.lines_of_name(alloc, passwd, key),
+            Kind::PwUid => self.users.lines_of_id(alloc, passwd, decimal(key)),
+            Kind::GrName => self.groups.lines_of_name(alloc, group, key),
+            Kind::GrGid => self.groups.lines_of_id(alloc, group, decimal(key)),
+            Kind::InitGroups => self.groups.lines_of_member(alloc, group, key),
+            Kind::HostName
+            | Kind::HostName6
+            | Kind::HostAddr
+            | Kind::HostAddr6
+            | Kind::Ai
+            | Kind::ServName
+            | Kind::ServPort => Ok(Vec::new(alloc)),
+        }
     }
 
     /// The names and ids of the groups of a user in the file of a service, none dropped. Fails only for want of memory.

@@ -7,8 +7,8 @@ use Rattle.nsc_index.specs.Names.{name_key}
 use Rattle.nsc_index.proofs.InOrder.{indexes}
 use Rattle.nsc_index.proofs.names.sorted_names.Goals as goal
 
-pub returns : goal.returns
-returns c =
+pub returns-clause-index : goal.returns-clause-index
+returns-clause-index c =
     let key = name_key c.args.case c.args.text.now in
     let index = c.sort_by.new.self.items in
     subst (λ (rows : List NameAt). Indexes (slice_cmp nat_cmp) key rows index) c.shrink_to_fit.ensures.items

@@ -1,5 +1,6 @@
-use Rattle.std.proofs.Common.{◌≡◌, ◌≤◌, ◌-◌, ◌++◌, length}
+use Rattle.std.proofs.Common.{◌≡◌, ◌≤◌, ◌-◌, ◌++◌, length, map}
 use Rattle.nsc_index.specs.Indexes.{rows_from}
+use Rattle.nsc_index.specs.Signs.{named_line, signs_of}
 use Rattle.nsc_index.specs.Groups.{group_ids, group_members, group_names}
 use Rattle.nsc_index.proofs.groups.GroupIndex.of.Given as goal
 
@@ -10,6 +11,7 @@ invariant-loop-line l = record {
   names : l.names.items ++ rows_from (group_names l.text) l.text l.from ≡ rows_from (group_names l.text) l.text 0;
   ids : l.ids.items ++ rows_from (group_ids l.text) l.text l.from ≡ rows_from (group_ids l.text) l.text 0;
   members : l.members.items ++ rows_from (group_members l.text) l.text l.from ≡ rows_from (group_members l.text) l.text 0;
+  signs : map (named_line l.text) l.signs.items ++ rows_from (signs_of l.text) l.text l.from ≡ rows_from (signs_of l.text) l.text 0;
 }
 
 abbrev pub decreases-loop-line : goal.decreases-loop-line

@@ -1,0 +1,20 @@
+use Rattle.std.proofs.Common.{true, filter, ap, ◌∙◌}
+use Rattle.std.specs.Option.{is_some}
+use Rattle.nsc_base.specs.declared.search.Case.TheVariants.{Counts}
+use Rattle.nsc_model.specs.Compat.{says}
+use Rattle.nsc_model.specs.Entries.{if_named}
+use Rattle.nsc_model.specs.Groups.{group_of_line, has_member}
+use Rattle.nsc_compat.specs.Matters.{sign_name, speaks_on}
+use Rattle.nsc_index.specs.Names.{has_name}
+use Rattle.nsc_index.proofs.MemberRows.{member_lines}
+use Rattle.nsc_index.proofs.SignRows.{added_to_none}
+use Rattle.nsc_index.proofs.groups.GroupIndex.lines_of_member.Goals as goal
+
+pub returns : goal.returns
+returns c =
+    let text = c.args.text.now in
+    let user = c.args.user.now in
+    let named = c.places_of_name-named.ensures ∙ ap (filter (has_name Counts text user)) c.deref.ensures.value in
+    let own = member_lines text user c.args.self.now c.requires c.new-places.result.items c.add_named.new.places.items c.places_of_name-named.result.now named c.in_ok-add_named.ensures in
+    c.in_ok-lines.ensures _
+    (added_to_none text (λ line. is_some (if_named (has_member user) (group_of_line line))) (λ line. speaks_on (λ other. true) (sign_name (says line))) c.new-places.result.items c.add_named.new.places.items c.add_signs.new.places.items c.new-places.ensures.items own c.in_ok-add_signs.ensures)
