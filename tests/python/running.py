@@ -158,10 +158,11 @@ class Daemon:
 
 
 @contextmanager
-def daemon(*words, **options):
+def daemon(*words, started=True, **options):
     made = Daemon(*words, **options)
     try:
-        made.start()
+        if started:
+            made.start()
         yield made
     finally:
         made.remove()

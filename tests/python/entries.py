@@ -1,0 +1,169 @@
+"""Compares the entries of a daemon's database of users, call by call, with a plain list of entries.
+
+The list knows the rules of the room alone: an entry takes eight words, those of its key and those of its reply; an invalidation ends
+every entry, and where there was any their words are free again; a reply of more than 65,536 bytes is not kept.
+"""
+
+import random
+import struct
+import sys
+from dataclasses import dataclass, field
+
+sys.dont_write_bytecode = True
+import rules
+from running import GETSTAT, INVALIDATE, NO_REPLY, PASSWD_BY_NAME, Fault, check, daemon, request
+
+LONGEST_KEY, LONGEST_KEPT = 1024, 65536
+LOOKUPS = ["hits", "negative hits", "misses", "negative misses", "entries"]
+ENDS = ["invalidations", "compactions", "not added"]
+
+
+def words_for(length):
+    return -(-length // 8)
+
+
+@dataclass
+class Room:
+    """The entries of one database, as a list has them, and what the database counts."""
+
+    arena: int
+    replies: dict = field(default_factory=dict)
+    used: int = 0
+    counts: dict = field(default_factory=lambda: dict.fromkeys(LOOKUPS + ENDS, 0))
+
+    def look_up(self, key, reply):
+        """The reply to a lookup of this key, where the files say this one."""
+        kept = key in self.replies
+        self.counts[("negative " if reply == NO_REPLY else "") + ("hits" if kept else "misses")] += 1
+        if not kept and len(reply) <= LONGEST_KEPT:
+            self.insert(key, reply)
+        return reply
+
+    def insert(self, key, reply):
+        need = 8 + words_for(len(key)) + words_for(len(reply))
+        if need <= self.arena - self.used:
+            self.replies[key] = reply
+            self.counts["entries"] += 1
+            self.used += need
+        else:
+            self.counts["not added"] += 1
+
+    def invalidate(self):
+        self.counts["invalidations"] += 1
+        self.counts["compactions"] += bool(self.replies)
+        self.counts["entries"] = self.used = 0
+        self.replies = {}
+
+    def told(self):
+        """The statistics as the daemon tells them."""
+        lines = [[f"{name} {self.counts[name]}" for name in names] for names in (LOOKUPS, ENDS)]
+        return "\n".join(["passwd cache:", "enabled yes", *lines[0], f"used words {self.used} of {self.arena}", *lines[1]])
+
+
+def reply_of(name, gecos_length):
+    return rules.spelled("user", (name, b"x", 1000, 1000, b"g" * gecos_length, b"/home", b"/bin/sh"))
+
+
+def users_of(dice):
+    """The lengths of what users are called: their replies have every length modulo eight, the longest that is kept, and one more."""
+    least = len(reply_of(b"u000", 0))
+    lengths = [*range(64), *(dice.randrange(2000) for _ in range(64)), LONGEST_KEPT - least, LONGEST_KEPT - least + 1]
+    return {b"u%03d" % number: length for number, length in enumerate(lengths)}
+
+
+def names_of_one_hash(count):
+    """Each is made of pairs of bytes of which there are two, alike for the hash: thirty-three times the first, and the second."""
+    return [b"".join(b"bA" if number >> bit & 1 else b"ab" for bit in range(10)) for number in range(count)]
+
+
+class Trial:
+    """A daemon whose table of users has this size, and the list beside it."""
+
+    def __init__(self, run, size, users):
+        self.run, self.users, self.room = run, users, Room(128 * size)
+        lines = (b"%s:x:1000:1000:%s:/home:/bin/sh\n" % (name, b"g" * length) for name, length in users.items())
+        (run.etc / "passwd").write_bytes(b"".join(lines))
+        (run.etc / "nscd.conf").write_text(f"suggested-size passwd {size}\ncheck-files passwd no\n")
+        run.words = ["-f", run.etc / "nscd.conf"]
+        run.start()
+
+    def look_up(self, name):
+        reply = reply_of(name, self.users[name]) if name in self.users else NO_REPLY
+        came = self.run.ask(request(PASSWD_BY_NAME, name + b"\0"))
+        check(came == self.room.look_up(name, reply), f"{name[:40]!r}: another reply")
+
+    def invalidate(self):
+        check(self.run.ask(request(INVALIDATE, b"passwd\0"), "admin") == struct.pack("<i", 0), "an invalidation is refused")
+        self.room.invalidate()
+
+    def count(self):
+        """Compares all counts."""
+        told = self.run.ask(request(GETSTAT, b""), "admin").decode().split("\n\n")[0]
+        check(told == self.room.told(), f"it counts {told!r}, and not {self.room.told()!r}")
+
+
+def by_chance(size, steps, dice):
+    """Lookups of found and absent names of every length, and invalidations, in a table of this size."""
+    users = users_of(dice)
+    absent = [b"n" * length for length in range(LONGEST_KEY)]
+    with daemon(started=False) as run:
+        trial = Trial(run, size, users)
+        for step in range(steps):
+            if dice.random() < 4 / steps:
+                trial.invalidate()
+            trial.look_up(dice.choice(list(users) if dice.random() < 0.7 else absent))
+            if step % 50 == 0:
+                trial.count()
+        trial.count()
+        run.shut_down()
+        counts = trial.room.counts
+        return f"size {size}: {steps} calls; {counts['hits'] + counts['negative hits']} hits, {counts['not added']} found no room"
+
+
+def one_chain(dice):
+    """A thousand names in the bucket of one hash, each kept, and found again."""
+    names = names_of_one_hash(1000)
+    with daemon(started=False) as run:
+        trial = Trial(run, 211, {})
+        for _ in range(2):
+            dice.shuffle(names)
+            for name in names:
+                trial.look_up(name)
+            trial.count()
+        run.shut_down()
+        return f"{len(names)} names of one hash: each is kept, and found again"
+
+
+def full():
+    """The room of the least table, word by word."""
+    with daemon(started=False) as run:
+        trial = Trial(run, 1, {})
+        for number in range(7):
+            trial.look_up(b"absent-user-name%d" % number)
+        check(trial.room.used == 112, "seven entries of sixteen words")
+        trial.look_up(b"b" * 25)
+        trial.look_up(b"absent-user-name7")
+        check((trial.room.used, trial.room.counts["not added"]) == (128, 1), "no word is free")
+        trial.look_up(b"c")
+        trial.count()
+        run.shut_down()
+        return "the least table holds 128 words: one entry too long is refused, and one that just fits is kept"
+
+
+def main():
+    steps = int(sys.argv[1]) if len(sys.argv) > 1 else 10000
+    dice = random.Random(int(sys.argv[2]) if len(sys.argv) > 2 else 1)
+    cases = [full, lambda: one_chain(dice), *(lambda size=size: by_chance(size, steps // 4, dice) for size in (1, 20, 211, 65536))]
+    broken = 0
+    for case in cases:
+        try:
+            print(f"entries: {case()}")
+        except Fault as fault:
+            broken += 1
+            print(f"entries: {fault}", file=sys.stderr)
+    print(f"entries: {len(cases)} cases, {broken} faults")
+    sys.exit(bool(broken))
+
+
+if __name__ == "__main__":
+    main()
