@@ -69,16 +69,24 @@ pub record IsCutShort (asked : AdminAsk) (before after : Streams) : Type 0 where
 abbrev pub IsLong : StreamAt → StreamAt → Type 0
 IsLong before after = (front : List ℕ) × Moves before.bytes after.bytes front × (reply_limit < length front)
 
+pub record IsTooMuch (asked : AdminAsk) (before after : Streams) : Type 0 where
+  pub sent : Grows before.conn_out.bytes after.conn_out.bytes (request_for asked)
+  pub long : IsLong before.conn_in after.conn_in
+
 abbrev pub IsBad : AdminAsk → Streams → Streams → Type 0
 IsBad asked before after = (reply : List ℕ) × Exchanged asked before after reply × (IsGood asked reply → ⊥)
+
+-- nothing but the request was sent, or a front of it
+abbrev pub SendsNoMore : AdminAsk → Streams → Streams → Type 0
+SendsNoMore asked before after = GrowsByFront before.conn_out.bytes after.conn_out.bytes (request_for asked)
 
 -- what came of a command
 abbrev pub Commands : AdminAsk → Streams → Streams → Commanded → Type 0
 Commands asked before after commanded.Done = IsDone asked before after
 Commands asked before after commanded.WriteFault = IsCutShort asked before after
-Commands asked before after commanded.NetFault = (after.output ≡ before.output) × (Rose before.conn_in.faults after.conn_in.faults ⊎ Rose before.conn_out.faults after.conn_out.faults)
-Commands asked before after commanded.BadReply = (after.output ≡ before.output) × (IsLong before.conn_in after.conn_in ⊎ IsBad asked before after)
-Commands asked before after commanded.NoMemory = after.output ≡ before.output
+Commands asked before after commanded.NetFault = (after.output ≡ before.output) × (Rose before.conn_in.faults after.conn_in.faults ⊎ Rose before.conn_out.faults after.conn_out.faults) × SendsNoMore asked before after
+Commands asked before after commanded.BadReply = (after.output ≡ before.output) × (IsTooMuch asked before after ⊎ IsBad asked before after)
+Commands asked before after commanded.NoMemory = (after.output ≡ before.output) × (after.conn_in ≡ before.conn_in) × SendsNoMore asked before after
 
 -- ---- the parts
 
@@ -88,7 +96,7 @@ IsUnread before after commanded.Done = ⊥
 IsUnread before after commanded.WriteFault = ⊥
 IsUnread before after commanded.NetFault = Rose before.faults after.faults
 IsUnread before after commanded.BadReply = IsLong before after
-IsUnread before after commanded.NoMemory = Unit {0}
+IsUnread before after commanded.NoMemory = after ≡ before
 
 -- a reply says that what was asked is done, or it is bad
 abbrev pub Says : List ℕ → Commanded → Type 0

@@ -1,4 +1,4 @@
-ghost use Rattle.std.specs.Prelude.{◌≡◌, ◌<◌, ◌^◌, IfSome};
+ghost use Rattle.std.specs.Prelude.{◌≡◌, ◌<◌, ◌^◌, IfNone, IfSome, true};
 ghost use Rattle.nsc_server.specs.Jobs.{IsServable, given_after};
 
 use nsc_jobs::JobList;
@@ -27,6 +27,8 @@ pub struct Queue<R: Drop, K: Drop> {
     pub list: Waitings<R, K>,
     /// How many it took, a number that stays at 2^62.
     pub taken: u64,
+    /// Whether no more will come.
+    pub is_over: bool,
 }
 
 impl<R: Source + Drop, K: Sink + Drop> Jobs for Queue<R, K> {
@@ -36,9 +38,12 @@ impl<R: Source + Drop, K: Sink + Drop> Jobs for Queue<R, K> {
 
     ghost given = { λ q. q.taken };
 
+    ghost is_over = { λ q. q.is_over };
+
     fn next<RT: Wait + Clock>(&mut self, rt: &RT) -> Option<Job<R, K>>
         ensures servable { IfSome result IsServable }
         ensures given { self.new.taken ≡ given_after result self.old.taken }
+        ensures over { IfNone result (self.new.is_over ≡ true) }
     {
         match self.list.take(rt) {
             Some(waiting) => {
@@ -51,7 +56,10 @@ impl<R: Source + Drop, K: Sink + Drop> Jobs for Queue<R, K> {
                     now,
                 })
             }
-            None => None,
+            None => {
+                self.is_over = true;
+                None
+            }
         }
     }
 }

@@ -50,7 +50,11 @@ impl<S: Store + Drop, R: Source + Drop, K: Sink + Drop> Worker<S, R, K> {
             stores,
             passes,
             room,
-            queue: Queue { list, taken: 0 },
+            queue: Queue {
+                list,
+                taken: 0,
+                is_over: false,
+            },
         })
     }
 

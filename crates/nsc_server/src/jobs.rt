@@ -1,4 +1,4 @@
-ghost use Rattle.std.specs.Prelude.{◌≡◌, ◌+◌, ◌^◌, ◌≤◌, IfSome, min};
+ghost use Rattle.std.specs.Prelude.{◌≡◌, ◌+◌, ◌^◌, ◌≤◌, IfNone, IfSome, min, true};
 ghost use Rattle.nsc_server.specs.Jobs.{IsServable, given_after};
 ghost use Rattle.nsc_server.specs.Passes.{AreNamed, ArePasses, SawMore, passes_at};
 
@@ -26,7 +26,7 @@ pub struct Job<R: Drop, K: Drop> {
 
 /// Where a worker gets its connections from.
 pub trait Jobs {
-    ghost use Rattle.std.specs.Prelude.{ℕ};
+    ghost use Rattle.std.specs.Prelude.{ℕ, Bool};
 
     /// What a peer sends.
     type In: Source + Drop;
@@ -37,10 +37,14 @@ pub trait Jobs {
     // How many connections it gave, a number that stays at 2^62.
     ghost given: { Self → ℕ };
 
+    // Whether it told that no more is to come.
+    ghost is_over: { Self → Bool };
+
     /// The next connection, which may be waited for. `None` where no more is to come.
     fn next<R: Wait + Clock>(&mut self, rt: &R) -> Option<Job<Self::In, Self::Out>>
         ensures servable { IfSome result IsServable }
-        ensures given { given self.new ≡ given_after result (given self.old) };
+        ensures given { given self.new ≡ given_after result (given self.old) }
+        ensures over { IfNone result (is_over self.new ≡ true) };
 }
 
 /// Serves connections until none is to come, and gives their number, which stays at 2^62.
@@ -57,6 +61,7 @@ pub fn work<RT: AllocGlobal + Wait + Clock, J: Jobs, S: Store>(
     ensures before { SawMore (passes_at S.Store passes.old) (passes_at S.Store passes.new) }
     ensures count { J.given jobs.old ≡ 0 → result ≡ J.given jobs.new }
     ensures limit { result ≤ 2 ^ 62 }
+    ensures over { J.is_over jobs.new ≡ true }
 {
     let mut count = 0;
     for _ in rt.forever() {
