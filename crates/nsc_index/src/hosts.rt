@@ -128,6 +128,7 @@ fn other_on(text: &[u8], place: u32, family: Option<u8>) -> Option<HostAt>
 }
 
 // A number that an address gives. Addresses of one number stand side by side, and are told apart by their bytes.
+#[tactic(auto, unfolding(crate::specs::Addresses::address_number))]
 fn address_number(address: &[u8]) -> u32
     ensures { result ≡ address_number address.now }
 {

@@ -12,6 +12,11 @@ const FIRST: &[u8] =
 const THIRD: &[u8] =
     b"\x02\0\0\0\x01\0\0\0\x02\0\0\0\x02\0\0\0\x02\0\0\0\x02\0\0\0\x01\0\0\0\x01\0\0\0\x01\0\0\0a\0x\0\0\0\0";
 
+// A user's groups with the ids 4 and 100.
+const GROUPS: &[u8] = b"\x02\0\0\0\x01\0\0\0\x02\0\0\0\x04\0\0\0\x64\0\0\0";
+
+const NO_GROUP: &[u8] = b"\x02\0\0\0\0\0\0\0\0\0\0\0\0\0\0\0\xff\xff\xff\xff\0\0\0\0";
+
 fn prepared(alloc: Global) -> Result<Prepared, NoMemory> {
     let file = Bytes::copy(alloc, b"a:x:1:1:::\nb:x:1:1:::\na:x:2:2:::\n")?;
     let mut content = Content::none();
@@ -29,5 +34,32 @@ fn finds_first_lines(rt: HostRuntime) -> Result<(), Fail> {
     assert_eq!(rt; by_id.bytes(), FIRST);
     let other_id = Indexed.answer(alloc, &ready, Kind::PwUid, b"2")?;
     assert_eq!(rt; other_id.bytes(), THIRD);
+    Ok(())
+}
+
+// Groups of which one is excluded before the others are asked of a further service.
+fn excluding(alloc: Global) -> Result<Prepared, NoMemory> {
+    let switch = Bytes::copy(alloc, b"group: compat\ngroup_compat: extrausers\n")?;
+    let group = Bytes::copy(alloc, b"adm:x:4:ann\n-staff\n+\n")?;
+    let extra = Bytes::copy(alloc, b"staff:x:50:ann\nusers:x:100:ann\n")?;
+    let mut content = Content::none();
+    content.set(FileId::Switch, Some(switch));
+    content.set(FileId::Group, Some(group));
+    content.set(FileId::ExtraGroup, Some(extra));
+    Indexed.prepare(alloc, Arc::new(alloc, content)?)
+}
+
+#[test]
+fn finds_signs(rt: HostRuntime) -> Result<(), Fail> {
+    let alloc = rt.alloc();
+    let ready = excluding(alloc)?;
+    let groups = Indexed.answer(alloc, &ready, Kind::InitGroups, b"ann")?;
+    assert_eq!(rt; groups.bytes(), GROUPS);
+    let by_name = Indexed.answer(alloc, &ready, Kind::GrName, b"staff")?;
+    assert_eq!(rt; by_name.bytes(), NO_GROUP);
+    let by_id = Indexed.answer(alloc, &ready, Kind::GrGid, b"50")?;
+    assert_eq!(rt; by_id.bytes(), NO_GROUP);
+    let other = Indexed.answer(alloc, &ready, Kind::GrName, b"users")?;
+    assert_ne!(rt; other.bytes(), NO_GROUP);
     Ok(())
 }
