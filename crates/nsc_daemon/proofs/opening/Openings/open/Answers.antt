@@ -1,0 +1,16 @@
+use Rattle.std.proofs.Common.{◌≡◌, ℕ, Option, rules, subst, ◌∙◌}
+use Rattle.nsc_model.specs.Content.{Content}
+use Rattle.nsc_daemon.specs.Ends.{IsOpeningFault, TellsLength}
+use Rattle.nsc_daemon.proofs.opening.Openings.open.Goals as goal
+
+pub returns-in_err-services-clause-fault : goal.returns-in_err-services-clause-fault
+returns-in_err-services-clause-fault g c =
+    let before : g.F.FileSet.faults c.opened-3.new.files ≡ g.F.FileSet.faults c.args.files.now = c.in_ok-hosts.ensures.calm ∙ c.in_ok-group.ensures.calm ∙ c.in_ok-passwd.ensures.calm in
+    let fault = subst (λ (n : ℕ). IsOpeningFault c.in_err-services.field-0.0 n (g.F.FileSet.faults c.opened-4.new.files)) before c.in_err-services.ensures.fault in
+    search (rules, fault, c.from_residual-in_err-services.ensures)
+
+pub returns-in_err-services-clause-length : goal.returns-in_err-services-clause-length
+returns-in_err-services-clause-length g c =
+    let before : g.F.FileSet.held c.opened-3.new.files ≡ g.F.FileSet.held c.args.files.now = c.in_ok-hosts.ensures.stays ∙ c.in_ok-group.ensures.stays ∙ c.in_ok-passwd.ensures.stays in
+    let tells = subst (λ (o : Option Content). TellsLength c.in_err-services.field-0.0 o) before c.in_err-services.ensures.length in
+    search (rules, tells, c.from_residual-in_err-services.ensures)
