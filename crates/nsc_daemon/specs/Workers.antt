@@ -1,5 +1,5 @@
 -- What contracts see of the threads of a daemon.
-use Rattle.std.specs.Prelude.{ℕ}
+use Rattle.std.specs.Prelude.{◌≡◌, ℕ, ◌+◌, ◌<◌, ◌≤◌}
 
 -- nothing of a worker
 pub record Worker : Type 0 where
@@ -7,3 +7,8 @@ pub record Worker : Type 0 where
 -- of the thread that accepts, the moment of its last tick
 pub record Desk : Type 0 where
   pub ticked : ℕ
+
+-- the moment of the last tick after a turn: this one, where fifteen seconds have passed since the one before, and else that
+pub record TicksSo (before now after : ℕ) : Type 0 where
+  pub early : now < before + 15 → after ≡ before
+  pub due : before + 15 ≤ now → after ≡ now

@@ -1,8 +1,9 @@
 // The thread that accepts connections, serves those of the admin socket, and ticks.
 ghost use Rattle.std.specs.Prelude.{◌≡◌, ◌<◌, ◌^◌, IfSome};
-ghost use Rattle.std.specs.Bool.{OnTrue};
+ghost use Rattle.std.specs.Bool.{OnFalse, OnTrue};
 ghost use Rattle.nsc_server.specs.Requests.{TakesRequests};
 ghost use Rattle.nsc_daemon.specs.Ends.{IsToldEnd, StopsSo, TellsEnd};
+ghost use Rattle.nsc_daemon.specs.Workers.{TicksSo};
 
 use crate::ended::Ended;
 use crate::queue::{Waiting, Waitings};
@@ -75,7 +76,8 @@ impl<S: Store + Drop, R: Source + Drop, K: Sink + Drop> Desk<S, R, K> {
         now: u64,
     ) -> bool
         requires { now < 2 ^ 62 }
-        ensures { OnTrue result (IsToldEnd R.left accepted) }
+        ensures told { OnTrue result (IsToldEnd R.left accepted) }
+        ensures ticked { OnFalse result (TicksSo self.old.ticked now self.new.ticked) }
     {
         match accepted {
             Accepted::Quiet => {
@@ -106,7 +108,8 @@ impl<S: Store + Drop, R: Source + Drop, K: Sink + Drop> Desk<S, R, K> {
         now: u64,
     ) -> bool
         requires { now < 2 ^ 62 }
-        ensures { OnTrue result (TellsEnd role (R.left input)) }
+        ensures told { OnTrue result (TellsEnd role (R.left input)) }
+        ensures stays { self.new.ticked ≡ self.old.ticked }
     {
         match role {
             Role::Gate => false,
@@ -134,7 +137,8 @@ impl<S: Store + Drop, R: Source + Drop, K: Sink + Drop> Desk<S, R, K> {
     ) -> bool
         requires role { TakesRequests role }
         requires moment { now < 2 ^ 62 }
-        ensures { OnTrue result (TellsEnd role (R.left input)) }
+        ensures told { OnTrue result (TellsEnd role (R.left input)) }
+        ensures stays { self.new.ticked ≡ self.old.ticked }
     {
         let served = serve_one(
             rt,
@@ -152,6 +156,7 @@ impl<S: Store + Drop, R: Source + Drop, K: Sink + Drop> Desk<S, R, K> {
     // Ticks the databases where the last tick, or the start, is long enough ago. A fault of a tick is passed over.
     fn tick<RT: AllocGlobal + Wait>(&mut self, rt: &RT, now: u64)
         requires { now < 2 ^ 62 }
+        ensures { TicksSo self.old.ticked now self.new.ticked }
     {
         if now < self.ticked.saturating_add(TICK) {
             return;

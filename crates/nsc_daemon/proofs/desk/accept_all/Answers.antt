@@ -10,7 +10,7 @@ pub returns-in_default : goal.returns-in_default
 returns-in_default g c = subst (λ (n : ℕ). Rose n (g.N.Listener.faults c.accept.new.self)) c.loop.invariant.1 c.in_default.ensures.failed
 
 pub returns-then-turn : goal.returns-then-turn
-returns-then-turn g c = (ends_by g.N.In.Source.left (g.N.Listener.given c.args.net.now) (g.N.Listener.given c.loop.net) (g.N.Listener.given c.accept.new.self) c.in-Ok.accepted c.loop.invariant.0 c.in-Ok.ensures.gives c.if-turn.ensures, c.in-Ok.ensures.calm ∙ c.loop.invariant.1)
+returns-then-turn g c = (ends_by g.N.In.Source.left (g.N.Listener.given c.args.net.now) (g.N.Listener.given c.loop.net) (g.N.Listener.given c.accept.new.self) c.in-Ok.accepted c.loop.invariant.0 c.in-Ok.ensures.gives c.if-turn.ensures.told, c.in-Ok.ensures.calm ∙ c.loop.invariant.1)
 
 pub loop-preserved : goal.loop-preserved
 loop-preserved g c = (goes_given g.N.In.Source.left (g.N.Listener.given c.args.net.now) (g.N.Listener.given c.loop.net) (g.N.Listener.given c.accept.new.self) c.in-Ok.accepted c.loop.invariant.0 c.in-Ok.ensures.gives, c.in-Ok.ensures.calm ∙ c.loop.invariant.1)
