@@ -17,7 +17,7 @@ use crate::lines::line_on;
 use crate::names::{NameAt, places_of_name, sorted_names};
 use crate::numbers::{NumberAt, places_of_number, sorted_numbers};
 use crate::places::{add_named, add_numbered, lines_at};
-use crate::signs::{add_sign, add_signs, add_signs_on, sorted_signs};
+use crate::signs::{add_sign, add_signs_on, sorted_signs};
 use nsc_accounts::{GroupAt, NamedId, OnceIds, group_line};
 use nsc_base::{Bytes, Case, Ids, NoMemory, Span, field_at, line_at};
 use std::alloc::Global;
@@ -161,7 +161,7 @@ impl GroupIndex {
     {
         let mut places = Vec::new(alloc);
         self.add_lines_of_id(text, gid, &mut places)?;
-        add_signs(text, &self.signs, &mut places)?;
+        add_named(&self.signs, &mut places)?;
         let lines = lines_at(alloc, text, places)?;
         Ok(lines)
     }
@@ -180,7 +180,7 @@ impl GroupIndex {
         let mut places = Vec::new(alloc);
         let named = places_of_name(text, Case::Counts, &self.members, user);
         add_named(named, &mut places)?;
-        add_signs(text, &self.signs, &mut places)?;
+        add_named(&self.signs, &mut places)?;
         let lines = lines_at(alloc, text, places)?;
         Ok(lines)
     }

@@ -1,6 +1,6 @@
 //! The lines of a passwd or group file that speak by a sign.
 
-ghost use Rattle.std.specs.Prelude.{◌≡◌, ◌≤◌, ◌<◌, ◌^◌, ◌++◌, IfOk, OnOk, length, map, true};
+ghost use Rattle.std.specs.Prelude.{◌≡◌, ◌≤◌, ◌<◌, ◌^◌, ◌++◌, IfOk, OnOk, length, map};
 ghost use Rattle.std.specs.Str.{bytes_eq};
 ghost use Rattle.nsc_model.specs.Compat.{says};
 ghost use Rattle.nsc_compat.specs.Matters.{sign_name, speaks_on};
@@ -46,14 +46,5 @@ pub fn add_signs_on(
     add_named(places_of_name(text, Case::Counts, signs, name), places)?;
     // Those that speak on every name stand under the empty one.
     add_named(places_of_name(text, Case::Counts, signs, b""), places)?;
-    Ok(())
-}
-
-/// Adds the places of all lines that speak by a sign. Fails only for want of memory.
-pub fn add_signs(text: &[u8], signs: &[NameAt], places: &mut Vec<u32>) -> Result<(), NoMemory>
-    requires { IsSignIndex text.now signs.now }
-    ensures { OnOk result (Adds text.now (λ line. speaks_on (λ other. true) (sign_name (says line))) places.old.items places.new.items) }
-{
-    add_named(signs, places)?;
     Ok(())
 }

@@ -14,7 +14,7 @@ use crate::lines::line_on;
 use crate::names::{NameAt, places_of_name, sorted_names};
 use crate::numbers::{NumberAt, places_of_number, sorted_numbers};
 use crate::places::{add_named, add_numbered, lines_at};
-use crate::signs::{add_sign, add_signs, add_signs_on, sorted_signs};
+use crate::signs::{add_sign, add_signs_on, sorted_signs};
 use nsc_accounts::{PasswdAt, passwd_line};
 use nsc_base::{Case, NoMemory, Span, line_at};
 use std::alloc::Global;
@@ -112,7 +112,7 @@ impl UserIndex {
     {
         let mut places = Vec::new(alloc);
         self.add_lines_of_id(text, uid, &mut places)?;
-        add_signs(text, &self.signs, &mut places)?;
+        add_named(&self.signs, &mut places)?;
         let lines = lines_at(alloc, text, places)?;
         Ok(lines)
     }
