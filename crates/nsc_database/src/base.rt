@@ -104,12 +104,7 @@ impl<D: OfDb, F: FileSet + Drop, A: Answerer + Drop, B: Room> Base<D, F, A, B> {
     }
 
     /// Counts a miss, and tries an insertion.
-    pub fn keep<R: Wait>(
-        &self,
-        rt: &R,
-        pass: &mut DbPass<F, B>,
-        loaded: Loaded,
-    ) -> Given
+    pub fn keep<R: Wait>(&self, rt: &R, pass: &mut DbPass<F, B>, loaded: Loaded) -> Given
         requires db { pass.old.db ≡ D.db }
         requires answered { IsAnswered pass.old.pass.seen loaded }
         requires new { loaded.reloads ≡ 0 }

@@ -291,14 +291,7 @@ impl<D: OfDb, B: Room> Desk<D, B> {
         ensures reloaded { Reloaded B.conf.reloads pass.new.pass.seen }
         ensures spent { IfErr result (λ spent. IsUnmoved pass.new.pass.seen spent.count) }
     {
-        renewal::renew(
-            &mut self.writer,
-            &mut pass.pass,
-            epoch,
-            due,
-            loads,
-            now,
-        )
+        renewal::renew(&mut self.writer, &mut pass.pass, epoch, due, loads, now)
     }
 }
 

@@ -17,8 +17,8 @@ use nsc_base::Buf;
 use nsc_model::{Answerer, Kind, Spent, Stats};
 use nsc_outside::FileSet;
 use nsc_rule::Pass;
-use nsc_sourcebook::{Fetched, Polled, SourceBook};
 use nsc_shelf::Hit;
+use nsc_sourcebook::{Fetched, Polled, SourceBook};
 use nsc_writer::{Inserted, Loaded, Writer};
 
 /// What a look for a live entry found.
@@ -94,11 +94,7 @@ pub fn poll<F: FileSet + Drop, A: Answerer>(
 }
 
 /// Counts a miss, and tries an insertion.
-pub fn insert(
-    writer: &mut Writer,
-    pass: &mut Pass,
-    loaded: Loaded,
-) -> (Inserted, Loaded)
+pub fn insert(writer: &mut Writer, pass: &mut Pass, loaded: Loaded) -> (Inserted, Loaded)
     requires table { pass.old.table ≡ writer.old.table }
     requires answered { IsAnswered pass.old.seen loaded }
     requires new { loaded.reloads ≡ 0 }

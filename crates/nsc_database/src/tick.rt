@@ -113,11 +113,7 @@ impl<D: OfDb, F: FileSet + Drop, A: Answerer + Drop, B: Room> Base<D, F, A, B> {
             Ok(loads) => loads,
             Err(_) => return Err(LookupFault::NoMemory),
         };
-        match self
-            .desk
-            .lock(rt)
-            .renew(pass, epoch, &mut due, &loads, now)
-        {
+        match self.desk.lock(rt).renew(pass, epoch, &mut due, &loads, now) {
             Ok(()) => Ok(()),
             Err(spent) => Err(LookupFault::Spent { count: spent.count }),
         }

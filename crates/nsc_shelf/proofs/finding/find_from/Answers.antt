@@ -1,5 +1,4 @@
-use Rattle.std.proofs.Common.{◌≡◌, ℕ, List, length, sym, ap, subst, ◌∙◌, arith}
-use Rattle.nsc_words.specs.declared.node.Placed.{Placed}
+use Rattle.std.proofs.Common.{◌≡◌, ℕ, List, length, sym, ap, subst, arith}
 use Rattle.nsc_words.specs.Laid.{Stands}
 use Rattle.nsc_arena.proofs.Rows.{inside}
 use Rattle.nsc_arena.specs.declared.reading.Head.{Head}

@@ -1,4 +1,4 @@
-use Rattle.std.proofs.Common.{◌≡◌, ◌+◌, ◌<◌, inl, ℕ, List, [], ◌∷◌, ◌∙◌, length, None, Some, ap, refl, rules, subst, sym, arith}
+use Rattle.std.proofs.Common.{◌≡◌, ◌+◌, inl, ℕ, List, ◌∷◌, ◌∙◌, length, Some, ap, refl, rules, subst, sym, arith}
 use Rattle.nsc_model.specs.declared.record.Ending.TheVariants.{Invalidated}
 use Rattle.nsc_model.specs.declared.record.Record.{Record}
 use Rattle.nsc_model.specs.declared.record.Record.TheVariants.{End}

@@ -1,4 +1,4 @@
-use Rattle.std.proofs.Common.{◌≡◌, ◌≤◌, ◌++◌, length, map}
+use Rattle.std.proofs.Common.{◌≡◌, ◌++◌, length, map}
 use Rattle.nsc_model.specs.Entry.{key_limit}
 use Rattle.nsc_model.specs.Machine.{due_of}
 use Rattle.nsc_writer.specs.Due.{due_from}

@@ -1,4 +1,4 @@
-use Rattle.std.proofs.Common.{◌≡◌, ℕ, ◌+◌, ◌<◌, List, slice_index, Option, Some, None, refl, sym, ap, subst, ◌∙◌, arith}
+use Rattle.std.proofs.Common.{◌≡◌, ◌+◌, List, Option, Some, None, refl, sym, ap, subst, ◌∙◌, arith}
 use Rattle.nsc_words.specs.declared.layout.Layout.{Layout}
 use Rattle.nsc_words.specs.declared.node.Placed.{Placed}
 use Rattle.nsc_arena.specs.ReadBack.{nodes_in}
@@ -58,5 +58,5 @@ returns-clause-told c =
     let is : entry_from c.args.number c.args.self.now.entries ≡ Some (kept_in n.0) = sym (ap (λ (s : Shelf). entry_from c.args.number s.entries) c.self.view_is) ∙ entry in
     let said : Option EntryAt = Some (record { number = f.head.number; kind = c.kind_or_any.result; version = f.head.version; timeout = f.head.timeout; reloads = f.head.reloads; not_found = f.head.not_found; next = f.head.number + 1 }) in
     let told : IsTold (Some (kept_in n.0)) said =
-        (λ i. Some (record { number = (head i).number; kind = kind i; version = (head i).version; timeout = (head i).timeout; reloads = (head i).reloads; not_found = (head i).not_found; next = (head i).number + 1 })) in
+    (λ i. Some (record { number = (head i).number; kind = kind i; version = (head i).version; timeout = (head i).timeout; reloads = (head i).reloads; not_found = (head i).not_found; next = (head i).number + 1 })) in
     subst (λ (o : Option Kept). IsTold o said) (sym is) told

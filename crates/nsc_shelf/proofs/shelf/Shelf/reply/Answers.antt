@@ -1,11 +1,10 @@
-use Rattle.std.proofs.Common.{◌≡◌, ℕ, ◌+◌, ◌++◌, List, [], length, Option, Some, None, refl, sym, ap, subst, ◌∙◌, arith}
+use Rattle.std.proofs.Common.{◌≡◌, ℕ, ◌+◌, ◌++◌, List, [], length, sym, ap, subst, ◌∙◌, arith}
 use Rattle.nsc_base.specs.Buf.{Buf}
 use Rattle.nsc_base.specs.Nodes.{words_for}
 use Rattle.nsc_words.specs.declared.layout.Layout.{Layout}
 use Rattle.nsc_words.specs.declared.node.Placed.{Placed}
 use Rattle.nsc_words.specs.Words.{HoldsBytes}
 use Rattle.nsc_arena.specs.ReadBack.{nodes_in}
-use Rattle.nsc_model.specs.Machine.{Kept}
 use Rattle.nsc_shelf.specs.declared.finding.Found.{Found}
 use Rattle.nsc_shelf.specs.Shelf.{Shelf, entry_from, reply_or}
 use Rattle.nsc_shelf.proofs.Found.{found_entry, found_none, remarked, text_of}

@@ -1,8 +1,7 @@
-use Rattle.std.proofs.Common.{◌+◌, List, [], ◌∷◌, ◌∙◌, ap, rules, subst, sym}
+use Rattle.std.proofs.Common.{◌+◌, [], ◌∷◌, ◌∙◌, ap, rules, subst, sym}
 use Rattle.std.specs.Arc.{arc_value}
 use Rattle.nsc_model.specs.declared.record.Record.TheVariants.{Invalid}
 use Rattle.nsc_model.specs.History.{NoneLive}
-use Rattle.nsc_model.specs.Machine.{Kept, by_invalidation, ends_of}
 use Rattle.nsc_rule.specs.Pen.{Pen}
 use Rattle.nsc_shelf.specs.Shelf.{Shelf}
 use Rattle.nsc_writer.specs.Writer.{cache_of}

@@ -1,4 +1,4 @@
-use Rattle.std.proofs.Common.{◌≡◌, ◌+◌, ℕ, length, List, [], ◌∷◌, ◌++◌, ◌∙◌, ap, rules, subst, sym, arith}
+use Rattle.std.proofs.Common.{◌≡◌, ◌+◌, length, [], ◌∷◌, ◌++◌, ◌∙◌, ap, rules, subst, sym, arith}
 use Rattle.std.specs.Arc.{arc_value}
 use Rattle.nsc_base.specs.Nodes.{node_words}
 use Rattle.nsc_model.specs.Entry.{Entry}
@@ -40,10 +40,10 @@ invariant_of-self c =
     let pen = c.insert.ensures ∙ ap (λ (e : Entry). record w.pen { seen = Load e ∷ h }) entry in
     let slice : c.as_slice.result.now ≡ l.request.key = c.as_slice.ensures ∙ key in
     let kept : fresh_entry w.shelf.inserted c.kind-kind.result c.as_slice.result.now c.answer-answer.result.now c.stamp-version.result.version c.timeout-timeout.result c.reloads.result ≡ kept_of l w.shelf.inserted =
-        λ i. fresh_entry w.shelf.inserted (c.kind-kind.ensures i) (slice i) (c.answer-answer.ensures i) ((c.stamp-version.ensures i).version) (c.timeout-timeout.ensures i) (c.reloads.ensures i) in
+    λ i. fresh_entry w.shelf.inserted (c.kind-kind.ensures i) (slice i) (c.answer-answer.ensures i) ((c.stamp-version.ensures i).version) (c.timeout-timeout.ensures i) (c.reloads.ensures i) in
     let words : node_words (length c.as_slice.result.now) (length c.answer-answer.result.now.bytes) ≡ entry_words (kept_of l w.shelf.inserted).entry = λ i. node_words (length (slice i)) (length (c.answer-answer.ensures i).bytes) in
     let shelf : c.put.new.self ≡ record w.shelf { entries = w.shelf.entries ++ kept_of l w.shelf.inserted ∷ []; used = w.shelf.used + entry_words (kept_of l w.shelf.inserted).entry; inserted = w.shelf.inserted + 1 } =
-        c.put.ensures ∙ (λ i. record w.shelf { entries = w.shelf.entries ++ kept i ∷ []; used = w.shelf.used + words i; inserted = w.shelf.inserted + 1 }) in
+    c.put.ensures ∙ (λ i. record w.shelf { entries = w.shelf.entries ++ kept i ∷ []; used = w.shelf.used + words i; inserted = w.shelf.inserted + 1 }) in
     let used = ap (λ (s : Shelf). s.used) shelf in
     let room = free.room in
     (search rules, told_as (arc_value w.content) _ _ _ _ pen shelf told, search rules, omega arith, search rules)
