@@ -1,6 +1,6 @@
 -- Ends of entries keep what holds of a writer while its lock is free.
-use Rattle.std.proofs.Common.{◌≡◌, ℕ, zero, suc, ◌+◌, ◌*◌, ◌≤◌, Bool, true, false, cond, eqb, ◌||◌, ◌⊎◌, not, All, List, [], ◌∷◌, ◌++◌, filter, get_or, length, Option, Some, refl, sym, ap, subst, ◌∙◌, arith, inl, inr}
-use Rattle.std.proofs.lemmas.Bool.{eqb-true, eqb-false, eq-eqb}
+use Rattle.std.proofs.Common.{◌≡◌, ℕ, zero, suc, ◌+◌, ◌*◌, ◌≤◌, Bool, true, false, cond, eqb, ◌||◌, ◌⊎◌, not, All, List, [], ◌∷◌, ◌++◌, filter, get_or, length, Option, refl, sym, ap, subst, ◌∙◌, arith, inl, inr}
+use Rattle.std.proofs.lemmas.Bool.{eq-eqb}
 use Rattle.std.specs.Bool.{OnTrue}
 use Rattle.nsc_model.specs.declared.answer.Request.{Request}
 use Rattle.nsc_model.specs.declared.conf.DbConf.{DbConf}
@@ -10,13 +10,12 @@ use Rattle.nsc_model.specs.declared.record.Record.{Record}
 use Rattle.nsc_model.specs.declared.record.Record.TheVariants.{Change, Poll, Load, End, Invalid}
 use Rattle.nsc_model.specs.Entry.{Entry}
 use Rattle.nsc_model.specs.Live.{Among}
-use Rattle.nsc_model.specs.History.{HasEnd, HasLoad, IsLive, IsPrefix, Legal, changes, load_of}
+use Rattle.nsc_model.specs.History.{HasEnd, HasLoad, IsLive, IsPrefix, changes, load_of}
 use Rattle.nsc_model.specs.Machine.{Kept, Cache, all_words, by_invalidation, ends_of, last_count}
 use Rattle.nsc_model.specs.Reloads.{AreDropped, IsDropped, Reloaded, ends, invalidated_at, replaced}
 use Rattle.nsc_laws.specs.Calls.{Tells, entries_of}
 use Rattle.nsc_laws.proofs.CoreLawRecords.{ended_or_not}
 use Rattle.nsc_laws.proofs.MachineLawEnds.{changes_ends}
-use Rattle.nsc_laws.proofs.MachineLawLists.{same_load}
 use Rattle.nsc_shelf.specs.Shelf.{has_number, is_numbered}
 use Rattle.nsc_writer.specs.Writer.{Writer, emptied_by, without_entry}
 use Rattle.nsc_database.specs.Rests.{IsPacked, IsReloaded, Keeps}
@@ -84,20 +83,6 @@ replaced_rises (Invalid n ∷ more) h request = replaced_rises more h request
 
 pub replaced_on : (a b : List Record) (request : Request) → IsPrefix a b → replaced a request ≤ replaced b request
 replaced_on a b request p = let low = replaced_rises p.0 a request in let same : replaced b request ≡ replaced (p.0 ++ a) request = ap (λ (h : List Record). replaced h request) p.1 in omega arith
-
--- the entry of a number is the one that was inserted with it
-pub load_of_is : (h : List Record) (e : Entry) → Legal h → HasLoad h e → load_of h e.number ≡ Some e
-load_of_is [] e l a = absurd a
-load_of_is (Change v c ∷ []) e l a = absurd a
-load_of_is (Change v c ∷ s ∷ before) e l a = load_of_is (s ∷ before) e l.0 a
-load_of_is (Poll v ∷ before) e l a = load_of_is before e l.0 a
-load_of_is (Load entry ∷ before) e l a = by_test (eqb entry.number e.number) refl a (λ at. load_of_is before e l.0 at) where
-  by_test : (b : Bool) → eqb entry.number e.number ≡ b → HasLoad (Load entry ∷ before) e → (HasLoad before e → load_of before e.number ≡ Some e) → cond b (Some entry) (load_of before e.number) ≡ Some e
-  by_test true same at rest = ap Some (same_load (Load entry ∷ before) entry e l (inl refl) at (eqb-true entry.number e.number same))
-  by_test false apart (inl is) rest = absurd (eqb-false entry.number e.number apart (ap (λ (x : Entry). x.number) is))
-  by_test false apart (inr at) rest = rest at
-load_of_is (End n cause ∷ before) e l a = load_of_is before e l.0 a
-load_of_is (Invalid n ∷ before) e l a = load_of_is before e l.0 a
 
 all_filtered : (P : Kept → Type 0) (test : Kept → Bool) (ks : List Kept) → All P ks → All P (filter test ks)
 all_filtered P test [] all = λ i d low. absurd (omega arith)

@@ -1,13 +1,16 @@
 -- What an invalidation leaves of a writer, with and without its compaction.
 use Rattle.std.proofs.Common.{◌≡◌, ℕ, ◌+◌, ◌≤◌, List, [], ◌∷◌, length, refl, sym, ap, subst, ◌∙◌, arith, inr}
 use Rattle.nsc_model.specs.declared.record.Record.{Record}
-use Rattle.nsc_model.specs.Machine.{Kept, all_words, by_invalidation, last_count}
+use Rattle.nsc_model.specs.Machine.{Kept, all_words, by_invalidation, ends_of, last_count}
 use Rattle.nsc_model.specs.Reloads.{ends}
 use Rattle.nsc_model.specs.Stores.{IsUnmoved}
 use Rattle.nsc_laws.specs.Calls.{Tells}
 use Rattle.nsc_writer.specs.Writer.{Writer, emptied_by}
 use Rattle.nsc_database.specs.Rests.{FindsNewest, IsLeft, IsPacked, Rests}
 use Rattle.nsc_database.specs.Ticks.{compacted_by}
+use Rattle.nsc_model.specs.Stores.{LoadsAgain}
+use Rattle.nsc_model.specs.declared.record.Record.TheVariants.{Invalid}
+use Rattle.nsc_database.proofs.Again.{again_ends, again_more}
 use Rattle.nsc_database.proofs.Shown.{emptied_on}
 use Rattle.nsc_database.proofs.Ended.{ends_through, keeps_compacted, keeps_emptied, keeps_newest, packed_compacted, packed_spent}
 
@@ -15,8 +18,11 @@ use Rattle.nsc_database.proofs.Ended.{ends_through, keeps_compacted, keeps_empti
 left_ends : (w w' : Writer) → w' ≡ emptied_by w → ends w'.seen ≡ ends w.seen + length w.cache.entries
 left_ends w w' is = ap (λ (x : Writer). ends x.seen) is ∙ ends_through by_invalidation w.cache.entries w.seen
 
+again_emptied : (w w' : Writer) → w' ≡ emptied_by w → LoadsAgain w.layout.arena w.seen → LoadsAgain w'.layout.arena w'.seen
+again_emptied w w' is l = subst (λ (x : Writer). LoadsAgain x.layout.arena x.seen) (sym is) (again_more w.layout.arena (Invalid (w.cache.epoch + 1)) (ends_of by_invalidation w.cache.entries w.seen) tt (again_ends w.layout.arena w.cache.entries w.seen l))
+
 rests_from : (w w' : Writer) → w' ≡ emptied_by w → Tells w.seen w.cache → (IsPacked w → IsPacked w') → Rests w w'
-rests_from w w' is t packed = let on = emptied_on w w' is in record { on = on.on; table = on.table; layout = on.layout; keeps = λ settings limit ticked k. keeps_emptied settings limit ticked w w' is t k; packed = packed }
+rests_from w w' is t packed = let on = emptied_on w w' is in record { on = on.on; table = on.table; layout = on.layout; keeps = λ settings limit ticked k. keeps_emptied settings limit ticked w w' is t k; packed = packed; again = again_emptied w w' is }
 
 no_entries : (ks : List Kept) → length ks ≡ 0 → ks ≡ []
 no_entries [] e = refl
@@ -41,6 +47,7 @@ rests_compacted w w' w'' shown l some is =
       keeps = λ settings limit ticked k. keeps_compacted settings limit ticked (all_words w'.cache.entries) (w'.cache.cycle + 2) w' (compacted_by w') refl (keeps_emptied settings limit ticked w w' l.emptied l.told k);
       packed = λ p. packed_compacted w' (compacted_by w') refl
           (let more = left_ends w w' l.emptied in let low = p.cycles in let cycle : w'.cache.cycle ≡ w.cache.cycle = ap (λ (x : Writer). x.cache.cycle) l.emptied in omega arith);
+      again = again_emptied w w' l.emptied;
     })
 
 -- where the count of compactions stands at its end

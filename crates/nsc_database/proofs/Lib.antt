@@ -9,3 +9,5 @@ pub mod Listed
 pub mod Renewed
 pub mod Ticked
 pub mod Crossing
+pub mod Again
+pub mod Reloading

@@ -20,7 +20,8 @@ use Rattle.nsc_writer.proofs.Pruned.{head_of, over_allows, tail_of}
 use Rattle.nsc_writer.proofs.Told.{ended_tells}
 use Rattle.nsc_database.specs.Rests.{Keeps}
 use Rattle.nsc_database.specs.Ticks.{AreAnew, HasNumber, IsDue, IsRenewed, ended_of}
-use Rattle.nsc_database.proofs.Ended.{IsRight, gone_ended, keeps_ended, load_of_is, replaced_on}
+use Rattle.nsc_database.proofs.Again.{load_of_is}
+use Rattle.nsc_database.proofs.Ended.{IsRight, gone_ended, keeps_ended, replaced_on}
 
 -- what is due stays so as the history goes on
 due_on : (limit : Option ℕ) (now : ℕ) (a b : List Record) (d : Due) → IsPrefix a b → IsDue limit now a d → IsDue limit now b d
@@ -78,7 +79,7 @@ due_over : (limit : Option ℕ) (now : ℕ) (h : List Record) (d : Due) → Lega
 due_over limit now h d legal due e live number = over_allows h now d legal (due.entry, due.inserted, due.numbered, due.over) e live number
 
 -- one of them ended, where it was live
-one_leaves : (settings : DbConf) (limit : Option ℕ) (now ticked : ℕ) (d : Due) (w : Writer) → IsDue limit now w.seen d → Tells w.seen w.cache → Keeps settings limit ticked w → Leaves settings limit ticked (d ∷ []) w (pruned_one now d w)
+pub one_leaves : (settings : DbConf) (limit : Option ℕ) (now ticked : ℕ) (d : Due) (w : Writer) → IsDue limit now w.seen d → Tells w.seen w.cache → Keeps settings limit ticked w → Leaves settings limit ticked (d ∷ []) w (pruned_one now d w)
 one_leaves settings limit now ticked d w due t k = by_live (has_number d.number w.cache.entries) refl where
   cause : Ending
   cause = ending_of (due_cause_of now d)

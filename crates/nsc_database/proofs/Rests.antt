@@ -22,7 +22,10 @@ use Rattle.nsc_writer.specs.Loaded.{Loaded, kept_of}
 use Rattle.nsc_writer.specs.Writer.{Writer, Inserts, Polls, with_entry}
 use Rattle.nsc_writer.specs.declared.uses.Uses.{Uses}
 use Rattle.nsc_writer.proofs.Later.{prefix_through}
+use Rattle.nsc_model.specs.Stores.{LoadsAgain}
+use Rattle.nsc_words.specs.declared.layout.Layout.{Layout}
 use Rattle.nsc_database.specs.Rests.{IsPacked, IsReloaded, Keeps, Rests}
+use Rattle.nsc_database.proofs.Again.{again_more}
 
 -- ---- versions of a legal history
 
@@ -89,15 +92,16 @@ pub record AddsNone (h h' : List Record) : Type 0 where
   pub replaced_is : (request : Request) → replaced h' request ≡ replaced h request
   pub invalidated_is : invalidated_at h' ≡ invalidated_at h
   pub ends_are : ends h' ≡ ends h
+  pub again : (arena : ℕ) → LoadsAgain arena h → LoadsAgain arena h'
 
 poll_adds_none : (v : ℕ) (h : List Record) → AddsNone h (Poll v ∷ h)
-poll_adds_none v h = record { reloaded = λ limit r. record { dropped = r.dropped; invalidated = r.invalidated }; replaced_is = λ request. refl; invalidated_is = refl; ends_are = refl }
+poll_adds_none v h = record { reloaded = λ limit r. record { dropped = r.dropped; invalidated = r.invalidated }; replaced_is = λ request. refl; invalidated_is = refl; ends_are = refl; again = λ arena l. again_more arena (Poll v) h tt l }
 
 change_adds_none : (v : ℕ) (c : Content) (h : List Record) → AddsNone h (Change v c ∷ h)
-change_adds_none v c h = record { reloaded = λ limit r. record { dropped = r.dropped; invalidated = r.invalidated }; replaced_is = λ request. refl; invalidated_is = refl; ends_are = refl }
+change_adds_none v c h = record { reloaded = λ limit r. record { dropped = r.dropped; invalidated = r.invalidated }; replaced_is = λ request. refl; invalidated_is = refl; ends_are = refl; again = λ arena l. again_more arena (Change v c) h tt l }
 
 load_adds_none : (e : Entry) (h : List Record) → AddsNone h (Load e ∷ h)
-load_adds_none e h = record { reloaded = λ limit r. record { dropped = r.dropped; invalidated = r.invalidated }; replaced_is = λ request. refl; invalidated_is = refl; ends_are = refl }
+load_adds_none e h = record { reloaded = λ limit r. record { dropped = r.dropped; invalidated = r.invalidated }; replaced_is = λ request. refl; invalidated_is = refl; ends_are = refl; again = λ arena l. again_more arena (Load e) h tt l }
 
 -- a writer with such a history, and the same entries in as many words
 pub keeps_with : (settings : DbConf) (limit : Option ℕ) (ticked : ℕ) (w w' : Writer) → AddsNone w.seen w'.seen → w'.cache.entries ≡ w.cache.entries → Keeps settings limit ticked w → Keeps settings limit ticked w'
@@ -218,10 +222,18 @@ packed_insert (inserted.Present number) loaded w w' i p = subst IsPacked (sym i.
 packed_insert (inserted.Spent count) loaded w w' i p = subst IsPacked (sym i.1) p
 packed_insert (inserted.Full need free) loaded w w' i p = subst IsPacked (sym i.1) (record { taken = p.taken; cycles = p.cycles })
 
+again_insert : (said : Inserted) (loaded : Loaded) (w w' : Writer) → Inserts said loaded w w' → LoadsAgain w.layout.arena w.seen → LoadsAgain w'.layout.arena w'.seen
+again_insert (inserted.Done number) loaded w w' i l = subst (λ (x : Writer). LoadsAgain x.layout.arena x.seen) (sym i.2) (again_more w.layout.arena (Load (kept_of loaded w.cache.inserted).entry) w.seen tt l)
+again_insert (inserted.TooLarge size) loaded w w' i l = subst (λ (x : Writer). LoadsAgain x.layout.arena x.seen) (sym i.1) l
+again_insert (inserted.Discarded noted epoch) loaded w w' i l = subst (λ (x : Writer). LoadsAgain x.layout.arena x.seen) (sym i.1) l
+again_insert (inserted.Present number) loaded w w' i l = subst (λ (x : Writer). LoadsAgain x.layout.arena x.seen) (sym i.1) l
+again_insert (inserted.Spent count) loaded w w' i l = subst (λ (x : Writer). LoadsAgain x.layout.arena x.seen) (sym i.1) l
+again_insert (inserted.Full need free) loaded w w' i l = subst (λ (x : Writer). LoadsAgain x.layout.arena x.seen) (sym i.1) l
+
 -- ---- whole calls
 
 pub rests_same : (w w' : Writer) → w' ≡ w → Rests w w'
-rests_same w w' is = subst (Rests w) (sym is) (record { on = ([], refl); table = refl; layout = refl; keeps = λ settings limit ticked k. k; packed = λ p. p })
+rests_same w w' is = subst (Rests w) (sym is) (record { on = ([], refl); table = refl; layout = refl; keeps = λ settings limit ticked k. k; packed = λ p. p; again = λ l. l })
 
 pub rests_through : (a b c : Writer) → Rests a b → Rests b c → Rests a c
 rests_through a b c r s = record {
@@ -230,10 +242,11 @@ rests_through a b c r s = record {
   layout = s.layout ∙ r.layout;
   keeps = λ settings limit ticked k. s.keeps settings limit ticked (r.keeps settings limit ticked k);
   packed = λ p. s.packed (r.packed p);
+  again = λ l. s.again (r.again l);
 }
 
 pub rests_missed : (m : Uses) (w w' : Writer) → w' ≡ record w { misses = m } → Rests w w'
-rests_missed m w w' is = subst (Rests w) (sym is) (record { on = ([], refl); table = refl; layout = refl; keeps = λ settings limit ticked k. record { reloaded = k.reloaded; counted = k.counted; found = k.found }; packed = λ p. record { taken = p.taken; cycles = p.cycles } })
+rests_missed m w w' is = subst (Rests w) (sym is) (record { on = ([], refl); table = refl; layout = refl; keeps = λ settings limit ticked k. record { reloaded = k.reloaded; counted = k.counted; found = k.found }; packed = λ p. record { taken = p.taken; cycles = p.cycles }; again = λ l. l })
 
 pub rests_used : (request : Request) (hits : Uses) (w w' : Writer) → w' ≡ record w { cache = record w.cache { entries = used_now request w.cache.entries }; hits = hits } → Rests w w'
 rests_used request hits w w' is = subst (Rests w) (sym is) (record {
@@ -242,13 +255,14 @@ rests_used request hits w w' is = subst (Rests w) (sym is) (record {
   layout = refl;
   keeps = λ settings limit ticked k. let u = keeps_used settings limit ticked request w k in record { reloaded = u.reloaded; counted = u.counted; found = u.found };
   packed = λ p. let u = packed_used request w p in record { taken = u.taken; cycles = u.cycles };
+  again = λ l. l;
 })
 
 pub rests_polled : (files : Content) (epoch : ℕ) (w w' : Writer) (stamp : Stamp) → IsPrefix w.seen w'.seen → w'.table ≡ w.table → Polls (polled files w.cache) epoch w w' (Ok stamp) → Rests w w'
 rests_polled files epoch w w' stamp on table p =
     let s = polls_stay files epoch w w' stamp p in
-    record { on = on; table = table; layout = s.layout; keeps = λ settings limit ticked k. keeps_stays settings limit ticked w w' s k; packed = λ q. packed_stays w w' s q }
+    record { on = on; table = table; layout = s.layout; keeps = λ settings limit ticked k. keeps_stays settings limit ticked w w' s k; packed = λ q. packed_stays w w' s q; again = λ l. subst (λ (n : ℕ). LoadsAgain n w'.seen) (sym (ap (λ (x : Layout). x.arena) s.layout)) (s.adds.again w.layout.arena l) }
 
 pub rests_inserted : (said : Inserted) (loaded : Loaded) (w w' : Writer) → IsPrefix w.seen w'.seen → w'.table ≡ w.table → w'.layout ≡ w.layout → Inserts said loaded w w' → loaded.reloads ≤ replaced w.seen loaded.request → Rests w w'
 rests_inserted said loaded w w' on table layout i low =
-    record { on = on; table = table; layout = layout; keeps = λ settings limit ticked k. keeps_insert settings limit ticked said loaded w w' i low k; packed = λ q. packed_insert said loaded w w' i q }
+    record { on = on; table = table; layout = layout; keeps = λ settings limit ticked k. keeps_insert settings limit ticked said loaded w w' i low k; packed = λ q. packed_insert said loaded w w' i q; again = λ l. again_insert said loaded w w' i l }

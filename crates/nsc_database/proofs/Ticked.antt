@@ -9,7 +9,8 @@ use Rattle.nsc_model.specs.declared.record.Record.TheVariants.{Change, Poll, Loa
 use Rattle.nsc_model.specs.Entry.{Entry}
 use Rattle.nsc_model.specs.History.{HasEnd, HasLoad, IsPrefix, Legal, LookedBetween, NoneLive, PolledSince, changes, invalidations, version_in}
 use Rattle.nsc_model.specs.Reloads.{Reloaded}
-use Rattle.nsc_model.specs.Stores.{IsTicked}
+use Rattle.nsc_model.specs.Stores.{IsTicked, LoadsAgain}
+use Rattle.nsc_model.specs.Machine.{room_of}
 use Rattle.nsc_laws.proofs.CoreLawRecords.{ended_or_not}
 use Rattle.nsc_laws.proofs.Prefixes.{more_after, prefix_legal}
 use Rattle.nsc_writer.specs.Due.{Due}
@@ -75,9 +76,9 @@ looked_at seen noted mid after last epoch polled t p =
 seen_on : (seen noted mid after : List Record) (epoch : ℕ) (polled : Polled) → Ticking seen noted mid after epoch polled → IsPrefix seen after
 seen_on seen noted mid after epoch polled t = prefix_through seen noted after t.before (prefix_through noted mid after t.to_mid t.to_after)
 
-pub emptied_ticked : (settings : DbConf) (limit : Option ℕ) (now : ℕ) (seen noted mid after : List Record) (epoch : ℕ) (polled : Polled) → Ticking seen noted mid after epoch polled → NoneLive after → Reloaded limit after
+pub emptied_ticked : (settings : DbConf) (limit : Option ℕ) (now : ℕ) (seen noted mid after : List Record) (epoch : ℕ) (polled : Polled) → Ticking seen noted mid after epoch polled → NoneLive after → Reloaded limit after → LoadsAgain (room_of settings) after
     → IsTicked settings limit now seen after
-emptied_ticked settings limit now seen noted mid after epoch polled t none r =
+emptied_ticked settings limit now seen noted mid after epoch polled t none r l =
     let on = seen_on seen noted mid after epoch polled t in
     record {
       version = polled.stamp.version;
@@ -85,6 +86,7 @@ emptied_ticked settings limit now seen noted mid after epoch polled t none r =
       over = λ e a low. none e (load_on seen after e on a);
       outdated = OnTrue_from settings.check_files _ (λ on' e a other. none e (load_on seen after e on a));
       reloaded = r;
+      again = l;
     }
 
 -- an entry that had been seen is over the version that was polled, where it is live and each live entry is over the newest version
@@ -98,8 +100,8 @@ over_polled seen noted mid after epoch polled e t a high =
     omega arith
 
 pub listed_ticked : (settings : DbConf) (limit : Option ℕ) (now : ℕ) (seen noted mid after last : List Record) (epoch : ℕ) (polled : Polled) (due : List Due) → Ticking seen noted mid after epoch polled → AreListed settings limit now after due → IsPrefix after last → Legal last
-    → AreOver epoch last due → Reloaded limit last → IsTicked settings limit now seen last
-listed_ticked settings limit now seen noted mid after last epoch polled due t listed p legal over r = by_over over where
+    → AreOver epoch last due → Reloaded limit last → LoadsAgain (room_of settings) last → IsTicked settings limit now seen last
+listed_ticked settings limit now seen noted mid after last epoch polled due t listed p legal over r l = by_over over where
   on : IsPrefix seen after
   on = seen_on seen noted mid after epoch polled t
 
@@ -108,7 +110,7 @@ listed_ticked settings limit now seen noted mid after last epoch polled due t li
       let to_last = prefix_through noted mid last t.to_mid (prefix_through mid after last t.to_after p) in
       let rose : invalidations noted < invalidations last = (let same = t.epoch_is in omega arith) in
       let ended : (e : Entry) → HasLoad seen e → HasEnd last e.number = λ e a. ended_by noted last e legal to_last rose (load_on seen noted e t.before a) in
-      record { version = polled.stamp.version; looked = looked_at seen noted mid after last epoch polled t p; over = λ e a low. ended e a; outdated = OnTrue_from settings.check_files _ (λ on' e a other. ended e a); reloaded = r }
+      record { version = polled.stamp.version; looked = looked_at seen noted mid after last epoch polled t p; over = λ e a low. ended e a; outdated = OnTrue_from settings.check_files _ (λ on' e a other. ended e a); reloaded = r; again = l }
   by_over (inr gone) = record {
     version = polled.stamp.version;
     looked = looked_at seen noted mid after last epoch polled t p;
@@ -118,6 +120,7 @@ listed_ticked settings limit now seen noted mid after last epoch polled due t li
       | inr lives ↦ absurd (other (over_polled seen noted mid after epoch polled e t a (OnTrue_at on' listed.current e (record { inserted = load_on seen after e on a; not_ended = lives }))))
     ]);
     reloaded = r;
+    again = l;
   }
 
 -- a tick over files, of which it is known what was read
@@ -133,23 +136,23 @@ over_files which reads latest settings limit now seen noted mid after last epoch
 }
 
 pub emptied_over : {Files : Type 0} (which : Db) (reads : Files → FileId → ℕ) (latest : Files → FileId → Option (Option (List ℕ))) (settings : DbConf) (limit : Option ℕ) (now : ℕ) (seen noted mid after : List Record) (epoch : ℕ) (polled : Polled) (f0 f1 f2 f3 : Files)
-    → Ticking seen noted mid after epoch polled → f1 ≡ f0 → f3 ≡ f2 → AllRose which (reads f1) (reads f2) → AreAsTold which (latest f2) polled.content → NoneLive after → Reloaded limit after → IsTickedOver which (reads f0) (reads f3) (latest f3) settings limit now seen after
+    → Ticking seen noted mid after epoch polled → f1 ≡ f0 → f3 ≡ f2 → AllRose which (reads f1) (reads f2) → AreAsTold which (latest f2) polled.content → NoneLive after → Reloaded limit after → LoadsAgain (room_of settings) after → IsTickedOver which (reads f0) (reads f3) (latest f3) settings limit now seen after
 unfolding emptied_ticked
-emptied_over which reads latest settings limit now seen noted mid after epoch polled f0 f1 f2 f3 t first same rose told none r =
-    over_files which reads latest settings limit now seen noted mid after after epoch polled f0 f1 f2 f3 t ([], refl) t.legal_after first same rose told (emptied_ticked settings limit now seen noted mid after epoch polled t none r) refl
+emptied_over which reads latest settings limit now seen noted mid after epoch polled f0 f1 f2 f3 t first same rose told none r l =
+    over_files which reads latest settings limit now seen noted mid after after epoch polled f0 f1 f2 f3 t ([], refl) t.legal_after first same rose told (emptied_ticked settings limit now seen noted mid after epoch polled t none r l) refl
 
 listed_version : (settings : DbConf) (limit : Option ℕ) (now : ℕ) (seen noted mid after last : List Record) (epoch : ℕ) (polled : Polled) (due : List Due) (t : Ticking seen noted mid after epoch polled) (listed : AreListed settings limit now after due) (p : IsPrefix after last) (legal : Legal last)
-    (over : AreOver epoch last due) (r : Reloaded limit last) → (listed_ticked settings limit now seen noted mid after last epoch polled due t listed p legal over r).version ≡ polled.stamp.version
+    (over : AreOver epoch last due) (r : Reloaded limit last) (l : LoadsAgain (room_of settings) last) → (listed_ticked settings limit now seen noted mid after last epoch polled due t listed p legal over r l).version ≡ polled.stamp.version
 unfolding listed_ticked
-listed_version settings limit now seen noted mid after last epoch polled due t listed p legal (inl more) r = refl
-listed_version settings limit now seen noted mid after last epoch polled due t listed p legal (inr gone) r = refl
+listed_version settings limit now seen noted mid after last epoch polled due t listed p legal (inl more) r l = refl
+listed_version settings limit now seen noted mid after last epoch polled due t listed p legal (inr gone) r l = refl
 
 pub listed_over : {Files : Type 0} (which : Db) (reads : Files → FileId → ℕ) (latest : Files → FileId → Option (Option (List ℕ))) (settings : DbConf) (limit : Option ℕ) (now : ℕ) (seen noted mid after last : List Record) (epoch : ℕ) (polled : Polled) (due : List Due) (f0 f1 f2 f3 : Files)
-    → Ticking seen noted mid after epoch polled → f1 ≡ f0 → f3 ≡ f2 → AllRose which (reads f1) (reads f2) → AreAsTold which (latest f2) polled.content → AreListed settings limit now after due → IsPrefix after last → Legal last → AreOver epoch last due → Reloaded limit last
+    → Ticking seen noted mid after epoch polled → f1 ≡ f0 → f3 ≡ f2 → AllRose which (reads f1) (reads f2) → AreAsTold which (latest f2) polled.content → AreListed settings limit now after due → IsPrefix after last → Legal last → AreOver epoch last due → Reloaded limit last → LoadsAgain (room_of settings) last
     → IsTickedOver which (reads f0) (reads f3) (latest f3) settings limit now seen last
-listed_over which reads latest settings limit now seen noted mid after last epoch polled due f0 f1 f2 f3 t first same rose told listed p legal over r =
-    over_files which reads latest settings limit now seen noted mid after last epoch polled f0 f1 f2 f3 t p legal first same rose told (listed_ticked settings limit now seen noted mid after last epoch polled due t listed p legal over r)
-    (listed_version settings limit now seen noted mid after last epoch polled due t listed p legal over r)
+listed_over which reads latest settings limit now seen noted mid after last epoch polled due f0 f1 f2 f3 t first same rose told listed p legal over r l =
+    over_files which reads latest settings limit now seen noted mid after last epoch polled f0 f1 f2 f3 t p legal first same rose told (listed_ticked settings limit now seen noted mid after last epoch polled due t listed p legal over r l)
+    (listed_version settings limit now seen noted mid after last epoch polled due t listed p legal over r l)
 
 pub noted_low : (seen noted mid after : List Record) (epoch : ℕ) (polled : Polled) → Ticking seen noted mid after epoch polled → epoch ≤ invalidations after
 noted_low seen noted mid after epoch polled t = let same = t.epoch_is in let rise = invalidations_on noted after (prefix_through noted mid after t.to_mid t.to_after) in omega arith

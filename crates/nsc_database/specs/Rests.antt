@@ -9,6 +9,7 @@ use Rattle.nsc_model.specs.Entry.{Entry}
 use Rattle.nsc_model.specs.History.{IsLive, IsPrefix, changes}
 use Rattle.nsc_model.specs.Machine.{Kept, all_words, last_count, new_cache}
 use Rattle.nsc_model.specs.Reloads.{Reloaded, ends, invalidated_at, replaced}
+use Rattle.nsc_model.specs.Stores.{LoadsAgain}
 use Rattle.nsc_laws.specs.Calls.{Tells}
 use Rattle.nsc_writer.specs.Writer.{Writer, emptied_by}
 
@@ -46,6 +47,7 @@ pub record Rests (w w' : Writer) : Type 0 where
   pub layout : w'.layout ≡ w.layout
   pub keeps : (settings : DbConf) (limit : Option ℕ) (ticked : ℕ) → Keeps settings limit ticked w → Keeps settings limit ticked w'
   pub packed : IsPacked w → IsPacked w'
+  pub again : LoadsAgain w.layout.arena w.seen → LoadsAgain w'.layout.arena w'.seen
 
 -- the newest version is known to be there when the database was last invalidated, where changes of the files count
 abbrev pub FindsNewest : Writer → Writer → Type 0

@@ -4,16 +4,19 @@ use Rattle.std.specs.Bool.{OnTrue}
 use Rattle.nsc_model.specs.declared.conf.DbConf.{DbConf}
 use Rattle.nsc_model.specs.declared.kind.Db.{Db}
 use Rattle.nsc_model.specs.declared.kind.FileId.{FileId}
+use Rattle.nsc_model.specs.declared.answer.Request.{Request}
+use Rattle.nsc_model.specs.declared.record.Ending.TheVariants.{Replaced}
 use Rattle.nsc_model.specs.declared.record.Record.{Record}
+use Rattle.nsc_model.specs.declared.record.Record.TheVariants.{End}
 use Rattle.nsc_model.specs.declared.store.LookupFault.{LookupFault}
 use Rattle.nsc_model.specs.declared.store.LookupFault.TheVariants as fault
 use Rattle.nsc_model.specs.Content.{Content}
 use Rattle.nsc_model.specs.Entry.{Entry}
-use Rattle.nsc_model.specs.History.{HasEnd, HasLoad, NoneLive, invalidations, version_in}
+use Rattle.nsc_model.specs.History.{HasEnd, HasLoad, IsPrefix, NoneLive, invalidations, load_of, version_in}
 use Rattle.nsc_model.specs.Answers.{answer_of}
 use Rattle.nsc_model.specs.Machine.{all_words, is_outdated, life_of, next_reloads}
 use Rattle.nsc_model.specs.Reloads.{replaced}
-use Rattle.nsc_model.specs.Stores.{IsTicked, IsUnmoved}
+use Rattle.nsc_model.specs.Stores.{IsLoadedAgain, IsTicked, IsUnmoved, MayBeUnmoved}
 use Rattle.nsc_sourcebook.specs.Book.{Polled}
 use Rattle.nsc_sourcebook.specs.Reads.{AllRose, AreAsTold}
 use Rattle.nsc_writer.specs.Due.{Due, marked_by, pruned_by}
@@ -64,9 +67,10 @@ IsHoldFault (fault.Spent count) after = IsUnmoved after count
 IsHoldFault (fault.SourceFault file) after = ⊥
 IsHoldFault (fault.TooLong file size) after = ⊥
 
--- what is to be loaded again for those that are due, one for each: nothing, or the answer to its request with one reload more
+-- what is to be loaded again for those that are due, one for each: nothing for one that is dropped, or the answer to its request with
+-- one reload more
 abbrev pub IsAnew : List Record → Due → Option Loaded → Type 0
-IsAnew history d None = Unit {0}
+IsAnew history d None = d.dropped ≡ true
 IsAnew history d (Some l) = (d.dropped ≡ false) × (l.request ≡ d.request) × (l.reloads ≤ d.reloads + 1) × IsAnswered history l
 
 abbrev pub AreAnew : List Record → List Due → List (Option Loaded) → Type 0
@@ -74,6 +78,24 @@ AreAnew history [] [] = Unit {0}
 AreAnew history [] (load ∷ loads) = ⊥
 AreAnew history (d ∷ due) [] = ⊥
 AreAnew history (d ∷ due) (load ∷ loads) = IsAnew history d load × AreAnew history due loads
+
+-- each was polled after so many invalidations
+abbrev pub HaveStamp : ℕ → List (Option Loaded) → Type 0
+HaveStamp epoch [] = Unit {0}
+HaveStamp epoch (None ∷ loads) = HaveStamp epoch loads
+HaveStamp epoch (Some l ∷ loads) = (l.stamp.epoch ≡ epoch) × HaveStamp epoch loads
+
+-- the request of one of them, which ended to be loaded again
+abbrev pub IsPending : List Due → Request → Type 0
+IsPending [] request = ⊥
+IsPending (d ∷ due) request = ((d.ended ≡ true) × (d.dropped ≡ false) × (d.request ≡ request)) ⊎ IsPending due request
+
+-- of each entry that ended to be loaded again this is known, or its request is one of these
+abbrev pub AreLoadedBut : ℕ → (Request → Type 0) → List Record → Type 0
+AreLoadedBut arena those history = (number : ℕ) (before : List Record) (e : Entry) → IsPrefix (End number Replaced ∷ before) history → load_of before number ≡ Some e → IsLoadedAgain arena (End number Replaced ∷ before) e.request history ⊎ those e.request
+
+abbrev pub LoadsBut : ℕ → (Request → Type 0) → List Record → Type 0
+LoadsBut arena those history = AreLoadedBut arena those history ⊎ MayBeUnmoved history
 
 -- it is ended to be loaded again, and counted as such
 abbrev pub IsRenewed : List Record → Due → Type 0

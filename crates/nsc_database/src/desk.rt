@@ -8,12 +8,12 @@ ghost use Rattle.nsc_sourcebook.specs.Reads.{AllRose, AreAsTold, FaultRose, IsPa
 ghost use Rattle.nsc_model.specs.Machine.{is_outdated, room_of};
 ghost use Rattle.nsc_model.specs.Reloads.{Reloaded};
 ghost use Rattle.nsc_model.specs.Settings.{settings_of};
-ghost use Rattle.nsc_model.specs.Stores.{IsCounted, IsEmptied, IsSpent, IsUnmoved};
+ghost use Rattle.nsc_model.specs.Stores.{IsCounted, IsEmptied, IsSpent, IsUnmoved, LoadsAgain};
 ghost use Rattle.nsc_writer.specs.Uses.{counted};
 ghost use Rattle.nsc_database.specs.declared.renewal.Checked.TheVariants as is_checked;
 ghost use Rattle.nsc_database.specs.Holds.{IsInserted, IsLooked, IsPolled};
 ghost use Rattle.nsc_database.specs.Steady.{IsPart, IsSteady};
-ghost use Rattle.nsc_database.specs.Ticks.{AreAnew, AreOver, IsChecked, IsDue, IsHoldFault};
+ghost use Rattle.nsc_database.specs.Ticks.{AreAnew, AreOver, HaveStamp, IsChecked, IsDue, IsHoldFault};
 
 use crate::holds::Looked;
 use crate::pass::DbPass;
@@ -43,12 +43,13 @@ impl<D: OfDb, B: Room> Model for Desk<D, B> {
     ghost use Rattle.nsc_model.specs.Settings.{settings_of};
     ghost use Rattle.nsc_database.specs.Rests.{Desk, IsPacked, Keeps};
     ghost use Rattle.nsc_database.specs.Steady.{StaysStill};
+    ghost use Rattle.nsc_model.specs.Stores.{LoadsAgain};
 
     ghost Value = { Desk };
 
     ghost view = { λ d. record { writer = d.writer; ticked = d.ticked } };
 
-    ghost invariant = { λ d. Keeps (settings_of B.conf D.db) B.conf.reloads d.ticked d.writer × IsPacked d.writer × StaysStill B.held D.db d.writer.cache };
+    ghost invariant = { λ d. Keeps (settings_of B.conf D.db) B.conf.reloads d.ticked d.writer × IsPacked d.writer × StaysStill B.held D.db d.writer.cache × LoadsAgain d.writer.layout.arena d.writer.seen };
 }
 
 /// Its source book.
@@ -204,6 +205,7 @@ impl<D: OfDb, B: Room> Desk<D, B> {
         ensures legal { Legal pass.new.pass.seen }
         ensures checked { IfOk result (λ checked. IsChecked checked settings.now limit now pass.new.pass.seen) }
         ensures reloaded { OnOk result (Reloaded limit pass.new.pass.seen) }
+        ensures again { OnOk result (LoadsAgain (room_of (settings_of B.conf D.db)) pass.new.pass.seen) }
         ensures fault { IfErr result (λ fault. IsHoldFault fault pass.new.pass.seen) }
     {
         let newest = self.writer.version();
@@ -232,6 +234,7 @@ impl<D: OfDb, B: Room> Desk<D, B> {
         ensures legal { Legal pass.new.pass.seen }
         ensures checked { IfOk result (λ checked. IsChecked checked (settings_of B.conf D.db) limit now pass.new.pass.seen) }
         ensures reloaded { Reloaded limit pass.new.pass.seen }
+        ensures again { LoadsAgain (room_of (settings_of B.conf D.db)) pass.new.pass.seen }
         ensures fault { IfErr result (λ fault. IsHoldFault fault pass.new.pass.seen) }
     {
         let listed = renewal::list(&mut self.writer, &mut pass.pass, alloc, limit, now);
@@ -257,6 +260,7 @@ impl<D: OfDb, B: Room> Desk<D, B> {
         ensures emptied { IfOk result (λ checked. checked ≡ is_checked.Emptied) }
         ensures none { OnOk result (NoneLive pass.new.pass.seen) }
         ensures reloaded { OnOk result (Reloaded B.conf.reloads pass.new.pass.seen) }
+        ensures again { OnOk result (LoadsAgain (room_of (settings_of B.conf D.db)) pass.new.pass.seen) }
         ensures fault { IfErr result (λ fault. IsHoldFault fault pass.new.pass.seen) }
     {
         match holds::invalidate(&mut self.writer, &mut pass.pass) {
@@ -283,12 +287,14 @@ impl<D: OfDb, B: Room> Desk<D, B> {
         requires noted { epoch ≤ invalidations pass.old.pass.seen }
         requires due { All (IsDue B.conf.reloads now pass.old.pass.seen) due.old }
         requires loads { AreAnew pass.old.pass.seen due.old loads.now }
+        requires stamps { HaveStamp epoch loads.now }
         ensures db { pass.new.db ≡ pass.old.db }
         ensures files { pass.new.files ≡ pass.old.files }
         ensures before { IsPrefix pass.old.pass.seen pass.new.pass.seen }
         ensures legal { Legal pass.new.pass.seen }
         ensures over { OnOk result (AreOver epoch pass.new.pass.seen due.old) }
         ensures reloaded { Reloaded B.conf.reloads pass.new.pass.seen }
+        ensures again { LoadsAgain (room_of (settings_of B.conf D.db)) pass.new.pass.seen }
         ensures spent { IfErr result (λ spent. IsUnmoved pass.new.pass.seen spent.count) }
     {
         renewal::renew(&mut self.writer, &mut pass.pass, epoch, due, loads, now)

@@ -4,13 +4,13 @@ ghost use Rattle.nsc_model.specs.declared.conf.DbConf.{DbConf};
 ghost use Rattle.nsc_model.specs.Entry.{Entry};
 ghost use Rattle.nsc_model.specs.History.{IsPrefix, Legal, invalidations};
 ghost use Rattle.nsc_model.specs.Machine.{last_count};
-ghost use Rattle.nsc_model.specs.Stores.{IsUnmoved};
+ghost use Rattle.nsc_model.specs.Stores.{IsUnmoved, LoadsAgain};
 ghost use Rattle.nsc_writer.specs.Due.{IsOver, marked_by, pruned_by};
 ghost use Rattle.nsc_model.specs.Content.{Content};
 ghost use Rattle.nsc_model.specs.declared.kind.Db.{Db};
 ghost use Rattle.nsc_database.specs.Rests.{IsPacked, Keeps, Rests};
 ghost use Rattle.nsc_database.specs.Steady.{HasOne, IsStill, KeepsVersion};
-ghost use Rattle.nsc_database.specs.Ticks.{AreAnew, AreOver, IsDue, IsListing, IsRenewed, IsSwept};
+ghost use Rattle.nsc_database.specs.Ticks.{AreAnew, AreOver, HaveStamp, IsDue, IsListing, IsPending, IsRenewed, IsSwept, LoadsBut};
 
 use nsc_base::NoMemory;
 use nsc_model::Spent;
@@ -81,6 +81,8 @@ pub fn renew(
     requires noted { epoch ≤ invalidations pass.old.seen }
     requires due { (settings : DbConf) × (limit : Option ℕ) × (ticked : ℕ) × All (IsDue limit now pass.old.seen) due.old × Keeps settings limit ticked writer.old }
     requires loads { AreAnew pass.old.seen due.old loads.now }
+    requires stamps { HaveStamp epoch loads.now }
+    requires again { LoadsAgain writer.old.layout.arena writer.old.seen }
     ensures writer { (writer.new.table ≡ writer.old.table) × (writer.new.layout ≡ writer.old.layout) }
     ensures pass { pass.new.table ≡ pass.old.table }
     ensures before { IsPrefix pass.old.seen pass.new.seen }
@@ -88,6 +90,7 @@ pub fn renew(
     ensures shown { pass.new.seen ≡ writer.new.seen }
     ensures keeps { (settings : DbConf) (limit : Option ℕ) (ticked : ℕ) → All (IsDue limit now pass.old.seen) due.old → Keeps settings limit ticked writer.old → Keeps settings limit ticked writer.new }
     ensures packed { IsPacked writer.new }
+    ensures again { LoadsAgain writer.new.layout.arena writer.new.seen }
     ensures over { OnOk result (AreOver epoch pass.new.seen due.old) }
     ensures version { KeepsVersion writer.old.cache writer.new.cache }
     ensures steady { (files : Content) (which : Db) → IsStill files which writer.old.cache → HasOne files which pass.new.seen }
@@ -135,8 +138,12 @@ fn reload(writer: &mut Writer, due: &[Due], loads: &[Option<Loaded>])
     requires legal { Legal writer.old.seen }
     requires due { All (IsRenewed writer.old.seen) due.now }
     requires loads { AreAnew writer.old.seen due.now loads.now }
+    requires stamps { HaveStamp writer.old.cache.epoch loads.now }
+    requires packed { IsPacked writer.old }
+    requires waits { LoadsBut writer.old.layout.arena (IsPending due.now) writer.old.seen }
     ensures rests { Rests writer.old writer.new }
     ensures version { KeepsVersion writer.old.cache writer.new.cache }
+    ensures again { LoadsAgain writer.new.layout.arena writer.new.seen }
 {
     for (at, load) in loads.iter().enumerate() {
         if let Some(loaded) = load {

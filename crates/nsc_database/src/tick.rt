@@ -2,7 +2,8 @@ ghost use Rattle.std.specs.Prelude.{◌≡◌, ◌<◌, ◌≤◌, ◌^◌, All,
 ghost use Rattle.std.specs.Bool.{OnTrue};
 ghost use Rattle.nsc_model.specs.History.{IsPrefix, Legal, PolledSince, invalidations, version_in};
 ghost use Rattle.nsc_model.specs.Reloads.{Reloaded};
-ghost use Rattle.nsc_model.specs.Stores.{IsTickFault};
+ghost use Rattle.nsc_model.specs.Machine.{room_of};
+ghost use Rattle.nsc_model.specs.Stores.{IsTickFault, LoadsAgain};
 ghost use Rattle.nsc_database.specs.Ticks.{AreOver, IsChecked, IsDue, IsHoldFault, IsTickedOver, anew_of};
 
 use crate::base::{Base, life_of};
@@ -76,6 +77,7 @@ impl<D: OfDb, F: FileSet + Drop, A: Answerer + Drop, B: Room> Base<D, F, A, B> {
         ensures legal { Legal pass.new.pass.seen }
         ensures checked { IfOk result (λ checked. IsChecked checked self.now.settings self.now.reloads now pass.new.pass.seen) }
         ensures reloaded { OnOk result (Reloaded self.now.reloads pass.new.pass.seen) }
+        ensures again { OnOk result (LoadsAgain (room_of self.now.settings) pass.new.pass.seen) }
         ensures fault { IfErr result (λ fault. IsHoldFault fault pass.new.pass.seen) }
     {
         self.desk
@@ -101,12 +103,14 @@ impl<D: OfDb, F: FileSet + Drop, A: Answerer + Drop, B: Room> Base<D, F, A, B> {
         requires due { All (IsDue self.now.reloads now pass.old.pass.seen) due.items }
         requires version { version_in pass.old.pass.seen polled.now.stamp.version ≡ Some polled.now.content }
         requires since { PolledSince pass.old.pass.seen polled.now.stamp.version polled.now.stamp.epoch }
+        requires stamp { polled.now.stamp.epoch ≡ epoch }
         ensures db { pass.new.db ≡ pass.old.db }
         ensures files { pass.new.files ≡ pass.old.files }
         ensures before { IsPrefix pass.old.pass.seen pass.new.pass.seen }
         ensures legal { Legal pass.new.pass.seen }
         ensures over { OnOk result (AreOver epoch pass.new.pass.seen due.items) }
         ensures reloaded { OnOk result (Reloaded self.now.reloads pass.new.pass.seen) }
+        ensures again { OnOk result (LoadsAgain (room_of self.now.settings) pass.new.pass.seen) }
         ensures fault { IfErr result (λ fault. IsHoldFault fault pass.new.pass.seen) }
     {
         let loads = match self.loads(alloc, polled, &due, now) {

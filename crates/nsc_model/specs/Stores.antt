@@ -1,10 +1,12 @@
 -- What a lookup in a store gives a caller who had seen one beginning of the database's history before, and has seen another one
 -- after it.
-use Rattle.std.specs.Prelude.{◌≡◌, ◌≢◌, ℕ, ◌+◌, ◌^◌, ◌<◌, ◌≤◌, ◌⊎◌, false, List, length, sum_by, Option, Some}
+use Rattle.std.specs.Prelude.{◌≡◌, ◌≢◌, ℕ, ◌+◌, ◌^◌, ◌<◌, ◌≤◌, ◌⊎◌, false, List, ◌∷◌, length, sum_by, Option, Some}
 use Rattle.std.specs.Bool.{OnTrue}
 use Rattle.nsc_base.specs.Nodes.{node_words}
 use Rattle.nsc_model.specs.declared.answer.Request.{Request}
+use Rattle.nsc_model.specs.declared.record.Ending.TheVariants.{Replaced}
 use Rattle.nsc_model.specs.declared.record.Record.{Record}
+use Rattle.nsc_model.specs.declared.record.Record.TheVariants.{Change, End, Load}
 use Rattle.nsc_model.specs.declared.conf.DbConf.{DbConf}
 use Rattle.nsc_model.specs.declared.store.Given.{Given}
 use Rattle.nsc_model.specs.declared.store.Given.TheVariants as given
@@ -16,10 +18,11 @@ use Rattle.nsc_model.specs.declared.store.InvalidateFault.TheVariants as invalid
 use Rattle.nsc_model.specs.declared.store.Stats.{Stats}
 use Rattle.nsc_model.specs.declared.store.Why.{Why}
 use Rattle.nsc_model.specs.declared.store.Why.TheVariants as why
+use Rattle.nsc_model.specs.Answers.{answer_of}
 use Rattle.nsc_model.specs.Content.{Content}
 use Rattle.nsc_model.specs.Files.{file_limit}
 use Rattle.nsc_model.specs.Entry.{Entry, kept_limit}
-use Rattle.nsc_model.specs.History.{HasLoad, HasEnd, IsLive, EndedAfter, LookedBetween, NoneLive, invalidations, loads, version_in}
+use Rattle.nsc_model.specs.History.{HasLoad, HasEnd, IsLive, EndedAfter, IsPrefix, LookedBetween, NoneLive, invalidations, load_of, loads, version_in}
 use Rattle.nsc_model.specs.Live.{AreLive}
 use Rattle.nsc_model.specs.Reloads.{Reloaded, ends}
 use Rattle.nsc_model.specs.Machine.{entry_words, last_count, life_of, room_of}
@@ -55,6 +58,43 @@ words_of entries = sum_by entry_words entries
 -- so many entries ended that the count of compactions may stand at its end
 abbrev pub MayBeUnmoved : List Record → Type 0
 MayBeUnmoved history = 2 ^ 61 ≤ ends history
+
+-- ---- entries that ended to be loaded again
+
+-- some version of the history has this content
+abbrev pub HasContent : Content → List Record → Type 0
+HasContent files history = (n : ℕ) × (before : List Record) × IsPrefix (Change n files ∷ before) history
+
+-- an entry of the request was inserted after these records
+abbrev pub IsLoadedAfter : List Record → Request → List Record → Type 0
+IsLoadedAfter ended request history = (e : Entry) × (before : List Record) × IsPrefix ended before × IsPrefix (Load e ∷ before) history × (e.request ≡ request)
+
+-- the answer over some version is too long to be kept
+abbrev pub IsTooLongToKeep : Request → List Record → Type 0
+IsTooLongToKeep request history = (files : Content) × HasContent files history × (kept_limit < length (answer_of files request).bytes)
+
+-- at some moment after these records the answer over some version wanted more words than the live entries left of the arena
+pub record FoundNoRoom (arena : ℕ) (ended : List Record) (request : Request) (history : List Record) : Type 0 where
+  pub moment : List Record
+  pub since : IsPrefix ended moment
+  pub until : IsPrefix moment history
+  pub files : Content
+  pub known : HasContent files history
+  pub entries : List Entry
+  pub live : AreLive moment entries
+  pub full : arena < words_of entries + node_words (length request.key) (length (answer_of files request).bytes)
+
+-- what became of a request whose entry ended with these records: an entry of it was inserted later, or no more can be counted, or its
+-- answer was too long, or there was no room
+abbrev pub IsLoadedAgain : ℕ → List Record → Request → List Record → Type 0
+IsLoadedAgain arena ended request history = IsLoadedAfter ended request history ⊎ ((last_count ≤ loads history) ⊎ (IsTooLongToKeep request history ⊎ FoundNoRoom arena ended request history))
+
+-- so of each entry that ended to be loaded again, unless the words of ended entries may not be free again
+abbrev pub AreLoadedAgain : ℕ → List Record → Type 0
+AreLoadedAgain arena history = (number : ℕ) (before : List Record) (e : Entry) → IsPrefix (End number Replaced ∷ before) history → load_of before number ≡ Some e → IsLoadedAgain arena (End number Replaced ∷ before) e.request history
+
+abbrev pub LoadsAgain : ℕ → List Record → Type 0
+LoadsAgain arena history = AreLoadedAgain arena history ⊎ MayBeUnmoved history
 
 -- the words that are free are those of the arena that no live entry takes
 pub record IsFree (arena free : ℕ) (history : List Record) : Type 0 where
@@ -136,6 +176,7 @@ pub record IsTicked (settings : DbConf) (limit : Option ℕ) (now : ℕ) (seen a
   pub over : (e : Entry) → HasLoad seen e → e.timeout < now → HasEnd after e.number
   pub outdated : OnTrue settings.check_files ((e : Entry) → HasLoad seen e → e.version ≢ version → HasEnd after e.number)
   pub reloaded : Reloaded limit after
+  pub again : LoadsAgain (room_of settings) after
 
 -- a tick does nothing where the database is not cached
 abbrev pub Ticks : DbConf → Option ℕ → ℕ → List Record → List Record → Type 0

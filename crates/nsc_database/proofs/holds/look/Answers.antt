@@ -33,3 +33,8 @@ returns-in-Some-clause-rests c =
     let request : Request = record { kind = c.args.kind; key = c.args.key.now } in
     rests_through c.args.writer.now c.show.new.self c.search.new.self (rests_same c.args.writer.now c.show.new.self c.show.ensures.same)
     (rests_used request (counted c.in-Some.hit.not_found c.show.new.self.hits) c.show.new.self c.search.new.self c.in-Some.ensures.used)
+
+pub returns-in-None-clause-rests : goal.returns-in-None-clause-rests
+returns-in-None-clause-rests c =
+    let stays : c.search.new.self ≡ c.show.new.self = rw c.in-None.is at c.search.ensures.stays in
+    rests_same c.args.writer.now c.search.new.self (stays ∙ c.show.ensures.same)

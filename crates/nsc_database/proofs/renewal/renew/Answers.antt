@@ -1,13 +1,13 @@
-use Rattle.std.proofs.Common.{◌≡◌, ◌≢◌, ◌≤◌, ◌∙◌, All, List, ap, sym, subst, arith, inl, inr}
+use Rattle.std.proofs.Common.{◌≡◌, ◌≢◌, ℕ, ◌≤◌, ◌∙◌, All, List, ap, sym, subst, arith, inl, inr}
 use Rattle.nsc_model.specs.declared.record.Record.{Record}
 use Rattle.nsc_model.specs.History.{HasEnd, IsPrefix, invalidations}
-use Rattle.nsc_model.specs.Stores.{IsUnmoved}
+use Rattle.nsc_model.specs.Stores.{IsUnmoved, LoadsAgain}
 use Rattle.nsc_rule.specs.Pass.{Pass}
 use Rattle.nsc_writer.specs.Due.{Due}
 use Rattle.nsc_writer.specs.Writer.{Writer}
 use Rattle.nsc_writer.proofs.Later.{end_on, prefix_through}
 use Rattle.nsc_database.specs.Rests.{IsPacked, Keeps}
-use Rattle.nsc_database.specs.Ticks.{AreAnew, IsRenewed}
+use Rattle.nsc_database.specs.Ticks.{AreAnew, HaveStamp, IsPending, IsRenewed, LoadsBut}
 use Rattle.nsc_database.proofs.Pruning.{anew_marked}
 use Rattle.nsc_database.proofs.Shown.{invalidations_on}
 use Rattle.nsc_database.proofs.Renewed.{all_over, anew_on, begun, begun_leaves, begun_spent, swept_unmoved}
@@ -175,3 +175,41 @@ returns-in-Err-clause-steady c files which s =
     let first = subst (λ (x : Writer). IsStill files which x.cache) (sym c.show.ensures.same) s in
     let last = still_kept files which w.cache w'.cache (subst (λ (x : Writer). KeepsVersion w.cache x.cache) (sym c.in-Err.ensures.spent.2) (version_pruned c.args.now c.args.due.now w)) first in
     subst (HasOne files which) (sym (ap (λ (p : Pass). p.seen) c.show-in-Err.ensures.pass)) (one_of_still files which w'.seen w'.cache c.learn-in-Err.ensures.told last)
+
+pub reload-requires-clause-stamps : goal.reload-requires-clause-stamps
+reload-requires-clause-stamps c =
+    let w = c.show.new.self in
+    let b = begun c.requires.due.0 c.requires.due.1 c.args.now c.requires.due.2 c.args.due.now c.args.pass.now.seen c.args.writer.now w c.show.ensures.same c.show.ensures.before c.requires.due.3 c.requires.due.4 c.requires.packed in
+    let s = begun_leaves w c.end_due.new.writer b c.learn.ensures.told c.in-Ok.ensures.swept in
+    let same : c.args.epoch ≡ c.end_due.new.writer.cache.epoch = sym c.if-epoch.false ∙ c.epoch.ensures ∙ sym s.epoch in
+    subst (λ (n : ℕ). HaveStamp n c.args.loads.now) same c.requires.stamps
+
+pub reload-requires-clause-packed : goal.reload-requires-clause-packed
+reload-requires-clause-packed c =
+    let w = c.show.new.self in
+    let b = begun c.requires.due.0 c.requires.due.1 c.args.now c.requires.due.2 c.args.due.now c.args.pass.now.seen c.args.writer.now w c.show.ensures.same c.show.ensures.before c.requires.due.3 c.requires.due.4 c.requires.packed in
+    let s = begun_leaves w c.end_due.new.writer b c.learn.ensures.told c.in-Ok.ensures.swept in
+    s.packed
+
+pub reload-requires-clause-waits : goal.reload-requires-clause-waits
+reload-requires-clause-waits c =
+    let w = c.show.new.self in
+    let b = begun c.requires.due.0 c.requires.due.1 c.args.now c.requires.due.2 c.args.due.now c.args.pass.now.seen c.args.writer.now w c.show.ensures.same c.show.ensures.before c.requires.due.3 c.requires.due.4 c.requires.packed in
+    let s = begun_leaves w c.end_due.new.writer b c.learn.ensures.told c.in-Ok.ensures.swept in
+    let waits = s.waits (subst (λ (x : Writer). LoadsAgain x.layout.arena x.seen) (sym c.show.ensures.same) c.requires.again) in
+    subst (λ (ds : List Due). LoadsBut c.end_due.new.writer.layout.arena (IsPending ds) c.end_due.new.writer.seen) (sym c.in-Ok.ensures.marked) waits
+
+pub returns-then-epoch-clause-again : goal.returns-then-epoch-clause-again
+returns-then-epoch-clause-again c = subst (λ (x : Writer). LoadsAgain x.layout.arena x.seen) (sym c.show.ensures.same) c.requires.again
+
+pub returns-in-Ok-clause-again : goal.returns-in-Ok-clause-again
+returns-in-Ok-clause-again c = subst (λ (x : Writer). LoadsAgain x.layout.arena x.seen) (sym c.show-in-Ok.ensures.same) c.reload.ensures.again
+
+pub returns-in-Err-clause-again : goal.returns-in-Err-clause-again
+returns-in-Err-clause-again c =
+    let w = c.show.new.self in
+    let b = begun c.requires.due.0 c.requires.due.1 c.args.now c.requires.due.2 c.args.due.now c.args.pass.now.seen c.args.writer.now w c.show.ensures.same c.show.ensures.before c.requires.due.3 c.requires.due.4 c.requires.packed in
+    let s = begun_spent w c.end_due.new.writer b c.learn.ensures.told c.in-Err.ensures.spent.2 c.in-Err.ensures.spent.1 in
+    let low = s.packed.cycles in
+    let high = c.in-Err.ensures.spent.1 in
+    subst (λ (x : Writer). LoadsAgain x.layout.arena x.seen) (sym c.show-in-Err.ensures.same) (inr (omega arith))

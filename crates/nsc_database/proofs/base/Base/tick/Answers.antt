@@ -28,7 +28,7 @@ returns-in-Emptied-clause-ticked g c = OnTrue_from c.args.self.now.settings.enab
     let t = ticking seen noted mid after c.note-epoch.result c.in-Ok.polled c.note-epoch.ensures.before c.note-epoch.ensures.legal c.note-epoch.ensures.noted c.in-Ok.ensures.before c.in-Ok.ensures.legal c.in-Ok.ensures.polled c.in-Ok-check.ensures.before c.in-Ok-check.ensures.legal in
     let none : NoneLive after = rw c.in-Emptied.is at c.in-Ok-check.ensures.checked in
     emptied_over g.D.OfDb.db g.F.FileSet.reads g.F.FileSet.latest c.args.self.now.settings c.args.self.now.reloads c.args.now seen noted mid after c.note-epoch.result c.in-Ok.polled c.args.pass.now.files c.note-epoch.new.pass.files c.poll.new.pass.files c.check.new.pass.files t
-    c.note-epoch.ensures.files c.in-Ok-check.ensures.files c.in-Ok.ensures.read c.in-Ok.ensures.told none c.in-Ok-check.ensures.reloaded)
+    c.note-epoch.ensures.files c.in-Ok-check.ensures.files c.in-Ok.ensures.read c.in-Ok.ensures.told none c.in-Ok-check.ensures.reloaded c.in-Ok-check.ensures.again)
 
 pub renew-requires-clause-noted : goal.renew-requires-clause-noted
 renew-requires-clause-noted g c =
@@ -79,4 +79,4 @@ returns-in-Ok-renew-clause-ticked g c = OnTrue_from c.args.self.now.settings.ena
     let listed : AreListed c.args.self.now.settings c.args.self.now.reloads c.args.now after c.in-Listed.due.items = rw c.in-Listed.is at c.in-Ok-check.ensures.checked in
     listed_over g.D.OfDb.db g.F.FileSet.reads g.F.FileSet.latest c.args.self.now.settings c.args.self.now.reloads c.args.now seen noted mid after c.renew.new.pass.pass.seen c.note-epoch.result c.in-Ok.polled c.in-Listed.due.items
     c.args.pass.now.files c.note-epoch.new.pass.files c.poll.new.pass.files c.renew.new.pass.files t c.note-epoch.ensures.files (c.renew.ensures.files ∙ c.in-Ok-check.ensures.files) c.in-Ok.ensures.read c.in-Ok.ensures.told listed
-    c.renew.ensures.before c.renew.ensures.legal c.in-Ok-renew.ensures.over c.in-Ok-renew.ensures.reloaded)
+    c.renew.ensures.before c.renew.ensures.legal c.in-Ok-renew.ensures.over c.in-Ok-renew.ensures.reloaded c.in-Ok-renew.ensures.again)
