@@ -97,9 +97,10 @@ class Trial:
         self.room.invalidate()
 
     def count(self):
-        """Compares all counts."""
+        """Compares all counts, and gives the lines that the daemon told."""
         told = self.run.ask(request(GETSTAT, b""), "admin").decode().split("\n\n")[0]
         check(told == self.room.told(), f"it counts {told!r}, and not {self.room.told()!r}")
+        return told.splitlines()
 
 
 def by_chance(size, steps, dice):
@@ -140,12 +141,13 @@ def full():
         trial = Trial(run, 1, {})
         for number in range(7):
             trial.look_up(b"absent-user-name%d" % number)
-        check(trial.room.used == 112, "seven entries of sixteen words")
+        check("used words 112 of 128" in trial.count(), "seven entries take another room than sixteen words each")
         trial.look_up(b"b" * 25)
+        check({"used words 112 of 128", "not added 1"} <= set(trial.count()), "an entry of seventeen words is kept in sixteen")
         trial.look_up(b"absent-user-name7")
-        check((trial.room.used, trial.room.counts["not added"]) == (128, 1), "no word is free")
+        check({"used words 128 of 128", "entries 8"} <= set(trial.count()), "an entry that just fits is not kept")
         trial.look_up(b"c")
-        trial.count()
+        check("not added 2" in trial.count(), "an entry is kept where no word is free")
         run.shut_down()
         return "the least table holds 128 words: one entry too long is refused, and one that just fits is kept"
 

@@ -44,6 +44,10 @@ has_none number nodes none = number_missing number nodes (λ q m u same. let les
 pub remarked : (words words' : List ℕ) (map : Layout) (count : ℕ) (mark mark' : Mark) → words' ≡ words → IsShelf words map count mark → IsMark map (nodes_in words map) mark'.place mark'.number → IsShelf words' map count mark'
 remarked words words' map count mark mark' same is marked = subst (λ (ws : List ℕ). IsShelf ws map count mark') (sym same) (record { sizes = is.sizes; laid = is.laid; entries = is.entries; counted = is.counted; live = is.live; marked = marked })
 
+-- the same by what a search says of its mark
+pub remarked_by : (words words' : List ℕ) (map : Layout) (count : ℕ) (mark mark' : Mark) → words' ≡ words → IsShelf words map count mark → ((nodes : List Placed) → Laid words map nodes → IsMark map nodes mark.place mark.number → IsMark map nodes mark'.place mark'.number) → IsShelf words' map count mark'
+remarked_by words words' map count mark mark' same is marks = remarked words words' map count mark mark' same is (marks (nodes_in words map) is.laid is.marked)
+
 -- a mark of a lower number
 pub marked_above : (map : Layout) (nodes : List Placed) (from low high : ℕ) → low ≤ high → IsMark map nodes from low → IsMark map nodes from high
 marked_above map nodes from low high more mark = record { newer = mark.newer; older = mark.older; split = mark.split; place = mark.place; below = λ p among. let less = mark.below p among in omega arith }
@@ -51,6 +55,15 @@ marked_above map nodes from low high more mark = record { newer = mark.newer; ol
 -- the place of a node is one of its number
 pub marked_found : (words : List ℕ) (map : Layout) (nodes : List Placed) (at number : ℕ) (p : Placed) → Laid words map nodes → Among p nodes → p.place ≡ at → number ≡ p.node.number → IsMark map nodes at number
 marked_found words map nodes at number p laid among place is = subst (λ (x : ℕ × ℕ). IsMark map nodes x.0 x.1) (λ i. (place i, sym is i)) (mark_at map nodes p laid.row laid.rising among)
+
+-- words that are the same are as many
+pub size_of : (old words : List ℕ) (map : Layout) → words ≡ old → IsLayout map → Laid old map (nodes_in old map) → length words < 2 ^ 63
+size_of old words map same sizes laid =
+    let table = laid.table in
+    let few = sizes.buckets in
+    let small = sizes.room in
+    let long : length words ≡ length old = ap length same in
+    omega arith
 
 -- ---- the bytes of a node that was found
 

@@ -3,22 +3,16 @@ use Rattle.nsc_words.specs.declared.layout.Layout.{Layout}
 use Rattle.nsc_words.specs.declared.node.Placed.{Placed}
 use Rattle.nsc_arena.specs.ReadBack.{nodes_in}
 use Rattle.nsc_shelf.specs.Shelf.{Shelf}
-use Rattle.nsc_shelf.proofs.Found.{remarked}
+use Rattle.nsc_shelf.proofs.Found.{remarked_by}
 use Rattle.nsc_shelf.specs.Shelf.{has_number}
 use Rattle.nsc_shelf.proofs.Found.{has_by, has_none}
 use Rattle.nsc_shelf.proofs.shelf.Shelf.has.Goals as goal
 
 pub invariant_of-self : goal.invariant_of-self
-invariant_of-self c =
-    let m : Layout = c.self.inside.map in
-    let nodes : List Placed = nodes_in c.self.inside.words m in
-    remarked c.self.inside.words c.find_from.new.words m c.self.inside.live c.self.inside.mark c.find_from.new.mark c.find_from.ensures.same c.self.invariant (c.find_from.ensures.marked nodes c.self.invariant.laid c.self.invariant.marked)
+invariant_of-self c = remarked_by c.self.inside.words c.find_from.new.words c.self.inside.map c.self.inside.live c.self.inside.mark c.find_from.new.mark c.find_from.ensures.same c.self.invariant c.find_from.ensures.marked
 
 pub invariant_of-self-2 : goal.invariant_of-self-2
-invariant_of-self-2 c =
-    let m : Layout = c.self.inside.map in
-    let nodes : List Placed = nodes_in c.self.inside.words m in
-    remarked c.self.inside.words c.find_from.new.words m c.self.inside.live c.self.inside.mark c.find_from.new.mark c.find_from.ensures.same c.self.invariant (c.find_from.ensures.marked nodes c.self.invariant.laid c.self.invariant.marked)
+invariant_of-self-2 c = remarked_by c.self.inside.words c.find_from.new.words c.self.inside.map c.self.inside.live c.self.inside.mark c.find_from.new.mark c.find_from.ensures.same c.self.invariant c.find_from.ensures.marked
 
 pub returns-in_default-clause-has : goal.returns-in_default-clause-has
 returns-in_default-clause-has c =

@@ -5,7 +5,7 @@ use Rattle.nsc_words.specs.declared.node.Placed.{Placed}
 use Rattle.nsc_arena.specs.ReadBack.{nodes_in}
 use Rattle.nsc_shelf.specs.declared.finding.Found.{Found}
 use Rattle.nsc_shelf.specs.Shelf.{Shelf, entry_from, key_or}
-use Rattle.nsc_shelf.proofs.Found.{found_entry, found_none, remarked, text_of}
+use Rattle.nsc_shelf.proofs.Found.{found_entry, found_none, remarked_by, size_of, text_of}
 use Rattle.nsc_shelf.proofs.shelf.Shelf.key.Goals as goal
 
 pub read_bytes-requires-clause-inside : goal.read_bytes-requires-clause-inside
@@ -19,7 +19,6 @@ read_bytes-requires-clause-inside c =
     let key_len = text.key_len in
     let reply_len = text.reply_len in
     let inside = text.inside in
-    let size = text.size in
     omega arith
 
 pub read_bytes-requires-clause-room : goal.read_bytes-requires-clause-room
@@ -31,9 +30,6 @@ read_bytes-requires-clause-room c =
     let n = c.in-Some.ensures.found nodes c.self.invariant.laid c.self.invariant.marked in
     let text = text_of w c.find_from.new.words m nodes c.args.number f n c.find_from.ensures.same c.self.invariant.sizes c.self.invariant.laid in
     let key_len = text.key_len in
-    let reply_len = text.reply_len in
-    let inside = text.inside in
-    let size = text.size in
     let short = text.short_key in
     let limit = c.requires in
     let empty : length c.clear.new.self.content ≡ 0 = ap (λ (b : Buf). length b.content) c.clear.ensures in
@@ -41,32 +37,13 @@ read_bytes-requires-clause-room c =
     omega arith
 
 pub read_bytes-requires-clause-size : goal.read_bytes-requires-clause-size
-read_bytes-requires-clause-size c =
-    let w = c.self.inside.words in
-    let m : Layout = c.self.inside.map in
-    let nodes : List Placed = nodes_in w m in
-    let f : Found = c.in-Some.found in
-    let n = c.in-Some.ensures.found nodes c.self.invariant.laid c.self.invariant.marked in
-    let text = text_of w c.find_from.new.words m nodes c.args.number f n c.find_from.ensures.same c.self.invariant.sizes c.self.invariant.laid in
-    let key_len = text.key_len in
-    let reply_len = text.reply_len in
-    let inside = text.inside in
-    let size = text.size in
-    omega arith
+read_bytes-requires-clause-size c = size_of c.self.inside.words c.find_from.new.words c.self.inside.map c.find_from.ensures.same c.self.invariant.sizes c.self.invariant.laid
 
 pub invariant_of-self : goal.invariant_of-self
-invariant_of-self c =
-    let w = c.self.inside.words in
-    let m : Layout = c.self.inside.map in
-    let nodes : List Placed = nodes_in w m in
-    remarked w c.read_bytes.new.table m c.self.inside.live c.self.inside.mark c.find_from.new.mark (c.read_bytes.ensures.same ∙ c.find_from.ensures.same) c.self.invariant (c.find_from.ensures.marked nodes c.self.invariant.laid c.self.invariant.marked)
+invariant_of-self c = remarked_by c.self.inside.words c.read_bytes.new.table c.self.inside.map c.self.inside.live c.self.inside.mark c.find_from.new.mark (c.read_bytes.ensures.same ∙ c.find_from.ensures.same) c.self.invariant c.find_from.ensures.marked
 
 pub invariant_of-self-in_default : goal.invariant_of-self-in_default
-invariant_of-self-in_default c =
-    let w = c.self.inside.words in
-    let m : Layout = c.self.inside.map in
-    let nodes : List Placed = nodes_in w m in
-    remarked w c.find_from.new.words m c.self.inside.live c.self.inside.mark c.find_from.new.mark c.find_from.ensures.same c.self.invariant (c.find_from.ensures.marked nodes c.self.invariant.laid c.self.invariant.marked)
+invariant_of-self-in_default c = remarked_by c.self.inside.words c.find_from.new.words c.self.inside.map c.self.inside.live c.self.inside.mark c.find_from.new.mark (c.find_from.ensures.same) c.self.invariant c.find_from.ensures.marked
 
 pub returns-in-Some-clause-key : goal.returns-in-Some-clause-key
 returns-in-Some-clause-key c =
@@ -77,9 +54,6 @@ returns-in-Some-clause-key c =
     let n = c.in-Some.ensures.found nodes c.self.invariant.laid c.self.invariant.marked in
     let text = text_of w c.find_from.new.words m nodes c.args.number f n c.find_from.ensures.same c.self.invariant.sizes c.self.invariant.laid in
     let key_len = text.key_len in
-    let reply_len = text.reply_len in
-    let inside = text.inside in
-    let size = text.size in
     let holds = text.key in
     let content : c.read_bytes.new.out.content ≡ n.0.node.key = c.read_bytes.ensures.bytes n.0.node.key text.key_bytes (sym key_len) holds ∙ ap (λ (b : Buf). b.content ++ n.0.node.key) c.clear.ensures in
     let limit : c.read_bytes.new.out.limit ≡ c.args.key.now.limit = c.read_bytes.ensures.limit ∙ ap (λ (b : Buf). b.limit) c.clear.ensures in

@@ -8,7 +8,7 @@ use Rattle.nsc_model.specs.Machine.{Kept}
 use Rattle.nsc_shelf.specs.declared.entry.EntryAt.{EntryAt}
 use Rattle.nsc_shelf.specs.declared.finding.Found.{Found}
 use Rattle.nsc_shelf.specs.Shelf.{IsTold, Shelf, entry_from, kept_in, kind_of}
-use Rattle.nsc_shelf.proofs.Found.{found_entry, found_none, remarked}
+use Rattle.nsc_shelf.proofs.Found.{found_entry, found_none, remarked_by}
 use Rattle.nsc_shelf.proofs.shelf.Shelf.next.Goals as goal
 
 pub returns-in_default-clause-told : goal.returns-in_default-clause-told
@@ -32,18 +32,10 @@ overflow_add-result c =
     omega arith
 
 pub invariant_of-self : goal.invariant_of-self
-invariant_of-self c =
-    let w = c.self.inside.words in
-    let m : Layout = c.self.inside.map in
-    let nodes : List Placed = nodes_in w m in
-    remarked w c.find_from.new.words m c.self.inside.live c.self.inside.mark c.find_from.new.mark c.find_from.ensures.same c.self.invariant (c.find_from.ensures.marked nodes c.self.invariant.laid c.self.invariant.marked)
+invariant_of-self c = remarked_by c.self.inside.words c.find_from.new.words c.self.inside.map c.self.inside.live c.self.inside.mark c.find_from.new.mark c.find_from.ensures.same c.self.invariant c.find_from.ensures.marked
 
 pub invariant_of-self-2 : goal.invariant_of-self-2
-invariant_of-self-2 c =
-    let w = c.self.inside.words in
-    let m : Layout = c.self.inside.map in
-    let nodes : List Placed = nodes_in w m in
-    remarked w c.find_from.new.words m c.self.inside.live c.self.inside.mark c.find_from.new.mark c.find_from.ensures.same c.self.invariant (c.find_from.ensures.marked nodes c.self.invariant.laid c.self.invariant.marked)
+invariant_of-self-2 c = remarked_by c.self.inside.words c.find_from.new.words c.self.inside.map c.self.inside.live c.self.inside.mark c.find_from.new.mark c.find_from.ensures.same c.self.invariant c.find_from.ensures.marked
 
 pub returns-clause-told : goal.returns-clause-told
 returns-clause-told c =
