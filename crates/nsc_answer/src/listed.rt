@@ -33,7 +33,7 @@ impl Model for Listed {
 
 impl Listed {
     /// A content, once its service lists are read. Fails only for want of memory.
-    pub(crate) fn of(alloc: Global, content: Arc<Content>) -> Result<Listed, NoMemory>
+    pub fn of(alloc: Global, content: Arc<Content>) -> Result<Listed, NoMemory>
         ensures { IfOk result (λ listed. listed ≡ arc_value content) }
     {
         let lists = Lists::of(alloc, &content)?;
@@ -41,7 +41,7 @@ impl Listed {
     }
 
     /// The content.
-    pub(crate) fn content(&self) -> &Arc<Content>
+    pub fn content(&self) -> &Arc<Content>
         ensures { arc_value result.now ≡ self.now }
     {
         &self.content
@@ -49,7 +49,7 @@ impl Listed {
 
     /// The outcome of the switch over the content for the request of this kind and key. No file of the content is longer
     /// than a file may be. Fails only for want of memory.
-    pub(crate) fn look(&self, alloc: Global, kind: Kind, key: &[u8]) -> Result<Looked, NoMemory>
+    pub fn look(&self, alloc: Global, kind: Kind, key: &[u8]) -> Result<Looked, NoMemory>
         ensures outcome { IfOk result (λ looked. looked ≡ looked_up self.now (record { kind = kind; key = key.now })) }
         ensures fits { FilesFit self.now }
     {

@@ -1,4 +1,5 @@
 pub mod Bytes
+mod Blocks
 pub mod Heads
 pub mod Answered
 pub mod Puts

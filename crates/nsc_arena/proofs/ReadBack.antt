@@ -28,7 +28,7 @@ byte_back words place bytes k all holds h =
     let word : slice_index words (place + k / 8) ≡ w = holds (k / 8) (omega arith) in
     first ∙ sym (ap (λ (bs : List ℕ). slice_index bs (k % 8)) few) ∙ at ∙ sym (ap (λ (v : ℕ). slice_index (bytes_low_first 0 8 v) (k % 8)) word)
 
-bytes_back : (words : List ℕ) (place : ℕ) (bytes : List ℕ) → All (λ b. b < 256) bytes → HoldsBytes words place bytes → bytes_in words place (length bytes) ≡ bytes
+pub bytes_back : (words : List ℕ) (place : ℕ) (bytes : List ℕ) → All (λ b. b < 256) bytes → HoldsBytes words place bytes → bytes_in words place (length bytes) ≡ bytes
 bytes_back words place bytes all holds = sym (fill_by_all (byte_in words place) bytes (length bytes) 0 refl (λ k h. byte_back words place bytes k all holds h))
 
 mark_back : (b : Bool) (n word : ℕ) → word ≡ n * 2 + cond b 1 0 → (eqb (word % 2) 1 ≡ b) × (word / 2 ≡ n)

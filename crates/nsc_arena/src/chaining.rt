@@ -13,12 +13,12 @@ use nsc_words::{FIRST_FREE, Layout, NEXT};
 /// and FIRST_FREE stands behind it. Of the arena it sets the node's NEXT alone.
 pub fn chain<W: Words>(table: &mut W, map: Layout, at: usize)
     requires layout { IsLayout map }
-    requires open { MaySetNodes map (W.can_set table.old) }
+    requires open { MaySetNodes map W.can_set }
     requires next { (nodes : List Placed) × (p : Placed) × IsNext (W.words table.old) map nodes p × (p.place ≡ at) }
     ensures laid { (nodes : List Placed) (p : Placed) → IsNext (W.words table.old) map nodes p → p.place ≡ at → Laid (W.words table.new) map (p ∷ nodes) }
     ensures arena { (i : ℕ) → arena_start map ≤ i → i ≢ at + 7 → slice_index (W.words table.new) i ≡ slice_index (W.words table.old) i }
     ensures head { IsSameHead (W.words table.old) (W.words table.new) }
-    ensures open { W.can_set table.new ≡ W.can_set table.old }
+    ensures rest { W.rest table.new ≡ W.rest table.old }
 {
     let bucket = map.bucket(hash_at(table, at));
     let end = at + words_at(table, at);

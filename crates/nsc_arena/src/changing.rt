@@ -12,11 +12,11 @@ use nsc_words::{Layout, RELOADS, STATE};
 /// Ends the node at a place. It stays in its chain, and its words stay in use.
 pub fn end_node<W: Words>(table: &mut W, map: Layout, at: usize)
     requires layout { IsLayout map }
-    requires open { MaySetNodes map (W.can_set table.old) }
+    requires open { MaySetNodes map W.can_set }
     requires node { (nodes : List Placed) × (p : Placed) × Laid (W.words table.old) map nodes × Among p nodes × (p.place ≡ at) }
     ensures laid { (nodes : List Placed) (p : Placed) → Laid (W.words table.old) map nodes → Among p nodes → p.place ≡ at → Laid (W.words table.new) map (changed_at at ended nodes) }
     ensures head { IsSameHead (W.words table.old) (W.words table.new) }
-    ensures open { W.can_set table.new ≡ W.can_set table.old }
+    ensures rest { W.rest table.new ≡ W.rest table.old }
 {
     let _ = map;
     table.set(at + STATE, 0);
@@ -25,11 +25,11 @@ pub fn end_node<W: Words>(table: &mut W, map: Layout, at: usize)
 /// Sets how often the node at a place was reloaded without a use.
 pub fn set_reloads<W: Words>(table: &mut W, map: Layout, at: usize, count: u64)
     requires layout { IsLayout map }
-    requires open { MaySetNodes map (W.can_set table.old) }
+    requires open { MaySetNodes map W.can_set }
     requires node { (nodes : List Placed) × (p : Placed) × Laid (W.words table.old) map nodes × Among p nodes × (p.place ≡ at) }
     ensures laid { (nodes : List Placed) (p : Placed) → Laid (W.words table.old) map nodes → Among p nodes → p.place ≡ at → Laid (W.words table.new) map (changed_at at (with_reloads count) nodes) }
     ensures head { IsSameHead (W.words table.old) (W.words table.new) }
-    ensures open { W.can_set table.new ≡ W.can_set table.old }
+    ensures rest { W.rest table.new ≡ W.rest table.old }
 {
     let _ = map;
     table.set(at + RELOADS, count);

@@ -12,11 +12,11 @@ use nsc_words::{FIRST_FREE, Layout, STATE};
 /// Ends all nodes. They stay in their chains, and their words stay in use.
 pub fn end_nodes<W: Words>(table: &mut W, map: Layout)
     requires layout { IsLayout map }
-    requires open { MaySetNodes map (W.can_set table.old) }
+    requires open { MaySetNodes map W.can_set }
     requires laid { (nodes : List Placed) × Laid (W.words table.old) map nodes }
     ensures laid { (nodes : List Placed) → Laid (W.words table.old) map nodes → Laid (W.words table.new) map (all_ended nodes) }
     ensures head { IsSameHead (W.words table.old) (W.words table.new) }
-    ensures open { W.can_set table.new ≡ W.can_set table.old }
+    ensures rest { W.rest table.new ≡ W.rest table.old }
 {
     let end = table.get(FIRST_FREE) as usize;
     let mut at = map.arena_start();

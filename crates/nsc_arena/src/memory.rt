@@ -5,12 +5,15 @@ use std::alloc::Global;
 use std::marker::Model;
 
 /// The words of a table, which one caller reads and writes: all that is known of its memory. A place is a word's number from 0 on.
+/// What is not words stays as it is (`rest`: the value with its words taken out).
 pub trait Words {
     ghost use Rattle.std.specs.Prelude.{ℕ, List, Bool};
 
     ghost words: { Self → List ℕ };
 
-    ghost can_set: { Self → ℕ → Bool };
+    ghost rest: { Self → Self };
+
+    ghost can_set: { ℕ → Bool };
 
     /// How many words there are.
     fn len(&self) -> usize
@@ -21,14 +24,14 @@ pub trait Words {
         requires { at < length (words self.old) }
         ensures value { result ≡ slice_index (words self.old) at }
         ensures same { words self.new ≡ words self.old }
-        ensures open { can_set self.new ≡ can_set self.old };
+        ensures rest { rest self.new ≡ rest self.old };
 
     /// Sets the word at a place, which is one that may be set.
     fn set(&mut self, at: usize, value: u64)
         requires inside { at < length (words self.old) }
-        requires open { can_set self.old at ≡ true }
+        requires open { can_set at ≡ true }
         ensures set { words self.new ≡ slice_set (words self.old) at value }
-        ensures open { can_set self.new ≡ can_set self.old };
+        ensures rest { rest self.new ≡ rest self.old };
 }
 
 /// Words in memory of one owner, each of which may be set.
@@ -65,11 +68,13 @@ impl VecWords {
 }
 
 impl Words for VecWords {
-    ghost use Rattle.std.specs.Prelude.{true};
+    ghost use Rattle.std.specs.Prelude.{[], true};
 
     ghost words = { λ w. w };
 
-    ghost can_set = { λ w at. true };
+    ghost rest = { λ w. [] };
+
+    ghost can_set = { λ at. true };
 
     fn len(&self) -> usize {
         self.words.len()

@@ -15,7 +15,7 @@ pub fn first_from<W: Words>(table: &mut W, map: Layout, from: usize, number: u64
     requires layout { IsLayout map }
     requires laid { (nodes : List Placed) × Laid (W.words table.old) map nodes × IsMark map nodes from number }
     ensures same { W.words table.new ≡ W.words table.old }
-    ensures open { W.can_set table.new ≡ W.can_set table.old }
+    ensures rest { W.rest table.new ≡ W.rest table.old }
     ensures first { (nodes : List Placed) → Laid (W.words table.old) map nodes → IsMark map nodes from number → IsFirst number nodes result }
 {
     let end = table.get(FIRST_FREE) as usize;
@@ -33,7 +33,7 @@ pub fn first_from<W: Words>(table: &mut W, map: Layout, from: usize, number: u64
 fn is_from<W: Words>(table: &mut W, at: usize, number: u64) -> bool
     requires { (p : Placed) × IsNodeAt (W.words table.old) at p }
     ensures same { W.words table.new ≡ W.words table.old }
-    ensures open { W.can_set table.new ≡ W.can_set table.old }
+    ensures rest { W.rest table.new ≡ W.rest table.old }
     ensures is { (p : Placed) → IsNodeAt (W.words table.old) at p → result ≡ (p.usable && nat_le number p.node.number) }
 {
     table.get(at + STATE) == 1 && number <= table.get(at + NUMBER)

@@ -34,11 +34,11 @@ pub fn place<W: Words>(table: &mut W, map: Layout, node: &Node) -> Option<usize>
     requires kind { node.now.kind < 256 }
     requires key { length node.now.key ≤ 1024 }
     requires reply { length node.now.reply ≤ 65536 }
-    requires open { MaySetNodes map (W.can_set table.old) }
+    requires open { MaySetNodes map W.can_set }
     requires laid { (nodes : List Placed) × Laid (W.words table.old) map nodes }
     ensures placed { IsPlaced map node.now (W.words table.old) (W.words table.new) result }
     ensures laid { (nodes : List Placed) → Laid (W.words table.old) map nodes → Laid (W.words table.new) map nodes }
-    ensures open { W.can_set table.new ≡ W.can_set table.old }
+    ensures rest { W.rest table.new ≡ W.rest table.old }
 {
     let fixed = Fixed {
         number: node.number,
@@ -69,11 +69,11 @@ pub fn place_bytes<W: Words>(
     requires kind { fixed.kind < 256 }
     requires key { length key.now ≤ 1024 }
     requires reply { length reply.now ≤ 65536 }
-    requires open { MaySetNodes map (W.can_set table.old) }
+    requires open { MaySetNodes map W.can_set }
     requires laid { (nodes : List Placed) × Laid (W.words table.old) map nodes }
     ensures placed { IsPlaced map (node_of fixed key.now reply.now) (W.words table.old) (W.words table.new) result }
     ensures laid { (nodes : List Placed) → Laid (W.words table.old) map nodes → Laid (W.words table.new) map nodes }
-    ensures open { W.can_set table.new ≡ W.can_set table.old }
+    ensures rest { W.rest table.new ≡ W.rest table.old }
 {
     let at = table.get(FIRST_FREE) as usize;
     if node_words(key.len(), reply.len()) > map.words() - at {
@@ -90,10 +90,10 @@ fn put_node<W: Words>(table: &mut W, at: usize, fixed: Fixed, key: &[u8], reply:
     requires reply { length reply.now ≤ 65536 }
     requires size { length (W.words table.old) < 2 ^ 63 }
     requires inside { at + words_in (node_of fixed key.now reply.now) ≤ length (W.words table.old) }
-    requires open { MaySet (W.can_set table.old) at (words_in (node_of fixed key.now reply.now)) }
+    requires open { MaySet W.can_set at (words_in (node_of fixed key.now reply.now)) }
     ensures stands { Stands (W.words table.new) (usable_at at (node_of fixed key.now reply.now)) }
     ensures below { IsSameBelow (W.words table.old) (W.words table.new) at }
-    ensures open { W.can_set table.new ≡ W.can_set table.old }
+    ensures rest { W.rest table.new ≡ W.rest table.old }
 {
     put_words(table, at, &head_words(fixed, key.len(), reply.len()));
     put_bytes(table, at + KEY, key);

@@ -14,11 +14,11 @@ use nsc_words::{FIRST_FREE, HEAD_WORDS, Layout, STATE};
 pub fn clear<W: Words>(table: &mut W, map: Layout)
     requires layout { IsLayout map }
     requires table { length (W.words table.old) ≡ table_words map }
-    requires open { MaySetNodes map (W.can_set table.old) }
+    requires open { MaySetNodes map W.can_set }
     ensures laid { Laid (W.words table.new) map [] }
     ensures arena { (i : ℕ) → arena_start map ≤ i → slice_index (W.words table.new) i ≡ slice_index (W.words table.old) i }
     ensures head { IsSameHead (W.words table.old) (W.words table.new) }
-    ensures open { W.can_set table.new ≡ W.can_set table.old }
+    ensures rest { W.rest table.new ≡ W.rest table.old }
 {
     for bucket in HEAD_WORDS..map.arena_start() {
         table.set(bucket, 0);
@@ -30,12 +30,12 @@ pub fn clear<W: Words>(table: &mut W, map: Layout)
 /// FIRST_FREE stands right behind the newest one. Each node is moved once. Gives how many words are free that were not.
 pub fn slide<W: Words>(table: &mut W, map: Layout) -> usize
     requires layout { IsLayout map }
-    requires open { MaySetNodes map (W.can_set table.old) }
+    requires open { MaySetNodes map W.can_set }
     requires laid { (nodes : List Placed) × Laid (W.words table.old) map nodes }
     ensures laid { (nodes : List Placed) → Laid (W.words table.old) map nodes → Laid (W.words table.new) map (slid (arena_start map) nodes) }
     ensures freed { slice_index (W.words table.new) 3 + result ≡ slice_index (W.words table.old) 3 }
     ensures head { IsSameHead (W.words table.old) (W.words table.new) }
-    ensures open { W.can_set table.new ≡ W.can_set table.old }
+    ensures rest { W.rest table.new ≡ W.rest table.old }
 {
     let end = table.get(FIRST_FREE) as usize;
     clear(table, map);

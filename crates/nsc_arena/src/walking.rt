@@ -16,7 +16,7 @@ pub fn walk<W: Words>(table: &mut W, map: Layout, kind: u32, key: &[u8]) -> Opti
     requires kind { kind < 256 }
     requires table { length (W.words table.old) ≡ table_words map }
     ensures same { W.words table.new ≡ W.words table.old }
-    ensures open { W.can_set table.new ≡ W.can_set table.old }
+    ensures rest { W.rest table.new ≡ W.rest table.old }
     ensures newest { (nodes : List Placed) → Laid (W.words table.old) map nodes → result ≡ place_of (newest_for kind key.now nodes) }
 {
     let mut below = map.words();
@@ -45,7 +45,7 @@ fn answers_at<W: Words>(table: &mut W, at: usize, kind: u32, key: &[u8]) -> bool
     requires size { length (W.words table.old) < 2 ^ 63 }
     requires inside { at + 8 ≤ length (W.words table.old) }
     ensures same { W.words table.new ≡ W.words table.old }
-    ensures open { W.can_set table.new ≡ W.can_set table.old }
+    ensures rest { W.rest table.new ≡ W.rest table.old }
     ensures answers { (p : Placed) → IsNodeAt (W.words table.old) at p → result ≡ answers kind key.now p }
 {
     if table.get(at + STATE) != 1 {

@@ -11,9 +11,9 @@ use nsc_words::word_of;
 pub fn put_words<W: Words>(table: &mut W, at: usize, words: &[u64])
     requires size { length (W.words table.old) < 2 ^ 63 }
     requires inside { at + length words.now ≤ length (W.words table.old) }
-    requires open { MaySet (W.can_set table.old) at (length words.now) }
+    requires open { MaySet W.can_set at (length words.now) }
     ensures written { IsWritten (W.words table.old) (W.words table.new) at (length words.now) (slice_index words.now) }
-    ensures open { W.can_set table.new ≡ W.can_set table.old }
+    ensures rest { W.rest table.new ≡ W.rest table.old }
 {
     for (index, word) in words.iter().enumerate() {
         table.set(at + index, *word);
@@ -24,10 +24,10 @@ pub fn put_words<W: Words>(table: &mut W, at: usize, words: &[u64])
 pub fn put_bytes<W: Words>(table: &mut W, at: usize, bytes: &[u8])
     requires size { length (W.words table.old) < 2 ^ 63 }
     requires inside { at + words_for (length bytes.now) ≤ length (W.words table.old) }
-    requires open { MaySet (W.can_set table.old) at (words_for (length bytes.now)) }
+    requires open { MaySet W.can_set at (words_for (length bytes.now)) }
     ensures written { IsWritten (W.words table.old) (W.words table.new) at (words_for (length bytes.now)) (word_of bytes.now) }
     ensures bytes { All (λ b. b < 256) bytes.now }
-    ensures open { W.can_set table.new ≡ W.can_set table.old }
+    ensures rest { W.rest table.new ≡ W.rest table.old }
 {
     let count = bytes.len().div_ceil(8);
     for index in 0..count {
@@ -40,9 +40,9 @@ pub fn move_down<W: Words>(table: &mut W, from: usize, to: usize, count: usize)
     requires down { to ≤ from }
     requires size { length (W.words table.old) < 2 ^ 63 }
     requires inside { from + count ≤ length (W.words table.old) }
-    requires open { MaySet (W.can_set table.old) to count }
+    requires open { MaySet W.can_set to count }
     ensures written { IsWritten (W.words table.old) (W.words table.new) to count (λ i. slice_index (W.words table.old) (from + i)) }
-    ensures open { W.can_set table.new ≡ W.can_set table.old }
+    ensures rest { W.rest table.new ≡ W.rest table.old }
 {
     for index in 0..count {
         let word = table.get(from + index);

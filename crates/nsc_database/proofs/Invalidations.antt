@@ -22,7 +22,7 @@ again_emptied : (w w' : Writer) → w' ≡ emptied_by w → LoadsAgain w.layout.
 again_emptied w w' is l = subst (λ (x : Writer). LoadsAgain x.layout.arena x.seen) (sym is) (again_more w.layout.arena (Invalid (w.cache.epoch + 1)) (ends_of by_invalidation w.cache.entries w.seen) tt (again_ends w.layout.arena w.cache.entries w.seen l))
 
 rests_from : (w w' : Writer) → w' ≡ emptied_by w → Tells w.seen w.cache → (IsPacked w → IsPacked w') → Rests w w'
-rests_from w w' is t packed = let on = emptied_on w w' is in record { on = on.on; table = on.table; layout = on.layout; keeps = λ settings limit ticked k. keeps_emptied settings limit ticked w w' is t k; packed = packed; again = again_emptied w w' is }
+rests_from w w' is t packed = let on = emptied_on w w' is in record { on = on.on; table = on.table; layout = on.layout; slide = on.slide; keeps = λ settings limit ticked k. keeps_emptied settings limit ticked w w' is t k; packed = packed; again = again_emptied w w' is }
 
 no_entries : (ks : List Kept) → length ks ≡ 0 → ks ≡ []
 no_entries [] e = refl
@@ -44,6 +44,7 @@ rests_compacted w w' w'' shown l some is =
       on = on.on;
       table = on.table;
       layout = on.layout;
+      slide = on.slide;
       keeps = λ settings limit ticked k. keeps_compacted settings limit ticked (all_words w'.cache.entries) (w'.cache.cycle + 2) w' (compacted_by w') refl (keeps_emptied settings limit ticked w w' l.emptied l.told k);
       packed = λ p. packed_compacted w' (compacted_by w') refl
           (let more = left_ends w w' l.emptied in let low = p.cycles in let cycle : w'.cache.cycle ≡ w.cache.cycle = ap (λ (x : Writer). x.cache.cycle) l.emptied in omega arith);

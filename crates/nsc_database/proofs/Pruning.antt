@@ -45,6 +45,7 @@ pub record Leaves (settings : DbConf) (limit : Option ℕ) (ticked : ℕ) (due :
   pub on : IsPrefix w.seen w'.seen
   pub table : w'.table ≡ w.table
   pub layout : w'.layout ≡ w.layout
+  pub slide : w'.slide ≡ w.slide
   pub cycle : w'.cache.cycle ≡ w.cache.cycle
   pub used : w'.cache.used ≡ w.cache.used
   pub gone : (n : ℕ) → HasNumber due n → HasEnd w'.seen n
@@ -91,6 +92,7 @@ one_leaves settings limit now ticked d w due t k = by_live (has_number d.number 
     on = (End d.number cause ∷ [], refl);
     table = refl;
     layout = refl;
+    slide = refl;
     cycle = refl;
     used = refl;
     gone = λ n has. elim has [ inl same ↦ inl same | inr none ↦ absurd none ];
@@ -101,13 +103,14 @@ one_leaves settings limit now ticked d w due t k = by_live (has_number d.number 
     on = ([], refl);
     table = refl;
     layout = refl;
+    slide = refl;
     cycle = refl;
     used = refl;
     gone = λ n has. elim has [ inl same ↦ subst (HasEnd w.seen) same (gone_ended w.seen w.cache d.number due.entry t due.inserted due.numbered there) | inr none ↦ absurd none ];
   }
 
 pub all_leave : (settings : DbConf) (limit : Option ℕ) (now ticked : ℕ) (due : List Due) (w : Writer) → All (IsDue limit now w.seen) due → Tells w.seen w.cache → Keeps settings limit ticked w → Leaves settings limit ticked due w (pruned_by now due w)
-all_leave settings limit now ticked [] w all t k = record { keeps = k; told = t; on = ([], refl); table = refl; layout = refl; cycle = refl; used = refl; gone = λ n has. absurd has }
+all_leave settings limit now ticked [] w all t k = record { keeps = k; told = t; on = ([], refl); table = refl; layout = refl; slide = refl; cycle = refl; used = refl; gone = λ n has. absurd has }
 all_leave settings limit now ticked (d ∷ due) w all t k =
     let first = one_leaves settings limit now ticked d w (head_of (IsDue limit now w.seen) d due all) t k in
     let w1 = pruned_one now d w in
@@ -118,6 +121,7 @@ all_leave settings limit now ticked (d ∷ due) w all t k =
       on = prefix_through w.seen w1.seen (pruned_by now due w1).seen first.on rest.on;
       table = rest.table ∙ first.table;
       layout = rest.layout ∙ first.layout;
+      slide = rest.slide ∙ first.slide;
       cycle = rest.cycle ∙ first.cycle;
       used = rest.used ∙ first.used;
       gone = λ n has. elim has [ inl same ↦ end_on w1.seen (pruned_by now due w1).seen n rest.on (first.gone n (inl same)) | inr more ↦ rest.gone n more ];

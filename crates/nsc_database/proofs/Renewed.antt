@@ -40,6 +40,7 @@ pub record Swept (settings : DbConf) (limit : Option ℕ) (now ticked : ℕ) (du
   pub on : IsPrefix w.seen w'.seen
   pub table : w'.table ≡ w.table
   pub layout : w'.layout ≡ w.layout
+  pub slide : w'.slide ≡ w.slide
   pub keeps : Keeps settings limit ticked w'
   pub packed : IsPacked w'
   pub gone : (n : ℕ) → HasNumber due n → HasEnd w'.seen n
@@ -61,7 +62,7 @@ swept_leaves settings limit now ticked due w w' all t k p s = by_case s.swept wh
       let c = all_count settings limit now ticked due w all t k in
       let same = c.same (ap (λ (ds : List Due). length ds) none) in
       subst (Swept settings limit now ticked due w) (sym is)
-      (record { legal = l.told.legal; on = l.on; table = l.table; layout = l.layout; keeps = l.keeps; packed = subst IsPacked (sym same) p; gone = l.gone; renewed = c.renewed; epoch = epoch_pruned now due w; waits = waits_of settings limit now ticked due w all t k l.layout })
+      (record { legal = l.told.legal; on = l.on; table = l.table; layout = l.layout; slide = l.slide; keeps = l.keeps; packed = subst IsPacked (sym same) p; gone = l.gone; renewed = c.renewed; epoch = epoch_pruned now due w; waits = waits_of settings limit now ticked due w all t k l.layout })
   by_case (inr (some, is)) =
       let l = all_leave settings limit now ticked due w all t k in
       let c = all_count settings limit now ticked due w all t k in
@@ -74,6 +75,7 @@ swept_leaves settings limit now ticked due w w' all t k p s = by_case s.swept wh
         on = l.on;
         table = l.table;
         layout = l.layout;
+        slide = l.slide;
         keeps = keeps_compacted settings limit ticked (all_words w1.cache.entries) (w1.cache.cycle + 2) w1 (compacted_by w1) refl l.keeps;
         packed = packed_compacted w1 (compacted_by w1) refl (omega arith);
         gone = l.gone;
@@ -94,7 +96,7 @@ swept_spent settings limit now ticked due w w' all t k p is high =
     let more = c.ended in
     let high1 : last_count ≤ w1.cache.cycle = subst (λ (x : Writer). last_count ≤ x.cache.cycle) is high in
     subst (Swept settings limit now ticked due w) (sym is)
-    (record { legal = l.told.legal; on = l.on; table = l.table; layout = l.layout; keeps = l.keeps; packed = packed_spent w1 w1 refl high1 (omega arith); gone = l.gone; renewed = c.renewed; epoch = epoch_pruned now due w; waits = waits_of settings limit now ticked due w all t k l.layout })
+    (record { legal = l.told.legal; on = l.on; table = l.table; layout = l.layout; slide = l.slide; keeps = l.keeps; packed = packed_spent w1 w1 refl high1 (omega arith); gone = l.gone; renewed = c.renewed; epoch = epoch_pruned now due w; waits = waits_of settings limit now ticked due w all t k l.layout })
 
 -- what is known of a renewal once the writer was shown to the pass: its entries are due, and what the lock keeps
 pub record Begun (settings : DbConf) (limit : Option ℕ) (now ticked : ℕ) (due_list : List Due) (seen : List Record) (w : Writer) : Type 0 where
@@ -146,7 +148,7 @@ reloads_one h d l said w0 w w' same r renewed ended anew i =
     let few = anew.2 in
     let rise = replaced_on h w.seen d.request (subst (λ (x : List Record). IsPrefix x w.seen) (sym same) r.on) in
     let asked : replaced w.seen l.request ≡ replaced w.seen d.request = ap (replaced w.seen) anew.1 in
-    rests_through w0 w w' r (rests_inserted said l w w' on.on on.table on.layout i (omega arith))
+    rests_through w0 w w' r (rests_inserted said l w w' on.on on.table on.layout on.slide i (omega arith))
 
 next_low : (n : ℕ) → next_reloads n ≤ n + 1
 next_low n = min-le_left (n + 1) last_count

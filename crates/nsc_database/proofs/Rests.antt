@@ -20,7 +20,7 @@ use Rattle.nsc_writer.specs.declared.loaded.Inserted.TheVariants as inserted
 use Rattle.nsc_writer.specs.declared.loaded.Stamp.{Stamp}
 use Rattle.nsc_writer.specs.Loaded.{Loaded, kept_of}
 use Rattle.nsc_writer.specs.Writer.{Writer, Inserts, Polls, with_entry}
-use Rattle.nsc_writer.specs.declared.uses.Uses.{Uses}
+use Rattle.nsc_writer.specs.Uses.{Uses}
 use Rattle.nsc_writer.proofs.Later.{prefix_through}
 use Rattle.nsc_model.specs.Stores.{LoadsAgain}
 use Rattle.nsc_words.specs.declared.layout.Layout.{Layout}
@@ -124,6 +124,7 @@ pub record Stays (w w' : Writer) : Type 0 where
   pub used : w'.cache.used ≡ w.cache.used
   pub cycle : w'.cache.cycle ≡ w.cache.cycle
   pub layout : w'.layout ≡ w.layout
+  pub slide : w'.slide ≡ w.slide
 
 pub keeps_stays : (settings : DbConf) (limit : Option ℕ) (ticked : ℕ) (w w' : Writer) → Stays w w' → Keeps settings limit ticked w → Keeps settings limit ticked w'
 keeps_stays settings limit ticked w w' s k = keeps_with settings limit ticked w w' s.adds s.entries k
@@ -146,11 +147,11 @@ polls_stay files epoch w w' stamp p = by_same (same_files files w.cache.sources)
   by_count : (b : Bool) → Polls (cond b (Err (record { cache = w.cache; adds = []; count = last_count })) (Ok (record { cache = record w.cache { sources = files; newest_version = w.cache.newest_version + 1 }; adds = Change (w.cache.newest_version + 1) files ∷ [] }))) epoch w w' (Ok stamp)
       → Stays w w'
   by_count true q = absurd q
-  by_count false q = subst (Stays w) (sym q.1) (record { adds = change_adds_none (w.cache.newest_version + 1) files w.seen; entries = refl; used = refl; cycle = refl; layout = refl })
+  by_count false q = subst (Stays w) (sym q.1) (record { adds = change_adds_none (w.cache.newest_version + 1) files w.seen; entries = refl; used = refl; cycle = refl; layout = refl; slide = refl })
 
   by_same : (b : Bool) → Polls (cond b (Ok (record { cache = w.cache; adds = Poll w.cache.newest_version ∷ [] })) (cond (eqb w.cache.newest_version last_count) (Err (record { cache = w.cache; adds = []; count = last_count }))
       (Ok (record { cache = record w.cache { sources = files; newest_version = w.cache.newest_version + 1 }; adds = Change (w.cache.newest_version + 1) files ∷ [] })))) epoch w w' (Ok stamp) → Stays w w'
-  by_same true q = subst (Stays w) (sym q.1) (record { adds = poll_adds_none w.cache.newest_version w.seen; entries = refl; used = refl; cycle = refl; layout = refl })
+  by_same true q = subst (Stays w) (sym q.1) (record { adds = poll_adds_none w.cache.newest_version w.seen; entries = refl; used = refl; cycle = refl; layout = refl; slide = refl })
   by_same false q = by_count (eqb w.cache.newest_version last_count) q
 
 -- ---- a use
@@ -233,26 +234,28 @@ again_insert (inserted.Full need free) loaded w w' i l = subst (λ (x : Writer).
 -- ---- whole calls
 
 pub rests_same : (w w' : Writer) → w' ≡ w → Rests w w'
-rests_same w w' is = subst (Rests w) (sym is) (record { on = ([], refl); table = refl; layout = refl; keeps = λ settings limit ticked k. k; packed = λ p. p; again = λ l. l })
+rests_same w w' is = subst (Rests w) (sym is) (record { on = ([], refl); table = refl; layout = refl; slide = refl; keeps = λ settings limit ticked k. k; packed = λ p. p; again = λ l. l })
 
 pub rests_through : (a b c : Writer) → Rests a b → Rests b c → Rests a c
 rests_through a b c r s = record {
   on = prefix_through a.seen b.seen c.seen r.on s.on;
   table = s.table ∙ r.table;
   layout = s.layout ∙ r.layout;
+  slide = s.slide ∙ r.slide;
   keeps = λ settings limit ticked k. s.keeps settings limit ticked (r.keeps settings limit ticked k);
   packed = λ p. s.packed (r.packed p);
   again = λ l. s.again (r.again l);
 }
 
 pub rests_missed : (m : Uses) (w w' : Writer) → w' ≡ record w { misses = m } → Rests w w'
-rests_missed m w w' is = subst (Rests w) (sym is) (record { on = ([], refl); table = refl; layout = refl; keeps = λ settings limit ticked k. record { reloaded = k.reloaded; counted = k.counted; found = k.found }; packed = λ p. record { taken = p.taken; cycles = p.cycles }; again = λ l. l })
+rests_missed m w w' is = subst (Rests w) (sym is) (record { on = ([], refl); table = refl; layout = refl; slide = refl; keeps = λ settings limit ticked k. record { reloaded = k.reloaded; counted = k.counted; found = k.found }; packed = λ p. record { taken = p.taken; cycles = p.cycles }; again = λ l. l })
 
 pub rests_used : (request : Request) (hits : Uses) (w w' : Writer) → w' ≡ record w { cache = record w.cache { entries = used_now request w.cache.entries }; hits = hits } → Rests w w'
 rests_used request hits w w' is = subst (Rests w) (sym is) (record {
   on = ([], refl);
   table = refl;
   layout = refl;
+  slide = refl;
   keeps = λ settings limit ticked k. let u = keeps_used settings limit ticked request w k in record { reloaded = u.reloaded; counted = u.counted; found = u.found };
   packed = λ p. let u = packed_used request w p in record { taken = u.taken; cycles = u.cycles };
   again = λ l. l;
@@ -261,8 +264,8 @@ rests_used request hits w w' is = subst (Rests w) (sym is) (record {
 pub rests_polled : (files : Content) (epoch : ℕ) (w w' : Writer) (stamp : Stamp) → IsPrefix w.seen w'.seen → w'.table ≡ w.table → Polls (polled files w.cache) epoch w w' (Ok stamp) → Rests w w'
 rests_polled files epoch w w' stamp on table p =
     let s = polls_stay files epoch w w' stamp p in
-    record { on = on; table = table; layout = s.layout; keeps = λ settings limit ticked k. keeps_stays settings limit ticked w w' s k; packed = λ q. packed_stays w w' s q; again = λ l. subst (λ (n : ℕ). LoadsAgain n w'.seen) (sym (ap (λ (x : Layout). x.arena) s.layout)) (s.adds.again w.layout.arena l) }
+    record { on = on; table = table; layout = s.layout; slide = s.slide; keeps = λ settings limit ticked k. keeps_stays settings limit ticked w w' s k; packed = λ q. packed_stays w w' s q; again = λ l. subst (λ (n : ℕ). LoadsAgain n w'.seen) (sym (ap (λ (x : Layout). x.arena) s.layout)) (s.adds.again w.layout.arena l) }
 
-pub rests_inserted : (said : Inserted) (loaded : Loaded) (w w' : Writer) → IsPrefix w.seen w'.seen → w'.table ≡ w.table → w'.layout ≡ w.layout → Inserts said loaded w w' → loaded.reloads ≤ replaced w.seen loaded.request → Rests w w'
-rests_inserted said loaded w w' on table layout i low =
-    record { on = on; table = table; layout = layout; keeps = λ settings limit ticked k. keeps_insert settings limit ticked said loaded w w' i low k; packed = λ q. packed_insert said loaded w w' i q; again = λ l. again_insert said loaded w w' i l }
+pub rests_inserted : (said : Inserted) (loaded : Loaded) (w w' : Writer) → IsPrefix w.seen w'.seen → w'.table ≡ w.table → w'.layout ≡ w.layout → w'.slide ≡ w.slide → Inserts said loaded w w' → loaded.reloads ≤ replaced w.seen loaded.request → Rests w w'
+rests_inserted said loaded w w' on table layout slide i low =
+    record { on = on; table = table; layout = layout; slide = slide; keeps = λ settings limit ticked k. keeps_insert settings limit ticked said loaded w w' i low k; packed = λ q. packed_insert said loaded w w' i q; again = λ l. again_insert said loaded w w' i l }

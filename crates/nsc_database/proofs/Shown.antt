@@ -64,6 +64,7 @@ pub record GoesOn (w w' : Writer) : Type 0 where
   pub on : IsPrefix w.seen w'.seen
   pub table : w'.table ≡ w.table
   pub layout : w'.layout ≡ w.layout
+  pub slide : w'.slide ≡ w.slide
 
 -- the newest record after a poll looked at this version
 pub record Looks (w w' : Writer) (version : ℕ) : Type 0 where
@@ -72,7 +73,7 @@ pub record Looks (w w' : Writer) (version : ℕ) : Type 0 where
   pub looks : LooksAt w'.seen version
 
 one_more : (r : Record) (cache : Cache) (w w' : Writer) (version : ℕ) → w' ≡ record w { cache = cache; seen = r ∷ w.seen } → LooksAt (r ∷ w.seen) version → Looks w w' version
-one_more r cache w w' version is looks = subst (λ (x : Writer). Looks w x version) (sym is) (record { goes = record { on = (r ∷ [], refl); table = refl; layout = refl }; longer = omega arith; looks = looks })
+one_more r cache w w' version is looks = subst (λ (x : Writer). Looks w x version) (sym is) (record { goes = record { on = (r ∷ [], refl); table = refl; layout = refl; slide = refl }; longer = omega arith; looks = looks })
 
 pub polls_looks : (files : Content) (epoch : ℕ) (w w' : Writer) (stamp : Stamp) → Polls (polled files w.cache) epoch w w' (Ok stamp) → Looks w w' stamp.version
 polls_looks files epoch w w' stamp p = by_same (same_files files w.cache.sources) p where
@@ -142,15 +143,15 @@ answered_on seen h loaded legal legal_seen p a = record {
 }
 
 same_writer : (w w' : Writer) → w' ≡ w → GoesOn w w'
-same_writer w w' is = subst (GoesOn w) (sym is) (record { on = ([], refl); table = refl; layout = refl })
+same_writer w w' is = subst (GoesOn w) (sym is) (record { on = ([], refl); table = refl; layout = refl; slide = refl })
 
 pub inserts_on : (said : Inserted) (loaded : Loaded) (w w' : Writer) → Inserts said loaded w w' → GoesOn w w'
-inserts_on (inserted.Done number) loaded w w' i = subst (GoesOn w) (sym i.2) (record { on = (Load (kept_of loaded w.cache.inserted).entry ∷ [], refl); table = refl; layout = refl })
+inserts_on (inserted.Done number) loaded w w' i = subst (GoesOn w) (sym i.2) (record { on = (Load (kept_of loaded w.cache.inserted).entry ∷ [], refl); table = refl; layout = refl; slide = refl })
 inserts_on (inserted.TooLarge size) loaded w w' i = same_writer w w' i.1
 inserts_on (inserted.Discarded noted epoch) loaded w w' i = same_writer w w' i.1
 inserts_on (inserted.Present number) loaded w w' i = same_writer w w' i.1
 inserts_on (inserted.Spent count) loaded w w' i = same_writer w w' i.1
-inserts_on (inserted.Full need free) loaded w w' i = subst (GoesOn w) (sym i.1) (record { on = ([], refl); table = refl; layout = refl })
+inserts_on (inserted.Full need free) loaded w w' i = subst (GoesOn w) (sym i.1) (record { on = ([], refl); table = refl; layout = refl; slide = refl })
 
 loads_rise : (more h : List Record) → loads h ≤ loads (more ++ h)
 loads_rise [] h = omega arith
@@ -237,6 +238,7 @@ emptied_on w w' is = subst (GoesOn w) (sym is) (record {
   on = prefix_through w.seen (ends_of by_invalidation w.cache.entries w.seen) (Invalid (w.cache.epoch + 1) ∷ ends_of by_invalidation w.cache.entries w.seen) (ends_prefix w.cache.entries w.seen) (Invalid (w.cache.epoch + 1) ∷ [], refl);
   table = refl;
   layout = refl;
+  slide = refl;
 })
 
 entries_length : (ks : List Kept) → length (entries_of ks) ≡ length ks

@@ -22,7 +22,7 @@ use Rattle.nsc_sourcebook.specs.Reads.{IsPartOf}
 use Rattle.nsc_writer.specs.declared.loaded.Inserted.{Inserted}
 use Rattle.nsc_writer.specs.declared.loaded.Inserted.TheVariants as inserted
 use Rattle.nsc_writer.specs.declared.loaded.Stamp.{Stamp}
-use Rattle.nsc_writer.specs.declared.uses.Uses.{Uses}
+use Rattle.nsc_writer.specs.Uses.{Uses}
 use Rattle.nsc_writer.specs.Due.{Due, due_cause_of, pruned_by, pruned_one}
 use Rattle.nsc_shelf.specs.Shelf.{has_number}
 use Rattle.nsc_writer.specs.Loaded.{Loaded}

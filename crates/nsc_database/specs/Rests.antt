@@ -1,5 +1,5 @@
 -- What holds of the writer of a database while its lock is free.
-use Rattle.std.specs.Prelude.{◌≡◌, ℕ, ◌+◌, ◌*◌, ◌<◌, ◌≤◌, All, List, [], ◌∷◌, Option}
+use Rattle.std.specs.Prelude.{◌≡◌, ℕ, ◌+◌, ◌*◌, ◌<◌, ◌≤◌, All, List, [], ◌∷◌, Option, None}
 use Rattle.std.specs.Bool.{OnTrue}
 use Rattle.nsc_model.specs.declared.conf.DbConf.{DbConf}
 use Rattle.nsc_model.specs.declared.record.Record.{Record}
@@ -34,17 +34,19 @@ pub record IsPacked (w : Writer) : Type 0 where
   pub taken : w.cache.cycle < last_count → w.cache.used ≡ all_words w.cache.entries
   pub cycles : w.cache.cycle ≤ 2 * ends w.seen
 
--- a writer of an empty cache over this content as its first version, in an arena of so many words
+-- a writer of an empty cache over this content as its first version, in an arena of so many words, with no slide under way
 pub record IsNew (w : Writer) (content : Content) (arena : ℕ) : Type 0 where
   pub seen : w.seen ≡ Change 0 content ∷ []
   pub cache : w.cache ≡ new_cache content
   pub room : w.layout.arena ≡ arena
+  pub still : w.slide ≡ None
 
 -- the writer goes on, and what held of it while its lock was free holds still
 pub record Rests (w w' : Writer) : Type 0 where
   pub on : IsPrefix w.seen w'.seen
   pub table : w'.table ≡ w.table
   pub layout : w'.layout ≡ w.layout
+  pub slide : w'.slide ≡ w.slide
   pub keeps : (settings : DbConf) (limit : Option ℕ) (ticked : ℕ) → Keeps settings limit ticked w → Keeps settings limit ticked w'
   pub packed : IsPacked w → IsPacked w'
   pub again : LoadsAgain w.layout.arena w.seen → LoadsAgain w'.layout.arena w'.seen

@@ -40,6 +40,7 @@ pub struct Desk<D: OfDb, B: Room> {
 }
 
 impl<D: OfDb, B: Room> Model for Desk<D, B> {
+    ghost use Rattle.std.specs.Prelude.{◌≡◌, None};
     ghost use Rattle.nsc_model.specs.Settings.{settings_of};
     ghost use Rattle.nsc_database.specs.Rests.{Desk, IsPacked, Keeps};
     ghost use Rattle.nsc_database.specs.Steady.{StaysStill};
@@ -49,7 +50,7 @@ impl<D: OfDb, B: Room> Model for Desk<D, B> {
 
     ghost view = { λ d. record { writer = d.writer; ticked = d.ticked } };
 
-    ghost invariant = { λ d. Keeps (settings_of B.conf D.db) B.conf.reloads d.ticked d.writer × IsPacked d.writer × StaysStill B.held D.db d.writer.cache × LoadsAgain d.writer.layout.arena d.writer.seen };
+    ghost invariant = { λ d. Keeps (settings_of B.conf D.db) B.conf.reloads d.ticked d.writer × IsPacked d.writer × StaysStill B.held D.db d.writer.cache × LoadsAgain d.writer.layout.arena d.writer.seen × (d.writer.slide ≡ None) };
 }
 
 /// Its source book.

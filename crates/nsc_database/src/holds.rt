@@ -1,5 +1,5 @@
 // What is done under one hold of the writer's lock. A pass is shown the history at the beginning and at the end of each.
-ghost use Rattle.std.specs.Prelude.{◌≡◌, ◌≤◌, IfOk, IfErr, OnOk};
+ghost use Rattle.std.specs.Prelude.{◌≡◌, ◌≤◌, None, IfOk, IfErr, OnOk};
 ghost use Rattle.std.specs.Bool.{OnTrue};
 ghost use Rattle.nsc_model.specs.Entry.{kept_limit};
 ghost use Rattle.nsc_model.specs.History.{IsPrefix, Legal, invalidations};
@@ -14,6 +14,7 @@ ghost use Rattle.nsc_database.specs.Steady.{HasOne, IsStill, KeepsVersion};
 ghost use Rattle.nsc_database.specs.Rests.{FindsNewest, IsLeft, IsPacked, Rests};
 
 use nsc_base::Buf;
+use nsc_compactor::compact;
 use nsc_model::{Answerer, Kind, Spent, Stats};
 use nsc_outside::FileSet;
 use nsc_rule::Pass;
@@ -36,6 +37,7 @@ pub enum Looked {
 /// Looks for the live entry of the request of this kind and key, whose reply the buffer then has.
 pub fn look(writer: &mut Writer, pass: &mut Pass, kind: Kind, key: &[u8], reply: &mut Buf) -> Looked
     requires table { pass.old.table ≡ writer.old.table }
+    requires slide { writer.old.slide ≡ None }
     requires buffer { kept_limit ≤ reply.old.limit }
     ensures writer { writer.new.table ≡ writer.old.table }
     ensures pass { pass.new.table ≡ pass.old.table }
@@ -66,6 +68,7 @@ pub fn poll<F: FileSet + Drop, A: Answerer>(
     epoch: u64,
 ) -> Result<Polled<A>, Spent>
     requires table { pass.old.table ≡ writer.old.table }
+    requires slide { writer.old.slide ≡ None }
     requires book { book.old.table ≡ writer.old.table }
     requires newest { OnTrue fetched.is_newest (fetched.content ≡ book.old.newest) }
     requires epoch { epoch ≤ invalidations pass.old.seen }
@@ -96,6 +99,7 @@ pub fn poll<F: FileSet + Drop, A: Answerer>(
 /// Counts a miss, and tries an insertion.
 pub fn insert(writer: &mut Writer, pass: &mut Pass, loaded: Loaded) -> (Inserted, Loaded)
     requires table { pass.old.table ≡ writer.old.table }
+    requires slide { writer.old.slide ≡ None }
     requires answered { IsAnswered pass.old.seen loaded }
     requires new { loaded.reloads ≡ 0 }
     requires packed { IsPacked writer.old }
@@ -122,6 +126,7 @@ pub fn insert(writer: &mut Writer, pass: &mut Pass, loaded: Loaded) -> (Inserted
 /// Ends every entry as invalidated, and compacts where there was any.
 pub fn invalidate(writer: &mut Writer, pass: &mut Pass) -> Result<u64, Spent>
     requires table { pass.old.table ≡ writer.old.table }
+    requires slide { writer.old.slide ≡ None }
     requires packed { IsPacked writer.old }
     ensures writer { writer.new.table ≡ writer.old.table }
     ensures pass { pass.new.table ≡ pass.old.table }
@@ -141,7 +146,7 @@ pub fn invalidate(writer: &mut Writer, pass: &mut Pass) -> Result<u64, Spent>
             if is_empty {
                 return Ok(epoch);
             }
-            match writer.compact() {
+            match compact(writer) {
                 Ok(_) => Ok(epoch),
                 Err(spent) => Err(spent),
             }
@@ -152,7 +157,8 @@ pub fn invalidate(writer: &mut Writer, pass: &mut Pass) -> Result<u64, Spent>
 
 // Ends every entry as invalidated.
 fn end_all(writer: &mut Writer, pass: &mut Pass) -> Result<u64, Spent>
-    requires { pass.old.table ≡ writer.old.table }
+    requires table { pass.old.table ≡ writer.old.table }
+    requires slide { writer.old.slide ≡ None }
     ensures writer { writer.new.table ≡ writer.old.table }
     ensures pass { pass.new.table ≡ pass.old.table }
     ensures before { IsPrefix pass.old.seen pass.new.seen }
@@ -178,6 +184,7 @@ fn end_all(writer: &mut Writer, pass: &mut Pass) -> Result<u64, Spent>
 /// What the writer counts.
 pub fn stats(writer: &mut Writer, pass: &mut Pass) -> Stats
     requires table { pass.old.table ≡ writer.old.table }
+    requires slide { writer.old.slide ≡ None }
     requires packed { IsPacked writer.old }
     ensures writer { writer.new ≡ writer.old }
     ensures pass { pass.new.table ≡ pass.old.table }

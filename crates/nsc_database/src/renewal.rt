@@ -1,5 +1,5 @@
 // What a tick does under holds of the writer's lock.
-ghost use Rattle.std.specs.Prelude.{◌≡◌, ◌≤◌, All, ℕ, Option, IfOk, IfErr, OnOk};
+ghost use Rattle.std.specs.Prelude.{◌≡◌, ◌≤◌, All, ℕ, Option, None, IfOk, IfErr, OnOk};
 ghost use Rattle.nsc_model.specs.declared.conf.DbConf.{DbConf};
 ghost use Rattle.nsc_model.specs.Entry.{Entry};
 ghost use Rattle.nsc_model.specs.History.{IsPrefix, Legal, invalidations};
@@ -13,6 +13,7 @@ ghost use Rattle.nsc_database.specs.Steady.{HasOne, IsStill, KeepsVersion};
 ghost use Rattle.nsc_database.specs.Ticks.{AreAnew, AreOver, HaveStamp, IsDue, IsListing, IsPending, IsRenewed, IsSwept, LoadsBut};
 
 use nsc_base::NoMemory;
+use nsc_compactor::compact;
 use nsc_model::Spent;
 use nsc_rule::Pass;
 use nsc_writer::{Due, Loaded, Writer};
@@ -29,7 +30,8 @@ pub enum Checked {
 
 /// The number of invalidations.
 pub fn note(writer: &mut Writer, pass: &mut Pass) -> u64
-    requires { pass.old.table ≡ writer.old.table }
+    requires table { pass.old.table ≡ writer.old.table }
+    requires slide { writer.old.slide ≡ None }
     ensures writer { writer.new ≡ writer.old }
     ensures pass { pass.new.table ≡ pass.old.table }
     ensures before { IsPrefix pass.old.seen pass.new.seen }
@@ -50,7 +52,8 @@ pub fn list(
     limit: Option<u32>,
     now: u64,
 ) -> Result<Vec<Due>, NoMemory>
-    requires { pass.old.table ≡ writer.old.table }
+    requires table { pass.old.table ≡ writer.old.table }
+    requires slide { writer.old.slide ≡ None }
     ensures writer { writer.new ≡ writer.old }
     ensures pass { pass.new.table ≡ pass.old.table }
     ensures before { IsPrefix pass.old.seen pass.new.seen }
@@ -76,6 +79,7 @@ pub fn renew(
     now: u64,
 ) -> Result<(), Spent>
     requires table { pass.old.table ≡ writer.old.table }
+    requires slide { writer.old.slide ≡ None }
     requires legal { Legal pass.old.seen }
     requires packed { IsPacked writer.old }
     requires noted { epoch ≤ invalidations pass.old.seen }
@@ -83,7 +87,7 @@ pub fn renew(
     requires loads { AreAnew pass.old.seen due.old loads.now }
     requires stamps { HaveStamp epoch loads.now }
     requires again { LoadsAgain writer.old.layout.arena writer.old.seen }
-    ensures writer { (writer.new.table ≡ writer.old.table) × (writer.new.layout ≡ writer.old.layout) }
+    ensures writer { (writer.new.table ≡ writer.old.table) × (writer.new.layout ≡ writer.old.layout) × (writer.new.slide ≡ writer.old.slide) }
     ensures pass { pass.new.table ≡ pass.old.table }
     ensures before { IsPrefix pass.old.seen pass.new.seen }
     ensures legal { Legal pass.new.seen }
@@ -118,7 +122,8 @@ pub fn renew(
 
 // Ends those that are due and live still, and compacts where any was.
 fn end_due(writer: &mut Writer, due: &mut [Due], now: u64) -> Result<(), Spent>
-    requires { All (IsOver writer.old.seen now) due.old }
+    requires over { All (IsOver writer.old.seen now) due.old }
+    requires slide { writer.old.slide ≡ None }
     ensures marked { due.new ≡ marked_by now due.old writer.old }
     ensures swept { OnOk result (IsSwept now due.old writer.old writer.new) }
     ensures spent { IfErr result (λ spent. (spent.count ≡ last_count) × (last_count ≤ writer.new.cache.cycle) × (writer.new ≡ pruned_by now due.old writer.old)) }
@@ -127,7 +132,7 @@ fn end_due(writer: &mut Writer, due: &mut [Due], now: u64) -> Result<(), Spent>
     if ended == 0 {
         return Ok(());
     }
-    match writer.compact() {
+    match compact(writer) {
         Ok(_) => Ok(()),
         Err(spent) => Err(spent),
     }
@@ -140,6 +145,7 @@ fn reload(writer: &mut Writer, due: &[Due], loads: &[Option<Loaded>])
     requires loads { AreAnew writer.old.seen due.now loads.now }
     requires stamps { HaveStamp writer.old.cache.epoch loads.now }
     requires packed { IsPacked writer.old }
+    requires slide { writer.old.slide ≡ None }
     requires waits { LoadsBut writer.old.layout.arena (IsPending due.now) writer.old.seen }
     ensures rests { Rests writer.old writer.new }
     ensures version { KeepsVersion writer.old.cache writer.new.cache }

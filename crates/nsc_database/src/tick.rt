@@ -1,4 +1,4 @@
-ghost use Rattle.std.specs.Prelude.{◌≡◌, ◌<◌, ◌≤◌, ◌^◌, All, Some, map, IfOk, IfErr, OnOk};
+ghost use Rattle.std.specs.Prelude.{◌≡◌, ◌<◌, ◌≤◌, ◌^◌, All, Some, map, IfOk, IfErr, IfSome, OnOk};
 ghost use Rattle.std.specs.Bool.{OnTrue};
 ghost use Rattle.nsc_model.specs.History.{IsPrefix, Legal, PolledSince, invalidations, version_in};
 ghost use Rattle.nsc_model.specs.Reloads.{Reloaded};
@@ -123,7 +123,8 @@ impl<D: OfDb, F: FileSet + Drop, A: Answerer + Drop, B: Room> Base<D, F, A, B> {
         }
     }
 
-    // What is to be loaded again for those that are due, over the content that was polled.
+    // What is to be loaded again for those that are due, over the content that was polled. Several answers are worth that it is
+    // prepared further.
     fn loads(
         &self,
         alloc: Global,
@@ -134,9 +135,45 @@ impl<D: OfDb, F: FileSet + Drop, A: Answerer + Drop, B: Room> Base<D, F, A, B> {
         requires { now < 2 ^ 62 }
         ensures { IfOk result (λ loads. loads.items ≡ map (anew_of self.now.settings polled.now now) due.now) }
     {
+        let further = self.further(alloc, polled, due.len())?;
+        let ready = match &further {
+            Some(further) => further,
+            None => polled.ready(),
+        };
+        self.loads_by(alloc, ready, polled, due, now)
+    }
+
+    // The content that was polled, prepared further where that serves so many answers better.
+    fn further(
+        &self,
+        alloc: Global,
+        polled: &Polled<A>,
+        count: usize,
+    ) -> Result<Option<A::Ready>, NoMemory>
+        ensures { IfOk result (λ further. IfSome further (λ made. A.prepared_from made ≡ polled.now.content)) }
+    {
+        if count < 2 {
+            return Ok(None);
+        }
+        Ok(self.answers.prepare_further(alloc, polled.ready())?)
+    }
+
+    // The same by what was made ready of that content.
+    fn loads_by(
+        &self,
+        alloc: Global,
+        ready: &A::Ready,
+        polled: &Polled<A>,
+        due: &[Due],
+        now: u64,
+    ) -> Result<Vec<Option<Loaded>>, NoMemory>
+        requires moment { now < 2 ^ 62 }
+        requires ready { A.prepared_from ready.now ≡ polled.now.content }
+        ensures { IfOk result (λ loads. loads.items ≡ map (anew_of self.now.settings polled.now now) due.now) }
+    {
         let mut loads = Vec::new(alloc);
         for one in due {
-            loads.push(self.anew(alloc, polled, one, now)?)?;
+            loads.push(self.anew(alloc, ready, polled, one, now)?)?;
         }
         Ok(loads)
     }
@@ -145,19 +182,19 @@ impl<D: OfDb, F: FileSet + Drop, A: Answerer + Drop, B: Room> Base<D, F, A, B> {
     fn anew(
         &self,
         alloc: Global,
+        ready: &A::Ready,
         polled: &Polled<A>,
         due: &Due,
         now: u64,
     ) -> Result<Option<Loaded>, NoMemory>
-        requires { now < 2 ^ 62 }
+        requires moment { now < 2 ^ 62 }
+        requires ready { A.prepared_from ready.now ≡ polled.now.content }
         ensures { IfOk result (λ load. load ≡ anew_of self.now.settings polled.now now due.now) }
     {
         if due.is_dropped() {
             return Ok(None);
         }
-        let answer = self
-            .answers
-            .answer(alloc, polled.ready(), due.kind(), due.key())?;
+        let answer = self.answers.answer(alloc, ready, due.kind(), due.key())?;
         let key = Bytes::copy(alloc, due.key())?;
         let timeout = now + life_of(&self.settings, &answer);
         Ok(Some(Loaded::new(

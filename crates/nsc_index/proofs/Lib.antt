@@ -10,3 +10,6 @@ pub mod Crossing
 pub mod PlaceRows
 pub mod SignRows
 pub mod CompatLines
+pub mod ChainRows
+pub mod LineFronts
+pub mod NumberedLines

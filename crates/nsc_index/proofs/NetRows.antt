@@ -28,7 +28,7 @@ use Rattle.nsc_index.specs.declared.hosts.HostIndex.{HostIndex}
 use Rattle.nsc_index.specs.declared.names.NameAt.{NameAt}
 use Rattle.nsc_index.specs.declared.numbers.NumberAt.{NumberAt}
 use Rattle.nsc_index.specs.declared.services.ServiceIndex.{ServiceIndex}
-use Rattle.nsc_index.specs.Addresses.{address_number}
+use Rattle.nsc_index.specs.Numbers.{text_number}
 use Rattle.nsc_index.specs.Hosts.{IsHostIndex, host_addresses, host_names, host_words, hosts_on, is_other_than}
 use Rattle.nsc_index.specs.Indexes.{line_entry, on_line}
 use Rattle.nsc_index.specs.Names.{has_name}
@@ -120,8 +120,8 @@ rows_of_host text name =
     many_rows text (has_name Ignored text name) (λ n. str_eq_ignore_ascii_case n name) (λ line span. sym (texts_ties (str_to_ascii_lowercase (part text span)) (str_to_ascii_lowercase name))) (line_entry host_of_line text) (host_has_name name) (λ line h. host_words text line)
     (λ line h has. ap (λ (names : List (List ℕ)). list_any (λ n. str_eq_ignore_ascii_case n name) names) (host_named_there text line h has))
 
-rows_of_address : (text : List ℕ) (number : ℕ) → RowsOf (line_entry host_of_line text) (λ h. address_number h.address == number) (host_addresses text) (has_number number) (λ row. row.line)
-rows_of_address text number = one_row (line_entry host_of_line text) (λ h. address_number h.address == number) (λ line h. place_of_number line (address_number h.address)) (has_number number) (λ row. row.line) (λ line h. sym (unsigned_ties (address_number h.address) number)) (λ line h. refl)
+rows_of_address : (text : List ℕ) (number : ℕ) → RowsOf (line_entry host_of_line text) (λ h. text_number h.address == number) (host_addresses text) (has_number number) (λ row. row.line)
+rows_of_address text number = one_row (line_entry host_of_line text) (λ h. text_number h.address == number) (λ line h. place_of_number line (text_number h.address)) (has_number number) (λ row. row.line) (λ line h. sym (unsigned_ties (text_number h.address) number)) (λ line h. refl)
 
 and_comm : (a b : Bool) → (a && b) ≡ (b && a)
 and_comm true true = refl
@@ -130,19 +130,19 @@ and_comm false true = refl
 and_comm false false = refl
 
 -- one address has one number
-same_number : (address : List ℕ) (h : Host) → host_addressed address h ≡ ((address_number h.address == address_number address) && host_addressed address h)
+same_number : (address : List ℕ) (h : Host) → host_addressed address h ≡ ((text_number h.address == text_number address) && host_addressed address h)
 same_number address h =
-    elim (bytes_eq h.address address) as (λ v. bytes_eq h.address address ≡ v → v ≡ ((address_number h.address == address_number address) && v)) [
-      | true ↦ λ same. ap (λ v. v && true) (sym ((Decides-eqb (address_number h.address) (address_number address)).1 (ap address_number ((bytes_eq-Decides h.address address).0 same))))
-      | false ↦ λ other. and_comm false (address_number h.address == address_number address)
+    elim (bytes_eq h.address address) as (λ v. bytes_eq h.address address ≡ v → v ≡ ((text_number h.address == text_number address) && v)) [
+      | true ↦ λ same. ap (λ v. v && true) (sym ((Decides-eqb (text_number h.address) (text_number address)).1 (ap text_number ((bytes_eq-Decides h.address address).0 same))))
+      | false ↦ λ other. and_comm false (text_number h.address == text_number address)
     ] refl
 
 module _ (text : List ℕ) (index : HostIndex) (is : IsHostIndex text index) where
   pub host_by_name : (name : List ℕ) (family : ℕ) (slice : List NameAt) → slice ≡ filter (has_name Ignored text name) index.names.items → first_left (λ (at : NameAt). on_line (line_entry host_of_line text) text at.line) (λ h. h.family == family) slice ≡ first_named host_of_line (host_named family name) text
   host_by_name name family slice slice_is = first_among host_of_line text (rows_of_host text name) index.names.items is.names (str_to_ascii_lowercase name) (λ row. refl) slice slice_is (λ h. h.family == family) (host_named family name) (λ h. and_comm (h.family == family) (host_has_name name h))
 
-  pub host_by_address : (address : List ℕ) (slice : List NumberAt) → slice ≡ filter (has_number (address_number address)) index.addresses.items → first_left (λ (at : NumberAt). on_line (line_entry host_of_line text) text at.line) (host_addressed address) slice ≡ first_named host_of_line (host_addressed address) text
-  host_by_address address slice slice_is = first_among host_of_line text (rows_of_address text (address_number address)) index.addresses.items is.addresses (address_number address) (λ row. refl) slice slice_is (host_addressed address) (host_addressed address) (same_number address)
+  pub host_by_address : (address : List ℕ) (slice : List NumberAt) → slice ≡ filter (has_number (text_number address)) index.addresses.items → first_left (λ (at : NumberAt). on_line (line_entry host_of_line text) text at.line) (host_addressed address) slice ≡ first_named host_of_line (host_addressed address) text
+  host_by_address address slice slice_is = first_among host_of_line text (rows_of_address text (text_number address)) index.addresses.items is.addresses (text_number address) (λ row. refl) slice slice_is (host_addressed address) (host_addressed address) (same_number address)
 
 -- ---- all addresses of a host
 

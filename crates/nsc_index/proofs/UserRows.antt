@@ -1,61 +1,53 @@
--- The first line of a passwd file that is named, by its index.
-use Rattle.std.proofs.Common.{◌≡◌, ℕ, ◌==◌, List, ◌++◌, filter, map, Option, option_and_then, refl, sym, ◌∙◌, ap}
-use Rattle.std.specs.List.{slice_get}
+-- The lines of a passwd file that are named, by its index.
+use Rattle.std.proofs.Common.{◌≡◌, ℕ, ◌==◌, Bool, List, [], filter, map, Option, Some, option_and_then, refl, sym, ◌∙◌, ap}
 use Rattle.std.specs.Option.{is_some, option_map}
 use Rattle.std.specs.Str.{bytes_eq}
-use Rattle.std.specs.Cmp.{unsigned_ties}
-use Rattle.std.specs.Cmp.Lexicographic.{texts_ties}
-use Rattle.nsc_base.specs.declared.search.Case.TheVariants.{Counts}
+use Rattle.std.proofs.lemmas.Slice.Eq.{bytes_eq-Decides}
+use Rattle.std.proofs.lemmas.Bool.Decides.{Decides-eqb}
 use Rattle.nsc_base.specs.Text.{part}
-use Rattle.nsc_model.specs.Entries.{first_named, if_named}
+use Rattle.nsc_model.specs.declared.row.Passwd.{Passwd}
+use Rattle.nsc_model.specs.Entries.{first_named, first_of, if_named}
 use Rattle.nsc_model.specs.Users.{user_of_line}
 use Rattle.nsc_model.proofs.Firsts.{first_is}
 use Rattle.nsc_accounts.specs.Passwd.{GivesUser, user_at, user_places}
 use Rattle.nsc_accounts.specs.declared.passwd.PasswdAt.{PasswdAt}
-use Rattle.nsc_accounts.proofs.Named.{user_given}
-use Rattle.nsc_index.specs.declared.names.NameAt.{NameAt}
+use Rattle.nsc_accounts.proofs.Named.{user_given, user_names}
 use Rattle.nsc_index.specs.declared.numbers.NumberAt.{NumberAt}
 use Rattle.nsc_index.specs.declared.users.UserIndex.{UserIndex}
+use Rattle.nsc_index.specs.Fronts.{raw_id, raw_mark}
 use Rattle.nsc_index.specs.Indexes.{on_line}
-use Rattle.nsc_index.specs.Names.{has_name, place_of_name}
-use Rattle.nsc_index.specs.Numbers.{has_number, place_of_number}
-use Rattle.nsc_index.specs.Users.{IsUserIndex, user_ids, user_names}
+use Rattle.nsc_index.specs.Numbers.{has_number, text_number}
+use Rattle.nsc_index.specs.Users.{IsUserIndex, users_named}
 use Rattle.nsc_index.specs.Signs.{Adds}
-use Rattle.nsc_index.proofs.LineRows.{RowsOf, found_on, one_row, the_rows}
-use Rattle.nsc_index.proofs.SignRows.{added_rows, some_mapped}
-
-rows_of_name : (text name : List ℕ) → RowsOf (user_places text) (λ at. bytes_eq (part text at.name) name) (user_names text) (has_name Counts text name) (λ at. at.line)
-rows_of_name text name = one_row (user_places text) (λ at. bytes_eq (part text at.name) name) (λ line at. place_of_name line at.name) (has_name Counts text name) (λ at. at.line) (λ line at. sym (texts_ties (part text at.name) name)) (λ line at. refl)
-
-rows_of_id : (text : List ℕ) (uid : ℕ) → RowsOf (user_places text) (λ at. at.uid == uid) (user_ids text) (has_number uid) (λ at. at.line)
-rows_of_id text uid = one_row (user_places text) (λ at. at.uid == uid) (λ line at. place_of_number line at.uid) (has_number uid) (λ at. at.line) (λ line at. sym (unsigned_ties at.uid uid)) (λ line at. refl)
+use Rattle.nsc_index.proofs.LineFronts.{marked_front, numbered_front}
+use Rattle.nsc_index.proofs.NumberedLines.{first_line, named_added, named_among, named_at}
+use Rattle.nsc_index.proofs.SignRows.{some_mapped}
 
 module _ (text : List ℕ) (index : UserIndex) (is : IsUserIndex text index) where
-  pub by_name : (name : List ℕ) (slice : List NameAt) (first : Option NameAt) (found : Option PasswdAt) → slice ≡ filter (has_name Counts text name) index.names.items → first ≡ slice_get slice 0 → found ≡ option_and_then (λ at. on_line (user_places text) text at.line) first
-      → option_map (user_at text) found ≡ first_named user_of_line (λ p. bytes_eq p.name name) text
-  by_name name slice first found slice_is is_first on =
-      first_is (GivesUser text (λ at. bytes_eq (part text at.name) name)) text (user_at text) user_of_line (λ p. bytes_eq p.name name) (λ span r ordered ends gives. user_given text (λ p. bytes_eq p.name name) span r ordered ends gives) found
-      (found_on (rows_of_name text name) text index.names.items is.names name (λ row. refl) slice first found slice_is is_first on)
-
-  pub by_id : (uid : ℕ) (slice : List NumberAt) (first : Option NumberAt) (found : Option PasswdAt) → slice ≡ filter (has_number uid) index.ids.items → first ≡ slice_get slice 0 → found ≡ option_and_then (λ at. on_line (user_places text) text at.line) first
-      → option_map (user_at text) found ≡ first_named user_of_line (λ p. p.uid == uid) text
-  by_id uid slice first found slice_is is_first on =
-      first_is (GivesUser text (λ at. at.uid == uid)) text (user_at text) user_of_line (λ p. p.uid == uid) (λ span r ordered ends gives. user_given text (λ p. p.uid == uid) span r ordered ends gives) found
-      (found_on (rows_of_id text uid) text index.ids.items is.ids uid (λ row. refl) slice first found slice_is is_first on)
-
   -- the lines of a name, and those of an id
-  pub named_lines : (name old new : List ℕ) (slice : List NameAt) → slice ≡ filter (has_name Counts text name) index.names.items → new ≡ old ++ map (λ (at : NameAt). at.line) slice → Adds text (λ line. is_some (if_named (λ p. bytes_eq p.name name) (user_of_line line))) old new
-  named_lines name old new slice slice_is new_is =
-      added_rows (rows_of_name text name) text (λ line. is_some (if_named (λ p. bytes_eq p.name name) (user_of_line line)))
-      (λ line ordered ends.
-      let places = if_named (λ at. bytes_eq (part text at.name) name) (user_places text line) in
-      sym (some_mapped (user_at text) places) ∙ ap is_some (user_given text (λ p. bytes_eq p.name name) line places ordered ends refl)) old new slice new_is
-      (slice_is ∙ the_rows (rows_of_name text name) text index.names.items is.names name (λ row. refl))
+  pub lines_of_name : (name lines new : List ℕ) → lines ≡ map (λ (at : NumberAt). at.line) (filter (has_number (text_number name)) index.names) → new ≡ filter (named_at (user_places text) (λ at. bytes_eq (part text at.name) name) text) lines → new ≡ users_named text (λ at. bytes_eq (part text at.name) name)
+  lines_of_name name lines new lines_are new_is =
+      named_among (user_places text) (λ at. bytes_eq (part text at.name) name) text (λ line. raw_mark (part text line)) (text_number name)
+      (λ line ordered ends named. marked_front (part text line) (user_places text line) (λ at. part text at.name) (λ at. at.uid) (λ at. bytes_eq (part text at.name) name) name (user_names text line ordered ends) (λ at same. (bytes_eq-Decides (part text at.name) name).0 same) named)
+      index.names lines new is.names lines_are new_is
 
-  pub numbered_lines : (uid : ℕ) (old new : List ℕ) (slice : List NumberAt) → slice ≡ filter (has_number uid) index.ids.items → new ≡ old ++ map (λ (at : NumberAt). at.line) slice → Adds text (λ line. is_some (if_named (λ p. p.uid == uid) (user_of_line line))) old new
-  numbered_lines uid old new slice slice_is new_is =
-      added_rows (rows_of_id text uid) text (λ line. is_some (if_named (λ p. p.uid == uid) (user_of_line line)))
+  pub lines_of_id : (uid : ℕ) (lines new : List ℕ) → lines ≡ map (λ (at : NumberAt). at.line) (filter (has_number uid) index.ids) → new ≡ filter (named_at (user_places text) (λ at. at.uid == uid) text) lines → new ≡ users_named text (λ at. at.uid == uid)
+  lines_of_id uid lines new lines_are new_is =
+      named_among (user_places text) (λ at. at.uid == uid) text (λ line. raw_id (part text line)) uid
+      (λ line ordered ends named. numbered_front (part text line) (user_places text line) (λ at. part text at.name) (λ at. at.uid) (λ at. at.uid == uid) uid (user_names text line ordered ends) (λ at same. (Decides-eqb at.uid uid).0 same) named)
+      index.ids lines new is.ids lines_are new_is
+
+module _ (text : List ℕ) (names : Passwd → Bool) (places : List ℕ) (are : places ≡ users_named text (λ at. names (user_at text at))) where
+  -- the first of the lines that are named
+  pub first_user : (found : Option PasswdAt) → found ≡ option_and_then (on_line (user_places text) text) (first_of places) → option_map (user_at text) found ≡ first_named user_of_line names text
+  first_user found on =
+      first_is (GivesUser text (λ at. names (user_at text at))) text (user_at text) user_of_line names (λ span r ordered ends gives. user_given text names span r ordered ends gives) found
+      (first_line (user_places text) (λ at. names (user_at text at)) text found (on ∙ ap (λ (ps : List ℕ). option_and_then (on_line (user_places text) text) (first_of ps)) are))
+
+  -- and the places of all of them
+  pub places_of_users : Adds text (λ line. is_some (if_named names (user_of_line line))) [] places
+  places_of_users =
+      named_added (user_places text) (λ at. names (user_at text at)) text (λ line. is_some (if_named names (user_of_line line)))
       (λ line ordered ends.
-      let places = if_named (λ at. at.uid == uid) (user_places text line) in
-      sym (some_mapped (user_at text) places) ∙ ap is_some (user_given text (λ p. p.uid == uid) line places ordered ends refl)) old new slice new_is
-      (slice_is ∙ the_rows (rows_of_id text uid) text index.ids.items is.ids uid (λ row. refl))
+      let given = if_named (λ at. names (user_at text at)) (user_places text line) in
+      sym (some_mapped (user_at text) given) ∙ ap is_some (user_given text names line given ordered ends refl)) places are

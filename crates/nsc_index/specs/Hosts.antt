@@ -13,7 +13,7 @@ use Rattle.nsc_nets.specs.Lines.{entry_part}
 use Rattle.nsc_index.specs.declared.hosts.HostIndex.{HostIndex}
 use Rattle.nsc_index.specs.declared.names.NameAt.{NameAt}
 use Rattle.nsc_index.specs.declared.numbers.NumberAt.{NumberAt}
-use Rattle.nsc_index.specs.Addresses.{address_number}
+use Rattle.nsc_index.specs.Numbers.{text_number}
 use Rattle.nsc_index.specs.Indexes.{Indexes, line_entry, on_line, rows_from}
 use Rattle.nsc_index.specs.Names.{name_key, place_of_name}
 use Rattle.nsc_index.specs.Numbers.{number_in, place_of_number}
@@ -27,7 +27,7 @@ abbrev pub host_names : List ℕ → Span → List NameAt
 host_names text line = option_map_or (λ h. map (place_of_name line) (host_words text line)) (line_entry host_of_line text line) []
 
 abbrev pub host_addresses : List ℕ → Span → List NumberAt
-host_addresses text line = option_to_list (option_map (λ h. place_of_number line (address_number h.address)) (line_entry host_of_line text line))
+host_addresses text line = option_to_list (option_map (λ h. place_of_number line (text_number h.address)) (line_entry host_of_line text line))
 
 -- the hosts of lines, row after row
 abbrev pub hosts_on : List ℕ → List NameAt → List Host

@@ -1,10 +1,12 @@
 pub mod Indexes
 pub mod Names
 pub mod Numbers
+pub mod Chains
+pub mod Fronts
 pub mod Signs
 pub mod Users
 pub mod Groups
-pub mod Addresses
 pub mod Hosts
 pub mod Services
 pub mod Prepared
+pub mod Indexed

@@ -1,5 +1,5 @@
 -- Numbers of lines.
-use Rattle.std.specs.Prelude.{ℕ, Bool}
+use Rattle.std.specs.Prelude.{ℕ, ◌+◌, ◌*◌, ◌%◌, ◌^◌, Bool, List, fold}
 use Rattle.std.specs.Ordering.{is_eq, nat_cmp}
 use Rattle.nsc_base.specs.declared.span.Span.{Span}
 use Rattle.nsc_index.specs.declared.numbers.NumberAt.{NumberAt}
@@ -13,3 +13,8 @@ number_in at = at.number
 
 abbrev pub has_number : ℕ → NumberAt → Bool
 has_number number at = is_eq (nat_cmp at.number number)
+
+-- a number of 32 bits that a text gives. Which one counts for nothing: what is said of indexes holds for any function of texts, and no
+-- clause looks into this one
+unfoldable pub text_number : List ℕ → ℕ
+text_number text = fold (λ number byte. (number * 31 % 2 ^ 32 + byte) % 2 ^ 32) 0 text

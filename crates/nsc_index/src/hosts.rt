@@ -5,13 +5,12 @@ ghost use Rattle.nsc_model.specs.Entries.{first_named, first_of, if_named};
 ghost use Rattle.nsc_model.specs.Files.{file_limit};
 ghost use Rattle.nsc_model.specs.Hosts.{host_addressed, host_named, host_of_line};
 ghost use Rattle.nsc_nets.specs.Hosts.{HostLiesIn, host_at};
-ghost use Rattle.nsc_index.specs.Addresses.{address_number};
 ghost use Rattle.nsc_index.specs.Hosts.{hosts_on, is_other_than};
 ghost use Rattle.nsc_index.specs.Indexes.{line_entry, on_line};
 
 use crate::lines::line_on;
 use crate::names::{NameAt, places_of_name, sorted_names};
-use crate::numbers::{NumberAt, places_of_number, sorted_numbers};
+use crate::numbers::{NumberAt, places_of_number, sorted_numbers, text_number};
 use crate::words::add_words;
 use nsc_base::{Case, NoMemory, equal, line_at};
 use nsc_model::Ai;
@@ -43,7 +42,7 @@ impl HostIndex {
             if let Some(host) = host_line(text, line.span) {
                 names.push(NameAt::new(host.name, line.span))?;
                 add_words(text, line.span, host.aliases, &mut names)?;
-                let number = address_number(host.address_bytes());
+                let number = text_number(host.address_bytes());
                 addresses.push(NumberAt::new(number, line.span))?;
             }
             from = line.next;
@@ -77,7 +76,7 @@ impl HostIndex {
         ensures entry { option_map (host_at text.now) result ≡ first_named host_of_line (host_addressed address.now) text.now }
         ensures inside { IfSome result (HostLiesIn (record { from = 0; to = length text.now })) }
     {
-        for at in places_of_number(&self.addresses, address_number(address)) {
+        for at in places_of_number(&self.addresses, text_number(address)) {
             if let Some(host) = address_on(text, at.line, address) {
                 return Some(host);
             }
@@ -125,16 +124,6 @@ fn other_on(text: &[u8], place: u32, family: Option<u8>) -> Option<HostAt>
     } else {
         Some(host)
     }
-}
-
-// A number that an address gives. Addresses of one number stand side by side, and are told apart by their bytes.
-#[tactic(auto, unfolding(crate::specs::Addresses::address_number))]
-fn address_number(address: &[u8]) -> u32
-    ensures { result ≡ address_number address.now }
-{
-    address.iter().fold(0u32, |number, byte| {
-        number.wrapping_mul(31).wrapping_add(u32::from(*byte))
-    })
 }
 
 // The entry of the line that begins at a place, where it has the form and an address of this family.

@@ -1,37 +1,86 @@
+ghost use Rattle.std.specs.Prelude.{◌≡◌, IfOk};
+ghost use Rattle.std.specs.Arc.{arc_value};
+ghost use Rattle.nsc_model.specs.Answers.{looked_up};
+ghost use Rattle.nsc_model.specs.Files.{FilesFit};
+ghost use Rattle.nsc_index.specs.Indexed.{content_of};
+
 use crate::lookup::look_up;
 use crate::prepared::Prepared;
-use nsc_answer::answer_with;
+use nsc_answer::{Listed, answer_with};
 use nsc_base::NoMemory;
-use nsc_model::{Answer, Answerer, Content, Kind};
+use nsc_model::{Answer, Answerer, Content, Kind, Looked};
 use std::alloc::Global;
 use std::sync::Arc;
 
-/// Answers over indexes of a content's files, which are made once with its service lists: a lookup of an entry then costs a search
-/// in the order of its key, whatever the number of entries.
+/// A content that is ready for answers.
+#[derive(Debug, Drop)]
+pub enum Ready {
+    /// Its service lists are read: a lookup of an entry costs a search through the files.
+    Listed(Listed),
+    /// Its files have their indexes too: a lookup of an entry walks along a chain, or searches in the order of its key.
+    Prepared(Prepared),
+}
+
+impl Ready {
+    // The content.
+    fn content(&self) -> &Arc<Content>
+        ensures { arc_value result.now ≡ content_of self.now }
+    {
+        match self {
+            Ready::Listed(listed) => listed.content(),
+            Ready::Prepared(prepared) => prepared.content(),
+        }
+    }
+
+    // The outcome of the switch over the content for the request of this kind and key. No file of the content is longer than a file
+    // may be. Fails only for want of memory.
+    fn look(&self, alloc: Global, kind: Kind, key: &[u8]) -> Result<Looked, NoMemory>
+        ensures outcome { IfOk result (λ looked. looked ≡ looked_up (content_of self.now) (record { kind = kind; key = key.now })) }
+        ensures fits { FilesFit (content_of self.now) }
+    {
+        match self {
+            Ready::Listed(listed) => listed.look(alloc, kind, key),
+            Ready::Prepared(prepared) => look_up(alloc, prepared, kind, key),
+        }
+    }
+}
+
+/// Answers over the files themselves until a content is prepared further, and then over indexes of its files. So the first answer over
+/// a content waits for no index, and the later ones go through no file.
 #[derive(Clone, Copy, Debug)]
 pub struct Indexed;
 
 impl Answerer for Indexed {
-    type Ready = Prepared;
+    type Ready = Ready;
 
-    ghost prepared_from = { λ ready. ready };
+    ghost prepared_from = { content_of };
 
-    fn prepare(&self, alloc: Global, content: Arc<Content>) -> Result<Prepared, NoMemory> {
-        Prepared::of(alloc, content)
+    fn prepare(&self, alloc: Global, content: Arc<Content>) -> Result<Ready, NoMemory> {
+        Ok(Ready::Listed(Listed::of(alloc, content)?))
     }
 
-    fn content<'a>(&self, ready: &'a Prepared) -> &'a Arc<Content> {
+    fn content<'a>(&self, ready: &'a Ready) -> &'a Arc<Content> {
         ready.content()
+    }
+
+    fn prepare_further(&self, alloc: Global, ready: &Ready) -> Result<Option<Ready>, NoMemory> {
+        match ready {
+            Ready::Listed(listed) => {
+                let prepared = Prepared::of(alloc, listed.content().clone()?)?;
+                Ok(Some(Ready::Prepared(prepared)))
+            }
+            Ready::Prepared(_) => Ok(None),
+        }
     }
 
     fn answer(
         &self,
         alloc: Global,
-        ready: &Prepared,
+        ready: &Ready,
         kind: Kind,
         key: &[u8],
     ) -> Result<Answer, NoMemory> {
-        let looked = look_up(alloc, ready, kind, key)?;
+        let looked = ready.look(alloc, kind, key)?;
         answer_with(alloc, kind, looked)
     }
 }

@@ -1,8 +1,10 @@
-//! Answers of a name service over a content whose lines stand in order: what the files alone decide is made once, and a lookup
-//! finds its line by a search in the order of the keys.
+//! Answers of a name service over a content: at first by a search through its files, and once it is prepared further by indexes of their
+//! lines, where a lookup finds its line by the number of its key or by a search in the order of the keys.
 #![tactic(auto)]
 
+mod chains;
 mod compat;
+mod fronts;
 mod groups;
 mod hosts;
 mod indexed;
@@ -19,5 +21,5 @@ mod signs;
 mod users;
 mod words;
 
-pub use indexed::Indexed;
+pub use indexed::{Indexed, Ready};
 pub use prepared::Prepared;

@@ -2,7 +2,7 @@ ghost use Rattle.std.specs.Prelude.{◌≡◌, ◌≤◌, ◌<◌, ◌^◌, IfOk
 ghost use Rattle.std.specs.List.Sorted.{IsSortedByKey};
 ghost use Rattle.std.specs.Ordering.{nat_cmp};
 ghost use Rattle.nsc_index.specs.Indexes.{Indexes};
-ghost use Rattle.nsc_index.specs.Numbers.{has_number, number_in, place_of_number};
+ghost use Rattle.nsc_index.specs.Numbers.{has_number, number_in, place_of_number, text_number};
 
 use nsc_base::{NoMemory, Span};
 use std::cmp::Ordering;
@@ -62,4 +62,14 @@ pub fn places_of_number(numbers: &[NumberAt], number: u32) -> &[NumberAt]
     let rest = &numbers[from..];
     let count = rest.partition_point(|at| order_to(at, number).is_eq());
     &rest[..count]
+}
+
+/// A number that a text gives. Texts of one number are told apart by their bytes.
+#[tactic(auto, unfolding(crate::specs::Numbers::text_number))]
+pub fn text_number(text: &[u8]) -> u32
+    ensures { result ≡ text_number text.now }
+{
+    text.iter().fold(0u32, |number, byte| {
+        number.wrapping_mul(31).wrapping_add(u32::from(*byte))
+    })
 }

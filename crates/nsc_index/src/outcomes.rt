@@ -30,7 +30,7 @@ pub fn user_by_name(
     let Some(text) = file else {
         return Ok(Looked::Unavail);
     };
-    match users.by_name(text, name) {
+    match users.by_name(alloc, text, name)? {
         Some(at) => Ok(Looked::Found(Row::Passwd(user_row(alloc, text, &at)?))),
         None => Ok(Looked::NotFound),
     }
@@ -66,7 +66,7 @@ fn numbered_user(
     let Some(uid) = decimal(key) else {
         return Ok(Looked::NotFound);
     };
-    match users.by_id(text, uid) {
+    match users.by_id(alloc, text, uid)? {
         Some(at) => Ok(Looked::Found(Row::Passwd(user_row(alloc, text, &at)?))),
         None => Ok(Looked::NotFound),
     }

@@ -1,32 +1,36 @@
-ghost use Rattle.std.specs.Prelude.{◌≡◌, ◌==◌, ◌≤◌, IfOk, IfSome, OnOk, length, true};
+ghost use Rattle.std.specs.Prelude.{◌≡◌, ◌==◌, ◌≤◌, IfOk, IfSome, filter, length, option_and_then, true};
 ghost use Rattle.std.specs.Option.{is_some, option_map};
 ghost use Rattle.std.specs.Str.{bytes_eq};
 ghost use Rattle.nsc_model.specs.Users.{user_of_line};
-ghost use Rattle.nsc_model.specs.Answers.{is_id, user_named};
-ghost use Rattle.nsc_model.specs.Entries.{first_named, if_named};
+ghost use Rattle.nsc_base.specs.Text.{part};
+ghost use Rattle.nsc_model.specs.Answers.{is_id, user_named as is_named};
+ghost use Rattle.nsc_model.specs.Entries.{first_named, first_of, if_named};
 ghost use Rattle.nsc_model.specs.Files.{file_limit};
 ghost use Rattle.nsc_accounts.specs.Passwd.{UserLiesIn, user_at, user_places};
 ghost use Rattle.nsc_compat.specs.Matters.{AreLines, matters};
 ghost use Rattle.nsc_index.specs.Indexes.{on_line};
-ghost use Rattle.nsc_index.specs.Signs.{Adds};
+ghost use Rattle.nsc_index.specs.Users.{users_named};
 
+use crate::chains::Chains;
+use crate::fronts::add_front;
 use crate::lines::line_on;
-use crate::names::{NameAt, places_of_name, sorted_names};
-use crate::numbers::{NumberAt, places_of_number, sorted_numbers};
-use crate::places::{add_named, add_numbered, lines_at};
+use crate::names::NameAt;
+use crate::numbers::text_number;
+use crate::places::{add_named, lines_at};
 use crate::signs::{add_sign, add_signs_on, sorted_signs};
-use nsc_accounts::{PasswdAt, passwd_line};
-use nsc_base::{Case, NoMemory, Span, line_at};
+use nsc_accounts::{PasswdAt, passwd_line, user_named, user_numbered};
+use nsc_base::{NoMemory, Span, line_at};
 use std::alloc::Global;
 
-/// The lines of a passwd file, passwd(5), in the order of their names and in that of their user ids: twenty bytes for a line. Beside
-/// them the names on which lines speak by a sign, as the service compat reads them: twelve bytes for such a line.
+/// The lines of a passwd file, passwd(5), by the numbers of their names and by their user ids: thirty-two bytes for a line. Whether a
+/// line has the form is judged when it is looked up. Beside them the names on which lines speak by a sign, as the service compat reads
+/// them: twelve bytes for such a line.
 #[derive(Debug, Drop)]
 pub struct UserIndex {
-    /// The names.
-    pub names: Vec<NameAt>,
+    /// The numbers of the names.
+    pub names: Chains,
     /// The user ids.
-    pub ids: Vec<NumberAt>,
+    pub ids: Chains,
     /// The names after signs.
     pub signs: Vec<NameAt>,
 }
@@ -44,40 +48,42 @@ impl UserIndex {
         let mut signs = Vec::new(alloc);
         let mut from = 0;
         while let Some(line) = line_at(text, from) {
-            if let Some(user) = passwd_line(text, line.span) {
-                names.push(NameAt::new(user.name, line.span))?;
-                ids.push(NumberAt::new(user.uid, line.span))?;
-            }
+            add_front(text, line.span, &mut names, &mut ids)?;
             add_sign(text, line.span, &mut signs)?;
             from = line.next;
         }
         Ok(UserIndex {
-            names: sorted_names(text, Case::Counts, names)?,
-            ids: sorted_numbers(ids)?,
+            names: Chains::of(alloc, names)?,
+            ids: Chains::of(alloc, ids)?,
             signs: sorted_signs(text, signs)?,
         })
     }
 
     /// The first line of this name that has the form, as places in the file that this is the index of. `None` where there is
-    /// none. Takes no memory.
-    pub fn by_name(&self, text: &[u8], name: &[u8]) -> Option<PasswdAt>
+    /// none. Fails only for want of memory.
+    pub fn by_name(
+        &self,
+        alloc: Global,
+        text: &[u8],
+        name: &[u8],
+    ) -> Result<Option<PasswdAt>, NoMemory>
         requires { IsUserIndex text.now self.now }
-        ensures entry { option_map (user_at text.now) result ≡ first_named user_of_line (λ p. bytes_eq p.name name.now) text.now }
-        ensures inside { IfSome result (UserLiesIn (record { from = 0; to = length text.now })) }
+        ensures entry { IfOk result (λ found. option_map (user_at text.now) found ≡ first_named user_of_line (λ p. bytes_eq p.name name.now) text.now) }
+        ensures inside { IfOk result (λ found. IfSome found (UserLiesIn (record { from = 0; to = length text.now }))) }
     {
-        let at = places_of_name(text, Case::Counts, &self.names, name).first()?;
-        user_on(text, at.line)
+        let places = self.places_of_name(alloc, text, name)?;
+        Ok(first_user(text, &places))
     }
 
     /// The first line of this user id that has the form, as places in the file that this is the index of. `None` where there is
-    /// none. Takes no memory.
-    pub fn by_id(&self, text: &[u8], uid: u32) -> Option<PasswdAt>
+    /// none. Fails only for want of memory.
+    pub fn by_id(&self, alloc: Global, text: &[u8], uid: u32) -> Result<Option<PasswdAt>, NoMemory>
         requires { IsUserIndex text.now self.now }
-        ensures entry { option_map (user_at text.now) result ≡ first_named user_of_line (λ p. p.uid == uid) text.now }
-        ensures inside { IfSome result (UserLiesIn (record { from = 0; to = length text.now })) }
+        ensures entry { IfOk result (λ found. option_map (user_at text.now) found ≡ first_named user_of_line (λ p. p.uid == uid) text.now) }
+        ensures inside { IfOk result (λ found. IfSome found (UserLiesIn (record { from = 0; to = length text.now }))) }
     {
-        let at = places_of_number(&self.ids, uid).first()?;
-        user_on(text, at.line)
+        let places = self.places_of_id(alloc, text, uid)?;
+        Ok(first_user(text, &places))
     }
 
     /// The lines that matter to compat for the entry of this name: those of the name, and those that speak by a sign on it or on
@@ -89,11 +95,9 @@ impl UserIndex {
         name: &[u8],
     ) -> Result<Vec<Span>, NoMemory>
         requires { IsUserIndex text.now self.now }
-        ensures { IfOk result (λ lines. AreLines text.now (matters user_of_line (user_named name.now) (λ other. bytes_eq other name.now)) lines.items) }
+        ensures { IfOk result (λ lines. AreLines text.now (matters user_of_line (is_named name.now) (λ other. bytes_eq other name.now)) lines.items) }
     {
-        let mut places = Vec::new(alloc);
-        let named = places_of_name(text, Case::Counts, &self.names, name);
-        add_named(named, &mut places)?;
+        let mut places = self.places_of_name(alloc, text, name)?;
         add_signs_on(text, &self.signs, name, &mut places)?;
         let lines = lines_at(alloc, text, places)?;
         Ok(lines)
@@ -110,29 +114,101 @@ impl UserIndex {
         requires { IsUserIndex text.now self.now }
         ensures { IfOk result (λ lines. AreLines text.now (matters user_of_line (λ p. is_id uid p.uid) (λ other. true)) lines.items) }
     {
-        let mut places = Vec::new(alloc);
-        self.add_lines_of_id(text, uid, &mut places)?;
+        let mut places = self.places_where(alloc, text, uid)?;
         add_named(&self.signs, &mut places)?;
         let lines = lines_at(alloc, text, places)?;
         Ok(lines)
     }
 
-    // Adds the places of the lines of a user id, where there is one.
-    fn add_lines_of_id(
+    // The places of the lines of a user id that have the form, in their order. None are those of no id.
+    fn places_where(
         &self,
+        alloc: Global,
         text: &[u8],
         uid: Option<u32>,
-        places: &mut Vec<u32>,
-    ) -> Result<(), NoMemory>
+    ) -> Result<Vec<u32>, NoMemory>
         requires { IsUserIndex text.now self.now }
-        ensures { OnOk result (Adds text.now (λ line. is_some (if_named (λ p. is_id uid p.uid) (user_of_line line))) places.old.items places.new.items) }
+        ensures { IfOk result (λ places. places.items ≡ users_named text.now (λ at. is_id uid at.uid)) }
     {
-        let Some(uid) = uid else {
-            return Ok(());
-        };
-        add_numbered(places_of_number(&self.ids, uid), places)?;
-        Ok(())
+        match uid {
+            Some(uid) => self.places_of_id(alloc, text, uid),
+            None => Ok(Vec::new(alloc)),
+        }
     }
+
+    // The places of the lines of a name that have the form, in their order: of the lines whose names give its number, those
+    // that have it.
+    fn places_of_name(&self, alloc: Global, text: &[u8], name: &[u8]) -> Result<Vec<u32>, NoMemory>
+        requires { IsUserIndex text.now self.now }
+        ensures { IfOk result (λ places. places.items ≡ users_named text.now (λ at. bytes_eq (part text.now at.name) name.now)) }
+    {
+        let lines = self.names.lines_of(alloc, text_number(name))?;
+        with_name(alloc, text, &lines, name)
+    }
+
+    // The places of the lines of a user id that have the form, in their order: of the lines that spell it, those that have it.
+    fn places_of_id(&self, alloc: Global, text: &[u8], uid: u32) -> Result<Vec<u32>, NoMemory>
+        requires { IsUserIndex text.now self.now }
+        ensures { IfOk result (λ places. places.items ≡ users_named text.now (λ at. at.uid == uid)) }
+    {
+        let lines = self.ids.lines_of(alloc, uid)?;
+        with_id(alloc, text, &lines, uid)
+    }
+}
+
+// Of these places, those at which a line begins that has the form and this name.
+fn with_name(alloc: Global, text: &[u8], places: &[u32], name: &[u8]) -> Result<Vec<u32>, NoMemory>
+    ensures { IfOk result (λ named. named.items ≡ filter (λ place. is_some (if_named (λ at. bytes_eq (part text.now at.name) name.now) (on_line (user_places text.now) text.now place))) places.now) }
+{
+    let named = places
+        .iter()
+        .copied()
+        .filter(|place| has_name(text, *place, name))
+        .collect(alloc)?;
+    Ok(named)
+}
+
+// Of these places, those at which a line begins that has the form and this user id.
+fn with_id(alloc: Global, text: &[u8], places: &[u32], uid: u32) -> Result<Vec<u32>, NoMemory>
+    ensures { IfOk result (λ numbered. numbered.items ≡ filter (λ place. is_some (if_named (λ at. at.uid == uid) (on_line (user_places text.now) text.now place))) places.now) }
+{
+    let numbered = places
+        .iter()
+        .copied()
+        .filter(|place| has_id(text, *place, uid))
+        .collect(alloc)?;
+    Ok(numbered)
+}
+
+// Whether the line that begins at a place has the form and this name.
+fn has_name(text: &[u8], place: u32, name: &[u8]) -> bool
+    ensures { result ≡ is_some (if_named (λ at. bytes_eq (part text.now at.name) name.now) (on_line (user_places text.now) text.now place)) }
+{
+    match line_on(text, place) {
+        Some(line) => user_named(text, line, name).is_some(),
+        None => false,
+    }
+}
+
+// Whether the line that begins at a place has the form and this user id.
+fn has_id(text: &[u8], place: u32, uid: u32) -> bool
+    ensures { result ≡ is_some (if_named (λ at. at.uid == uid) (on_line (user_places text.now) text.now place)) }
+{
+    match line_on(text, place) {
+        Some(line) => user_numbered(text, line, uid).is_some(),
+        None => false,
+    }
+}
+
+// The entry of the line that begins at the first of these places, where it has the form.
+fn first_user(text: &[u8], places: &[u32]) -> Option<PasswdAt>
+    ensures entry { result ≡ option_and_then (on_line (user_places text.now) text.now) (first_of places.now) }
+    ensures inside { IfSome result (UserLiesIn (record { from = 0; to = length text.now })) }
+{
+    let [place, ..] = places else {
+        return None;
+    };
+    user_on(text, *place)
 }
 
 // The entry of the line that begins at a place, where it has the form.

@@ -1,4 +1,4 @@
-ghost use Rattle.std.specs.Prelude.{◌≡◌, ◌≤◌, IfOk, length};
+ghost use Rattle.std.specs.Prelude.{◌≡◌, ◌≤◌, IfOk, IfSome, length};
 ghost use Rattle.std.specs.Arc.{arc_value};
 ghost use Rattle.nsc_model.specs.Content.{Content};
 ghost use Rattle.nsc_model.specs.Answers.{answer_of};
@@ -25,6 +25,20 @@ pub trait Answerer {
     /// The content that `ready` was prepared from.
     fn content<'a>(&self, ready: &'a Self::Ready) -> &'a Arc<Content>
         ensures { arc_value result.now ≡ prepared_from ready.now };
+
+    /// The same content once more, prepared for many answers, where that makes them quicker; `None` where `ready` serves as well. A
+    /// caller asks for it once the content has outlasted its first answer. Fails only for want of memory.
+    fn prepare_further(
+        &self,
+        alloc: Global,
+        ready: &Self::Ready,
+    ) -> Result<Option<Self::Ready>, NoMemory>
+        ensures { IfOk result (λ further. IfSome further (λ made. prepared_from made ≡ prepared_from ready.now)) }
+    {
+        let _ = alloc;
+        let _ = ready;
+        Ok(None)
+    }
 
     /// The answer to the request of this kind and key over the content that `ready` was prepared from. Fails only
     /// for want of memory.

@@ -1,4 +1,6 @@
 ghost use Rattle.std.specs.Prelude.{◌≡◌, ℕ, List, Option, None, IfOk, IfErr, OnOk, OnErr};
+ghost use Rattle.std.specs.Bool.{OnTrue, OnFalse};
+ghost use Rattle.std.specs.Option.{option_copied};
 ghost use Rattle.nsc_model.specs.Content.{Content};
 ghost use Rattle.nsc_model.specs.Files.{FileFits};
 ghost use Rattle.nsc_model.specs.declared.kind.FileId.{FileId};
@@ -116,6 +118,32 @@ pub trait FileSet: Sized {
         ensures other_latest { ChangesOnly file (latest self.old) (latest self.new) }
         ensures held { held self.new ≡ held self.old }
         ensures conf_held { conf_held self.new ≡ conf_held self.old };
+
+    /// Whether a file is found to be as it is known, absent or these bytes, by one read that keeps nothing of it. Where it is, that
+    /// counts as a read of the file, which gave what is known. Else no count changed: the file is another one, or nothing was
+    /// found out, as by a set that has no way to look, and to tell more takes a `read`.
+    fn is_still(&mut self, alloc: Global, file: FileId, known: Option<&[u8]>) -> bool
+        ensures answer { OnTrue result (IsAsTold (told_of (held self.old) file) (option_copied known.entry)) }
+
+        // The counts.
+        ensures faults { faults self.new ≡ faults self.old }
+        ensures file_faults { file_faults self.new ≡ file_faults self.old }
+        ensures read { OnTrue result (Rose (reads self.old file) (reads self.new file)) }
+        ensures unread { OnFalse result (reads self.new ≡ reads self.old) }
+        ensures other_reads { ChangesOnly file (reads self.old) (reads self.new) }
+
+        // What the set tells.
+        ensures latest { OnTrue result (IsAsTold (latest self.new file) (option_copied known.entry)) }
+        ensures latest_stays { OnFalse result (latest self.new ≡ latest self.old) }
+        ensures other_latest { ChangesOnly file (latest self.old) (latest self.new) }
+        ensures held { held self.new ≡ held self.old }
+        ensures conf_held { conf_held self.new ≡ conf_held self.old }
+    {
+        let _ = alloc;
+        let _ = file;
+        let _ = known;
+        false
+    }
 
     /// Reads the configuration file at a path: its bytes, at most 16,777,216, or `None` where it is absent. At `Failed`
     /// and `TooLong` only the count of all faults rose; at `NoMemory` all is as before.

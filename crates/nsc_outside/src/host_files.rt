@@ -1,4 +1,5 @@
 ghost use Rattle.std.specs.Prelude.{◌≡◌, ◌↔◌, Some, None, IfOk, IfErr, OnOk, OnErr, IsOk, IsTrue};
+ghost use Rattle.std.specs.Bool.{OnTrue, OnFalse};
 ghost use Rattle.std.specs.IoError.{error_kind};
 ghost use Rattle.std.specs.Fs.{file_type, IsFile};
 ghost use Rattle.nsc_model.specs.Files.{FileFits};
@@ -6,6 +7,7 @@ ghost use Rattle.nsc_outside.specs.Stream.{Rose};
 ghost use Rattle.nsc_outside.specs.FileSets.{IsCause, RoseBy, ChangesOnly, IsAllOf, IsLong, TellsNoLength};
 ghost use Rattle.nsc_outside.specs.Tally.{count_of, no_counts};
 
+use crate::comparing::has_just;
 use crate::files::{FileSet, ReadCause};
 use crate::paths::path_of;
 use crate::tally::Tally;
@@ -85,6 +87,15 @@ impl<R: Files + Clone + Drop> HostFiles<R> {
         let path = path_of(alloc, folder, file)?;
         read_path(&self.system, alloc, path.as_str())
     }
+
+    // Whether a file is found to be as it is known.
+    fn finds(&self, alloc: Global, file: FileId, known: Option<&[u8]>) -> bool {
+        let folder = self.folder.as_ref().map(|folder| folder.as_str());
+        match path_of(alloc, folder, file) {
+            Ok(path) => is_at_path(&self.system, path.as_str(), known),
+            Err(_) => false,
+        }
+    }
 }
 
 impl<R: Files + Clone + Drop> FileSet for HostFiles<R> {
@@ -149,6 +160,23 @@ impl<R: Files + Clone + Drop> FileSet for HostFiles<R> {
         outcome
     }
 
+    /// Opens the file and reads it once, a part at a time, as long as the parts are what is known. A fault says that nothing was
+    /// found out.
+    fn is_still(&mut self, alloc: Global, file: FileId, known: Option<&[u8]>) -> bool
+        ensures faults { self.new.counts.faults ≡ self.old.counts.faults }
+        ensures file_faults { self.new.counts.file_faults ≡ self.old.counts.file_faults }
+        ensures read { OnTrue result (Rose (count_of self.old.counts.reads file) (count_of self.new.counts.reads file)) }
+        ensures unread { OnFalse result (self.new.counts.reads ≡ self.old.counts.reads) }
+        ensures other_reads { ChangesOnly file (count_of self.old.counts.reads) (count_of self.new.counts.reads) }
+        ensures folder { self.new.folder ≡ self.old.folder }
+    {
+        let is_still = self.finds(alloc, file, known);
+        if is_still {
+            self.tally.count_read(file);
+        }
+        is_still
+    }
+
     /// Opens the file at the path and reads it once. The length that `TooLong` gives is as for `read`.
     fn read_conf(&mut self, alloc: Global, path: &str) -> Result<Option<Bytes>, ReadCause>
         ensures fits { IfOk result (λ f. FileFits f) }
@@ -182,6 +210,27 @@ fn read_path<R: Files>(system: &R, alloc: Global, path: &str) -> Result<Option<B
         Err(error) => return absent_or(&error),
     };
     Ok(Some(read_whole(alloc, file, metadata.len())?))
+}
+
+// Whether the file at a path is as it is known: absent, or these bytes.
+fn is_at_path<R: Files>(system: &R, path: &str, known: Option<&[u8]>) -> bool {
+    match (fs::metadata(system, path), known) {
+        (Ok(metadata), Some(known)) => {
+            reads_at_once(&metadata)
+                && metadata.len() == known.len() as u64
+                && is_file_of(system, path, known)
+        }
+        (Err(error), None) => error.kind() == ErrorKind::NotFound,
+        _ => false,
+    }
+}
+
+// Whether the file at a path has just these bytes.
+fn is_file_of<R: Files>(system: &R, path: &str, known: &[u8]) -> bool {
+    match File::open(system, path) {
+        Ok(file) => has_just(file, known),
+        Err(_) => false,
+    }
 }
 
 // Only that nothing is found is absence.

@@ -2,6 +2,7 @@
 //! standard library's.
 #![tactic(auto)]
 
+mod comparing;
 mod files;
 mod held_files;
 mod hold;

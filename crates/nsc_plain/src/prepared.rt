@@ -9,12 +9,13 @@ use std::marker::Model;
 use std::sync::Arc;
 
 /// The files that a database reads, as they are: whether its cache is known to have polled them, and what was prepared
-/// from them, once an answer was asked for.
+/// from them, once an answer was asked for, and for many answers, once a second one was.
 #[derive(Drop)]
 pub struct Prepared<A: Answerer> {
     content: Arc<Content>,
     is_polled: bool,
     ready: Option<A::Ready>,
+    is_for_many: bool,
 }
 
 impl<A: Answerer> Model for Prepared<A> {
@@ -38,6 +39,7 @@ impl<A: Answerer> Prepared<A> {
             content,
             is_polled: false,
             ready: None,
+            is_for_many: false,
         }
     }
 
@@ -62,7 +64,7 @@ impl<A: Answerer> Prepared<A> {
         self.is_polled = true;
     }
 
-    /// The answer to the request of this kind and key over these files. What is prepared for the first answer serves the
+    /// The answer to the request of this kind and key over these files. What is prepared for the second answer serves the
     /// later ones. Fails only for want of memory.
     pub(crate) fn answer(
         &mut self,
@@ -74,12 +76,39 @@ impl<A: Answerer> Prepared<A> {
         ensures stays { self.new ≡ self.old }
         ensures answer { IfOk result (λ answer. answer ≡ answer_of self.old.files (record { kind = kind; key = key.now })) }
     {
-        let ready = match self.ready.take() {
-            Some(ready) => ready,
-            None => answers.prepare(alloc, self.content.clone()?)?,
-        };
+        let ready = self.make_ready(alloc, answers)?;
         let answer = answers.answer(alloc, &ready, kind, key);
         self.ready = Some(ready);
         answer
+    }
+
+    // What the next answer is made from.
+    fn make_ready(&mut self, alloc: Global, answers: &A) -> Result<A::Ready, NoMemory>
+        ensures stays { self.new ≡ self.old }
+        ensures ready { IfOk result (λ ready. A.prepared_from ready ≡ self.old.files) }
+    {
+        let Some(ready) = self.ready.take() else {
+            self.is_for_many = false;
+            return Ok(answers.prepare(alloc, self.content.clone()?)?);
+        };
+        if self.is_for_many {
+            return Ok(ready);
+        }
+        self.is_for_many = true;
+        prepared_further(alloc, answers, ready)
+    }
+}
+
+// The same prepared for many answers, where that makes them quicker. Fails only for want of memory.
+fn prepared_further<A: Answerer>(
+    alloc: Global,
+    answers: &A,
+    ready: A::Ready,
+) -> Result<A::Ready, NoMemory>
+    ensures { IfOk result (λ made. A.prepared_from made ≡ A.prepared_from ready) }
+{
+    match answers.prepare_further(alloc, &ready)? {
+        Some(made) => Ok(made),
+        None => Ok(ready),
     }
 }

@@ -22,16 +22,27 @@ use Rattle.nsc_model.specs.declared.kind.Kind.TheVariants.{PwName, PwUid, GrName
 use Rattle.nsc_model.specs.Kinds.{is_request, type_number}
 use Rattle.nsc_model.specs.Machine.{Kept, last_count, live_entry, used_by, used_now}
 use Rattle.nsc_shelf.specs.declared.finding.Mark.{Mark}
-use Rattle.nsc_shelf.specs.Shelf.{AreEntries, IsShelf, entries_in, is_numbered, kept_in, kind_of, others_than, request_in, shelf_of}
+use Rattle.nsc_shelf.specs.Shelf.{AreEntries, HeadWords, IsShelf, entries_in, head_in, is_numbered, kept_in, kind_of, others_than, request_in, shelf_of}
 use Rattle.nsc_shelf.proofs.Entries.{find_none, find_one, left, mapped, none_found, one_less, unmoved}
 
--- what a shelf is
-pub view_by : (words : List ℕ) (map : Layout) (nodes : List Placed) (inserted cycle failed : ℕ) → Laid words map nodes → slice_index words 4 ≡ inserted → slice_index words 0 ≡ cycle → slice_index words 9 ≡ failed
-    → shelf_of words map ≡ record { entries = entries_in nodes; used = end_of (arena_start map) nodes - arena_start map; inserted = inserted; cycle = cycle; add_failed = failed; layout = map }
-view_by words map nodes inserted cycle failed laid e4 e0 e9 =
+-- what a shelf is, where the other numbers at its head are those of these words
+pub view_by : (words : List ℕ) (map : Layout) (nodes : List Placed) (inserted cycle failed : ℕ) (head : HeadWords) → Laid words map nodes → slice_index words 4 ≡ inserted → slice_index words 0 ≡ cycle → slice_index words 9 ≡ failed → head_in words ≡ head
+    → shelf_of words map ≡ record { entries = entries_in nodes; used = end_of (arena_start map) nodes - arena_start map; inserted = inserted; cycle = cycle; add_failed = failed; head = head; layout = map; slide = None }
+view_by words map nodes inserted cycle failed head laid e4 e0 e9 eh =
     let same = read_back words map nodes laid in
     let first = laid.first_free in
-    λ i. record { entries = entries_in (same i); used = first i - arena_start map; inserted = e4 i; cycle = e0 i; add_failed = e9 i; layout = map }
+    λ i. record { entries = entries_in (same i); used = first i - arena_start map; inserted = e4 i; cycle = e0 i; add_failed = e9 i; head = eh i; layout = map; slide = None }
+
+-- these numbers are as before where their words are
+pub head_same : (new old : List ℕ) → ((i : ℕ) → i < 9 → i ≢ 0 → i ≢ 3 → i ≢ 4 → slice_index new i ≡ slice_index old i) → head_in new ≡ head_in old
+head_same new old same =
+    let e1 = same 1 (omega arith) (omega arith) (omega arith) (omega arith) in
+    let e2 = same 2 (omega arith) (omega arith) (omega arith) (omega arith) in
+    let e5 = same 5 (omega arith) (omega arith) (omega arith) (omega arith) in
+    let e6 = same 6 (omega arith) (omega arith) (omega arith) (omega arith) in
+    let e7 = same 7 (omega arith) (omega arith) (omega arith) (omega arith) in
+    let e8 = same 8 (omega arith) (omega arith) (omega arith) (omega arith) in
+    λ i. record { epoch = e1 i; source = e2 i; hits = e5 i; negative_hits = e6 i; misses = e7 i; negative_misses = e8 i }
 
 pub shelf_by : (words : List ℕ) (map : Layout) (nodes : List Placed) (inserted count : ℕ) (mark : Mark) → IsLayout map → Laid words map nodes → AreEntries nodes inserted → slice_index words 4 ≡ inserted → inserted ≤ last_count → count ≡ length (entries_in nodes) → IsMark map nodes mark.place mark.number → IsShelf words map count mark
 shelf_by words map nodes inserted count mark sizes laid entries e4 counted live marked =

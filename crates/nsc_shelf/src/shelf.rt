@@ -1,48 +1,50 @@
-ghost use Rattle.std.specs.Prelude.{◌≡◌, ◌≤◌, ◌<◌, ◌+◌, ◌^◌, ◌++◌, [], ◌∷◌, None, length, min, IfOk, IfErr, IfNone, IfSome};
+ghost use Rattle.std.specs.Prelude.{◌≡◌, ◌≤◌, ◌<◌, ◌+◌, ◌^◌, ◌++◌, [], ◌∷◌, None, length, min, IfOk, IfNone, IfSome};
 ghost use Rattle.nsc_words.specs.Layout.{IsLayout};
 ghost use Rattle.nsc_base.specs.Nodes.{node_words};
 ghost use Rattle.nsc_model.specs.Entry.{key_limit, kept_limit};
-ghost use Rattle.nsc_model.specs.Machine.{all_words, entry_words, last_count, live_entry, used_now};
-ghost use Rattle.nsc_shelf.specs.Shelf.{Gives, IsTold, entry_from, fresh_entry, has_number, key_or, kind_of, number_of, others_than, reply_or};
+ghost use Rattle.nsc_model.specs.Machine.{last_count, live_entry, used_now};
+ghost use Rattle.nsc_shelf.specs.Shelf.{Gives, IsTold, entry_from, fresh_entry, has_number, key_or, kind_of, no_head, number_of, others_than, reply_or};
 
 use crate::entry::{EntryAt, Hit};
 use crate::finding::{Mark, find_from};
 use nsc_arena::{
     Fixed, VecWords, Words, chain, clear, end_node, end_nodes, head_at, place_bytes, read_bytes,
-    set_reloads, slide, walk,
+    set_reloads, walk,
 };
 use nsc_base::{Buf, NoMemory};
-use nsc_model::{Answer, Kind, Spent};
+use nsc_model::{Answer, Kind};
 use nsc_plain::LAST_COUNT;
 use nsc_words::{ADD_FAILED, CYCLE, FIRST_FREE, KEY, LOADS, Layout};
 use std::alloc::Global;
 use std::marker::Model;
+use std::snapshot::Snapshot;
 
 /// The live entries of a database as nodes in the words of a table, with their counts at its head; it knows of no content and of no
 /// history. Its memory is taken when it is made.
 #[derive(Drop)]
 pub struct Shelf {
-    words: VecWords,
-    map: Layout,
-    live: usize,
-    mark: Mark,
+    pub(crate) words: VecWords,
+    pub(crate) map: Layout,
+    pub(crate) live: usize,
+    pub(crate) mark: Mark,
+    pub(crate) slide: Option<Snapshot<VecWords>>,
 }
 
 impl Model for Shelf {
-    ghost use Rattle.nsc_shelf.specs.Shelf.{IsShelf, Shelf, shelf_of};
+    ghost use Rattle.nsc_shelf.specs.Shelf.{IsHeld, Shelf, shelf_in};
 
     ghost Value = { Shelf };
 
-    ghost view = { λ s. shelf_of s.words s.map };
+    ghost view = { λ s. shelf_in s.slide s.words s.map };
 
-    ghost invariant = { λ s. IsShelf s.words s.map s.live s.mark };
+    ghost invariant = { λ s. IsHeld s.slide s.words s.map s.live s.mark };
 }
 
 impl Shelf {
     /// No entry. Fails only for want of memory.
     pub fn new(alloc: Global, map: Layout) -> Result<Shelf, NoMemory>
         requires { IsLayout map }
-        ensures { IfOk result (λ s. s ≡ record { entries = []; used = 0; inserted = 0; cycle = 0; add_failed = 0; layout = map }) }
+        ensures { IfOk result (λ s. s ≡ record { entries = []; used = 0; inserted = 0; cycle = 0; add_failed = 0; head = no_head; layout = map; slide = None }) }
     {
         let mut words = VecWords::new(alloc, map.words())?;
         clear(&mut words, map);
@@ -51,6 +53,7 @@ impl Shelf {
             map,
             live: 0,
             mark: Mark::start(map),
+            slide: None,
         })
     }
 
@@ -63,6 +66,7 @@ impl Shelf {
 
     /// How many words the entries take, with those that ended since the last compaction.
     pub fn used(&self) -> usize
+        requires { self.now.slide ≡ None }
         ensures { result ≡ self.now.used }
     {
         self.words.word(FIRST_FREE) as usize - self.map.arena_start()
@@ -76,7 +80,7 @@ impl Shelf {
         self.words.word(LOADS)
     }
 
-    /// The count of compactions, which goes on by two at each.
+    /// The count of the beginnings and the ends of slides, which is odd while one is under way.
     pub fn cycle(&self) -> u64
         ensures { result ≡ self.now.cycle }
     {
@@ -93,7 +97,8 @@ impl Shelf {
     /// The entry that answers the request of this kind and key, if there is one: the buffer then has its reply, and its count of
     /// reloads begins anew. It is found by the hash of the request.
     pub fn hit(&mut self, kind: Kind, key: &[u8], reply: &mut Buf) -> Option<Hit>
-        requires { kept_limit ≤ reply.old.limit }
+        requires limit { kept_limit ≤ reply.old.limit }
+        requires still { self.old.slide ≡ None }
         ensures gives { Gives (live_entry (record { kind = kind; key = key.now }) self.old.entries) result reply.new.content }
         ensures stays { IfNone result (self.new ≡ self.old) }
         ensures used { IfSome result (λ _. self.new ≡ record self.old { entries = used_now (record { kind = kind; key = key.now }) self.old.entries }) }
@@ -116,6 +121,7 @@ impl Shelf {
 
     /// The number of the entry that answers the request of this kind and key, if there is one.
     pub fn number_of(&mut self, kind: Kind, key: &[u8]) -> Option<u64>
+        requires { self.old.slide ≡ None }
         ensures number { result ≡ number_of (live_entry (record { kind = kind; key = key.now }) self.old.entries) }
         ensures same { self.new ≡ self.old }
     {
@@ -140,6 +146,7 @@ impl Shelf {
         requires reply { length answer.now.bytes ≤ kept_limit }
         requires new { live_entry (record { kind = kind; key = key.now }) self.old.entries ≡ None }
         requires count { self.old.inserted < last_count }
+        requires still { self.old.slide ≡ None }
         requires room { self.old.used + node_words (length key.now) (length answer.now.bytes) ≤ self.old.layout.arena }
         ensures { self.new ≡ record self.old { entries = self.old.entries ++ fresh_entry self.old.inserted kind key.now answer.now version timeout reloads ∷ []; used = self.old.used + node_words (length key.now) (length answer.now.bytes); inserted = self.old.inserted + 1 } }
     {
@@ -161,6 +168,7 @@ impl Shelf {
 
     /// Counts an insertion that found no room.
     pub fn fail(&mut self)
+        requires { self.old.slide ≡ None }
         ensures { self.new ≡ record self.old { add_failed = min (self.old.add_failed + 1) last_count } }
     {
         let count = self.words.word(ADD_FAILED);
@@ -169,6 +177,7 @@ impl Shelf {
 
     /// Whether an entry has this number.
     pub fn has(&mut self, number: u64) -> bool
+        requires { self.old.slide ≡ None }
         ensures has { result ≡ has_number number self.old.entries }
         ensures same { self.new ≡ self.old }
     {
@@ -181,6 +190,7 @@ impl Shelf {
     /// The oldest entry of at least this number, if there is one. Where each number is that behind the one before, all of them are
     /// passed once.
     pub fn next(&mut self, number: u64) -> Option<EntryAt>
+        requires { self.old.slide ≡ None }
         ensures told { IsTold (entry_from number self.old.entries) result }
         ensures same { self.new ≡ self.old }
     {
@@ -201,7 +211,8 @@ impl Shelf {
 
     /// Puts the key of the oldest entry of at least this number into a buffer; nothing, where there is none.
     pub fn key(&mut self, number: u64, key: &mut Buf)
-        requires { key_limit ≤ key.old.limit }
+        requires limit { key_limit ≤ key.old.limit }
+        requires still { self.old.slide ≡ None }
         ensures key { key.new ≡ record { content = key_or (entry_from number self.old.entries); limit = key.old.limit } }
         ensures same { self.new ≡ self.old }
     {
@@ -213,7 +224,8 @@ impl Shelf {
 
     /// Puts the reply of the oldest entry of at least this number into a buffer; nothing, where there is none.
     pub fn reply(&mut self, number: u64, reply: &mut Buf)
-        requires { kept_limit ≤ reply.old.limit }
+        requires limit { kept_limit ≤ reply.old.limit }
+        requires still { self.old.slide ≡ None }
         ensures reply { reply.new ≡ record { content = reply_or (entry_from number self.old.entries); limit = reply.old.limit } }
         ensures same { self.new ≡ self.old }
     {
@@ -226,6 +238,7 @@ impl Shelf {
 
     /// The entry of this number leaves, if there is one. Its words stay in use.
     pub fn take_out(&mut self, number: u64)
+        requires { self.old.slide ≡ None }
         ensures { self.new ≡ record self.old { entries = others_than number self.old.entries } }
     {
         let Some(found) = find_from(&mut self.words, self.map, &mut self.mark, number) else {
@@ -239,31 +252,16 @@ impl Shelf {
 
     /// Every entry leaves. Their words stay in use.
     pub fn clear(&mut self)
+        requires { self.old.slide ≡ None }
         ensures { self.new ≡ record self.old { entries = [] } }
     {
         end_nodes(&mut self.words, self.map);
         self.live = 0;
     }
-
-    /// The words of entries that left are free again; it gives their number. At `Spent` nothing changed: the count of
-    /// compactions stands at its end.
-    pub fn compact(&mut self) -> Result<u64, Spent>
-        ensures done { IfOk result (λ freed. (self.old.cycle < last_count) × (freed + all_words self.old.entries ≡ self.old.used) × (self.new ≡ record self.old { cycle = self.old.cycle + 2; used = all_words self.old.entries })) }
-        ensures spent { IfErr result (λ spent. (last_count ≤ self.old.cycle) × (spent.count ≡ last_count) × (self.new ≡ self.old)) }
-    {
-        let cycle = self.words.word(CYCLE);
-        if cycle >= LAST_COUNT {
-            return Err(Spent { count: LAST_COUNT });
-        }
-        let freed = slide(&mut self.words, self.map);
-        self.words.set(CYCLE, cycle + 2);
-        self.mark = Mark::start(self.map);
-        Ok(freed as u64)
-    }
 }
 
 // The next count, that stays at its end.
-fn next_count(count: u64) -> u64
+pub(crate) fn next_count(count: u64) -> u64
     ensures { result ≡ min (count + 1) last_count }
 {
     if count < LAST_COUNT {

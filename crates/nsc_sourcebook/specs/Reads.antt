@@ -1,5 +1,5 @@
 -- What the reads of a database's files give, and how a file set counts them.
-use Rattle.std.specs.Prelude.{◌≡◌, ℕ, List, Option, IfSome}
+use Rattle.std.specs.Prelude.{◌≡◌, ℕ, ◌⊎◌, List, Option, IfSome}
 use Rattle.nsc_model.specs.declared.kind.Db.{Db}
 use Rattle.nsc_model.specs.declared.kind.Db.TheVariants as db
 use Rattle.nsc_model.specs.declared.kind.FileId.{FileId}
@@ -41,6 +41,10 @@ AllRose db.Passwd m n = Rose (m file.Switch) (n file.Switch) × Rose (m file.Pas
 AllRose db.Group m n = Rose (m file.Switch) (n file.Switch) × Rose (m file.Group) (n file.Group) × Rose (m file.ExtraGroup) (n file.ExtraGroup)
 AllRose db.Hosts m n = Rose (m file.Switch) (n file.Switch) × Rose (m file.Hosts) (n file.Hosts)
 AllRose db.Services m n = Rose (m file.Switch) (n file.Switch) × Rose (m file.Services) (n file.Services)
+
+-- no count of a file fell
+abbrev pub NoneFell : (FileId → ℕ) → (FileId → ℕ) → Type 0
+NoneFell m n = (f : FileId) → (n f ≡ m f) ⊎ Rose (m f) (n f)
 
 -- the content is made of what the reads of the database's files gave, where that is told; the other files are absent
 abbrev pub AreAsTold : Db → (FileId → Option (Option (List ℕ))) → Content → Type 0

@@ -1,4 +1,4 @@
-ghost use Rattle.std.specs.Prelude.{◌≡◌, ◌≤◌, ◌∷◌, [], true, false, IfOk, IfErr, MatchResult, OnOk};
+ghost use Rattle.std.specs.Prelude.{◌≡◌, ◌≤◌, ◌∷◌, [], None, true, false, IfOk, IfErr, MatchResult, OnOk};
 ghost use Rattle.std.specs.Bool.{OnTrue};
 ghost use Rattle.std.specs.Arc.{arc_value};
 ghost use Rattle.nsc_model.specs.declared.record.Record.TheVariants as record_of;
@@ -7,10 +7,11 @@ ghost use Rattle.nsc_model.specs.History.{PolledSince};
 ghost use Rattle.nsc_model.specs.Machine.{new_cache, polled};
 ghost use Rattle.nsc_words.specs.Layout.{IsLayout};
 ghost use Rattle.nsc_writer.specs.Writer.{IsNewest, Polls};
-ghost use Rattle.nsc_sourcebook.specs.Reads.{AllRose, AreAsTold, FaultRose, IsPartOf, TellsLength};
+ghost use Rattle.nsc_sourcebook.specs.Reads.{AllRose, AreAsTold, FaultRose, IsPartOf, NoneFell, TellsLength};
 ghost use Rattle.nsc_sourcebook.specs.Book.{PollsBook};
 ghost use Rattle.nsc_sourcebook.specs.declared.fault.PollFault.TheVariants.{NoMemory as Memory};
 
+use crate::comparing::are_still;
 use crate::fault::PollFault;
 use crate::reading::read_files;
 use nsc_base::NoMemory;
@@ -100,8 +101,8 @@ impl<F: FileSet + Drop, A: Answerer> Model for SourceBook<F, A> {
 }
 
 impl<F: FileSet + Drop, A: Answerer> SourceBook<F, A> {
-    /// Reads the files of a database through this set as version 0, and keeps a handle that is split from it. It gives the book,
-    /// the writer of the database, and a pass that has seen its history.
+    /// Reads the files of a database through this set as version 0, prepares them for many answers, and keeps a handle that is split
+    /// from it. It gives the book, the writer of the database, and a pass that has seen its history.
     pub fn new(
         alloc: Global,
         layout: Layout,
@@ -112,7 +113,7 @@ impl<F: FileSet + Drop, A: Answerer> SourceBook<F, A> {
         requires { IsLayout layout }
         ensures book { IfOk result (λ r. (r.0.db ≡ db) × (r.0.table ≡ r.2.table)) }
         ensures held { IfOk result (λ r. (r.0.held ≡ F.held files.old) × (F.held files.new ≡ F.held files.old)) }
-        ensures writer { IfOk result (λ r. r.1 ≡ record { table = r.2.table; layout = layout; seen = record_of.Change 0 r.0.newest ∷ []; cache = new_cache r.0.newest; hits = record { found = 0; not_found = 0 }; misses = record { found = 0; not_found = 0 } }) }
+        ensures writer { IfOk result (λ r. r.1 ≡ record { table = r.2.table; layout = layout; seen = record_of.Change 0 r.0.newest ∷ []; cache = new_cache r.0.newest; hits = record { found = 0; not_found = 0 }; misses = record { found = 0; not_found = 0 }; slide = None }) }
         ensures pass { IfOk result (λ r. r.2.seen ≡ record_of.Change 0 r.0.newest ∷ []) }
         ensures told { IfOk result (λ r. AreAsTold db (F.latest files.new) r.0.newest) }
         ensures part { IfOk result (λ r. IsPartOf db (F.held files.old) r.0.newest) }
@@ -123,7 +124,7 @@ impl<F: FileSet + Drop, A: Answerer> SourceBook<F, A> {
         ensures length { IfErr result (λ fault. TellsLength fault (F.held files.old)) }
     {
         let content = Arc::new(alloc, read_files(alloc, files, db)?)?;
-        let ready = Arc::new(alloc, answers.prepare(alloc, content.clone()?)?)?;
+        let ready = Arc::new(alloc, prepared_further(alloc, answers, content.clone()?)?)?;
         let files = files.split(alloc)?;
         let (mut writer, pass) = Writer::new(alloc, layout, content)?;
         let book = SourceBook {
@@ -152,8 +153,33 @@ impl<F: FileSet + Drop, A: Answerer> SourceBook<F, A> {
     }
 
     /// Reads the files of the database through this set, in rising number, and makes them ready for answers. Where they are the
-    /// newest content, that is handed on as it was made ready, and is known to be the newest one.
+    /// newest content, that is handed on prepared for many answers, and is known to be the newest one. What the set can compare while
+    /// it reads is not kept then.
+    #[tactic(auto, using(crate::proofs::Still::all_rose_after))]
     pub fn fetch(&self, alloc: Global, files: &mut F, answers: &A) -> Result<Fetched<A>, PollFault>
+        ensures newest { IfOk result (λ f. OnTrue f.is_newest (f.content ≡ self.now.newest)) }
+        ensures told { IfOk result (λ f. AreAsTold self.now.db (F.latest files.new) f.content) }
+        ensures part { IfOk result (λ f. IsPartOf self.now.db (F.held files.old) f.content) }
+        ensures only { IfOk result (λ f. f.content ≡ part_of self.now.db f.content) }
+        ensures read { OnOk result (AllRose self.now.db (F.reads files.old) (F.reads files.new)) }
+        ensures calm { OnOk result (F.faults files.new ≡ F.faults files.old) }
+        ensures faults { IfErr result (λ fault. FaultRose fault (F.faults files.old) (F.faults files.new) (F.file_faults files.old) (F.file_faults files.new)) }
+        ensures length { IfErr result (λ fault. TellsLength fault (F.held files.old)) }
+        ensures held { F.held files.new ≡ F.held files.old }
+    {
+        if self.is_still_newest(alloc, files, answers) {
+            return Ok(self.again(alloc, answers)?);
+        }
+        self.fetch_whole(alloc, files, answers)
+    }
+
+    // The same by one read of each file that keeps its bytes.
+    fn fetch_whole(
+        &self,
+        alloc: Global,
+        files: &mut F,
+        answers: &A,
+    ) -> Result<Fetched<A>, PollFault>
         ensures newest { IfOk result (λ f. OnTrue f.is_newest (f.content ≡ self.now.newest)) }
         ensures told { IfOk result (λ f. AreAsTold self.now.db (F.latest files.new) f.content) }
         ensures part { IfOk result (λ f. IsPartOf self.now.db (F.held files.old) f.content) }
@@ -166,9 +192,23 @@ impl<F: FileSet + Drop, A: Answerer> SourceBook<F, A> {
     {
         let content = read_files(alloc, files, self.db)?;
         if self.has_newest(answers, &content) {
-            return Ok(self.again(answers)?);
+            return Ok(self.again(alloc, answers)?);
         }
         Ok(made_ready(alloc, answers, content)?)
+    }
+
+    // Whether the files are found to be the newest content, by one read of each that keeps nothing.
+    fn is_still_newest(&self, alloc: Global, files: &mut F, answers: &A) -> bool
+        ensures told { OnTrue result (AreAsTold self.now.db (F.latest files.new) self.now.newest) }
+        ensures part { OnTrue result (IsPartOf self.now.db (F.held files.old) self.now.newest) }
+        ensures only { OnTrue result (self.now.newest ≡ part_of self.now.db self.now.newest) }
+        ensures read { OnTrue result (AllRose self.now.db (F.reads files.old) (F.reads files.new)) }
+        ensures kept { NoneFell (F.reads files.old) (F.reads files.new) }
+        ensures calm { F.faults files.new ≡ F.faults files.old }
+        ensures file_calm { F.file_faults files.new ≡ F.file_faults files.old }
+        ensures held { F.held files.new ≡ F.held files.old }
+    {
+        are_still(alloc, files, self.db, answers.content(&self.ready))
     }
 
     // Whether this is the newest content.
@@ -178,13 +218,19 @@ impl<F: FileSet + Drop, A: Answerer> SourceBook<F, A> {
         content.is_same(answers.content(&self.ready))
     }
 
-    // The newest content once more, as it was made ready.
-    fn again(&self, answers: &A) -> Result<Fetched<A>, NoMemory>
+    // The newest content once more, as it was made ready: prepared further, where that serves its later answers better, and memory
+    // suffices for it.
+    fn again(&self, alloc: Global, answers: &A) -> Result<Fetched<A>, NoMemory>
         ensures { IfOk result (λ f. f ≡ record { content = self.now.newest; is_newest = true }) }
     {
+        let ready = match answers.prepare_further(alloc, &self.ready) {
+            Ok(Some(further)) => Arc::new(alloc, further)?,
+            Ok(None) => self.ready.clone()?,
+            Err(_) => self.ready.clone()?,
+        };
         Ok(Fetched {
-            ready: self.ready.clone()?,
-            kept: self.ready.clone()?,
+            kept: ready.clone()?,
+            ready,
             content: answers.content(&self.ready).clone()?,
             is_newest: true,
         })
@@ -202,6 +248,7 @@ impl<F: FileSet + Drop, A: Answerer> SourceBook<F, A> {
         requires table { writer.old.table ≡ self.old.table }
         requires newest { OnTrue fetched.is_newest (fetched.content ≡ self.old.newest) }
         requires epoch { epoch ≤ writer.old.cache.epoch }
+        requires still { writer.old.slide ≡ None }
         ensures polls { PollsBook fetched epoch self.old self.new writer.old writer.new result }
         ensures newest { IfOk result (λ p. IsNewest p.content p.stamp.version writer.new.cache) }
         ensures polled { IfOk result (λ p. PolledSince writer.new.seen p.stamp.version p.stamp.epoch) }
@@ -232,6 +279,7 @@ impl<F: FileSet + Drop, A: Answerer> SourceBook<F, A> {
         requires table { writer.old.table ≡ self.old.table }
         requires newest { OnTrue is_newest (arc_value content ≡ self.old.newest) }
         requires epoch { epoch ≤ writer.old.cache.epoch }
+        requires still { writer.old.slide ≡ None }
         ensures polls { Polls (polled (arc_value content) writer.old.cache) epoch writer.old writer.new result }
         ensures newest { IfOk result (λ stamp. IsNewest (arc_value content) stamp.version writer.new.cache) }
         ensures polled { IfOk result (λ stamp. PolledSince writer.new.seen stamp.version stamp.epoch) }
@@ -247,7 +295,8 @@ impl<F: FileSet + Drop, A: Answerer> SourceBook<F, A> {
 
     // Whether the writer's newest version is this book's. If it is, their newest contents are one.
     fn is_newest_of(&mut self, writer: &mut Writer) -> bool
-        requires { writer.old.table ≡ self.old.table }
+        requires table { writer.old.table ≡ self.old.table }
+        requires still { writer.old.slide ≡ None }
         ensures newest { OnTrue result (writer.old.cache.sources ≡ self.old.newest) }
         ensures writer { writer.new ≡ writer.old }
         ensures book { self.new ≡ self.old }
@@ -256,6 +305,22 @@ impl<F: FileSet + Drop, A: Answerer> SourceBook<F, A> {
         self.pass.learn();
         writer.show(&mut self.pass);
         writer.version() == self.version
+    }
+}
+
+// A content, prepared for many answers where memory suffices for that.
+fn prepared_further<A: Answerer>(
+    alloc: Global,
+    answers: &A,
+    content: Arc<Content>,
+) -> Result<A::Ready, NoMemory>
+    ensures { IfOk result (λ ready. A.prepared_from ready ≡ arc_value content) }
+{
+    let ready = answers.prepare(alloc, content)?;
+    match answers.prepare_further(alloc, &ready) {
+        Ok(Some(further)) => Ok(further),
+        Ok(None) => Ok(ready),
+        Err(_) => Ok(ready),
     }
 }
 

@@ -2,6 +2,7 @@
 #![tactic(auto)]
 
 mod book;
+mod comparing;
 mod fault;
 mod reading;
 

@@ -106,8 +106,22 @@ fn files_of_a_folder(rt: HostRuntime) -> Result<(), Fail> {
     let mut other = set.split(rt.alloc())?;
     assert!(rt; gives(&mut other, rt.alloc(), FileId::Hosts, hosts));
     assert_eq!(rt; other.faults(), 0);
+    assert!(rt; finds_what_is_known(&mut set, rt.alloc()));
     fs::remove_dir_all(&rt, folder.as_str())?;
     Ok(())
+}
+
+// Whether the files of the folder, as it is made, are found to be what they are and nothing else; each time one is, it is read.
+fn finds_what_is_known(set: &mut HostFiles<&HostRuntime>, alloc: Global) -> bool {
+    let before = set.reads(FileId::Hosts);
+    let is_right = set.is_still(alloc, FileId::Hosts, Some(b"hosts"))
+        && set.is_still(alloc, FileId::Passwd, None)
+        && !set.is_still(alloc, FileId::Hosts, Some(b"hostt"))
+        && !set.is_still(alloc, FileId::Hosts, Some(b"host"))
+        && !set.is_still(alloc, FileId::Hosts, Some(b"hosts2"))
+        && !set.is_still(alloc, FileId::Hosts, None)
+        && !set.is_still(alloc, FileId::Services, Some(b""));
+    is_right && set.reads(FileId::Hosts) > before && set.faults() == 1
 }
 
 #[test]

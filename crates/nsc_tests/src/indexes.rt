@@ -1,5 +1,5 @@
 use nsc_base::{Bytes, NoMemory};
-use nsc_index::{Indexed, Prepared};
+use nsc_index::{Indexed, Ready};
 use nsc_model::{Answerer, Content, FileId, Kind};
 use std::alloc::Global;
 use std::sync::Arc;
@@ -17,28 +17,40 @@ const GROUPS: &[u8] = b"\x02\0\0\0\x01\0\0\0\x02\0\0\0\x04\0\0\0\x64\0\0\0";
 
 const NO_GROUP: &[u8] = b"\x02\0\0\0\0\0\0\0\0\0\0\0\0\0\0\0\xff\xff\xff\xff\0\0\0\0";
 
-fn prepared(alloc: Global) -> Result<Prepared, NoMemory> {
+// Users of whom two have a name in common, and two an id.
+fn users(alloc: Global) -> Result<Content, NoMemory> {
     let file = Bytes::copy(alloc, b"a:x:1:1:::\nb:x:1:1:::\na:x:2:2:::\n")?;
     let mut content = Content::none();
     content.set(FileId::Passwd, Some(file));
-    Indexed.prepare(alloc, Arc::new(alloc, content)?)
+    Ok(content)
+}
+
+// What is prepared of a content, without its indexes and with them.
+fn both_ways(alloc: Global, content: Content) -> Result<(Ready, Ready), Fail> {
+    let first = Indexed.prepare(alloc, Arc::new(alloc, content)?)?;
+    match Indexed.prepare_further(alloc, &first)? {
+        Some(further) => Ok((first, further)),
+        None => Err(Fail::new("nothing further")),
+    }
 }
 
 #[test]
 fn finds_first_lines(rt: HostRuntime) -> Result<(), Fail> {
     let alloc = rt.alloc();
-    let ready = prepared(alloc)?;
-    let by_name = Indexed.answer(alloc, &ready, Kind::PwName, b"a")?;
-    assert_eq!(rt; by_name.bytes(), FIRST);
-    let by_id = Indexed.answer(alloc, &ready, Kind::PwUid, b"1")?;
-    assert_eq!(rt; by_id.bytes(), FIRST);
-    let other_id = Indexed.answer(alloc, &ready, Kind::PwUid, b"2")?;
-    assert_eq!(rt; other_id.bytes(), THIRD);
+    let (first, further) = both_ways(alloc, users(alloc)?)?;
+    for ready in [&first, &further] {
+        let by_name = Indexed.answer(alloc, ready, Kind::PwName, b"a")?;
+        assert_eq!(rt; by_name.bytes(), FIRST);
+        let by_id = Indexed.answer(alloc, ready, Kind::PwUid, b"1")?;
+        assert_eq!(rt; by_id.bytes(), FIRST);
+        let other_id = Indexed.answer(alloc, ready, Kind::PwUid, b"2")?;
+        assert_eq!(rt; other_id.bytes(), THIRD);
+    }
     Ok(())
 }
 
 // Groups of which one is excluded before the others are asked of a further service.
-fn excluding(alloc: Global) -> Result<Prepared, NoMemory> {
+fn excluding(alloc: Global) -> Result<Content, NoMemory> {
     let switch = Bytes::copy(alloc, b"group: compat\ngroup_compat: extrausers\n")?;
     let group = Bytes::copy(alloc, b"adm:x:4:ann\n-staff\n+\n")?;
     let extra = Bytes::copy(alloc, b"staff:x:50:ann\nusers:x:100:ann\n")?;
@@ -46,20 +58,22 @@ fn excluding(alloc: Global) -> Result<Prepared, NoMemory> {
     content.set(FileId::Switch, Some(switch));
     content.set(FileId::Group, Some(group));
     content.set(FileId::ExtraGroup, Some(extra));
-    Indexed.prepare(alloc, Arc::new(alloc, content)?)
+    Ok(content)
 }
 
 #[test]
 fn finds_signs(rt: HostRuntime) -> Result<(), Fail> {
     let alloc = rt.alloc();
-    let ready = excluding(alloc)?;
-    let groups = Indexed.answer(alloc, &ready, Kind::InitGroups, b"ann")?;
-    assert_eq!(rt; groups.bytes(), GROUPS);
-    let by_name = Indexed.answer(alloc, &ready, Kind::GrName, b"staff")?;
-    assert_eq!(rt; by_name.bytes(), NO_GROUP);
-    let by_id = Indexed.answer(alloc, &ready, Kind::GrGid, b"50")?;
-    assert_eq!(rt; by_id.bytes(), NO_GROUP);
-    let other = Indexed.answer(alloc, &ready, Kind::GrName, b"users")?;
-    assert_ne!(rt; other.bytes(), NO_GROUP);
+    let (first, further) = both_ways(alloc, excluding(alloc)?)?;
+    for ready in [&first, &further] {
+        let groups = Indexed.answer(alloc, ready, Kind::InitGroups, b"ann")?;
+        assert_eq!(rt; groups.bytes(), GROUPS);
+        let by_name = Indexed.answer(alloc, ready, Kind::GrName, b"staff")?;
+        assert_eq!(rt; by_name.bytes(), NO_GROUP);
+        let by_id = Indexed.answer(alloc, ready, Kind::GrGid, b"50")?;
+        assert_eq!(rt; by_id.bytes(), NO_GROUP);
+        let other = Indexed.answer(alloc, ready, Kind::GrName, b"users")?;
+        assert_ne!(rt; other.bytes(), NO_GROUP);
+    }
     Ok(())
 }

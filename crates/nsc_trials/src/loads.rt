@@ -37,37 +37,46 @@ pub enum Load {
         /// How many seconds lie before each.
         apart: u16,
     },
+    /// Ticks at each of which the time of one entry is over, that of the oldest one: it is dropped, and the others are moved
+    /// together.
+    Compactions {
+        /// Over how many entries of users who are in no file.
+        entries: u32,
+        /// How many ticks.
+        count: u32,
+    },
 }
 
-// For as many entries of not-found replies the room of the default size is enough.
-const FEW: u32 = 1500;
+// How many seconds an entry of a user who is in no file is kept.
+const KEPT: u32 = 20;
 
 impl Load {
-    /// The settings that it runs under: entries are loaded again for ever, and there is room for them.
+    /// The settings that it runs under: entries are loaded again for ever, and there is room for them, in the largest table where
+    /// entries stand before the calls.
     pub fn conf(self) -> Conf
         ensures { SizeFits result.passwd }
     {
         let mut conf = Conf::defaults();
         conf.reloads = None;
-        if self.is_large() {
+        conf.passwd.negative = KEPT;
+        if self.is_filled() {
             conf.passwd.size = 65_536;
         }
         conf
     }
 
-    // Whether the room of the default size is too small.
-    fn is_large(self) -> bool {
+    // Whether entries stand before the calls.
+    fn is_filled(self) -> bool {
         match self {
-            Load::Hits { entries, .. } => entries > FEW,
             Load::Misses { .. } => false,
-            Load::Ticks { .. } => true,
+            Load::Hits { .. } | Load::Ticks { .. } | Load::Compactions { .. } => true,
         }
     }
 
     /// How many users are in the file. Those whose entries are hit are in no file, and those whose entries are due are.
     pub fn users(self) -> u32 {
         match self {
-            Load::Hits { .. } => 0,
+            Load::Hits { .. } | Load::Compactions { .. } => 0,
             Load::Misses { users, .. } => users,
             Load::Ticks { entries, .. } => entries,
         }
@@ -76,8 +85,18 @@ impl Load {
     // How many entries there are before the calls.
     fn entries(self) -> u32 {
         match self {
-            Load::Hits { entries, .. } | Load::Ticks { entries, .. } => entries,
+            Load::Hits { entries, .. }
+            | Load::Ticks { entries, .. }
+            | Load::Compactions { entries, .. } => entries,
             Load::Misses { .. } => 0,
+        }
+    }
+
+    // How many seconds lie between the lookups that make these entries.
+    fn between(self) -> u32 {
+        match self {
+            Load::Compactions { .. } => 1,
+            Load::Hits { .. } | Load::Misses { .. } | Load::Ticks { .. } => 0,
         }
     }
 
@@ -91,22 +110,23 @@ impl Load {
     where
         S::Pass: Send,
     {
-        let is_filled = misses(&mut caller, 0, self.entries());
+        let is_filled = misses(&mut caller, 0, self.entries(), self.between());
         let is_right = match self {
             Load::Hits {
                 threads,
                 entries,
                 count,
             } => hits_by(rt, alloc, &caller, threads, entries, count)?,
-            Load::Misses { users, count } => misses(&mut caller, users, count),
-            Load::Ticks { count, apart, .. } => ticks(&mut caller, count, apart),
+            Load::Misses { users, count } => misses(&mut caller, users, count, 0),
+            Load::Ticks { count, apart, .. } => ticks(&mut caller, 0, count, apart),
+            Load::Compactions { count, .. } => ticks(&mut caller, KEPT, count, 1),
         };
         Ok(is_filled && is_right)
     }
 }
 
-// The name of the user of this number, of which it has the last seven digits.
-fn name_of(number: u32) -> [u8; 11] {
+/// The name of the user of this number, of which it has the last seven digits.
+pub fn name_of(number: u32) -> [u8; 11] {
     let mut name = *b"user0000000";
     let mut rest = number;
     for digit in name[4..].iter_mut().rev() {
@@ -116,12 +136,20 @@ fn name_of(number: u32) -> [u8; 11] {
     name
 }
 
-// Looks up as many users, from the one with this number on, and says whether none of them had an entry.
-fn misses<S: Store, R: Wait>(caller: &mut Caller<'_, '_, S, R>, from: u32, count: u32) -> bool {
+// Looks up as many users, from the one with this number on, so many seconds after each other, and says whether none of them had
+// an entry.
+fn misses<S: Store, R: Wait>(
+    caller: &mut Caller<'_, '_, S, R>,
+    from: u32,
+    count: u32,
+    apart: u32,
+) -> bool {
     let mut right = true;
+    let mut now: u32 = 0;
     for turn in 0..count {
         let name = name_of(from.wrapping_add(turn));
-        let given = caller.find_key(Kind::PwName, &name, 0);
+        let given = caller.find_key(Kind::PwName, &name, now);
+        now = now.saturating_add(apart);
         right = right && matches!(&given, Ok(Given::Loaded { .. } | Given::Fresh { .. }));
     }
     right
@@ -164,10 +192,15 @@ where
     Ok(right.iter().all(|right| *right))
 }
 
-// Ticks as often, so many seconds after the last time, and says whether each tick was well.
-fn ticks<S: Store, R: Wait>(caller: &mut Caller<'_, '_, S, R>, count: u32, apart: u16) -> bool {
+// Ticks as often, so many seconds after the last time, from a moment on, and says whether each tick was well.
+fn ticks<S: Store, R: Wait>(
+    caller: &mut Caller<'_, '_, S, R>,
+    from: u32,
+    count: u32,
+    apart: u16,
+) -> bool {
     let mut right = true;
-    let mut now: u32 = 0;
+    let mut now = from;
     for _ in 0..count {
         now = now.saturating_add(u32::from(apart));
         right = caller.tick(now).is_ok() && right;

@@ -7,6 +7,13 @@ pub enum Mode {
     Trials,
     /// Calls, for their time.
     Load(Load),
+    /// Searches of a table by itself, for their time.
+    Finds {
+        /// How many entries it has.
+        entries: u32,
+        /// How many searches.
+        count: u32,
+    },
 }
 
 impl Mode {
@@ -30,6 +37,16 @@ impl Mode {
                 count: number(&words[2])?,
                 apart: u16::try_from(number(&words[3])?).ok()?,
             },
+            ("compactions", 3) => Load::Compactions {
+                entries: number(&words[1])?,
+                count: number(&words[2])?,
+            },
+            ("finds", 3) => {
+                return Some(Mode::Finds {
+                    entries: number(&words[1])?,
+                    count: number(&words[2])?,
+                });
+            }
             _ => return None,
         };
         Some(Mode::Load(load))

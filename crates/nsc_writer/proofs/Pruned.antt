@@ -16,10 +16,11 @@ use Rattle.nsc_writer.specs.Writer.{Writer, ending_of, without_entry}
 pub record EndsLeft (now : ℕ) (due : List Due) (before : Writer) (items : List Due) (at : ℕ) (w : Writer) : Type 0 where
   pub over : All (IsOver w.seen now) (drop at items)
   pub whole : pruned_by now (drop at items) w ≡ pruned_by now due before
+  pub slide : w.slide ≡ before.slide
   pub marks : take at items ++ marked_by now (drop at items) w ≡ marked_by now due before
 
 pub nothing_ended : (now : ℕ) (due : List Due) (w : Writer) → All (IsOver w.seen now) due → EndsLeft now due w due 0 w
-nothing_ended now due w over = record { over = over; whole = refl; marks = refl }
+nothing_ended now due w over = record { over = over; whole = refl; slide = refl; marks = refl }
 
 -- the cause lets the entry end whose number it is
 cause_allows : (dropped : Bool) (now : ℕ) (d : Due) (e : Entry) → e.timeout < now → d.dropped ≡ dropped → Allows (ending_of (due_cause_of now d)) e
@@ -36,6 +37,12 @@ load_stays now d w e a = by_test (has_number d.number w.cache.entries) where
   by_test : (b : Bool) → HasLoad (cond b (without_entry d.number (ending_of (due_cause_of now d)) w) w).seen e
   by_test true = a
   by_test false = a
+
+slide_stays : (now : ℕ) (d : Due) (w : Writer) → (pruned_one now d w).slide ≡ w.slide
+slide_stays now d w = by_test (has_number d.number w.cache.entries) where
+  by_test : (b : Bool) → (cond b (without_entry d.number (ending_of (due_cause_of now d)) w) w).slide ≡ w.slide
+  by_test true = refl
+  by_test false = refl
 
 over_stays : (now : ℕ) (d : Due) (w : Writer) (due : List Due) → All (IsOver w.seen now) due → All (IsOver (pruned_one now d w).seen now) due
 over_stays now d w due all k x low = let o = all k x low in (o.0, load_stays now d w o.0 o.1, o.2, o.3)
@@ -57,6 +64,7 @@ next_ended now due before w w' items items' at d left low split is set_is =
     record {
       over = subst (λ (x : Writer × List Due). All (IsOver x.0.seen now) x.1) (λ i. (sym is i, sym rest i)) (over_stays now d w (drop (at + 1) items) (tail_of (IsOver w.seen now) d (drop (at + 1) items) over));
       whole = ap (λ (x : Writer × List Due). pruned_by now x.1 x.0) (λ i. (is i, rest i)) ∙ sym (ap (λ (l : List Due). pruned_by now l w) split) ∙ left.whole;
+      slide = ap (λ (x : Writer). x.slide) is ∙ slide_stays now d w ∙ left.slide;
       marks =
           ap (λ (x : Writer × List Due × List Due). x.2 ++ marked_by now x.1 x.0) (λ i. (is i, rest i, front i))
           ∙ append_assoc (take at items) (marked ∷ []) (marked_by now (drop (at + 1) items) (pruned_one now d w))

@@ -1,5 +1,5 @@
--- What a writer is: the words that it writes, the history, the cache that it has of it, and how its lookups went; and what its
--- calls come to.
+-- What a writer is: the words that it writes, the history, the cache that it has of it, how its lookups went, and the words of a
+-- slide of its entries while one is under way; and what its calls come to.
 use Rattle.std.specs.Prelude.{◌≡◌, ℕ, ◌+◌, ◌<◌, ◌≤◌, min, Bool, true, false, List, [], ◌∷◌, ◌++◌, length, Option, Some, None, Result, Ok, Err}
 use Rattle.atomic_table.specs.Seated.{TableId}
 use Rattle.nsc_words.specs.declared.layout.Layout.{Layout}
@@ -18,7 +18,7 @@ use Rattle.nsc_shelf.specs.Shelf.{IsTold, Shelf, number_of, others_than}
 use Rattle.nsc_writer.specs.declared.loaded.Inserted.{Inserted}
 use Rattle.nsc_writer.specs.declared.loaded.Inserted.TheVariants as inserted
 use Rattle.nsc_writer.specs.declared.loaded.Stamp.{Stamp}
-use Rattle.nsc_writer.specs.declared.uses.Uses.{Uses}
+use Rattle.nsc_writer.specs.Uses.{Uses}
 use Rattle.nsc_writer.specs.declared.writer.Cause.{Cause}
 use Rattle.nsc_writer.specs.declared.writer.Cause.TheVariants as cause
 use Rattle.nsc_writer.specs.Loaded.{Loaded, kept_of}
@@ -30,6 +30,7 @@ pub record Writer : Type 0 where
   pub cache : Cache
   pub hits : Uses
   pub misses : Uses
+  pub slide : Option (List ℕ)
 
 -- the most words that entries may take: 64 MiB of them
 abbrev pub most_words : ℕ

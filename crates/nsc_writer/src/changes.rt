@@ -1,5 +1,5 @@
 // Polls, insertions and ends.
-ghost use Rattle.std.specs.Prelude.{◌≡◌, ◌≤◌, ◌<◌, ◌+◌, [], ◌∷◌, IfNone, IfSome, IfOk, IfErr};
+ghost use Rattle.std.specs.Prelude.{◌≡◌, ◌≤◌, ◌<◌, ◌+◌, [], ◌∷◌, None, IfNone, IfSome, IfOk, IfErr};
 ghost use Rattle.std.specs.Bool.{OnTrue, OnFalse};
 ghost use Rattle.std.specs.Arc.{arc_value};
 ghost use Rattle.nsc_model.specs.declared.record.Record.TheVariants as record_of;
@@ -29,7 +29,8 @@ impl Writer {
     /// same. The stamp has that version and this epoch, the number of invalidations before the files were read. At `Spent`
     /// nothing changed: a new version is needed, and the count of versions stands at its end.
     pub fn record_poll(&mut self, content: Arc<Content>, epoch: u64) -> Result<Stamp, Spent>
-        requires { epoch ≤ self.old.cache.epoch }
+        requires epoch { epoch ≤ self.old.cache.epoch }
+        requires still { self.old.slide ≡ None }
         ensures polls { Polls (polled (arc_value content) self.old.cache) epoch self.old self.new result }
         ensures newest { IfOk result (λ stamp. IsNewest (arc_value content) stamp.version self.new.cache) }
         ensures polled { IfOk result (λ stamp. PolledSince self.new.seen stamp.version stamp.epoch) }
@@ -42,6 +43,7 @@ impl Writer {
             return Err(Spent { count: LAST_COUNT });
         }
         self.pen.change(&self.map, &content);
+        self.shelf.set_source(before + 1);
         self.content = content;
         Ok(Stamp {
             version: before + 1,
@@ -51,7 +53,8 @@ impl Writer {
 
     /// Enters that the files were looked at by a caller who knows that their content is the newest one.
     pub fn confirm(&mut self, epoch: u64) -> Stamp
-        requires { epoch ≤ self.old.cache.epoch }
+        requires epoch { epoch ≤ self.old.cache.epoch }
+        requires still { self.old.slide ≡ None }
         ensures stamp { result ≡ record { version = self.old.cache.newest_version; epoch = epoch } }
         ensures history { self.new ≡ record self.old { seen = record_of.Poll self.old.cache.newest_version ∷ self.old.seen } }
         ensures polled { PolledSince self.new.seen result.version result.epoch }
@@ -63,6 +66,7 @@ impl Writer {
 
     // Why the insertion is refused, if it is.
     fn refusal(&mut self, loaded: &Loaded) -> Option<Inserted>
+        requires { self.old.slide ≡ None }
         ensures said { SaysRefused (refusal_of self.old loaded.now) result }
         ensures why { IfSome result (λ said. IsRefused said loaded.now self.old) }
         ensures free { IfNone result (IsFree self.old loaded.now) }
@@ -102,7 +106,8 @@ impl Writer {
     /// 65,536 bytes, where the database was invalidated after its epoch was noted, where an entry of its request is live, where
     /// no more entries can be counted, and where too few words are free. It takes no memory.
     pub fn insert(&mut self, loaded: Loaded) -> (Inserted, Loaded)
-        requires { IsAnswered self.old.seen loaded }
+        requires answered { IsAnswered self.old.seen loaded }
+        requires still { self.old.slide ≡ None }
         ensures inserted { Inserts result.0 loaded self.old self.new }
         ensures why { IsRefused result.0 loaded self.old }
         ensures back { result.1 ≡ loaded }
@@ -113,7 +118,8 @@ impl Writer {
 
     /// The same of what is lent.
     pub fn insert_lent(&mut self, loaded: &Loaded) -> Inserted
-        requires { IsAnswered self.old.seen loaded.now }
+        requires answered { IsAnswered self.old.seen loaded.now }
+        requires still { self.old.slide ≡ None }
         ensures inserted { Inserts result loaded.now self.old self.new }
         ensures why { IsRefused result loaded.now self.old }
     {
@@ -133,6 +139,7 @@ impl Writer {
         requires answered { IsAnswered self.old.seen loaded.now }
         requires free { IsFree self.old loaded.now }
         requires number { number ≡ self.old.cache.inserted }
+        requires still { self.old.slide ≡ None }
         ensures { self.new ≡ with_entry (kept_of loaded.now self.old.cache.inserted) self.old }
     {
         let kind = loaded.kind();
@@ -155,7 +162,8 @@ impl Writer {
     /// Ends the entry of this number by this cause, which lets it end. It is false exactly where the entry is not live; then
     /// nothing changed.
     pub fn end(&mut self, number: u64, cause: Cause) -> bool
-        requires { (e : Entry) → IsLive self.old.seen e → e.number ≡ number → Allows (ending_of cause) e }
+        requires allowed { (e : Entry) → IsLive self.old.seen e → e.number ≡ number → Allows (ending_of cause) e }
+        requires still { self.old.slide ≡ None }
         ensures live { result ≡ has_number number self.old.cache.entries }
         ensures ended { OnTrue result (self.new ≡ without_entry number (ending_of cause) self.old) }
         ensures stays { OnFalse result (self.new ≡ self.old) }
@@ -171,6 +179,7 @@ impl Writer {
     /// Ends every entry as invalidated, and gives the new number of invalidations. At `Spent` nothing changed: that number
     /// stands at its end.
     pub fn invalidate(&mut self) -> Result<u64, Spent>
+        requires { self.old.slide ≡ None }
         ensures done { IfOk result (λ epoch. (epoch ≡ self.old.cache.epoch + 1) × (self.new ≡ emptied_by self.old)) }
         ensures spent { IfErr result (λ spent. (self.old.cache.epoch ≡ last_count) × (spent.count ≡ last_count) × (self.new ≡ self.old)) }
     {
@@ -181,6 +190,7 @@ impl Writer {
         end_all(&mut self.pen, &self.map, &mut self.shelf);
         self.pen.invalidate(&self.map);
         self.shelf.clear();
+        self.shelf.set_epoch(before + 1);
         Ok(before + 1)
     }
 }
@@ -207,6 +217,7 @@ impl Cause {
 // Ends the live entries, one after the other, as invalidated. They stay on their shelf.
 fn end_all(pen: &mut Pen, map: &Map, shelf: &mut Shelf)
     requires map { map.now.table ≡ pen.old.table }
+    requires still { shelf.old.slide ≡ None }
     requires live { AreLive pen.old.seen (entries_of shelf.old.entries) }
     ensures pen { pen.new ≡ record pen.old { seen = ends_of by_invalidation shelf.old.entries pen.old.seen } }
     ensures same { shelf.new ≡ shelf.old }

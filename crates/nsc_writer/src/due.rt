@@ -1,5 +1,5 @@
 // The entries whose time is over.
-ghost use Rattle.std.specs.Prelude.{◌≡◌, ◌≤◌, ◌||◌, false, All, Some, filter, map, length, IfOk};
+ghost use Rattle.std.specs.Prelude.{◌≡◌, ◌≤◌, ◌||◌, false, All, None, Some, filter, map, length, IfOk};
 ghost use Rattle.nsc_model.specs.Entry.{key_limit};
 ghost use Rattle.nsc_model.specs.Live.{Rise};
 ghost use Rattle.nsc_shelf.specs.Shelf.{IsTold, entry_from};
@@ -117,6 +117,7 @@ impl Writer {
         limit: Option<u32>,
         now: u64,
     ) -> Result<Vec<Due>, NoMemory>
+        requires { self.old.slide ≡ None }
         ensures all { IfOk result (λ all. all.items ≡ map (due_from limit) (due_of now self.old.cache.entries)) }
         ensures same { self.new ≡ self.old }
     {
@@ -126,7 +127,8 @@ impl Writer {
     /// Ends those of the entries that are live still, one after the other: the dropped ones as expired at this moment, and the others
     /// to be loaded again. Marks which ones it ended, and gives their count.
     pub fn prune_ends(&mut self, due: &mut [Due], now: u64) -> u64
-        requires { All (IsOver self.old.seen now) due.old }
+        requires over { All (IsOver self.old.seen now) due.old }
+        requires still { self.old.slide ≡ None }
         ensures pruned { self.new ≡ pruned_by now due.old self.old }
         ensures marked { due.new ≡ marked_by now due.old self.old }
         ensures count { result ≡ length (filter (λ d. d.ended) due.new) }
@@ -137,7 +139,8 @@ impl Writer {
 
     // The same without the count.
     fn end_each(&mut self, due: &mut [Due], now: u64)
-        requires { All (IsOver self.old.seen now) due.old }
+        requires over { All (IsOver self.old.seen now) due.old }
+        requires still { self.old.slide ≡ None }
         ensures pruned { self.new ≡ pruned_by now due.old self.old }
         ensures marked { due.new ≡ marked_by now due.old self.old }
     {
@@ -169,7 +172,8 @@ fn due_entries(
     limit: Option<u32>,
     now: u64,
 ) -> Result<Vec<Due>, NoMemory>
-    requires { Rise (entries_of shelf.old.entries) }
+    requires rise { Rise (entries_of shelf.old.entries) }
+    requires still { shelf.old.slide ≡ None }
     ensures all { IfOk result (λ all. all.items ≡ map (due_from limit) (due_of now shelf.old.entries)) }
     ensures same { shelf.new ≡ shelf.old }
 {
@@ -193,7 +197,8 @@ fn due_at(
     limit: Option<u32>,
     key: &mut Buf,
 ) -> Result<Due, NoMemory>
-    requires { key.old.limit ≡ key_limit }
+    requires limit { key.old.limit ≡ key_limit }
+    requires still { shelf.old.slide ≡ None }
     ensures due { IfOk result (λ due. (k : Kept) → entry_from entry.number shelf.old.entries ≡ Some k → IsTold (Some k) (Some entry) → due ≡ due_from limit k) }
     ensures same { shelf.new ≡ shelf.old }
     ensures limit { key.new.limit ≡ key_limit }

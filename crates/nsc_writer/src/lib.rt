@@ -4,10 +4,9 @@
 mod changes;
 mod due;
 mod loaded;
-mod uses;
+mod sliding;
 mod writer;
 
 pub use due::Due;
 pub use loaded::{Inserted, Loaded, Stamp};
-pub use uses::Uses;
 pub use writer::{Cause, Writer};

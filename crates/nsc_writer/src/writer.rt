@@ -1,19 +1,18 @@
-ghost use Rattle.std.specs.Prelude.{◌≡◌, true, ◌≤◌, ◌<◌, ◌+◌, ◌/◌, ◌==◌, ◌^◌, [], ◌∷◌, length, slice_get, IfNone, IfSome, IfOk, IfErr};
+ghost use Rattle.std.specs.Prelude.{◌≡◌, true, ◌≤◌, ◌<◌, ◌+◌, ◌/◌, ◌==◌, ◌^◌, [], ◌∷◌, None, length, slice_get, IfNone, IfSome, IfOk};
 ghost use Rattle.std.specs.Bool.{OnTrue};
 ghost use Rattle.std.specs.Arc.{arc_value};
 ghost use Rattle.nsc_model.specs.declared.record.Record.TheVariants as record_of;
 ghost use Rattle.nsc_model.specs.Entry.{Entry, key_limit, kept_limit};
 ghost use Rattle.nsc_model.specs.History.{Allows, IsLive, IsPrefix};
-ghost use Rattle.nsc_model.specs.Machine.{all_words, emptied, last_count, live_entry, new_cache, polled, used_now};
+ghost use Rattle.nsc_model.specs.Machine.{emptied, last_count, live_entry, new_cache, polled, used_now};
 ghost use Rattle.nsc_laws.specs.Calls.{Tells};
 ghost use Rattle.nsc_writer.specs.Uses.{counted};
 ghost use Rattle.nsc_words.specs.Layout.{IsLayout};
 ghost use Rattle.nsc_shelf.specs.Shelf.{Gives, entry_from};
 ghost use Rattle.nsc_writer.specs.Writer.{Stands, most_words};
 
-use crate::uses::Uses;
 use nsc_base::{Buf, NoMemory};
-use nsc_model::{Content, Kind, Spent, Stats};
+use nsc_model::{Content, Kind, Stats};
 use nsc_rule::{Map, Pass, Pen, start};
 use nsc_shelf::{EntryAt, Hit, Shelf};
 use nsc_words::Layout;
@@ -37,21 +36,20 @@ pub struct Writer {
     pub(crate) pen: Pen,
     pub(crate) content: Arc<Content>,
     pub(crate) shelf: Shelf,
-    pub(crate) hits: Uses,
-    pub(crate) misses: Uses,
 }
 
 impl Model for Writer {
     ghost use Rattle.std.specs.Prelude.{◌≡◌, true, ◌≤◌};
     ghost use Rattle.std.specs.Arc.{arc_value};
     ghost use Rattle.nsc_laws.specs.Calls.{Tells};
+    ghost use Rattle.nsc_writer.specs.Uses.{hits_in, misses_in};
     ghost use Rattle.nsc_writer.specs.Writer.{Writer, cache_of, most_words};
 
     ghost Value = { Writer };
 
-    ghost view = { λ w. record { table = w.map.table; layout = w.map.layout; seen = w.pen.seen; cache = cache_of (arc_value w.content) w.pen.version w.pen.epoch w.shelf; hits = w.hits; misses = w.misses } };
+    ghost view = { λ w. record { table = w.map.table; layout = w.map.layout; seen = w.pen.seen; cache = cache_of (arc_value w.content) w.pen.version w.pen.epoch w.shelf; hits = hits_in w.shelf.head; misses = misses_in w.shelf.head; slide = w.shelf.slide } };
 
-    ghost invariant = { λ w. (w.pen.table ≡ w.map.table) × Tells w.pen.seen (cache_of (arc_value w.content) w.pen.version w.pen.epoch w.shelf) × (w.shelf.layout ≡ w.map.layout) × (w.shelf.used ≤ w.map.layout.arena) × (w.map.layout.arena ≤ most_words) };
+    ghost invariant = { λ w. (w.pen.table ≡ w.map.table) × Tells w.pen.seen (cache_of (arc_value w.content) w.pen.version w.pen.epoch w.shelf) × (w.shelf.layout ≡ w.map.layout) × (w.shelf.used ≤ w.map.layout.arena) × (w.map.layout.arena ≤ most_words) × (w.shelf.head.epoch ≡ w.pen.epoch) × (w.shelf.head.source ≡ w.pen.version) };
 }
 
 impl Writer {
@@ -63,7 +61,7 @@ impl Writer {
         content: Arc<Content>,
     ) -> Result<(Writer, Pass), NoMemory>
         requires { IsLayout layout }
-        ensures writer { IfOk result (λ r. r.0 ≡ record { table = r.1.table; layout = layout; seen = record_of.Change 0 (arc_value content) ∷ []; cache = new_cache (arc_value content); hits = record { found = 0; not_found = 0 }; misses = record { found = 0; not_found = 0 } }) }
+        ensures writer { IfOk result (λ r. r.0 ≡ record { table = r.1.table; layout = layout; seen = record_of.Change 0 (arc_value content) ∷ []; cache = new_cache (arc_value content); hits = record { found = 0; not_found = 0 }; misses = record { found = 0; not_found = 0 }; slide = None }) }
         ensures pass { IfOk result (λ r. r.1.seen ≡ record_of.Change 0 (arc_value content) ∷ []) }
     {
         let (map, pen, pass) = start(alloc, layout, &content)?;
@@ -72,8 +70,6 @@ impl Writer {
             pen,
             content,
             shelf: Shelf::new(alloc, layout)?,
-            hits: Uses::none(),
-            misses: Uses::none(),
         };
         Ok((writer, pass))
     }
@@ -109,6 +105,7 @@ impl Writer {
 
     /// A pass that has seen the whole history.
     pub fn pass(&mut self) -> Pass
+        requires { self.old.slide ≡ None }
         ensures same { self.new ≡ self.old }
         ensures pass { result ≡ record { table = self.old.table; seen = self.old.seen } }
     {
@@ -117,7 +114,8 @@ impl Writer {
 
     /// The pass has seen the whole history then, which begins with what it had seen.
     pub fn show(&mut self, pass: &mut Pass)
-        requires { pass.old.table ≡ self.old.table }
+        requires table { pass.old.table ≡ self.old.table }
+        requires still { self.old.slide ≡ None }
         ensures same { self.new ≡ self.old }
         ensures pass { pass.new ≡ record pass.old { seen = self.old.seen } }
         ensures before { IsPrefix pass.old.seen self.old.seen }
@@ -127,15 +125,17 @@ impl Writer {
 
     /// Counts a lookup that made an answer anew.
     pub fn miss(&mut self, not_found: bool)
+        requires { self.old.slide ≡ None }
         ensures { self.new ≡ record self.old { misses = counted not_found self.old.misses } }
     {
-        self.misses = self.misses.and_one(not_found);
+        self.shelf.count_miss(not_found);
     }
 
     /// The live entry that answers the request of this kind and key, if there is one: the buffer then has its reply, its count
     /// of reloads begins anew, and a hit is counted. Its time is not looked at.
     pub fn search(&mut self, kind: Kind, key: &[u8], reply: &mut Buf) -> Option<Hit>
-        requires { kept_limit ≤ reply.old.limit }
+        requires limit { kept_limit ≤ reply.old.limit }
+        requires still { self.old.slide ≡ None }
         ensures gives { Gives (live_entry (record { kind = kind; key = key.now }) self.old.cache.entries) result reply.new.content }
         ensures stays { IfNone result (self.new ≡ self.old) }
         ensures used { IfSome result (λ hit. self.new ≡ record self.old { cache = record self.old.cache { entries = used_now (record { kind = kind; key = key.now }) self.old.cache.entries }; hits = counted hit.not_found self.old.hits }) }
@@ -143,7 +143,7 @@ impl Writer {
     {
         match self.shelf.hit(kind, key, reply) {
             Some(hit) => {
-                self.hits = self.hits.and_one(hit.not_found);
+                self.shelf.count_hit(hit.not_found);
                 Some(hit)
             }
             None => None,
@@ -155,6 +155,7 @@ impl Writer {
     pub fn entry(&mut self, at: usize, key: &mut Buf, reply: &mut Buf) -> Option<EntryAt>
         requires key { key_limit ≤ key.old.limit }
         requires reply { kept_limit ≤ reply.old.limit }
+        requires still { self.old.slide ≡ None }
         ensures entry { Stands (entry_from at self.old.cache.entries) result key.new.content reply.new.content }
         ensures same { self.new ≡ self.old }
         ensures key { key.new.limit ≡ key.old.limit }
@@ -174,14 +175,15 @@ impl Writer {
 
     /// What it counts.
     pub fn stats(&self) -> Stats
+        requires { self.now.slide ≡ None }
         ensures { result ≡ record { enabled = true; hits = self.now.hits.found; negative_hits = self.now.hits.not_found; misses = self.now.misses.found; negative_misses = self.now.misses.not_found; entries = length self.now.cache.entries; used = self.now.cache.used; arena = self.now.layout.arena; invalidations = self.now.cache.epoch; compactions = self.now.cache.cycle / 2; addfailed = self.now.cache.add_failed } }
     {
         Stats {
             enabled: true,
-            hits: self.hits.found,
-            negative_hits: self.hits.not_found,
-            misses: self.misses.found,
-            negative_misses: self.misses.not_found,
+            hits: self.shelf.hits(),
+            negative_hits: self.shelf.negative_hits(),
+            misses: self.shelf.misses(),
+            negative_misses: self.shelf.negative_misses(),
             entries: self.shelf.len() as u64,
             used: self.shelf.used() as u64,
             arena: self.map.layout().arena as u64,
@@ -189,14 +191,5 @@ impl Writer {
             compactions: self.shelf.cycle() / 2,
             addfailed: self.shelf.add_failed(),
         }
-    }
-
-    /// The words of ended entries are free again; it gives their number. At `Spent` nothing changed: the count of compactions
-    /// stands at its end.
-    pub fn compact(&mut self) -> Result<u64, Spent>
-        ensures done { IfOk result (λ freed. (self.old.cache.cycle < last_count) × (freed + all_words self.old.cache.entries ≡ self.old.cache.used) × (self.new ≡ record self.old { cache = record self.old.cache { cycle = self.old.cache.cycle + 2; used = all_words self.old.cache.entries } })) }
-        ensures spent { IfErr result (λ spent. (last_count ≤ self.old.cache.cycle) × (spent.count ≡ last_count) × (self.new ≡ self.old)) }
-    {
-        self.shelf.compact()
     }
 }

@@ -1,4 +1,4 @@
-use Rattle.std.proofs.Common.{◌≡◌, ◌≢◌, ℕ, ◌+◌, ◌<◌, ◌≤◌, List, [], ◌∷◌, Bool, map, set, length, slice_index, sym, ap, subst, ◌∙◌, arith, get_or-set_other}
+use Rattle.std.proofs.Common.{◌≡◌, ◌≢◌, ℕ, ◌+◌, ◌<◌, ◌≤◌, List, [], ◌∷◌, map, set, length, slice_index, sym, ap, subst, ◌∙◌, arith, get_or-set_other}
 use Rattle.nsc_words.specs.Laid.{Laid, end_of, words_in}
 use Rattle.nsc_words.specs.Layout.{arena_start}
 use Rattle.nsc_arena.specs.Changes.{IsNodeAt, changed_at, ended}
@@ -11,7 +11,7 @@ pub nodes-init : goal.nodes-init
 nodes-init g c =
     let read : g.W.Words.words c.get-end.new.self ≡ g.W.Words.words c.args.table.now = c.get-end.ensures.same in (
       λ i low differs. ap (λ (ws : List ℕ). slice_index ws i) read,
-      c.get-end.ensures.open,
+      c.get-end.ensures.rest,
       λ nodes laid. ([], passed_none c.args.map nodes c.arena_start-at.result c.arena_start-at.ensures, subst (λ (ws : List ℕ). Laid ws c.args.map (map (ended_if c.arena_start-at.result) nodes)) (sym read) (subst (Laid (g.W.Words.words c.args.table.now) c.args.map) (sym (none_ended c.args.map nodes c.arena_start-at.result laid.row c.arena_start-at.ensures)) laid)),
     )
 
@@ -74,7 +74,7 @@ set-requires-clause-open g c =
     let high = in'.1 in
     let place = n.here.place in
     let table = done.2.table in
-    ap (λ (f : ℕ → Bool). f (c.nodes.at + 6)) (c.words_at-count.ensures.open ∙ c.nodes.invariant.1) ∙ c.requires.open.others (c.nodes.at + 6) (omega arith) (omega arith)
+    c.requires.open.others (c.nodes.at + 6) (omega arith) (omega arith)
 
 pub overflow_add-at-in-nodes : goal.overflow_add-at-in-nodes
 overflow_add-at-in-nodes g c =
@@ -124,7 +124,7 @@ nodes-preserved g c =
           let low16 = in'.0 in
           let place = n.here.place in
           λ i less differs. let ne : i ≢ c.nodes.at + 6 = omega arith in ap (λ (ws : List ℕ). slice_index ws i) is ∙ get_or-set_other cur (c.nodes.at + 6) i 0 0 ne ∙ c.nodes.invariant.0 i less differs),
-      c.set.ensures.open ∙ c.words_at-count.ensures.open ∙ c.nodes.invariant.1,
+      c.set.ensures.rest ∙ c.words_at-count.ensures.rest ∙ c.nodes.invariant.1,
       λ nodes laid.
           let layout = c.args.map in
           let old : List ℕ = g.W.Words.words c.args.table.now in

@@ -9,7 +9,7 @@ use Rattle.nsc_arena.proofs.Walks.{both}
 use Rattle.nsc_arena.proofs.numbers.first_from.Goals as goal
 
 pub nodes-init : goal.nodes-init
-nodes-init g c = (c.get-end.ensures.same, c.get-end.ensures.open, λ nodes laid mark. (mark.older, record { newer = mark.newer; split = mark.split; end = mark.place }, λ p among usable. mark.below p among))
+nodes-init g c = (c.get-end.ensures.same, c.get-end.ensures.rest, λ nodes laid mark. (mark.older, record { newer = mark.newer; split = mark.split; end = mark.place }, λ p among usable. mark.below p among))
 
 pub is_from-requires : goal.is_from-requires
 is_from-requires g c =
@@ -27,8 +27,8 @@ is_from-requires g c =
 pub returns-then-is_from-clause-same : goal.returns-then-is_from-clause-same
 returns-then-is_from-clause-same g c = c.is_from.ensures.same ∙ c.nodes.invariant.0
 
-pub returns-then-is_from-clause-open : goal.returns-then-is_from-clause-open
-returns-then-is_from-clause-open g c = c.is_from.ensures.open ∙ c.nodes.invariant.1
+pub returns-then-is_from-clause-rest : goal.returns-then-is_from-clause-rest
+returns-then-is_from-clause-rest g c = c.is_from.ensures.rest ∙ c.nodes.invariant.1
 
 pub returns-then-is_from-clause-first : goal.returns-then-is_from-clause-first
 returns-then-is_from-clause-first g c = λ nodes laid mark.
@@ -100,7 +100,7 @@ nodes-smaller g c =
 pub nodes-preserved : goal.nodes-preserved
 nodes-preserved g c = (
   c.words_at-at.ensures.same ∙ c.is_from.ensures.same ∙ c.nodes.invariant.0,
-  c.words_at-at.ensures.open ∙ c.is_from.ensures.open ∙ c.nodes.invariant.1,
+  c.words_at-at.ensures.rest ∙ c.is_from.ensures.rest ∙ c.nodes.invariant.1,
   λ nodes laid mark.
       let layout = c.args.map in
       let old : List ℕ = g.W.Words.words c.args.table.now in
@@ -121,8 +121,8 @@ nodes-preserved g c = (
 pub returns-clause-same : goal.returns-clause-same
 returns-clause-same g c = c.nodes.invariant.0
 
-pub returns-clause-open : goal.returns-clause-open
-returns-clause-open g c = c.nodes.invariant.1
+pub returns-clause-rest : goal.returns-clause-rest
+returns-clause-rest g c = c.nodes.invariant.1
 
 pub returns-clause-first : goal.returns-clause-first
 returns-clause-first g c = λ nodes laid mark.

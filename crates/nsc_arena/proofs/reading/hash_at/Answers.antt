@@ -11,7 +11,7 @@ loop-index-preserved g c =
     let i = c.loop-index.index in
     let before = c.loop-index.invariant in (
       c.get-word.ensures.same ∙ before.0,
-      c.get-word.ensures.open ∙ before.1,
+      c.get-word.ensures.rest ∙ before.1,
       λ p at.
           let len : c.shape_len-len.result ≡ length p.node.key = length_at c.args.at p (g.W.Words.words c.args.table.now) at c.shape_len-len.result c.get-shape.result c.shape_len-len.ensures.undoes c.get-shape.ensures.value in
           let here : c.get-word.result ≡ word_of p.node.key i = c.get-word.ensures.value ∙ ap (λ (ws : List ℕ). slice_index ws (c.args.at + 8 + i)) before.0 ∙ (holds_at (g.W.Words.words c.args.table.now) c.args.at p at).key i (omega arith) in

@@ -1,4 +1,4 @@
-use Rattle.std.proofs.Common.{◌≡◌, ℕ, ◌+◌, ◌≤◌, Bool, List, length, slice_index, refl, sym, ap, subst, ◌∙◌, arith}
+use Rattle.std.proofs.Common.{◌≡◌, ℕ, ◌+◌, ◌≤◌, List, length, slice_index, refl, sym, ap, subst, ◌∙◌, arith}
 use Rattle.nsc_words.specs.Laid.{Laid, end_of, slid, words_in}
 use Rattle.nsc_words.specs.Layout.{arena_start}
 use Rattle.nsc_arena.specs.Written.{IsWritten}
@@ -13,7 +13,7 @@ nodes-init g c =
     let old : List ℕ = g.W.Words.words c.args.table.now in
     let read : g.W.Words.words c.get-end.new.self ≡ old = c.get-end.ensures.same in (
       λ i low differs. c.clear.ensures.head i low differs ∙ ap (λ (ws : List ℕ). slice_index ws i) read,
-      c.clear.ensures.open ∙ c.get-end.ensures.open,
+      c.clear.ensures.rest ∙ c.get-end.ensures.rest,
       λ nodes laid. starts old (g.W.Words.words c.clear.new.table) c.args.map nodes c.arena_start-from.result c.clear.ensures.laid (λ i more. c.clear.ensures.arena i more ∙ ap (λ (ws : List ℕ). slice_index ws i) read) c.arena_start-from.ensures,
     )
 
@@ -61,7 +61,7 @@ move_down-requires-clause-open g c = λ i from_to below.
     let behind = s.behind in
     let inside = n.here.inside in
     let table = s.laid.table in
-    ap (λ (f : ℕ → Bool). f i) (c.get-to.ensures.open ∙ c.get.ensures.open ∙ c.words_at-count.ensures.open ∙ c.nodes.invariant.1) ∙ c.requires.open.others i (omega arith) (omega arith)
+    c.requires.open.others i (omega arith) (omega arith)
 
 pub chain-requires-clause-next : goal.chain-requires-clause-next
 chain-requires-clause-next g c =
@@ -124,7 +124,7 @@ nodes-preserved g c =
           let final : g.W.Words.words c.if-get-eq1.table ≡ new = ap g.W.Words.words w.table-is in
           let written : IsWritten cur mid w.get-to.result c.words_at-count.result (λ i. slice_index cur (c.nodes.from + i)) = subst (λ (ws : List ℕ). IsWritten ws mid w.get-to.result c.words_at-count.result (λ i. slice_index ws (c.nodes.from + i))) (w.get-to.ensures.same ∙ asked) w.move_down.ensures.written in (
             λ i less differs. ap (λ (ws : List ℕ). slice_index ws i) final ∙ w.chain.ensures.head i less differs ∙ written.below i (omega arith) ∙ c.nodes.invariant.0 i less differs,
-            ap g.W.Words.can_set w.table-is ∙ w.chain.ensures.open ∙ w.move_down.ensures.open ∙ w.get-to.ensures.open ∙ c.get.ensures.open ∙ c.words_at-count.ensures.open ∙ c.nodes.invariant.1,
+            ap g.W.Words.rest w.table-is ∙ w.chain.ensures.rest ∙ w.move_down.ensures.rest ∙ w.get-to.ensures.rest ∙ c.get.ensures.rest ∙ c.words_at-count.ensures.rest ∙ c.nodes.invariant.1,
             λ nodes laid.
                 let t = c.nodes.invariant.2 nodes laid in
                 let m = turn old cur layout nodes c.nodes.from c.get-end.result c.requires.layout laid t c.get-end.ensures.value c.nodes-test.true in
@@ -138,7 +138,7 @@ nodes-preserved g c =
       | else-get-eq1 w ↦
           let final : g.W.Words.words c.if-get-eq1.table ≡ cur = ap g.W.Words.words w.table-is ∙ asked in (
             λ i less differs. ap (λ (ws : List ℕ). slice_index ws i) final ∙ c.nodes.invariant.0 i less differs,
-            ap g.W.Words.can_set w.table-is ∙ c.get.ensures.open ∙ c.words_at-count.ensures.open ∙ c.nodes.invariant.1,
+            ap g.W.Words.rest w.table-is ∙ c.get.ensures.rest ∙ c.words_at-count.ensures.rest ∙ c.nodes.invariant.1,
             λ nodes laid.
                 let t = c.nodes.invariant.2 nodes laid in
                 let m = turn old cur layout nodes c.nodes.from c.get-end.result c.requires.layout laid t c.get-end.ensures.value c.nodes-test.true in

@@ -11,7 +11,7 @@ pub chain-init : goal.chain-init
 chain-init g c =
     let sizes = c.requires.layout in
     let bucket : c.bucket.result ≡ bucket_of c.args.map c.args.kind c.args.key.now = c.bucket.ensures ∙ ap (bucket_at c.args.map) c.hash.ensures in
-    (c.get-at.ensures.same, c.get-at.ensures.open, omega arith, omega arith, λ nodes laid. walk_starts (g.W.Words.words c.args.table.now) c.args.map c.args.kind c.args.key.now nodes c.get-at.result c.bucket.result c.words-below.result sizes laid bucket c.get-at.ensures.value c.words-below.ensures)
+    (c.get-at.ensures.same, c.get-at.ensures.rest, omega arith, omega arith, λ nodes laid. walk_starts (g.W.Words.words c.args.table.now) c.args.map c.args.kind c.args.key.now nodes c.get-at.result c.bucket.result c.words-below.result sizes laid bucket c.get-at.ensures.value c.words-below.ensures)
 
 pub returns-then-answers_at-clause-newest : goal.returns-then-answers_at-clause-newest
 returns-then-answers_at-clause-newest g c = λ nodes laid.
@@ -35,7 +35,7 @@ chain-preserved g c =
     let read : g.W.Words.words c.answers_at.new.table ≡ old = c.answers_at.ensures.same ∙ c.chain.invariant.0 in
     let here : (p : Placed) → IsNodeAt old c.chain.at p → answers c.args.kind c.args.key.now p ≡ false = λ p at. sym (c.if-answers_at.ensures.answers p (subst (λ (ws : List ℕ). IsNodeAt ws c.chain.at p) (sym c.chain.invariant.0) at)) in
     let next : c.get-at-in-chain.result ≡ slice_index old (c.chain.at + 7) = c.get-at-in-chain.ensures.value ∙ ap (λ (ws : List ℕ). slice_index ws (c.chain.at + 7)) read in
-    (c.get-at-in-chain.ensures.same ∙ read, c.get-at-in-chain.ensures.open ∙ c.answers_at.ensures.open ∙ c.chain.invariant.1, omega arith, omega arith, λ nodes laid. walk_goes old c.args.map c.args.kind c.args.key.now nodes c.chain.at c.chain.below c.get-at-in-chain.result c.requires.layout laid (c.chain.invariant.4 nodes laid) high here next)
+    (c.get-at-in-chain.ensures.same ∙ read, c.get-at-in-chain.ensures.rest ∙ c.answers_at.ensures.rest ∙ c.chain.invariant.1, omega arith, omega arith, λ nodes laid. walk_goes old c.args.map c.args.kind c.args.key.now nodes c.chain.at c.chain.below c.get-at-in-chain.result c.requires.layout laid (c.chain.invariant.4 nodes laid) high here next)
 
 pub returns-clause-newest : goal.returns-clause-newest
 returns-clause-newest g c = λ nodes laid.

@@ -6,7 +6,7 @@ use Rattle.nsc_arena.proofs.Walks.{Walking}
 use Rattle.nsc_arena.proofs.walking.walk.Given as goal
 
 abbrev pub invariant-chain : goal.invariant-chain
-invariant-chain g l = (g.W.Words.words l.table ≡ g.W.Words.words l.fn.table) × (g.W.Words.can_set l.table ≡ g.W.Words.can_set l.fn.table) × (8 ≤ l.below) × (l.below ≤ table_words l.map) × ((nodes : List Placed) → Laid (g.W.Words.words l.fn.table) l.map nodes → Walking l.map l.kind l.key nodes l.at l.below)
+invariant-chain g l = (g.W.Words.words l.table ≡ g.W.Words.words l.fn.table) × (g.W.Words.rest l.table ≡ g.W.Words.rest l.fn.table) × (8 ≤ l.below) × (l.below ≤ table_words l.map) × ((nodes : List Placed) → Laid (g.W.Words.words l.fn.table) l.map nodes → Walking l.map l.kind l.key nodes l.at l.below)
 
 abbrev pub decreases-chain : goal.decreases-chain
 decreases-chain g l = l.below

@@ -3,4 +3,4 @@ use Rattle.nsc_arena.specs.Written.{IsWritten}
 use Rattle.nsc_arena.proofs.writing.move_down.Given as goal
 
 abbrev pub invariant-loop-index : goal.invariant-loop-index
-invariant-loop-index g l = IsWritten (g.W.Words.words l.initial.table) (g.W.Words.words l.table) l.to l.index (λ i. slice_index (g.W.Words.words l.initial.table) (l.from + i)) × (g.W.Words.can_set l.table ≡ g.W.Words.can_set l.initial.table)
+invariant-loop-index g l = IsWritten (g.W.Words.words l.initial.table) (g.W.Words.words l.table) l.to l.index (λ i. slice_index (g.W.Words.words l.initial.table) (l.from + i)) × (g.W.Words.rest l.table ≡ g.W.Words.rest l.initial.table)

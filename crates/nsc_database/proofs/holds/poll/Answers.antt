@@ -22,8 +22,8 @@ poll-requires-clause-epoch g c =
     let low = c.requires.epoch in
     omega arith
 
-pub show-requires-in-Ok : goal.show-requires-in-Ok
-show-requires-in-Ok g c =
+pub show-requires-in-Ok-clause-table : goal.show-requires-in-Ok-clause-table
+show-requires-in-Ok-clause-table g c =
     let looks = polls_looks c.args.fetched.content c.args.epoch c.show.new.self c.poll.new.writer c.in-Ok.polled.stamp c.in-Ok.ensures.polls.0 in
     ap (λ (p : Pass). p.table) c.show.ensures.pass ∙ c.requires.table ∙ sym (ap (λ (x : Writer). x.table) c.show.ensures.same) ∙ sym looks.goes.table
 
@@ -81,3 +81,8 @@ returns-in-Ok-clause-steady g c files which s part =
     let still = subst (λ (x : Writer). IsStill files which x.cache) (sym c.show.ensures.same) s in
     subst (HasOne files which) (sym (ap (λ (q : Pass). q.seen) c.show-in-Ok.ensures.pass))
     (one_of_still files which w'.seen w'.cache c.learn-in-Ok.ensures.told (still_polled c.args.fetched.content files which c.args.epoch w w' c.in-Ok.polled.stamp c.in-Ok.ensures.polls.0 still part))
+
+pub show-requires-in-Ok-clause-still : goal.show-requires-in-Ok-clause-still
+show-requires-in-Ok-clause-still g c =
+    let looks = polls_looks c.args.fetched.content c.args.epoch c.show.new.self c.poll.new.writer c.in-Ok.polled.stamp c.in-Ok.ensures.polls.0 in
+    looks.goes.slide ∙ ap (λ (x : Writer). x.slide) c.show.ensures.same ∙ c.requires.slide

@@ -29,8 +29,8 @@ bounds-due-at c =
     let d : Due = record { number = 0; request = c.in-Some.loaded.request; reloads = 0; dropped = true; ended = true } in
     (anew_at c.args.writer.now.seen c.args.due.now c.args.loads.now c.loop-at.at d c.index-loads-at.result c.in-Some.loaded c.requires.loads c.loop-at-test.true (sym c.index-loads-at.is ∙ c.in-Some.is)).0
 
-pub insert_lent-said-requires : goal.insert_lent-said-requires
-insert_lent-said-requires c =
+pub insert_lent-said-requires-clause-answered : goal.insert_lent-said-requires-clause-answered
+insert_lent-said-requires-clause-answered c =
     let at = anew_at c.args.writer.now.seen c.args.due.now c.args.loads.now c.loop-at.at c.index-due-at.result c.index-loads-at.result c.in-Some.loaded c.requires.loads c.loop-at-test.true (sym c.index-loads-at.is ∙ c.in-Some.is) in
     answered_on c.args.writer.now.seen c.loop-at.writer.seen c.in-Some.loaded c.learn.ensures.told.legal c.requires.legal c.loop-at.invariant.0.on at.1.3
 
@@ -74,3 +74,6 @@ returns-clause-again c =
     let none : LoadsBut c.args.writer.now.layout.arena (IsPending []) c.loop-at.writer.seen = subst (λ (ds : List Due). LoadsBut c.args.writer.now.layout.arena (IsPending ds) c.loop-at.writer.seen) (drop_of_length-le c.args.due.now over) inv.3 in
     let room : c.loop-at.writer.layout.arena ≡ c.args.writer.now.layout.arena = ap (λ (x : Layout). x.arena) inv.0.layout in
     subst (λ (n : ℕ). LoadsAgain n c.loop-at.writer.seen) (sym room) (none_but c.args.writer.now.layout.arena (IsPending []) c.loop-at.writer.seen (λ r a. a) none)
+
+pub insert_lent-said-requires-clause-still : goal.insert_lent-said-requires-clause-still
+insert_lent-said-requires-clause-still c = c.loop-at.invariant.0.slide ∙ c.requires.slide

@@ -24,8 +24,8 @@ returns-then-epoch-clause-over c =
     let same : invalidations c.show.new.pass.seen ≡ invalidations c.show.new.self.seen = ap invalidations seen in
     inl (omega (arith, noted, apart, same))
 
-pub end_due-requires : goal.end_due-requires
-end_due-requires c =
+pub end_due-requires-clause-over : goal.end_due-requires-clause-over
+end_due-requires-clause-over c =
     let w = c.show.new.self in
     let b = begun c.requires.due.0 c.requires.due.1 c.args.now c.requires.due.2 c.args.due.now c.args.pass.now.seen c.args.writer.now w c.show.ensures.same c.show.ensures.before c.requires.due.3 c.requires.due.4 c.requires.packed in
     all_over c.requires.due.1 c.args.now w.seen c.args.due.now b.due
@@ -53,15 +53,15 @@ reload-requires-clause-loads c =
     let anew = anew_on c.args.pass.now.seen c.end_due.new.writer.seen c.args.due.now c.args.loads.now c.requires.legal s.legal after c.requires.loads in
     subst (λ (ds : List Due). AreAnew c.end_due.new.writer.seen ds c.args.loads.now) (sym c.in-Ok.ensures.marked) (anew_marked c.args.now c.end_due.new.writer.seen c.args.due.now w c.args.loads.now anew)
 
-pub show-requires-in-Ok : goal.show-requires-in-Ok
-show-requires-in-Ok c =
+pub show-requires-in-Ok-clause-table : goal.show-requires-in-Ok-clause-table
+show-requires-in-Ok-clause-table c =
     let w = c.show.new.self in
     let b = begun c.requires.due.0 c.requires.due.1 c.args.now c.requires.due.2 c.args.due.now c.args.pass.now.seen c.args.writer.now w c.show.ensures.same c.show.ensures.before c.requires.due.3 c.requires.due.4 c.requires.packed in
     let s = begun_leaves w c.end_due.new.writer b c.learn.ensures.told c.in-Ok.ensures.swept in
     ap (λ (p : Pass). p.table) c.show.ensures.pass ∙ c.requires.table ∙ sym (c.reload.ensures.rests.table ∙ s.table ∙ ap (λ (x : Writer). x.table) c.show.ensures.same)
 
-pub show-requires-in-Err : goal.show-requires-in-Err
-show-requires-in-Err c =
+pub show-requires-in-Err-clause-table : goal.show-requires-in-Err-clause-table
+show-requires-in-Err-clause-table c =
     let w = c.show.new.self in
     let b = begun c.requires.due.0 c.requires.due.1 c.args.now c.requires.due.2 c.args.due.now c.args.pass.now.seen c.args.writer.now w c.show.ensures.same c.show.ensures.before c.requires.due.3 c.requires.due.4 c.requires.packed in
     let s = begun_spent w c.end_due.new.writer b c.learn.ensures.told c.in-Err.ensures.spent.2 c.in-Err.ensures.spent.1 in
@@ -75,7 +75,7 @@ returns-in-Ok-clause-writer c =
     let first = ap (λ (x : Writer). x.table) c.show.ensures.same in
     let layout = ap (λ (x : Writer). x.layout) c.show.ensures.same in
     let last = c.show-in-Ok.ensures.same in
-    (ap (λ (x : Writer). x.table) last ∙ c.reload.ensures.rests.table ∙ s.table ∙ first, ap (λ (x : Writer). x.layout) last ∙ c.reload.ensures.rests.layout ∙ s.layout ∙ layout)
+    (ap (λ (x : Writer). x.table) last ∙ c.reload.ensures.rests.table ∙ s.table ∙ first, ap (λ (x : Writer). x.layout) last ∙ c.reload.ensures.rests.layout ∙ s.layout ∙ layout, ap (λ (x : Writer). x.slide) last ∙ c.reload.ensures.rests.slide ∙ s.slide ∙ ap (λ (x : Writer). x.slide) c.show.ensures.same)
 
 pub returns-in-Ok-clause-before : goal.returns-in-Ok-clause-before
 returns-in-Ok-clause-before c =
@@ -114,7 +114,7 @@ returns-in-Err-clause-writer c =
     let first = ap (λ (x : Writer). x.table) c.show.ensures.same in
     let layout = ap (λ (x : Writer). x.layout) c.show.ensures.same in
     let last = c.show-in-Err.ensures.same in
-    (ap (λ (x : Writer). x.table) last ∙ s.table ∙ first, ap (λ (x : Writer). x.layout) last ∙ s.layout ∙ layout)
+    (ap (λ (x : Writer). x.table) last ∙ s.table ∙ first, ap (λ (x : Writer). x.layout) last ∙ s.layout ∙ layout, ap (λ (x : Writer). x.slide) last ∙ s.slide ∙ ap (λ (x : Writer). x.slide) c.show.ensures.same)
 
 pub returns-in-Err-clause-before : goal.returns-in-Err-clause-before
 returns-in-Err-clause-before c =
@@ -213,3 +213,27 @@ returns-in-Err-clause-again c =
     let low = s.packed.cycles in
     let high = c.in-Err.ensures.spent.1 in
     subst (λ (x : Writer). LoadsAgain x.layout.arena x.seen) (sym c.show-in-Err.ensures.same) (inr (omega arith))
+
+pub end_due-requires-clause-slide : goal.end_due-requires-clause-slide
+end_due-requires-clause-slide c = ap (λ (x : Writer). x.slide) c.show.ensures.same ∙ c.requires.slide
+
+pub reload-requires-clause-slide : goal.reload-requires-clause-slide
+reload-requires-clause-slide c =
+    let w = c.show.new.self in
+    let b = begun c.requires.due.0 c.requires.due.1 c.args.now c.requires.due.2 c.args.due.now c.args.pass.now.seen c.args.writer.now w c.show.ensures.same c.show.ensures.before c.requires.due.3 c.requires.due.4 c.requires.packed in
+    let s = begun_leaves w c.end_due.new.writer b c.learn.ensures.told c.in-Ok.ensures.swept in
+    s.slide ∙ ap (λ (x : Writer). x.slide) c.show.ensures.same ∙ c.requires.slide
+
+pub show-requires-in-Ok-clause-still : goal.show-requires-in-Ok-clause-still
+show-requires-in-Ok-clause-still c =
+    let w = c.show.new.self in
+    let b = begun c.requires.due.0 c.requires.due.1 c.args.now c.requires.due.2 c.args.due.now c.args.pass.now.seen c.args.writer.now w c.show.ensures.same c.show.ensures.before c.requires.due.3 c.requires.due.4 c.requires.packed in
+    let s = begun_leaves w c.end_due.new.writer b c.learn.ensures.told c.in-Ok.ensures.swept in
+    c.reload.ensures.rests.slide ∙ s.slide ∙ ap (λ (x : Writer). x.slide) c.show.ensures.same ∙ c.requires.slide
+
+pub show-requires-in-Err-clause-still : goal.show-requires-in-Err-clause-still
+show-requires-in-Err-clause-still c =
+    let w = c.show.new.self in
+    let b = begun c.requires.due.0 c.requires.due.1 c.args.now c.requires.due.2 c.args.due.now c.args.pass.now.seen c.args.writer.now w c.show.ensures.same c.show.ensures.before c.requires.due.3 c.requires.due.4 c.requires.packed in
+    let s = begun_spent w c.end_due.new.writer b c.learn.ensures.told c.in-Err.ensures.spent.2 c.in-Err.ensures.spent.1 in
+    s.slide ∙ ap (λ (x : Writer). x.slide) c.show.ensures.same ∙ c.requires.slide

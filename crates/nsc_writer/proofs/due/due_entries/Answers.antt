@@ -23,7 +23,7 @@ entries-smaller c =
     let ks : List Kept = c.args.shelf.now.entries in
     let told = told_entry (entry_from c.entries.from c.entries.shelf.entries) c.in-Some.entry c.in-Some.ensures.told in
     let first : entry_from c.entries.from ks ≡ Some told.0 = sym (ap (λ (s : Shelf). entry_from c.entries.from s.entries) c.entries.invariant.0) ∙ told.1 in
-    let next = rest_next c.entries.from ks told.0 c.requires first in
+    let next = rest_next c.entries.from ks told.0 c.requires.rise first in
     let number : c.in-Some.entry.number + 1 ≡ told.0.entry.number + 1 = ap (λ (e : EntryAt). e.number + 1) told.2 in
     let mid : c.if-entry-now.shelf ≡ c.args.shelf.now = elim c.if-entry-now.branch [
       | then-entry-now+in_ok-due_at+in_ok-push w ↦ w.shelf-is ∙ w.due_at.ensures.same ∙ c.next.ensures.same ∙ c.entries.invariant.0
@@ -41,7 +41,7 @@ entries-preserved c =
     let told = told_entry (entry_from c.entries.from c.entries.shelf.entries) c.in-Some.entry c.in-Some.ensures.told in
     let k : Kept = told.0 in
     let first : entry_from c.entries.from ks ≡ Some k = sym (ap (λ (s : Shelf). entry_from c.entries.from s.entries) c.entries.invariant.0) ∙ told.1 in
-    let next = rest_next c.entries.from ks k c.requires first in
+    let next = rest_next c.entries.from ks k c.requires.rise first in
     let number : c.in-Some.entry.number ≡ k.entry.number = ap (λ (e : EntryAt). e.number) told.2 in
     let timeout : c.in-Some.entry.timeout ≡ k.entry.timeout = ap (λ (e : EntryAt). e.timeout) told.2 in
     let whole : c.entries.all.items ++ map f (due_of now (k ∷ rest_from (k.entry.number + 1) ks)) ≡ map f (due_of now ks) = ap (λ (l : List Kept). c.entries.all.items ++ map f (due_of now l)) (sym next.0) ∙ c.entries.invariant.2 in

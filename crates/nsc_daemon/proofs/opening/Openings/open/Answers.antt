@@ -3,6 +3,18 @@ use Rattle.nsc_model.specs.Content.{Content}
 use Rattle.nsc_daemon.specs.Ends.{IsOpeningFault, TellsLength}
 use Rattle.nsc_daemon.proofs.opening.Openings.open.Goals as goal
 
+pub returns-in_err-hosts-clause-fault : goal.returns-in_err-hosts-clause-fault
+returns-in_err-hosts-clause-fault g c =
+    let before : g.F.FileSet.faults c.opened-2.new.files ≡ g.F.FileSet.faults c.args.files.now = c.in_ok-group.ensures.calm ∙ c.in_ok-passwd.ensures.calm in
+    let fault = subst (λ (n : ℕ). IsOpeningFault c.in_err-hosts.field-0.0 n (g.F.FileSet.faults c.opened-3.new.files)) before c.in_err-hosts.ensures.fault in
+    search (rules, fault, c.from_residual-in_err-hosts.ensures)
+
+pub returns-in_err-hosts-clause-length : goal.returns-in_err-hosts-clause-length
+returns-in_err-hosts-clause-length g c =
+    let before : g.F.FileSet.held c.opened-2.new.files ≡ g.F.FileSet.held c.args.files.now = c.in_ok-group.ensures.stays ∙ c.in_ok-passwd.ensures.stays in
+    let tells = subst (λ (o : Option Content). TellsLength c.in_err-hosts.field-0.0 o) before c.in_err-hosts.ensures.length in
+    search (rules, tells, c.from_residual-in_err-hosts.ensures)
+
 pub returns-in_err-services-clause-fault : goal.returns-in_err-services-clause-fault
 returns-in_err-services-clause-fault g c =
     let before : g.F.FileSet.faults c.opened-3.new.files ≡ g.F.FileSet.faults c.args.files.now = c.in_ok-hosts.ensures.calm ∙ c.in_ok-group.ensures.calm ∙ c.in_ok-passwd.ensures.calm in

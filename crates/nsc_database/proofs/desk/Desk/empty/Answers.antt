@@ -19,10 +19,11 @@ invariant_of-self g c =
       c.in-Ok.ensures.rests.packed c.self.invariant.1,
       λ files e. still_kept files _ _ _ c.in-Ok.ensures.version (c.self.invariant.2 files e),
       c.in-Ok.ensures.rests.again c.self.invariant.3,
+      c.in-Ok.ensures.rests.slide ∙ c.self.invariant.4,
     )
 
 pub invariant_of-self-in-Err : goal.invariant_of-self-in-Err
-invariant_of-self-in-Err g c = (c.in-Err.ensures.rests.keeps _ _ _ c.self.invariant.0, c.in-Err.ensures.rests.packed c.self.invariant.1, λ files e. still_kept files _ _ _ c.in-Err.ensures.version (c.self.invariant.2 files e), c.in-Err.ensures.rests.again c.self.invariant.3)
+invariant_of-self-in-Err g c = (c.in-Err.ensures.rests.keeps _ _ _ c.self.invariant.0, c.in-Err.ensures.rests.packed c.self.invariant.1, λ files e. still_kept files _ _ _ c.in-Err.ensures.version (c.self.invariant.2 files e), c.in-Err.ensures.rests.again c.self.invariant.3, c.in-Err.ensures.rests.slide ∙ c.self.invariant.4)
 
 pub returns-in-Ok-clause-reloaded : goal.returns-in-Ok-clause-reloaded
 returns-in-Ok-clause-reloaded g c =

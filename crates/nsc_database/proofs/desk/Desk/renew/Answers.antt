@@ -11,7 +11,7 @@ use Rattle.nsc_model.specs.Machine.{room_of}
 use Rattle.nsc_database.proofs.desk.Desk.renew.Goals as goal
 
 pub invariant_of-self : goal.invariant_of-self
-invariant_of-self g c = (c.renew.ensures.keeps _ _ _ c.requires.due c.self.invariant.0, c.renew.ensures.packed, λ files e. still_kept files _ _ _ c.renew.ensures.version (c.self.invariant.2 files e), c.renew.ensures.again)
+invariant_of-self g c = (c.renew.ensures.keeps _ _ _ c.requires.due c.self.invariant.0, c.renew.ensures.packed, λ files e. still_kept files _ _ _ c.renew.ensures.version (c.self.invariant.2 files e), c.renew.ensures.again, c.renew.ensures.writer.2 ∙ c.self.invariant.4)
 
 pub invariant_of-pass-clause-steady : goal.invariant_of-pass-clause-steady
 invariant_of-pass-clause-steady g c = subst (λ (d : Db). IsSteady g.B.Room.held d c.renew.new.pass.seen) (sym c.requires.db) (λ files e. c.renew.ensures.steady files g.D.OfDb.db (c.self.invariant.2 files e))

@@ -1,11 +1,7 @@
-use Rattle.std.proofs.Common.{filter, ap, ◌∙◌, rules}
-use Rattle.nsc_base.specs.declared.search.Case.TheVariants.{Counts}
-use Rattle.nsc_index.specs.Names.{has_name}
-use Rattle.nsc_index.proofs.UserRows.{by_name as found}
+use Rattle.std.proofs.Common.{◌∙◌}
+use Rattle.std.specs.Str.{bytes_eq}
+use Rattle.nsc_index.proofs.UserRows.{first_user}
 use Rattle.nsc_index.proofs.users.UserIndex.by_name.Goals as goal
 
-pub returns-in_err-at-clause-entry : goal.returns-in_err-at-clause-entry
-returns-in_err-at-clause-entry c = found c.args.text.now c.args.self.now c.requires c.args.name.now _ _ _ (c.places_of_name.ensures ∙ ap (filter (has_name Counts c.args.text.now c.args.name.now)) c.deref.ensures.value) c.in_err-at.ensures.value (search rules)
-
 pub returns-clause-entry : goal.returns-clause-entry
-returns-clause-entry c = found c.args.text.now c.args.self.now c.requires c.args.name.now _ _ _ (c.places_of_name.ensures ∙ ap (filter (has_name Counts c.args.text.now c.args.name.now)) c.deref.ensures.value) c.in_ok-at.ensures.value c.user_on.ensures.entry
+returns-clause-entry c = first_user c.args.text.now (λ p. bytes_eq p.name c.args.name.now) c.deref.result.now (c.deref.ensures.value ∙ c.in_ok-places.ensures) c.first_user.result c.first_user.ensures.entry

@@ -1,14 +1,12 @@
-use Rattle.std.proofs.Common.{filter, ap, ◌∙◌}
+use Rattle.std.proofs.Common.{[], refl}
 use Rattle.std.specs.Option.{is_some}
 use Rattle.std.specs.Str.{bytes_eq}
-use Rattle.nsc_base.specs.declared.search.Case.TheVariants.{Counts}
 use Rattle.nsc_model.specs.Answers.{user_named}
 use Rattle.nsc_model.specs.Compat.{says}
 use Rattle.nsc_model.specs.Entries.{if_named}
 use Rattle.nsc_model.specs.Users.{user_of_line}
 use Rattle.nsc_compat.specs.Matters.{sign_name, speaks_on}
-use Rattle.nsc_index.specs.Names.{has_name}
-use Rattle.nsc_index.proofs.UserRows.{named_lines}
+use Rattle.nsc_index.proofs.UserRows.{places_of_users}
 use Rattle.nsc_index.proofs.SignRows.{added_to_none}
 use Rattle.nsc_index.proofs.users.UserIndex.lines_of_name.Goals as goal
 
@@ -16,7 +14,6 @@ pub returns : goal.returns
 returns c =
     let text = c.args.text.now in
     let name = c.args.name.now in
-    let named = c.places_of_name-named.ensures ∙ ap (filter (has_name Counts text name)) c.deref.ensures.value in
-    let own = named_lines text c.args.self.now c.requires name c.new-places.result.items c.add_named.new.places.items c.places_of_name-named.result.now named c.in_ok-add_named.ensures in
+    let own = places_of_users text (user_named name) c.in_ok-places.places.items c.in_ok-places.ensures in
     c.in_ok-lines.ensures _
-    (added_to_none text (λ line. is_some (if_named (user_named name) (user_of_line line))) (λ line. speaks_on (λ other. bytes_eq other name) (sign_name (says line))) c.new-places.result.items c.add_named.new.places.items c.add_signs_on.new.places.items c.new-places.ensures.items own c.in_ok-add_signs_on.ensures)
+    (added_to_none text (λ line. is_some (if_named (user_named name) (user_of_line line))) (λ line. speaks_on (λ other. bytes_eq other name) (sign_name (says line))) [] c.in_ok-places.places.items c.add_signs_on.new.places.items refl own c.in_ok-add_signs_on.ensures)

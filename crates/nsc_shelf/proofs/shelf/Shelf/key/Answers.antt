@@ -1,4 +1,4 @@
-use Rattle.std.proofs.Common.{◌≡◌, ◌++◌, List, [], length, sym, ap, ◌∙◌, arith}
+use Rattle.std.proofs.Common.{◌≡◌, ◌++◌, List, [], length, sym, ap, ◌∙◌, arith, ℕ, slice_index}
 use Rattle.nsc_base.specs.Buf.{Buf}
 use Rattle.nsc_words.specs.declared.layout.Layout.{Layout}
 use Rattle.nsc_words.specs.declared.node.Placed.{Placed}
@@ -6,16 +6,33 @@ use Rattle.nsc_arena.specs.ReadBack.{nodes_in}
 use Rattle.nsc_shelf.specs.declared.finding.Found.{Found}
 use Rattle.nsc_shelf.specs.Shelf.{Shelf, entry_from, key_or}
 use Rattle.nsc_shelf.proofs.Found.{found_entry, found_none, remarked_by, size_of, text_of}
+use Rattle.nsc_shelf.proofs.Still.{still, still_held, still_view}
 use Rattle.nsc_shelf.proofs.shelf.Shelf.key.Goals as goal
 
-pub read_bytes-requires-clause-inside : goal.read_bytes-requires-clause-inside
-read_bytes-requires-clause-inside c =
+pub overflow_add-found : goal.overflow_add-found
+overflow_add-found c =
+    let shelf_is = still c.self.view_is c.requires.still c.self.invariant in
     let w = c.self.inside.words in
     let m : Layout = c.self.inside.map in
     let nodes : List Placed = nodes_in w m in
     let f : Found = c.in-Some.found in
-    let n = c.in-Some.ensures.found nodes c.self.invariant.laid c.self.invariant.marked in
-    let text = text_of w c.find_from.new.words m nodes c.args.number f n c.find_from.ensures.same c.self.invariant.sizes c.self.invariant.laid in
+    let n = c.in-Some.ensures.found nodes shelf_is.laid shelf_is.marked in
+    let text = text_of w c.find_from.new.words m nodes c.args.number f n c.find_from.ensures.same shelf_is.sizes shelf_is.laid in
+    let key_len = text.key_len in
+    let reply_len = text.reply_len in
+    let inside = text.inside in
+    let size = text.size in
+    omega arith
+
+pub read_bytes-requires-clause-inside : goal.read_bytes-requires-clause-inside
+read_bytes-requires-clause-inside c =
+    let shelf_is = still c.self.view_is c.requires.still c.self.invariant in
+    let w = c.self.inside.words in
+    let m : Layout = c.self.inside.map in
+    let nodes : List Placed = nodes_in w m in
+    let f : Found = c.in-Some.found in
+    let n = c.in-Some.ensures.found nodes shelf_is.laid shelf_is.marked in
+    let text = text_of w c.find_from.new.words m nodes c.args.number f n c.find_from.ensures.same shelf_is.sizes shelf_is.laid in
     let key_len = text.key_len in
     let reply_len = text.reply_len in
     let inside = text.inside in
@@ -23,49 +40,52 @@ read_bytes-requires-clause-inside c =
 
 pub read_bytes-requires-clause-room : goal.read_bytes-requires-clause-room
 read_bytes-requires-clause-room c =
+    let shelf_is = still c.self.view_is c.requires.still c.self.invariant in
     let w = c.self.inside.words in
     let m : Layout = c.self.inside.map in
     let nodes : List Placed = nodes_in w m in
     let f : Found = c.in-Some.found in
-    let n = c.in-Some.ensures.found nodes c.self.invariant.laid c.self.invariant.marked in
-    let text = text_of w c.find_from.new.words m nodes c.args.number f n c.find_from.ensures.same c.self.invariant.sizes c.self.invariant.laid in
+    let n = c.in-Some.ensures.found nodes shelf_is.laid shelf_is.marked in
+    let text = text_of w c.find_from.new.words m nodes c.args.number f n c.find_from.ensures.same shelf_is.sizes shelf_is.laid in
     let key_len = text.key_len in
     let short = text.short_key in
-    let limit = c.requires in
+    let limit = c.requires.limit in
     let empty : length c.clear.new.self.content ≡ 0 = ap (λ (b : Buf). length b.content) c.clear.ensures in
     let own : c.clear.new.self.limit ≡ c.args.key.now.limit = ap (λ (b : Buf). b.limit) c.clear.ensures in
     omega arith
 
 pub read_bytes-requires-clause-size : goal.read_bytes-requires-clause-size
-read_bytes-requires-clause-size c = size_of c.self.inside.words c.find_from.new.words c.self.inside.map c.find_from.ensures.same c.self.invariant.sizes c.self.invariant.laid
+read_bytes-requires-clause-size c = size_of c.self.inside.words c.find_from.new.words c.self.inside.map c.find_from.ensures.same (still c.self.view_is c.requires.still c.self.invariant).sizes (still c.self.view_is c.requires.still c.self.invariant).laid
 
 pub invariant_of-self : goal.invariant_of-self
-invariant_of-self c = remarked_by c.self.inside.words c.read_bytes.new.table c.self.inside.map c.self.inside.live c.self.inside.mark c.find_from.new.mark (c.read_bytes.ensures.same ∙ c.find_from.ensures.same) c.self.invariant c.find_from.ensures.marked
+invariant_of-self c = still_held c.self.view_is c.requires.still c.self.invariant (ap (λ (ws : List ℕ). slice_index ws 0) (c.read_bytes.ensures.same ∙ c.find_from.ensures.same)) (remarked_by c.self.inside.words c.read_bytes.new.table c.self.inside.map c.self.inside.live c.self.inside.mark c.find_from.new.mark (c.read_bytes.ensures.same ∙ c.find_from.ensures.same) (still c.self.view_is c.requires.still c.self.invariant) c.find_from.ensures.marked)
 
 pub invariant_of-self-in_default : goal.invariant_of-self-in_default
-invariant_of-self-in_default c = remarked_by c.self.inside.words c.find_from.new.words c.self.inside.map c.self.inside.live c.self.inside.mark c.find_from.new.mark (c.find_from.ensures.same) c.self.invariant c.find_from.ensures.marked
+invariant_of-self-in_default c = still_held c.self.view_is c.requires.still c.self.invariant (ap (λ (ws : List ℕ). slice_index ws 0) c.find_from.ensures.same) (remarked_by c.self.inside.words c.find_from.new.words c.self.inside.map c.self.inside.live c.self.inside.mark c.find_from.new.mark (c.find_from.ensures.same) (still c.self.view_is c.requires.still c.self.invariant) c.find_from.ensures.marked)
 
 pub returns-in-Some-clause-key : goal.returns-in-Some-clause-key
 returns-in-Some-clause-key c =
+    let shelf_is = still c.self.view_is c.requires.still c.self.invariant in
     let w = c.self.inside.words in
     let m : Layout = c.self.inside.map in
     let nodes : List Placed = nodes_in w m in
     let f : Found = c.in-Some.found in
-    let n = c.in-Some.ensures.found nodes c.self.invariant.laid c.self.invariant.marked in
-    let text = text_of w c.find_from.new.words m nodes c.args.number f n c.find_from.ensures.same c.self.invariant.sizes c.self.invariant.laid in
+    let n = c.in-Some.ensures.found nodes shelf_is.laid shelf_is.marked in
+    let text = text_of w c.find_from.new.words m nodes c.args.number f n c.find_from.ensures.same shelf_is.sizes shelf_is.laid in
     let key_len = text.key_len in
     let holds = text.key in
     let content : c.read_bytes.new.out.content ≡ n.0.node.key = c.read_bytes.ensures.bytes n.0.node.key text.key_bytes (sym key_len) holds ∙ ap (λ (b : Buf). b.content ++ n.0.node.key) c.clear.ensures in
     let limit : c.read_bytes.new.out.limit ≡ c.args.key.now.limit = c.read_bytes.ensures.limit ∙ ap (λ (b : Buf). b.limit) c.clear.ensures in
-    let entry = found_entry c.args.number nodes f n c.self.invariant.laid.rising in
-    let is : n.0.node.key ≡ key_or (entry_from c.args.number c.args.self.now.entries) = sym (ap key_or entry) ∙ ap (λ (s : Shelf). key_or (entry_from c.args.number s.entries)) c.self.view_is in
+    let entry = found_entry c.args.number nodes f n shelf_is.laid.rising in
+    let is : n.0.node.key ≡ key_or (entry_from c.args.number c.args.self.now.entries) = sym (ap key_or entry) ∙ ap (λ (s : Shelf). key_or (entry_from c.args.number s.entries)) (still_view c.self.inside.slide c.self.inside.words c.self.inside.map c.self.view_is c.requires.still) in
     λ i. record { content = (content ∙ is) i; limit = limit i }
 
 pub returns-in_default-clause-key : goal.returns-in_default-clause-key
 returns-in_default-clause-key c =
+    let shelf_is = still c.self.view_is c.requires.still c.self.invariant in
     let w = c.self.inside.words in
     let m : Layout = c.self.inside.map in
     let nodes : List Placed = nodes_in w m in
-    let none = found_none c.args.number nodes (c.in_default.ensures.found nodes c.self.invariant.laid c.self.invariant.marked) in
-    let is : [] ≡ key_or (entry_from c.args.number c.args.self.now.entries) = sym (ap key_or none) ∙ ap (λ (s : Shelf). key_or (entry_from c.args.number s.entries)) c.self.view_is in
+    let none = found_none c.args.number nodes (c.in_default.ensures.found nodes shelf_is.laid shelf_is.marked) in
+    let is : [] ≡ key_or (entry_from c.args.number c.args.self.now.entries) = sym (ap key_or none) ∙ ap (λ (s : Shelf). key_or (entry_from c.args.number s.entries)) (still_view c.self.inside.slide c.self.inside.words c.self.inside.map c.self.view_is c.requires.still) in
     c.clear.ensures ∙ (λ i. record { content = is i; limit = c.args.key.now.limit })

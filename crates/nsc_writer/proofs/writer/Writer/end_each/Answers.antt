@@ -8,10 +8,13 @@ use Rattle.nsc_writer.proofs.Pruned.{all_marked, all_pruned, head_of, next_ended
 use Rattle.nsc_writer.proofs.writer.Writer.end_each.Goals as goal
 
 pub loop-one-init : goal.loop-one-init
-loop-one-init c = nothing_ended c.args.now c.args.due.now c.args.self.now c.requires
+loop-one-init c = nothing_ended c.args.now c.args.due.now c.args.self.now c.requires.over
 
-pub end-ended-requires : goal.end-ended-requires
-end-ended-requires c e live number =
+pub end-ended-requires-clause-still : goal.end-ended-requires-clause-still
+end-ended-requires-clause-still c = c.loop-one.invariant.slide ∙ c.requires.still
+
+pub end-ended-requires-clause-allowed : goal.end-ended-requires-clause-allowed
+end-ended-requires-clause-allowed c e live number =
     let d : Due = get_or c.loop-one.due c.loop-one.one-index c.one-item.result in
     let low : c.loop-one.one-index < length c.loop-one.due = omega arith in
     let split = split_at c.loop-one.due c.loop-one.one-index c.one-item.result low in

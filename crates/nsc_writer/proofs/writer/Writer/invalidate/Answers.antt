@@ -1,4 +1,4 @@
-use Rattle.std.proofs.Common.{◌+◌, [], ◌∷◌, ◌∙◌, ap, rules, subst, sym}
+use Rattle.std.proofs.Common.{ℕ, ◌+◌, [], ◌∷◌, ◌∙◌, ap, rules, subst, sym}
 use Rattle.std.specs.Arc.{arc_value}
 use Rattle.nsc_model.specs.declared.record.Record.TheVariants.{Invalid}
 use Rattle.nsc_model.specs.History.{NoneLive}
@@ -22,4 +22,12 @@ invariant_of-self c =
     let ended = c.end_all.ensures.pen in
     let shelf = c.clear.ensures ∙ ap (λ (s : Shelf). record s { entries = [] }) c.end_all.ensures.same in
     let pen = c.invalidate.ensures ∙ ap (λ (p : Pen). record p { seen = Invalid (p.epoch + 1) ∷ p.seen; epoch = p.epoch + 1 }) ended in
-    (search rules, told_as (arc_value w.content) _ _ _ _ pen shelf told, search rules, search rules, search rules)
+    let headed = c.set_epoch.ensures ∙ ap (λ (s : Shelf). record s { head = record s.head { epoch = c.epoch-before.result + 1 } }) shelf in (
+      search rules,
+      told_as (arc_value w.content) _ _ _ _ pen headed told,
+      search rules,
+      search rules,
+      search rules,
+      ap (λ (s : Shelf). s.head.epoch) c.set_epoch.ensures ∙ ap (λ (n : ℕ). n + 1) c.epoch-before.ensures.value ∙ sym (ap (λ (p : Pen). p.epoch) pen),
+      ap (λ (s : Shelf). s.head.source) headed ∙ c.self.invariant.6 ∙ sym (ap (λ (p : Pen). p.version) pen),
+    )

@@ -1,4 +1,5 @@
 use Rattle.std.proofs.Common.{◌≡◌, ◌+◌, length, [], ◌∷◌, ◌++◌, ◌∙◌, ap, rules, subst, sym, arith}
+use Rattle.nsc_rule.specs.Pen.{Pen}
 use Rattle.std.specs.Arc.{arc_value}
 use Rattle.nsc_base.specs.Nodes.{node_words}
 use Rattle.nsc_model.specs.Entry.{Entry}
@@ -46,4 +47,4 @@ invariant_of-self c =
     c.put.ensures ∙ (λ i. record w.shelf { entries = w.shelf.entries ++ kept i ∷ []; used = w.shelf.used + words i; inserted = w.shelf.inserted + 1 }) in
     let used = ap (λ (s : Shelf). s.used) shelf in
     let room = free.room in
-    (search rules, told_as (arc_value w.content) _ _ _ _ pen shelf told, search rules, omega arith, search rules)
+    (search rules, told_as (arc_value w.content) _ _ _ _ pen shelf told, search rules, omega arith, search rules, ap (λ (s : Shelf). s.head.epoch) (shelf) ∙ c.self.invariant.5 ∙ sym (ap (λ (p : Pen). p.epoch) pen), ap (λ (s : Shelf). s.head.source) (shelf) ∙ c.self.invariant.6 ∙ sym (ap (λ (p : Pen). p.version) pen))

@@ -1,0 +1,24 @@
+ghost use Rattle.std.specs.Prelude.{◌≡◌, ◌<◌, ◌≤◌, ◌+◌, None, IfOk, IfErr};
+ghost use Rattle.nsc_model.specs.Machine.{all_words, last_count};
+
+use nsc_arena::slide;
+use nsc_model::Spent;
+use nsc_writer::Writer;
+
+/// The words of ended entries are free again; it gives their number. Each live entry is moved once, over the words of the table, and
+/// it takes no memory. At `Spent` nothing changed: the count of compactions stands at its end.
+pub fn compact(writer: &mut Writer) -> Result<u64, Spent>
+    requires { writer.old.slide ≡ None }
+    ensures done { IfOk result (λ freed. (writer.old.cache.cycle < last_count) × (freed + all_words writer.old.cache.entries ≡ writer.old.cache.used) × (writer.new ≡ record writer.old { cache = record writer.old.cache { cycle = writer.old.cache.cycle + 2; used = all_words writer.old.cache.entries } })) }
+    ensures spent { IfErr result (λ spent. (last_count ≤ writer.old.cache.cycle) × (spent.count ≡ last_count) × (writer.new ≡ writer.old)) }
+{
+    let map = writer.map().layout();
+    match writer.begin_slide() {
+        Ok(()) => {
+            let freed = slide(writer, map);
+            writer.end_slide();
+            Ok(freed as u64)
+        }
+        Err(spent) => Err(spent),
+    }
+}

@@ -1,0 +1,68 @@
+//! The fields at the front of a line of a passwd file, whether or not the line has the form.
+
+ghost use Rattle.std.specs.Prelude.{◌≡◌, ◌==◌, ◌≤◌, ◌<◌, ◌^◌, ◌++◌, OnOk, length};
+ghost use Rattle.std.specs.List.{after_first, before_first, position_or_len};
+ghost use Rattle.std.specs.Option.{option_map};
+ghost use Rattle.nsc_base.specs.Text.{part};
+ghost use Rattle.nsc_index.specs.Fronts.{id_rows, is_colon, name_rows, raw_id, raw_mark};
+
+use crate::numbers::{NumberAt, text_number};
+use nsc_base::{NoMemory, Span, decimal, trim_front};
+
+/// Adds a row for a line under the number of its name, and one under its id, where it spells one: another line has not the form. Fails
+/// only for want of memory.
+pub fn add_front(
+    text: &[u8],
+    line: Span,
+    names: &mut Vec<NumberAt>,
+    ids: &mut Vec<NumberAt>,
+) -> Result<(), NoMemory>
+    requires inside { line.to ≤ length text.now }
+    requires within { line.to < 2 ^ 32 }
+    ensures names { OnOk result (names.new.items ≡ names.old.items ++ name_rows text.now line) }
+    ensures ids { OnOk result (ids.new.items ≡ ids.old.items ++ id_rows text.now line) }
+{
+    if let Some((name, id)) = front_of(line.of(text)) {
+        names.push(NumberAt::new(name, line))?;
+        ids.push(NumberAt::new(id, line))?;
+    }
+    Ok(())
+}
+
+// The number that the name of a line gives, and the id that the line spells, where it spells one.
+fn front_of(line: &[u8]) -> Option<(u32, u32)>
+    ensures name { option_map (λ front. front.0) result ≡ raw_mark line.now }
+    ensures id { option_map (λ front. front.1) result ≡ raw_id line.now }
+{
+    let (name, rest) = cut_at_colon(trim_front(line));
+    let (_, rest) = cut_at_colon(rest);
+    let (id, _) = cut_at_colon(rest);
+    let id = decimal(id)?;
+    Some((text_number(name), id))
+}
+
+// The bytes before the first colon, and those after it. Where there is none, all bytes stand before it.
+fn cut_at_colon(bytes: &[u8]) -> (&[u8], &[u8])
+    ensures front { result.0.now ≡ before_first is_colon bytes.now }
+    ensures rest { result.1.now ≡ after_first is_colon bytes.now }
+{
+    let place = colon_in(bytes);
+    if place < bytes.len() {
+        (&bytes[..place], &bytes[place + 1..])
+    } else {
+        (bytes, &[])
+    }
+}
+
+// The place of the first colon, or the end where there is none. Fields at the front of a line are short: a walk over their bytes is
+// quicker than a search is set up.
+fn colon_in(bytes: &[u8]) -> usize
+    ensures { result ≡ position_or_len is_colon bytes.now }
+{
+    for (place, byte) in bytes.iter().enumerate() {
+        if *byte == b':' {
+            return place;
+        }
+    }
+    bytes.len()
+}

@@ -1,0 +1,104 @@
+-- A number at the table's head is set.
+use Rattle.std.proofs.Common.{◌≡◌, ◌≢◌, ℕ, ◌-◌, ◌<◌, List, set, slice_index, None, ap, ◌∙◌, arith, get_or-set_same, get_or-set_other}
+use Rattle.nsc_words.specs.declared.layout.Layout.{Layout}
+use Rattle.nsc_words.specs.Layout.{arena_start}
+use Rattle.nsc_arena.specs.ReadBack.{nodes_in}
+use Rattle.nsc_arena.proofs.ReadBack.{read_back}
+use Rattle.nsc_arena.proofs.Rows.{set_head}
+use Rattle.nsc_shelf.specs.declared.finding.Mark.{Mark}
+use Rattle.nsc_shelf.specs.Shelf.{HeadWords, IsShelf, entries_in, head_in, shelf_of}
+use Rattle.nsc_shelf.proofs.States.{shelf_by}
+
+-- the words are those of a shelf still, with another head
+pub record Counted (old new : List ℕ) (map : Layout) (count : ℕ) (mark : Mark) (head : HeadWords) : Type 0 where
+  pub cycle : slice_index new 0 ≡ slice_index old 0
+  pub shelf : IsShelf new map count mark
+  pub view : shelf_of new map ≡ record (shelf_of old map) { head = head }
+
+counted : (old new : List ℕ) (map : Layout) (count : ℕ) (mark : Mark) (k value : ℕ) (head : HeadWords) → k < 9 → k ≢ 0 → k ≢ 3 → k ≢ 4 → new ≡ set old k value → IsShelf old map count mark → head_in new ≡ head → Counted old new map count mark head
+counted old new map count mark k value head low zero three four set_is is eh =
+    let nodes = nodes_in old map in
+    let laid = set_head old new map nodes k value (omega arith) three set_is is.laid in
+    let same = read_back new map nodes laid in
+    let other : (i : ℕ) → i ≢ k → slice_index new i ≡ slice_index old i = λ i n. ap (λ (ws : List ℕ). slice_index ws i) set_is ∙ get_or-set_other old k i value 0 n in
+    let e4 = other 4 (omega arith) in
+    let e0 = other 0 (omega arith) in
+    let e9 = other 9 (omega arith) in
+    let e3 = other 3 (omega arith) in
+    record {
+      cycle = e0;
+      shelf = shelf_by new map nodes (slice_index old 4) count mark is.sizes laid is.entries e4 is.counted is.live is.marked;
+      view = λ i. record { entries = entries_in (same i); used = e3 i - arena_start map; inserted = e4 i; cycle = e0 i; add_failed = e9 i; head = eh i; layout = map; slide = None };
+    }
+
+pub set_epoch : (old new : List ℕ) (map : Layout) (count : ℕ) (mark : Mark) (value : ℕ) → new ≡ set old 1 value → IsShelf old map count mark → Counted old new map count mark (record (head_in old) { epoch = value })
+set_epoch old new map count mark value set_is is =
+    let table = is.laid.table in
+    let other : (i : ℕ) → i ≢ 1 → slice_index new i ≡ slice_index old i = λ i n. ap (λ (ws : List ℕ). slice_index ws i) set_is ∙ get_or-set_other old 1 i value 0 n in
+    let own : slice_index new 1 ≡ value = ap (λ (ws : List ℕ). slice_index ws 1) set_is ∙ get_or-set_same old 1 value 0 (omega arith) in
+    let e2 = other 2 (omega arith) in
+    let e5 = other 5 (omega arith) in
+    let e6 = other 6 (omega arith) in
+    let e7 = other 7 (omega arith) in
+    let e8 = other 8 (omega arith) in
+    counted old new map count mark 1 value (record (head_in old) { epoch = value }) (omega arith) (omega arith) (omega arith) (omega arith) set_is is (λ i. record { epoch = own i; source = e2 i; hits = e5 i; negative_hits = e6 i; misses = e7 i; negative_misses = e8 i })
+
+pub set_source : (old new : List ℕ) (map : Layout) (count : ℕ) (mark : Mark) (value : ℕ) → new ≡ set old 2 value → IsShelf old map count mark → Counted old new map count mark (record (head_in old) { source = value })
+set_source old new map count mark value set_is is =
+    let table = is.laid.table in
+    let other : (i : ℕ) → i ≢ 2 → slice_index new i ≡ slice_index old i = λ i n. ap (λ (ws : List ℕ). slice_index ws i) set_is ∙ get_or-set_other old 2 i value 0 n in
+    let own : slice_index new 2 ≡ value = ap (λ (ws : List ℕ). slice_index ws 2) set_is ∙ get_or-set_same old 2 value 0 (omega arith) in
+    let e1 = other 1 (omega arith) in
+    let e5 = other 5 (omega arith) in
+    let e6 = other 6 (omega arith) in
+    let e7 = other 7 (omega arith) in
+    let e8 = other 8 (omega arith) in
+    counted old new map count mark 2 value (record (head_in old) { source = value }) (omega arith) (omega arith) (omega arith) (omega arith) set_is is (λ i. record { epoch = e1 i; source = own i; hits = e5 i; negative_hits = e6 i; misses = e7 i; negative_misses = e8 i })
+
+pub set_hits : (old new : List ℕ) (map : Layout) (count : ℕ) (mark : Mark) (value : ℕ) → new ≡ set old 5 value → IsShelf old map count mark → Counted old new map count mark (record (head_in old) { hits = value })
+set_hits old new map count mark value set_is is =
+    let table = is.laid.table in
+    let other : (i : ℕ) → i ≢ 5 → slice_index new i ≡ slice_index old i = λ i n. ap (λ (ws : List ℕ). slice_index ws i) set_is ∙ get_or-set_other old 5 i value 0 n in
+    let own : slice_index new 5 ≡ value = ap (λ (ws : List ℕ). slice_index ws 5) set_is ∙ get_or-set_same old 5 value 0 (omega arith) in
+    let e1 = other 1 (omega arith) in
+    let e2 = other 2 (omega arith) in
+    let e6 = other 6 (omega arith) in
+    let e7 = other 7 (omega arith) in
+    let e8 = other 8 (omega arith) in
+    counted old new map count mark 5 value (record (head_in old) { hits = value }) (omega arith) (omega arith) (omega arith) (omega arith) set_is is (λ i. record { epoch = e1 i; source = e2 i; hits = own i; negative_hits = e6 i; misses = e7 i; negative_misses = e8 i })
+
+pub set_negative_hits : (old new : List ℕ) (map : Layout) (count : ℕ) (mark : Mark) (value : ℕ) → new ≡ set old 6 value → IsShelf old map count mark → Counted old new map count mark (record (head_in old) { negative_hits = value })
+set_negative_hits old new map count mark value set_is is =
+    let table = is.laid.table in
+    let other : (i : ℕ) → i ≢ 6 → slice_index new i ≡ slice_index old i = λ i n. ap (λ (ws : List ℕ). slice_index ws i) set_is ∙ get_or-set_other old 6 i value 0 n in
+    let own : slice_index new 6 ≡ value = ap (λ (ws : List ℕ). slice_index ws 6) set_is ∙ get_or-set_same old 6 value 0 (omega arith) in
+    let e1 = other 1 (omega arith) in
+    let e2 = other 2 (omega arith) in
+    let e5 = other 5 (omega arith) in
+    let e7 = other 7 (omega arith) in
+    let e8 = other 8 (omega arith) in
+    counted old new map count mark 6 value (record (head_in old) { negative_hits = value }) (omega arith) (omega arith) (omega arith) (omega arith) set_is is (λ i. record { epoch = e1 i; source = e2 i; hits = e5 i; negative_hits = own i; misses = e7 i; negative_misses = e8 i })
+
+pub set_misses : (old new : List ℕ) (map : Layout) (count : ℕ) (mark : Mark) (value : ℕ) → new ≡ set old 7 value → IsShelf old map count mark → Counted old new map count mark (record (head_in old) { misses = value })
+set_misses old new map count mark value set_is is =
+    let table = is.laid.table in
+    let other : (i : ℕ) → i ≢ 7 → slice_index new i ≡ slice_index old i = λ i n. ap (λ (ws : List ℕ). slice_index ws i) set_is ∙ get_or-set_other old 7 i value 0 n in
+    let own : slice_index new 7 ≡ value = ap (λ (ws : List ℕ). slice_index ws 7) set_is ∙ get_or-set_same old 7 value 0 (omega arith) in
+    let e1 = other 1 (omega arith) in
+    let e2 = other 2 (omega arith) in
+    let e5 = other 5 (omega arith) in
+    let e6 = other 6 (omega arith) in
+    let e8 = other 8 (omega arith) in
+    counted old new map count mark 7 value (record (head_in old) { misses = value }) (omega arith) (omega arith) (omega arith) (omega arith) set_is is (λ i. record { epoch = e1 i; source = e2 i; hits = e5 i; negative_hits = e6 i; misses = own i; negative_misses = e8 i })
+
+pub set_negative_misses : (old new : List ℕ) (map : Layout) (count : ℕ) (mark : Mark) (value : ℕ) → new ≡ set old 8 value → IsShelf old map count mark → Counted old new map count mark (record (head_in old) { negative_misses = value })
+set_negative_misses old new map count mark value set_is is =
+    let table = is.laid.table in
+    let other : (i : ℕ) → i ≢ 8 → slice_index new i ≡ slice_index old i = λ i n. ap (λ (ws : List ℕ). slice_index ws i) set_is ∙ get_or-set_other old 8 i value 0 n in
+    let own : slice_index new 8 ≡ value = ap (λ (ws : List ℕ). slice_index ws 8) set_is ∙ get_or-set_same old 8 value 0 (omega arith) in
+    let e1 = other 1 (omega arith) in
+    let e2 = other 2 (omega arith) in
+    let e5 = other 5 (omega arith) in
+    let e6 = other 6 (omega arith) in
+    let e7 = other 7 (omega arith) in
+    counted old new map count mark 8 value (record (head_in old) { negative_misses = value }) (omega arith) (omega arith) (omega arith) (omega arith) set_is is (λ i. record { epoch = e1 i; source = e2 i; hits = e5 i; negative_hits = e6 i; misses = e7 i; negative_misses = own i })

@@ -1,0 +1,177 @@
+-- The slide of a shelf: its begin, its words, and its end.
+use Rattle.std.proofs.Common.{◌≡◌, ◌≢◌, ℕ, ◌+◌, ◌-◌, ◌<◌, ◌≤◌, ◌⊎◌, inl, inr, ⊎_elim, Bool, true, false, cond, List, [], ◌∷◌, ◌++◌, length, set, slice_index, Option, Some, None, refl, sym, ap, subst, ◌∙◌, arith, length-set, get_or-set_same, get_or-set_other}
+use Rattle.std.proofs.lemmas.List.Sums.{sum_by_push}
+use Rattle.std.specs.declared.snapshot.Snapshot.{Snapshot}
+use Rattle.nsc_words.specs.declared.layout.Layout.{Layout}
+use Rattle.nsc_words.specs.declared.node.Placed.{Placed}
+use Rattle.nsc_words.specs.Laid.{Among, InRow, Laid, end_of}
+use Rattle.nsc_words.specs.Layout.{arena_start}
+use Rattle.nsc_arena.specs.ReadBack.{nodes_in}
+use Rattle.nsc_arena.proofs.Passed.{mark_at_start}
+use Rattle.nsc_arena.proofs.Rows.{end_after, set_head}
+use Rattle.nsc_model.specs.declared.answer.Request.{Request}
+use Rattle.nsc_model.specs.Kinds.{is_request, type_number}
+use Rattle.nsc_model.specs.Machine.{Kept, all_words, entry_words, last_count}
+use Rattle.nsc_shelf.specs.declared.finding.Mark.{Mark}
+use Rattle.nsc_shelf.specs.Shelf.{AreEntries, HoldEntries, IsBegun, IsHeld, IsShelf, IsSlid, entries_in, head_in, kept_in, kind_of, request_in, shelf_in, shelf_of, slide_words, under_way}
+use Rattle.nsc_shelf.proofs.Entries.{one_more}
+use Rattle.nsc_shelf.proofs.States.{head_same, shelf_by, view_by}
+
+-- ---- one word
+
+apart : (at i : ℕ) → (at ≡ 3) ⊎ (16 ≤ at) → i < 16 → i ≢ 3 → i ≢ at
+apart at i (inl is) low other = λ same. other (same ∙ is)
+apart at i (inr high) low other = omega arith
+
+-- a word that is set leaves the head
+pub word_held : (slide : Option (Snapshot (List ℕ))) (words : List ℕ) (map : Layout) (count : ℕ) (mark : Mark) (at value : ℕ) → IsHeld slide words map count mark → at < length (slide_words (under_way slide words)) → (at ≡ 3) ⊎ (16 ≤ at) → IsHeld slide (set words at value) map count mark
+word_held None words map count mark at value held low at_word = absurd (omega arith)
+word_held (Some before) words map count mark at value held low at_word = record {
+  shelf = held.shelf;
+  even = held.even;
+  head = record {
+    size = length-set words at value ∙ held.head.size;
+    head = λ i small zero three. get_or-set_other words at i value 0 (apart at i at_word small three) ∙ held.head.head i small zero three;
+    cycle = get_or-set_other words at 0 value 0 (apart at 0 at_word (omega arith) (omega arith)) ∙ held.head.cycle;
+    counted = held.head.counted;
+  };
+}
+
+-- ---- the begin
+
+pub begun_view : (old new : List ℕ) (map : Layout) (count : ℕ) (mark : Mark) (before : Snapshot (List ℕ)) → before.value ≡ old → IsShelf old map count mark → new ≡ set old 0 (slice_index old 0 + 1) → slice_index old 0 < last_count → IsBegun (shelf_of old map) (shelf_in (Some before) new map)
+begun_view old new map count mark before snapped is set_is less =
+    let table = is.laid.table in
+    let other : (i : ℕ) → i ≢ 0 → slice_index new i ≡ slice_index old i = λ i n. ap (λ (ws : List ℕ). slice_index ws i) set_is ∙ get_or-set_other old 0 i (slice_index old 0 + 1) 0 n in
+    let e4 = other 4 (omega arith) in
+    let e9 = other 9 (omega arith) in
+    let e0 : slice_index new 0 ≡ slice_index old 0 + 1 = ap (λ (ws : List ℕ). slice_index ws 0) set_is ∙ get_or-set_same old 0 (slice_index old 0 + 1) 0 (omega arith) in
+    let eh = head_same new old (λ i low z a b. other i z) in
+    let first = is.laid.first_free in
+    let low = end_after (arena_start map) (nodes_in old map) is.laid.row in
+    let three = other 3 (omega arith) in
+    record {
+      counted = less;
+      sizes = is.sizes;
+      words = new;
+      is = λ i. record { entries = entries_in (nodes_in (snapped i) map); used = slice_index (snapped i) 3 - arena_start map; inserted = e4 i; cycle = e0 i; add_failed = e9 i; head = eh i; layout = map; slide = Some new };
+      nodes = nodes_in old map;
+      hold = record {
+        laid = set_head old new map (nodes_in old map) 0 (slice_index old 0 + 1) (omega arith) (omega arith) set_is is.laid;
+        kinds = is.entries.kinds;
+        live = refl;
+      };
+      used = omega arith;
+    }
+
+-- ---- the entries of other nodes
+
+-- an entry is one of these
+abbrev pub Has : Kept → List Kept → Type 0
+Has k [] = ⊥
+Has k (x ∷ xs) = (k ≡ x) ⊎ Has k xs
+
+has_before : (k : Kept) (xs ys : List Kept) → Has k xs → Has k (xs ++ ys)
+has_before k [] ys has = absurd has
+has_before k (x ∷ xs) ys (inl is) = inl is
+has_before k (x ∷ xs) ys (inr more) = inr (has_before k xs ys more)
+
+has_last : (k : Kept) (xs : List Kept) → Has k (xs ++ k ∷ [])
+has_last k [] = inl refl
+has_last k (x ∷ xs) = inr (has_last k xs)
+
+has_split : (k y : Kept) (xs : List Kept) → Has k (xs ++ y ∷ []) → Has k xs ⊎ (k ≡ y)
+has_split k y [] (inl is) = inr is
+has_split k y [] (inr none) = absurd none
+has_split k y (x ∷ xs) (inl is) = inl (inl is)
+has_split k y (x ∷ xs) (inr more) = ⊎_elim (λ (h : Has k xs). inl (inr h)) (λ (e : k ≡ y). inr e) (has_split k y xs more)
+
+-- a usable node is an entry, and an entry is one
+entry_of : (nodes : List Placed) (p : Placed) → Among p nodes → p.usable ≡ true → Has (kept_in p) (entries_in nodes)
+entry_of [] p among usable = absurd among
+entry_of (q ∷ older) p (inl is) usable =
+    let own : q.usable ≡ true = ap (λ (r : Placed). r.usable) (sym is) ∙ usable in
+    subst (λ (k : Kept). Has k (entries_in (q ∷ older))) (ap kept_in (sym is)) (subst (Has (kept_in q)) (sym (one_more q older own)) (has_last (kept_in q) (entries_in older)))
+entry_of (q ∷ older) p (inr more) usable = by q.usable (entry_of older p more usable) where
+  by : (b : Bool) → Has (kept_in p) (entries_in older) → Has (kept_in p) (cond b (entries_in older ++ kept_in q ∷ []) (entries_in older))
+  by true has = has_before (kept_in p) (entries_in older) (kept_in q ∷ []) has
+  by false has = has
+
+node_of : (nodes : List Placed) (k : Kept) → Has k (entries_in nodes) → (p : Placed) × Among p nodes × (p.usable ≡ true) × (k ≡ kept_in p)
+node_of [] k has = absurd has
+node_of (q ∷ older) k has = by q.usable refl has (node_of older k) where
+  by : (b : Bool) → q.usable ≡ b → Has k (cond b (entries_in older ++ kept_in q ∷ []) (entries_in older)) → (Has k (entries_in older) → (p : Placed) × Among p older × (p.usable ≡ true) × (k ≡ kept_in p)) → (p : Placed) × Among p (q ∷ older) × (p.usable ≡ true) × (k ≡ kept_in p)
+  by true e h rest = ⊎_elim (λ (x : Has k (entries_in older)). let w = rest x in (w.0, inr w.1, w.2, w.3)) (λ (is : k ≡ kept_in q). (q, inl refl, e, is)) (has_split k (kept_in q) (entries_in older) h)
+  by false e h rest = let w = rest h in (w.0, inr w.1, w.2, w.3)
+
+-- other nodes that are usable, and of the same entries
+pub other_entries : (old new : List Placed) (inserted : ℕ) → AreEntries old inserted → ((p : Placed) → Among p new → type_number (kind_of p.node.kind) ≡ p.node.kind) → ((p : Placed) → Among p new → p.usable ≡ true) → entries_in new ≡ entries_in old → AreEntries new inserted
+other_entries old new inserted are kinds alone same =
+    let from : (p : Placed) → Among p new → (q : Placed) × Among q old × (q.usable ≡ true) × (kept_in p ≡ kept_in q) = λ p among. node_of old (kept_in p) (subst (Has (kept_in p)) same (entry_of new p among (alone p among))) in
+    record {
+      kinds = kinds;
+      numbers = λ p among. let w = from p among in subst (λ (n : ℕ). n < inserted) (sym (ap (λ (k : Kept). k.entry.number) w.3)) (are.numbers w.0 w.1);
+      apart = λ p q a b u v asks.
+          let x = from p a in
+          let y = from q b in
+          let one = subst (λ (r : Request). is_request r (request_in q) ≡ true) (ap (λ (k : Kept). k.entry.request) x.3) asks in
+          let two = subst (λ (r : Request). is_request (request_in x.0) r ≡ true) (ap (λ (k : Kept). k.entry.request) y.3) one in
+          ap (λ (k : Kept). k.entry.number) x.3 ∙ are.apart x.0 y.0 x.1 y.1 x.2 y.2 two ∙ sym (ap (λ (k : Kept). k.entry.number) y.3);
+    }
+
+-- where all nodes are usable, their words are those of their entries
+words_alone : (start : ℕ) (nodes : List Placed) → InRow start nodes → ((p : Placed) → Among p nodes → p.usable ≡ true) → end_of start nodes ≡ start + all_words (entries_in nodes)
+words_alone start [] row alone = omega arith
+words_alone start (p ∷ older) row alone =
+    let rest = words_alone start older row.1 (λ q m. alone q (inr m)) in
+    let first = row.0 in
+    let is : all_words (entries_in (p ∷ older)) ≡ all_words (entries_in older ++ kept_in p ∷ []) = ap all_words (one_more p older (alone p (inl refl))) in
+    let more = sum_by_push (λ (k : Kept). entry_words k.entry) (entries_in older) (kept_in p) in
+    omega arith
+
+-- so they fit into the arena
+pub alone_fit : (words : List ℕ) (map : Layout) (entries : List Kept) (nodes : List Placed) → HoldEntries words map entries nodes → ((p : Placed) → Among p nodes → p.usable ≡ true) → all_words entries ≤ map.arena
+alone_fit words map entries nodes hold alone =
+    let all = words_alone (arena_start map) nodes hold.laid.row alone in
+    let same : all_words (entries_in nodes) ≡ all_words entries = ap all_words hold.live in
+    let room = hold.laid.room in
+    omega arith
+
+-- ---- the end
+
+some_same : {A : Type 0} (x y : A) → Some x ≡ Some y → x ≡ y
+some_same x y e = cc
+
+-- the words of a slide that ends
+pub record Ends (slide : Option (Snapshot (List ℕ))) (words new : List ℕ) (map : Layout) (count : ℕ) : Type 0 where
+  pub view : shelf_of new map ≡ record (shelf_in slide words map) { used = all_words (shelf_in slide words map).entries; cycle = slice_index words 0 + 1; slide = None }
+  pub held : (mark : Mark) → mark.place ≡ arena_start map → IsHeld None new map count mark
+
+pub ends : (slide : Option (Snapshot (List ℕ))) (words new : List ℕ) (map : Layout) (count : ℕ) (mark : Mark) → IsHeld slide words map count mark → IsSlid (shelf_in slide words map) → new ≡ set words 0 (slice_index words 0 + 1) → Ends slide words new map count
+ends None words new map count mark held slid set_is = absurd (let e = slid.under_way in cc)
+ends (Some before) words new map count mark held slid set_is =
+    let start : ℕ = arena_start map in
+    let nodes : List Placed = slid.nodes in
+    let same : words ≡ slid.words = some_same words slid.words slid.under_way in
+    let laid_old : Laid words map nodes = subst (λ (ws : List ℕ). Laid ws map nodes) (sym same) slid.hold.laid in
+    let table = laid_old.table in
+    let laid : Laid new map nodes = set_head words new map nodes 0 (slice_index words 0 + 1) (omega arith) (omega arith) set_is laid_old in
+    let other : (i : ℕ) → i ≢ 0 → slice_index new i ≡ slice_index words i = λ i n. ap (λ (ws : List ℕ). slice_index ws i) set_is ∙ get_or-set_other words 0 i (slice_index words 0 + 1) 0 n in
+    let e0 : slice_index new 0 ≡ slice_index words 0 + 1 = ap (λ (ws : List ℕ). slice_index ws 0) set_is ∙ get_or-set_same words 0 (slice_index words 0 + 1) 0 (omega arith) in
+    let entries : entries_in nodes ≡ entries_in (nodes_in before.value map) = slid.hold.live in
+    let e4 : slice_index new 4 ≡ slice_index before.value 4 = other 4 (omega arith) ∙ held.head.head 4 (omega arith) (omega arith) (omega arith) in
+    let all = words_alone start nodes laid.row slid.alone in
+    let words_same : all_words (entries_in nodes) ≡ all_words (entries_in (nodes_in before.value map)) = ap all_words entries in
+    let used : end_of start nodes - start ≡ all_words (entries_in (nodes_in before.value map)) = omega arith in
+    let are = other_entries (nodes_in before.value map) nodes (slice_index before.value 4) held.shelf.entries slid.hold.kinds slid.alone entries in
+    let seen = view_by new map nodes (slice_index words 4) (slice_index words 0 + 1) (slice_index words 9) (head_in words) laid (other 4 (omega arith)) e0 (other 9 (omega arith)) (head_same new words (λ i low z a b. other i z)) in
+    let odd = held.head.cycle in
+    let even = held.even in
+    record {
+      view = seen ∙ (λ i. record { entries = entries i; used = used i; inserted = slice_index words 4; cycle = slice_index words 0 + 1; add_failed = slice_index words 9; head = head_in words; layout = map; slide = None });
+      held = λ mark' place. record {
+        shelf = shelf_by new map nodes (slice_index before.value 4) count mark' held.shelf.sizes laid are e4 held.shelf.counted (held.shelf.live ∙ ap length (sym entries)) (mark_at_start map nodes mark'.place mark'.number place);
+        even = omega arith;
+        head = tt;
+      };
+    }

@@ -1,0 +1,81 @@
+// The numbers at the table's head that the entries do not need.
+ghost use Rattle.std.specs.Prelude.{◌≡◌, None};
+ghost use Rattle.nsc_shelf.specs.Shelf.{hit_counted, miss_counted};
+
+use crate::shelf::{Shelf, next_count};
+use nsc_arena::Words;
+use nsc_words::{EPOCH, HITS, MISSES, NEGATIVE_HITS, NEGATIVE_MISSES, SOURCE};
+
+impl Shelf {
+    /// Sets the number of invalidations.
+    pub fn set_epoch(&mut self, epoch: u64)
+        requires { self.old.slide ≡ None }
+        ensures { self.new ≡ record self.old { head = record self.old.head { epoch = epoch } } }
+    {
+        self.words.set(EPOCH, epoch);
+    }
+
+    /// Sets the number of the newest version.
+    pub fn set_source(&mut self, source: u64)
+        requires { self.old.slide ≡ None }
+        ensures { self.new ≡ record self.old { head = record self.old.head { source = source } } }
+    {
+        self.words.set(SOURCE, source);
+    }
+
+    /// Counts a lookup of a kept reply.
+    pub fn count_hit(&mut self, not_found: bool)
+        requires { self.old.slide ≡ None }
+        ensures { self.new ≡ record self.old { head = hit_counted not_found self.old.head } }
+    {
+        if not_found {
+            let count = self.words.word(NEGATIVE_HITS);
+            self.words.set(NEGATIVE_HITS, next_count(count));
+        } else {
+            let count = self.words.word(HITS);
+            self.words.set(HITS, next_count(count));
+        }
+    }
+
+    /// Counts a lookup that made its reply.
+    pub fn count_miss(&mut self, not_found: bool)
+        requires { self.old.slide ≡ None }
+        ensures { self.new ≡ record self.old { head = miss_counted not_found self.old.head } }
+    {
+        if not_found {
+            let count = self.words.word(NEGATIVE_MISSES);
+            self.words.set(NEGATIVE_MISSES, next_count(count));
+        } else {
+            let count = self.words.word(MISSES);
+            self.words.set(MISSES, next_count(count));
+        }
+    }
+
+    /// How many lookups there were of a kept found reply.
+    pub fn hits(&self) -> u64
+        ensures { result ≡ self.now.head.hits }
+    {
+        self.words.word(HITS)
+    }
+
+    /// How many lookups there were of a kept not-found reply.
+    pub fn negative_hits(&self) -> u64
+        ensures { result ≡ self.now.head.negative_hits }
+    {
+        self.words.word(NEGATIVE_HITS)
+    }
+
+    /// How many lookups made a found reply.
+    pub fn misses(&self) -> u64
+        ensures { result ≡ self.now.head.misses }
+    {
+        self.words.word(MISSES)
+    }
+
+    /// How many lookups made a not-found reply.
+    pub fn negative_misses(&self) -> u64
+        ensures { result ≡ self.now.head.negative_misses }
+    {
+        self.words.word(NEGATIVE_MISSES)
+    }
+}
