@@ -26,8 +26,8 @@ pub trait Answerer {
     fn content<'a>(&self, ready: &'a Self::Ready) -> &'a Arc<Content>
         ensures { arc_value result.now ≡ prepared_from ready.now };
 
-    /// The same content once more, prepared for many answers, where that makes them quicker; `None` where `ready` serves as well. A
-    /// caller asks for it once the content has outlasted its first answer. Fails only for want of memory.
+    /// The same content once more, prepared for many answers, where that makes them quicker; `None` where `ready` serves as well, as
+    /// what this call made does. A caller asks for it where a further answer over the content is due. Fails only for want of memory.
     fn prepare_further(
         &self,
         alloc: Global,
