@@ -1,22 +1,23 @@
-ghost use Rattle.std.specs.Prelude.{◌≡◌, ◌↔◌, Some, None, IfOk, IfErr, OnOk, OnErr, IsOk, IsTrue};
+ghost use Rattle.std.specs.Prelude.{◌≡◌, ◌↔◌, None, IfOk, IfErr, OnOk, OnErr, IsOk, IsTrue};
 ghost use Rattle.std.specs.Bool.{OnTrue, OnFalse};
 ghost use Rattle.std.specs.IoError.{error_kind};
 ghost use Rattle.std.specs.Fs.{file_type, IsFile};
 ghost use Rattle.nsc_model.specs.Files.{FileFits};
 ghost use Rattle.nsc_outside.specs.Stream.{Rose};
-ghost use Rattle.nsc_outside.specs.FileSets.{IsCause, RoseBy, ChangesOnly, IsAllOf, IsLong, TellsNoLength};
+ghost use Rattle.nsc_outside.specs.FileSets.{IsCause, RoseBy, ChangesOnly};
 ghost use Rattle.nsc_outside.specs.Tally.{count_of, no_counts};
 
 use crate::comparing::has_just;
 use crate::files::{FileSet, ReadCause};
 use crate::paths::path_of;
+use crate::reading::{cause_of, read_whole};
 use crate::tally::Tally;
 use nsc_base::{Bytes, NoMemory};
-use nsc_model::{Content, FileId};
+use nsc_model::FileId;
 use std::alloc::Global;
 use std::fs;
 use std::fs::{File, Metadata};
-use std::io::{Error, ErrorKind, Read};
+use std::io::{Error, ErrorKind};
 use std::marker::Model;
 use std::os::unix::fs::{FileTypeExt, MetadataExt};
 use std::rt::Files;
@@ -247,17 +248,6 @@ fn absent_or(error: &Error) -> Result<Option<Bytes>, ReadCause>
     }
 }
 
-fn cause_of(error: &Error) -> ReadCause
-    ensures cause { TellsNoLength result }
-    ensures memory { (result ≡ ReadCause.NoMemory) ↔ (error_kind error.now ≡ ErrorKind.OutOfMemory) }
-{
-    if error.kind() == ErrorKind::OutOfMemory {
-        ReadCause::NoMemory
-    } else {
-        ReadCause::Failed
-    }
-}
-
 // The devices null, zero, full and urandom, by Linux's numbers.
 const PROMPT_DEVICES: [u64; 4] = [0x103, 0x105, 0x107, 0x109];
 
@@ -269,33 +259,4 @@ fn reads_at_once(metadata: &Metadata) -> bool
     kind.is_file()
         || kind.is_block_device()
         || kind.is_char_device() && PROMPT_DEVICES.contains(&metadata.rdev())
-}
-
-// Reads to the end of the file, whose length was told, but no further than one byte past the limit. The bytes stay where
-// they were read.
-#[tactic(auto, using(crate::proofs::Wholes::no_length_no_cause, crate::proofs::Wholes::no_length_left, crate::proofs::Wholes::long_read))]
-pub(crate) fn read_whole<F: Read + Drop>(
-    alloc: Global,
-    file: F,
-    told: u64,
-) -> Result<Bytes, ReadCause>
-    ensures fits { IfOk result (λ bytes. FileFits (Some bytes)) }
-    ensures cause { IfErr result (λ cause. IsCause None cause) }
-
-    // What the reader tells.
-    ensures whole { IfOk result (λ bytes. IsAllOf (F.remaining file) bytes) }
-    ensures long { IfErr result (λ cause. IsLong (F.remaining file) cause) }
-{
-    const MOST: usize = Content::LIMIT + 1;
-    let room = (told.min(Content::LIMIT as u64) as usize) + 1;
-    let mut bytes = Vec::with_capacity(alloc, room)?;
-    if let Err(error) = file.take(MOST as u64).read_to_end(&mut bytes) {
-        return Err(cause_of(&error));
-    }
-    if bytes.len() > Content::LIMIT {
-        return Err(ReadCause::TooLong {
-            length: told.max(bytes.len() as u64),
-        });
-    }
-    Ok(Bytes::from_vec(bytes))
 }

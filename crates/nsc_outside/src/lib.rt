@@ -14,6 +14,7 @@ mod numbers;
 mod paths;
 mod plan;
 mod read_plan;
+mod reading;
 mod release;
 mod shared;
 mod standard;

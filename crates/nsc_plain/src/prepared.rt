@@ -95,20 +95,16 @@ impl<A: Answerer> Prepared<A> {
             return Ok(ready);
         }
         self.is_for_many = true;
-        prepared_further(alloc, answers, ready)
+        Ok(prepared_further(alloc, answers, ready))
     }
 }
 
-// The same prepared for many answers, where that makes them quicker. Fails only for want of memory.
-fn prepared_further<A: Answerer>(
-    alloc: Global,
-    answers: &A,
-    ready: A::Ready,
-) -> Result<A::Ready, NoMemory>
-    ensures { IfOk result (λ made. A.prepared_from made ≡ A.prepared_from ready) }
+// The same prepared for many answers, where that makes them quicker and there is memory for it.
+fn prepared_further<A: Answerer>(alloc: Global, answers: &A, ready: A::Ready) -> A::Ready
+    ensures { A.prepared_from result ≡ A.prepared_from ready }
 {
-    match answers.prepare_further(alloc, &ready)? {
-        Some(made) => Ok(made),
-        None => Ok(ready),
+    match answers.prepare_further(alloc, &ready) {
+        Ok(Some(made)) => made,
+        Ok(None) | Err(_) => ready,
     }
 }
