@@ -1,5 +1,5 @@
 -- Whether a node answers a request.
-use Rattle.std.proofs.Common.{◌≡◌, ℕ, ◌+◌, ◌<◌, ◌≤◌, Bool, true, false, ◌&&◌, eqb, eq-eqb, List, length, slice_index, refl, sym, ap, subst, ◌∙◌, arith}
+use Rattle.std.proofs.Common.{◌≡◌, ℕ, ◌+◌, ◌<◌, Bool, true, false, ◌&&◌, eqb, eq-eqb, List, length, slice_index, refl, sym, ap, ◌∙◌, arith}
 use Rattle.std.specs.Bool.{Decides}
 use Rattle.std.specs.Str.{bytes_eq}
 use Rattle.std.proofs.lemmas.Slice.Eq.{bytes_eq-Decides}
@@ -31,10 +31,3 @@ same_key words at p key is below size holds =
     same_words p.node.key key (all_below p.node.key is.stands.node.key_bytes) below size (λ i h.
     let more : i < words_for (length key) = omega arith in
     sym ((holds_at words at p is).key i h) ∙ holds i more)
-
--- and its words hold no others
-pub other_key : (words : List ℕ) (at : ℕ) (p : Placed) (key : List ℕ) → IsNodeAt words at p → (at + 8 + words_for (length key) ≤ length words → HoldsBytes words (at + 8) key → ⊥) → p.node.key ≡ key → ⊥
-other_key words at p key is lacks e =
-    let size : length p.node.key ≡ length key = ap length e in
-    let inside = is.inside in
-    lacks (omega arith) (subst (λ (k : List ℕ). HoldsBytes words (at + 8) k) e (holds_at words at p is).key)

@@ -48,6 +48,10 @@ fn answers_at<W: Words>(table: &mut W, at: usize, kind: u32, key: &[u8]) -> bool
     ensures rest { W.rest table.new ≡ W.rest table.old }
     ensures answers { (p : Placed) → IsNodeAt (W.words table.old) at p → result ≡ answers kind key.now p }
 {
+    // The key comes first: it stands beside NEXT, so a node of another key is read in one place, and not in two.
+    if !has_bytes(table, at + KEY, key) {
+        return false;
+    }
     if table.get(at + STATE) != 1 {
         return false;
     }
@@ -55,5 +59,5 @@ fn answers_at<W: Words>(table: &mut W, at: usize, kind: u32, key: &[u8]) -> bool
     if shape_kind(shape) != kind || shape_len(shape) as usize != key.len() {
         return false;
     }
-    has_bytes(table, at + KEY, key)
+    true
 }

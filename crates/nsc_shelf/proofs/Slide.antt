@@ -1,5 +1,5 @@
 -- The slide of a shelf: its begin, its words, and its end.
-use Rattle.std.proofs.Common.{◌≡◌, ◌≢◌, ℕ, ◌+◌, ◌-◌, ◌<◌, ◌≤◌, ◌⊎◌, inl, inr, ⊎_elim, Bool, true, false, cond, List, [], ◌∷◌, ◌++◌, length, set, slice_index, Option, Some, None, refl, sym, ap, subst, ◌∙◌, arith, length-set, get_or-set_same, get_or-set_other}
+use Rattle.std.proofs.Common.{◌≡◌, ◌≢◌, ℕ, ◌+◌, ◌-◌, ◌%◌, ◌<◌, ◌≤◌, ◌⊎◌, inl, inr, ⊎_elim, Bool, true, false, cond, List, [], ◌∷◌, ◌++◌, length, set, slice_index, Option, Some, None, refl, sym, ap, subst, ◌∙◌, arith, length-set, get_or-set_same, get_or-set_other}
 use Rattle.std.proofs.lemmas.List.Sums.{sum_by_push}
 use Rattle.std.specs.declared.snapshot.Snapshot.{Snapshot}
 use Rattle.nsc_words.specs.declared.layout.Layout.{Layout}
@@ -29,6 +29,7 @@ word_held None words map count mark at value held low at_word = absurd (omega ar
 word_held (Some before) words map count mark at value held low at_word = record {
   shelf = held.shelf;
   even = held.even;
+  cycles = held.cycles;
   head = record {
     size = length-set words at value ∙ held.head.size;
     head = λ i small zero three. get_or-set_other words at i value 0 (apart at i at_word small three) ∙ held.head.head i small zero three;
@@ -39,8 +40,8 @@ word_held (Some before) words map count mark at value held low at_word = record 
 
 -- ---- the begin
 
-pub begun_view : (old new : List ℕ) (map : Layout) (count : ℕ) (mark : Mark) (before : Snapshot (List ℕ)) → before.value ≡ old → IsShelf old map count mark → new ≡ set old 0 (slice_index old 0 + 1) → slice_index old 0 < last_count → IsBegun (shelf_of old map) (shelf_in (Some before) new map)
-begun_view old new map count mark before snapped is set_is less =
+pub begun_view : (old new : List ℕ) (map : Layout) (count : ℕ) (mark : Mark) (before : Snapshot (List ℕ)) → before.value ≡ old → IsShelf old map count mark → new ≡ set old 0 (slice_index old 0 + 1) → slice_index old 0 % 2 ≡ 0 → slice_index old 0 < last_count → IsBegun (shelf_of old map) (shelf_in (Some before) new map)
+begun_view old new map count mark before snapped is set_is even less =
     let table = is.laid.table in
     let other : (i : ℕ) → i ≢ 0 → slice_index new i ≡ slice_index old i = λ i n. ap (λ (ws : List ℕ). slice_index ws i) set_is ∙ get_or-set_other old 0 i (slice_index old 0 + 1) 0 n in
     let e4 = other 4 (omega arith) in
@@ -51,6 +52,7 @@ begun_view old new map count mark before snapped is set_is less =
     let low = end_after (arena_start map) (nodes_in old map) is.laid.row in
     let three = other 3 (omega arith) in
     record {
+      even = even;
       counted = less;
       sizes = is.sizes;
       words = new;
@@ -167,11 +169,13 @@ ends (Some before) words new map count mark held slid set_is =
     let seen = view_by new map nodes (slice_index words 4) (slice_index words 0 + 1) (slice_index words 9) (head_in words) laid (other 4 (omega arith)) e0 (other 9 (omega arith)) (head_same new words (λ i low z a b. other i z)) in
     let odd = held.head.cycle in
     let even = held.even in
+    let less = held.head.counted in
     record {
       view = seen ∙ (λ i. record { entries = entries i; used = used i; inserted = slice_index words 4; cycle = slice_index words 0 + 1; add_failed = slice_index words 9; head = head_in words; layout = map; slide = None });
       held = λ mark' place. record {
         shelf = shelf_by new map nodes (slice_index before.value 4) count mark' held.shelf.sizes laid are e4 held.shelf.counted (held.shelf.live ∙ ap length (sym entries)) (mark_at_start map nodes mark'.place mark'.number place);
         even = omega arith;
+        cycles = omega arith;
         head = tt;
       };
     }

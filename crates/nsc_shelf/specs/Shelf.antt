@@ -120,8 +120,9 @@ pub record HoldEntries (words : List ℕ) (map : Layout) (entries : List Kept) (
   pub kinds : (p : Placed) → Among p nodes → type_number (kind_of p.node.kind) ≡ p.node.kind
   pub live : entries_in nodes ≡ entries
 
--- a slide begins: the count is odd then, and the words hold nodes of the live entries, with those that ended
+-- a slide begins: the count was even, and is odd then, and the words hold nodes of the live entries, with those that ended
 pub record IsBegun (before after : Shelf) : Type 0 where
+  pub even : before.cycle % 2 ≡ 0
   pub counted : before.cycle < last_count
   pub sizes : IsLayout before.layout
   pub words : List ℕ
@@ -171,10 +172,11 @@ abbrev pub KeepsHead : Option (Snapshot (List ℕ)) → List ℕ → Type 0
 KeepsHead None words = Unit {0}
 KeepsHead (Some before) words = IsSlide before.value words
 
--- the entries stand in the words before a slide, if one is under way, and the count was even then
+-- the entries stand in the words before a slide, if one is under way; the count was even then, and not past its end
 pub record IsHeld (slide : Option (Snapshot (List ℕ))) (words : List ℕ) (map : Layout) (count : ℕ) (mark : Mark) : Type 0 where
   pub shelf : IsShelf (entry_words_of slide words) map count mark
   pub even : slice_index (entry_words_of slide words) 0 % 2 ≡ 0
+  pub cycles : slice_index (entry_words_of slide words) 0 ≤ last_count
   pub head : KeepsHead slide words
 
 -- a new entry

@@ -1,4 +1,4 @@
-ghost use Rattle.std.specs.Prelude.{◌≡◌, ◌≤◌, ◌<◌, ◌+◌, ◌^◌, ◌++◌, [], ◌∷◌, None, length, min, IfOk, IfNone, IfSome};
+ghost use Rattle.std.specs.Prelude.{◌≡◌, ◌↔◌, ◌≤◌, ◌<◌, ◌+◌, ◌%◌, ◌^◌, ◌++◌, [], ◌∷◌, None, length, min, IfOk, IfNone, IfSome};
 ghost use Rattle.nsc_words.specs.Layout.{IsLayout};
 ghost use Rattle.nsc_base.specs.Nodes.{node_words};
 ghost use Rattle.nsc_model.specs.Entry.{key_limit, kept_limit};
@@ -80,9 +80,11 @@ impl Shelf {
         self.words.word(LOADS)
     }
 
-    /// The count of the beginnings and the ends of slides, which is odd while one is under way.
+    /// The count of the beginnings and the ends of slides, which is odd while one is under way, and even else.
     pub fn cycle(&self) -> u64
-        ensures { result ≡ self.now.cycle }
+        ensures value { result ≡ self.now.cycle }
+        ensures bound { result ≤ last_count }
+        ensures even { self.now.slide ≡ None ↔ result % 2 ≡ 0 }
     {
         self.words.word(CYCLE)
     }

@@ -17,7 +17,7 @@ impl Shelf {
     pub fn begin_slide(&mut self) -> Result<(), Spent>
         requires { self.old.slide ≡ None }
         ensures begun { IfOk result (λ _. IsBegun self.old self.new) }
-        ensures spent { IfErr result (λ spent. (last_count ≤ self.old.cycle) × (spent.count ≡ last_count) × (self.new ≡ self.old)) }
+        ensures spent { IfErr result (λ spent. (self.old.cycle ≡ last_count) × (spent.count ≡ last_count) × (self.new ≡ self.old)) }
     {
         let cycle = self.words.word(CYCLE);
         if cycle >= LAST_COUNT {

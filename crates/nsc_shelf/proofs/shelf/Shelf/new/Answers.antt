@@ -25,6 +25,7 @@ invariant_of-result c =
     record {
       shelf = shelf_by w c.args.map [] 0 0 c.start.result c.requires laid none e4 (omega arith) refl (mark_at_start c.args.map [] c.start.result.place c.start.result.number (ap (λ (k : Mark). k.place) c.start.ensures));
       even = ap (λ (n : ℕ). n % 2) e0;
+      cycles = omega arith;
       head = tt;
     }
 
