@@ -13,3 +13,4 @@ pub mod CompatLines
 pub mod ChainRows
 pub mod LineFronts
 pub mod NumberedLines
+pub mod FirstColons

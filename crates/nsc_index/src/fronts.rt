@@ -4,10 +4,12 @@ ghost use Rattle.std.specs.Prelude.{◌≡◌, ◌==◌, ◌≤◌, ◌<◌, ◌
 ghost use Rattle.std.specs.List.{after_first, before_first, position_or_len};
 ghost use Rattle.std.specs.Option.{option_map};
 ghost use Rattle.nsc_base.specs.Text.{part};
+ghost use Rattle.nsc_base.specs.Decimal.{decimal_of};
 ghost use Rattle.nsc_index.specs.Fronts.{id_rows, is_colon, name_rows, raw_id, raw_mark};
+ghost use Rattle.nsc_index.specs.Numbers.{text_number};
 
-use crate::numbers::{NumberAt, text_number};
-use nsc_base::{NoMemory, Span, decimal, trim_front};
+use crate::numbers::{NumberAt, number_with};
+use nsc_base::{NoMemory, Span, trim_front};
 
 /// Adds a row for a line under the number of its name, and one under its id, where it spells one: another line has not the form. Fails
 /// only for want of memory.
@@ -34,24 +36,53 @@ fn front_of(line: &[u8]) -> Option<(u32, u32)>
     ensures name { option_map (λ front. front.0) result ≡ raw_mark line.now }
     ensures id { option_map (λ front. front.1) result ≡ raw_id line.now }
 {
-    let (name, rest) = cut_at_colon(trim_front(line));
-    let (_, rest) = cut_at_colon(rest);
-    let (id, _) = cut_at_colon(rest);
-    let id = decimal(id)?;
-    Some((text_number(name), id))
+    let (number, rest) = number_at_colon(trim_front(line));
+    let id = id_at_colon(after_colon(rest))?;
+    Some((number, id))
 }
 
-// The bytes before the first colon, and those after it. Where there is none, all bytes stand before it.
-fn cut_at_colon(bytes: &[u8]) -> (&[u8], &[u8])
-    ensures front { result.0.now ≡ before_first is_colon bytes.now }
+// The number that the bytes before the first colon give, and the bytes after it: all at one walk.
+fn number_at_colon(bytes: &[u8]) -> (u32, &[u8])
+    ensures number { result.0 ≡ text_number (before_first is_colon bytes.now) }
     ensures rest { result.1.now ≡ after_first is_colon bytes.now }
+{
+    let mut number = 0;
+    for (place, byte) in bytes.iter().enumerate() {
+        if *byte == b':' {
+            return (number, &bytes[place + 1..]);
+        }
+        number = number_with(number, *byte);
+    }
+    (number, &[])
+}
+
+// The bytes after the first colon: none where there is no colon.
+fn after_colon(bytes: &[u8]) -> &[u8]
+    ensures { result.now ≡ after_first is_colon bytes.now }
 {
     let place = colon_in(bytes);
     if place < bytes.len() {
-        (&bytes[..place], &bytes[place + 1..])
+        &bytes[place + 1..]
     } else {
-        (bytes, &[])
+        &[]
     }
+}
+
+// The number that the bytes before the first colon spell in decimal: at one walk.
+fn id_at_colon(bytes: &[u8]) -> Option<u32>
+    ensures { result ≡ decimal_of (before_first is_colon bytes.now) }
+{
+    let mut id: u32 = 0;
+    for (place, byte) in bytes.iter().enumerate() {
+        if *byte == b':' {
+            return if place == 0 { None } else { Some(id) };
+        }
+        if !byte.is_ascii_digit() {
+            return None;
+        }
+        id = id.checked_mul(10)?.checked_add(u32::from(*byte - b'0'))?;
+    }
+    if bytes.is_empty() { None } else { Some(id) }
 }
 
 // The place of the first colon, or the end where there is none. Fields at the front of a line are short: a walk over their bytes is

@@ -2,7 +2,7 @@ ghost use Rattle.std.specs.Prelude.{◌≡◌, ◌≤◌, ◌<◌, ◌^◌, IfOk
 ghost use Rattle.std.specs.List.Sorted.{IsSortedByKey};
 ghost use Rattle.std.specs.Ordering.{nat_cmp};
 ghost use Rattle.nsc_index.specs.Indexes.{Indexes};
-ghost use Rattle.nsc_index.specs.Numbers.{has_number, number_in, place_of_number, text_number};
+ghost use Rattle.nsc_index.specs.Numbers.{has_number, number_in, number_with, place_of_number, text_number};
 
 use nsc_base::{NoMemory, Span};
 use std::cmp::Ordering;
@@ -69,7 +69,14 @@ pub fn places_of_number(numbers: &[NumberAt], number: u32) -> &[NumberAt]
 pub fn text_number(text: &[u8]) -> u32
     ensures { result ≡ text_number text.now }
 {
-    text.iter().fold(0u32, |number, byte| {
-        number.wrapping_mul(31).wrapping_add(u32::from(*byte))
-    })
+    text.iter()
+        .fold(0u32, |number, byte| number_with(number, *byte))
+}
+
+/// The number of a text that has one byte more at its end.
+#[tactic(auto, unfolding(crate::specs::Numbers::number_with))]
+pub fn number_with(number: u32, byte: u8) -> u32
+    ensures { result ≡ number_with number byte }
+{
+    number.rotate_left(5).wrapping_add(u32::from(byte))
 }

@@ -1,6 +1,6 @@
 //! The lines of a passwd or group file that speak by a sign.
 
-ghost use Rattle.std.specs.Prelude.{◌≡◌, ◌≤◌, ◌<◌, ◌^◌, ◌++◌, IfOk, OnOk, length, map};
+ghost use Rattle.std.specs.Prelude.{◌≡◌, ◌≤◌, ◌<◌, ◌^◌, ◌++◌, IfOk, IsFalse, None, OnOk, length, map};
 ghost use Rattle.std.specs.Str.{bytes_eq};
 ghost use Rattle.nsc_model.specs.Compat.{says};
 ghost use Rattle.nsc_compat.specs.Matters.{sign_name, speaks_on};
@@ -9,7 +9,7 @@ ghost use Rattle.nsc_index.specs.Signs.{Adds, IsSignIndex, named_line, signs_of}
 
 use crate::names::{NameAt, places_of_name, sorted_names};
 use crate::places::add_named;
-use nsc_base::{Case, NoMemory, Span};
+use nsc_base::{Case, NoMemory, Span, trim_front};
 use nsc_compat::sign_line;
 
 /// Adds the name on which a line speaks, where it has a sign. Fails only for want of memory.
@@ -18,10 +18,23 @@ pub fn add_sign(text: &[u8], line: Span, signs: &mut Vec<NameAt>) -> Result<(), 
     requires within { line.to < 2 ^ 32 }
     ensures { OnOk result (map (named_line text.now) signs.new.items ≡ map (named_line text.now) signs.old.items ++ signs_of text.now line) }
 {
+    if !has_sign(line.of(text)) {
+        return Ok(());
+    }
     if let Some(name) = sign_line(text, line) {
         signs.push(NameAt::new(name, line))?;
     }
     Ok(())
+}
+
+// Whether a line begins with a sign after the white space at its front: no other speaks by one.
+fn has_sign(line: &[u8]) -> bool
+    ensures { IsFalse result → None ≡ sign_name (says line.now) }
+{
+    match trim_front(line) {
+        [b'+' | b'-', ..] => true,
+        _ => false,
+    }
 }
 
 /// The names on which the lines of a text speak, in their order. Fails only for want of memory.

@@ -22,6 +22,12 @@ use nsc_accounts::{PasswdAt, passwd_line, user_named, user_numbered};
 use nsc_base::{NoMemory, Span, line_at};
 use std::alloc::Global;
 
+// The bytes of a short line: there is room at once for the rows of so many lines as stand in the text at this length.
+const SHORT_LINE: usize = 32;
+
+// The most rows that there is room for at once.
+const MOST_ROOM: usize = 0x4_0000;
+
 /// The lines of a passwd file, passwd(5), by the numbers of their names and by their user ids: thirty-two bytes for a line. Whether a
 /// line has the form is judged when it is looked up. Beside them the names on which lines speak by a sign, as the service compat reads
 /// them: twelve bytes for such a line.
@@ -43,8 +49,9 @@ impl UserIndex {
         requires { length text.now ≤ file_limit }
         ensures { IfOk result (IsUserIndex text.now) }
     {
-        let mut names = Vec::new(alloc);
-        let mut ids = Vec::new(alloc);
+        let room = (text.len() / SHORT_LINE).min(MOST_ROOM);
+        let mut names = Vec::with_capacity(alloc, room)?;
+        let mut ids = Vec::with_capacity(alloc, room)?;
         let mut signs = Vec::new(alloc);
         let mut from = 0;
         while let Some(line) = line_at(text, from) {
