@@ -107,21 +107,29 @@ fn files_of_a_folder(rt: HostRuntime) -> Result<(), Fail> {
     assert!(rt; gives(&mut other, rt.alloc(), FileId::Hosts, hosts));
     assert_eq!(rt; other.faults(), 0);
     assert!(rt; finds_what_is_known(&mut set, rt.alloc()));
+    assert_eq!(rt; (set.reads(FileId::Hosts), set.faults()), (2, 1));
     fs::remove_dir_all(&rt, folder.as_str())?;
     Ok(())
 }
 
-// Whether the files of the folder, as it is made, are found to be what they are and nothing else; each time one is, it is read.
+// What may be known of the files of the folder, and whether they are so.
+const KNOWN: [(FileId, Option<&[u8]>, bool); 7] = [
+    (FileId::Hosts, Some(b"hosts"), true),
+    (FileId::Passwd, None, true),
+    (FileId::Hosts, Some(b"hostt"), false),
+    (FileId::Hosts, Some(b"host"), false),
+    (FileId::Hosts, Some(b"hosts2"), false),
+    (FileId::Hosts, None, false),
+    (FileId::Services, Some(b""), false),
+];
+
+// Whether the files of the folder, as it is made, are found to be what they are and nothing else.
 fn finds_what_is_known(set: &mut HostFiles<&HostRuntime>, alloc: Global) -> bool {
-    let before = set.reads(FileId::Hosts);
-    let is_right = set.is_still(alloc, FileId::Hosts, Some(b"hosts"))
-        && set.is_still(alloc, FileId::Passwd, None)
-        && !set.is_still(alloc, FileId::Hosts, Some(b"hostt"))
-        && !set.is_still(alloc, FileId::Hosts, Some(b"host"))
-        && !set.is_still(alloc, FileId::Hosts, Some(b"hosts2"))
-        && !set.is_still(alloc, FileId::Hosts, None)
-        && !set.is_still(alloc, FileId::Services, Some(b""));
-    is_right && set.reads(FileId::Hosts) > before && set.faults() == 1
+    let mut is_right = true;
+    for (file, known, is_so) in KNOWN {
+        is_right &= set.is_still(alloc, file, known) == is_so;
+    }
+    is_right
 }
 
 #[test]
