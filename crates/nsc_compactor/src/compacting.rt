@@ -6,11 +6,12 @@ use nsc_model::Spent;
 use nsc_writer::Writer;
 
 /// The words of ended entries are free again; it gives their number. Each live entry is moved once, over the words of the table, and
-/// it takes no memory. At `Spent` nothing changed: the count of compactions stands at its end.
+/// it takes no memory. At `Spent` nothing changed: the count of the beginnings and the ends of slides, which goes on by two at each
+/// compaction, stands at its end.
 pub fn compact(writer: &mut Writer) -> Result<u64, Spent>
     requires { writer.old.slide ≡ None }
     ensures done { IfOk result (λ freed. (writer.old.cache.cycle < last_count) × (freed + all_words writer.old.cache.entries ≡ writer.old.cache.used) × (writer.new ≡ record writer.old { cache = record writer.old.cache { cycle = writer.old.cache.cycle + 2; used = all_words writer.old.cache.entries } })) }
-    ensures spent { IfErr result (λ spent. (last_count ≤ writer.old.cache.cycle) × (spent.count ≡ last_count) × (writer.new ≡ writer.old)) }
+    ensures spent { IfErr result (λ spent. (writer.old.cache.cycle ≡ last_count) × (spent.count ≡ last_count) × (writer.new ≡ writer.old)) }
 {
     let map = writer.map().layout();
     match writer.begin_slide() {

@@ -3,3 +3,4 @@ pub mod Pruned
 pub mod Later
 pub mod Crossing
 pub mod Rest
+pub mod Slides

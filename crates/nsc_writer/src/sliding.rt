@@ -15,7 +15,7 @@ impl Writer {
     pub fn begin_slide(&mut self) -> Result<(), Spent>
         requires { self.old.slide ≡ None }
         ensures begun { IfOk result (λ _. IsBegun self.old self.new) }
-        ensures spent { IfErr result (λ spent. (last_count ≤ self.old.cache.cycle) × (spent.count ≡ last_count) × (self.new ≡ self.old)) }
+        ensures spent { IfErr result (λ spent. (self.old.cache.cycle ≡ last_count) × (spent.count ≡ last_count) × (self.new ≡ self.old)) }
     {
         self.shelf.begin_slide()
     }

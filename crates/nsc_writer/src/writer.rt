@@ -1,4 +1,4 @@
-ghost use Rattle.std.specs.Prelude.{◌≡◌, true, ◌≤◌, ◌<◌, ◌+◌, ◌/◌, ◌==◌, ◌^◌, [], ◌∷◌, None, length, slice_get, IfNone, IfSome, IfOk};
+ghost use Rattle.std.specs.Prelude.{◌≡◌, true, ◌≤◌, ◌<◌, ◌+◌, ◌*◌, ◌/◌, ◌==◌, ◌^◌, [], ◌∷◌, None, length, slice_get, IfNone, IfSome, IfOk};
 ghost use Rattle.std.specs.Bool.{OnTrue};
 ghost use Rattle.std.specs.Arc.{arc_value};
 ghost use Rattle.nsc_model.specs.declared.record.Record.TheVariants as record_of;
@@ -173,10 +173,12 @@ impl Writer {
         self.shelf.len() == 0
     }
 
-    /// What it counts.
+    /// What it counts. A compaction is the beginning and the end of a slide.
     pub fn stats(&self) -> Stats
         requires { self.now.slide ≡ None }
-        ensures { result ≡ record { enabled = true; hits = self.now.hits.found; negative_hits = self.now.hits.not_found; misses = self.now.misses.found; negative_misses = self.now.misses.not_found; entries = length self.now.cache.entries; used = self.now.cache.used; arena = self.now.layout.arena; invalidations = self.now.cache.epoch; compactions = self.now.cache.cycle / 2; addfailed = self.now.cache.add_failed } }
+        ensures compactions { 2 * result.compactions ≡ self.now.cache.cycle }
+        ensures bound { self.now.cache.cycle ≤ last_count }
+        ensures value { result ≡ record { enabled = true; hits = self.now.hits.found; negative_hits = self.now.hits.not_found; misses = self.now.misses.found; negative_misses = self.now.misses.not_found; entries = length self.now.cache.entries; used = self.now.cache.used; arena = self.now.layout.arena; invalidations = self.now.cache.epoch; compactions = self.now.cache.cycle / 2; addfailed = self.now.cache.add_failed } }
     {
         Stats {
             enabled: true,

@@ -6,8 +6,14 @@ use Rattle.nsc_shelf.specs.Shelf.{Shelf}
 use Rattle.nsc_shelf.proofs.Slide.{alone_fit}
 use Rattle.nsc_writer.specs.Slide.{IsSlid}
 use Rattle.nsc_writer.specs.Writer.{cache_of}
+use Rattle.nsc_writer.proofs.Slides.{slid_on}
 use Rattle.nsc_writer.proofs.Told.{told_as}
 use Rattle.nsc_writer.proofs.writer.Writer.end_slide.Goals as goal
+
+pub end_slide-requires : goal.end_slide-requires
+end_slide-requires c =
+    let w = c.self.inside in
+    slid_on w.map.table w.map.layout w.pen.seen (arc_value w.content) w.pen.version w.pen.epoch w.shelf c.self.invariant.2 c.self.invariant.5 c.self.invariant.6 (subst IsSlid (sym c.self.view_is) c.requires)
 
 pub invariant_of-self : goal.invariant_of-self
 invariant_of-self c =
