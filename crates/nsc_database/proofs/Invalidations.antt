@@ -51,13 +51,13 @@ rests_compacted w w' w'' shown l some is =
       again = again_emptied w w' l.emptied;
     })
 
--- where the count of compactions stands at its end
-pub rests_spent : (w w' w'' : Writer) (shown : List Record) → IsLeft w w' shown → last_count ≤ w'.cache.cycle → w'' ≡ w' → Rests w w''
-rests_spent w w' w'' shown l high is = subst (Rests w) (sym is) (rests_from w w' l.emptied l.told (λ p. packed_spent w' w' refl high
+-- where the count of the beginnings and the ends of slides stands at its end
+pub rests_spent : (w w' w'' : Writer) (shown : List Record) → IsLeft w w' shown → w'.cache.cycle ≡ last_count → w'' ≡ w' → Rests w w''
+rests_spent w w' w'' shown l last is = subst (Rests w) (sym is) (rests_from w w' l.emptied l.told (λ p. packed_spent w' w' refl (omega arith)
     (let more = left_ends w w' l.emptied in let low = p.cycles in let cycle : w'.cache.cycle ≡ w.cache.cycle = ap (λ (x : Writer). x.cache.cycle) l.emptied in omega arith)))
 
-pub unmoved : (w w' : Writer) (shown : List Record) (count : ℕ) → IsLeft w w' shown → IsPacked w → last_count ≤ w'.cache.cycle → count ≡ last_count → IsUnmoved shown count
-unmoved w w' shown count l p high is = record {
+pub unmoved : (w w' : Writer) (shown : List Record) (count : ℕ) → IsLeft w w' shown → IsPacked w → w'.cache.cycle ≡ last_count → count ≡ last_count → IsUnmoved shown count
+unmoved w w' shown count l p last is = record {
   last = is;
   cause = inr (let more = left_ends w w' l.emptied in let low = p.cycles in let cycle : w'.cache.cycle ≡ w.cache.cycle = ap (λ (x : Writer). x.cache.cycle) l.emptied in let same : ends shown ≡ ends w'.seen = ap ends l.seen in omega arith);
 }

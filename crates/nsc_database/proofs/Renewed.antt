@@ -84,7 +84,7 @@ swept_leaves settings limit now ticked due w w' all t k p s = by_case s.swept wh
         waits = waits_of settings limit now ticked due w all t k l.layout;
       })
 
--- where the count of compactions stands at its end
+-- where the count of the beginnings and the ends of slides stands at its end
 pub swept_spent : (settings : DbConf) (limit : Option ℕ) (now ticked : ℕ) (due : List Due) (w w' : Writer) → All (IsDue limit now w.seen) due → Tells w.seen w.cache → Keeps settings limit ticked w → IsPacked w → w' ≡ pruned_by now due w → last_count ≤ w'.cache.cycle
     → Swept settings limit now ticked due w w'
 swept_spent settings limit now ticked due w w' all t k p is high =

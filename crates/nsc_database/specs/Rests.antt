@@ -29,7 +29,8 @@ pub record Keeps (settings : DbConf) (limit : Option ℕ) (ticked : ℕ) (w : Wr
   pub counted : All (IsReloaded w.seen) w.cache.entries
   pub found : OnTrue settings.check_files (ticked ≤ invalidated_at w.seen)
 
--- only live entries take words, unless the count of compactions stands at its end; and entries ended before each compaction
+-- only live entries take words, unless the count of the beginnings and the ends of slides stands at its end; and entries ended
+-- before each compaction, at which that count goes on by two
 pub record IsPacked (w : Writer) : Type 0 where
   pub taken : w.cache.cycle < last_count → w.cache.used ≡ all_words w.cache.entries
   pub cycles : w.cache.cycle ≤ 2 * ends w.seen

@@ -109,7 +109,8 @@ impl<F: FileSet + Drop, A: Answerer + Drop, B: Room> Database<F, A, B> {
 
 impl<F: FileSet + Drop, A: Answerer + Drop, B: Room> Database<F, A, B> {
     /// Ends every live entry as invalidated, and gives the new number of invalidations. At `Spent` a count stands at its end:
-    /// that of the invalidations, and nothing changed; or that of the compactions, and the words of the ended entries are not free.
+    /// that of the invalidations, and nothing changed; or that of the beginnings and the ends of slides, and the words of the ended
+    /// entries are not free.
     pub fn end_all<R: Wait>(&self, rt: &R, pass: &mut DbPass<F, B>) -> Result<u64, Spent>
         requires { pass.old.db ≡ self.now.db }
         ensures pass { pass.new.db ≡ pass.old.db }

@@ -148,7 +148,7 @@ impl<D: OfDb, B: Room> Desk<D, B> {
     }
 
     /// Ends every entry, and gives the new number of invalidations. At `Spent` that number stands at its end; or every entry
-    /// ended, and the count of compactions does.
+    /// ended, and the count of the beginnings and the ends of slides does.
     pub fn invalidate<F: FileSet + Drop>(&mut self, pass: &mut DbPass<F, B>) -> Result<u64, Spent>
         requires { pass.old.db ≡ D.db }
         ensures db { pass.new.db ≡ pass.old.db }
@@ -274,7 +274,8 @@ impl<D: OfDb, B: Room> Desk<D, B> {
     }
 
     /// Ends those that are due, unless the database was invalidated since so many invalidations, and loads those again that are
-    /// to be. At `Spent` the count of compactions stands at its end, and the ended ones are not loaded again.
+    /// to be. At `Spent` the count of the beginnings and the ends of slides stands at its end, and the ended ones are not loaded
+    /// again.
     pub fn renew<F: FileSet + Drop>(
         &mut self,
         pass: &mut DbPass<F, B>,

@@ -68,8 +68,8 @@ pub fn list(
 }
 
 /// Ends those that are due and live still, where the database was not invalidated since so many invalidations, compacts where any
-/// was, and loads those again that are to be. At `Spent` the ended ones are not loaded again: the count of compactions stands at
-/// its end.
+/// was, and loads those again that are to be. At `Spent` the ended ones are not loaded again: the count of the beginnings and the
+/// ends of slides stands at its end.
 pub fn renew(
     writer: &mut Writer,
     pass: &mut Pass,

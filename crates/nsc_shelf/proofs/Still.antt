@@ -1,5 +1,5 @@
 -- A shelf where no slide is under way.
-use Rattle.std.proofs.Common.{◌≡◌, ◌↔◌, ℕ, ◌%◌, ◌≤◌, List, Option, Some, None, slice_index, refl, sym, ap, subst, ◌∙◌, arith}
+use Rattle.std.proofs.Common.{◌≡◌, ℕ, ◌%◌, ◌≤◌, List, Option, Some, None, slice_index, refl, sym, ap, subst, ◌∙◌}
 use Rattle.std.specs.declared.snapshot.Snapshot.{Snapshot}
 use Rattle.nsc_words.specs.declared.layout.Layout.{Layout}
 use Rattle.nsc_model.specs.Machine.{last_count}
@@ -35,15 +35,3 @@ still_held {slide} {words} {map} {count} {mark} {v} {words'} {count'} {mark'} is
 
 pub still_seen : (slide : Option (Snapshot (List ℕ))) (words : List ℕ) (map : Layout) (words' : List ℕ) {v v' : Shelf} → shelf_in slide words map ≡ v → v.slide ≡ None → shelf_of words' map ≡ v' → shelf_in slide words' map ≡ v'
 still_seen slide words map words' {v} {v'} is none seen = ap (λ (o : Option (Snapshot (List ℕ))). shelf_in o words' map) (none_of slide words map v is none) ∙ seen
-
--- ---- the count of the beginnings and the ends of slides
-
--- it is not past its end
-pub cycle_bound : (slide : Option (Snapshot (List ℕ))) (words : List ℕ) (map : Layout) (count : ℕ) (mark : Mark) → IsHeld slide words map count mark → slice_index words 0 ≤ last_count
-cycle_bound None words map count mark held = held.cycles
-cycle_bound (Some before) words map count mark held = let next = held.head.cycle in let less = held.head.counted in omega arith
-
--- and it is even exactly where no slide is under way
-pub cycle_even : (slide : Option (Snapshot (List ℕ))) (words : List ℕ) (map : Layout) (count : ℕ) (mark : Mark) → IsHeld slide words map count mark → under_way slide words ≡ None ↔ slice_index words 0 % 2 ≡ 0
-cycle_even None words map count mark held = (λ none. held.even, λ even. refl)
-cycle_even (Some before) words map count mark held = (λ none. absurd cc, λ even. let next = held.head.cycle in let was = held.even in absurd (omega arith))

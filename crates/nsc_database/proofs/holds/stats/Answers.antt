@@ -13,11 +13,11 @@ returns-clause-counted c =
     let w = c.show.new.self in
     let seen = ap (λ (p : Pass). p.seen) c.show.ensures.pass ∙ sym (ap (λ (x : Writer). x.seen) c.show.ensures.same) in
     let counts : Counted w c.stats.result = record {
-      entries = ap (λ (s : Stats). s.entries) c.stats.ensures;
-      used = ap (λ (s : Stats). s.used) c.stats.ensures;
-      arena = ap (λ (s : Stats). s.arena) c.stats.ensures;
-      invalidations_are = ap (λ (s : Stats). s.invalidations) c.stats.ensures;
-      compactions = ap (λ (s : Stats). s.compactions) c.stats.ensures;
+      entries = ap (λ (s : Stats). s.entries) c.stats.ensures.value;
+      used = ap (λ (s : Stats). s.used) c.stats.ensures.value;
+      arena = ap (λ (s : Stats). s.arena) c.stats.ensures.value;
+      invalidations_are = ap (λ (s : Stats). s.invalidations) c.stats.ensures.value;
+      compactions = ap (λ (s : Stats). s.compactions) c.stats.ensures.value;
     } in
     let packed = subst IsPacked (sym c.show.ensures.same) c.requires.packed in
     subst (λ (n : ℕ). IsCounted n c.show.new.pass.seen c.stats.result) (ap (λ (x : Writer). x.layout.arena) c.show.ensures.same)
