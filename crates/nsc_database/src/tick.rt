@@ -135,7 +135,7 @@ impl<D: OfDb, F: FileSet + Drop, A: Answerer + Drop, B: Room> Base<D, F, A, B> {
         requires { now < 2 ^ 62 }
         ensures { IfOk result (λ loads. loads.items ≡ map (anew_of self.now.settings polled.now now) due.now) }
     {
-        let further = self.further(alloc, polled, due.len())?;
+        let further = self.further(alloc, polled, due.len());
         let ready = match &further {
             Some(further) => further,
             None => polled.ready(),
@@ -144,18 +144,13 @@ impl<D: OfDb, F: FileSet + Drop, A: Answerer + Drop, B: Room> Base<D, F, A, B> {
     }
 
     // The content that was polled, prepared further where that serves so many answers better.
-    fn further(
-        &self,
-        alloc: Global,
-        polled: &Polled<A>,
-        count: usize,
-    ) -> Result<Option<A::Ready>, NoMemory>
-        ensures { IfOk result (λ further. IfSome further (λ made. A.prepared_from made ≡ polled.now.content)) }
+    fn further(&self, alloc: Global, polled: &Polled<A>, count: usize) -> Option<A::Ready>
+        ensures { IfSome result (λ made. A.prepared_from made ≡ polled.now.content) }
     {
         if count < 2 {
-            return Ok(None);
+            return None;
         }
-        Ok(self.answers.prepare_further(alloc, polled.ready())?)
+        self.answers.prepare_further(alloc, polled.ready())
     }
 
     // The same by what was made ready of that content.

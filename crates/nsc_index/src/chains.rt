@@ -1,4 +1,4 @@
-ghost use Rattle.std.specs.Prelude.{◌≡◌, ◌+◌, ◌<◌, ◌≤◌, ◌^◌, ℕ, IfOk, filter, length, map, slice_index};
+ghost use Rattle.std.specs.Prelude.{◌≡◌, ◌+◌, ◌<◌, ◌≤◌, ◌^◌, ℕ, IfOk, filter, length, map, replicate, slice_index, vec_len};
 ghost use Rattle.nsc_index.specs.Numbers.{has_number};
 ghost use Rattle.nsc_index.specs.Chains.{AreHeads, AreNexts, bucket};
 
@@ -7,9 +7,9 @@ use nsc_base::NoMemory;
 use std::alloc::Global;
 use std::marker::Model;
 
-/// Numbers with the lines that they are of, each found without a look at most of the others: sixteen bytes for each. They lie in as
-/// many buckets as there are numbers, and each bucket is a chain from one to the next. Where all lie in one bucket, a search walks over
-/// all of them.
+/// Numbers with the lines that they are of, each found without a look at most of the others: fourteen bytes for each. They lie in half
+/// as many buckets as there are numbers, and each bucket is a chain from one to the next. Where all lie in one bucket, a search walks
+/// over all of them.
 #[derive(Debug, Drop)]
 pub struct Chains {
     rows: Vec<NumberAt>,
@@ -39,8 +39,8 @@ impl Chains {
     {
         let count = rows.len();
         rows.shrink_to_fit();
-        let mut heads = vec![in alloc; count as u32; count.max(1)]?;
-        let mut nexts = vec![in alloc; 0u32; count]?;
+        let mut heads = filled(alloc, count as u32, count.div_ceil(2).max(1))?;
+        let mut nexts = filled(alloc, 0, count)?;
         link(&rows, &mut heads, &mut nexts);
         Ok(Chains { rows, heads, nexts })
     }
@@ -60,6 +60,16 @@ impl Chains {
         }
         Ok(lines)
     }
+}
+
+// So many numbers that are all the same: a fill of memory at one go.
+fn filled(alloc: Global, number: u32, count: usize) -> Result<Vec<u32>, NoMemory>
+    ensures items { IfOk result (λ numbers. numbers.items ≡ replicate count number) }
+    ensures len { IfOk result (λ numbers. vec_len numbers ≡ count) }
+{
+    let mut numbers = Vec::with_capacity(alloc, count)?;
+    numbers.resize(count, number)?;
+    Ok(numbers)
 }
 
 // The bucket of a number, of so many.

@@ -63,13 +63,14 @@ impl Answerer for Indexed {
         ready.content()
     }
 
-    fn prepare_further(&self, alloc: Global, ready: &Ready) -> Result<Option<Ready>, NoMemory> {
+    fn prepare_further(&self, alloc: Global, ready: &Ready) -> Option<Ready> {
         match ready {
             Ready::Listed(listed) => {
-                let prepared = Prepared::of(alloc, listed.content().clone()?)?;
-                Ok(Some(Ready::Prepared(prepared)))
+                let content = listed.content().clone().ok()?;
+                let prepared = Prepared::of(alloc, content).ok()?;
+                Some(Ready::Prepared(prepared))
             }
-            Ready::Prepared(_) => Ok(None),
+            Ready::Prepared(_) => None,
         }
     }
 

@@ -28,7 +28,7 @@ const SHORT_LINE: usize = 32;
 // The most rows that there is room for at once.
 const MOST_ROOM: usize = 0x4_0000;
 
-/// The lines of a passwd file, passwd(5), by the numbers of their names and by their user ids: thirty-two bytes for a line. Whether a
+/// The lines of a passwd file, passwd(5), by the numbers of their names and by their user ids: twenty-eight bytes for a line. Whether a
 /// line has the form is judged when it is looked up. Beside them the names on which lines speak by a sign, as the service compat reads
 /// them: twelve bytes for such a line.
 #[derive(Debug, Drop)]

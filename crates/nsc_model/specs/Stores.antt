@@ -55,7 +55,7 @@ pub record IsLoaded (settings : DbConf) (now : ℕ) (seen after : List Record) (
 abbrev pub words_of : List Entry → ℕ
 words_of entries = sum_by entry_words entries
 
--- so many entries ended that the count of compactions may stand at its end
+-- so many entries ended that there may be no further compaction
 abbrev pub MayBeUnmoved : List Record → Type 0
 MayBeUnmoved history = 2 ^ 61 ≤ ends history
 

@@ -26,18 +26,15 @@ pub trait Answerer {
     fn content<'a>(&self, ready: &'a Self::Ready) -> &'a Arc<Content>
         ensures { arc_value result.now ≡ prepared_from ready.now };
 
-    /// The same content once more, prepared for many answers, where that makes them quicker; `None` where `ready` serves as well, as
-    /// what this call made does. A caller asks for it where a further answer over the content is due. Fails only for want of memory.
-    fn prepare_further(
-        &self,
-        alloc: Global,
-        ready: &Self::Ready,
-    ) -> Result<Option<Self::Ready>, NoMemory>
-        ensures { IfOk result (λ further. IfSome further (λ made. prepared_from made ≡ prepared_from ready.now)) }
+    /// The same content once more, prepared for many answers, where that makes them quicker and there is memory for it. `None` where
+    /// there is none, or where `ready` serves as well, as what this call made does. A caller asks for it where a further answer over
+    /// the content is due.
+    fn prepare_further(&self, alloc: Global, ready: &Self::Ready) -> Option<Self::Ready>
+        ensures { IfSome result (λ made. prepared_from made ≡ prepared_from ready.now) }
     {
         let _ = alloc;
         let _ = ready;
-        Ok(None)
+        None
     }
 
     /// The answer to the request of this kind and key over the content that `ready` was prepared from. Fails only

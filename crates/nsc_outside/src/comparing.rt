@@ -3,8 +3,11 @@ ghost use Rattle.std.specs.Prelude.{◌≡◌, ◌++◌, IfSome};
 ghost use Rattle.std.specs.Bool.{OnTrue};
 ghost use Rattle.nsc_outside.specs.FileSets.{IsAllOf};
 
-use crate::reading::PART;
 use std::io::Read;
+
+// How many bytes are read at once: few enough to stay close to the processor until they are compared, and to cost little where a file
+// is short.
+const PART: usize = 32_768;
 
 /// Whether a reader has just these bytes left. Where a read fails the answer is no.
 pub(crate) fn has_just<F: Read + Drop>(mut reader: F, known: &[u8]) -> bool

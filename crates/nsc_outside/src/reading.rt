@@ -10,8 +10,8 @@ use nsc_model::Content;
 use std::alloc::Global;
 use std::io::{Error, ErrorKind, Read};
 
-/// How many bytes are read at once: few enough to stay close to the processor until they are compared or copied.
-pub(crate) const PART: usize = 32_768;
+// How many bytes are read at once: few enough to stay close to the processor until they are copied, and many to a call.
+const PART: usize = 131_072;
 
 /// Reads to the end of a file, whose length was told; one that has more than the limit is read no further than a part past it. Each
 /// part is copied behind the others: the memory of the whole is written once, where a read into it would need zeros there first.

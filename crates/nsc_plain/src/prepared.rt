@@ -95,16 +95,6 @@ impl<A: Answerer> Prepared<A> {
             return Ok(ready);
         }
         self.is_for_many = true;
-        Ok(prepared_further(alloc, answers, ready))
-    }
-}
-
-// The same prepared for many answers, where that makes them quicker and there is memory for it.
-fn prepared_further<A: Answerer>(alloc: Global, answers: &A, ready: A::Ready) -> A::Ready
-    ensures { A.prepared_from result ≡ A.prepared_from ready }
-{
-    match answers.prepare_further(alloc, &ready) {
-        Ok(Some(made)) => made,
-        Ok(None) | Err(_) => ready,
+        Ok(answers.prepare_further(alloc, &ready).unwrap_or(ready))
     }
 }

@@ -224,9 +224,8 @@ impl<F: FileSet + Drop, A: Answerer> SourceBook<F, A> {
         ensures { IfOk result (λ f. f ≡ record { content = self.now.newest; is_newest = true }) }
     {
         let ready = match answers.prepare_further(alloc, &self.ready) {
-            Ok(Some(further)) => Arc::new(alloc, further)?,
-            Ok(None) => self.ready.clone()?,
-            Err(_) => self.ready.clone()?,
+            Some(further) => Arc::new(alloc, further)?,
+            None => self.ready.clone()?,
         };
         Ok(Fetched {
             kept: ready.clone()?,
@@ -317,11 +316,7 @@ fn prepared_further<A: Answerer>(
     ensures { IfOk result (λ ready. A.prepared_from ready ≡ arc_value content) }
 {
     let ready = answers.prepare(alloc, content)?;
-    match answers.prepare_further(alloc, &ready) {
-        Ok(Some(further)) => Ok(further),
-        Ok(None) => Ok(ready),
-        Err(_) => Ok(ready),
-    }
+    Ok(answers.prepare_further(alloc, &ready).unwrap_or(ready))
 }
 
 // A content that is not known to be the newest one, made ready for answers.

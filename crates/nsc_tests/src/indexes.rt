@@ -32,7 +32,7 @@ fn users(alloc: Global) -> Result<Content, NoMemory> {
 // What is prepared of a content, without its indexes and with them.
 fn both_ways(alloc: Global, content: Content) -> Result<(Ready, Ready), Fail> {
     let first = Indexed.prepare(alloc, Arc::new(alloc, content)?)?;
-    match Indexed.prepare_further(alloc, &first)? {
+    match Indexed.prepare_further(alloc, &first) {
         Some(further) => Ok((first, further)),
         None => Err(Fail::new("nothing further")),
     }

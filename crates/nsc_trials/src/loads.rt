@@ -20,6 +20,8 @@ pub enum Load {
         entries: u32,
         /// How many lookups.
         count: u32,
+        /// Of how many of these users, who stand evenly among them.
+        asked: u32,
     },
     /// Lookups of users, each of another, who are in no file.
     Misses {
@@ -116,7 +118,11 @@ impl Load {
                 threads,
                 entries,
                 count,
-            } => hits_by(rt, alloc, &caller, threads, entries, count)?,
+                asked,
+            } => {
+                let users = Asked::of(entries, asked);
+                hits_by(rt, alloc, &caller, threads, users, count)?
+            }
             Load::Misses { users, count } => misses(&mut caller, users, count, 0),
             Load::Ticks { count, apart, .. } => ticks(&mut caller, 0, count, apart),
             Load::Compactions { count, .. } => ticks(&mut caller, KEPT, count, 1),
@@ -155,12 +161,36 @@ fn misses<S: Store, R: Wait>(
     right
 }
 
-// Looks up as many times the users of the numbers below `entries` in turn, and says whether each had an entry.
-fn hits<S: Store, R: Wait>(caller: &mut Caller<'_, '_, S, R>, entries: u32, count: u32) -> bool {
-    let users = entries.max(1);
+// Users who are asked for in turn.
+#[derive(Clone, Copy)]
+struct Asked {
+    // How many they are, at least one.
+    users: u32,
+    // How far their numbers are apart.
+    apart: u32,
+}
+
+impl Asked {
+    // So many of the users with entries, at least one and at most all.
+    fn of(entries: u32, asked: u32) -> Asked {
+        let users = asked.min(entries).max(1);
+        Asked {
+            users,
+            apart: entries / users,
+        }
+    }
+
+    // The number of the user who is asked for at a turn.
+    fn number(self, turn: u32) -> u32 {
+        (turn % self.users.max(1)).wrapping_mul(self.apart)
+    }
+}
+
+// Looks up these users as many times in turn, and says whether each had an entry.
+fn hits<S: Store, R: Wait>(caller: &mut Caller<'_, '_, S, R>, users: Asked, count: u32) -> bool {
     let mut right = true;
     for turn in 0..count {
-        let name = name_of(turn % users);
+        let name = name_of(users.number(turn));
         let given = caller.find_key(Kind::PwName, &name, 0);
         right = right && matches!(&given, Ok(Given::Hit { .. }));
     }
@@ -173,7 +203,7 @@ fn hits_by<S: Store + Sync, R: Threads + Wait + Sync>(
     alloc: Global,
     caller: &Caller<'_, '_, S, R>,
     threads: u32,
-    entries: u32,
+    users: Asked,
     count: u32,
 ) -> Result<bool, NoMemory>
 where
@@ -187,7 +217,7 @@ where
     let right = thread::map_vec(
         rt,
         callers,
-        &|mut caller: Caller<'_, '_, S, R>| { hits(&mut caller, entries, part) },
+        &|mut caller: Caller<'_, '_, S, R>| { hits(&mut caller, users, part) },
     )?;
     Ok(right.iter().all(|right| *right))
 }

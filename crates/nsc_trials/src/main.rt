@@ -1,5 +1,5 @@
 //! Trials of a database that many threads call, over a file that changes while they run. With no word each trial prints a line.
-//! With words the program makes calls for their time: `hits THREADS ENTRIES COUNT`, `misses USERS COUNT`, `ticks ENTRIES COUNT
+//! With words the program makes calls for their time: `hits THREADS ENTRIES COUNT [ASKED]`, `misses USERS COUNT`, `ticks ENTRIES COUNT
 //! SECONDS`, `compactions ENTRIES COUNT`, `finds ENTRIES COUNT`.
 #![tactic(auto)]
 

@@ -23,11 +23,18 @@ impl Mode {
             return Some(Mode::Trials);
         };
         let load = match (word.as_str(), words.len()) {
-            ("hits", 4) => Load::Hits {
-                threads: number(&words[1])?,
-                entries: number(&words[2])?,
-                count: number(&words[3])?,
-            },
+            ("hits", 4 | 5) => {
+                let entries = number(&words[2])?;
+                Load::Hits {
+                    threads: number(&words[1])?,
+                    entries,
+                    count: number(&words[3])?,
+                    asked: match words.get(4) {
+                        Some(word) => number(word)?,
+                        None => entries,
+                    },
+                }
+            }
             ("misses", 3) => Load::Misses {
                 users: number(&words[1])?,
                 count: number(&words[2])?,
