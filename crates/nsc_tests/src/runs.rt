@@ -63,7 +63,10 @@ fn failing_reads(rt: HostRuntime) -> Result<(), Fail> {
             41..60 => FIRST,
             60.. => REPLIES.len(),
         };
-        assert!(rt; ends_so(&rt, call, 0, Exit::ReadFault, &REPLIES[..written]), "at call {call}");
+        assert!(rt;
+            ends_so(&rt, call, 0, Exit::ReadFault, &REPLIES[..written]),
+            "at call {call}"
+        );
     }
     Ok(())
 }
@@ -73,7 +76,10 @@ fn failing_reads(rt: HostRuntime) -> Result<(), Fail> {
 fn failing_writes(rt: HostRuntime) -> Result<(), Fail> {
     for call in 1..=REPLIES.len() {
         let written = &REPLIES[..call - 1];
-        assert!(rt; ends_so(&rt, 0, call as u64, Exit::WriteFault, written), "at call {call}");
+        assert!(rt;
+            ends_so(&rt, 0, call as u64, Exit::WriteFault, written),
+            "at call {call}"
+        );
     }
     Ok(())
 }
