@@ -1,6 +1,5 @@
 -- Numbers of lines.
-use Rattle.std.specs.Prelude.{ℕ, ◌+◌, ◌%◌, ◌^◌, Bool, List, fold}
-use Rattle.std.specs.Int.{rotate_left, w32}
+use Rattle.std.specs.Prelude.{ℕ, ◌+◌, ◌*◌, ◌%◌, ◌^◌, Bool, List, fold}
 use Rattle.std.specs.Ordering.{is_eq, nat_cmp}
 use Rattle.nsc_base.specs.declared.span.Span.{Span}
 use Rattle.nsc_index.specs.declared.numbers.NumberAt.{NumberAt}
@@ -17,7 +16,7 @@ has_number number at = is_eq (nat_cmp at.number number)
 
 -- the number of a text that has one byte more at its end
 unfoldable pub number_with : ℕ → ℕ → ℕ
-number_with number byte = (rotate_left w32 number 5 + byte) % 2 ^ 32
+number_with number byte = (number * 9 + byte) % 2 ^ 32
 
 -- a number of 32 bits that a text gives. Which one counts for nothing: what is said of indexes holds for any function of texts, and no
 -- clause looks into this one

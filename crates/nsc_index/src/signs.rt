@@ -18,9 +18,18 @@ pub fn add_sign(text: &[u8], line: Span, signs: &mut Vec<NameAt>) -> Result<(), 
     requires within { line.to < 2 ^ 32 }
     ensures { OnOk result (map (named_line text.now) signs.new.items ≡ map (named_line text.now) signs.old.items ++ signs_of text.now line) }
 {
-    if !has_sign(line.of(text)) {
-        return Ok(());
+    if has_sign(line.of(text)) {
+        return add_spoken(text, line, signs);
     }
+    Ok(())
+}
+
+// The same of a line that has a sign, as few have.
+fn add_spoken(text: &[u8], line: Span, signs: &mut Vec<NameAt>) -> Result<(), NoMemory>
+    requires inside { line.to ≤ length text.now }
+    requires within { line.to < 2 ^ 32 }
+    ensures { OnOk result (map (named_line text.now) signs.new.items ≡ map (named_line text.now) signs.old.items ++ signs_of text.now line) }
+{
     if let Some(name) = sign_line(text, line) {
         signs.push(NameAt::new(name, line))?;
     }
