@@ -1,5 +1,6 @@
 ghost use Rattle.std.specs.Prelude.{◌<◌};
 
+use nsc_base::NoMemory;
 use nsc_model::Conf;
 use nsc_outside::{MemSink, MemSource};
 use nsc_run::{Exit, replay};
@@ -17,7 +18,7 @@ const REPLIES: &[u8] =
 const FIRST: usize = 49;
 
 // The frames as an input that gives at most this many bytes a call, and fails at a call.
-fn input(alloc: Global, step: usize, failing: u64) -> Result<MemSource, Fail>
+fn input(alloc: Global, step: usize, failing: u64) -> Result<MemSource, NoMemory>
     requires { 0 < step }
 {
     let source = MemSource::new(Vec::from_slice(alloc, FRAMES)?).with_step(step);
@@ -25,7 +26,7 @@ fn input(alloc: Global, step: usize, failing: u64) -> Result<MemSource, Fail>
 }
 
 // An output that takes at most this many bytes a call, and fails at a call.
-fn output(alloc: Global, step: usize, failing: u64) -> Result<MemSink, Fail>
+fn output(alloc: Global, step: usize, failing: u64) -> Result<MemSink, NoMemory>
     requires { 0 < step }
 {
     let sink = MemSink::new(alloc, 200)?.with_step(step);
@@ -33,7 +34,7 @@ fn output(alloc: Global, step: usize, failing: u64) -> Result<MemSink, Fail>
 }
 
 // The exit of a replay over streams of one byte a call that fail at these calls, 0 being none, and what was written.
-fn replayed(rt: &HostRuntime, read: u64, write: u64) -> Result<(Exit, MemSink), Fail> {
+fn replayed(rt: &HostRuntime, read: u64, write: u64) -> Result<(Exit, MemSink), NoMemory> {
     let mut source = input(rt.alloc(), 1, read)?;
     let mut sink = output(rt.alloc(), 1, write)?;
     let exit = replay(rt, &Conf::defaults(), &mut source, &mut sink);
