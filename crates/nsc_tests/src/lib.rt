@@ -1,5 +1,6 @@
-//! The tests of the crates below: each call that may find no memory, once with ample memory, and what no replay of the
-//! program shows. Replays of the built program, which are most tests, stand in `tests/replays` of the repository.
+//! The tests of the calls that read, answer and keep: each call that may find no memory, once with ample memory, and what no replay of the
+//! program shows. Those of files, streams and sockets are in `nsc_edge_tests`. Replays of the built program, which are most tests, stand
+//! in `tests/replays` of the repository.
 #![tactic(auto)]
 
 #[cfg(test)]
@@ -7,25 +8,11 @@ mod answers;
 #[cfg(test)]
 mod caches;
 #[cfg(test)]
-mod files;
-#[cfg(test)]
-mod held;
-#[cfg(test)]
-mod host_sockets;
-#[cfg(test)]
 mod indexes;
-#[cfg(test)]
-mod jobs;
 #[cfg(test)]
 mod lookups;
 #[cfg(test)]
-mod runs;
-#[cfg(test)]
 mod settings;
-#[cfg(test)]
-mod sockets;
-#[cfg(test)]
-mod streams;
 #[cfg(test)]
 mod texts;
 #[cfg(test)]
