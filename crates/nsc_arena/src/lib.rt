@@ -24,4 +24,4 @@ pub use numbers::first_from;
 pub use placing::{Fixed, place, place_bytes};
 pub use reading::{Head, head_at, read_bytes};
 pub use sliding::{clear, slide};
-pub use walking::walk;
+pub use walking::{answers_at, walk};

@@ -40,8 +40,8 @@ fn is_between(at: u64, start: usize, below: usize) -> bool
     at >= start as u64 && at <= (below - 8) as u64
 }
 
-// Whether the node at a place is usable, and answers this request.
-fn answers_at<W: Words>(table: &mut W, at: usize, kind: u32, key: &[u8]) -> bool
+/// Whether the node at a place is usable, and answers this request. Where no node stands there, it ends and changes nothing.
+pub fn answers_at<W: Words>(table: &mut W, at: usize, kind: u32, key: &[u8]) -> bool
     requires size { length (W.words table.old) < 2 ^ 63 }
     requires inside { at + 8 ≤ length (W.words table.old) }
     ensures same { W.words table.new ≡ W.words table.old }

@@ -1,5 +1,5 @@
 -- A number at the table's head is set.
-use Rattle.std.proofs.Common.{◌≡◌, ◌≢◌, ℕ, ◌-◌, ◌<◌, List, set, slice_index, None, ap, ◌∙◌, arith, get_or-set_same, get_or-set_other}
+use Rattle.std.proofs.Common.{◌≡◌, ◌≢◌, ℕ, ◌-◌, ◌<◌, List, set, slice_index, None, sym, ap, ◌∙◌, arith, get_or-set_same, get_or-set_other}
 use Rattle.nsc_words.specs.declared.layout.Layout.{Layout}
 use Rattle.nsc_words.specs.Layout.{arena_start}
 use Rattle.nsc_arena.specs.ReadBack.{nodes_in}
@@ -14,6 +14,7 @@ pub record Counted (old new : List ℕ) (map : Layout) (count : ℕ) (mark : Mar
   pub cycle : slice_index new 0 ≡ slice_index old 0
   pub shelf : IsShelf new map count mark
   pub view : shelf_of new map ≡ record (shelf_of old map) { head = head }
+  pub nodes : nodes_in old map ≡ nodes_in new map
 
 counted : (old new : List ℕ) (map : Layout) (count : ℕ) (mark : Mark) (k value : ℕ) (head : HeadWords) → k < 9 → k ≢ 0 → k ≢ 3 → k ≢ 4 → new ≡ set old k value → IsShelf old map count mark → head_in new ≡ head → Counted old new map count mark head
 counted old new map count mark k value head low zero three four set_is is eh =
@@ -29,6 +30,7 @@ counted old new map count mark k value head low zero three four set_is is eh =
       cycle = e0;
       shelf = shelf_by new map nodes (slice_index old 4) count mark is.sizes laid is.entries e4 is.counted is.live is.marked;
       view = λ i. record { entries = entries_in (same i); used = e3 i - arena_start map; inserted = e4 i; cycle = e0 i; add_failed = e9 i; head = eh i; layout = map; slide = None };
+      nodes = sym same;
     }
 
 pub set_epoch : (old new : List ℕ) (map : Layout) (count : ℕ) (mark : Mark) (value : ℕ) → new ≡ set old 1 value → IsShelf old map count mark → Counted old new map count mark (record (head_in old) { epoch = value })

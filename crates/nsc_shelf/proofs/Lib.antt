@@ -4,3 +4,4 @@ pub mod Found
 pub mod Still
 pub mod Slide
 pub mod HeadWords
+pub mod Hinted

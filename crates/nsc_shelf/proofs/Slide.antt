@@ -13,6 +13,7 @@ use Rattle.nsc_model.specs.declared.answer.Request.{Request}
 use Rattle.nsc_model.specs.Kinds.{is_request, type_number}
 use Rattle.nsc_model.specs.Machine.{Kept, all_words, entry_words, last_count}
 use Rattle.nsc_shelf.specs.declared.finding.Mark.{Mark}
+use Rattle.nsc_shelf.specs.Hints.{AreHints}
 use Rattle.nsc_shelf.specs.Shelf.{AreEntries, HoldEntries, IsBegun, IsHeld, IsShelf, IsSlid, entries_in, head_in, kept_in, kind_of, request_in, shelf_in, shelf_of, slide_words, under_way}
 use Rattle.nsc_shelf.proofs.Entries.{one_more}
 use Rattle.nsc_shelf.proofs.States.{head_same, shelf_by, view_by}
@@ -24,9 +25,9 @@ apart at i (inl is) low other = λ same. other (same ∙ is)
 apart at i (inr high) low other = omega arith
 
 -- a word that is set leaves the head
-pub word_held : (slide : Option (Snapshot (List ℕ))) (words : List ℕ) (map : Layout) (count : ℕ) (mark : Mark) (at value : ℕ) → IsHeld slide words map count mark → at < length (slide_words (under_way slide words)) → (at ≡ 3) ⊎ (16 ≤ at) → IsHeld slide (set words at value) map count mark
-word_held None words map count mark at value held low at_word = absurd (omega arith)
-word_held (Some before) words map count mark at value held low at_word = record {
+pub word_held : (slide : Option (Snapshot (List ℕ))) (words : List ℕ) (map : Layout) (count : ℕ) (mark : Mark) (hints : List ℕ) (at value : ℕ) → IsHeld slide words map count mark hints → at < length (slide_words (under_way slide words)) → (at ≡ 3) ⊎ (16 ≤ at) → IsHeld slide (set words at value) map count mark hints
+word_held None words map count mark hints at value held low at_word = absurd (omega arith)
+word_held (Some before) words map count mark hints at value held low at_word = record {
   shelf = held.shelf;
   even = held.even;
   cycles = held.cycles;
@@ -36,6 +37,7 @@ word_held (Some before) words map count mark at value held low at_word = record 
     cycle = get_or-set_other words at 0 value 0 (apart at 0 at_word (omega arith) (omega arith)) ∙ held.head.cycle;
     counted = held.head.counted;
   };
+  hinted = held.hinted;
 }
 
 -- ---- the begin
@@ -147,11 +149,11 @@ some_same x y e = cc
 -- the words of a slide that ends
 pub record Ends (slide : Option (Snapshot (List ℕ))) (words new : List ℕ) (map : Layout) (count : ℕ) : Type 0 where
   pub view : shelf_of new map ≡ record (shelf_in slide words map) { used = all_words (shelf_in slide words map).entries; cycle = slice_index words 0 + 1; slide = None }
-  pub held : (mark : Mark) → mark.place ≡ arena_start map → IsHeld None new map count mark
+  pub held : (mark : Mark) (hints : List ℕ) → mark.place ≡ arena_start map → AreHints hints (nodes_in new map) → IsHeld None new map count mark hints
 
-pub ends : (slide : Option (Snapshot (List ℕ))) (words new : List ℕ) (map : Layout) (count : ℕ) (mark : Mark) → IsHeld slide words map count mark → IsSlid (shelf_in slide words map) → new ≡ set words 0 (slice_index words 0 + 1) → Ends slide words new map count
-ends None words new map count mark held slid set_is = absurd (let e = slid.under_way in cc)
-ends (Some before) words new map count mark held slid set_is =
+pub ends : (slide : Option (Snapshot (List ℕ))) (words new : List ℕ) (map : Layout) (count : ℕ) (mark : Mark) (hints : List ℕ) → IsHeld slide words map count mark hints → IsSlid (shelf_in slide words map) → new ≡ set words 0 (slice_index words 0 + 1) → Ends slide words new map count
+ends None words new map count mark hints held slid set_is = absurd (let e = slid.under_way in cc)
+ends (Some before) words new map count mark hints held slid set_is =
     let start : ℕ = arena_start map in
     let nodes : List Placed = slid.nodes in
     let same : words ≡ slid.words = some_same words slid.words slid.under_way in
@@ -172,10 +174,11 @@ ends (Some before) words new map count mark held slid set_is =
     let less = held.head.counted in
     record {
       view = seen ∙ (λ i. record { entries = entries i; used = used i; inserted = slice_index words 4; cycle = slice_index words 0 + 1; add_failed = slice_index words 9; head = head_in words; layout = map; slide = None });
-      held = λ mark' place. record {
+      held = λ mark' hints' place hinted. record {
         shelf = shelf_by new map nodes (slice_index before.value 4) count mark' held.shelf.sizes laid are e4 held.shelf.counted (held.shelf.live ∙ ap length (sym entries)) (mark_at_start map nodes mark'.place mark'.number place);
         even = omega arith;
         cycles = omega arith;
         head = tt;
+        hinted = hinted;
       };
     }

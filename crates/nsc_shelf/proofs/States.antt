@@ -145,7 +145,7 @@ same_asked r p q a b =
     let y = (decides_and (type_number r.kind) (type_number (kind_of q.node.kind)) r.key q.node.key).0 b in
     (decides_and (type_number (kind_of p.node.kind)) (type_number (kind_of q.node.kind)) p.node.key q.node.key).1 (sym x.0 ∙ y.0, sym x.1 ∙ y.1)
 
-usable_answers : (kind : ℕ) (key : List ℕ) (p : Placed) → answers kind key p ≡ true → p.usable ≡ true
+pub usable_answers : (kind : ℕ) (key : List ℕ) (p : Placed) → answers kind key p ≡ true → p.usable ≡ true
 usable_answers kind key p e = (both p.usable (eqb p.node.kind kind && bytes_eq p.node.key key) e).0
 
 -- the live entry of a request, by a node that answers it, or by that none does

@@ -2,9 +2,15 @@
 use Rattle.std.proofs.Common.{◌≡◌, ℕ, ◌%◌, ◌≤◌, List, Option, Some, None, slice_index, refl, sym, ap, subst, ◌∙◌}
 use Rattle.std.specs.declared.snapshot.Snapshot.{Snapshot}
 use Rattle.nsc_words.specs.declared.layout.Layout.{Layout}
+use Rattle.nsc_words.specs.declared.node.Placed.{Placed}
+use Rattle.nsc_words.specs.Laid.{Laid}
+use Rattle.nsc_arena.specs.Changes.{IsMark}
 use Rattle.nsc_model.specs.Machine.{last_count}
+use Rattle.nsc_arena.specs.ReadBack.{nodes_in}
 use Rattle.nsc_shelf.specs.declared.finding.Mark.{Mark}
+use Rattle.nsc_shelf.specs.Hints.{AreHints}
 use Rattle.nsc_shelf.specs.Shelf.{IsHeld, IsShelf, Shelf, shelf_in, shelf_of, under_way}
+use Rattle.nsc_shelf.proofs.Found.{remarked_by}
 
 -- none is under way where the view says so
 pub no_slide : (slide : Option (Snapshot (List ℕ))) (words : List ℕ) → under_way slide words ≡ None → slide ≡ None
@@ -15,23 +21,32 @@ none_of : (slide : Option (Snapshot (List ℕ))) (words : List ℕ) (map : Layou
 none_of slide words map v is none = no_slide slide words (ap (λ (s : Shelf). s.slide) is ∙ none)
 
 -- the words are then those of its entries
-pub still : {slide : Option (Snapshot (List ℕ))} {words : List ℕ} {map : Layout} {count : ℕ} {mark : Mark} {v : Shelf} → shelf_in slide words map ≡ v → v.slide ≡ None → IsHeld slide words map count mark → IsShelf words map count mark
-still {slide} {words} {map} {count} {mark} {v} is none held = (subst (λ (o : Option (Snapshot (List ℕ))). IsHeld o words map count mark) (none_of slide words map v is none) held).shelf
+pub still : {slide : Option (Snapshot (List ℕ))} {words : List ℕ} {map : Layout} {count : ℕ} {mark : Mark} {hints : List ℕ} {v : Shelf} → shelf_in slide words map ≡ v → v.slide ≡ None → IsHeld slide words map count mark hints → IsShelf words map count mark
+still {slide} {words} {map} {count} {mark} {hints} {v} is none held = (subst (λ (o : Option (Snapshot (List ℕ))). IsHeld o words map count mark hints) (none_of slide words map v is none) held).shelf
 
 pub still_view : (slide : Option (Snapshot (List ℕ))) (words : List ℕ) (map : Layout) {v : Shelf} → shelf_in slide words map ≡ v → v.slide ≡ None → shelf_of words map ≡ v
 still_view slide words map {v} is none = sym (ap (λ (o : Option (Snapshot (List ℕ))). shelf_in o words map) (none_of slide words map v is none)) ∙ is
 
 -- the count is then even
-pub still_even : {slide : Option (Snapshot (List ℕ))} {words : List ℕ} {map : Layout} {count : ℕ} {mark : Mark} {v : Shelf} → shelf_in slide words map ≡ v → v.slide ≡ None → IsHeld slide words map count mark → slice_index words 0 % 2 ≡ 0
-still_even {slide} {words} {map} {count} {mark} {v} is none held = (subst (λ (o : Option (Snapshot (List ℕ))). IsHeld o words map count mark) (none_of slide words map v is none) held).even
+pub still_even : {slide : Option (Snapshot (List ℕ))} {words : List ℕ} {map : Layout} {count : ℕ} {mark : Mark} {hints : List ℕ} {v : Shelf} → shelf_in slide words map ≡ v → v.slide ≡ None → IsHeld slide words map count mark hints → slice_index words 0 % 2 ≡ 0
+still_even {slide} {words} {map} {count} {mark} {hints} {v} is none held = (subst (λ (o : Option (Snapshot (List ℕ))). IsHeld o words map count mark hints) (none_of slide words map v is none) held).even
+
+-- its hints are then those of the nodes in its words
+pub still_hinted : {slide : Option (Snapshot (List ℕ))} {words : List ℕ} {map : Layout} {count : ℕ} {mark : Mark} {hints : List ℕ} {v : Shelf} → shelf_in slide words map ≡ v → v.slide ≡ None → IsHeld slide words map count mark hints → AreHints hints (nodes_in words map)
+still_hinted {slide} {words} {map} {count} {mark} {hints} {v} is none held = (subst (λ (o : Option (Snapshot (List ℕ))). IsHeld o words map count mark hints) (none_of slide words map v is none) held).hinted
 
 -- and what is known of other words is known of it with these
-pub still_held : {slide : Option (Snapshot (List ℕ))} {words : List ℕ} {map : Layout} {count : ℕ} {mark : Mark} {v : Shelf} {words' : List ℕ} {count' : ℕ} {mark' : Mark} → shelf_in slide words map ≡ v → v.slide ≡ None → IsHeld slide words map count mark → slice_index words' 0 ≡ slice_index words 0 → IsShelf words' map count' mark' → IsHeld slide words' map count' mark'
-still_held {slide} {words} {map} {count} {mark} {v} {words'} {count'} {mark'} is none held same shelf =
+pub still_held : {slide : Option (Snapshot (List ℕ))} {words : List ℕ} {map : Layout} {count : ℕ} {mark : Mark} {hints : List ℕ} {v : Shelf} {words' : List ℕ} {count' : ℕ} {mark' : Mark} {hints' : List ℕ} → shelf_in slide words map ≡ v → v.slide ≡ None → IsHeld slide words map count mark hints → slice_index words' 0 ≡ slice_index words 0 → IsShelf words' map count' mark' → (AreHints hints (nodes_in words map) → AreHints hints' (nodes_in words' map)) → IsHeld slide words' map count' mark' hints'
+still_held {slide} {words} {map} {count} {mark} {hints} {v} {words'} {count'} {mark'} {hints'} is none held same shelf hinted =
     let here = none_of slide words map v is none in
-    let old : IsHeld None words map count mark = subst (λ (o : Option (Snapshot (List ℕ))). IsHeld o words map count mark) here held in
-    let new : IsHeld None words' map count' mark' = record { shelf = shelf; even = ap (λ (n : ℕ). n % 2) same ∙ old.even; cycles = subst (λ (n : ℕ). n ≤ last_count) (sym same) old.cycles; head = tt } in
-    subst (λ (o : Option (Snapshot (List ℕ))). IsHeld o words' map count' mark') (sym here) new
+    let old : IsHeld None words map count mark hints = subst (λ (o : Option (Snapshot (List ℕ))). IsHeld o words map count mark hints) here held in
+    let new : IsHeld None words' map count' mark' hints' = record { shelf = shelf; even = ap (λ (n : ℕ). n % 2) same ∙ old.even; cycles = subst (λ (n : ℕ). n ≤ last_count) (sym same) old.cycles; head = tt; hinted = hinted old.hinted } in
+    subst (λ (o : Option (Snapshot (List ℕ))). IsHeld o words' map count' mark' hints') (sym here) new
+
+-- the same words with another mark
+pub still_marked : {slide : Option (Snapshot (List ℕ))} {words : List ℕ} {map : Layout} {count : ℕ} {mark : Mark} {hints : List ℕ} {v : Shelf} {words' : List ℕ} {mark' : Mark} → shelf_in slide words map ≡ v → v.slide ≡ None → IsHeld slide words map count mark hints → words' ≡ words → ((nodes : List Placed) → Laid words map nodes → IsMark map nodes mark.place mark.number → IsMark map nodes mark'.place mark'.number) → IsHeld slide words' map count mark' hints
+still_marked {slide} {words} {map} {count} {mark} {hints} {v} {words'} {mark'} is none held same marks =
+    still_held is none held (ap (λ (ws : List ℕ). slice_index ws 0) same) (remarked_by words words' map count mark mark' same (still is none held) marks) (subst (λ (ws : List ℕ). AreHints hints (nodes_in ws map)) (sym same))
 
 pub still_seen : (slide : Option (Snapshot (List ℕ))) (words : List ℕ) (map : Layout) (words' : List ℕ) {v v' : Shelf} → shelf_in slide words map ≡ v → v.slide ≡ None → shelf_of words' map ≡ v' → shelf_in slide words' map ≡ v'
 still_seen slide words map words' {v} {v'} is none seen = ap (λ (o : Option (Snapshot (List ℕ))). shelf_in o words' map) (none_of slide words map v is none) ∙ seen

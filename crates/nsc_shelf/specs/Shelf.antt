@@ -17,6 +17,7 @@ use Rattle.nsc_model.specs.Machine.{Kept, last_count}
 use Rattle.nsc_shelf.specs.declared.entry.EntryAt.{EntryAt}
 use Rattle.nsc_shelf.specs.declared.entry.Hit.{Hit}
 use Rattle.nsc_shelf.specs.declared.finding.Mark.{Mark}
+use Rattle.nsc_shelf.specs.Hints.{AreHints}
 
 -- the numbers at the table's head that its entries do not need: those of the invalidations and of the newest version, and the counts of
 -- lookups of a found and of a not-found reply that was kept, and of those that made one
@@ -172,12 +173,14 @@ abbrev pub KeepsHead : Option (Snapshot (List ℕ)) → List ℕ → Type 0
 KeepsHead None words = Unit {0}
 KeepsHead (Some before) words = IsSlide before.value words
 
--- the entries stand in the words before a slide, if one is under way; the count was even then, and not past its end
-pub record IsHeld (slide : Option (Snapshot (List ℕ))) (words : List ℕ) (map : Layout) (count : ℕ) (mark : Mark) : Type 0 where
+-- the entries stand in the words before a slide, if one is under way; the count was even then, and not past its end; and the hints are
+-- places of the nodes there
+pub record IsHeld (slide : Option (Snapshot (List ℕ))) (words : List ℕ) (map : Layout) (count : ℕ) (mark : Mark) (hints : List ℕ) : Type 0 where
   pub shelf : IsShelf (entry_words_of slide words) map count mark
   pub even : slice_index (entry_words_of slide words) 0 % 2 ≡ 0
   pub cycles : slice_index (entry_words_of slide words) 0 ≤ last_count
   pub head : KeepsHead slide words
+  pub hinted : AreHints hints (nodes_in (entry_words_of slide words) map)
 
 -- a new entry
 abbrev pub fresh_entry : ℕ → Kind → List ℕ → Answer → ℕ → ℕ → ℕ → Kept

@@ -4,6 +4,7 @@
 mod counts;
 mod entry;
 mod finding;
+mod hints;
 mod shelf;
 mod sliding;
 

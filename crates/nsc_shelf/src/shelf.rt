@@ -7,6 +7,7 @@ ghost use Rattle.nsc_shelf.specs.Shelf.{Gives, IsTold, entry_from, fresh_entry, 
 
 use crate::entry::{EntryAt, Hit};
 use crate::finding::{Mark, find_from};
+use crate::hints::{find, no_hints, note};
 use nsc_arena::{
     Fixed, VecWords, Words, chain, clear, end_node, end_nodes, head_at, place_bytes, read_bytes,
     set_reloads, walk,
@@ -14,7 +15,7 @@ use nsc_arena::{
 use nsc_base::{Buf, NoMemory};
 use nsc_model::{Answer, Kind};
 use nsc_plain::LAST_COUNT;
-use nsc_words::{ADD_FAILED, CYCLE, FIRST_FREE, KEY, LOADS, Layout};
+use nsc_words::{ADD_FAILED, CYCLE, FIRST_FREE, KEY, LOADS, Layout, hash};
 use std::alloc::Global;
 use std::marker::Model;
 use std::snapshot::Snapshot;
@@ -28,6 +29,8 @@ pub struct Shelf {
     pub(crate) live: usize,
     pub(crate) mark: Mark,
     pub(crate) slide: Option<Snapshot<VecWords>>,
+    // Places of nodes, by the hashes of their requests.
+    pub(crate) hints: Vec<u32>,
 }
 
 impl Model for Shelf {
@@ -37,7 +40,7 @@ impl Model for Shelf {
 
     ghost view = { λ s. shelf_in s.slide s.words s.map };
 
-    ghost invariant = { λ s. IsHeld s.slide s.words s.map s.live s.mark };
+    ghost invariant = { λ s. IsHeld s.slide s.words s.map s.live s.mark s.hints.items };
 }
 
 impl Shelf {
@@ -46,6 +49,7 @@ impl Shelf {
         requires { IsLayout map }
         ensures { IfOk result (λ s. s ≡ record { entries = []; used = 0; inserted = 0; cycle = 0; add_failed = 0; head = no_head; layout = map; slide = None }) }
     {
+        let hints = no_hints(alloc, map)?;
         let mut words = VecWords::new(alloc, map.words())?;
         clear(&mut words, map);
         Ok(Shelf {
@@ -54,6 +58,7 @@ impl Shelf {
             live: 0,
             mark: Mark::start(map),
             slide: None,
+            hints,
         })
     }
 
@@ -107,7 +112,13 @@ impl Shelf {
         ensures limit { reply.new.limit ≡ reply.old.limit }
     {
         reply.clear();
-        let Some(at) = walk(&mut self.words, self.map, kind.number(), key) else {
+        let Some(at) = find(
+            &mut self.words,
+            self.map,
+            &mut self.hints,
+            kind.number(),
+            key,
+        ) else {
             return None;
         };
         let head = head_at(&mut self.words, at);
@@ -165,6 +176,8 @@ impl Shelf {
             chain(&mut self.words, self.map, at);
             self.words.set(LOADS, number + 1);
             self.live += 1;
+            let hash = hash(fixed.kind, key);
+            note(&mut self.words, &mut self.hints, hash, at);
         }
     }
 

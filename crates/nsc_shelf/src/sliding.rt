@@ -4,6 +4,7 @@ ghost use Rattle.nsc_model.specs.Machine.{all_words, last_count};
 ghost use Rattle.nsc_shelf.specs.Shelf.{IsBegun, IsSlid, slide_words};
 
 use crate::finding::Mark;
+use crate::hints::forget;
 use crate::shelf::Shelf;
 use nsc_arena::Words;
 use nsc_model::Spent;
@@ -66,5 +67,6 @@ impl Shelf {
         self.words.set(CYCLE, cycle + 1);
         self.mark = Mark::start(self.map);
         self.slide = None;
+        forget(&mut self.hints);
     }
 }

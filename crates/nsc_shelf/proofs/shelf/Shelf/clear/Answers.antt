@@ -9,6 +9,7 @@ use Rattle.nsc_shelf.proofs.States.{head_same, view_by, shelf_by}
 use Rattle.nsc_arena.specs.Changes.{all_ended, ended}
 use Rattle.nsc_shelf.proofs.Entries.{none_left}
 use Rattle.nsc_shelf.proofs.States.{changed_entries, ended_leaves, marked_still, same_end}
+use Rattle.nsc_shelf.proofs.Hinted.{hints_by, hints_changed}
 use Rattle.nsc_shelf.proofs.Still.{still, still_held, still_view, still_seen}
 use Rattle.nsc_shelf.proofs.shelf.Shelf.clear.Goals as goal
 
@@ -21,7 +22,7 @@ invariant_of-self c =
     let new = c.end_nodes.new.table in
     let laid = c.end_nodes.ensures.laid nodes shelf_is.laid in
     let e4 : slice_index new 4 ≡ slice_index w 4 = c.end_nodes.ensures.head 4 (omega arith) (omega arith) in
-    still_held c.self.view_is c.requires c.self.invariant (c.end_nodes.ensures.head 0 (omega arith) (omega arith)) (shelf_by new m (all_ended nodes) (slice_index w 4) 0 c.self.inside.mark shelf_is.sizes laid (changed_entries ended nodes (slice_index w 4) ended_leaves shelf_is.entries) e4 shelf_is.counted (ap length (sym (none_left nodes))) (marked_still ended m nodes c.self.inside.mark.place c.self.inside.mark.number ended_leaves shelf_is.marked))
+    still_held c.self.view_is c.requires c.self.invariant (c.end_nodes.ensures.head 0 (omega arith) (omega arith)) (shelf_by new m (all_ended nodes) (slice_index w 4) 0 c.self.inside.mark shelf_is.sizes laid (changed_entries ended nodes (slice_index w 4) ended_leaves shelf_is.entries) e4 shelf_is.counted (ap length (sym (none_left nodes))) (marked_still ended m nodes c.self.inside.mark.place c.self.inside.mark.number ended_leaves shelf_is.marked)) (λ h. hints_by c.self.inside.hints.items laid (hints_changed ended c.self.inside.hints.items nodes ended_leaves h))
 
 pub returns : goal.returns
 returns c =

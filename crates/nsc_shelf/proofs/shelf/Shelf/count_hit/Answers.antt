@@ -1,5 +1,6 @@
-use Rattle.std.proofs.Common.{◌≡◌, ◌∙◌, ◌+◌, ℕ, Bool, min, set, ap, sym}
+use Rattle.std.proofs.Common.{◌≡◌, ◌∙◌, ◌+◌, ℕ, Bool, min, set, ap, sym, subst}
 use Rattle.nsc_model.specs.Machine.{last_count}
+use Rattle.nsc_shelf.specs.Hints.{AreHints}
 use Rattle.nsc_shelf.specs.Shelf.{Shelf, head_in, hit_counted, shelf_of}
 use Rattle.nsc_shelf.proofs.HeadWords.{set_hits, set_negative_hits}
 use Rattle.nsc_shelf.proofs.Still.{still, still_held, still_seen, still_view}
@@ -10,14 +11,14 @@ invariant_of-self c =
     let s = c.self.inside in
     let count = c.next_count.ensures ∙ ap (λ (n : ℕ). min (n + 1) last_count) c.word-count.ensures in
     let is = set_negative_hits s.words c.set.new.self s.map s.live s.mark (min ((head_in s.words).negative_hits + 1) last_count) (c.set.ensures.set ∙ ap (set s.words 6) count) (still c.self.view_is c.requires c.self.invariant) in
-    still_held c.self.view_is c.requires c.self.invariant is.cycle is.shelf
+    still_held c.self.view_is c.requires c.self.invariant is.cycle is.shelf (subst (AreHints s.hints.items) is.nodes)
 
 pub invariant_of-self-else-not_found : goal.invariant_of-self-else-not_found
 invariant_of-self-else-not_found c =
     let s = c.self.inside in
     let count = c.next_count-else-not_found.ensures ∙ ap (λ (n : ℕ). min (n + 1) last_count) c.word-count-else-not_found.ensures in
     let is = set_hits s.words c.set-else-not_found.new.self s.map s.live s.mark (min ((head_in s.words).hits + 1) last_count) (c.set-else-not_found.ensures.set ∙ ap (set s.words 5) count) (still c.self.view_is c.requires c.self.invariant) in
-    still_held c.self.view_is c.requires c.self.invariant is.cycle is.shelf
+    still_held c.self.view_is c.requires c.self.invariant is.cycle is.shelf (subst (AreHints s.hints.items) is.nodes)
 
 pub returns-then-not_found : goal.returns-then-not_found
 returns-then-not_found c =

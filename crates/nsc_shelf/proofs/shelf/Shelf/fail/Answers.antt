@@ -7,6 +7,7 @@ use Rattle.nsc_model.specs.Machine.{last_count}
 use Rattle.nsc_shelf.specs.Shelf.{Shelf, entries_in, head_in, shelf_of}
 use Rattle.nsc_shelf.proofs.States.{head_same, view_by, shelf_by}
 use Rattle.nsc_arena.proofs.Rows.{set_head}
+use Rattle.nsc_shelf.proofs.Hinted.{hints_by}
 use Rattle.nsc_shelf.proofs.Still.{still, still_held, still_view, still_seen}
 use Rattle.nsc_shelf.proofs.shelf.Shelf.fail.Goals as goal
 
@@ -19,7 +20,7 @@ invariant_of-self c =
     let new : List ℕ = c.set.new.self in
     let laid = set_head w new m nodes 9 c.next_count.result (omega arith) (omega arith) c.set.ensures.set shelf_is.laid in
     let e4 : slice_index new 4 ≡ slice_index w 4 = ap (λ (ws : List ℕ). slice_index ws 4) c.set.ensures.set ∙ get_or-set_other w 9 4 c.next_count.result 0 (omega arith) in
-    still_held c.self.view_is c.requires c.self.invariant (ap (λ (ws : List ℕ). slice_index ws 0) c.set.ensures.set ∙ get_or-set_other w 9 0 c.next_count.result 0 (omega arith)) (shelf_by new m nodes (slice_index w 4) c.self.inside.live c.self.inside.mark shelf_is.sizes laid shelf_is.entries e4 shelf_is.counted shelf_is.live shelf_is.marked)
+    still_held c.self.view_is c.requires c.self.invariant (ap (λ (ws : List ℕ). slice_index ws 0) c.set.ensures.set ∙ get_or-set_other w 9 0 c.next_count.result 0 (omega arith)) (shelf_by new m nodes (slice_index w 4) c.self.inside.live c.self.inside.mark shelf_is.sizes laid shelf_is.entries e4 shelf_is.counted shelf_is.live shelf_is.marked) (hints_by c.self.inside.hints.items laid)
 
 pub returns : goal.returns
 returns c =

@@ -1,19 +1,18 @@
-use Rattle.std.proofs.Common.{List, sym, ap, ◌∙◌, ℕ, slice_index}
+use Rattle.std.proofs.Common.{List, sym, ap, ◌∙◌}
 use Rattle.nsc_words.specs.declared.layout.Layout.{Layout}
 use Rattle.nsc_words.specs.declared.node.Placed.{Placed}
 use Rattle.nsc_arena.specs.ReadBack.{nodes_in}
 use Rattle.nsc_shelf.specs.Shelf.{Shelf}
-use Rattle.nsc_shelf.proofs.Found.{remarked_by}
 use Rattle.nsc_shelf.specs.Shelf.{has_number}
 use Rattle.nsc_shelf.proofs.Found.{has_by, has_none}
-use Rattle.nsc_shelf.proofs.Still.{still, still_held, still_view}
+use Rattle.nsc_shelf.proofs.Still.{still, still_marked, still_view}
 use Rattle.nsc_shelf.proofs.shelf.Shelf.has.Goals as goal
 
 pub invariant_of-self : goal.invariant_of-self
-invariant_of-self c = still_held c.self.view_is c.requires c.self.invariant (ap (λ (ws : List ℕ). slice_index ws 0) c.find_from.ensures.same) (remarked_by c.self.inside.words c.find_from.new.words c.self.inside.map c.self.inside.live c.self.inside.mark c.find_from.new.mark c.find_from.ensures.same (still c.self.view_is c.requires c.self.invariant) c.find_from.ensures.marked)
+invariant_of-self c = still_marked c.self.view_is c.requires c.self.invariant c.find_from.ensures.same c.find_from.ensures.marked
 
 pub invariant_of-self-2 : goal.invariant_of-self-2
-invariant_of-self-2 c = still_held c.self.view_is c.requires c.self.invariant (ap (λ (ws : List ℕ). slice_index ws 0) c.find_from.ensures.same) (remarked_by c.self.inside.words c.find_from.new.words c.self.inside.map c.self.inside.live c.self.inside.mark c.find_from.new.mark c.find_from.ensures.same (still c.self.view_is c.requires c.self.invariant) c.find_from.ensures.marked)
+invariant_of-self-2 c = still_marked c.self.view_is c.requires c.self.invariant c.find_from.ensures.same c.find_from.ensures.marked
 
 pub returns-in_default-clause-has : goal.returns-in_default-clause-has
 returns-in_default-clause-has c =

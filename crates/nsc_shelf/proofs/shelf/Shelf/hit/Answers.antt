@@ -5,7 +5,7 @@ use Rattle.nsc_words.specs.Laid.{Laid, Stands, answers, end_of}
 use Rattle.nsc_words.specs.Layout.{arena_start}
 use Rattle.nsc_arena.specs.ReadBack.{nodes_in}
 use Rattle.nsc_model.specs.Machine.{Kept}
-use Rattle.nsc_shelf.specs.Shelf.{Shelf, entries_in, head_in, kept_in, shelf_of}
+use Rattle.nsc_shelf.specs.Shelf.{IsShelf, Shelf, entries_in, head_in, kept_in, shelf_of}
 use Rattle.nsc_shelf.proofs.States.{head_same, view_by, shelf_by}
 use Rattle.nsc_base.specs.Nodes.{words_for}
 use Rattle.nsc_base.specs.Buf.{Buf}
@@ -20,7 +20,10 @@ use Rattle.nsc_shelf.specs.declared.entry.Hit.{Hit}
 use Rattle.nsc_shelf.specs.Shelf.{Gives}
 use Rattle.nsc_shelf.proofs.States.{changed_entries, found_place, leaves_at, live_at, live_none, marked_still, missing_place, reloads_end, reloads_leaves, used_same}
 use Rattle.std.proofs.lemmas.List.{length-map}
-use Rattle.nsc_shelf.proofs.Still.{still, still_held, still_view, still_seen}
+use Rattle.std.proofs.lemmas.List.{with_items_is}
+use Rattle.nsc_shelf.specs.Hints.{AreHints, IsAlone}
+use Rattle.nsc_shelf.proofs.Hinted.{alone_in, hints_by, hints_changed_at}
+use Rattle.nsc_shelf.proofs.Still.{still, still_held, still_hinted, still_view, still_seen}
 use Rattle.nsc_shelf.proofs.shelf.Shelf.hit.Goals as goal
 
 pub head_at-head-requires-clause-inside : goal.head_at-head-requires-clause-inside
@@ -31,14 +34,16 @@ head_at-head-requires-clause-inside c =
     let nodes : List Placed = nodes_in w m in
     let kind = c.args.kind in
     let key : List ℕ = c.args.key.now in
+    let hinted : AreHints c.deref_mut.result.now nodes = subst (λ (hs : List ℕ). AreHints hs nodes) (sym c.deref_mut.ensures.value) (still_hinted c.self.view_is c.requires.still c.self.invariant) in
+    let alone : IsAlone c.number.result key nodes = subst (λ (k : ℕ). IsAlone k key nodes) (sym c.number.ensures) (alone_in nodes (slice_index w 4) kind key shelf_is.entries shelf_is.laid.rising) in
     let at = c.in-Some.at in
-    let n = found_place (answers c.number.result key) nodes at (sym (c.in-Some.ensures.newest nodes shelf_is.laid)) in
+    let n = found_place (answers c.number.result key) nodes at (sym (c.in-Some.ensures.newest nodes shelf_is.laid hinted alone)) in
     let answered : answers (type_number kind) key n.0 ≡ true = ap (λ (k : ℕ). answers k key n.0) (sym c.number.ensures) ∙ n.3 in
-    let walked : c.walk.new.table ≡ w = c.walk.ensures.same in
+    let walked : c.find.new.words ≡ w = c.find.ensures.same in
     let here = inside w m nodes n.0 shelf_is.sizes shelf_is.laid n.1 in
     let place = n.2 in
     let fits = here.1 in
-    let same : length c.walk.new.table ≡ length w = ap length walked in
+    let same : length c.find.new.words ≡ length w = ap length walked in
     omega arith
 
 pub overflow_add-text : goal.overflow_add-text
@@ -49,10 +54,12 @@ overflow_add-text c =
     let nodes : List Placed = nodes_in w m in
     let kind = c.args.kind in
     let key : List ℕ = c.args.key.now in
+    let hinted : AreHints c.deref_mut.result.now nodes = subst (λ (hs : List ℕ). AreHints hs nodes) (sym c.deref_mut.ensures.value) (still_hinted c.self.view_is c.requires.still c.self.invariant) in
+    let alone : IsAlone c.number.result key nodes = subst (λ (k : ℕ). IsAlone k key nodes) (sym c.number.ensures) (alone_in nodes (slice_index w 4) kind key shelf_is.entries shelf_is.laid.rising) in
     let at = c.in-Some.at in
-    let n = found_place (answers c.number.result key) nodes at (sym (c.in-Some.ensures.newest nodes shelf_is.laid)) in
+    let n = found_place (answers c.number.result key) nodes at (sym (c.in-Some.ensures.newest nodes shelf_is.laid hinted alone)) in
     let answered : answers (type_number kind) key n.0 ≡ true = ap (λ (k : ℕ). answers k key n.0) (sym c.number.ensures) ∙ n.3 in
-    let walked : c.walk.new.table ≡ w = c.walk.ensures.same in
+    let walked : c.find.new.words ≡ w = c.find.ensures.same in
     let stands = subst (λ (ws : List ℕ). Stands ws n.0) (sym walked) (shelf_is.laid.stands n.0 n.1) in
     let head = c.head_at-head.ensures.head n.0 stands n.2 in
     let key_len : c.head_at-head.result.key_len ≡ length n.0.node.key = ap (λ (h : Head). h.key_len) head in
@@ -74,10 +81,12 @@ overflow_add-text-2 c =
     let nodes : List Placed = nodes_in w m in
     let kind = c.args.kind in
     let key : List ℕ = c.args.key.now in
+    let hinted : AreHints c.deref_mut.result.now nodes = subst (λ (hs : List ℕ). AreHints hs nodes) (sym c.deref_mut.ensures.value) (still_hinted c.self.view_is c.requires.still c.self.invariant) in
+    let alone : IsAlone c.number.result key nodes = subst (λ (k : ℕ). IsAlone k key nodes) (sym c.number.ensures) (alone_in nodes (slice_index w 4) kind key shelf_is.entries shelf_is.laid.rising) in
     let at = c.in-Some.at in
-    let n = found_place (answers c.number.result key) nodes at (sym (c.in-Some.ensures.newest nodes shelf_is.laid)) in
+    let n = found_place (answers c.number.result key) nodes at (sym (c.in-Some.ensures.newest nodes shelf_is.laid hinted alone)) in
     let answered : answers (type_number kind) key n.0 ≡ true = ap (λ (k : ℕ). answers k key n.0) (sym c.number.ensures) ∙ n.3 in
-    let walked : c.walk.new.table ≡ w = c.walk.ensures.same in
+    let walked : c.find.new.words ≡ w = c.find.ensures.same in
     let stands = subst (λ (ws : List ℕ). Stands ws n.0) (sym walked) (shelf_is.laid.stands n.0 n.1) in
     let head = c.head_at-head.ensures.head n.0 stands n.2 in
     let key_len : c.head_at-head.result.key_len ≡ length n.0.node.key = ap (λ (h : Head). h.key_len) head in
@@ -100,10 +109,12 @@ read_bytes-requires-clause-inside c =
     let nodes : List Placed = nodes_in w m in
     let kind = c.args.kind in
     let key : List ℕ = c.args.key.now in
+    let hinted : AreHints c.deref_mut.result.now nodes = subst (λ (hs : List ℕ). AreHints hs nodes) (sym c.deref_mut.ensures.value) (still_hinted c.self.view_is c.requires.still c.self.invariant) in
+    let alone : IsAlone c.number.result key nodes = subst (λ (k : ℕ). IsAlone k key nodes) (sym c.number.ensures) (alone_in nodes (slice_index w 4) kind key shelf_is.entries shelf_is.laid.rising) in
     let at = c.in-Some.at in
-    let n = found_place (answers c.number.result key) nodes at (sym (c.in-Some.ensures.newest nodes shelf_is.laid)) in
+    let n = found_place (answers c.number.result key) nodes at (sym (c.in-Some.ensures.newest nodes shelf_is.laid hinted alone)) in
     let answered : answers (type_number kind) key n.0 ≡ true = ap (λ (k : ℕ). answers k key n.0) (sym c.number.ensures) ∙ n.3 in
-    let walked : c.walk.new.table ≡ w = c.walk.ensures.same in
+    let walked : c.find.new.words ≡ w = c.find.ensures.same in
     let stands = subst (λ (ws : List ℕ). Stands ws n.0) (sym walked) (shelf_is.laid.stands n.0 n.1) in
     let head = c.head_at-head.ensures.head n.0 stands n.2 in
     let key_len : c.head_at-head.result.key_len ≡ length n.0.node.key = ap (λ (h : Head). h.key_len) head in
@@ -127,10 +138,12 @@ read_bytes-requires-clause-room c =
     let nodes : List Placed = nodes_in w m in
     let kind = c.args.kind in
     let key : List ℕ = c.args.key.now in
+    let hinted : AreHints c.deref_mut.result.now nodes = subst (λ (hs : List ℕ). AreHints hs nodes) (sym c.deref_mut.ensures.value) (still_hinted c.self.view_is c.requires.still c.self.invariant) in
+    let alone : IsAlone c.number.result key nodes = subst (λ (k : ℕ). IsAlone k key nodes) (sym c.number.ensures) (alone_in nodes (slice_index w 4) kind key shelf_is.entries shelf_is.laid.rising) in
     let at = c.in-Some.at in
-    let n = found_place (answers c.number.result key) nodes at (sym (c.in-Some.ensures.newest nodes shelf_is.laid)) in
+    let n = found_place (answers c.number.result key) nodes at (sym (c.in-Some.ensures.newest nodes shelf_is.laid hinted alone)) in
     let answered : answers (type_number kind) key n.0 ≡ true = ap (λ (k : ℕ). answers k key n.0) (sym c.number.ensures) ∙ n.3 in
-    let walked : c.walk.new.table ≡ w = c.walk.ensures.same in
+    let walked : c.find.new.words ≡ w = c.find.ensures.same in
     let stands = subst (λ (ws : List ℕ). Stands ws n.0) (sym walked) (shelf_is.laid.stands n.0 n.1) in
     let head = c.head_at-head.ensures.head n.0 stands n.2 in
     let key_len : c.head_at-head.result.key_len ≡ length n.0.node.key = ap (λ (h : Head). h.key_len) head in
@@ -156,10 +169,12 @@ set_reloads-requires-clause-node c =
     let nodes : List Placed = nodes_in w m in
     let kind = c.args.kind in
     let key : List ℕ = c.args.key.now in
+    let hinted : AreHints c.deref_mut.result.now nodes = subst (λ (hs : List ℕ). AreHints hs nodes) (sym c.deref_mut.ensures.value) (still_hinted c.self.view_is c.requires.still c.self.invariant) in
+    let alone : IsAlone c.number.result key nodes = subst (λ (k : ℕ). IsAlone k key nodes) (sym c.number.ensures) (alone_in nodes (slice_index w 4) kind key shelf_is.entries shelf_is.laid.rising) in
     let at = c.in-Some.at in
-    let n = found_place (answers c.number.result key) nodes at (sym (c.in-Some.ensures.newest nodes shelf_is.laid)) in
+    let n = found_place (answers c.number.result key) nodes at (sym (c.in-Some.ensures.newest nodes shelf_is.laid hinted alone)) in
     let answered : answers (type_number kind) key n.0 ≡ true = ap (λ (k : ℕ). answers k key n.0) (sym c.number.ensures) ∙ n.3 in
-    let walked : c.walk.new.table ≡ w = c.walk.ensures.same in
+    let walked : c.find.new.words ≡ w = c.find.ensures.same in
     let stands = subst (λ (ws : List ℕ). Stands ws n.0) (sym walked) (shelf_is.laid.stands n.0 n.1) in
     let head = c.head_at-head.ensures.head n.0 stands n.2 in
     let key_len : c.head_at-head.result.key_len ≡ length n.0.node.key = ap (λ (h : Head). h.key_len) head in
@@ -182,7 +197,9 @@ returns-in_default-clause-gives c =
     let nodes : List Placed = nodes_in w m in
     let kind = c.args.kind in
     let key : List ℕ = c.args.key.now in
-    let none = missing_place (answers c.number.result key) nodes (sym (c.in_default.ensures.newest nodes shelf_is.laid)) in
+    let hinted : AreHints c.deref_mut.result.now nodes = subst (λ (hs : List ℕ). AreHints hs nodes) (sym c.deref_mut.ensures.value) (still_hinted c.self.view_is c.requires.still c.self.invariant) in
+    let alone : IsAlone c.number.result key nodes = subst (λ (k : ℕ). IsAlone k key nodes) (sym c.number.ensures) (alone_in nodes (slice_index w 4) kind key shelf_is.entries shelf_is.laid.rising) in
+    let none = missing_place (answers c.number.result key) nodes (sym (c.in_default.ensures.newest nodes shelf_is.laid hinted alone)) in
     let live = live_none nodes (slice_index w 4) kind key shelf_is.entries (λ p among. ap (λ (k : ℕ). answers k key p) (sym c.number.ensures) ∙ none p among) in
     let content : List ℕ = c.clear.new.self.content in
     let r : Request = record { kind = kind; key = key } in
@@ -190,6 +207,17 @@ returns-in_default-clause-gives c =
     let here : P None = refl in
     let Q : Shelf → Type 0 = λ s. Gives (live_entry r s.entries) None content in
     subst Q (still_view c.self.inside.slide c.self.inside.words c.self.inside.map c.self.view_is c.requires.still) (subst P (sym live) here)
+
+pub invariant_of-self : goal.invariant_of-self
+invariant_of-self c =
+    let shelf_is = still c.self.view_is c.requires.still c.self.invariant in
+    let m : Layout = c.self.inside.map in
+    let nodes : List Placed = nodes_in c.self.inside.words m in
+    let hinted : AreHints c.deref_mut.result.now nodes = subst (λ (hs : List ℕ). AreHints hs nodes) (sym c.deref_mut.ensures.value) (still_hinted c.self.view_is c.requires.still c.self.invariant) in
+    let size : length c.find.new.hints ≡ c.self.inside.hints.len = omega (arith, c.deref_mut.ensures.len, c.self.inside.hints.ok.0) in
+    let same = sym c.find.ensures.same in
+    still_held c.self.view_is c.requires.still c.self.invariant (ap (λ (ws : List ℕ). slice_index ws 0) c.find.ensures.same) (subst (λ (ws : List ℕ). IsShelf ws m c.self.inside.live c.self.inside.mark) same shelf_is)
+    (λ h. subst (λ (hs : List ℕ). AreHints hs (nodes_in c.find.new.words m)) (sym (with_items_is c.self.inside.hints c.find.new.hints size)) (subst (λ (ws : List ℕ). AreHints c.find.new.hints (nodes_in ws m)) same (c.find.ensures.hinted nodes shelf_is.laid hinted)))
 
 pub invariant_of-self-2 : goal.invariant_of-self-2
 invariant_of-self-2 c =
@@ -199,10 +227,12 @@ invariant_of-self-2 c =
     let nodes : List Placed = nodes_in w m in
     let kind = c.args.kind in
     let key : List ℕ = c.args.key.now in
+    let hinted : AreHints c.deref_mut.result.now nodes = subst (λ (hs : List ℕ). AreHints hs nodes) (sym c.deref_mut.ensures.value) (still_hinted c.self.view_is c.requires.still c.self.invariant) in
+    let alone : IsAlone c.number.result key nodes = subst (λ (k : ℕ). IsAlone k key nodes) (sym c.number.ensures) (alone_in nodes (slice_index w 4) kind key shelf_is.entries shelf_is.laid.rising) in
     let at = c.in-Some.at in
-    let n = found_place (answers c.number.result key) nodes at (sym (c.in-Some.ensures.newest nodes shelf_is.laid)) in
+    let n = found_place (answers c.number.result key) nodes at (sym (c.in-Some.ensures.newest nodes shelf_is.laid hinted alone)) in
     let answered : answers (type_number kind) key n.0 ≡ true = ap (λ (k : ℕ). answers k key n.0) (sym c.number.ensures) ∙ n.3 in
-    let walked : c.walk.new.table ≡ w = c.walk.ensures.same in
+    let walked : c.find.new.words ≡ w = c.find.ensures.same in
     let stands = subst (λ (ws : List ℕ). Stands ws n.0) (sym walked) (shelf_is.laid.stands n.0 n.1) in
     let head = c.head_at-head.ensures.head n.0 stands n.2 in
     let key_len : c.head_at-head.result.key_len ≡ length n.0.node.key = ap (λ (h : Head). h.key_len) head in
@@ -218,9 +248,10 @@ invariant_of-self-2 c =
     let laid = c.set_reloads.ensures.laid nodes n.0 (subst (λ (ws : List ℕ). Laid ws m nodes) (sym same) shelf_is.laid) n.1 n.2 in
     let e4 : slice_index c.set_reloads.new.table 4 ≡ slice_index w 4 = c.set_reloads.ensures.head 4 (omega arith) (omega arith) ∙ ap (λ (ws : List ℕ). slice_index ws 4) same in
     let used = used_same w m nodes (slice_index w 4) kind key n.0 at shelf_is.laid shelf_is.entries n.1 n.2 answered in
+    let size : length c.find.new.hints ≡ c.self.inside.hints.len = omega (arith, c.deref_mut.ensures.len, c.self.inside.hints.ok.0) in
     let r : Request = record { kind = kind; key = key } in
     let count : c.self.inside.live ≡ length (entries_in (changed_at at (with_reloads 0) nodes)) = shelf_is.live ∙ sym (ap length used ∙ length-map (entries_in nodes) (used_by r)) in
-    still_held c.self.view_is c.requires.still c.self.invariant (c.set_reloads.ensures.head 0 (omega arith) (omega arith) ∙ ap (λ (ws : List ℕ). slice_index ws 0) same) (shelf_by c.set_reloads.new.table m (changed_at at (with_reloads 0) nodes) (slice_index w 4) c.self.inside.live c.self.inside.mark shelf_is.sizes laid (changed_entries _ nodes (slice_index w 4) (leaves_at at (with_reloads 0) (reloads_leaves 0)) shelf_is.entries) e4 shelf_is.counted count (marked_still _ m nodes c.self.inside.mark.place c.self.inside.mark.number (leaves_at at (with_reloads 0) (reloads_leaves 0)) shelf_is.marked))
+    still_held c.self.view_is c.requires.still c.self.invariant (c.set_reloads.ensures.head 0 (omega arith) (omega arith) ∙ ap (λ (ws : List ℕ). slice_index ws 0) same) (shelf_by c.set_reloads.new.table m (changed_at at (with_reloads 0) nodes) (slice_index w 4) c.self.inside.live c.self.inside.mark shelf_is.sizes laid (changed_entries _ nodes (slice_index w 4) (leaves_at at (with_reloads 0) (reloads_leaves 0)) shelf_is.entries) e4 shelf_is.counted count (marked_still _ m nodes c.self.inside.mark.place c.self.inside.mark.number (leaves_at at (with_reloads 0) (reloads_leaves 0)) shelf_is.marked)) (λ h. subst (λ (hs : List ℕ). AreHints hs (nodes_in c.set_reloads.new.table m)) (sym (with_items_is c.self.inside.hints c.find.new.hints size)) (hints_by c.find.new.hints laid (hints_changed_at at (with_reloads 0) c.find.new.hints nodes (reloads_leaves 0) (c.find.ensures.hinted nodes shelf_is.laid hinted))))
 
 pub returns-clause-gives : goal.returns-clause-gives
 returns-clause-gives c =
@@ -230,10 +261,12 @@ returns-clause-gives c =
     let nodes : List Placed = nodes_in w m in
     let kind = c.args.kind in
     let key : List ℕ = c.args.key.now in
+    let hinted : AreHints c.deref_mut.result.now nodes = subst (λ (hs : List ℕ). AreHints hs nodes) (sym c.deref_mut.ensures.value) (still_hinted c.self.view_is c.requires.still c.self.invariant) in
+    let alone : IsAlone c.number.result key nodes = subst (λ (k : ℕ). IsAlone k key nodes) (sym c.number.ensures) (alone_in nodes (slice_index w 4) kind key shelf_is.entries shelf_is.laid.rising) in
     let at = c.in-Some.at in
-    let n = found_place (answers c.number.result key) nodes at (sym (c.in-Some.ensures.newest nodes shelf_is.laid)) in
+    let n = found_place (answers c.number.result key) nodes at (sym (c.in-Some.ensures.newest nodes shelf_is.laid hinted alone)) in
     let answered : answers (type_number kind) key n.0 ≡ true = ap (λ (k : ℕ). answers k key n.0) (sym c.number.ensures) ∙ n.3 in
-    let walked : c.walk.new.table ≡ w = c.walk.ensures.same in
+    let walked : c.find.new.words ≡ w = c.find.ensures.same in
     let stands = subst (λ (ws : List ℕ). Stands ws n.0) (sym walked) (shelf_is.laid.stands n.0 n.1) in
     let head = c.head_at-head.ensures.head n.0 stands n.2 in
     let key_len : c.head_at-head.result.key_len ≡ length n.0.node.key = ap (λ (h : Head). h.key_len) head in
@@ -269,10 +302,12 @@ returns-clause-used c =
     let nodes : List Placed = nodes_in w m in
     let kind = c.args.kind in
     let key : List ℕ = c.args.key.now in
+    let hinted : AreHints c.deref_mut.result.now nodes = subst (λ (hs : List ℕ). AreHints hs nodes) (sym c.deref_mut.ensures.value) (still_hinted c.self.view_is c.requires.still c.self.invariant) in
+    let alone : IsAlone c.number.result key nodes = subst (λ (k : ℕ). IsAlone k key nodes) (sym c.number.ensures) (alone_in nodes (slice_index w 4) kind key shelf_is.entries shelf_is.laid.rising) in
     let at = c.in-Some.at in
-    let n = found_place (answers c.number.result key) nodes at (sym (c.in-Some.ensures.newest nodes shelf_is.laid)) in
+    let n = found_place (answers c.number.result key) nodes at (sym (c.in-Some.ensures.newest nodes shelf_is.laid hinted alone)) in
     let answered : answers (type_number kind) key n.0 ≡ true = ap (λ (k : ℕ). answers k key n.0) (sym c.number.ensures) ∙ n.3 in
-    let walked : c.walk.new.table ≡ w = c.walk.ensures.same in
+    let walked : c.find.new.words ≡ w = c.find.ensures.same in
     let stands = subst (λ (ws : List ℕ). Stands ws n.0) (sym walked) (shelf_is.laid.stands n.0 n.1) in
     let head = c.head_at-head.ensures.head n.0 stands n.2 in
     let key_len : c.head_at-head.result.key_len ≡ length n.0.node.key = ap (λ (h : Head). h.key_len) head in

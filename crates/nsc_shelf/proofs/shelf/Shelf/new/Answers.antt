@@ -1,8 +1,9 @@
-use Rattle.std.proofs.Common.{◌≡◌, ◌≢◌, ℕ, ◌-◌, ◌%◌, ◌<◌, None, List, [], replicate, slice_index, refl, ap, ◌∙◌, arith}
+use Rattle.std.proofs.Common.{◌≡◌, ◌≢◌, ℕ, ◌-◌, ◌/◌, ◌%◌, ◌<◌, None, List, [], replicate, slice_index, refl, ap, ◌∙◌, arith}
 use Rattle.nsc_words.specs.declared.layout.Layout.{Layout}
 use Rattle.nsc_words.specs.Laid.{Laid}
 use Rattle.nsc_words.specs.Layout.{arena_start}
 use Rattle.nsc_shelf.specs.Shelf.{AreEntries, head_in, no_head}
+use Rattle.nsc_shelf.proofs.Hinted.{hints_by, no_hints_in}
 use Rattle.nsc_shelf.proofs.States.{view_by, shelf_by}
 use Rattle.std.proofs.lemmas.List.{get_or-replicate}
 use Rattle.nsc_arena.proofs.Passed.{mark_at_start}
@@ -27,6 +28,7 @@ invariant_of-result c =
       even = ap (λ (n : ℕ). n % 2) e0;
       cycles = omega arith;
       head = tt;
+      hinted = hints_by c.in_ok-hints.hints.items laid (no_hints_in c.in_ok-hints.hints.items (c.args.map.arena / 8) c.in_ok-hints.ensures (let size = c.requires.some_room in omega arith));
     }
 
 pub returns : goal.returns

@@ -1,4 +1,4 @@
-use Rattle.std.proofs.Common.{◌≡◌, ◌+◌, List, Option, Some, None, refl, sym, ap, subst, ◌∙◌, arith, ℕ, slice_index}
+use Rattle.std.proofs.Common.{◌≡◌, ◌+◌, List, Option, Some, None, refl, sym, ap, subst, ◌∙◌, arith}
 use Rattle.nsc_words.specs.declared.layout.Layout.{Layout}
 use Rattle.nsc_words.specs.declared.node.Placed.{Placed}
 use Rattle.nsc_arena.specs.ReadBack.{nodes_in}
@@ -8,8 +8,8 @@ use Rattle.nsc_model.specs.Machine.{Kept}
 use Rattle.nsc_shelf.specs.declared.entry.EntryAt.{EntryAt}
 use Rattle.nsc_shelf.specs.declared.finding.Found.{Found}
 use Rattle.nsc_shelf.specs.Shelf.{IsTold, Shelf, entry_from, kept_in, kind_of}
-use Rattle.nsc_shelf.proofs.Found.{found_entry, found_none, remarked_by}
-use Rattle.nsc_shelf.proofs.Still.{still, still_held, still_view}
+use Rattle.nsc_shelf.proofs.Found.{found_entry, found_none}
+use Rattle.nsc_shelf.proofs.Still.{still, still_marked, still_view}
 use Rattle.nsc_shelf.proofs.shelf.Shelf.next.Goals as goal
 
 pub returns-in_default-clause-told : goal.returns-in_default-clause-told
@@ -35,10 +35,10 @@ overflow_add-result c =
     omega arith
 
 pub invariant_of-self : goal.invariant_of-self
-invariant_of-self c = still_held c.self.view_is c.requires c.self.invariant (ap (λ (ws : List ℕ). slice_index ws 0) c.find_from.ensures.same) (remarked_by c.self.inside.words c.find_from.new.words c.self.inside.map c.self.inside.live c.self.inside.mark c.find_from.new.mark c.find_from.ensures.same (still c.self.view_is c.requires c.self.invariant) c.find_from.ensures.marked)
+invariant_of-self c = still_marked c.self.view_is c.requires c.self.invariant c.find_from.ensures.same c.find_from.ensures.marked
 
 pub invariant_of-self-2 : goal.invariant_of-self-2
-invariant_of-self-2 c = still_held c.self.view_is c.requires c.self.invariant (ap (λ (ws : List ℕ). slice_index ws 0) c.find_from.ensures.same) (remarked_by c.self.inside.words c.find_from.new.words c.self.inside.map c.self.inside.live c.self.inside.mark c.find_from.new.mark c.find_from.ensures.same (still c.self.view_is c.requires c.self.invariant) c.find_from.ensures.marked)
+invariant_of-self-2 c = still_marked c.self.view_is c.requires c.self.invariant c.find_from.ensures.same c.find_from.ensures.marked
 
 pub returns-clause-told : goal.returns-clause-told
 returns-clause-told c =

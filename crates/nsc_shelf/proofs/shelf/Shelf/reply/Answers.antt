@@ -1,4 +1,4 @@
-use Rattle.std.proofs.Common.{◌≡◌, ℕ, ◌+◌, ◌++◌, List, [], length, sym, ap, subst, ◌∙◌, arith, slice_index}
+use Rattle.std.proofs.Common.{◌≡◌, ℕ, ◌+◌, ◌++◌, List, [], length, sym, ap, subst, ◌∙◌, arith}
 use Rattle.nsc_base.specs.Buf.{Buf}
 use Rattle.nsc_base.specs.Nodes.{words_for}
 use Rattle.nsc_words.specs.declared.layout.Layout.{Layout}
@@ -7,8 +7,8 @@ use Rattle.nsc_words.specs.Words.{HoldsBytes}
 use Rattle.nsc_arena.specs.ReadBack.{nodes_in}
 use Rattle.nsc_shelf.specs.declared.finding.Found.{Found}
 use Rattle.nsc_shelf.specs.Shelf.{Shelf, entry_from, reply_or}
-use Rattle.nsc_shelf.proofs.Found.{found_entry, found_none, remarked_by, size_of, text_of}
-use Rattle.nsc_shelf.proofs.Still.{still, still_held, still_view}
+use Rattle.nsc_shelf.proofs.Found.{found_entry, found_none, size_of, text_of}
+use Rattle.nsc_shelf.proofs.Still.{still, still_marked, still_view}
 use Rattle.nsc_shelf.proofs.shelf.Shelf.reply.Goals as goal
 
 pub overflow_add-text : goal.overflow_add-text
@@ -77,10 +77,10 @@ pub read_bytes-requires-clause-size : goal.read_bytes-requires-clause-size
 read_bytes-requires-clause-size c = size_of c.self.inside.words c.find_from.new.words c.self.inside.map c.find_from.ensures.same (still c.self.view_is c.requires.still c.self.invariant).sizes (still c.self.view_is c.requires.still c.self.invariant).laid
 
 pub invariant_of-self : goal.invariant_of-self
-invariant_of-self c = still_held c.self.view_is c.requires.still c.self.invariant (ap (λ (ws : List ℕ). slice_index ws 0) (c.read_bytes.ensures.same ∙ c.find_from.ensures.same)) (remarked_by c.self.inside.words c.read_bytes.new.table c.self.inside.map c.self.inside.live c.self.inside.mark c.find_from.new.mark (c.read_bytes.ensures.same ∙ c.find_from.ensures.same) (still c.self.view_is c.requires.still c.self.invariant) c.find_from.ensures.marked)
+invariant_of-self c = still_marked c.self.view_is c.requires.still c.self.invariant (c.read_bytes.ensures.same ∙ c.find_from.ensures.same) c.find_from.ensures.marked
 
 pub invariant_of-self-in_default : goal.invariant_of-self-in_default
-invariant_of-self-in_default c = still_held c.self.view_is c.requires.still c.self.invariant (ap (λ (ws : List ℕ). slice_index ws 0) c.find_from.ensures.same) (remarked_by c.self.inside.words c.find_from.new.words c.self.inside.map c.self.inside.live c.self.inside.mark c.find_from.new.mark (c.find_from.ensures.same) (still c.self.view_is c.requires.still c.self.invariant) c.find_from.ensures.marked)
+invariant_of-self-in_default c = still_marked c.self.view_is c.requires.still c.self.invariant c.find_from.ensures.same c.find_from.ensures.marked
 
 pub returns-in-Some-clause-reply : goal.returns-in-Some-clause-reply
 returns-in-Some-clause-reply c =

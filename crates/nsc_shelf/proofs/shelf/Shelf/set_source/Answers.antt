@@ -1,4 +1,5 @@
-use Rattle.std.proofs.Common.{◌∙◌, ap}
+use Rattle.std.proofs.Common.{◌∙◌, ap, subst}
+use Rattle.nsc_shelf.specs.Hints.{AreHints}
 use Rattle.nsc_shelf.specs.Shelf.{Shelf}
 use Rattle.nsc_shelf.proofs.HeadWords.{set_source}
 use Rattle.nsc_shelf.proofs.Still.{still, still_held, still_seen, still_view}
@@ -8,7 +9,7 @@ pub invariant_of-self : goal.invariant_of-self
 invariant_of-self c =
     let s = c.self.inside in
     let is = set_source s.words c.set.new.self s.map s.live s.mark c.args.source c.set.ensures.set (still c.self.view_is c.requires c.self.invariant) in
-    still_held c.self.view_is c.requires c.self.invariant is.cycle is.shelf
+    still_held c.self.view_is c.requires c.self.invariant is.cycle is.shelf (subst (AreHints s.hints.items) is.nodes)
 
 pub returns : goal.returns
 returns c =

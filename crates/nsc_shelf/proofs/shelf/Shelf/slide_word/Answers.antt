@@ -7,4 +7,4 @@ pub invariant_of-self : goal.invariant_of-self
 invariant_of-self c =
     let s = c.self.inside in
     let low = subst (λ (v : Shelf). c.args.at < length (slide_words v.slide)) (sym c.self.view_is) c.requires.inside in
-    subst (λ (ws : List ℕ). IsHeld s.slide ws s.map s.live s.mark) (sym c.set.ensures.set) (word_held s.slide s.words s.map s.live s.mark c.args.at c.args.word c.self.invariant low c.requires.«open»)
+    subst (λ (ws : List ℕ). IsHeld s.slide ws s.map s.live s.mark s.hints.items) (sym c.set.ensures.set) (word_held s.slide s.words s.map s.live s.mark s.hints.items c.args.at c.args.word c.self.invariant low c.requires.«open»)

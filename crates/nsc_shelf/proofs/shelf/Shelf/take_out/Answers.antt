@@ -10,8 +10,8 @@ use Rattle.nsc_arena.specs.declared.reading.Head.{Head}
 use Rattle.nsc_arena.specs.Changes.{changed_at, ended}
 use Rattle.nsc_shelf.specs.Shelf.{others_than}
 use Rattle.nsc_shelf.proofs.States.{changed_entries, ended_leaves, leaves_at, marked_still, none_taken, taken_end, taken_less, taken_out}
-use Rattle.nsc_shelf.proofs.Found.{remarked}
-use Rattle.nsc_shelf.proofs.Still.{still, still_held, still_view, still_seen}
+use Rattle.nsc_shelf.proofs.Hinted.{hints_by, hints_changed_at}
+use Rattle.nsc_shelf.proofs.Still.{still, still_held, still_view, still_seen, still_marked}
 use Rattle.nsc_shelf.proofs.shelf.Shelf.take_out.Goals as goal
 
 pub overflow_sub-self : goal.overflow_sub-self
@@ -47,7 +47,7 @@ invariant_of-self-then-found-number c =
     let e4 : slice_index c.end_node.new.table 4 ≡ slice_index w 4 = c.end_node.ensures.head 4 (omega arith) (omega arith) ∙ ap (λ (ws : List ℕ). slice_index ws 4) c.find_from.ensures.same in
     let less = taken_less w m nodes n.0 at shelf_is.laid n.1 n.2 n.3 in
     let live = shelf_is.live in
-    still_held c.self.view_is c.requires c.self.invariant (c.end_node.ensures.head 0 (omega arith) (omega arith) ∙ ap (λ (ws : List ℕ). slice_index ws 0) c.find_from.ensures.same) (shelf_by c.end_node.new.table m (changed_at at ended nodes) (slice_index w 4) (c.self.inside.live - 1) c.find_from.new.mark shelf_is.sizes laid (changed_entries _ nodes (slice_index w 4) (leaves_at at ended ended_leaves) shelf_is.entries) e4 shelf_is.counted (omega arith) (marked_still _ m nodes c.find_from.new.mark.place c.find_from.new.mark.number (leaves_at at ended ended_leaves) (c.find_from.ensures.marked nodes shelf_is.laid shelf_is.marked)))
+    still_held c.self.view_is c.requires c.self.invariant (c.end_node.ensures.head 0 (omega arith) (omega arith) ∙ ap (λ (ws : List ℕ). slice_index ws 0) c.find_from.ensures.same) (shelf_by c.end_node.new.table m (changed_at at ended nodes) (slice_index w 4) (c.self.inside.live - 1) c.find_from.new.mark shelf_is.sizes laid (changed_entries _ nodes (slice_index w 4) (leaves_at at ended ended_leaves) shelf_is.entries) e4 shelf_is.counted (omega arith) (marked_still _ m nodes c.find_from.new.mark.place c.find_from.new.mark.number (leaves_at at ended ended_leaves) (c.find_from.ensures.marked nodes shelf_is.laid shelf_is.marked))) (λ h. hints_by c.self.inside.hints.items laid (hints_changed_at at ended c.self.inside.hints.items nodes ended_leaves h))
 
 pub returns-then-found-number : goal.returns-then-found-number
 returns-then-found-number c =
@@ -81,20 +81,10 @@ returns-in_default c =
     still_seen c.self.inside.slide c.self.inside.words c.self.inside.map c.find_from.new.words c.self.view_is c.requires (is ∙ ap (λ (s : Shelf). record s { entries = others_than c.args.number s.entries }) (still_view c.self.inside.slide c.self.inside.words c.self.inside.map c.self.view_is c.requires))
 
 pub invariant_of-self : goal.invariant_of-self
-invariant_of-self c =
-    let shelf_is = still c.self.view_is c.requires c.self.invariant in
-    let w = c.self.inside.words in
-    let m : Layout = c.self.inside.map in
-    let nodes : List Placed = nodes_in w m in
-    still_held c.self.view_is c.requires c.self.invariant (ap (λ (ws : List ℕ). slice_index ws 0) c.find_from.ensures.same) (remarked w c.find_from.new.words m c.self.inside.live c.self.inside.mark c.find_from.new.mark c.find_from.ensures.same shelf_is (c.find_from.ensures.marked nodes shelf_is.laid shelf_is.marked))
+invariant_of-self c = still_marked c.self.view_is c.requires c.self.invariant c.find_from.ensures.same c.find_from.ensures.marked
 
 pub invariant_of-self-else-found-number : goal.invariant_of-self-else-found-number
-invariant_of-self-else-found-number c =
-    let shelf_is = still c.self.view_is c.requires c.self.invariant in
-    let w = c.self.inside.words in
-    let m : Layout = c.self.inside.map in
-    let nodes : List Placed = nodes_in w m in
-    still_held c.self.view_is c.requires c.self.invariant (ap (λ (ws : List ℕ). slice_index ws 0) c.find_from.ensures.same) (remarked w c.find_from.new.words m c.self.inside.live c.self.inside.mark c.find_from.new.mark c.find_from.ensures.same shelf_is (c.find_from.ensures.marked nodes shelf_is.laid shelf_is.marked))
+invariant_of-self-else-found-number c = still_marked c.self.view_is c.requires c.self.invariant c.find_from.ensures.same c.find_from.ensures.marked
 
 pub returns-else-found-number : goal.returns-else-found-number
 returns-else-found-number c =

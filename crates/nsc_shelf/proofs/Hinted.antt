@@ -1,0 +1,100 @@
+-- Hints of nodes, as these are changed, and what they tell.
+use Rattle.std.proofs.Common.{◌≡◌, ◌≢◌, ℕ, ◌+◌, ◌<◌, ◌≤◌, ◌⊎◌, inl, inr, ⊎_elim, Bool, true, false, cond, List, [], ◌∷◌, length, map, find, replicate, slice_index, Some, refl, sym, ap, subst, ◌∙◌, arith}
+use Rattle.std.proofs.lemmas.Bool.{cases_eq, cases_lt}
+use Rattle.std.proofs.lemmas.List.{get_or-replicate, get_or_past, length-replicate}
+use Rattle.nsc_words.specs.declared.layout.Layout.{Layout}
+use Rattle.nsc_words.specs.declared.node.Placed.{Placed}
+use Rattle.nsc_words.specs.Laid.{Among, Laid, Rising, place_of}
+use Rattle.nsc_words.specs.Layout.{IsLayout}
+use Rattle.nsc_arena.specs.Changes.{changed_at}
+use Rattle.nsc_arena.specs.ReadBack.{nodes_in}
+use Rattle.nsc_arena.proofs.ReadBack.{read_back}
+use Rattle.nsc_arena.proofs.Rows.{inside}
+use Rattle.nsc_model.specs.declared.kind.Kind.{Kind}
+use Rattle.nsc_model.specs.declared.answer.Request.{Request}
+use Rattle.nsc_model.specs.Kinds.{is_request, type_number}
+use Rattle.nsc_shelf.specs.Hints.{AreHints, HasPlace, IsAlone}
+use Rattle.nsc_shelf.specs.Shelf.{AreEntries, request_in}
+use Rattle.nsc_shelf.proofs.States.{Leaves, asked, leaves_at, same_asked, same_number, usable_answers}
+
+-- ---- nodes change
+
+among_map : (f : Placed → Placed) (nodes : List Placed) (p : Placed) → Among p nodes → Among (f p) (map f nodes)
+among_map f [] p among = absurd among
+among_map f (q ∷ nodes) p (inl e) = inl (ap f e)
+among_map f (q ∷ nodes) p (inr m) = inr (among_map f nodes p m)
+
+-- the nodes that words hold are these
+pub hints_by : {words : List ℕ} {layout : Layout} {nodes : List Placed} (hints : List ℕ) → Laid words layout nodes → AreHints hints nodes → AreHints hints (nodes_in words layout)
+hints_by {words} {layout} {nodes} hints laid = subst (AreHints hints) (sym (read_back words layout nodes laid))
+
+-- hints that tell no place
+pub no_hints_in : {nodes : List Placed} (hints : List ℕ) (count : ℕ) → hints ≡ replicate count 0 → 2 ≤ count → AreHints hints nodes
+no_hints_in {nodes} hints count is some =
+    let size : length hints ≡ count = ap length is ∙ length-replicate count 0 in
+    record {
+      some = omega arith;
+      places = λ i told. absurd (told (ap (λ (hs : List ℕ). slice_index hs i) is ∙ zeros i));
+    }
+  where
+    zeros : (i : ℕ) → slice_index (replicate count 0) i ≡ 0
+    zeros i = ⊎_elim
+        (λ (less : i < count). get_or-replicate count i 0 0 less)
+        (λ (past : count ≤ i). get_or_past (replicate count 0) i 0 (omega (arith, length-replicate {A = ℕ} count 0)))
+        (cases_lt i count)
+
+-- a change leaves the places
+pub hints_changed : (f : Placed → Placed) (hints : List ℕ) (nodes : List Placed) → Leaves f → AreHints hints nodes → AreHints hints (map f nodes)
+hints_changed f hints nodes leaves are = record {
+  some = are.some;
+  places = λ i told. let w = are.places i told in (f w.0, among_map f nodes w.0 w.1, leaves.place w.0 ∙ w.2);
+}
+
+-- at one place
+pub hints_changed_at : (at : ℕ) (change : Placed → Placed) (hints : List ℕ) (nodes : List Placed) → Leaves change → AreHints hints nodes → AreHints hints (changed_at at change nodes)
+hints_changed_at at change hints nodes leaves = hints_changed _ hints nodes (leaves_at at change leaves)
+
+-- a newer node adds one
+pub hints_more : (hints : List ℕ) (nodes : List Placed) (p : Placed) → AreHints hints nodes → AreHints hints (p ∷ nodes)
+hints_more hints nodes p are = record {
+  some = are.some;
+  places = λ i told. let w = are.places i told in (w.0, inr w.1, w.2);
+}
+
+-- the place of a node is noted, or none
+pub hints_noted : (old new : List ℕ) (nodes : List Placed) (p : Placed) (place : ℕ) → AreHints old nodes → Among p nodes → p.place ≡ place → length new ≡ length old → ((i : ℕ) → (slice_index new i ≡ slice_index old i) ⊎ (slice_index new i ≡ place)) → AreHints new nodes
+hints_noted old new nodes p place are among is size each = record {
+  some = subst (λ (n : ℕ). 2 ≤ n) (sym size) are.some;
+  places = λ i told. ⊎_elim
+      (λ (e : slice_index new i ≡ slice_index old i). subst (HasPlace nodes) (sym e) (are.places i (λ zero. told (e ∙ zero))))
+      (λ (e : slice_index new i ≡ place). (p, among, is ∙ sym e))
+      (each i);
+}
+
+-- ---- what hints tell
+
+-- their places lie within the words
+pub hints_inside : (words : List ℕ) (layout : Layout) (hints : List ℕ) (nodes : List Placed) → IsLayout layout → Laid words layout nodes → AreHints hints nodes → (i : ℕ) → slice_index hints i + 8 ≤ length words
+hints_inside words layout hints nodes sizes laid are i = ⊎_elim
+    (λ (none : slice_index hints i ≡ 0). let table = laid.table in omega arith)
+    (λ (told : slice_index hints i ≢ 0). let w = are.places i told in let here = inside words layout nodes w.0 sizes laid w.1 in let fits = here.1 in let place = w.2 in omega arith)
+    (cases_eq (slice_index hints i) 0)
+
+-- the first of nodes that pass a test is the one that does
+pub only_place : (test : Placed → Bool) (nodes : List Placed) (p : Placed) → Among p nodes → test p ≡ true → ((q : Placed) → Among q nodes → test q ≡ true → q ≡ p) → place_of (find test nodes) ≡ Some p.place
+only_place test [] p among passes alone = absurd among
+only_place test (q ∷ older) p among passes alone = by (test q) refl among (λ m. only_place test older p m passes (λ r n. alone r (inr n))) where
+  by : (b : Bool) → test q ≡ b → Among p (q ∷ older) → (Among p older → place_of (find test older) ≡ Some p.place) → place_of (cond b (Some q) (find test older)) ≡ Some p.place
+  by true t m rest = ap (λ (r : Placed). Some r.place) (alone q (inl refl) t)
+  by false t (inl e) rest = absurd (let w : test p ≡ false = ap test e ∙ t in cc)
+  by false t (inr m) rest = rest m
+
+-- all usable nodes that answer a request are one
+pub alone_in : (nodes : List Placed) (inserted : ℕ) (kind : Kind) (key : List ℕ) → AreEntries nodes inserted → Rising nodes → IsAlone (type_number kind) key nodes
+alone_in nodes inserted kind key are rising p q a b u v =
+    let r : Request = record { kind = kind; key = key } in
+    let one : p.usable ≡ true = usable_answers (type_number kind) key p u in
+    let two : q.usable ≡ true = usable_answers (type_number kind) key q v in
+    let asks_p : is_request r (request_in p) ≡ true = sym (asked kind key p (are.kinds p a) one) ∙ u in
+    let asks_q : is_request r (request_in q) ≡ true = sym (asked kind key q (are.kinds q b) two) ∙ v in
+    same_number nodes p q rising a b (are.apart p q a b one two (same_asked r p q asks_p asks_q))
