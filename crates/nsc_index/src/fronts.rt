@@ -8,7 +8,8 @@ ghost use Rattle.nsc_base.specs.Decimal.{decimal_of};
 ghost use Rattle.nsc_index.specs.Fronts.{id_rows, is_colon, name_rows, raw_id, raw_mark};
 ghost use Rattle.nsc_index.specs.Numbers.{text_number};
 
-use crate::numbers::{NumberAt, number_with};
+use crate::colons::around_two_colons;
+use crate::numbers::{NumberAt, number_with, text_number};
 use nsc_base::{NoMemory, Span, trim_front};
 
 /// Adds a row for a line under the number of its name, and one under its id, where it spells one: another line has not the form. Fails
@@ -36,9 +37,24 @@ fn front_of(line: &[u8]) -> Option<(u32, u32)>
     ensures name { option_map (λ front. front.0) result ≡ raw_mark line.now }
     ensures id { option_map (λ front. front.1) result ≡ raw_id line.now }
 {
-    let (number, rest) = number_at_colon(trim_front(line));
-    let id = id_at_colon(after_colon(rest))?;
+    let (number, rest) = number_and_rest(trim_front(line));
+    let id = id_at_colon(rest)?;
     Some((number, id))
+}
+
+// The number that the bytes before the first colon give, and the bytes after the second. Both stand near the front of most lines, so
+// that one look finds them.
+fn number_and_rest(bytes: &[u8]) -> (u32, &[u8])
+    ensures number { result.0 ≡ text_number (before_first is_colon bytes.now) }
+    ensures rest { result.1.now ≡ after_first is_colon (after_first is_colon bytes.now) }
+{
+    match around_two_colons(bytes) {
+        Some((name, rest)) => (text_number(name), rest),
+        None => {
+            let (number, rest) = number_at_colon(bytes);
+            (number, after_colon(rest))
+        }
+    }
 }
 
 // The number that the bytes before the first colon give, and the bytes after it: all at one walk.

@@ -3,6 +3,7 @@
 #![tactic(auto)]
 
 mod chains;
+mod colons;
 mod compat;
 mod fronts;
 mod groups;

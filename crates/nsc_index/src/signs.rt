@@ -13,6 +13,7 @@ use nsc_base::{Case, NoMemory, Span, trim_front};
 use nsc_compat::sign_line;
 
 /// Adds the name on which a line speaks, where it has a sign. Fails only for want of memory.
+#[inline]
 pub fn add_sign(text: &[u8], line: Span, signs: &mut Vec<NameAt>) -> Result<(), NoMemory>
     requires inside { line.to ≤ length text.now }
     requires within { line.to < 2 ^ 32 }
@@ -24,7 +25,8 @@ pub fn add_sign(text: &[u8], line: Span, signs: &mut Vec<NameAt>) -> Result<(), 
     Ok(())
 }
 
-// The same of a line that has a sign, as few have.
+// The same of a line that has a sign, as few have: a call only for those.
+#[inline(never)]
 fn add_spoken(text: &[u8], line: Span, signs: &mut Vec<NameAt>) -> Result<(), NoMemory>
     requires inside { line.to ≤ length text.now }
     requires within { line.to < 2 ^ 32 }
@@ -37,6 +39,7 @@ fn add_spoken(text: &[u8], line: Span, signs: &mut Vec<NameAt>) -> Result<(), No
 }
 
 // Whether a line begins with a sign after the white space at its front: no other speaks by one.
+#[inline]
 fn has_sign(line: &[u8]) -> bool
     ensures { IsFalse result → None ≡ sign_name (says line.now) }
 {

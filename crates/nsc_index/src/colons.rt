@@ -1,0 +1,60 @@
+//! The first two colons of a text, found by one look at its first bytes.
+
+ghost use Rattle.std.specs.Prelude.{◌≡◌, ◌≢◌, ◌<◌, ◌≤◌, IfSome, length};
+ghost use Rattle.std.specs.List.{after_first, before_first};
+ghost use Rattle.nsc_index.specs.Colons.{IsLowest, IsWithout, MarksColons};
+ghost use Rattle.nsc_index.specs.Fronts.{is_colon};
+
+use std::simd::prelude::*;
+
+/// The bytes before the first colon of a text, and those after the second. `None` where its first thirty-two bytes have not two, or
+/// where it has fewer bytes than that.
+#[inline(always)]
+pub fn around_two_colons(bytes: &[u8]) -> Option<(&[u8], &[u8])>
+    ensures before { IfSome result (λ found. found.0.now ≡ before_first is_colon bytes.now) }
+    ensures after { IfSome result (λ found. found.1.now ≡ after_first is_colon (after_first is_colon bytes.now)) }
+{
+    if bytes.len() < 32 {
+        return None;
+    }
+    let colons = colon_bits(bytes);
+    if colons == 0 {
+        return None;
+    }
+    let first = lowest(colons);
+    let others = without(colons, first);
+    if others == 0 {
+        return None;
+    }
+    let second = lowest(others);
+    Some((&bytes[..first], &bytes[second + 1..]))
+}
+
+// A bit for each of the first thirty-two bytes, set where it is a colon.
+#[inline(always)]
+fn colon_bits(bytes: &[u8]) -> u64
+    requires { 32 ≤ length bytes.now }
+    ensures { MarksColons bytes.now result }
+{
+    u8x32::from_slice(bytes)
+        .simd_eq(u8x32::splat(b':'))
+        .to_bitmask()
+}
+
+// The lowest place at which a bit is set.
+#[inline(always)]
+fn lowest(bits: u64) -> usize
+    requires { bits ≢ 0 }
+    ensures { IsLowest bits result }
+{
+    bits.trailing_zeros() as usize
+}
+
+// The same bits but for one, which is not set.
+#[inline(always)]
+fn without(bits: u64, place: usize) -> u64
+    requires { place < 64 }
+    ensures { IsWithout bits place result }
+{
+    bits & !(1 << place)
+}
