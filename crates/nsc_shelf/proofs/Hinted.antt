@@ -13,7 +13,7 @@ use Rattle.nsc_arena.proofs.Rows.{inside}
 use Rattle.nsc_model.specs.declared.kind.Kind.{Kind}
 use Rattle.nsc_model.specs.declared.answer.Request.{Request}
 use Rattle.nsc_model.specs.Kinds.{is_request, type_number}
-use Rattle.nsc_shelf.specs.Hints.{AreHints, HasPlace, IsAlone}
+use Rattle.nsc_shelf.specs.Hints.{AreHints, HasPlace, IsAlone, told_place}
 use Rattle.nsc_shelf.specs.Shelf.{AreEntries, request_in}
 use Rattle.nsc_shelf.proofs.States.{Leaves, asked, leaves_at, same_asked, same_number, usable_answers}
 
@@ -25,12 +25,12 @@ among_map f (q ∷ nodes) p (inl e) = inl (ap f e)
 among_map f (q ∷ nodes) p (inr m) = inr (among_map f nodes p m)
 
 -- the nodes that words hold are these
-pub hints_by : {words : List ℕ} {layout : Layout} {nodes : List Placed} (hints : List ℕ) → Laid words layout nodes → AreHints hints nodes → AreHints hints (nodes_in words layout)
-hints_by {words} {layout} {nodes} hints laid = subst (AreHints hints) (sym (read_back words layout nodes laid))
+pub hints_by : {words : List ℕ} {layout : Layout} {nodes : List Placed} (hints : List ℕ) → Laid words layout nodes → AreHints hints layout nodes → AreHints hints layout (nodes_in words layout)
+hints_by {words} {layout} {nodes} hints laid = subst (AreHints hints layout) (sym (read_back words layout nodes laid))
 
 -- hints that tell no place
-pub no_hints_in : {nodes : List Placed} (hints : List ℕ) (count : ℕ) → hints ≡ replicate count 0 → 2 ≤ count → AreHints hints nodes
-no_hints_in {nodes} hints count is some =
+pub no_hints_in : {layout : Layout} {nodes : List Placed} (hints : List ℕ) (count : ℕ) → hints ≡ replicate count 0 → 4 ≤ count → AreHints hints layout nodes
+no_hints_in {layout} {nodes} hints count is some =
     let size : length hints ≡ count = ap length is ∙ length-replicate count 0 in
     record {
       some = omega arith;
@@ -44,39 +44,39 @@ no_hints_in {nodes} hints count is some =
         (cases_lt i count)
 
 -- a change leaves the places
-pub hints_changed : (f : Placed → Placed) (hints : List ℕ) (nodes : List Placed) → Leaves f → AreHints hints nodes → AreHints hints (map f nodes)
-hints_changed f hints nodes leaves are = record {
+pub hints_changed : (f : Placed → Placed) {layout : Layout} (hints : List ℕ) (nodes : List Placed) → Leaves f → AreHints hints layout nodes → AreHints hints layout (map f nodes)
+hints_changed f {layout} hints nodes leaves are = record {
   some = are.some;
   places = λ i told. let w = are.places i told in (f w.0, among_map f nodes w.0 w.1, leaves.place w.0 ∙ w.2);
 }
 
 -- at one place
-pub hints_changed_at : (at : ℕ) (change : Placed → Placed) (hints : List ℕ) (nodes : List Placed) → Leaves change → AreHints hints nodes → AreHints hints (changed_at at change nodes)
-hints_changed_at at change hints nodes leaves = hints_changed _ hints nodes (leaves_at at change leaves)
+pub hints_changed_at : (at : ℕ) (change : Placed → Placed) {layout : Layout} (hints : List ℕ) (nodes : List Placed) → Leaves change → AreHints hints layout nodes → AreHints hints layout (changed_at at change nodes)
+hints_changed_at at change {layout} hints nodes leaves = hints_changed _ hints nodes (leaves_at at change leaves)
 
 -- a newer node adds one
-pub hints_more : (hints : List ℕ) (nodes : List Placed) (p : Placed) → AreHints hints nodes → AreHints hints (p ∷ nodes)
-hints_more hints nodes p are = record {
+pub hints_more : {layout : Layout} (hints : List ℕ) (nodes : List Placed) (p : Placed) → AreHints hints layout nodes → AreHints hints layout (p ∷ nodes)
+hints_more {layout} hints nodes p are = record {
   some = are.some;
   places = λ i told. let w = are.places i told in (w.0, inr w.1, w.2);
 }
 
 -- the place of a node is noted, or none
-pub hints_noted : (old new : List ℕ) (nodes : List Placed) (p : Placed) (place : ℕ) → AreHints old nodes → Among p nodes → p.place ≡ place → length new ≡ length old → ((i : ℕ) → (slice_index new i ≡ slice_index old i) ⊎ (slice_index new i ≡ place)) → AreHints new nodes
-hints_noted old new nodes p place are among is size each = record {
-  some = subst (λ (n : ℕ). 2 ≤ n) (sym size) are.some;
+pub hints_noted : (old new : List ℕ) (layout : Layout) (nodes : List Placed) (p : Placed) (place : ℕ) → AreHints old layout nodes → Among p nodes → p.place ≡ place → length new ≡ length old → ((i : ℕ) → (slice_index new i ≡ slice_index old i) ⊎ (told_place layout (slice_index new i) ≡ place)) → AreHints new layout nodes
+hints_noted old new layout nodes p place are among is size each = record {
+  some = subst (λ (n : ℕ). 4 ≤ n) (sym size) are.some;
   places = λ i told. ⊎_elim
-      (λ (e : slice_index new i ≡ slice_index old i). subst (HasPlace nodes) (sym e) (are.places i (λ zero. told (e ∙ zero))))
-      (λ (e : slice_index new i ≡ place). (p, among, is ∙ sym e))
+      (λ (e : slice_index new i ≡ slice_index old i). subst (λ (hint : ℕ). HasPlace nodes (told_place layout hint)) (sym e) (are.places i (λ zero. told (e ∙ zero))))
+      (λ (e : told_place layout (slice_index new i) ≡ place). (p, among, is ∙ sym e))
       (each i);
 }
 
 -- ---- what hints tell
 
 -- their places lie within the words
-pub hints_inside : (words : List ℕ) (layout : Layout) (hints : List ℕ) (nodes : List Placed) → IsLayout layout → Laid words layout nodes → AreHints hints nodes → (i : ℕ) → slice_index hints i + 8 ≤ length words
+pub hints_inside : (words : List ℕ) (layout : Layout) (hints : List ℕ) (nodes : List Placed) → IsLayout layout → Laid words layout nodes → AreHints hints layout nodes → (i : ℕ) → told_place layout (slice_index hints i) + 8 ≤ length words
 hints_inside words layout hints nodes sizes laid are i = ⊎_elim
-    (λ (none : slice_index hints i ≡ 0). let table = laid.table in omega arith)
+    (λ (none : slice_index hints i ≡ 0). let table = laid.table in let room = sizes.some_room in omega arith)
     (λ (told : slice_index hints i ≢ 0). let w = are.places i told in let here = inside words layout nodes w.0 sizes laid w.1 in let fits = here.1 in let place = w.2 in omega arith)
     (cases_eq (slice_index hints i) 0)
 

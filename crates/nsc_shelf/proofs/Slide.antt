@@ -149,7 +149,7 @@ some_same x y e = cc
 -- the words of a slide that ends
 pub record Ends (slide : Option (Snapshot (List ℕ))) (words new : List ℕ) (map : Layout) (count : ℕ) : Type 0 where
   pub view : shelf_of new map ≡ record (shelf_in slide words map) { used = all_words (shelf_in slide words map).entries; cycle = slice_index words 0 + 1; slide = None }
-  pub held : (mark : Mark) (hints : List ℕ) → mark.place ≡ arena_start map → AreHints hints (nodes_in new map) → IsHeld None new map count mark hints
+  pub held : (mark : Mark) (hints : List ℕ) → mark.place ≡ arena_start map → AreHints hints map (nodes_in new map) → IsHeld None new map count mark hints
 
 pub ends : (slide : Option (Snapshot (List ℕ))) (words new : List ℕ) (map : Layout) (count : ℕ) (mark : Mark) (hints : List ℕ) → IsHeld slide words map count mark hints → IsSlid (shelf_in slide words map) → new ≡ set words 0 (slice_index words 0 + 1) → Ends slide words new map count
 ends None words new map count mark hints held slid set_is = absurd (let e = slid.under_way in cc)

@@ -32,11 +32,11 @@ pub still_even : {slide : Option (Snapshot (List ℕ))} {words : List ℕ} {map 
 still_even {slide} {words} {map} {count} {mark} {hints} {v} is none held = (subst (λ (o : Option (Snapshot (List ℕ))). IsHeld o words map count mark hints) (none_of slide words map v is none) held).even
 
 -- its hints are then those of the nodes in its words
-pub still_hinted : {slide : Option (Snapshot (List ℕ))} {words : List ℕ} {map : Layout} {count : ℕ} {mark : Mark} {hints : List ℕ} {v : Shelf} → shelf_in slide words map ≡ v → v.slide ≡ None → IsHeld slide words map count mark hints → AreHints hints (nodes_in words map)
+pub still_hinted : {slide : Option (Snapshot (List ℕ))} {words : List ℕ} {map : Layout} {count : ℕ} {mark : Mark} {hints : List ℕ} {v : Shelf} → shelf_in slide words map ≡ v → v.slide ≡ None → IsHeld slide words map count mark hints → AreHints hints map (nodes_in words map)
 still_hinted {slide} {words} {map} {count} {mark} {hints} {v} is none held = (subst (λ (o : Option (Snapshot (List ℕ))). IsHeld o words map count mark hints) (none_of slide words map v is none) held).hinted
 
 -- and what is known of other words is known of it with these
-pub still_held : {slide : Option (Snapshot (List ℕ))} {words : List ℕ} {map : Layout} {count : ℕ} {mark : Mark} {hints : List ℕ} {v : Shelf} {words' : List ℕ} {count' : ℕ} {mark' : Mark} {hints' : List ℕ} → shelf_in slide words map ≡ v → v.slide ≡ None → IsHeld slide words map count mark hints → slice_index words' 0 ≡ slice_index words 0 → IsShelf words' map count' mark' → (AreHints hints (nodes_in words map) → AreHints hints' (nodes_in words' map)) → IsHeld slide words' map count' mark' hints'
+pub still_held : {slide : Option (Snapshot (List ℕ))} {words : List ℕ} {map : Layout} {count : ℕ} {mark : Mark} {hints : List ℕ} {v : Shelf} {words' : List ℕ} {count' : ℕ} {mark' : Mark} {hints' : List ℕ} → shelf_in slide words map ≡ v → v.slide ≡ None → IsHeld slide words map count mark hints → slice_index words' 0 ≡ slice_index words 0 → IsShelf words' map count' mark' → (AreHints hints map (nodes_in words map) → AreHints hints' map (nodes_in words' map)) → IsHeld slide words' map count' mark' hints'
 still_held {slide} {words} {map} {count} {mark} {hints} {v} {words'} {count'} {mark'} {hints'} is none held same shelf hinted =
     let here = none_of slide words map v is none in
     let old : IsHeld None words map count mark hints = subst (λ (o : Option (Snapshot (List ℕ))). IsHeld o words map count mark hints) here held in
@@ -46,7 +46,7 @@ still_held {slide} {words} {map} {count} {mark} {hints} {v} {words'} {count'} {m
 -- the same words with another mark
 pub still_marked : {slide : Option (Snapshot (List ℕ))} {words : List ℕ} {map : Layout} {count : ℕ} {mark : Mark} {hints : List ℕ} {v : Shelf} {words' : List ℕ} {mark' : Mark} → shelf_in slide words map ≡ v → v.slide ≡ None → IsHeld slide words map count mark hints → words' ≡ words → ((nodes : List Placed) → Laid words map nodes → IsMark map nodes mark.place mark.number → IsMark map nodes mark'.place mark'.number) → IsHeld slide words' map count mark' hints
 still_marked {slide} {words} {map} {count} {mark} {hints} {v} {words'} {mark'} is none held same marks =
-    still_held is none held (ap (λ (ws : List ℕ). slice_index ws 0) same) (remarked_by words words' map count mark mark' same (still is none held) marks) (subst (λ (ws : List ℕ). AreHints hints (nodes_in ws map)) (sym same))
+    still_held is none held (ap (λ (ws : List ℕ). slice_index ws 0) same) (remarked_by words words' map count mark mark' same (still is none held) marks) (subst (λ (ws : List ℕ). AreHints hints map (nodes_in ws map)) (sym same))
 
 pub still_seen : (slide : Option (Snapshot (List ℕ))) (words : List ℕ) (map : Layout) (words' : List ℕ) {v v' : Shelf} → shelf_in slide words map ≡ v → v.slide ≡ None → shelf_of words' map ≡ v' → shelf_in slide words' map ≡ v'
 still_seen slide words map words' {v} {v'} is none seen = ap (λ (o : Option (Snapshot (List ℕ))). shelf_in o words' map) (none_of slide words map v is none) ∙ seen

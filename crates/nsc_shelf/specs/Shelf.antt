@@ -180,7 +180,7 @@ pub record IsHeld (slide : Option (Snapshot (List ℕ))) (words : List ℕ) (map
   pub even : slice_index (entry_words_of slide words) 0 % 2 ≡ 0
   pub cycles : slice_index (entry_words_of slide words) 0 ≤ last_count
   pub head : KeepsHead slide words
-  pub hinted : AreHints hints (nodes_in (entry_words_of slide words) map)
+  pub hinted : AreHints hints map (nodes_in (entry_words_of slide words) map)
 
 -- a new entry
 abbrev pub fresh_entry : ℕ → Kind → List ℕ → Answer → ℕ → ℕ → ℕ → Kept

@@ -1,18 +1,25 @@
 // Places of nodes that are kept beside the words of a table, so that a lookup of what is kept mostly reads one node, and not those before
 // it in its chain.
-ghost use Rattle.std.specs.Prelude.{◌≡◌, ℕ, ◌+◌, ◌/◌, ◌<◌, ◌≤◌, ◌^◌, ◌≢◌, ◌⊎◌, true, IfOk, Some, List, length, replicate, slice_index};
+ghost use Rattle.std.specs.Prelude.{◌≡◌, ℕ, ◌+◌, ◌-◌, ◌/◌, ◌%◌, ◌<◌, ◌≤◌, ◌≢◌, ◌⊎◌, true, IfOk, IfSome, Some, List, length, replicate, slice_index};
 ghost use Rattle.nsc_words.specs.declared.node.Placed.{Placed};
 ghost use Rattle.nsc_words.specs.Laid.{Among, Laid, answers, newest_for, place_of};
-ghost use Rattle.nsc_words.specs.Layout.{IsLayout};
-ghost use Rattle.nsc_shelf.specs.Hints.{AreHints, HasPlace, IsAlone};
+ghost use Rattle.nsc_words.specs.Layout.{IsLayout, arena_start, table_words};
+ghost use Rattle.nsc_shelf.specs.Hints.{AreHints, HasPlace, IsAlone, told_place};
 
-use nsc_arena::{VecWords, Words, answers_at, walk};
+use nsc_arena::{VecWords, answers_at, walk};
 use nsc_base::NoMemory;
 use nsc_words::{Layout, STATE, hash};
 use std::alloc::Global;
 
 // How many words of the arena there are for each hint. The least node has eight.
 const WORDS_FOR_HINT: usize = 8;
+
+// How many hints stand in a row. Each hash has one row.
+const ROW: usize = 4;
+
+// How many places an arena has at most. A hint is a place in it and, above, the upper bits of a hash: so the node there is mostly the one
+// that is asked for.
+const PLACES: u32 = 0x80_0000;
 
 /// Hints for a table of this layout, none of which tells a place yet: four bytes for each eight words of the arena. Fails only for want
 /// of memory.
@@ -33,8 +40,7 @@ pub fn forget(hints: &mut [u32])
     hints.fill(0);
 }
 
-/// The place of the usable node of a request, by its kind, below 256, and its key: by its hints, or else by its chain, and then it is
-/// noted.
+/// The place of the usable node of a request, by its kind, below 256, and its key: by a hint, or else by its chain, and then it is noted.
 pub fn find(
     words: &mut VecWords,
     map: Layout,
@@ -44,88 +50,118 @@ pub fn find(
 ) -> Option<usize>
     requires layout { IsLayout map }
     requires kind { kind < 256 }
-    requires laid { (nodes : List Placed) × Laid words.old map nodes × AreHints hints.old nodes }
+    requires laid { (nodes : List Placed) × Laid words.old map nodes × AreHints hints.old map nodes }
     ensures same { words.new ≡ words.old }
-    ensures newest { (nodes : List Placed) → Laid words.old map nodes → AreHints hints.old nodes → IsAlone kind key.now nodes → result ≡ place_of (newest_for kind key.now nodes) }
-    ensures hinted { (nodes : List Placed) → Laid words.old map nodes → AreHints hints.old nodes → AreHints hints.new nodes }
+    ensures newest { (nodes : List Placed) → Laid words.old map nodes → AreHints hints.old map nodes → IsAlone kind key.now nodes → result ≡ place_of (newest_for kind key.now nodes) }
+    ensures hinted { (nodes : List Placed) → Laid words.old map nodes → AreHints hints.old map nodes → AreHints hints.new map nodes }
 {
     let hash = hash(kind, key);
-    let pair = pair_of(hash, hints.len());
-    if let Some(place) = find_hinted(words, map, hints, pair, kind, key) {
+    if let Some(place) = find_hinted(words, map, hints, hash, kind, key) {
         return Some(place);
     }
     let place = walk(words, map, kind, key)?;
-    note(words, hints, hash, place);
+    note(words, map, hints, hash, place);
     Some(place)
 }
 
-/// Notes the place of a node of this hash where one of its two hints tells none, or that of a node that ended. A hint of a usable node
+/// Notes the place of a node of this hash, where its row has a hint that tells none, or that of a node that ended. A hint of a usable node
 /// stays: were it to give way, those that are asked in turn would drive each other out.
-pub fn note(words: &mut VecWords, hints: &mut [u32], hash: u32, place: usize)
-    requires some { 2 ≤ length hints.old }
-    requires place { place < 2 ^ 32 }
-    requires inside { (i : ℕ) → slice_index hints.old i + 8 ≤ length words.old }
+pub fn note(words: &mut VecWords, map: Layout, hints: &mut [u32], hash: u32, place: usize)
+    requires layout { IsLayout map }
+    requires some { 4 ≤ length hints.old }
+    requires from { arena_start map ≤ place }
+    requires to { place < table_words map }
+    requires inside { (i : ℕ) → told_place map (slice_index hints.old i) + 8 ≤ length words.old }
     ensures same { words.new ≡ words.old }
     ensures count { length hints.new ≡ length hints.old }
-    ensures hints { (i : ℕ) → (slice_index hints.new i ≡ slice_index hints.old i) ⊎ (slice_index hints.new i ≡ place) }
+    ensures hints { (i : ℕ) → (slice_index hints.new i ≡ slice_index hints.old i) ⊎ (told_place map (slice_index hints.new i) ≡ place) }
 {
-    let pair = pair_of(hash, hints.len());
-    if may_go(words, hints[pair]) {
-        hints[pair] = place as u32;
-    } else if may_go(words, hints[pair + 1]) {
-        hints[pair + 1] = place as u32;
+    let row = row_of(hash, hints.len());
+    if let Some(index) = free_in(words, map, hints, row) {
+        hints[index] = hint_of(map, hash, place);
     }
 }
 
-// The first of the two hints of a hash, of so many.
-fn pair_of(hash: u32, count: usize) -> usize
-    requires { 2 ≤ count }
-    ensures { result + 1 < count }
-{
-    hash as usize % (count / 2) * 2
-}
-
-// Whether a hint tells no place, or that of a node that ended.
-fn may_go(words: &mut VecWords, hint: u32) -> bool
-    requires { hint + 8 ≤ length words.old }
-    ensures { words.new ≡ words.old }
-{
-    hint == 0 || words.get(hint as usize + STATE) != 1
-}
-
-// The place that one of two hints tells, where the node there answers a request.
+// The place that a hint of a hash tells, where the node there answers a request.
 fn find_hinted(
     words: &mut VecWords,
     map: Layout,
     hints: &[u32],
-    pair: usize,
+    hash: u32,
     kind: u32,
     key: &[u8],
 ) -> Option<usize>
     requires layout { IsLayout map }
-    requires kind { kind < 256 }
-    requires pair { pair + 1 < length hints.now }
-    requires laid { (nodes : List Placed) × Laid words.old map nodes × AreHints hints.now nodes }
+    requires laid { (nodes : List Placed) × Laid words.old map nodes × AreHints hints.now map nodes }
     ensures same { words.new ≡ words.old }
-    ensures alone { (nodes : List Placed) → Laid words.old map nodes → AreHints hints.now nodes → IsAlone kind key.now nodes → (place : ℕ) → result ≡ Some place → place_of (newest_for kind key.now nodes) ≡ Some place }
+    ensures alone { (nodes : List Placed) → Laid words.old map nodes → AreHints hints.now map nodes → IsAlone kind key.now nodes → (place : ℕ) → result ≡ Some place → place_of (newest_for kind key.now nodes) ≡ Some place }
 {
-    let first = hints[pair];
-    if is_of(words, map, first, kind, key) {
-        return Some(first as usize);
-    }
-    let second = hints[pair + 1];
-    if is_of(words, map, second, kind, key) {
-        return Some(second as usize);
+    let row = row_of(hash, hints.len());
+    for index in row..row + ROW {
+        if is_of(words, map, hints[index], hash, kind, key) {
+            return Some(place_in(map, hints[index]));
+        }
     }
     None
 }
 
-// Whether a hint tells the place of a usable node that answers a request.
-fn is_of(words: &mut VecWords, map: Layout, hint: u32, kind: u32, key: &[u8]) -> bool
-    requires layout { IsLayout map }
-    requires laid { (nodes : List Placed) × Laid words.old map nodes × (hint ≢ 0 → HasPlace nodes hint) }
-    ensures same { words.new ≡ words.old }
-    ensures is { (nodes : List Placed) → Laid words.old map nodes → (hint ≢ 0 → HasPlace nodes hint) → result ≡ true → (p : Placed) × Among p nodes × (p.place ≡ hint) × (answers kind key.now p ≡ true) }
+// The first of the hints of a hash, of so many. The hashes of names that follow one another mostly differ in their lower bits alone, so
+// that their hints lie side by side.
+fn row_of(hash: u32, count: usize) -> usize
+    requires { 4 ≤ count }
+    ensures { result + 4 ≤ count }
 {
-    hint != 0 && answers_at(words, hint as usize, kind, key)
+    let mixed = hash ^ hash >> 16;
+    mixed as usize % (count / ROW) * ROW
+}
+
+// The hint of a place and a hash.
+fn hint_of(map: Layout, hash: u32, place: usize) -> u32
+    requires layout { IsLayout map }
+    requires from { arena_start map ≤ place }
+    requires to { place < table_words map }
+    ensures { told_place map result ≡ place }
+{
+    hash / PLACES * PLACES + (place - map.arena_start()) as u32
+}
+
+// The place that a hint tells.
+fn place_in(map: Layout, hint: u32) -> usize
+    requires { IsLayout map }
+    ensures { result ≡ told_place map hint }
+{
+    map.arena_start() + (hint % PLACES) as usize
+}
+
+// Whether a hint tells the place of a usable node that answers a request of this hash.
+fn is_of(words: &mut VecWords, map: Layout, hint: u32, hash: u32, kind: u32, key: &[u8]) -> bool
+    requires layout { IsLayout map }
+    requires laid { (nodes : List Placed) × Laid words.old map nodes × (hint ≢ 0 → HasPlace nodes (told_place map hint)) }
+    ensures same { words.new ≡ words.old }
+    ensures is { (nodes : List Placed) → Laid words.old map nodes → (hint ≢ 0 → HasPlace nodes (told_place map hint)) → result ≡ true → (p : Placed) × Among p nodes × (p.place ≡ told_place map hint) × (answers kind key.now p ≡ true) }
+{
+    if hint == 0 || hint / PLACES != hash / PLACES {
+        return false;
+    }
+    answers_at(words, place_in(map, hint), kind, key)
+}
+
+// The first hint of a row that tells no place or, where each tells one, the first that tells that of a node that ended.
+fn free_in(words: &VecWords, map: Layout, hints: &[u32], row: usize) -> Option<usize>
+    requires layout { IsLayout map }
+    requires row { row + 4 ≤ length hints.now }
+    requires inside { (i : ℕ) → told_place map (slice_index hints.now i) + 8 ≤ length words.now }
+    ensures { IfSome result (λ index. index < length hints.now) }
+{
+    for index in row..row + ROW {
+        if hints[index] == 0 {
+            return Some(index);
+        }
+    }
+    for index in row..row + ROW {
+        if words.word(place_in(map, hints[index]) + STATE) != 1 {
+            return Some(index);
+        }
+    }
+    None
 }

@@ -177,7 +177,7 @@ impl Shelf {
             self.words.set(LOADS, number + 1);
             self.live += 1;
             let hash = hash(fixed.kind, key);
-            note(&mut self.words, &mut self.hints, hash, at);
+            note(&mut self.words, self.map, &mut self.hints, hash, at);
         }
     }
 

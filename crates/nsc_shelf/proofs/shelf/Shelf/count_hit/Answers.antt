@@ -11,14 +11,14 @@ invariant_of-self c =
     let s = c.self.inside in
     let count = c.next_count.ensures ∙ ap (λ (n : ℕ). min (n + 1) last_count) c.word-count.ensures in
     let is = set_negative_hits s.words c.set.new.self s.map s.live s.mark (min ((head_in s.words).negative_hits + 1) last_count) (c.set.ensures.set ∙ ap (set s.words 6) count) (still c.self.view_is c.requires c.self.invariant) in
-    still_held c.self.view_is c.requires c.self.invariant is.cycle is.shelf (subst (AreHints s.hints.items) is.nodes)
+    still_held c.self.view_is c.requires c.self.invariant is.cycle is.shelf (subst (AreHints s.hints.items s.map) is.nodes)
 
 pub invariant_of-self-else-not_found : goal.invariant_of-self-else-not_found
 invariant_of-self-else-not_found c =
     let s = c.self.inside in
     let count = c.next_count-else-not_found.ensures ∙ ap (λ (n : ℕ). min (n + 1) last_count) c.word-count-else-not_found.ensures in
     let is = set_hits s.words c.set-else-not_found.new.self s.map s.live s.mark (min ((head_in s.words).hits + 1) last_count) (c.set-else-not_found.ensures.set ∙ ap (set s.words 5) count) (still c.self.view_is c.requires c.self.invariant) in
-    still_held c.self.view_is c.requires c.self.invariant is.cycle is.shelf (subst (AreHints s.hints.items) is.nodes)
+    still_held c.self.view_is c.requires c.self.invariant is.cycle is.shelf (subst (AreHints s.hints.items s.map) is.nodes)
 
 pub returns-then-not_found : goal.returns-then-not_found
 returns-then-not_found c =

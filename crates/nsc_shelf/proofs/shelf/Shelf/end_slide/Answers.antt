@@ -15,7 +15,7 @@ invariant_of-self c =
     let is = c.set.ensures.set ∙ ap (λ (n : ℕ). set s.words 0 (n + 1)) c.word-cycle.ensures in
     let size : length c.forget.new.hints ≡ s.hints.len = omega (arith, c.deref_mut.ensures.len, s.hints.ok.0) in
     let held = c.self.invariant.hinted.some in
-    let some : 2 ≤ length c.deref_mut.result.now = omega (arith, c.deref_mut.ensures.len, s.hints.ok.0) in
+    let some : 4 ≤ length c.deref_mut.result.now = omega (arith, c.deref_mut.ensures.len, s.hints.ok.0) in
     (ends s.slide s.words c.set.new.self s.map s.live s.mark s.hints.items c.self.invariant slid is).held c.start-self-inside.result (with_items s.hints c.forget.new.hints).items (ap (λ (k : Mark). k.place) c.start-self-inside.ensures)
     (no_hints_in (with_items s.hints c.forget.new.hints).items (length c.deref_mut.result.now) (with_items_is s.hints c.forget.new.hints size ∙ c.forget.ensures) some)
 

@@ -89,6 +89,15 @@ overflow_add-self c =
     let small = shelf_is.sizes.room in
     omega arith
 
+pub note-requires-clause-from : goal.note-requires-clause-from
+note-requires-clause-from c =
+    let shelf_is = still c.self.view_is c.requires.still c.self.invariant in
+    let start_low = end_after (arena_start c.self.inside.map) (nodes_in c.self.inside.words c.self.inside.map) shelf_is.laid.row in
+    let first = shelf_is.laid.first_free in
+    let placed = c.in-Some.ensures.placed in
+    let at_first = placed.0 in
+    omega arith
+
 pub note-requires-clause-inside : goal.note-requires-clause-inside
 note-requires-clause-inside c i =
     let shelf_is = still c.self.view_is c.requires.still c.self.invariant in
@@ -115,7 +124,7 @@ note-requires-clause-inside c i =
     let chained : Laid c.chain.new.table m (p ∷ nodes) = c.chain.ensures.laid nodes p next refl in
     let new : List ℕ = c.set.new.self in
     let laid : Laid new m (p ∷ nodes) = set_head c.chain.new.table new m (p ∷ nodes) 4 (c.word-number.result + 1) (omega arith) (omega arith) c.set.ensures.set chained in
-    let hinted : AreHints c.deref_mut.result.now nodes = subst (λ (hs : List ℕ). AreHints hs nodes) (sym c.deref_mut.ensures.value) (still_hinted c.self.view_is c.requires.still c.self.invariant) in
+    let hinted : AreHints c.deref_mut.result.now m nodes = subst (λ (hs : List ℕ). AreHints hs m nodes) (sym c.deref_mut.ensures.value) (still_hinted c.self.view_is c.requires.still c.self.invariant) in
     hints_inside new m c.deref_mut.result.now (p ∷ nodes) shelf_is.sizes laid (hints_more c.deref_mut.result.now nodes p hinted) i
 
 pub invariant_of-self : goal.invariant_of-self
@@ -156,12 +165,12 @@ invariant_of-self c =
     let below : slice_index w 4 < last_count = subst (λ (s : Shelf). s.inserted < last_count) (sym (still_view c.self.inside.slide c.self.inside.words c.self.inside.map c.self.view_is c.requires.still)) c.requires.count in
     let more : length (entries_in (p ∷ nodes)) ≡ length (entries_in nodes) + 1 = ap length (one_more p nodes refl) ∙ length-append (entries_in nodes) (kept_in p ∷ []) in
     let live = shelf_is.live in
-    let hinted : AreHints c.deref_mut.result.now nodes = subst (λ (hs : List ℕ). AreHints hs nodes) (sym c.deref_mut.ensures.value) (still_hinted c.self.view_is c.requires.still c.self.invariant) in
-    let noted : AreHints c.note.new.hints (p ∷ nodes) = hints_noted c.deref_mut.result.now c.note.new.hints (p ∷ nodes) p at (hints_more c.deref_mut.result.now nodes p hinted) (inl refl) refl c.note.ensures.count c.note.ensures.hints in
+    let hinted : AreHints c.deref_mut.result.now m nodes = subst (λ (hs : List ℕ). AreHints hs m nodes) (sym c.deref_mut.ensures.value) (still_hinted c.self.view_is c.requires.still c.self.invariant) in
+    let noted : AreHints c.note.new.hints m (p ∷ nodes) = hints_noted c.deref_mut.result.now c.note.new.hints m (p ∷ nodes) p at (hints_more c.deref_mut.result.now nodes p hinted) (inl refl) refl c.note.ensures.count c.note.ensures.hints in
     let size : length c.note.new.hints ≡ c.self.inside.hints.len = omega (arith, c.note.ensures.count, c.deref_mut.ensures.len) in
     subst (λ (ws : List ℕ). IsHeld c.self.inside.slide ws m (c.self.inside.live + 1) c.self.inside.mark (with_items c.self.inside.hints c.note.new.hints).items) (sym c.note.ensures.same)
     (still_held c.self.view_is c.requires.still c.self.invariant (ap (λ (ws : List ℕ). slice_index ws 0) c.set.ensures.set ∙ get_or-set_other c.chain.new.table 4 0 (c.word-number.result + 1) 0 (omega arith) ∙ c.chain.ensures.head 0 (omega arith) (omega arith) ∙ placed.3.below 0 (omega arith)) (shelf_by new m (p ∷ nodes) (slice_index w 4 + 1) (c.self.inside.live + 1) c.self.inside.mark shelf_is.sizes laid fresh e4 (omega arith) (omega arith) (marked_more m nodes p c.self.inside.mark.place c.self.inside.mark.number shelf_is.marked))
-    (λ h. subst (λ (hs : List ℕ). AreHints hs (nodes_in new m)) (sym (with_items_is c.self.inside.hints c.note.new.hints size)) (hints_by c.note.new.hints laid noted)))
+    (λ h. subst (λ (hs : List ℕ). AreHints hs m (nodes_in new m)) (sym (with_items_is c.self.inside.hints c.note.new.hints size)) (hints_by c.note.new.hints laid noted)))
 
 pub returns-in-Some : goal.returns-in-Some
 returns-in-Some c =

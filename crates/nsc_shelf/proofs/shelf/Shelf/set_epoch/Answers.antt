@@ -9,7 +9,7 @@ pub invariant_of-self : goal.invariant_of-self
 invariant_of-self c =
     let s = c.self.inside in
     let is = set_epoch s.words c.set.new.self s.map s.live s.mark c.args.epoch c.set.ensures.set (still c.self.view_is c.requires c.self.invariant) in
-    still_held c.self.view_is c.requires c.self.invariant is.cycle is.shelf (subst (AreHints s.hints.items) is.nodes)
+    still_held c.self.view_is c.requires c.self.invariant is.cycle is.shelf (subst (AreHints s.hints.items s.map) is.nodes)
 
 pub returns : goal.returns
 returns c =
