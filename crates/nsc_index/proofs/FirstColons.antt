@@ -15,8 +15,11 @@ use Rattle.nsc_index.specs.Fronts.{is_colon}
 abbrev pub NoneBefore : List ℕ → ℕ → Type 0
 NoneBefore bytes place = (k : ℕ) → k < place → (get_or bytes k 0 == 58) ≡ false
 
+pub byte_there : (byte : ℕ) (bytes : List ℕ) (place : ℕ) → place < length bytes → ((k : ℕ) → k < place → (get_or bytes k 0 == byte) ≡ false) → get_or bytes place 0 ≡ byte → position_or_len (λ b. b == byte) bytes ≡ place
+byte_there byte bytes place inside before here = position_or_len_is (λ b. b == byte) bytes place 0 (omega arith) before (λ lt. (Decides-eqb (get_or bytes place 0) byte).1 here)
+
 pub colon_there : (bytes : List ℕ) (place : ℕ) → place < length bytes → NoneBefore bytes place → get_or bytes place 0 ≡ 58 → position_or_len is_colon bytes ≡ place
-colon_there bytes place inside before here = position_or_len_is is_colon bytes place 0 (omega arith) before (λ lt. (Decides-eqb (get_or bytes place 0) 58).1 here)
+colon_there bytes place inside before here = byte_there 58 bytes place inside before here
 
 pub no_colon : (bytes : List ℕ) (place : ℕ) → length bytes ≤ place → NoneBefore bytes place → position_or_len is_colon bytes ≡ length bytes
 no_colon bytes place past before = position_or_len_is is_colon bytes (length bytes) 0 (omega arith) (λ k below. before k (omega arith)) (λ lt. absurd (omega arith))

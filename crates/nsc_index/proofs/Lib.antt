@@ -14,4 +14,4 @@ pub mod ChainRows
 pub mod LineFronts
 pub mod NumberedLines
 pub mod FirstColons
-pub mod MarkedColons
+pub mod MarkedBytes

@@ -3,7 +3,7 @@ pub mod Names
 pub mod Numbers
 pub mod Chains
 pub mod Fronts
-pub mod Colons
+pub mod Looks
 pub mod Signs
 pub mod Users
 pub mod Groups

@@ -8,7 +8,7 @@ ghost use Rattle.nsc_base.specs.Decimal.{decimal_of};
 ghost use Rattle.nsc_index.specs.Fronts.{id_rows, is_colon, name_rows, raw_id, raw_mark};
 ghost use Rattle.nsc_index.specs.Numbers.{text_number};
 
-use crate::colons::around_two_colons;
+use crate::looks::around_two_colons;
 use crate::numbers::{NumberAt, number_with, text_number};
 use nsc_base::{NoMemory, Span, trim_front};
 

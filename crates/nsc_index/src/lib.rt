@@ -3,13 +3,13 @@
 #![tactic(auto)]
 
 mod chains;
-mod colons;
 mod compat;
 mod fronts;
 mod groups;
 mod hosts;
 mod indexed;
 mod lines;
+mod looks;
 mod lookup;
 mod names;
 mod net_outcomes;

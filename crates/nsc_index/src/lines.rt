@@ -1,8 +1,26 @@
-ghost use Rattle.std.specs.Prelude.{◌≡◌, ◌≤◌, IfSome, length};
-ghost use Rattle.nsc_base.specs.Text.{line_spans};
+ghost use Rattle.std.specs.Prelude.{◌≡◌, ◌≤◌, ◌↔◌, IfSome, IsNone, length};
+ghost use Rattle.nsc_base.specs.Text.{IsLine, line_spans};
 ghost use Rattle.nsc_model.specs.Entries.{first_of};
 
-use nsc_base::{Span, line_at};
+use crate::looks::near_newline;
+use nsc_base::{Line, Span, line_at};
+
+/// The line that begins at the place `from`, without its newline, and the place after the newline, as `line_at` gives them. Most lines
+/// are short: a look at their bytes here is quicker than the call of a search.
+#[inline(always)]
+pub fn next_line(text: &[u8], from: usize) -> Option<Line>
+    requires { from ≤ length text.now }
+    ensures none { IsNone result ↔ (from ≡ length text.now) }
+    ensures line { IfSome result (IsLine text.now from) }
+{
+    match near_newline(&text[from..]) {
+        Some(place) => Some(Line {
+            span: Span::new(from, from + place),
+            next: from + place + 1,
+        }),
+        None => line_at(text, from),
+    }
+}
 
 /// The line that begins at a place of a text. `None` at the end of the text and beyond.
 pub fn line_on(text: &[u8], place: u32) -> Option<Span>

@@ -13,13 +13,13 @@ ghost use Rattle.nsc_index.specs.Users.{users_named};
 
 use crate::chains::Chains;
 use crate::fronts::add_front;
-use crate::lines::line_on;
+use crate::lines::{line_on, next_line};
 use crate::names::NameAt;
 use crate::numbers::text_number;
 use crate::places::{add_named, lines_at};
 use crate::signs::{add_sign, add_signs_on, sorted_signs};
 use nsc_accounts::{PasswdAt, passwd_line, user_named, user_numbered};
-use nsc_base::{NoMemory, Span, line_at};
+use nsc_base::{NoMemory, Span};
 use std::alloc::Global;
 
 // The bytes of a short line: there is room at once for the rows of so many lines as stand in the text at this length.
@@ -54,7 +54,7 @@ impl UserIndex {
         let mut ids = Vec::with_capacity(alloc, room)?;
         let mut signs = Vec::new(alloc);
         let mut from = 0;
-        while let Some(line) = line_at(text, from) {
+        while let Some(line) = next_line(text, from) {
             add_front(text, line.span, &mut names, &mut ids)?;
             add_sign(text, line.span, &mut signs)?;
             from = line.next;

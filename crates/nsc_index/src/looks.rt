@@ -1,9 +1,9 @@
-//! The first two colons of a text, found by one look at its first bytes.
+//! Where colons and newlines stand in a text, found by looks at thirty-two bytes at once.
 
 ghost use Rattle.std.specs.Prelude.{◌≡◌, ◌≢◌, ◌<◌, ◌≤◌, IfSome, length};
-ghost use Rattle.std.specs.List.{after_first, before_first};
-ghost use Rattle.nsc_index.specs.Colons.{IsLowest, IsWithout, MarksColons};
+ghost use Rattle.std.specs.List.{after_first, before_first, position_or_len};
 ghost use Rattle.nsc_index.specs.Fronts.{is_colon};
+ghost use Rattle.nsc_index.specs.Looks.{IsLowest, IsWithout, MarksByte, is_newline};
 
 use std::simd::prelude::*;
 
@@ -17,7 +17,7 @@ pub fn around_two_colons(bytes: &[u8]) -> Option<(&[u8], &[u8])>
     if bytes.len() < 32 {
         return None;
     }
-    let colons = colon_bits(bytes);
+    let colons = byte_bits(bytes, b':');
     if colons == 0 {
         return None;
     }
@@ -30,14 +30,34 @@ pub fn around_two_colons(bytes: &[u8]) -> Option<(&[u8], &[u8])>
     Some((&bytes[..first], &bytes[second + 1..]))
 }
 
-// A bit for each of the first thirty-two bytes, set where it is a colon.
+/// The place of the first newline of a text. `None` where its first sixty-four bytes have none, or where it has fewer bytes than that.
 #[inline(always)]
-fn colon_bits(bytes: &[u8]) -> u64
+pub fn near_newline(bytes: &[u8]) -> Option<usize>
+    ensures inside { IfSome result (λ place. place < length bytes.now) }
+    ensures first { IfSome result (λ place. place ≡ position_or_len is_newline bytes.now) }
+{
+    if bytes.len() < 64 {
+        return None;
+    }
+    let near = byte_bits(bytes, b'\n');
+    if near != 0 {
+        return Some(lowest(near));
+    }
+    let far = byte_bits(&bytes[32..], b'\n');
+    if far != 0 {
+        return Some(32 + lowest(far));
+    }
+    None
+}
+
+// A bit for each of the first thirty-two bytes, set where it is this byte.
+#[inline(always)]
+fn byte_bits(bytes: &[u8], byte: u8) -> u64
     requires { 32 ≤ length bytes.now }
-    ensures { MarksColons bytes.now result }
+    ensures { MarksByte byte bytes.now result }
 {
     u8x32::from_slice(bytes)
-        .simd_eq(u8x32::splat(b':'))
+        .simd_eq(u8x32::splat(byte))
         .to_bitmask()
 }
 

@@ -1,6 +1,6 @@
 use Rattle.std.proofs.Common.{w64}
 use Rattle.std.proofs.lemmas.Nat.Bits.{bit_at_clear_other, bit_at_clear_same}
-use Rattle.nsc_index.proofs.colons.without.Goals as goal
+use Rattle.nsc_index.proofs.looks.without.Goals as goal
 
 pub returns : goal.returns
 returns c = record {
