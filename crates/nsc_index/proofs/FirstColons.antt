@@ -1,9 +1,9 @@
 -- The bytes before the first colon, and the number that they spell.
-use Rattle.std.proofs.Common.{◌≡◌, ℕ, ◌+◌, ◌-◌, ◌*◌, ◌^◌, ◌<◌, ◌≤◌, ◌==◌, ⊎_elim, false, true, List, [], length, take, get_or, Some, None, sym, ◌∙◌, ap, arith}
+use Rattle.std.proofs.Common.{◌≡◌, ℕ, ◌+◌, ◌-◌, ◌*◌, ◌^◌, ◌%◌, ◌<◌, ◌≤◌, ◌==◌, ⊎_elim, false, true, List, [], length, take, get_or, Some, None, sym, ◌∙◌, ap, arith}
 use Rattle.std.specs.Char.{is_ascii_digit}
 use Rattle.std.specs.List.{after_first, before_first, list_all, position_or_len}
 use Rattle.std.proofs.lemmas.Bool.{cases_lt}
-use Rattle.std.proofs.lemmas.Bool.Decides.{Decides-eqb}
+use Rattle.std.proofs.lemmas.Bool.Decides.{Decides-eqb, nat_tests}
 use Rattle.std.proofs.lemmas.List.{drop_all, get_or-take, length-take, length-take-le, take-take}
 use Rattle.std.proofs.lemmas.List.Sums.{passes_at_first, position_or_len_is}
 use borrow.Author.Count.{below_more}
@@ -44,6 +44,16 @@ within_front bytes place inside before other =
     let behind : place + 1 ≤ position_or_len is_colon bytes = no_earlier bytes (place + 1) (omega arith) (below_more (λ k. (get_or bytes k 0 == 58) ≡ false) place before other) in
     let long = length-take (position_or_len is_colon bytes) bytes in
     (omega arith, (get_or-take (position_or_len is_colon bytes) bytes place 0 (omega arith), take-take place (position_or_len is_colon bytes) bytes (omega arith)))
+
+-- what a byte is above the digit 0, where one below it wraps around: a digit where that is at most 9
+pub is_digit : (byte above : ℕ) → byte < 256 → above ≡ (byte + 208) % 256 → above ≤ 9 → (is_ascii_digit byte ≡ true) × (above ≡ byte - 48)
+is_digit byte above small is low = (grind (arith, nat_tests), omega arith)
+
+pub no_digit : (byte above : ℕ) → byte < 256 → above ≡ (byte + 208) % 256 → 9 < above → is_ascii_digit byte ≡ false
+no_digit byte above small is high = grind (arith, nat_tests)
+
+pub colon_apart : (byte : ℕ) → is_ascii_digit byte ≡ true → (byte == 58) ≡ false
+colon_apart byte digit = grind (arith, nat_tests)
 
 -- where a byte before the first colon is no digit
 pub other_byte : (bytes : List ℕ) (place : ℕ) → place < length bytes → NoneBefore bytes place → (get_or bytes place 0 == 58) ≡ false → is_ascii_digit (get_or bytes place 0) ≡ false → decimal_of (before_first is_colon bytes) ≡ None

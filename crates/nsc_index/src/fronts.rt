@@ -84,21 +84,30 @@ fn after_colon(bytes: &[u8]) -> &[u8]
     }
 }
 
-// The number that the bytes before the first colon spell in decimal: at one walk.
+// The number that the bytes before the first colon spell in decimal: at one walk. A byte below `0` wraps around, so that one test tells
+// the digits from all others.
 fn id_at_colon(bytes: &[u8]) -> Option<u32>
     ensures { result ≡ decimal_of (before_first is_colon bytes.now) }
 {
-    let mut id: u32 = 0;
+    let mut id: u64 = 0;
     for (place, byte) in bytes.iter().enumerate() {
-        if *byte == b':' {
-            return if place == 0 { None } else { Some(id) };
+        let digit = byte.wrapping_sub(b'0');
+        if digit > 9 {
+            if *byte != b':' {
+                return None;
+            }
+            return if place == 0 { None } else { Some(id as u32) };
         }
-        if !byte.is_ascii_digit() {
+        id = id * 10 + u64::from(digit);
+        if id > u64::from(u32::MAX) {
             return None;
         }
-        id = id.checked_mul(10)?.checked_add(u32::from(*byte - b'0'))?;
     }
-    if bytes.is_empty() { None } else { Some(id) }
+    if bytes.is_empty() {
+        None
+    } else {
+        Some(id as u32)
+    }
 }
 
 // The place of the first colon, or the end where there is none. Fields at the front of a line are short: a walk over their bytes is
