@@ -15,6 +15,7 @@ use Rattle.nsc_index.specs.Fronts.{is_colon}
 abbrev pub NoneBefore : List ℕ → ℕ → Type 0
 NoneBefore bytes place = (k : ℕ) → k < place → (get_or bytes k 0 == 58) ≡ false
 
+-- a byte stands at a place, and nowhere before it
 pub byte_there : (byte : ℕ) (bytes : List ℕ) (place : ℕ) → place < length bytes → ((k : ℕ) → k < place → (get_or bytes k 0 == byte) ≡ false) → get_or bytes place 0 ≡ byte → position_or_len (λ b. b == byte) bytes ≡ place
 byte_there byte bytes place inside before here = position_or_len_is (λ b. b == byte) bytes place 0 (omega arith) before (λ lt. (Decides-eqb (get_or bytes place 0) byte).1 here)
 

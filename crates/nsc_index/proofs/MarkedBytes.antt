@@ -17,7 +17,7 @@ none_set : (b : Bool) → cond {A = ℕ} b 1 0 ≡ 0 → b ≡ false
 none_set true is = absurd (omega arith)
 none_set false is = refl
 
-pub set_inside : (byte : ℕ) (bytes : List ℕ) (bits k : ℕ) → MarksByte byte bytes bits → bit_at bits k ≡ 1 → k < 32
+set_inside : (byte : ℕ) (bytes : List ℕ) (bits k : ℕ) → MarksByte byte bytes bits → bit_at bits k ≡ 1 → k < 32
 set_inside byte bytes bits k marked set = ⊎_elim (λ (l : k < 32). l) (λ (past : 32 ≤ k). absurd (omega (arith, marked.no_more k past))) (cases_lt k 32)
 
 marked_at : (byte : ℕ) (bytes : List ℕ) (bits k : ℕ) → MarksByte byte bytes bits → bit_at bits k ≡ 1 → get_or bytes k 0 ≡ byte

@@ -5,8 +5,8 @@ ghost use Rattle.nsc_model.specs.Entries.{first_of};
 use crate::looks::near_newline;
 use nsc_base::{Line, Span, line_at};
 
-/// The line that begins at the place `from`, without its newline, and the place after the newline, as `line_at` gives them. Most lines
-/// are short: a look at their bytes here is quicker than the call of a search.
+/// The line that begins at the place `from`, without its newline, and the place after the newline: what `line_at` gives. Most lines are
+/// short, and a look at their first bytes costs less than the call of a search. `None` where no byte is left.
 #[inline(always)]
 pub fn next_line(text: &[u8], from: usize) -> Option<Line>
     requires { from ≤ length text.now }
