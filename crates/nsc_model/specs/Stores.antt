@@ -156,16 +156,19 @@ pub record IsEmptied (seen after : List Record) (epoch : ℕ) : Type 0 where
   pub new : invalidations seen < epoch
   pub none : NoneLive after
 
--- a count stands at its end: that of the invalidations; or that of the compactions, and the words of ended entries are not free, but
--- this holds of the ends all the same
-pub record IsUnmoved (ended : Type 0) (after : List Record) (count : ℕ) : Type 0 where
+-- a count stands at its end: that of the invalidations; or that of the compactions, and the words of ended entries are not free
+pub record IsUnmoved (after : List Record) (count : ℕ) : Type 0 where
   pub last : count ≡ last_count
-  pub cause : (invalidations after ≡ count) ⊎ (MayBeUnmoved after × ended)
+  pub cause : (invalidations after ≡ count) ⊎ MayBeUnmoved after
+
+-- the ends of a call that gave up were made all the same, unless the count of invalidations stands at its end
+abbrev pub IsEndedYet : List Record → Type 0 → Type 0
+IsEndedYet after ended = (invalidations after ≡ last_count) ⊎ ended
 
 -- why an invalidation gave up
 abbrev pub IsInvalidateFault : InvalidateFault → List Record → Type 0
 IsInvalidateFault invalidate_fault.NoMemory after = Unit {0}
-IsInvalidateFault (invalidate_fault.Spent count) after = IsUnmoved (NoneLive after) after count
+IsInvalidateFault (invalidate_fault.Spent count) after = IsUnmoved after count × IsEndedYet after (NoneLive after)
 
 -- the counts are those of this history, and the words those of its live entries
 pub record IsCounted (arena : ℕ) (after : List Record) (stats : Stats) : Type 0 where
@@ -195,5 +198,5 @@ pub record IsTicked (which : Db) (before_reads after_reads : FileId → ℕ) (la
 
 -- why a tick gave up
 abbrev pub IsTickFault : LookupFault → ℕ → List Record → List Record → ℕ → ℕ → (FileId → ℕ) → (FileId → ℕ) → Type 0
-IsTickFault (fault.Spent count) now seen after before_faults after_faults before_each after_each = IsSpent after count ⊎ IsUnmoved (AreOverEnded now seen after) after count
+IsTickFault (fault.Spent count) now seen after before_faults after_faults before_each after_each = IsSpent after count ⊎ (IsUnmoved after count × IsEndedYet after (AreOverEnded now seen after))
 IsTickFault other now seen after before_faults after_faults before_each after_each = IsFault other after before_faults after_faults before_each after_each
