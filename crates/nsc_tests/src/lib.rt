@@ -1,5 +1,5 @@
 //! The tests of the calls that read, answer and keep: each call that may find no memory, once with ample memory, and what no replay of the
-//! program shows. Those of files, streams and sockets are in `nsc_edge_tests`. Replays of the built program, which are most tests, stand
+//! program shows. Those of files, streams and sockets stand in crates of their own. Replays of the built program, which are most tests, stand
 //! in `tests/replays` of the repository.
 #![tactic(auto)]
 
