@@ -11,11 +11,10 @@ ghost use Rattle.nsc_model.specs.Faults.{FaultsBy, StopsBy, GivesUpBy};
 ghost use Rattle.nsc_plain.specs.PlainCache.{HitsBy, ticked_at};
 
 use crate::insertion::{Insertion, answer_due};
-use crate::kept::LAST_COUNT;
 use crate::prepared::Prepared;
 use crate::table::Table;
 use nsc_base::{Bytes, NoMemory};
-use nsc_model::{Answer, Answerer, CacheFault, Content, DbConf, Kind, Request};
+use nsc_model::{Answer, Answerer, CacheFault, Content, DbConf, Kind, LAST_COUNT, Request};
 use std::alloc::Global;
 use std::marker::Model;
 use std::sync::Arc;
@@ -323,7 +322,7 @@ impl PlainCache {
     fn is_outdated(&self) -> bool
         ensures { result ≡ is_outdated self.now.settings self.now.cache.newest_version self.now.ticked }
     {
-        self.conf.check_files && self.newest_version != self.ticked
+        self.conf.is_outdated(self.newest_version, self.ticked)
     }
 
     // The version that a tick keeps which stops from here on: its pruning comes once the newest version is kept.

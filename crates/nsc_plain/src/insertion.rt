@@ -1,7 +1,7 @@
 ghost use Rattle.std.specs.Prelude.{◌≡◌, ◌≤◌, ◌<◌, ◌+◌, ◌^◌, [], length, map, IfOk, IfSome, MatchOption};
 ghost use Rattle.nsc_base.specs.Nodes.{node_words};
 ghost use Rattle.nsc_model.specs.Entry.{key_limit, kept_limit};
-ghost use Rattle.nsc_model.specs.Machine.{life_of, made_entry, due_of, reloaded_of};
+ghost use Rattle.nsc_model.specs.Machine.{made_entry, due_of, reloaded_of};
 ghost use Rattle.nsc_plain.specs.Insertion.{anew};
 
 use crate::kept::Kept;
@@ -67,21 +67,9 @@ impl Insertion {
         requires moment { now < 2 ^ 62 }
         ensures { result ≡ record { entry = made_entry conf.now now number version self.request self.answer; reloads = self.reloads } }
     {
-        let timeout = now + life_of(conf, &self.answer);
+        let timeout = now + conf.life_of(&self.answer);
         let entry = Entry::new(number, self.request, version, self.answer, timeout);
         Kept::new(entry, self.reloads)
-    }
-}
-
-// How long an answer is kept, in seconds.
-fn life_of(conf: &DbConf, answer: &Answer) -> u64
-    ensures value { result ≡ life_of conf.now answer.now }
-    ensures bound { result < 2 ^ 32 }
-{
-    if answer.is_not_found() {
-        u64::from(conf.negative)
-    } else {
-        u64::from(conf.positive)
     }
 }
 

@@ -1,13 +1,10 @@
 ghost use Rattle.std.specs.Prelude.{◌≡◌};
 ghost use Rattle.nsc_model.specs.Kinds.{is_request};
-ghost use Rattle.nsc_model.specs.Machine.{entry_words, is_due, is_dropped, reached, next_reloads};
+ghost use Rattle.nsc_model.specs.Machine.{entry_words, is_due, is_dropped, next_reloads};
 
-use nsc_model::{Entry, Kind};
+use nsc_model::{Entry, Kind, has_reached, next_count};
 use nsc_words::node_words;
 use std::marker::Model;
-
-/// Where every count ends: 2^62.
-pub const LAST_COUNT: u64 = 4_611_686_018_427_387_904;
 
 /// A live entry, and how often it was reloaded since it was last used.
 #[derive(Drop)]
@@ -82,27 +79,13 @@ impl Kept {
     pub fn is_dropped(&self, limit: Option<u32>) -> bool
         ensures { result ≡ is_dropped limit self.now }
     {
-        self.entry.answer().is_not_found() || self.has_reached(limit)
-    }
-
-    // Whether it was reloaded so often without a use.
-    fn has_reached(&self, limit: Option<u32>) -> bool
-        ensures { result ≡ reached limit self.now.reloads }
-    {
-        match limit {
-            Some(limit) => u64::from(limit) <= self.reloads,
-            None => false,
-        }
+        self.entry.answer().is_not_found() || has_reached(limit, self.reloads)
     }
 
     /// The count of one more reload; it stays at its end.
     pub fn next_reloads(&self) -> u64
         ensures { result ≡ next_reloads self.now.reloads }
     {
-        if self.reloads < LAST_COUNT {
-            self.reloads + 1
-        } else {
-            LAST_COUNT
-        }
+        next_count(self.reloads)
     }
 }

@@ -10,5 +10,5 @@ mod table;
 
 pub use cache::PlainCache;
 pub use entries::{find_entry, words_of};
-pub use kept::{Kept, LAST_COUNT};
+pub use kept::Kept;
 pub use prepared::Prepared;

@@ -2,7 +2,7 @@ ghost use Rattle.std.specs.Prelude.{◌≡◌, ◌≤◌, ◌<◌, ◌+◌, ◌^
 ghost use Rattle.nsc_model.specs.declared.answer.Request.{Request};
 ghost use Rattle.nsc_model.specs.Kinds.{is_request};
 ghost use Rattle.nsc_model.specs.Answer.{reply_limit};
-ghost use Rattle.nsc_model.specs.Machine.{Cache, due_of, others_of, compacted, compacted_after, room_of, last_count};
+ghost use Rattle.nsc_model.specs.Machine.{Cache, due_of, others_of, compacted, compacted_after};
 ghost use Rattle.nsc_model.specs.Events.{PassesTo};
 ghost use Rattle.nsc_model.specs.Faults.{StopsBy};
 ghost use Rattle.nsc_plain.specs.PlainCache.{HitsBy};
@@ -10,9 +10,9 @@ ghost use Rattle.nsc_plain.specs.Table.{StayApart, insertions_for, entries_for, 
 
 use crate::entries::{drop_due, find_entry, words_of};
 use crate::insertion::Insertion;
-use crate::kept::{Kept, LAST_COUNT};
+use crate::kept::Kept;
 use nsc_base::{Bytes, NoMemory};
-use nsc_model::{CacheFault, DbConf, Kind};
+use nsc_model::{CacheFault, DbConf, KEPT_LIMIT, Kind, LAST_COUNT, next_count};
 use std::alloc::Global;
 use std::marker::Model;
 
@@ -36,9 +36,6 @@ impl Model for Table {
 
     ghost invariant = { λ t. IsKept t.entries.items t.used t.inserted };
 }
-
-// The longest reply that is kept.
-const KEPT_LIMIT: usize = 65_536;
 
 impl Table {
     /// No entry, and no memory for one.
@@ -100,7 +97,7 @@ impl Table {
             return;
         }
         let words = fresh.words();
-        if room_of(conf).saturating_sub(self.used) < words {
+        if conf.room().saturating_sub(self.used) < words {
             self.add_failed = next_count(self.add_failed);
             return;
         }
@@ -162,23 +159,5 @@ impl Table {
         }
         self.entries.clear();
         self.compact()
-    }
-}
-
-// The room of a cache in words.
-fn room_of(conf: &DbConf) -> usize
-    ensures { result ≡ room_of conf.now }
-{
-    conf.size as usize * 128
-}
-
-// The next count, that stays at its end.
-fn next_count(count: u64) -> u64
-    ensures { result ≡ min (count + 1) last_count }
-{
-    if count < LAST_COUNT {
-        count + 1
-    } else {
-        LAST_COUNT
     }
 }
