@@ -4,6 +4,7 @@ use Rattle.nsc_outside.specs.Stream.{Moves, Rose}
 use Rattle.nsc_model.specs.Content.{Content}
 use Rattle.nsc_model.specs.Wire.{Asked, Shutdown, request_of}
 use Rattle.nsc_server.specs.Requests.{closing_of}
+use Rattle.nsc_server.proofs.Reading.{shutdown_stays}
 use Rattle.nsc_sockets.specs.Connections.{Connection, Gives}
 use Rattle.nsc_sockets.specs.declared.listener.Accepted.{Accepted}
 use Rattle.nsc_sockets.specs.declared.listener.Accepted.TheVariants as accepted
@@ -22,7 +23,7 @@ told_end on left left' front moved free asked = record { admin = by_role on (sub
 
   by_left : (l : Option (List ℕ)) → Moves l left' front → IfSome l AsksEnd
   by_left None m = tt
-  by_left (Some bytes) m = (front, m.0, m.2, asked)
+  by_left (Some bytes) m = ap request_of m.2 ∙ shutdown_stays front m.0 asked
 
 -- the listener gave nothing more
 pub goes_same : (given : Option (List Connection)) → GoesOn given given

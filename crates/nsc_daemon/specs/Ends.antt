@@ -28,9 +28,9 @@ ready_line = codes "nscd: ready" ++ 10 ∷ []
 
 -- ---- connections
 
--- bytes are the request SHUTDOWN, and what may stand after a request
+-- bytes are read as the request SHUTDOWN
 abbrev pub AsksEnd : List ℕ → Type 0
-AsksEnd bytes = (front : List ℕ) × (rest : List ℕ) × (bytes ≡ front ++ rest) × (request_of front ≡ Shutdown)
+AsksEnd bytes = request_of bytes ≡ Shutdown
 
 -- a connection of this role, whose peer sends these bytes where that is told, tells the daemon to end
 pub record TellsEnd (on : Role) (left : Option (List ℕ)) : Type 0 where

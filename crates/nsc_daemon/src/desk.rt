@@ -7,9 +7,9 @@ ghost use Rattle.nsc_daemon.specs.Workers.{TicksSo};
 
 use crate::ended::Ended;
 use crate::queue::{Waiting, Waitings};
-use nsc_model::Store;
+use nsc_model::{Databases, Store};
 use nsc_outside::{Sink, Source};
-use nsc_server::{Passes, Room, Served, Stores, serve_one};
+use nsc_server::{Room, Served, serve_one};
 use nsc_sockets::{Accepted, Clock, Listener, Role};
 use std::alloc::Global;
 use std::marker::Model;
@@ -48,8 +48,8 @@ pub fn accept_all<RT: AllocGlobal + Wait + time::Clock, S: Store + Drop, C: Cloc
 /// connections that wait for workers, where there are workers.
 #[derive(Drop)]
 pub struct Desk<S: Store + Drop, R: Source + Drop, K: Sink + Drop> {
-    pub stores: Arc<Stores<S>, Global>,
-    pub passes: Passes<S::Pass>,
+    pub stores: Arc<Databases<S>, Global>,
+    pub passes: Databases<S::Pass>,
     pub room: Room,
     pub ticked: u64,
     pub waitings: Option<Waitings<R, K>>,

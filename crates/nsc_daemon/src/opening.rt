@@ -9,9 +9,8 @@ use crate::ended::Ended;
 use nsc_base::NoMemory;
 use nsc_database::{Database, DbPass, Opened, Room};
 use nsc_index::Indexed;
-use nsc_model::{Conf, Db};
+use nsc_model::{Conf, Databases, Db};
 use nsc_outside::FileSet;
-use nsc_server::{Passes, Stores};
 use std::alloc::Global;
 
 /// The databases, each with its first pass.
@@ -71,7 +70,7 @@ impl<F: FileSet + Drop> Openings<F> {
     /// Enters a room, in which threads may share them.
     pub fn enter<B: Room>(
         self,
-    ) -> Result<(Stores<Database<F, Indexed, B>>, Passes<DbPass<F, B>>), NoMemory>
+    ) -> Result<(Databases<Database<F, Indexed, B>>, Databases<DbPass<F, B>>), NoMemory>
         requires names { (self.passwd.db ≡ db_is.Passwd) × (self.group.db ≡ db_is.Group) × (self.hosts.db ≡ db_is.Hosts) × (self.services.db ≡ db_is.Services) }
         requires tables { (self.passwd.pass.table ≡ B.table db_is.Passwd) × (self.group.pass.table ≡ B.table db_is.Group) × (self.hosts.pass.table ≡ B.table db_is.Hosts) × (self.services.pass.table ≡ B.table db_is.Services) }
         requires passwd { (self.passwd.settings ≡ settings_of B.conf db_is.Passwd) × (self.passwd.reloads ≡ B.conf.reloads) × (F.held self.passwd.files ≡ B.held) }
@@ -91,13 +90,13 @@ impl<F: FileSet + Drop> Openings<F> {
         let (group, group_pass) = group.enter::<B>()?;
         let (hosts, hosts_pass) = hosts.enter::<B>()?;
         let (services, services_pass) = services.enter::<B>()?;
-        let stores = Stores {
+        let stores = Databases {
             passwd,
             group,
             hosts,
             services,
         };
-        let passes = Passes {
+        let passes = Databases {
             passwd: passwd_pass,
             group: group_pass,
             hosts: hosts_pass,

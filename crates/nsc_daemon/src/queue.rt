@@ -2,8 +2,9 @@ ghost use Rattle.std.specs.Prelude.{◌≡◌, ◌<◌, ◌^◌, IfNone, IfSome,
 ghost use Rattle.nsc_server.specs.Jobs.{IsServable, given_after};
 
 use nsc_jobs::JobList;
+use nsc_model::next_count;
 use nsc_outside::{Sink, Source};
-use nsc_server::{Job, Jobs, one_more};
+use nsc_server::{Job, Jobs};
 use nsc_sockets::Role;
 use std::alloc::Global;
 use std::sync::{Arc, Wait};
@@ -47,7 +48,7 @@ impl<R: Source + Drop, K: Sink + Drop> Jobs for Queue<R, K> {
     {
         match self.list.take(rt) {
             Some(waiting) => {
-                self.taken = one_more(self.taken);
+                self.taken = next_count(self.taken);
                 let Waiting { input, output, now } = waiting;
                 Some(Job {
                     role: Role::Plain,

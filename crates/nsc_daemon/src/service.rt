@@ -15,9 +15,9 @@ use crate::terms::Terms;
 use crate::worker::Worker;
 use nsc_database::Room as InRoom;
 use nsc_jobs::JobList;
-use nsc_model::Store;
+use nsc_model::{Databases, Store};
 use nsc_outside::{FileSet, Sink, Source, write_all};
-use nsc_server::{Passes, Room, Stores};
+use nsc_server::Room;
 use nsc_sockets::{Clock, Listener, Role};
 use std::alloc::Global;
 use std::marker::Brand;
@@ -95,8 +95,8 @@ fn serve<
 >(
     rt: &RT,
     terms: &Terms<'_>,
-    stores: Stores<S>,
-    passes: Passes<S::Pass>,
+    stores: Databases<S>,
+    passes: Databases<S::Pass>,
     output: &mut K,
     clock: &mut C,
     net: &mut N,

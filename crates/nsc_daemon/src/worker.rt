@@ -4,9 +4,9 @@ ghost use Rattle.nsc_server.specs.Passes.{AreNamed, ArePasses};
 
 use crate::queue::{Queue, Waitings};
 use nsc_base::NoMemory;
-use nsc_model::Store;
+use nsc_model::{Databases, Store};
 use nsc_outside::{Sink, Source};
-use nsc_server::{Passes, Room, Stores, work};
+use nsc_server::{Room, work};
 use std::alloc::Global;
 use std::marker::Model;
 use std::sync::{Arc, Wait};
@@ -15,8 +15,8 @@ use std::time::Clock;
 /// One thread that serves connections: its passes, its buffer, and the connections that wait.
 #[derive(Drop)]
 pub struct Worker<S: Store + Drop, R: Source + Drop, K: Sink + Drop> {
-    pub stores: Arc<Stores<S>, Global>,
-    pub passes: Passes<S::Pass>,
+    pub stores: Arc<Databases<S>, Global>,
+    pub passes: Databases<S::Pass>,
     pub room: Room,
     pub queue: Queue<R, K>,
 }
@@ -37,7 +37,7 @@ impl<S: Store + Drop, R: Source + Drop, K: Sink + Drop> Worker<S, R, K> {
     /// A worker with passes of its own. Fails only for want of memory.
     pub fn new<RT: AllocGlobal + Wait>(
         rt: &RT,
-        stores: &Arc<Stores<S>, Global>,
+        stores: &Arc<Databases<S>, Global>,
         list: &Waitings<R, K>,
     ) -> Result<Worker<S, R, K>, NoMemory>
         requires { AreNamed S.Store (arc_value stores.now) }
@@ -73,15 +73,15 @@ impl<S: Store + Drop, R: Source + Drop, K: Sink + Drop> Worker<S, R, K> {
 /// A pass of each store. Fails only for want of memory.
 pub fn attach_all<RT: AllocGlobal + Wait, S: Store>(
     rt: &RT,
-    stores: &Stores<S>,
-) -> Result<Passes<S::Pass>, NoMemory>
+    stores: &Databases<S>,
+) -> Result<Databases<S::Pass>, NoMemory>
     ensures { IfOk result (ArePasses S.Store stores.now) }
 {
     let passwd = stores.passwd.attach(rt, rt.alloc())?;
     let group = stores.group.attach(rt, rt.alloc())?;
     let hosts = stores.hosts.attach(rt, rt.alloc())?;
     let services = stores.services.attach(rt, rt.alloc())?;
-    Ok(Passes {
+    Ok(Databases {
         passwd,
         group,
         hosts,

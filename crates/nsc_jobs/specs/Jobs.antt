@@ -1,8 +1,8 @@
--- What a list of jobs knows of its workers, when it calls one, and what a worker does that finds no job.
-use Rattle.std.specs.Prelude.{◌≡◌, ◌⊎◌, ◌+◌, ◌<◌, Bool, false, true, length, min}
+-- What a list of jobs knows of its workers, when it calls one, and what a worker does next.
+use Rattle.std.specs.Prelude.{◌≡◌, ◌⊎◌, ◌+◌, ◌<◌, Bool, false, true, [], ◌∷◌, length, min}
 use Rattle.nsc_jobs.specs.declared.queue.Queue.{Queue}
-use Rattle.nsc_jobs.specs.declared.queue.Idle.{Idle}
-use Rattle.nsc_jobs.specs.declared.queue.Idle.TheVariants as idle
+use Rattle.nsc_jobs.specs.declared.queue.Next.{Next}
+use Rattle.nsc_jobs.specs.declared.queue.Next.TheVariants as next
 
 -- no worker sleeps or looks for a job, and none is on its way
 pub record HasNoWorker {T : Type 0} (queue : Queue T) : Type 0 where
@@ -14,13 +14,18 @@ pub record HasNoWorker {T : Type 0} (queue : Queue T) : Type 0 where
 abbrev pub IsWorkerWanted : {T : Type 0} → Queue T → Type 0
 IsWorkerWanted queue = (0 < queue.sleeping) × (queue.is_called ≡ false) × (queue.looking < length queue.jobs.items)
 
--- a worker that finds no job leaves a closed list; it looks for one where it may, jobs are near each other, and no other looks; and
--- else it sleeps. The list counts the workers that look, and those that sleep up to the greatest number.
-abbrev pub Idles : {T : Type 0} → Idle → (may_look : Bool) → Queue T → Queue T → Type 0
-Idles idle.Leave may_look before after = (before.is_closed ≡ true) × (after ≡ before)
-Idles idle.Look may_look before after =
-    (before.is_closed ≡ false) × (may_look ≡ true) × (before.is_near ≡ true) × (before.looking ≡ 0)
-    × (after ≡ record before { looking = 1 })
-Idles idle.Sleep may_look before after =
-    (before.is_closed ≡ false) × ((may_look ≡ false) ⊎ (before.is_near ≡ false) ⊎ (0 < before.looking))
-    × (after ≡ record before { sleeping = min (before.sleeping + 1) 18446744073709551615 })
+-- there was no job, and is none
+abbrev pub HasNoJob : {T : Type 0} → Queue T → Queue T → Type 0
+HasNoJob before after = (before.jobs.items ≡ []) × (after.jobs.items ≡ [])
+
+-- A worker takes the first job. Where there is none, it leaves a closed list; it looks for a job where it may, jobs are near each
+-- other, and no other looks; and else it sleeps. The list counts the workers that look, and those that sleep up to the greatest number.
+abbrev pub GoesOn : {T : Type 0} → Next T → (may_look : Bool) → Queue T → Queue T → Type 0
+GoesOn (next.Job job) may_look before after = (before.jobs.items ≡ job ∷ after.jobs.items) × (after ≡ record before { jobs = after.jobs })
+GoesOn next.Leave may_look before after = HasNoJob before after × (before.is_closed ≡ true) × (after ≡ record before { jobs = after.jobs })
+GoesOn next.Look may_look before after =
+    HasNoJob before after × (before.is_closed ≡ false) × (may_look ≡ true) × (before.is_near ≡ true) × (before.looking ≡ 0)
+    × (after ≡ record before { jobs = after.jobs; looking = 1 })
+GoesOn next.Sleep may_look before after =
+    HasNoJob before after × (before.is_closed ≡ false) × ((may_look ≡ false) ⊎ (before.is_near ≡ false) ⊎ (0 < before.looking))
+    × (after ≡ record before { jobs = after.jobs; sleeping = min (before.sleeping + 1) 18446744073709551615 })

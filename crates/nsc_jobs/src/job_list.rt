@@ -1,4 +1,4 @@
-use crate::queue::{Idle, Queue};
+use crate::queue::{Next, Queue};
 use nsc_base::NoMemory;
 use nsc_yields::Yields;
 use std::alloc::Global;
@@ -53,22 +53,23 @@ impl<T: Drop> JobList<T> {
     pub fn take<R: Wait + Clock>(&self, rt: &R) -> Option<T> {
         let mut may_look = self.may_look;
         for _ in rt.forever() {
+            let now = moment(rt);
             let mut queue = self.queue.lock(rt);
-            if let Some(job) = queue.pop() {
-                self.end_turn(queue);
-                return Some(job);
-            }
-            let is_free = may_look && queue.yields.may_yield(moment(rt));
-            match queue.idle(is_free) {
-                Idle::Leave => return None,
-                Idle::Look => {
+            let is_free = may_look && queue.yields.may_yield(now);
+            match queue.next(is_free) {
+                Next::Job(job) => {
+                    self.end_turn(queue);
+                    return Some(job);
+                }
+                Next::Leave => return None,
+                Next::Look => {
                     let mut yields = queue.yields;
                     drop(queue);
                     self.look(rt, &mut yields);
                     self.queue.lock(rt).end_look(yields);
                     may_look = false;
                 }
-                Idle::Sleep => {
+                Next::Sleep => {
                     self.woken.wait(rt, queue).wake();
                     may_look = self.may_look;
                 }

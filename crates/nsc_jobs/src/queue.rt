@@ -1,6 +1,6 @@
 ghost use Rattle.std.specs.Prelude.{◌≡◌, ◌<◌, ◌++◌, ◌∷◌, [], ◌↔◌, ◌-◌, IsTrue, length, false, true, if◌then◌else◌, IfNone, OnOk, OnErr, option_to_list};
 ghost use Rattle.std.specs.Duration.{as_nanos};
-ghost use Rattle.nsc_jobs.specs.Jobs.{HasNoWorker, Idles, IsWorkerWanted};
+ghost use Rattle.nsc_jobs.specs.Jobs.{GoesOn, HasNoWorker, IsWorkerWanted};
 
 use nsc_base::NoMemory;
 use nsc_yields::Yields;
@@ -26,9 +26,11 @@ pub(crate) struct Queue<T: Drop> {
     latest: Duration,
 }
 
-/// What a worker does that found no job.
-#[derive(Clone, Copy, Debug, PartialEq, Eq)]
-pub(crate) enum Idle {
+/// What a worker does next.
+#[derive(Drop)]
+pub(crate) enum Next<T: Drop> {
+    /// It does this job.
+    Job(T),
     /// It leaves: no job will come.
     Leave,
     /// It looks for a job for a moment.
@@ -76,15 +78,6 @@ impl<T: Drop> Queue<T> {
         self.jobs.len() as u64
     }
 
-    /// Takes the job at the front. `None` only where there is none.
-    pub(crate) fn pop(&mut self) -> Option<T>
-        ensures jobs { self.old.jobs.items ≡ option_to_list result ++ self.new.jobs.items }
-        ensures empty { IfNone result (self.old.jobs.items ≡ []) }
-        ensures stays { self.new ≡ record self.old { jobs = self.new.jobs } }
-    {
-        self.jobs.pop_front()
-    }
-
     /// Whether one more worker is to be called, which is then on its way.
     pub(crate) fn call(&mut self) -> bool
         ensures wanted { IsTrue result ↔ IsWorkerWanted self.old }
@@ -97,19 +90,22 @@ impl<T: Drop> Queue<T> {
         is_wanted
     }
 
-    /// What a worker does for which there is no job, and notes that it does so. It looks for one only where it may, jobs are
-    /// near each other, and no other worker looks.
-    pub(crate) fn idle(&mut self, may_look: bool) -> Idle
-        ensures { Idles result may_look self.old self.new }
+    /// What a worker does next, and notes that it does so. It takes the job at the front. Where there is none it leaves a closed
+    /// list, and looks for a job only where it may, jobs are near each other, and no other worker looks.
+    pub(crate) fn next(&mut self, may_look: bool) -> Next<T>
+        ensures { GoesOn result may_look self.old self.new }
     {
-        if self.is_closed {
-            Idle::Leave
-        } else if may_look && self.is_near && self.looking == 0 {
-            self.looking = 1;
-            Idle::Look
-        } else {
-            self.sleeping = self.sleeping.saturating_add(1);
-            Idle::Sleep
+        match self.jobs.pop_front() {
+            Some(job) => Next::Job(job),
+            None if self.is_closed => Next::Leave,
+            None if may_look && self.is_near && self.looking == 0 => {
+                self.looking = 1;
+                Next::Look
+            }
+            None => {
+                self.sleeping = self.sleeping.saturating_add(1);
+                Next::Sleep
+            }
         }
     }
 

@@ -9,7 +9,7 @@ use Rattle.nsc_model.specs.declared.store.LookupFault.TheVariants as fault
 use Rattle.nsc_model.specs.declared.store.InvalidateFault.{InvalidateFault}
 use Rattle.nsc_model.specs.declared.store.InvalidateFault.TheVariants as invalidate_fault
 use Rattle.nsc_model.specs.Databases.{database_in}
-use Rattle.nsc_model.specs.Kinds.{database_of}
+use Rattle.nsc_model.specs.Kinds.{database_of, db_named}
 use Rattle.nsc_model.specs.Stores.{IsFault, IsInvalidateFault}
 use Rattle.nsc_model.specs.Wire.{Asked, Look, Shutdown, Stat, Invalidate, Descriptor, Netgroup, Short, BadVersion, BadType, BadLength, request_of}
 use Rattle.nsc_sockets.specs.declared.role.Role.{Role}
@@ -18,7 +18,7 @@ use Rattle.nsc_server.specs.declared.served.Served.TheVariants as served
 use Rattle.nsc_server.specs.declared.served.Closing.{Closing}
 use Rattle.nsc_server.specs.Passes.{PassAt}
 use Rattle.nsc_server.specs.Requests.{GetsShort, IsNeeded, closing_of}
-use Rattle.nsc_server.specs.Outcomes.{Answers, Completes, CountsInput, Ends, IsRefusal, IsInvalidateRefusal, NoInvalidateFault, NoLookFault, NoStoreFault, OthersStay, Serves, Side, StreamAt, db_named, replied_to, served_by, served_after}
+use Rattle.nsc_server.specs.Outcomes.{Answers, Completes, CountsInput, Ends, IsRefusal, IsInvalidateRefusal, NoInvalidateFault, NoLookFault, NoStoreFault, OthersStay, Serves, Side, StreamAt, replied_to, served_by, served_after}
 
 look_lacked : (f : LookupFault) (before after : PassAt) → IsFault f after.seen before.faults after.faults before.file_faults after.file_faults
     → NoLookFault before after → served_by f ≡ served.NoMemory
@@ -29,25 +29,25 @@ look_lacked (fault.TooLong file size) before after is calm = absurd (calm.calm i
 
 invalidate_lacked : (f : InvalidateFault) (after : PassAt) → IsInvalidateFault f after.seen → NoInvalidateFault after → served_after f ≡ served.NoMemory
 invalidate_lacked invalidate_fault.NoMemory after is calm = refl
-invalidate_lacked (invalidate_fault.Spent count) after is calm = absurd (calm count is)
+invalidate_lacked (invalidate_fault.Spent count) after is calm = absurd (calm count is.0)
 
 named_lacked : (which : Option Db) (after : Databases PassAt) (by : Served) → IsInvalidateRefusal which after by → IfSome which (λ db. NoInvalidateFault (database_in after db)) → by ≡ served.NoMemory
 named_lacked (Some which) after by is calm = is.1 ∙ invalidate_lacked is.0 (database_in after which) is.2 calm
 named_lacked None after by is calm = absurd is
 
 -- a reply that is refused though no fault came is refused for want of memory
-lacked : (asked : Asked) (before after : Databases PassAt) (by : Served) → IsRefusal asked before after by → NoStoreFault asked before after → by ≡ served.NoMemory
-lacked (Look request) before after by is calm =
-    is.1 ∙ look_lacked is.0 (database_in before (database_of request.kind)) (database_in after (database_of request.kind)) is.2 calm
-lacked Shutdown before after by is calm = absurd is
-lacked Stat before after by is calm = is
-lacked (Invalidate name) before after by is calm = named_lacked (db_named name) after by is calm
-lacked Descriptor before after by is calm = absurd is
-lacked Netgroup before after by is calm = absurd is
-lacked (Short have) before after by is calm = absurd is
-lacked (BadVersion version) before after by is calm = absurd is
-lacked (BadType type) before after by is calm = absurd is
-lacked (BadLength size) before after by is calm = absurd is
+lacked : (settings : Databases DbConf) (asked : Asked) (before after : Databases PassAt) (by : Served) → IsRefusal settings asked before after by → NoStoreFault asked before after → by ≡ served.NoMemory
+lacked settings (Look request) before after by is calm =
+    is.told ∙ look_lacked is.cause (database_in before (database_of request.kind)) (database_in after (database_of request.kind)) is.fault calm
+lacked settings Shutdown before after by is calm = absurd is
+lacked settings Stat before after by is calm = is
+lacked settings (Invalidate name) before after by is calm = named_lacked (db_named name) after by is calm
+lacked settings Descriptor before after by is calm = absurd is
+lacked settings Netgroup before after by is calm = absurd is
+lacked settings (Short have) before after by is calm = absurd is
+lacked settings (BadVersion version) before after by is calm = absurd is
+lacked settings (BadType type) before after by is calm = absurd is
+lacked settings (BadLength size) before after by is calm = absurd is
 
 abbrev IsClosed : Option Closing → Type 0
 IsClosed None = ⊥
@@ -63,11 +63,11 @@ completes settings moment on asked left input input' before after (served.Ended 
 completes settings moment on asked left input input' before after served.ReadFault e n a f = absurd (f.input_calm n)
 completes settings moment on asked left input input' before after served.WriteFault e n a f = absurd (f.output_calm e.2.failed)
 completes settings moment on asked left input input' before after (served.SourceFault file) e n a f =
-    inr (lacked asked before.passes after.passes (served.SourceFault file) e.2.refusal f.store_calm)
+    inr (lacked settings asked before.passes after.passes (served.SourceFault file) e.2.refusal f.store_calm)
 completes settings moment on asked left input input' before after (served.TooLong file size) e n a f =
-    inr (lacked asked before.passes after.passes (served.TooLong file size) e.2.refusal f.store_calm)
+    inr (lacked settings asked before.passes after.passes (served.TooLong file size) e.2.refusal f.store_calm)
 completes settings moment on asked left input input' before after (served.Spent count) e n a f =
-    inr (lacked asked before.passes after.passes (served.Spent count) e.2.refusal f.store_calm)
+    inr (lacked settings asked before.passes after.passes (served.Spent count) e.2.refusal f.store_calm)
 completes settings moment on asked left input input' before after served.NoMemory e n a f = inr refl
 
 -- ---- the whole

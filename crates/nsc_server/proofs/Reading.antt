@@ -1,10 +1,10 @@
 -- How far a request is read.
-use Rattle.std.proofs.Common.{◌≡◌, ℕ, ◌+◌, ◌-◌, ◌<◌, ◌≤◌, ◌==◌, nat_lt, if◌then◌else◌, ℤ, Bool, true, false, true≢false, List, [], ◌∷◌, ◌++◌, length, take, drop, Option, Some, None, refl, sym, ◌∙◌, ap, subst, inl, inr, arith, length-append, length-drop, append-nil}
+use Rattle.std.proofs.Common.{◌≡◌, ℕ, ◌+◌, ◌-◌, ◌<◌, ◌≤◌, ◌==◌, nat_lt, if◌then◌else◌, ℤ, Bool, true, false, true≢false, List, [], ◌∷◌, ◌++◌, length, take, drop, Option, Some, None, refl, sym, ◌∙◌, ap, ap₂, subst, inl, inr, arith, length-append, length-drop, append-nil}
 use Rattle.std.proofs.lemmas.List.{length-take-le, take-take, take-append-le, drop-append-le}
 use Rattle.std.proofs.lemmas.Bool.{cases_lt, lt-ltb, le-ltb, ltb-true, ltb-false}
 use Rattle.std.proofs.Math.Seq.{take-append-add}
 use borrow.Rule.Slice.PartMut.{put_mid, same_len_mid}
-use Rattle.byteorder.specs.Endian.{little_number}
+use Rattle.byteorder.specs.Endian.{little_number, twos_complement}
 use Rattle.byteorder.specs.Numbers.{little_from-take}
 use Rattle.nsc_outside.specs.Stream.{Moves, MovesFewer, IsDrained}
 use Rattle.nsc_outside.proofs.Streams.{Moves-then, take-written}
@@ -103,6 +103,50 @@ whole_otherwise false false false false false key = tt
 whole_look : (kind : Option Kind) (type : ℕ) (key : List ℕ) → Whole (asked_look kind type key)
 whole_look (Some kind) type key = tt
 whole_look None type key = whole_otherwise (type == 8) (type == 9) (type == 10) (type == 19) (type == 20) (text_key key)
+
+-- ---- a request that is whole, or refused
+
+stays_by : (few few' known high long cut cut' : Bool) (size size' : ℕ) (version type key : ℤ) (asked asked' : Asked) → (few ≡ false → few' ≡ false) → (cut ≡ false → (cut' ≡ false) × (asked' ≡ asked))
+    → Whole (tested few known high long cut size version type key asked) → tested few' known high long cut' size' version type key asked' ≡ tested few known high long cut size version type key asked
+stays_by true few' known high long cut cut' size size' version type key asked asked' f c w = absurd w
+stays_by false true known high long cut cut' size size' version type key asked asked' f c w = absurd (true≢false (f refl))
+stays_by false false false high long cut cut' size size' version type key asked asked' f c w = refl
+stays_by false false true true long cut cut' size size' version type key asked asked' f c w = refl
+stays_by false false true false true cut cut' size size' version type key asked asked' f c w = refl
+stays_by false false true false false true cut' size size' version type key asked asked' f c w = absurd w
+stays_by false false true false false false true size size' version type key asked asked' f c w = absurd (true≢false (c refl).0)
+stays_by false false true false false false false size size' version type key asked asked' f c w = (c refl).1
+
+-- what stands after a request that is whole, or refused, is not looked at
+whole_stays : (front rest : List ℕ) → Whole (request_of front) → request_of (front ++ rest) ≡ request_of front
+whole_stays front rest w =
+    elim (cases_lt (length front) 12) [
+      | inl few ↦ absurd (subst Whole (short_below front few) w)
+      | inr all ↦ later all
+    ] where
+      later : 12 ≤ length front → request_of (front ++ rest) ≡ request_of front
+      later all =
+          let bytes : List ℕ = front ++ rest in
+          let size_is : length bytes ≡ length front + length rest = length-append front rest in
+          let same : (at : ℕ) → at + 4 ≤ 12 → field_in bytes at ≡ field_in front at = λ at within. field-append at front rest (omega (arith, all, within)) in
+          let version = same 0 (omega arith) in
+          let type = same 4 (omega arith) in
+          let size = same 8 (omega arith) in
+          let look : ℕ → ℕ → List ℕ → Asked = λ t n key. asked_look (kind_numbered t) t (take n key) in
+          let key : nat_lt (length front) (12 + field_in front 8) ≡ false → look (field_in bytes 4) (field_in bytes 8) (drop 12 bytes) ≡ look (field_in front 4) (field_in front 8) (drop 12 front) = λ whole.
+          let enough : 12 + field_in front 8 ≤ length front = ltb-false (length front) (12 + field_in front 8) whole in
+          ap₂ (λ t n. look t n (drop 12 bytes)) type size ∙ ap (λ k. asked_look (kind_numbered (field_in front 4)) (field_in front 4) k)
+          (ap (take (field_in front 8)) (drop-append-le 12 front rest all) ∙ take-append-le (field_in front 8) (drop 12 front) rest (rw (length-drop 12 front) (omega (arith, enough)))) in
+          let fields = ap₂ (λ n m. tested (nat_lt (length bytes) 12) (n == 2) (nat_lt 21 m) (nat_lt key_limit (field_in bytes 8)) (nat_lt (length bytes) (12 + field_in bytes 8)) (length bytes) (twos_complement 4 n) (twos_complement 4 m) (signed_field_in bytes 8) (look (field_in bytes 4) (field_in bytes 8) (drop 12 bytes))) version type
+          ∙ ap (λ n. tested (nat_lt (length bytes) 12) (field_in front 0 == 2) (nat_lt 21 (field_in front 4)) (nat_lt key_limit n) (nat_lt (length bytes) (12 + n)) (length bytes) (signed_field_in front 0) (signed_field_in front 4) (twos_complement 4 n) (look (field_in bytes 4) (field_in bytes 8) (drop 12 bytes))) size in
+          fields ∙ stays_by (nat_lt (length front) 12) (nat_lt (length bytes) 12) (field_in front 0 == 2) (nat_lt 21 (field_in front 4)) (nat_lt key_limit (field_in front 8))
+          (nat_lt (length front) (12 + field_in front 8)) (nat_lt (length bytes) (12 + field_in front 8)) (length front) (length bytes)
+          (signed_field_in front 0) (signed_field_in front 4) (signed_field_in front 8) (look (field_in front 4) (field_in front 8) (drop 12 front)) (look (field_in bytes 4) (field_in bytes 8) (drop 12 bytes))
+          (λ few. le-ltb (length bytes) 12 (omega (arith, all, size_is)))
+          (λ whole. (le-ltb (length bytes) (12 + field_in front 8) (omega (arith, size_is, ltb-false (length front) (12 + field_in front 8) whole)), key whole)) w
+
+pub shutdown_stays : (front rest : List ℕ) → request_of front ≡ Shutdown → request_of (front ++ rest) ≡ Shutdown
+shutdown_stays front rest is = whole_stays front rest (subst Whole (sym is) tt) ∙ is
 
 -- ---- what is wanted
 

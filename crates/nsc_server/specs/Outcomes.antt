@@ -1,9 +1,7 @@
 -- What came of one connection.
-use Rattle.std.specs.Prelude.{◌≡◌, ◌≢◌, ℕ, List, [], ◌∷◌, ◌⊎◌, Option, Some, None, IfSome, if◌then◌else◌}
-use Rattle.std.specs.Str.{bytes_eq}
-use Rattle.nsc_outside.specs.Stream.{Rose, Moves, IsDrained, Grows, GrowsByFront}
+use Rattle.std.specs.Prelude.{◌≡◌, ◌≢◌, ℕ, List, [], ◌∷◌, ◌⊎◌, Option, Some, None, IfSome}
+use Rattle.nsc_outside.specs.Stream.{Moves, IsDrained, Grows, GrowsByFront}
 use Rattle.nsc_model.specs.declared.kind.Db.{Db}
-use Rattle.nsc_model.specs.declared.kind.Db.TheVariants as db
 use Rattle.nsc_model.specs.declared.conf.DbConf.{DbConf}
 use Rattle.nsc_model.specs.declared.answer.Request.{Request}
 use Rattle.nsc_model.specs.declared.databases.Databases.{Databases}
@@ -14,21 +12,21 @@ use Rattle.nsc_model.specs.declared.store.InvalidateFault.TheVariants as invalid
 use Rattle.nsc_model.specs.declared.store.Given.{Given}
 use Rattle.nsc_model.specs.declared.store.Stats.{Stats}
 use Rattle.nsc_model.specs.Databases.{database_in}
-use Rattle.nsc_model.specs.History.{Answered}
-use Rattle.nsc_model.specs.Kinds.{database_of}
+use Rattle.nsc_model.specs.History.{Answered, Legal}
+use Rattle.nsc_model.specs.Kinds.{database_of, db_named}
 use Rattle.nsc_model.specs.Machine.{room_of}
-use Rattle.nsc_model.specs.Stores.{FaultsRose, IsCounted, IsEmptied, IsFault, IsGiven, IsInvalidateFault, IsSpent, IsUnmoved, reply_of}
+use Rattle.nsc_model.specs.Reads.{Rose}
+use Rattle.nsc_model.specs.Stores.{IsCounted, IsEmptied, IsFault, IsGiven, IsInvalidateFault, IsMissedAt, IsSpent, IsUnmoved, reply_of}
 use Rattle.nsc_model.specs.Wire.{Asked, Look, Shutdown, Stat, Invalidate, Short, field, request_of}
 use Rattle.nsc_sockets.specs.declared.role.Role.{Role}
 use Rattle.nsc_server.specs.declared.served.Served.{Served}
 use Rattle.nsc_server.specs.declared.served.Served.TheVariants as served
 use Rattle.nsc_server.specs.Requests.{IsNeeded, closing_of}
 use Rattle.nsc_server.specs.Passes.{PassAt, OthersThan, passes_at}
-use Rattle.nsc_server.specs.declared.passes.Passes.{Passes}
 use Rattle.nsc_outside.specs.declared.stream.Source as source
 use Rattle.nsc_outside.specs.declared.stream.Sink as sink
 use Rattle.nsc_model.specs.declared.store.Store as store
-use Rattle.nsc_server.specs.Stats.{name_of, stats_text}
+use Rattle.nsc_server.specs.Stats.{stats_text}
 
 -- ---- faults of a store
 
@@ -45,14 +43,6 @@ served_after (invalidate_fault.Spent count) = served.Spent count
 
 -- ---- replies
 
--- the database of this name
-abbrev pub db_named : List ℕ → Option Db
-db_named name =
-    if bytes_eq name (name_of db.Passwd) then Some db.Passwd else (
-    if bytes_eq name (name_of db.Group) then Some db.Group else (
-    if bytes_eq name (name_of db.Hosts) then Some db.Hosts else (
-    if bytes_eq name (name_of db.Services) then Some db.Services else None)))
-
 -- the fields that answer a control request: done, and EINVAL where the name is no database
 abbrev pub done : List ℕ
 done = field 0
@@ -60,8 +50,9 @@ done = field 0
 abbrev pub no_database : List ℕ
 no_database = field 22
 
--- a pass was answered, as its store says at this moment
+-- a pass was answered, as its store says at this moment, and what it has seen is legal
 pub record IsLookReply (settings : DbConf) (moment : ℕ) (request : Request) (before after : PassAt) (reply : List ℕ) : Type 0 where
+  pub legal : Legal after.seen
   pub answered : Answered before.seen after.seen request reply
   pub given : Given
   pub says : reply_of given ≡ reply
@@ -101,19 +92,24 @@ IsReply settings moment Stat before after reply = IsStatReply settings after rep
 IsReply settings moment (Invalidate name) before after reply = IsInvalidateReply (db_named name) before after reply
 IsReply settings moment _ before after reply = ⊥
 
--- why there is no reply: as the store's call answered
-abbrev pub IsLookFault : PassAt → PassAt → Served → Type 0
-IsLookFault before after by = (f : LookupFault) × (by ≡ served_by f) × IsFault f after.seen before.faults after.faults before.file_faults after.file_faults
+-- why there is no reply: as the store's call answered, which gives up only where no entry answers, unless memory was wanting; what the
+-- pass has seen is legal
+pub record IsLookFault (settings : DbConf) (request : Request) (before after : PassAt) (by : Served) : Type 0 where
+  pub legal : Legal after.seen
+  pub cause : LookupFault
+  pub told : by ≡ served_by cause
+  pub fault : IsFault cause after.seen before.faults after.faults before.file_faults after.file_faults
+  pub missed : IsMissedAt cause settings before.seen after.seen request
 
 abbrev pub IsInvalidateRefusal : Option Db → Databases PassAt → Served → Type 0
 IsInvalidateRefusal (Some which) after by = (f : InvalidateFault) × (by ≡ served_after f) × IsInvalidateFault f (database_in after which).seen
 IsInvalidateRefusal None after by = ⊥
 
-abbrev pub IsRefusal : Asked → Databases PassAt → Databases PassAt → Served → Type 0
-IsRefusal (Look request) before after by = IsLookFault (database_in before (database_of request.kind)) (database_in after (database_of request.kind)) by
-IsRefusal Stat before after by = by ≡ served.NoMemory
-IsRefusal (Invalidate name) before after by = IsInvalidateRefusal (db_named name) after by
-IsRefusal _ before after by = ⊥
+abbrev pub IsRefusal : Databases DbConf → Asked → Databases PassAt → Databases PassAt → Served → Type 0
+IsRefusal settings (Look request) before after by = IsLookFault (database_in settings (database_of request.kind)) request (database_in before (database_of request.kind)) (database_in after (database_of request.kind)) by
+IsRefusal settings Stat before after by = by ≡ served.NoMemory
+IsRefusal settings (Invalidate name) before after by = IsInvalidateRefusal (db_named name) after by
+IsRefusal settings _ before after by = ⊥
 
 -- the passes of the databases that what was asked does not concern are as before
 abbrev pub OthersStay : Asked → Databases PassAt → Databases PassAt → Type 0
@@ -140,7 +136,7 @@ stream_in g input = record { bytes = g.left input; faults = g.faults input }
 abbrev pub stream_out : {K : Type 0} → sink.Ghosts K → K → StreamAt
 stream_out g output = record { bytes = g.taken output; faults = g.faults output }
 
-abbrev pub side : {S P K : Type 0} → store.Ghosts S P → sink.Ghosts K → Passes P → K → Side
+abbrev pub side : {S P K : Type 0} → store.Ghosts S P → sink.Ghosts K → Databases P → K → Side
 side stores sinks passes output = record { output = stream_out sinks output; passes = passes_at stores passes }
 
 -- a reply was written, and this came of it; or the output failed, and took a front of it
@@ -164,9 +160,9 @@ pub record IsCutShort (settings : Databases DbConf) (moment : ℕ) (asked : Aske
   pub failed : Rose before.output.faults after.output.faults
 
 -- nothing was written, since there is no reply
-pub record IsRefused (asked : Asked) (before after : Side) (by : Served) : Type 0 where
+pub record IsRefused (settings : Databases DbConf) (asked : Asked) (before after : Side) (by : Served) : Type 0 where
   pub silent : after.output ≡ before.output
-  pub refusal : IsRefusal asked before.passes after.passes by
+  pub refusal : IsRefusal settings asked before.passes after.passes by
 
 -- SHUTDOWN is told by an outcome of its own
 abbrev pub replied_to : Asked → Served
@@ -181,10 +177,10 @@ Answers settings moment asked before after served.WriteFault = IsCutShort settin
 Answers settings moment asked before after (served.Closed why) = ⊥
 Answers settings moment asked before after (served.Ended have) = ⊥
 Answers settings moment asked before after served.ReadFault = ⊥
-Answers settings moment asked before after (served.SourceFault file) = IsRefused asked before after (served.SourceFault file)
-Answers settings moment asked before after (served.TooLong file size) = IsRefused asked before after (served.TooLong file size)
-Answers settings moment asked before after (served.Spent count) = IsRefused asked before after (served.Spent count)
-Answers settings moment asked before after served.NoMemory = IsRefused asked before after served.NoMemory
+Answers settings moment asked before after (served.SourceFault file) = IsRefused settings asked before after (served.SourceFault file)
+Answers settings moment asked before after (served.TooLong file size) = IsRefused settings asked before after (served.TooLong file size)
+Answers settings moment asked before after (served.Spent count) = IsRefused settings asked before after (served.Spent count)
+Answers settings moment asked before after served.NoMemory = IsRefused settings asked before after served.NoMemory
 
 -- what came of a connection on which this was asked: it is refused, or not whole, or answered
 abbrev pub Ends : Databases DbConf → ℕ → Role → Asked → Option (List ℕ) → Side → Side → Served → Type 0
@@ -202,7 +198,7 @@ CountsInput _ before after = after ≡ before
 
 -- of a lookup: no count of faults of the pass rose, and the count of versions is not at its end
 pub record NoLookFault (before after : PassAt) : Type 0 where
-  pub calm : FaultsRose before.faults after.faults → ⊥
+  pub calm : Rose before.faults after.faults → ⊥
   pub count_left : (count : ℕ) → IsSpent after.seen count → ⊥
 
 -- of an invalidation: no count that it needs is at its end

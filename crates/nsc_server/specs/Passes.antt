@@ -9,8 +9,6 @@ use Rattle.nsc_model.specs.declared.databases.Databases.{Databases}
 use Rattle.nsc_model.specs.declared.store.Store as store
 use Rattle.nsc_model.specs.Databases.{database_in}
 use Rattle.nsc_model.specs.History.{IsPrefix}
-use Rattle.nsc_server.specs.declared.passes.Stores.{Stores}
-use Rattle.nsc_server.specs.declared.passes.Passes.{Passes}
 
 -- at one moment: what a pass has seen, and the counts of its faults, in all and of each file
 pub record PassAt : Type 0 where
@@ -19,28 +17,28 @@ pub record PassAt : Type 0 where
   pub file_faults : FileId → ℕ
 
 -- each store is of the database that its field names
-pub record AreNamed {S P : Type 0} (g : store.Ghosts S P) (stores : Stores S) : Type 0 where
+pub record AreNamed {S P : Type 0} (g : store.Ghosts S P) (stores : Databases S) : Type 0 where
   pub passwd_is : g.db stores.passwd ≡ db.Passwd
   pub group_is : g.db stores.group ≡ db.Group
   pub hosts_is : g.db stores.hosts ≡ db.Hosts
   pub services_is : g.db stores.services ≡ db.Services
 
 -- each pass is one of its store
-pub record ArePasses {S P : Type 0} (g : store.Ghosts S P) (stores : Stores S) (passes : Passes P) : Type 0 where
+pub record ArePasses {S P : Type 0} (g : store.Ghosts S P) (stores : Databases S) (passes : Databases P) : Type 0 where
   pub passwd_is : g.is_pass stores.passwd passes.passwd
   pub group_is : g.is_pass stores.group passes.group
   pub hosts_is : g.is_pass stores.hosts passes.hosts
   pub services_is : g.is_pass stores.services passes.services
 
 -- the settings of each store
-abbrev pub settings_of : {S P : Type 0} → store.Ghosts S P → Stores S → Databases DbConf
+abbrev pub settings_of : {S P : Type 0} → store.Ghosts S P → Databases S → Databases DbConf
 settings_of g stores = record { passwd = g.settings stores.passwd; group = g.settings stores.group; hosts = g.settings stores.hosts; services = g.settings stores.services }
 
 -- a pass as it stands, and each of them
 abbrev pub pass_at : {S P : Type 0} → store.Ghosts S P → P → PassAt
 pass_at g pass = record { seen = g.seen pass; faults = g.faults pass; file_faults = g.file_faults pass }
 
-abbrev pub passes_at : {S P : Type 0} → store.Ghosts S P → Passes P → Databases PassAt
+abbrev pub passes_at : {S P : Type 0} → store.Ghosts S P → Databases P → Databases PassAt
 passes_at g passes = record { passwd = pass_at g passes.passwd; group = pass_at g passes.group; hosts = pass_at g passes.hosts; services = pass_at g passes.services }
 
 -- what each pass had seen is the beginning of what it has seen

@@ -3,13 +3,7 @@ use Rattle.std.specs.Prelude.{ℕ, Bool, if◌then◌else◌, List, [], ◌∷�
 use Rattle.nsc_model.specs.declared.kind.Db.{Db}
 use Rattle.nsc_model.specs.declared.kind.Db.TheVariants as db
 use Rattle.nsc_model.specs.declared.store.Stats.{Stats}
-
--- the name of a database
-abbrev pub name_of : Db → List ℕ
-name_of db.Passwd = codes "passwd"
-name_of db.Group = codes "group"
-name_of db.Hosts = codes "hosts"
-name_of db.Services = codes "services"
+use Rattle.nsc_model.specs.Kinds.{name_of}
 
 -- a line: what is counted, and the count in decimal
 abbrev pub line : List ℕ → ℕ → List ℕ

@@ -2,16 +2,15 @@ ghost use Rattle.std.specs.Prelude.{IfOk};
 ghost use Rattle.nsc_server.specs.Outcomes.{AreCounts};
 ghost use Rattle.nsc_server.specs.Passes.{ArePasses, SawMore, passes_at, settings_of};
 
-use crate::passes::{Passes, Stores};
 use nsc_base::NoMemory;
-use nsc_model::{Stats, Store};
+use nsc_model::{Databases, Stats, Store};
 use std::sync::Wait;
 
 // What the four databases count.
 pub(crate) fn all_stats<R: Wait, S: Store>(
     rt: &R,
-    stores: &Stores<S>,
-    passes: &mut Passes<S::Pass>,
+    stores: &Databases<S>,
+    passes: &mut Databases<S::Pass>,
 ) -> Result<[Stats; 4], NoMemory>
     requires { ArePasses S.Store stores.now passes.old }
     ensures passes { ArePasses S.Store stores.now passes.new }

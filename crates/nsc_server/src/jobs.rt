@@ -1,11 +1,10 @@
-ghost use Rattle.std.specs.Prelude.{◌≡◌, ◌+◌, ◌^◌, ◌≤◌, IfNone, IfSome, min, true};
+ghost use Rattle.std.specs.Prelude.{◌≡◌, ◌^◌, ◌≤◌, IfNone, IfSome, true};
 ghost use Rattle.nsc_server.specs.Jobs.{IsServable, given_after};
 ghost use Rattle.nsc_server.specs.Passes.{AreNamed, ArePasses, SawMore, passes_at};
 
-use crate::passes::{Passes, Stores};
 use crate::room::Room;
 use crate::serve::serve_one;
-use nsc_model::Store;
+use nsc_model::{Databases, Store, next_count};
 use nsc_outside::{Sink, Source};
 use nsc_sockets::Role;
 use std::sync::Wait;
@@ -51,8 +50,8 @@ pub trait Jobs {
 pub fn work<RT: AllocGlobal + Wait + Clock, J: Jobs, S: Store>(
     rt: &RT,
     jobs: &mut J,
-    stores: &Stores<S>,
-    passes: &mut Passes<S::Pass>,
+    stores: &Databases<S>,
+    passes: &mut Databases<S::Pass>,
     room: &mut Room,
 ) -> u64
     requires named { AreNamed S.Store stores.now }
@@ -78,21 +77,7 @@ pub fn work<RT: AllocGlobal + Wait + Clock, J: Jobs, S: Store>(
             job.role,
             job.now,
         );
-        count = one_more(count);
+        count = next_count(count);
     }
     count
-}
-
-// Where a number of connections stays: 2^62.
-const COUNT_LIMIT: u64 = 4_611_686_018_427_387_904;
-
-/// A number of connections with one more, which stays at 2^62.
-pub fn one_more(count: u64) -> u64
-    ensures { result ≡ min (count + 1) (2 ^ 62) }
-{
-    if count < COUNT_LIMIT {
-        count + 1
-    } else {
-        COUNT_LIMIT
-    }
 }

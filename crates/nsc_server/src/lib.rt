@@ -5,15 +5,12 @@ mod admitted;
 mod counts;
 mod jobs;
 mod made;
-mod names;
-mod passes;
 mod room;
 mod serve;
 mod served;
 mod statistics;
 
-pub use jobs::{Job, Jobs, one_more, work};
-pub use passes::{Passes, Stores};
+pub use jobs::{Job, Jobs, work};
 pub use room::Room;
 pub use serve::serve_one;
 pub use served::{Closing, Served};

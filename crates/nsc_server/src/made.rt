@@ -1,16 +1,15 @@
 ghost use Rattle.std.specs.Prelude.{◌≡◌, ◌≤◌, ◌<◌, ◌^◌, length, IfErr, IfOk};
 ghost use Rattle.nsc_model.specs.Databases.{database_in};
-ghost use Rattle.nsc_model.specs.Stores.{IsFault, IsGiven, IsInvalidateFault, IsEmptied, reply_of};
-ghost use Rattle.nsc_model.specs.History.{Answered};
+ghost use Rattle.nsc_model.specs.Stores.{IsFault, IsGiven, IsInvalidateFault, IsEmptied, IsMissedAt, reply_of};
+ghost use Rattle.nsc_model.specs.History.{Answered, Legal};
 ghost use Rattle.nsc_model.specs.Entry.{key_limit};
 ghost use Rattle.nsc_model.specs.Kinds.{database_of};
 ghost use Rattle.nsc_server.specs.Made.{bytes_of};
 ghost use Rattle.nsc_server.specs.Passes.{AreNamed, ArePasses, SawMore, OthersThan, passes_at, settings_of};
 
-use crate::passes::{Passes, Stores};
 use crate::served::Served;
 use nsc_base::Bytes;
-use nsc_model::{Db, Given, InvalidateFault, Kind, LookupFault, Store};
+use nsc_model::{Databases, Db, Given, InvalidateFault, Kind, LookupFault, Store};
 use std::alloc::Global;
 use std::sync::Wait;
 
@@ -58,8 +57,8 @@ pub(crate) fn reply_bytes(given: Given) -> Bytes
 pub(crate) fn look_up<R: Wait, S: Store>(
     rt: &R,
     alloc: Global,
-    stores: &Stores<S>,
-    passes: &mut Passes<S::Pass>,
+    stores: &Databases<S>,
+    passes: &mut Databases<S::Pass>,
     kind: Kind,
     key: &[u8],
     now: u64,
@@ -75,6 +74,8 @@ pub(crate) fn look_up<R: Wait, S: Store>(
     ensures others { OthersThan db (passes_at S.Store passes.old) (passes_at S.Store passes.new) }
     ensures answered { IfOk result (λ g. Answered (database_in (passes_at S.Store passes.old) db).seen (database_in (passes_at S.Store passes.new) db).seen (record { kind = kind; key = key.now }) (reply_of g)) }
     ensures given { IfOk result (λ g. IsGiven g (database_in (settings_of S.Store stores.now) db) now (database_in (passes_at S.Store passes.old) db).seen (database_in (passes_at S.Store passes.new) db).seen (record { kind = kind; key = key.now })) }
+    ensures legal { Legal (database_in (passes_at S.Store passes.new) db).seen }
+    ensures missed { IfErr result (λ fault. IsMissedAt fault (database_in (settings_of S.Store stores.now) db) (database_in (passes_at S.Store passes.old) db).seen (database_in (passes_at S.Store passes.new) db).seen (record { kind = kind; key = key.now })) }
     ensures fault { IfErr result (λ fault. IsFault fault (database_in (passes_at S.Store passes.new) db).seen (database_in (passes_at S.Store passes.old) db).faults (database_in (passes_at S.Store passes.new) db).faults (database_in (passes_at S.Store passes.old) db).file_faults (database_in (passes_at S.Store passes.new) db).file_faults) }
 {
     match db {
@@ -96,8 +97,8 @@ pub(crate) fn look_up<R: Wait, S: Store>(
 // Empties one of the databases.
 pub(crate) fn empty<R: Wait, S: Store>(
     rt: &R,
-    stores: &Stores<S>,
-    passes: &mut Passes<S::Pass>,
+    stores: &Databases<S>,
+    passes: &mut Databases<S::Pass>,
     db: Db,
 ) -> Result<u64, InvalidateFault>
     requires { ArePasses S.Store stores.now passes.old }

@@ -1,24 +1,22 @@
 ghost use Rattle.std.specs.Prelude.{◌≡◌, ◌^◌, ◌<◌, ◌≤◌, length, IfErr, IfOk};
 ghost use Rattle.nsc_model.specs.Databases.{database_in};
 ghost use Rattle.nsc_model.specs.Entry.{key_limit};
-ghost use Rattle.nsc_model.specs.Kinds.{database_of};
+ghost use Rattle.nsc_model.specs.Kinds.{database_of, db_named};
 ghost use Rattle.nsc_model.specs.Wire.{Invalidate};
 ghost use Rattle.nsc_wire.specs.Request.{KeyFits, KeyIsIn, asked_by};
 ghost use Rattle.nsc_server.specs.Admitted.{wire_of};
 ghost use Rattle.nsc_server.specs.Made.{bytes_of};
-ghost use Rattle.nsc_server.specs.Outcomes.{Answers, IsInvalidateRefusal, IsInvalidateReply, IsLookFault, IsLookReply, IsRefusal, IsReply, IsStatReply, OthersStay, Serves, WritesReply, db_named, side, stream_in, stream_out};
+ghost use Rattle.nsc_server.specs.Outcomes.{Answers, IsInvalidateRefusal, IsInvalidateReply, IsLookFault, IsLookReply, IsRefusal, IsReply, IsStatReply, OthersStay, Serves, WritesReply, side, stream_in, stream_out};
 ghost use Rattle.nsc_server.specs.Passes.{AreNamed, ArePasses, OthersThan, SawMore, passes_at, settings_of};
 ghost use Rattle.nsc_server.specs.Requests.{TakesRequests};
 
 use crate::admitted::{Admitted, admit};
 use crate::counts::all_stats;
 use crate::made::{Made, empty, look_up, reply_bytes};
-use crate::names::database_named;
-use crate::passes::{Passes, Stores};
 use crate::room::Room;
 use crate::served::Served;
 use crate::statistics::stat_text;
-use nsc_model::{Db, Kind, Store};
+use nsc_model::{Databases, Db, Kind, Store};
 use nsc_outside::{Sink, Source, write_all};
 use nsc_sockets::Role;
 use std::sync::Wait;
@@ -28,8 +26,8 @@ use std::sync::Wait;
 /// nothing was written.
 pub fn serve_one<RT: AllocGlobal + Wait, S: Store, R: Source, K: Sink>(
     rt: &RT,
-    stores: &Stores<S>,
-    passes: &mut Passes<S::Pass>,
+    stores: &Databases<S>,
+    passes: &mut Databases<S::Pass>,
     room: &mut Room,
     conn_in: &mut R,
     conn_out: &mut K,
@@ -57,8 +55,8 @@ pub fn serve_one<RT: AllocGlobal + Wait, S: Store, R: Source, K: Sink>(
 // Answers an admitted request.
 fn answer<RT: AllocGlobal + Wait, S: Store, K: Sink>(
     rt: &RT,
-    stores: &Stores<S>,
-    passes: &mut Passes<S::Pass>,
+    stores: &Databases<S>,
+    passes: &mut Databases<S::Pass>,
     bytes: &[u8],
     admitted: &Admitted,
     conn_out: &mut K,
@@ -93,8 +91,8 @@ fn reply<K: Sink>(conn_out: &mut K, bytes: &[u8], replied: Served) -> Served
 // The reply to an admitted request.
 fn make<RT: AllocGlobal + Wait, S: Store>(
     rt: &RT,
-    stores: &Stores<S>,
-    passes: &mut Passes<S::Pass>,
+    stores: &Databases<S>,
+    passes: &mut Databases<S::Pass>,
     bytes: &[u8],
     admitted: &Admitted,
     now: u64,
@@ -108,7 +106,7 @@ fn make<RT: AllocGlobal + Wait, S: Store>(
     ensures before { SawMore (passes_at S.Store passes.old) (passes_at S.Store passes.new) }
     ensures others { OthersStay (asked_by bytes.now (wire_of admitted.now)) (passes_at S.Store passes.old) (passes_at S.Store passes.new) }
     ensures made { IfOk result (λ made. IsReply (settings_of S.Store stores.now) now (asked_by bytes.now (wire_of admitted.now)) (passes_at S.Store passes.old) (passes_at S.Store passes.new) (bytes_of made)) }
-    ensures refused { IfErr result (IsRefusal (asked_by bytes.now (wire_of admitted.now)) (passes_at S.Store passes.old) (passes_at S.Store passes.new)) }
+    ensures refused { IfErr result (IsRefusal (settings_of S.Store stores.now) (asked_by bytes.now (wire_of admitted.now)) (passes_at S.Store passes.old) (passes_at S.Store passes.new)) }
 {
     match admitted {
         Admitted::Look { kind, key } => looked(rt, stores, passes, *kind, key.of(bytes), now),
@@ -121,8 +119,8 @@ fn make<RT: AllocGlobal + Wait, S: Store>(
 // The reply to a lookup.
 fn looked<RT: AllocGlobal + Wait, S: Store>(
     rt: &RT,
-    stores: &Stores<S>,
-    passes: &mut Passes<S::Pass>,
+    stores: &Databases<S>,
+    passes: &mut Databases<S::Pass>,
     kind: Kind,
     key: &[u8],
     now: u64,
@@ -135,7 +133,7 @@ fn looked<RT: AllocGlobal + Wait, S: Store>(
     ensures before { SawMore (passes_at S.Store passes.old) (passes_at S.Store passes.new) }
     ensures others { OthersThan (database_of kind) (passes_at S.Store passes.old) (passes_at S.Store passes.new) }
     ensures made { IfOk result (λ made. IsLookReply (database_in (settings_of S.Store stores.now) (database_of kind)) now (record { kind = kind; key = key.now }) (database_in (passes_at S.Store passes.old) (database_of kind)) (database_in (passes_at S.Store passes.new) (database_of kind)) (bytes_of made)) }
-    ensures refused { IfErr result (IsLookFault (database_in (passes_at S.Store passes.old) (database_of kind)) (database_in (passes_at S.Store passes.new) (database_of kind))) }
+    ensures refused { IfErr result (IsLookFault (database_in (settings_of S.Store stores.now) (database_of kind)) (record { kind = kind; key = key.now }) (database_in (passes_at S.Store passes.old) (database_of kind)) (database_in (passes_at S.Store passes.new) (database_of kind))) }
 {
     let db = Db::of(kind);
     let given = look_up(rt, rt.alloc(), stores, passes, kind, key, now, db)?;
@@ -145,8 +143,8 @@ fn looked<RT: AllocGlobal + Wait, S: Store>(
 // The reply to the invalidation of the database of this name, which is empty by then.
 fn emptied<RT: AllocGlobal + Wait, S: Store>(
     rt: &RT,
-    stores: &Stores<S>,
-    passes: &mut Passes<S::Pass>,
+    stores: &Databases<S>,
+    passes: &mut Databases<S::Pass>,
     name: &[u8],
 ) -> Result<Made, Served>
     requires { ArePasses S.Store stores.now passes.old }
@@ -156,7 +154,7 @@ fn emptied<RT: AllocGlobal + Wait, S: Store>(
     ensures made { IfOk result (λ made. IsInvalidateReply (db_named name.now) (passes_at S.Store passes.old) (passes_at S.Store passes.new) (bytes_of made)) }
     ensures refused { IfErr result (IsInvalidateRefusal (db_named name.now) (passes_at S.Store passes.new)) }
 {
-    let Some(db) = database_named(name) else {
+    let Some(db) = Db::named(name) else {
         return Ok(Made::NoDatabase);
     };
     empty(rt, stores, passes, db)?;
@@ -166,8 +164,8 @@ fn emptied<RT: AllocGlobal + Wait, S: Store>(
 // The text of the counts.
 fn told<RT: AllocGlobal + Wait, S: Store>(
     rt: &RT,
-    stores: &Stores<S>,
-    passes: &mut Passes<S::Pass>,
+    stores: &Databases<S>,
+    passes: &mut Databases<S::Pass>,
 ) -> Result<Made, Served>
     requires { ArePasses S.Store stores.now passes.old }
     ensures passes { ArePasses S.Store stores.now passes.new }

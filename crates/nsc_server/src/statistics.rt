@@ -1,7 +1,6 @@
 ghost use Rattle.std.specs.Prelude.{◌≡◌, ◌++◌, IfOk, OnOk};
 ghost use Rattle.nsc_server.specs.Stats.{counts_text, database_text, ending_text, heading_text, line, stats_text, words_text};
 
-use crate::names::name_of_database;
 use itoa::Buffer;
 use nsc_base::{Bytes, NoMemory};
 use nsc_model::{Db, Stats};
@@ -35,7 +34,7 @@ fn put_database(out: &mut Vec<u8>, db: Db, stats: &Stats) -> Result<(), NoMemory
 fn put_heading(out: &mut Vec<u8>, db: Db, enabled: bool) -> Result<(), NoMemory>
     ensures { OnOk result (out.new.items ≡ out.old.items ++ heading_text db enabled) }
 {
-    out.extend_from_slice(name_of_database(db))?;
+    out.extend_from_slice(db.name())?;
     out.extend_from_slice(b" cache:\nenabled ")?;
     let word: &[u8] = if enabled { b"yes\n" } else { b"no\n" };
     Ok(out.extend_from_slice(word)?)
