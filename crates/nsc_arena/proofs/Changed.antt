@@ -36,7 +36,7 @@ at_change layout place change is = record {
   by : (P : Placed → Type 0) (p : Placed) → P (change p) → P p → P (cond (eqb p.place place) (change p) p)
   by P p here other = cases (eqb p.place place) P p here other
 
-into_map : (f : Placed → Placed) (nodes : List Placed) (p : Placed) → Among p nodes → Among (f p) (map f nodes)
+pub into_map : (f : Placed → Placed) (nodes : List Placed) (p : Placed) → Among p nodes → Among (f p) (map f nodes)
 into_map f [] p among = absurd among
 into_map f (q ∷ nodes) p (inl e) = inl (ap f e)
 into_map f (q ∷ nodes) p (inr among) = inr (into_map f nodes p among)
@@ -47,11 +47,6 @@ module _ (layout : Layout) (f : Placed → Placed) (is : IsChange layout f) wher
   from [] q among = absurd among
   from (p ∷ nodes) q (inl e) = (p, inl refl, e)
   from (p ∷ nodes) q (inr among) = let w = from nodes q among in (w.0, inr w.1, w.2)
-
-  into : (nodes : List Placed) (p : Placed) → Among p nodes → Among (f p) (map f nodes)
-  into [] p among = absurd among
-  into (q ∷ nodes) p (inl e) = inl (ap f e)
-  into (q ∷ nodes) p (inr among) = inr (into nodes p among)
 
   same_end : (start : ℕ) (nodes : List Placed) → end_of start (map f nodes) ≡ end_of start nodes
   same_end start [] = refl
@@ -67,7 +62,7 @@ module _ (layout : Layout) (f : Placed → Placed) (is : IsChange layout f) wher
 
   same_leads : (nodes : List Placed) (bucket below to : ℕ) → Leads layout nodes bucket below to → Leads layout (map f nodes) bucket below to
   same_leads nodes bucket below to leads = record {
-    known = ⊎_elim (λ (e : to ≡ 0). inl e) (λ (w : (p : Placed) × Among p nodes × (p.place ≡ to) × (to < below) × (bucket_in layout p ≡ bucket)). inr (f w.0, into nodes w.0 w.1, is.place w.0 ∙ w.2, w.3, is.bucket w.0 ∙ w.4)) leads.known;
+    known = ⊎_elim (λ (e : to ≡ 0). inl e) (λ (w : (p : Placed) × Among p nodes × (p.place ≡ to) × (to < below) × (bucket_in layout p ≡ bucket)). inr (f w.0, into_map f nodes w.0 w.1, is.place w.0 ∙ w.2, w.3, is.bucket w.0 ∙ w.4)) leads.known;
     none_between = λ q among usable of lower.
         let w = from nodes q among in
         let place : q.place ≡ w.0.place = ap (λ (r : Placed). r.place) w.2 ∙ is.place w.0 in

@@ -1,12 +1,13 @@
 -- Nodes passed one after the other, from the oldest one on.
-use Rattle.std.proofs.Common.{◌≡◌, ℕ, ◌+◌, ◌<◌, ◌≤◌, ◌⊎◌, inl, inr, List, [], ◌∷◌, ◌++◌, refl, sym, ap, subst, ◌∙◌, arith}
+use Rattle.std.proofs.Common.{◌≡◌, ℕ, ◌+◌, ◌<◌, ◌≤◌, ◌⊎◌, inl, inr, List, [], ◌∷◌, ◌++◌, map, set, slice_index, refl, sym, ap, subst, ◌∙◌, arith}
 use Rattle.std.proofs.lemmas.List.{append-nil}
 use Rattle.nsc_words.specs.declared.layout.Layout.{Layout}
 use Rattle.nsc_words.specs.declared.node.Placed.{Placed}
 use Rattle.nsc_words.specs.Laid.{Among, InRow, Laid, Rising, end_of, words_in}
-use Rattle.nsc_words.specs.Layout.{IsLayout, arena_start}
+use Rattle.nsc_words.specs.Layout.{IsLayout, arena_start, table_words}
 use Rattle.nsc_arena.specs.Changes.{IsMark, IsNodeAt}
-use Rattle.nsc_arena.proofs.Rows.{within}
+use Rattle.nsc_arena.proofs.Rows.{inside, within}
+use Rattle.nsc_arena.proofs.Changed.{end_laid, ended_at, ended_if, one_ended, still_among}
 use Rattle.nsc_arena.proofs.Slides.{among_of, ends_before, oldest, row_of}
 
 -- the nodes before a place were passed
@@ -49,6 +50,31 @@ passed_next words layout nodes done at sizes laid passed more = by passed.newer 
         more = omega arith;
         passed = record { newer = w.0; split = whole; end = omega arith };
       }
+
+-- the node at the place is the next one that ends
+pub record EndsNext (cur : List ℕ) (layout : Layout) (nodes done : List Placed) (at : ℕ) : Type 0 where
+  pub node : Placed
+  pub among : Among node nodes
+  pub here : IsNodeAt cur at node
+  pub low : 16 ≤ at
+  pub high : at + 8 ≤ table_words layout
+  pub passed : Passed layout nodes (node ∷ done) (at + words_in node.node)
+  pub laid : (new : List ℕ) → new ≡ set cur (at + 6) 0 → Laid new layout (map (ended_if (at + words_in node.node)) nodes)
+
+pub ends_next : (old cur : List ℕ) (layout : Layout) (nodes done : List Placed) (at end : ℕ) → IsLayout layout → Laid old layout nodes → Passed layout nodes done at → Laid cur layout (map (ended_if at) nodes) → end ≡ slice_index old 3 → at < end → EndsNext cur layout nodes done at
+ends_next old cur layout nodes done at end sizes laid passed ended is more =
+    let n = passed_next old layout nodes done at sizes laid passed (omega (arith, is, laid.first_free, more)) in
+    let still = still_among nodes n.node at n.among n.here.place in
+    let here = inside cur layout (map (ended_if at) nodes) n.node sizes ended still in
+    record {
+      node = n.node;
+      among = n.among;
+      here = ended_at cur layout nodes n.node at sizes n.among n.here.place ended;
+      low = omega (arith, here.0, n.here.place);
+      high = omega (arith, here.1, n.here.place, ended.table);
+      passed = n.passed;
+      laid = λ new set_is. subst (Laid new layout) (one_ended layout nodes n.node at laid.row n.among n.here.place) (end_laid cur new layout (map (ended_if at) nodes) n.node at sizes ended still n.here.place set_is);
+    }
 
 -- all were passed
 pub passed_all : (words : List ℕ) (layout : Layout) (nodes done : List Placed) (at : ℕ) → Laid words layout nodes → Passed layout nodes done at → end_of (arena_start layout) nodes ≤ at → done ≡ nodes

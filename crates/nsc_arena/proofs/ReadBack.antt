@@ -40,7 +40,7 @@ state_back true word is = eq-eqb word 1 is
 state_back false word is = let n1 : word ≢ 1 = omega arith in ne_eqb word 1 n1
 
 -- a node is read back
-node_back : (words : List ℕ) (p : Placed) → Stands words p → placed_in words p.place ≡ p
+pub node_back : (words : List ℕ) (p : Placed) → Stands words p → placed_in words p.place ≡ p
 node_back words p stands =
     let h = stands.holds in
     let n : Node = p.node in
