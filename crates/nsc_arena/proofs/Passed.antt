@@ -24,7 +24,6 @@ pub record Next (words : List ℕ) (layout : Layout) (nodes done : List Placed) 
   pub node : Placed
   pub among : Among node nodes
   pub here : IsNodeAt words at node
-  pub more : at + words_in node.node ≤ end_of (arena_start layout) nodes
   pub passed : Passed layout nodes (node ∷ done) (at + words_in node.node)
 
 pub passed_next : (words : List ℕ) (layout : Layout) (nodes done : List Placed) (at : ℕ) → IsLayout layout → Laid words layout nodes → Passed layout nodes done at → at < end_of (arena_start layout) nodes → Next words layout nodes done at
@@ -47,9 +46,12 @@ passed_next words layout nodes done at sizes laid passed more = by passed.newer 
         node = n;
         among = among;
         here = record { place = place; stands = laid.stands n among; inside = omega arith; size = omega arith };
-        more = omega arith;
         passed = record { newer = w.0; split = whole; end = omega arith };
       }
+
+-- the same by the place behind all nodes, in the same words
+pub next_in : (old cur : List ℕ) (layout : Layout) (nodes done : List Placed) (at end : ℕ) → IsLayout layout → Laid old layout nodes → Passed layout nodes done at → cur ≡ old → end ≡ slice_index old 3 → at < end → Next cur layout nodes done at
+next_in old cur layout nodes done at end sizes laid passed same is more = passed_next cur layout nodes done at sizes (subst (λ (ws : List ℕ). Laid ws layout nodes) (sym same) laid) passed (omega (arith, is, laid.first_free, more))
 
 -- the node at the place is the next one that ends
 pub record EndsNext (cur : List ℕ) (layout : Layout) (nodes done : List Placed) (at : ℕ) : Type 0 where
