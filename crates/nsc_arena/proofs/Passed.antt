@@ -8,7 +8,32 @@ use Rattle.nsc_words.specs.Layout.{IsLayout, arena_start, table_words}
 use Rattle.nsc_arena.specs.Changes.{IsMark, IsNodeAt}
 use Rattle.nsc_arena.proofs.Rows.{inside, within}
 use Rattle.nsc_arena.proofs.Changed.{end_laid, ended_at, ended_if, one_ended, still_among}
-use Rattle.nsc_arena.proofs.Slides.{among_of, ends_before, oldest, row_of}
+
+-- ---- the older nodes of a list
+
+pub row_of : (start : ℕ) (newer done : List Placed) → InRow start (newer ++ done) → InRow start done
+row_of start [] done row = row
+row_of start (p ∷ newer) done row = row_of start newer done row.1
+
+pub rising_of : (newer done : List Placed) → Rising (newer ++ done) → Rising done
+rising_of [] done rising = rising
+rising_of (p ∷ newer) done rising = rising_of newer done rising.1
+
+pub among_of : (newer done : List Placed) (p : Placed) → Among p done → Among p (newer ++ done)
+among_of [] done p among = among
+among_of (q ∷ newer) done p among = inr (among_of newer done p among)
+
+-- they end no later than all, and earlier where there are newer ones
+pub ends_before : (start : ℕ) (newer done : List Placed) → InRow start (newer ++ done) → end_of start done ≤ end_of start (newer ++ done)
+ends_before start [] done row = omega arith
+ends_before start (p ∷ newer) done row = let e = ends_before start newer done row.1 in let f = row.0 in omega arith
+
+-- the oldest of the newer ones
+pub oldest : (p : Placed) (newer done : List Placed) → (front : List Placed) × (n : Placed) × ((p ∷ newer) ++ done ≡ front ++ (n ∷ done))
+oldest p [] done = ([], p, refl)
+oldest p (q ∷ newer) done = let w = oldest q newer done in (p ∷ w.0, w.1, ap (λ (ps : List Placed). p ∷ ps) w.2)
+
+-- ---- nodes that were passed
 
 -- the nodes before a place were passed
 pub record Passed (layout : Layout) (nodes done : List Placed) (at : ℕ) : Type 0 where
@@ -20,6 +45,25 @@ pub passed_none : (layout : Layout) (nodes : List Placed) (at : ℕ) → at ≡ 
 passed_none layout nodes at is = record { newer = nodes; split = sym (append-nil nodes); end = is }
 
 -- the node at the place is the next one
+pub record Following (layout : Layout) (nodes done : List Placed) (at : ℕ) : Type 0 where
+  pub node : Placed
+  pub among : Among node nodes
+  pub place : node.place ≡ at
+  pub passed : Passed layout nodes (node ∷ done) (at + words_in node.node)
+
+pub following : (layout : Layout) (nodes done : List Placed) (at : ℕ) → InRow (arena_start layout) nodes → Passed layout nodes done at → at < end_of (arena_start layout) nodes → Following layout nodes done at
+following layout nodes done at in_row passed more = by passed.newer passed.split where
+  by : (newer : List Placed) → nodes ≡ newer ++ done → Following layout nodes done at
+  by [] split = let e : end_of (arena_start layout) nodes ≡ end_of (arena_start layout) done = ap (end_of (arena_start layout)) split in let f = passed.end in absurd (omega arith)
+  by (p ∷ newer) split =
+      let w = oldest p newer done in
+      let n : Placed = w.1 in
+      let whole : nodes ≡ w.0 ++ (n ∷ done) = split ∙ w.2 in
+      let row : InRow (arena_start layout) (w.0 ++ (n ∷ done)) = subst (InRow (arena_start layout)) whole in_row in
+      let place : n.place ≡ at = (row_of (arena_start layout) w.0 (n ∷ done) row).0 ∙ sym passed.end in
+      record { node = n; among = subst (Among n) (sym whole) (among_of w.0 (n ∷ done) n (inl refl)); place = place; passed = record { newer = w.0; split = whole; end = omega arith } }
+
+-- and stands in the words
 pub record Next (words : List ℕ) (layout : Layout) (nodes done : List Placed) (at : ℕ) : Type 0 where
   pub node : Placed
   pub among : Among node nodes
@@ -27,27 +71,15 @@ pub record Next (words : List ℕ) (layout : Layout) (nodes done : List Placed) 
   pub passed : Passed layout nodes (node ∷ done) (at + words_in node.node)
 
 pub passed_next : (words : List ℕ) (layout : Layout) (nodes done : List Placed) (at : ℕ) → IsLayout layout → Laid words layout nodes → Passed layout nodes done at → at < end_of (arena_start layout) nodes → Next words layout nodes done at
-passed_next words layout nodes done at sizes laid passed more = by passed.newer passed.split where
-  by : (newer : List Placed) → nodes ≡ newer ++ done → Next words layout nodes done at
-  by [] split = let e : end_of (arena_start layout) nodes ≡ end_of (arena_start layout) done = ap (end_of (arena_start layout)) split in let f = passed.end in absurd (omega arith)
-  by (p ∷ newer) split =
-      let w = oldest p newer done in
-      let n : Placed = w.1 in
-      let whole : nodes ≡ w.0 ++ (n ∷ done) = split ∙ w.2 in
-      let row : InRow (arena_start layout) (w.0 ++ (n ∷ done)) = subst (InRow (arena_start layout)) whole laid.row in
-      let place : n.place ≡ at = (row_of (arena_start layout) w.0 (n ∷ done) row).0 ∙ sym passed.end in
-      let among : Among n nodes = subst (Among n) (sym whole) (among_of w.0 (n ∷ done) n (inl refl)) in
-      let here = within (arena_start layout) nodes n laid.row among in
-      let room = laid.room in
-      let table = laid.table in
-      let few = sizes.buckets in
-      let small = sizes.room in
-      record {
-        node = n;
-        among = among;
-        here = record { place = place; stands = laid.stands n among; inside = omega arith; size = omega arith };
-        passed = record { newer = w.0; split = whole; end = omega arith };
-      }
+passed_next words layout nodes done at sizes laid passed more =
+    let n = following layout nodes done at laid.row passed more in
+    let here = within (arena_start layout) nodes n.node laid.row n.among in
+    let place = n.place in
+    let room = laid.room in
+    let table = laid.table in
+    let few = sizes.buckets in
+    let small = sizes.room in
+    record { node = n.node; among = n.among; here = record { place = place; stands = laid.stands n.node n.among; inside = omega arith; size = omega arith }; passed = n.passed }
 
 -- the same by the place behind all nodes, in the same words
 pub next_in : (old cur : List ℕ) (layout : Layout) (nodes done : List Placed) (at end : ℕ) → IsLayout layout → Laid old layout nodes → Passed layout nodes done at → cur ≡ old → end ≡ slice_index old 3 → at < end → Next cur layout nodes done at
