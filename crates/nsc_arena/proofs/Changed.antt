@@ -7,7 +7,7 @@ use Rattle.nsc_words.specs.declared.node.Placed.{Placed}
 use Rattle.nsc_words.specs.Laid.{Among, InRow, Laid, Leads, Rising, Stands, bucket_in, end_of, words_in}
 use Rattle.nsc_words.specs.Layout.{IsLayout, arena_start}
 use Rattle.nsc_arena.specs.Changes.{IsNodeAt, changed_at, ended, with_reloads}
-use Rattle.nsc_arena.proofs.Rows.{kept, moved_but, within, apart}
+use Rattle.nsc_arena.proofs.Rows.{kept, moved_but, node_at, same_place, within, apart}
 
 -- a change that leaves a node where it is, with its number and its request; it does not make an ended one usable
 pub record IsChange (layout : Layout) (change : Placed → Placed) : Type 0 where
@@ -164,6 +164,15 @@ same_list : (nodes : List Placed) → map (λ p. p) nodes ≡ nodes
 same_list [] = refl
 same_list (p ∷ nodes) = ap (λ (ps : List Placed). p ∷ ps) (same_list nodes)
 
+-- a count that is the same already changes nothing
+pub reloads_kept : (layout : Layout) (nodes : List Placed) (p : Placed) (at count : ℕ) → InRow (arena_start layout) nodes → Among p nodes → p.place ≡ at → p.node.reloads ≡ count → changed_at at (with_reloads count) nodes ≡ nodes
+reloads_kept layout nodes p at count row among place is = same_map (at_place at (with_reloads count)) (λ q. q) nodes (λ q m. ⊎_elim
+    (λ (e : q.place ≡ at).
+    let own : q.node.reloads ≡ count = ap (λ (r : Placed). r.node.reloads) (same_place (arena_start layout) nodes q p row m among (e ∙ sym place)) ∙ is in
+    ap (λ (b : Bool). cond b (with_reloads count q) q) (eq-eqb q.place at e) ∙ (λ i. record q { node = record q.node { reloads = sym own i } }))
+    (λ (n : q.place ≢ at). ap (λ (b : Bool). cond b (with_reloads count q) q) (ne_eqb q.place at n))
+    (cases_eq q.place at)) ∙ same_list nodes
+
 stays_if : (at : ℕ) (p : Placed) → at ≤ p.place → ended_if at p ≡ p
 stays_if at p high = ap (λ (b : Bool). cond b (ended p) p) (le-ltb p.place at high)
 
@@ -197,11 +206,4 @@ pub still_among : (nodes : List Placed) (n : Placed) (at : ℕ) → Among n node
 still_among nodes n at among place = subst (λ (q : Placed). Among q (map (ended_if at) nodes)) (stays_if at n (omega arith)) (into_map (ended_if at) nodes n among)
 
 pub ended_at : (words : List ℕ) (layout : Layout) (nodes : List Placed) (n : Placed) (at : ℕ) → IsLayout layout → Among n nodes → n.place ≡ at → Laid words layout (map (ended_if at) nodes) → IsNodeAt words at n
-ended_at words layout nodes n at sizes among place laid =
-    let still = still_among nodes n at among place in
-    let here = within (arena_start layout) (map (ended_if at) nodes) n laid.row still in
-    let room = laid.room in
-    let table = laid.table in
-    let few = sizes.buckets in
-    let small = sizes.room in
-    record { place = place; stands = laid.stands n still; inside = omega arith; size = omega arith }
+ended_at words layout nodes n at sizes among place laid = node_at words layout (map (ended_if at) nodes) n at sizes laid (still_among nodes n at among place) place

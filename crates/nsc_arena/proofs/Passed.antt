@@ -6,7 +6,7 @@ use Rattle.nsc_words.specs.declared.node.Placed.{Placed}
 use Rattle.nsc_words.specs.Laid.{Among, InRow, Laid, Rising, end_of, words_in}
 use Rattle.nsc_words.specs.Layout.{IsLayout, arena_start, table_words}
 use Rattle.nsc_arena.specs.Changes.{IsMark, IsNodeAt}
-use Rattle.nsc_arena.proofs.Rows.{inside, within}
+use Rattle.nsc_arena.proofs.Rows.{inside, node_at}
 use Rattle.nsc_arena.proofs.Changed.{end_laid, ended_at, ended_if, one_ended, still_among}
 
 -- ---- the older nodes of a list
@@ -73,13 +73,7 @@ pub record Next (words : List ℕ) (layout : Layout) (nodes done : List Placed) 
 pub passed_next : (words : List ℕ) (layout : Layout) (nodes done : List Placed) (at : ℕ) → IsLayout layout → Laid words layout nodes → Passed layout nodes done at → at < end_of (arena_start layout) nodes → Next words layout nodes done at
 passed_next words layout nodes done at sizes laid passed more =
     let n = following layout nodes done at laid.row passed more in
-    let here = within (arena_start layout) nodes n.node laid.row n.among in
-    let place = n.place in
-    let room = laid.room in
-    let table = laid.table in
-    let few = sizes.buckets in
-    let small = sizes.room in
-    record { node = n.node; among = n.among; here = record { place = place; stands = laid.stands n.node n.among; inside = omega arith; size = omega arith }; passed = n.passed }
+    record { node = n.node; among = n.among; here = node_at words layout nodes n.node at sizes laid n.among n.place; passed = n.passed }
 
 -- the same by the place behind all nodes, in the same words
 pub next_in : (old cur : List ℕ) (layout : Layout) (nodes done : List Placed) (at end : ℕ) → IsLayout layout → Laid old layout nodes → Passed layout nodes done at → cur ≡ old → end ≡ slice_index old 3 → at < end → Next cur layout nodes done at
