@@ -9,7 +9,7 @@ use Rattle.nsc_words.specs.Layout.{IsLayout}
 use Rattle.nsc_arena.specs.Changes.{IsNodeAt, changed_at}
 use Rattle.nsc_arena.specs.ReadBack.{nodes_in}
 use Rattle.nsc_arena.proofs.ReadBack.{read_back}
-use Rattle.nsc_arena.proofs.Changed.{into_map}
+use Rattle.nsc_arena.proofs.Changed.{IsChange, change_at, into_map}
 use Rattle.nsc_arena.proofs.Rows.{inside, node_at}
 use Rattle.nsc_model.specs.declared.kind.Kind.{Kind}
 use Rattle.nsc_model.specs.declared.answer.Request.{Request}
@@ -18,7 +18,7 @@ use Rattle.nsc_model.specs.Machine.{live_entry}
 use Rattle.nsc_shelf.specs.declared.finding.Mark.{Mark}
 use Rattle.nsc_shelf.specs.Hints.{AreHints, HasPlace, IsAlone, told_place}
 use Rattle.nsc_shelf.specs.Shelf.{AreEntries, IsShelf, entries_in, kept_in, request_in}
-use Rattle.nsc_shelf.proofs.States.{Leaves, asked, found_place, leaves_at, live_at, live_none, missing_place, same_asked, same_number, usable_answers}
+use Rattle.nsc_shelf.proofs.States.{asked, found_place, live_at, live_none, missing_place, same_asked, same_number, usable_answers}
 
 -- ---- nodes change
 
@@ -42,15 +42,15 @@ no_hints_in {layout} {nodes} hints count is some =
         (cases_lt i count)
 
 -- a change leaves the places
-pub hints_changed : (f : Placed → Placed) {layout : Layout} (hints : List ℕ) (nodes : List Placed) → Leaves f → AreHints hints layout nodes → AreHints hints layout (map f nodes)
+pub hints_changed : (f : Placed → Placed) {layout : Layout} (hints : List ℕ) (nodes : List Placed) → IsChange f → AreHints hints layout nodes → AreHints hints layout (map f nodes)
 hints_changed f {layout} hints nodes leaves are = record {
   some = are.some;
   places = λ i told. let w = are.places i told in (f w.0, into_map f nodes w.0 w.1, leaves.place w.0 ∙ w.2);
 }
 
 -- at one place
-pub hints_changed_at : (at : ℕ) (change : Placed → Placed) {layout : Layout} (hints : List ℕ) (nodes : List Placed) → Leaves change → AreHints hints layout nodes → AreHints hints layout (changed_at at change nodes)
-hints_changed_at at change {layout} hints nodes leaves = hints_changed _ hints nodes (leaves_at at change leaves)
+pub hints_changed_at : (at : ℕ) (change : Placed → Placed) {layout : Layout} (hints : List ℕ) (nodes : List Placed) → IsChange change → AreHints hints layout nodes → AreHints hints layout (changed_at at change nodes)
+hints_changed_at at change {layout} hints nodes leaves = hints_changed _ hints nodes (change_at at change leaves)
 
 -- a newer node adds one
 pub hints_more : {layout : Layout} (hints : List ℕ) (nodes : List Placed) (p : Placed) → AreHints hints layout nodes → AreHints hints layout (p ∷ nodes)

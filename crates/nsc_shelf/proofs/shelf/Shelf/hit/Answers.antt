@@ -12,7 +12,8 @@ use Rattle.nsc_shelf.specs.declared.entry.Hit.{Hit}
 use Rattle.nsc_shelf.specs.Hints.{AreHints, IsAlone}
 use Rattle.nsc_shelf.specs.Shelf.{Gives, IsShelf, Shelf, kept_in}
 use Rattle.nsc_shelf.proofs.Hinted.{alone_in, answering, hints_by, hints_changed_at, unanswered}
-use Rattle.nsc_shelf.proofs.States.{reloads_leaves, reused}
+use Rattle.nsc_shelf.proofs.States.{reused}
+use Rattle.nsc_arena.proofs.Changed.{reloads_is}
 use Rattle.nsc_shelf.proofs.Still.{still, still_held, still_seen, still_view}
 use Rattle.nsc_shelf.proofs.shelf.Shelf.hit.Goals as goal
 
@@ -91,7 +92,7 @@ invariant_of-self-2 c =
     let by = reused s.words c.count_anew.new.words s.map s.live s.mark kind key n.node at is laid (subst (λ (ws : List ℕ). IsSameHead ws c.count_anew.new.words) same c.count_anew.ensures.head) n.among n.here.place n.answers in
     let size : length c.find.new.hints ≡ s.hints.len = omega (arith, c.deref_mut.ensures.len, s.hints.ok.0) in
     still_held c.self.view_is c.requires.still c.self.invariant by.cycle by.shelf
-    (λ h. subst (λ (hs : List ℕ). AreHints hs s.map (nodes_in c.count_anew.new.words s.map)) (sym (with_items_is s.hints c.find.new.hints size)) (hints_by c.find.new.hints laid (hints_changed_at at (with_reloads 0) c.find.new.hints nodes (reloads_leaves 0) c.find.ensures.hinted)))
+    (λ h. subst (λ (hs : List ℕ). AreHints hs s.map (nodes_in c.count_anew.new.words s.map)) (sym (with_items_is s.hints c.find.new.hints size)) (hints_by c.find.new.hints laid (hints_changed_at at (with_reloads 0) c.find.new.hints nodes (reloads_is 0) c.find.ensures.hinted)))
 
 pub returns-clause-gives : goal.returns-clause-gives
 returns-clause-gives c =

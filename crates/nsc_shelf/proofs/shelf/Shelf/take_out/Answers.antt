@@ -8,7 +8,8 @@ use Rattle.nsc_arena.specs.declared.reading.Head.{Head}
 use Rattle.nsc_shelf.specs.Shelf.{Shelf, others_than, shelf_of}
 use Rattle.nsc_shelf.proofs.Found.{remarked_by}
 use Rattle.nsc_shelf.proofs.Hinted.{hints_by, hints_changed_at}
-use Rattle.nsc_shelf.proofs.States.{ended_leaves, none_taken, taken, taken_less}
+use Rattle.nsc_shelf.proofs.States.{none_taken, taken, taken_less}
+use Rattle.nsc_arena.proofs.Changed.{ended_is}
 use Rattle.nsc_shelf.proofs.Still.{still, still_held, still_marked, still_seen, still_view}
 use Rattle.nsc_shelf.proofs.shelf.Shelf.take_out.Goals as goal
 
@@ -40,7 +41,7 @@ invariant_of-self-then-found-number c =
     let numbered : n.0.node.number ≡ c.args.number = sym (ap (λ (h : Head). h.number) n.6) ∙ c.if-found-number.true in
     let marked = remarked_by s.words s.words s.map s.live s.mark c.find_from.new.mark refl is c.find_from.ensures.marked in
     let by = taken s.words c.end_node.new.table s.map s.live c.find_from.new.mark n.0 c.in-Some.found.at c.args.number marked laid head n.1 n.2 n.3 numbered in
-    still_held c.self.view_is c.requires c.self.invariant by.cycle by.shelf (λ h. hints_by s.hints.items laid (hints_changed_at c.in-Some.found.at ended s.hints.items nodes ended_leaves h))
+    still_held c.self.view_is c.requires c.self.invariant by.cycle by.shelf (λ h. hints_by s.hints.items laid (hints_changed_at c.in-Some.found.at ended s.hints.items nodes ended_is h))
 
 pub returns-then-found-number : goal.returns-then-found-number
 returns-then-found-number c =
