@@ -5,73 +5,70 @@ use Rattle.std.proofs.lemmas.Bool.{cases_eq, cases_lt, false≢true, ne_eqb, lt-
 use Rattle.nsc_words.specs.declared.layout.Layout.{Layout}
 use Rattle.nsc_words.specs.declared.node.Placed.{Placed}
 use Rattle.nsc_words.specs.Laid.{Among, InRow, Laid, Leads, Rising, Stands, bucket_in, end_of, words_in}
-use Rattle.nsc_words.specs.Layout.{IsLayout, arena_start}
+use Rattle.nsc_words.specs.Layout.{IsLayout, arena_start, bucket_of}
 use Rattle.nsc_arena.specs.Changes.{IsNodeAt, changed_at, ended, with_reloads}
-use Rattle.nsc_arena.proofs.Rows.{kept, moved_but, within, apart}
+use Rattle.nsc_arena.proofs.Rows.{kept, moved_but, node_at, same_place, within, apart}
 
 -- a change that leaves a node where it is, with its number and its request; it does not make an ended one usable
-pub record IsChange (layout : Layout) (change : Placed → Placed) : Type 0 where
+pub record IsChange (change : Placed → Placed) : Type 0 where
   pub place : (p : Placed) → (change p).place ≡ p.place
   pub words : (p : Placed) → words_in (change p).node ≡ words_in p.node
   pub number : (p : Placed) → (change p).node.number ≡ p.node.number
-  pub bucket : (p : Placed) → bucket_in layout (change p) ≡ bucket_in layout p
+  pub kind : (p : Placed) → (change p).node.kind ≡ p.node.kind
+  pub key : (p : Placed) → (change p).node.key ≡ p.node.key
   pub usable : (p : Placed) → (change p).usable ≡ true → p.usable ≡ true
 
 -- the change at one place alone
 abbrev pub at_place : ℕ → (Placed → Placed) → Placed → Placed
 at_place place change p = cond (eqb p.place place) (change p) p
 
-at_change : (layout : Layout) (place : ℕ) (change : Placed → Placed) → IsChange layout change → IsChange layout (at_place place change)
-at_change layout place change is = record {
-  place = λ p. by (λ (q : Placed). q.place ≡ p.place) p (is.place p) refl;
-  words = λ p. by (λ (q : Placed). words_in q.node ≡ words_in p.node) p (is.words p) refl;
-  number = λ p. by (λ (q : Placed). q.node.number ≡ p.node.number) p (is.number p) refl;
-  bucket = λ p. by (λ (q : Placed). bucket_in layout q ≡ bucket_in layout p) p (is.bucket p) refl;
-  usable = λ p. by (λ (q : Placed). q.usable ≡ true → p.usable ≡ true) p (is.usable p) (λ e. e);
+pub change_at : (place : ℕ) (change : Placed → Placed) → IsChange change → IsChange (at_place place change)
+change_at place change is = record {
+  place = λ p. by (eqb p.place place) (λ (q : Placed). q.place ≡ p.place) p (is.place p) refl;
+  words = λ p. by (eqb p.place place) (λ (q : Placed). words_in q.node ≡ words_in p.node) p (is.words p) refl;
+  number = λ p. by (eqb p.place place) (λ (q : Placed). q.node.number ≡ p.node.number) p (is.number p) refl;
+  kind = λ p. by (eqb p.place place) (λ (q : Placed). q.node.kind ≡ p.node.kind) p (is.kind p) refl;
+  key = λ p. by (eqb p.place place) (λ (q : Placed). q.node.key ≡ p.node.key) p (is.key p) refl;
+  usable = λ p. by (eqb p.place place) (λ (q : Placed). q.usable ≡ true → p.usable ≡ true) p (is.usable p) (λ e. e);
 } where
-  cases : (b : Bool) (P : Placed → Type 0) (p : Placed) → P (change p) → P p → P (cond b (change p) p)
-  cases true P p here other = here
-  cases false P p here other = other
+  by : (b : Bool) (P : Placed → Type 0) (p : Placed) → P (change p) → P p → P (cond b (change p) p)
+  by true P p here other = here
+  by false P p here other = other
 
-  by : (P : Placed → Type 0) (p : Placed) → P (change p) → P p → P (cond (eqb p.place place) (change p) p)
-  by P p here other = cases (eqb p.place place) P p here other
-
-into_map : (f : Placed → Placed) (nodes : List Placed) (p : Placed) → Among p nodes → Among (f p) (map f nodes)
+pub into_map : (f : Placed → Placed) (nodes : List Placed) (p : Placed) → Among p nodes → Among (f p) (map f nodes)
 into_map f [] p among = absurd among
 into_map f (q ∷ nodes) p (inl e) = inl (ap f e)
 into_map f (q ∷ nodes) p (inr among) = inr (into_map f nodes p among)
 
-module _ (layout : Layout) (f : Placed → Placed) (is : IsChange layout f) where
-  -- a node of the new list is one of the old list, changed
-  from : (nodes : List Placed) (q : Placed) → Among q (map f nodes) → (p : Placed) × Among p nodes × (q ≡ f p)
-  from [] q among = absurd among
-  from (p ∷ nodes) q (inl e) = (p, inl refl, e)
-  from (p ∷ nodes) q (inr among) = let w = from nodes q among in (w.0, inr w.1, w.2)
+-- a node of the new list is one of the old list, changed
+pub from_map : (f : Placed → Placed) (nodes : List Placed) (q : Placed) → Among q (map f nodes) → (p : Placed) × Among p nodes × (q ≡ f p)
+from_map f [] q among = absurd among
+from_map f (p ∷ nodes) q (inl e) = (p, inl refl, e)
+from_map f (p ∷ nodes) q (inr among) = let w = from_map f nodes q among in (w.0, inr w.1, w.2)
 
-  into : (nodes : List Placed) (p : Placed) → Among p nodes → Among (f p) (map f nodes)
-  into [] p among = absurd among
-  into (q ∷ nodes) p (inl e) = inl (ap f e)
-  into (q ∷ nodes) p (inr among) = inr (into nodes p among)
+pub same_end : (f : Placed → Placed) (start : ℕ) (nodes : List Placed) → IsChange f → end_of start (map f nodes) ≡ end_of start nodes
+same_end f start [] is = refl
+same_end f start (p ∷ nodes) is = λ i. is.place p i + is.words p i
 
-  same_end : (start : ℕ) (nodes : List Placed) → end_of start (map f nodes) ≡ end_of start nodes
-  same_end start [] = refl
-  same_end start (p ∷ nodes) = let e = is.place p in let w = is.words p in omega arith
+module _ (layout : Layout) (f : Placed → Placed) (is : IsChange f) where
+  same_bucket : (p : Placed) → bucket_in layout (f p) ≡ bucket_in layout p
+  same_bucket p i = bucket_of layout (is.kind p i) (is.key p i)
 
   same_row : (start : ℕ) (nodes : List Placed) → InRow start nodes → InRow start (map f nodes)
   same_row start [] row = tt
-  same_row start (p ∷ nodes) row = (is.place p ∙ row.0 ∙ sym (same_end start nodes), same_row start nodes row.1)
+  same_row start (p ∷ nodes) row = (is.place p ∙ row.0 ∙ sym (same_end f start nodes is), same_row start nodes row.1)
 
   same_rising : (nodes : List Placed) → Rising nodes → Rising (map f nodes)
   same_rising [] rising = tt
-  same_rising (p ∷ nodes) rising = (λ q among. let w = from nodes q among in let e : q.node.number ≡ (f w.0).node.number = ap (λ (r : Placed). r.node.number) w.2 in let m = is.number w.0 in let n = is.number p in let less = rising.0 w.0 w.1 in omega arith, same_rising nodes rising.1)
+  same_rising (p ∷ nodes) rising = (λ q among. let w = from_map f nodes q among in let e : q.node.number ≡ (f w.0).node.number = ap (λ (r : Placed). r.node.number) w.2 in let m = is.number w.0 in let n = is.number p in let less = rising.0 w.0 w.1 in omega arith, same_rising nodes rising.1)
 
   same_leads : (nodes : List Placed) (bucket below to : ℕ) → Leads layout nodes bucket below to → Leads layout (map f nodes) bucket below to
   same_leads nodes bucket below to leads = record {
-    known = ⊎_elim (λ (e : to ≡ 0). inl e) (λ (w : (p : Placed) × Among p nodes × (p.place ≡ to) × (to < below) × (bucket_in layout p ≡ bucket)). inr (f w.0, into nodes w.0 w.1, is.place w.0 ∙ w.2, w.3, is.bucket w.0 ∙ w.4)) leads.known;
+    known = ⊎_elim (λ (e : to ≡ 0). inl e) (λ (w : (p : Placed) × Among p nodes × (p.place ≡ to) × (to < below) × (bucket_in layout p ≡ bucket)). inr (f w.0, into_map f nodes w.0 w.1, is.place w.0 ∙ w.2, w.3, same_bucket w.0 ∙ w.4)) leads.known;
     none_between = λ q among usable of lower.
-        let w = from nodes q among in
+        let w = from_map f nodes q among in
         let place : q.place ≡ w.0.place = ap (λ (r : Placed). r.place) w.2 ∙ is.place w.0 in
-        let lows : w.0.place ≤ to = leads.none_between w.0 w.1 (is.usable w.0 (sym (ap (λ (r : Placed). r.usable) w.2) ∙ usable)) (sym (is.bucket w.0) ∙ sym (ap (bucket_in layout) w.2) ∙ of) (omega arith) in
+        let lows : w.0.place ≤ to = leads.none_between w.0 w.1 (is.usable w.0 (sym (ap (λ (r : Placed). r.usable) w.2) ∙ usable)) (sym (same_bucket w.0) ∙ sym (ap (bucket_in layout) w.2) ∙ of) (omega arith) in
         omega arith;
   }
 
@@ -79,7 +76,7 @@ module _ (layout : Layout) (f : Placed → Placed) (is : IsChange layout f) wher
   pub same_laid : (old new : List ℕ) (nodes : List Placed) → Laid old layout nodes → length new ≡ length old → ((i : ℕ) → i < arena_start layout → slice_index new i ≡ slice_index old i) → ((p : Placed) → Among p nodes → Stands new (f p)) → ((p : Placed) → Among p nodes → slice_index new (p.place + 7) ≡ slice_index old (p.place + 7)) → Laid new layout (map f nodes)
   same_laid old new nodes laid size first stands next =
       let start : ℕ = arena_start layout in
-      let end = same_end start nodes in
+      let end = same_end f start nodes is in
       let room = laid.room in
       record {
         table = size ∙ laid.table;
@@ -87,18 +84,18 @@ module _ (layout : Layout) (f : Placed → Placed) (is : IsChange layout f) wher
         room = omega arith;
         row = same_row start nodes laid.row;
         rising = same_rising nodes laid.rising;
-        stands = λ q among. let w = from nodes q among in subst (Stands new) (sym w.2) (stands w.0 w.1);
+        stands = λ q among. let w = from_map f nodes q among in subst (Stands new) (sym w.2) (stands w.0 w.1);
         buckets = λ i more. subst (λ (to : ℕ). Leads layout (map f nodes) (16 + i) (end_of start (map f nodes)) to) (sym (first (16 + i) (omega arith))) (subst (λ (below : ℕ). Leads layout (map f nodes) (16 + i) below (slice_index old (16 + i))) (sym end) (same_leads nodes (16 + i) (end_of start nodes) (slice_index old (16 + i)) (laid.buckets i more)));
         nexts = λ q among.
-            let w = from nodes q among in
+            let w = from_map f nodes q among in
             let place : q.place ≡ w.0.place = ap (λ (r : Placed). r.place) w.2 ∙ is.place w.0 in
-            let bucket : bucket_in layout q ≡ bucket_in layout w.0 = ap (bucket_in layout) w.2 ∙ is.bucket w.0 in
+            let bucket : bucket_in layout q ≡ bucket_in layout w.0 = ap (bucket_in layout) w.2 ∙ same_bucket w.0 in
             let leads = same_leads nodes (bucket_in layout w.0) w.0.place (slice_index old (w.0.place + 7)) (laid.nexts w.0 w.1) in
             subst (λ (to : ℕ). Leads layout (map f nodes) (bucket_in layout q) q.place to) (sym (ap (λ (a : ℕ). slice_index new (a + 7)) place ∙ next w.0 w.1)) (subst (λ (a : ℕ). Leads layout (map f nodes) (bucket_in layout q) a (slice_index old (w.0.place + 7))) (sym place) (subst (λ (b : ℕ). Leads layout (map f nodes) b w.0.place (slice_index old (w.0.place + 7))) (sym bucket) leads));
       }
 
 -- one word of a node was set, RELOADS or STATE
-pub set_in_node : (old new : List ℕ) (layout : Layout) (nodes : List Placed) (p : Placed) (at k value : ℕ) (change : Placed → Placed) → IsLayout layout → IsChange layout change → Laid old layout nodes → Among p nodes → p.place ≡ at → 5 ≤ k → k ≤ 6 → new ≡ set old (at + k) value → ((q : Placed) → q.place ≡ at → Stands old q → ((i : ℕ) → i ≢ k → slice_index new (q.place + i) ≡ slice_index old (q.place + i)) → slice_index new (q.place + k) ≡ value → Stands new (change q)) → Laid new layout (changed_at at change nodes)
+pub set_in_node : (old new : List ℕ) (layout : Layout) (nodes : List Placed) (p : Placed) (at k value : ℕ) (change : Placed → Placed) → IsLayout layout → IsChange change → Laid old layout nodes → Among p nodes → p.place ≡ at → 5 ≤ k → k ≤ 6 → new ≡ set old (at + k) value → ((q : Placed) → q.place ≡ at → Stands old q → ((i : ℕ) → i ≢ k → slice_index new (q.place + i) ≡ slice_index old (q.place + i)) → slice_index new (q.place + k) ≡ value → Stands new (change q)) → Laid new layout (changed_at at change nodes)
 set_in_node old new layout nodes p at k value change sizes is laid among place low high set_is stands =
     let start : ℕ = arena_start layout in
     let here = within start nodes p laid.row among in
@@ -128,26 +125,26 @@ set_in_node old new layout nodes p at k value change sizes is laid among place l
     (λ (l : at ≤ q.place). let a = apart start nodes p q laid.row among m (omega arith) in λ (f : q.place + 7 ≡ at + k). absurd (omega arith))
     (cases_lt q.place at))
     (cases_eq q.place at) in
-    same_laid layout (at_place at change) (at_change layout at change is) old new nodes laid size (λ i less. other i (omega arith)) by_place (λ q m. other (q.place + 7) (next_far q m))
+    same_laid layout (at_place at change) (change_at at change is) old new nodes laid size (λ i less. other i (omega arith)) by_place (λ q m. other (q.place + 7) (next_far q m))
 
 -- a node ends
-ended_is : (layout : Layout) → IsChange layout ended
-ended_is layout = record { place = λ p. refl; words = λ p. refl; number = λ p. refl; bucket = λ p. refl; usable = λ p e. absurd (false≢true e) }
+pub ended_is : IsChange ended
+ended_is = record { place = λ p. refl; words = λ p. refl; number = λ p. refl; kind = λ p. refl; key = λ p. refl; usable = λ p e. absurd (false≢true e) }
 
 pub end_laid : (old new : List ℕ) (layout : Layout) (nodes : List Placed) (p : Placed) (at : ℕ) → IsLayout layout → Laid old layout nodes → Among p nodes → p.place ≡ at → new ≡ set old (at + 6) 0 → Laid new layout (changed_at at ended nodes)
 end_laid old new layout nodes p at sizes laid among place is =
-    set_in_node old new layout nodes p at 6 0 ended sizes (ended_is layout) laid among place (omega arith) (omega arith) is (λ q e stands same value. record {
+    set_in_node old new layout nodes p at 6 0 ended sizes ended_is laid among place (omega arith) (omega arith) is (λ q e stands same value. record {
       node = stands.node;
       holds = moved_but old new q.place q.place q.node q.usable q.node.reloads false (λ i more a b c. same i b) stands.holds (same 5 (omega arith) ∙ stands.holds.reloads) value;
     })
 
 -- its reloads are counted
-reloads_is : (layout : Layout) (count : ℕ) → IsChange layout (with_reloads count)
-reloads_is layout count = record { place = λ p. refl; words = λ p. refl; number = λ p. refl; bucket = λ p. refl; usable = λ p e. e }
+pub reloads_is : (count : ℕ) → IsChange (with_reloads count)
+reloads_is count = record { place = λ p. refl; words = λ p. refl; number = λ p. refl; kind = λ p. refl; key = λ p. refl; usable = λ p e. e }
 
 pub reloads_laid : (old new : List ℕ) (layout : Layout) (nodes : List Placed) (p : Placed) (at count : ℕ) → IsLayout layout → Laid old layout nodes → Among p nodes → p.place ≡ at → new ≡ set old (at + 5) count → Laid new layout (changed_at at (with_reloads count) nodes)
 reloads_laid old new layout nodes p at count sizes laid among place is =
-    set_in_node old new layout nodes p at 5 count (with_reloads count) sizes (reloads_is layout count) laid among place (omega arith) (omega arith) is (λ q e stands same value. record {
+    set_in_node old new layout nodes p at 5 count (with_reloads count) sizes (reloads_is count) laid among place (omega arith) (omega arith) is (λ q e stands same value. record {
       node = record { kind = stands.node.kind; key = stands.node.key; reply = stands.node.reply; key_bytes = stands.node.key_bytes; reply_bytes = stands.node.reply_bytes };
       holds = moved_but old new q.place q.place q.node q.usable count q.usable (λ i more a b c. same i a) stands.holds value (same 6 (omega arith) ∙ stands.holds.state);
     })
@@ -168,6 +165,15 @@ map_twice f g (p ∷ nodes) = ap (λ (ps : List Placed). f (g p) ∷ ps) (map_tw
 same_list : (nodes : List Placed) → map (λ p. p) nodes ≡ nodes
 same_list [] = refl
 same_list (p ∷ nodes) = ap (λ (ps : List Placed). p ∷ ps) (same_list nodes)
+
+-- a count that is the same already changes nothing
+pub reloads_kept : (layout : Layout) (nodes : List Placed) (p : Placed) (at count : ℕ) → InRow (arena_start layout) nodes → Among p nodes → p.place ≡ at → p.node.reloads ≡ count → changed_at at (with_reloads count) nodes ≡ nodes
+reloads_kept layout nodes p at count row among place is = same_map (at_place at (with_reloads count)) (λ q. q) nodes (λ q m. ⊎_elim
+    (λ (e : q.place ≡ at).
+    let own : q.node.reloads ≡ count = ap (λ (r : Placed). r.node.reloads) (same_place (arena_start layout) nodes q p row m among (e ∙ sym place)) ∙ is in
+    ap (λ (b : Bool). cond b (with_reloads count q) q) (eq-eqb q.place at e) ∙ (λ i. record q { node = record q.node { reloads = sym own i } }))
+    (λ (n : q.place ≢ at). ap (λ (b : Bool). cond b (with_reloads count q) q) (ne_eqb q.place at n))
+    (cases_eq q.place at)) ∙ same_list nodes
 
 stays_if : (at : ℕ) (p : Placed) → at ≤ p.place → ended_if at p ≡ p
 stays_if at p high = ap (λ (b : Bool). cond b (ended p) p) (le-ltb p.place at high)
@@ -202,11 +208,4 @@ pub still_among : (nodes : List Placed) (n : Placed) (at : ℕ) → Among n node
 still_among nodes n at among place = subst (λ (q : Placed). Among q (map (ended_if at) nodes)) (stays_if at n (omega arith)) (into_map (ended_if at) nodes n among)
 
 pub ended_at : (words : List ℕ) (layout : Layout) (nodes : List Placed) (n : Placed) (at : ℕ) → IsLayout layout → Among n nodes → n.place ≡ at → Laid words layout (map (ended_if at) nodes) → IsNodeAt words at n
-ended_at words layout nodes n at sizes among place laid =
-    let still = still_among nodes n at among place in
-    let here = within (arena_start layout) (map (ended_if at) nodes) n laid.row still in
-    let room = laid.room in
-    let table = laid.table in
-    let few = sizes.buckets in
-    let small = sizes.room in
-    record { place = place; stands = laid.stands n still; inside = omega arith; size = omega arith }
+ended_at words layout nodes n at sizes among place laid = node_at words layout (map (ended_if at) nodes) n at sizes laid (still_among nodes n at among place) place

@@ -1,22 +1,21 @@
 -- Words that hold nodes hold no others.
-use Rattle.std.proofs.Common.{◌≡◌, ◌≢◌, ℕ, zero, suc, ◌+◌, ◌*◌, ◌/◌, ◌%◌, ◌<◌, ◌≤◌, Bool, true, false, cond, eqb, eq-eqb, ltb, inl, List, [], ◌∷◌, ◌++◌, length, take, slice_index, refl, sym, ap, subst, ◌∙◌, arith}
+use Rattle.std.proofs.Common.{◌≡◌, ◌≢◌, ℕ, zero, suc, ◌+◌, ◌*◌, ◌/◌, ◌%◌, ◌<◌, ◌≤◌, ⊎_elim, Bool, true, false, cond, eqb, eq-eqb, List, [], ◌∷◌, length, take, slice_index, refl, sym, ap, ◌∙◌, arith}
 use Rattle.std.specs.List.{All}
 use Rattle.std.specs.Int.{bytes_low_first}
-use Rattle.std.proofs.lemmas.Bool.{ne_eqb, lt-ltb, le-ltb}
-use Rattle.std.proofs.lemmas.List.{append-nil, get_or-take}
+use Rattle.std.proofs.lemmas.Bool.{cases_lt, ne_eqb, lt-ltb, le-ltb}
+use Rattle.std.proofs.lemmas.List.{get_or-take}
 use Rattle.std.proofs.lemmas.List.FromFn.{fill_by_all}
 use Rattle.nsc_base.specs.Nodes.{words_for}
 use Rattle.nsc_words.specs.declared.layout.Layout.{Layout}
 use Rattle.nsc_words.specs.declared.node.Node.{Node}
 use Rattle.nsc_words.specs.declared.node.Placed.{Placed}
-use Rattle.nsc_words.specs.Laid.{Among, InRow, Laid, Stands, end_of, words_in}
+use Rattle.nsc_words.specs.Laid.{Laid, Stands, end_of, words_in}
 use Rattle.nsc_words.specs.Layout.{arena_start}
 use Rattle.nsc_words.specs.Words.{HoldsBytes, word_of}
 use Rattle.nsc_words.proofs.Lows.{byte_of, take_low}
 use Rattle.nsc_arena.specs.ReadBack.{byte_in, bytes_in, node_by, placed_in, nodes_from, nodes_in}
 use Rattle.nsc_arena.proofs.Bytes.{all_below}
-use Rattle.nsc_arena.proofs.Rows.{within}
-use Rattle.nsc_arena.proofs.Slides.{among_of, ends_before, oldest, row_of}
+use Rattle.nsc_arena.proofs.Passed.{Passed, following, passed_all, passed_none}
 
 byte_back : (words : List ℕ) (place : ℕ) (bytes : List ℕ) (k : ℕ) → All (λ b. b < 256) bytes → HoldsBytes words place bytes → k < length bytes → slice_index bytes k ≡ byte_in words place k
 unfolding byte_in
@@ -40,7 +39,7 @@ state_back true word is = eq-eqb word 1 is
 state_back false word is = let n1 : word ≢ 1 = omega arith in ne_eqb word 1 n1
 
 -- a node is read back
-node_back : (words : List ℕ) (p : Placed) → Stands words p → placed_in words p.place ≡ p
+pub node_back : (words : List ℕ) (p : Placed) → Stands words p → placed_in words p.place ≡ p
 node_back words p stands =
     let h = stands.holds in
     let n : Node = p.node in
@@ -55,53 +54,26 @@ node_back words p stands =
     let by : node_by words p.place (slice_index words (p.place + 1) % 65536) (slice_index words (p.place + 2) / 2) ≡ n = (λ i. node_by words p.place (key_len i) (mark.1 i)) ∙ same in
     λ i. record { place = p.place; node = by i; usable = usable i }
 
--- one node more is read, where there is one
-one_back : (count : ℕ) (words : List ℕ) (layout : Layout) (nodes newer done : List Placed) → Laid words layout nodes → nodes ≡ newer ++ done
-    → ((front : List Placed) (n : Placed) → nodes ≡ front ++ (n ∷ done) → end_of (arena_start layout) done < end_of (arena_start layout) (n ∷ done) → nodes_from count words (end_of (arena_start layout) (n ∷ done)) (slice_index words 3) (n ∷ done) ≡ nodes)
-    → nodes_from (suc count) words (end_of (arena_start layout) done) (slice_index words 3) done ≡ nodes
-one_back count words layout nodes [] done laid split rest =
-    let from : ℕ = end_of (arena_start layout) done in
+-- from a place on the nodes that were not passed yet are read
+rest_back : (count : ℕ) (words : List ℕ) (layout : Layout) (nodes done : List Placed) (at : ℕ) → Laid words layout nodes → Passed layout nodes done at → end_of (arena_start layout) nodes ≤ at + count → nodes_from count words at (slice_index words 3) done ≡ nodes
+rest_back zero words layout nodes done at laid passed most = passed_all words layout nodes done at laid passed (omega arith)
+rest_back (suc count) words layout nodes done at laid passed most =
     let end : ℕ = slice_index words 3 in
-    let q : Placed = placed_in words from in
-    let same : end_of (arena_start layout) nodes ≡ from = ap (end_of (arena_start layout)) split in
-    let over : ltb from end ≡ false = le-ltb from end (let e = laid.first_free in omega arith) in
-    ap (λ (b : Bool). cond b (nodes_from count words (from + words_in q.node) end (q ∷ done)) done) over ∙ sym split
-one_back count words layout nodes (p ∷ newer) done laid split rest =
-    let start : ℕ = arena_start layout in
-    let from : ℕ = end_of start done in
-    let end : ℕ = slice_index words 3 in
-    let q : Placed = placed_in words from in
-    let w = oldest p newer done in
-    let n : Placed = w.1 in
-    let whole : nodes ≡ w.0 ++ (n ∷ done) = split ∙ w.2 in
-    let row : InRow start (w.0 ++ (n ∷ done)) = subst (InRow start) whole laid.row in
-    let place : n.place ≡ from = (row_of start w.0 (n ∷ done) row).0 in
-    let among : Among n nodes = subst (Among n) (sym whole) (among_of w.0 (n ∷ done) n (inl refl)) in
-    let here = within start nodes n laid.row among in
-    let more : ltb from end ≡ true = lt-ltb from end (let e = laid.first_free in omega arith) in
-    let is : q ≡ n = ap (placed_in words) (sym place) ∙ node_back words n (laid.stands n among) in
-    let next : from + words_in n.node ≡ end_of start (n ∷ done) = ap (λ (a : ℕ). a + words_in n.node) (sym place) in
-    ap (λ (b : Bool). cond b (nodes_from count words (from + words_in q.node) end (q ∷ done)) done) more
-    ∙ ap (λ (r : Placed). nodes_from count words (from + words_in r.node) end (r ∷ done)) is
-    ∙ ap (λ (a : ℕ). nodes_from count words a end (n ∷ done)) next
-    ∙ rest w.0 n whole (omega arith)
-
--- from the end of some nodes on the newer ones are read
-rest_back : (count : ℕ) (words : List ℕ) (layout : Layout) (nodes newer done : List Placed) → Laid words layout nodes → nodes ≡ newer ++ done → end_of (arena_start layout) nodes ≤ end_of (arena_start layout) done + count → nodes_from count words (end_of (arena_start layout) done) (slice_index words 3) done ≡ nodes
-rest_back zero words layout nodes [] done laid split most = sym split
-rest_back zero words layout nodes (p ∷ newer) done laid split most =
-    let start : ℕ = arena_start layout in
-    let row : InRow start ((p ∷ newer) ++ done) = subst (InRow start) split laid.row in
-    let same : end_of start nodes ≡ end_of start ((p ∷ newer) ++ done) = ap (end_of start) split in
-    let low = ends_before start newer done row.1 in
-    let first = row.0 in
-    absurd (omega arith)
-rest_back (suc count) words layout nodes newer done laid split most =
-    one_back count words layout nodes newer done laid split (λ front n whole higher. rest_back count words layout nodes front (n ∷ done) laid whole (omega arith))
+    let q : Placed = placed_in words at in
+    let or_done : Bool → List Placed = λ b. cond b (nodes_from count words (at + words_in q.node) end (q ∷ done)) done in
+    ⊎_elim
+    (λ (more : at < end).
+    let n = following layout nodes done at laid.row passed (omega (arith, more, laid.first_free)) in
+    let is : q ≡ n.node = ap (placed_in words) (sym n.place) ∙ node_back words n.node (laid.stands n.node n.among) in
+    ap or_done (lt-ltb at end more)
+    ∙ ap (λ (r : Placed). nodes_from count words (at + words_in r.node) end (r ∷ done)) is
+    ∙ rest_back count words layout nodes (n.node ∷ done) (at + words_in n.node.node) laid n.passed (omega arith))
+    (λ (over : end ≤ at). ap or_done (le-ltb at end over) ∙ passed_all words layout nodes done at laid passed (omega (arith, over, laid.first_free)))
+    (cases_lt at end)
 
 pub read_back : (words : List ℕ) (layout : Layout) (nodes : List Placed) → Laid words layout nodes → nodes_in words layout ≡ nodes
 unfolding nodes_in
 read_back words layout nodes laid =
     let room = laid.room in
     let table = laid.table in
-    rest_back (length words) words layout nodes nodes [] laid (sym (append-nil nodes)) (omega arith)
+    rest_back (length words) words layout nodes [] (arena_start layout) laid (passed_none layout nodes (arena_start layout) refl) (omega arith)

@@ -6,6 +6,7 @@ use Rattle.nsc_words.specs.declared.node.Node.{Node}
 use Rattle.nsc_words.specs.declared.node.Placed.{Placed}
 use Rattle.nsc_words.specs.Laid.{Among, Holds, InRow, Laid, Leads, Stands, bucket_in, end_of, words_in}
 use Rattle.nsc_words.specs.Layout.{IsLayout, arena_start}
+use Rattle.nsc_arena.specs.Changes.{IsNodeAt}
 use Rattle.nsc_arena.specs.Written.{IsSameBelow}
 
 pub end_after : (start : ℕ) (nodes : List Placed) → InRow start nodes → start ≤ end_of start nodes
@@ -94,6 +95,12 @@ inside words layout nodes p sizes laid among =
     let room = laid.room in
     let size = laid.table in
     (omega arith, omega arith, omega arith)
+
+-- it stands at its place in the words
+pub node_at : (words : List ℕ) (layout : Layout) (nodes : List Placed) (p : Placed) (at : ℕ) → IsLayout layout → Laid words layout nodes → Among p nodes → p.place ≡ at → IsNodeAt words at p
+node_at words layout nodes p at sizes laid among place =
+    let here = within (arena_start layout) nodes p laid.row among in
+    record { place = place; stands = laid.stands p among; inside = omega (arith, here.1, place, laid.room, laid.table); size = (inside words layout nodes p sizes laid among).2 }
 
 -- writes at the head, but for FIRST_FREE, leave the nodes
 pub same_body : (old new : List ℕ) (layout : Layout) (nodes : List Placed) → Laid old layout nodes → length new ≡ length old → slice_index new 3 ≡ slice_index old 3 → ((i : ℕ) → 16 ≤ i → slice_index new i ≡ slice_index old i) → Laid new layout nodes

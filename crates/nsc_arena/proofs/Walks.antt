@@ -9,7 +9,7 @@ use Rattle.nsc_words.specs.Hash.{hash_of}
 use Rattle.nsc_words.specs.Laid.{Among, InRow, Laid, Leads, answers, bucket_in, end_of, newest_for, place_of}
 use Rattle.nsc_words.specs.Layout.{IsLayout, arena_start, bucket_of, table_words}
 use Rattle.nsc_arena.specs.Changes.{IsNodeAt}
-use Rattle.nsc_arena.proofs.Rows.{apart, same_place, within}
+use Rattle.nsc_arena.proofs.Rows.{apart, node_at, same_place, within}
 
 -- how far a walk has come: its place is 0 or that of a node of the bucket, and each node that answers is there or below
 pub record Walking (layout : Layout) (kind : ℕ) (key : List ℕ) (nodes : List Placed) (at below : ℕ) : Type 0 where
@@ -48,13 +48,7 @@ pub stands_at : (words : List ℕ) (layout : Layout) (kind : ℕ) (key : List �
 stands_at words layout kind key nodes at below sizes laid walking high = ⊎_elim
     (λ (e : at ≡ 0). absurd (omega arith))
     (λ (w : (p : Placed) × Among p nodes × (p.place ≡ at) × (at + 8 ≤ below) × (bucket_in layout p ≡ bucket_of layout kind key)).
-    let here = within (arena_start layout) nodes w.0 laid.row w.1 in
-    let place = w.2 in
-    let room = laid.room in
-    let size = laid.table in
-    let few = sizes.buckets in
-    let small = sizes.room in
-    (w.0, w.1, record { place = w.2; stands = laid.stands w.0 w.1; inside = omega arith; size = omega arith }, w.3, w.4))
+    (w.0, w.1, node_at words layout nodes w.0 at sizes laid w.1 w.2, w.3, w.4))
     walking.known
 
 -- a step to the next node

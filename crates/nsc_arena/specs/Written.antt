@@ -19,6 +19,10 @@ pub record IsSameBelow (old new : List ℕ) (from : ℕ) : Type 0 where
 abbrev pub MaySet : (ℕ → Bool) → ℕ → ℕ → Type 0
 MaySet can_set from count = (i : ℕ) → from ≤ i → i < from + count → can_set i ≡ true
 
+-- the words behind the nodes, from FIRST_FREE on, may be set
+abbrev pub MaySetFree : Layout → List ℕ → (ℕ → Bool) → Type 0
+MaySetFree map words can_set = (i : ℕ) → slice_index words 3 ≤ i → i < table_words map → can_set i ≡ true
+
 -- the words that the calls on nodes set may be set: FIRST_FREE, the buckets, and those of the arena
 pub record MaySetNodes (map : Layout) (can_set : ℕ → Bool) : Type 0 where
   pub first_free : can_set 3 ≡ true

@@ -14,7 +14,7 @@ mod sliding;
 mod walking;
 mod writing;
 
-pub use chaining::chain;
+pub use chaining::{chain, lead};
 pub use changing::{end_node, set_reloads};
 pub use ending::end_nodes;
 pub use laws::nodes_are_read_back;

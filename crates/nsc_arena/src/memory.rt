@@ -5,7 +5,7 @@ use std::alloc::Global;
 use std::marker::Model;
 
 /// The words of a table, which one caller reads and writes: all that is known of its memory. A place is a word's number from 0 on.
-/// What is not words stays as it is (`rest`: the value with its words taken out).
+/// What is not words stays as it is (`rest`: the value with its words taken out), and says which words may be set (`can_set`).
 pub trait Words {
     ghost use Rattle.std.specs.Prelude.{ℕ, List, Bool};
 
@@ -13,7 +13,7 @@ pub trait Words {
 
     ghost rest: { Self → Self };
 
-    ghost can_set: { ℕ → Bool };
+    ghost can_set: { Self → ℕ → Bool };
 
     /// How many words there are.
     fn len(&self) -> usize
@@ -29,7 +29,7 @@ pub trait Words {
     /// Sets the word at a place, which is one that may be set.
     fn set(&mut self, at: usize, value: u64)
         requires inside { at < length (words self.old) }
-        requires open { can_set at ≡ true }
+        requires open { can_set (rest self.old) at ≡ true }
         ensures set { words self.new ≡ slice_set (words self.old) at value }
         ensures rest { rest self.new ≡ rest self.old };
 }
@@ -74,7 +74,7 @@ impl Words for VecWords {
 
     ghost rest = { λ w. [] };
 
-    ghost can_set = { λ at. true };
+    ghost can_set = { λ w at. true };
 
     fn len(&self) -> usize {
         self.words.len()

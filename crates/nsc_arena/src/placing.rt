@@ -4,7 +4,7 @@ ghost use Rattle.nsc_words.specs.Laid.{Laid, Stands, words_in};
 ghost use Rattle.nsc_words.specs.Layout.{IsLayout};
 ghost use Rattle.nsc_words.specs.Packing.{shape_word, size_word};
 ghost use Rattle.nsc_arena.specs.Changes.{IsPlaced, node_of, usable_at};
-ghost use Rattle.nsc_arena.specs.Written.{IsSameBelow, MaySet, MaySetNodes};
+ghost use Rattle.nsc_arena.specs.Written.{IsSameBelow, MaySet, MaySetFree};
 
 use crate::memory::Words;
 use crate::writing::{put_bytes, put_words};
@@ -34,7 +34,7 @@ pub fn place<W: Words>(table: &mut W, map: Layout, node: &Node) -> Option<usize>
     requires kind { node.now.kind < 256 }
     requires key { length node.now.key ≤ 1024 }
     requires reply { length node.now.reply ≤ 65536 }
-    requires open { MaySetNodes map W.can_set }
+    requires open { MaySetFree map (W.words table.old) (W.can_set (W.rest table.old)) }
     requires laid { (nodes : List Placed) × Laid (W.words table.old) map nodes }
     ensures placed { IsPlaced map node.now (W.words table.old) (W.words table.new) result }
     ensures laid { (nodes : List Placed) → Laid (W.words table.old) map nodes → Laid (W.words table.new) map nodes }
@@ -69,7 +69,7 @@ pub fn place_bytes<W: Words>(
     requires kind { fixed.kind < 256 }
     requires key { length key.now ≤ 1024 }
     requires reply { length reply.now ≤ 65536 }
-    requires open { MaySetNodes map W.can_set }
+    requires open { MaySetFree map (W.words table.old) (W.can_set (W.rest table.old)) }
     requires laid { (nodes : List Placed) × Laid (W.words table.old) map nodes }
     ensures placed { IsPlaced map (node_of fixed key.now reply.now) (W.words table.old) (W.words table.new) result }
     ensures laid { (nodes : List Placed) → Laid (W.words table.old) map nodes → Laid (W.words table.new) map nodes }
@@ -90,7 +90,7 @@ fn put_node<W: Words>(table: &mut W, at: usize, fixed: Fixed, key: &[u8], reply:
     requires reply { length reply.now ≤ 65536 }
     requires size { length (W.words table.old) < 2 ^ 63 }
     requires inside { at + words_in (node_of fixed key.now reply.now) ≤ length (W.words table.old) }
-    requires open { MaySet W.can_set at (words_in (node_of fixed key.now reply.now)) }
+    requires open { MaySet (W.can_set (W.rest table.old)) at (words_in (node_of fixed key.now reply.now)) }
     ensures stands { Stands (W.words table.new) (usable_at at (node_of fixed key.now reply.now)) }
     ensures below { IsSameBelow (W.words table.old) (W.words table.new) at }
     ensures rest { W.rest table.new ≡ W.rest table.old }

@@ -14,7 +14,7 @@ use nsc_words::{FIRST_FREE, HEAD_WORDS, Layout, STATE};
 pub fn clear<W: Words>(table: &mut W, map: Layout)
     requires layout { IsLayout map }
     requires table { length (W.words table.old) ≡ table_words map }
-    requires open { MaySetNodes map W.can_set }
+    requires open { MaySetNodes map (W.can_set (W.rest table.old)) }
     ensures laid { Laid (W.words table.new) map [] }
     ensures arena { (i : ℕ) → arena_start map ≤ i → slice_index (W.words table.new) i ≡ slice_index (W.words table.old) i }
     ensures head { IsSameHead (W.words table.old) (W.words table.new) }
@@ -30,7 +30,7 @@ pub fn clear<W: Words>(table: &mut W, map: Layout)
 /// FIRST_FREE stands right behind the newest one. Each node is moved once. Gives how many words are free that were not.
 pub fn slide<W: Words>(table: &mut W, map: Layout) -> usize
     requires layout { IsLayout map }
-    requires open { MaySetNodes map W.can_set }
+    requires open { MaySetNodes map (W.can_set (W.rest table.old)) }
     requires laid { (nodes : List Placed) × Laid (W.words table.old) map nodes }
     ensures laid { (nodes : List Placed) → Laid (W.words table.old) map nodes → Laid (W.words table.new) map (slid (arena_start map) nodes) }
     ensures freed { slice_index (W.words table.new) 3 + result ≡ slice_index (W.words table.old) 3 }

@@ -1,26 +1,27 @@
 ghost use Rattle.std.specs.Prelude.{◌≡◌, ◌↔◌, ◌+◌, ◌<◌, ◌≤◌, ◌^◌, IsTrue, List, length};
 ghost use Rattle.nsc_words.specs.declared.node.Placed.{Placed};
+ghost use Rattle.nsc_words.specs.Hash.{hash_of};
 ghost use Rattle.nsc_words.specs.Laid.{Laid, answers, newest_for, place_of};
 ghost use Rattle.nsc_words.specs.Layout.{IsLayout, table_words};
 ghost use Rattle.nsc_arena.specs.Changes.{IsNodeAt};
 
 use crate::memory::Words;
 use crate::reading::has_bytes;
-use nsc_words::{KEY, Layout, NEXT, SHAPE, STATE, hash, shape_kind, shape_len};
+use nsc_words::{KEY, Layout, NEXT, SHAPE, STATE, shape_kind, shape_len};
 
-/// The place of the newest usable node of a request, by its kind, below 256, and its key. It changes nothing, and ends whatever the
-/// words hold: each NEXT must be below the place before it. Where the words hold nodes, `None` comes exactly where none of these
+/// The place of the newest usable node of a request, by its hash, its kind and its key. It changes nothing, and ends whatever the words
+/// hold: each NEXT must be below the place before it. Where the words hold nodes, `None` comes exactly where none of these
 /// answers the request.
-pub fn walk<W: Words>(table: &mut W, map: Layout, kind: u32, key: &[u8]) -> Option<usize>
+pub fn walk<W: Words>(table: &mut W, map: Layout, hash: u32, kind: u32, key: &[u8]) -> Option<usize>
     requires layout { IsLayout map }
-    requires kind { kind < 256 }
+    requires hash { hash ≡ hash_of kind key.now }
     requires table { length (W.words table.old) ≡ table_words map }
     ensures same { W.words table.new ≡ W.words table.old }
     ensures rest { W.rest table.new ≡ W.rest table.old }
     ensures newest { (nodes : List Placed) → Laid (W.words table.old) map nodes → result ≡ place_of (newest_for kind key.now nodes) }
 {
     let mut below = map.words();
-    let mut at = table.get(map.bucket(hash(kind, key)));
+    let mut at = table.get(map.bucket(hash));
     'chain: while is_between(at, map.arena_start(), below) {
         let place = at as usize;
         if answers_at(table, place, kind, key) {

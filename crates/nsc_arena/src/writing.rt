@@ -11,7 +11,7 @@ use nsc_words::word_of;
 pub fn put_words<W: Words>(table: &mut W, at: usize, words: &[u64])
     requires size { length (W.words table.old) < 2 ^ 63 }
     requires inside { at + length words.now ≤ length (W.words table.old) }
-    requires open { MaySet W.can_set at (length words.now) }
+    requires open { MaySet (W.can_set (W.rest table.old)) at (length words.now) }
     ensures written { IsWritten (W.words table.old) (W.words table.new) at (length words.now) (slice_index words.now) }
     ensures rest { W.rest table.new ≡ W.rest table.old }
 {
@@ -24,7 +24,7 @@ pub fn put_words<W: Words>(table: &mut W, at: usize, words: &[u64])
 pub fn put_bytes<W: Words>(table: &mut W, at: usize, bytes: &[u8])
     requires size { length (W.words table.old) < 2 ^ 63 }
     requires inside { at + words_for (length bytes.now) ≤ length (W.words table.old) }
-    requires open { MaySet W.can_set at (words_for (length bytes.now)) }
+    requires open { MaySet (W.can_set (W.rest table.old)) at (words_for (length bytes.now)) }
     ensures written { IsWritten (W.words table.old) (W.words table.new) at (words_for (length bytes.now)) (word_of bytes.now) }
     ensures bytes { All (λ b. b < 256) bytes.now }
     ensures rest { W.rest table.new ≡ W.rest table.old }
@@ -40,7 +40,7 @@ pub fn move_down<W: Words>(table: &mut W, from: usize, to: usize, count: usize)
     requires down { to ≤ from }
     requires size { length (W.words table.old) < 2 ^ 63 }
     requires inside { from + count ≤ length (W.words table.old) }
-    requires open { MaySet W.can_set to count }
+    requires open { MaySet (W.can_set (W.rest table.old)) to count }
     ensures written { IsWritten (W.words table.old) (W.words table.new) to count (λ i. slice_index (W.words table.old) (from + i)) }
     ensures rest { W.rest table.new ≡ W.rest table.old }
 {

@@ -10,7 +10,7 @@ use Rattle.atomic_table.proofs.Lists.{at_set, at_snoc, set_again}
 use Rattle.nsc_model.specs.Content.{Content}
 use Rattle.nsc_model.specs.declared.record.Record.{Record}
 use Rattle.nsc_model.specs.declared.record.Record.TheVariants.{Change}
-use Rattle.nsc_model.specs.History.{changes, invalidations, IsPrefix}
+use Rattle.nsc_model.specs.History.{changes, invalidations, IsPrefix, Legal}
 use Rattle.nsc_model.proofs.Beginnings.{prefix_all, prefix_none, prefix_more, prefix_between}
 use Rattle.nsc_rule.specs.declared.view.View.{View}
 use Rattle.nsc_rule.specs.declared.view.Said.{Said}
@@ -39,15 +39,15 @@ kept_set : (h : List Record) (views : List View) (seat : ℕ) (w : View) → ((j
 kept_set h views seat w all mine = fits_set h views seat w (λ j u apart e. all j u e) mine
 
 pub opens : (content : Content) → IsKept (opening (0 ∷ 0 ∷ []) [] (opening_view content))
-opens content = record { history = Change 0 content ∷ []; words = refl; fits = fits } where
+opens content = record { history = Change 0 content ∷ []; legal = refl; words = refl; fits = fits } where
   fits : (seat : ℕ) (v : View) → get_elem? (opening_view content ∷ []) seat ≡ some v → Fits (Change 0 content ∷ []) seat v
   fits zero v e = subst (Fits (Change 0 content ∷ []) 0) (some-injective _ _ e) (pen_fits (Change 0 content ∷ []) 0 [] refl (prefix_none (Change 0 content ∷ [])))
   fits (suc seat) v e = absurd (some-ne-none v (sym e))
 
 -- a record is added, and the word is the one that it wants
-pub adds : (slots id word old new : ℕ) (h : List Record) (said : Said) → get_or (words_of h) word 0 ≡ old → set (words_of h) word new ≡ words_of (said_record said ∷ h)
+pub adds : (slots id word old new : ℕ) (h : List Record) (said : Said) → Legal (said_record said ∷ h) → get_or (words_of h) word 0 ≡ old → set (words_of h) word new ≡ words_of (said_record said ∷ h)
     → Allows IsKept slots id (pen_view h, []) word (λ n. either (eqb n old) new n) (AddTells (step slots word old new (some said)) (pen_view h, []))
-adds slots id word old new h said was wants s kept count at low =
+adds slots id word old new h said legal was wants s kept count at low =
     let r = said_record said in
     let mine = (kept.fits id (pen_view h) at).writes refl in
     let words : s.words ≡ words_of h = kept.words ∙ ap words_of (sym mine.1) in
@@ -65,6 +65,7 @@ adds slots id word old new h said was wants s kept count at low =
       tt,
       record {
         history = r ∷ h;
+        legal = legal;
         words = (λ i. set (words i) word (writes i)) ∙ wants;
         fits = fits_set (r ∷ h) s.views id (pen_view (r ∷ h)) others (pen_fits (r ∷ h) id [] mine.0 (prefix_none (r ∷ h)));
       },
@@ -75,6 +76,7 @@ adds slots id word old new h said was wants s kept count at low =
 stays : (s : State Said View) (word id : ℕ) (w : View) (kept : IsKept s) → word < 2 → Fits kept.history id w → IsKept (stepped s word (get_or s.words word 0) id [] w keeps)
 stays s word id w kept low mine = record {
   history = kept.history;
+  legal = kept.legal;
   words = same s.words word (get_or s.words word 0) kept.words refl low;
   fits = kept_set kept.history s.views id w kept.fits mine;
 } where
@@ -127,6 +129,7 @@ meets slots id seen told s kept count at low =
 pub copies : (id : ℕ) (v : View) → Splits IsKept id v v (reader_of v)
 copies id v s kept at = record {
   history = kept.history;
+  legal = kept.legal;
   words = kept.words;
   fits = λ j u e. ⊎_elim
       (λ (was : get_elem? (set s.views id v) j ≡ some u). kept.fits j u (subst (λ (l : List View). get_elem? l j ≡ some u) (set_again s.views id v at) was))
@@ -141,6 +144,7 @@ joins s id other v w both kept at apart there fits =
     let theirs : Fits kept.history other w = ⊎_elim (λ (x : (other ≡ id) × (both ≡ w)). absurd (apart x.0)) (λ (x : (other ≢ id) × (get_elem? s.views other ≡ some w)). kept.fits other w x.1) (at_set s.views id other both w there) in
     record {
       history = kept.history;
+      legal = kept.legal;
       words = kept.words;
       fits = kept_set kept.history (set s.views id both) other nobody (kept_set kept.history s.views id both kept.fits (fits (kept.fits id v at) theirs))
           (reader_fits kept.history other [] [] (prefix_none kept.history) (prefix_none kept.history));
@@ -153,10 +157,10 @@ pub shows : (id other : ℕ) (seen : List Record) (w : View) → Joins IsKept id
 shows id other seen w s kept at apart there = joins s id other (reader_view seen) w (shown (reader_view seen) w) kept at apart there (λ mine theirs. reader_fits kept.history id w.seen [] theirs.seen (prefix_none kept.history))
 
 -- the same at views that are known by equations
-pub adds_as : (slots id word old new : ℕ) (me : Me Said View) (said : Said) → me ≡ (pen_view me.0.seen, []) → get_or (words_of me.0.seen) word 0 ≡ old
+pub adds_as : (slots id word old new : ℕ) (me : Me Said View) (said : Said) → me ≡ (pen_view me.0.seen, []) → Legal (said_record said ∷ me.0.seen) → get_or (words_of me.0.seen) word 0 ≡ old
     → set (words_of me.0.seen) word new ≡ words_of (said_record said ∷ me.0.seen) → Allows IsKept slots id me word (λ n. either (eqb n old) new n) (AddTells (step slots word old new (some said)) me)
-adds_as slots id word old new me said is was wants = let P : Me Said View → Type 0 = λ m. Allows IsKept slots id m word (λ n. either (eqb n old) new n) (AddTells (step slots word old new (some said)) m) in
-    subst P (sym is) (adds slots id word old new me.0.seen said was wants)
+adds_as slots id word old new me said is legal was wants = let P : Me Said View → Type 0 = λ m. Allows IsKept slots id m word (λ n. either (eqb n old) new n) (AddTells (step slots word old new (some said)) m) in
+    subst P (sym is) (adds slots id word old new me.0.seen said legal was wants)
 
 pub learns_as : (slots id : ℕ) (me : Me Said View) (h told : List Record) → me ≡ (told_of (pen_view h) (reader_view told), []) → Allows IsKept slots id me 1 (λ n. n) (LearnTells (step slots 1 0 0 none) me)
 learns_as slots id me h told is = let P : Me Said View → Type 0 = λ m. Allows IsKept slots id m 1 (λ n. n) (LearnTells (step slots 1 0 0 none) m) in subst P (sym is) (learns slots id h told)

@@ -1,4 +1,4 @@
--- The rule of the shared words: they are what the history says, the writing seat has seen it whole, and every other seat a
+-- The rule of the shared words: the history is legal, the words are what it says, the writing seat has seen it whole, and every other seat a
 -- beginning of it. The views of the seats have it; the words do not.
 use Rattle.std.specs.Prelude.{◌≡◌, ℕ, ◌-◌, nat_lt, if◌then◌else◌, true, false, List, [], ◌∷◌, length}
 use mathlib.Core.Option.{Option, some, none}
@@ -7,7 +7,7 @@ use Rattle.atomic_table.specs.Table.{State, Me, Step}
 use Rattle.nsc_model.specs.Content.{Content}
 use Rattle.nsc_model.specs.declared.record.Record.{Record}
 use Rattle.nsc_model.specs.declared.record.Record.TheVariants as record_of
-use Rattle.nsc_model.specs.History.{changes, invalidations, IsPrefix}
+use Rattle.nsc_model.specs.History.{changes, invalidations, IsPrefix, Legal}
 use Rattle.nsc_rule.specs.declared.view.View.{View}
 use Rattle.nsc_rule.specs.declared.view.Said.{Said}
 use Rattle.nsc_rule.specs.declared.view.Said.TheVariants as said
@@ -26,6 +26,7 @@ pub record Fits (history : List Record) (seat : ℕ) (v : View) : Type 0 where
 -- the rule
 pub record IsKept (s : State Said View) : Type 0 where
   pub history : List Record
+  pub legal : Legal history
   pub words : s.words ≡ words_of history
   pub fits : (seat : ℕ) (v : View) → get_elem? s.views seat ≡ some v → Fits history seat v
 

@@ -204,6 +204,7 @@ impl Pen {
 fn add(seat: &mut Seat<Said, View>, map: &Map, word: usize, old: u64, new: u64, said: &Said)
     requires table { seat.old.table_id ≡ map.now.table }
     requires pen { seat.old.me ≡ (pen_view seat.old.me.0.seen, []) }
+    requires legal { Legal (said_record said.now ∷ seat.old.me.0.seen) }
     requires word { word < 2 }
     requires old { slice_index (words_of seat.old.me.0.seen) word ≡ old }
     requires new { slice_set (words_of seat.old.me.0.seen) word new ≡ words_of (said_record said.now ∷ seat.old.me.0.seen) }

@@ -1,18 +1,14 @@
 -- Entries that are found by numbers.
-use Rattle.std.proofs.Common.{◌≡◌, ◌≢◌, ℕ, ◌+◌, ◌<◌, ◌≤◌, ◌^◌, ⊎_elim, All, false, leb, eqb, eq-eqb, List, length, Some, None, sym, ap, subst, ◌∙◌, arith}
+use Rattle.std.proofs.Common.{◌≡◌, ◌≢◌, ℕ, ◌≤◌, ⊎_elim, false, leb, eqb, eq-eqb, List, Some, None, sym, ap, subst, ◌∙◌, arith}
 use Rattle.std.proofs.lemmas.Bool.{cases_eq, leb-true, le-leb, lt-leb, ne_eqb}
 use Rattle.nsc_words.specs.declared.layout.Layout.{Layout}
 use Rattle.nsc_words.specs.declared.node.Placed.{Placed}
 use Rattle.nsc_words.specs.Laid.{Among, Laid, Rising}
-use Rattle.nsc_base.specs.Nodes.{words_for}
-use Rattle.nsc_words.specs.Layout.{IsLayout, arena_start}
-use Rattle.nsc_words.specs.Words.{HoldsBytes}
-use Rattle.nsc_arena.specs.Changes.{IsFirst, IsMark}
+use Rattle.nsc_arena.specs.Changes.{IsFirst, IsMark, IsNodeAt}
 use Rattle.nsc_arena.specs.ReadBack.{nodes_in}
 use Rattle.nsc_arena.specs.declared.reading.Head.{Head}
 use Rattle.nsc_arena.proofs.Passed.{mark_at}
-use Rattle.nsc_arena.proofs.Rows.{within}
-use Rattle.nsc_model.specs.Entry.{key_limit, kept_limit}
+use Rattle.nsc_arena.proofs.Rows.{node_at}
 use Rattle.nsc_shelf.specs.declared.finding.Found.{Found}
 use Rattle.nsc_shelf.specs.declared.finding.Mark.{Mark}
 use Rattle.nsc_shelf.specs.Finding.{IsFound}
@@ -56,54 +52,6 @@ marked_above map nodes from low high more mark = record { newer = mark.newer; ol
 pub marked_found : (words : List ℕ) (map : Layout) (nodes : List Placed) (at number : ℕ) (p : Placed) → Laid words map nodes → Among p nodes → p.place ≡ at → number ≡ p.node.number → IsMark map nodes at number
 marked_found words map nodes at number p laid among place is = subst (λ (x : ℕ × ℕ). IsMark map nodes x.0 x.1) (λ i. (place i, sym is i)) (mark_at map nodes p laid.row laid.rising among)
 
--- words that are the same are as many
-pub size_of : (old words : List ℕ) (map : Layout) → words ≡ old → IsLayout map → Laid old map (nodes_in old map) → length words < 2 ^ 63
-size_of old words map same sizes laid =
-    let table = laid.table in
-    let few = sizes.buckets in
-    let small = sizes.room in
-    let long : length words ≡ length old = ap length same in
-    omega arith
-
--- ---- the bytes of a node that was found
-
--- its parts, in words that are the same, by what was read of it
-pub record Text (words : List ℕ) (f : Found) (p : Placed) : Type 0 where
-  pub key_len : f.head.key_len ≡ length p.node.key
-  pub reply_len : f.head.reply_len ≡ length p.node.reply
-  pub short_key : length p.node.key ≤ key_limit
-  pub short_reply : length p.node.reply ≤ kept_limit
-  pub inside : f.at + 8 + words_for f.head.key_len + words_for f.head.reply_len ≤ length words
-  pub size : length words < 2 ^ 63
-  pub key_bytes : All (λ b. b < 256) p.node.key
-  pub reply_bytes : All (λ b. b < 256) p.node.reply
-  pub key : HoldsBytes words (f.at + 8) p.node.key
-  pub reply : HoldsBytes words (f.at + 8 + words_for f.head.key_len) p.node.reply
-
-pub text_of : (old words : List ℕ) (map : Layout) (nodes : List Placed) (number : ℕ) (f : Found) (w : IsFound number nodes (Some f)) → words ≡ old → IsLayout map → Laid old map nodes → Text words f w.0
-text_of old words map nodes number f w same sizes laid =
-    let p : Placed = w.0 in
-    let key_len : f.head.key_len ≡ length p.node.key = ap (λ (h : Head). h.key_len) w.6 in
-    let reply_len : f.head.reply_len ≡ length p.node.reply = ap (λ (h : Head). h.reply_len) w.6 in
-    let here = within (arena_start map) nodes p laid.row w.1 in
-    let place = w.2 in
-    let room = laid.room in
-    let table = laid.table in
-    let few = sizes.buckets in
-    let small = sizes.room in
-    let long : length words ≡ length old = ap length same in
-    let own = laid.stands p w.1 in
-    let at_key : p.place + 8 ≡ f.at + 8 = omega arith in
-    let at_reply : p.place + 8 + words_for (length p.node.key) ≡ f.at + 8 + words_for f.head.key_len = omega arith in
-    record {
-      key_len = key_len;
-      reply_len = reply_len;
-      short_key = own.node.key;
-      short_reply = own.node.reply;
-      inside = omega arith;
-      size = omega arith;
-      key_bytes = own.node.key_bytes;
-      reply_bytes = own.node.reply_bytes;
-      key = subst (λ (ws : List ℕ). HoldsBytes ws (f.at + 8) p.node.key) (sym same) (subst (λ (a : ℕ). HoldsBytes old a p.node.key) at_key own.holds.key);
-      reply = subst (λ (ws : List ℕ). HoldsBytes ws (f.at + 8 + words_for f.head.key_len) p.node.reply) (sym same) (subst (λ (a : ℕ). HoldsBytes old a p.node.reply) at_reply own.holds.reply);
-    }
+-- the node that was found, in words that are the same
+pub found_at : (old words : List ℕ) (map : Layout) (count : ℕ) (mark : Mark) (number : ℕ) (f : Found) (w : IsFound number (nodes_in old map) (Some f)) → words ≡ old → IsShelf old map count mark → IsNodeAt words f.at w.0
+found_at old words map count mark number f w same is = subst (λ (ws : List ℕ). IsNodeAt ws f.at w.0) (sym same) (node_at old map (nodes_in old map) w.0 f.at is.sizes is.laid w.1 w.2)

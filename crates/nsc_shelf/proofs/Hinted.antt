@@ -1,28 +1,26 @@
 -- Hints of nodes, as these are changed, and what they tell.
-use Rattle.std.proofs.Common.{◌≡◌, ◌≢◌, ℕ, ◌+◌, ◌<◌, ◌≤◌, ◌⊎◌, inl, inr, ⊎_elim, Bool, true, false, cond, List, [], ◌∷◌, length, map, find, replicate, slice_index, Some, refl, sym, ap, subst, ◌∙◌, arith}
+use Rattle.std.proofs.Common.{◌≡◌, ◌≢◌, ℕ, ◌+◌, ◌<◌, ◌≤◌, ◌⊎◌, inl, inr, ⊎_elim, Bool, true, false, cond, List, [], ◌∷◌, length, map, find, replicate, slice_index, Some, None, refl, sym, ap, subst, ◌∙◌, arith}
 use Rattle.std.proofs.lemmas.Bool.{cases_eq, cases_lt}
 use Rattle.std.proofs.lemmas.List.{get_or-replicate, get_or_past, length-replicate}
 use Rattle.nsc_words.specs.declared.layout.Layout.{Layout}
 use Rattle.nsc_words.specs.declared.node.Placed.{Placed}
-use Rattle.nsc_words.specs.Laid.{Among, Laid, Rising, place_of}
+use Rattle.nsc_words.specs.Laid.{Among, Laid, Rising, answers, newest_for, place_of}
 use Rattle.nsc_words.specs.Layout.{IsLayout}
-use Rattle.nsc_arena.specs.Changes.{changed_at}
+use Rattle.nsc_arena.specs.Changes.{IsNodeAt, changed_at}
 use Rattle.nsc_arena.specs.ReadBack.{nodes_in}
 use Rattle.nsc_arena.proofs.ReadBack.{read_back}
-use Rattle.nsc_arena.proofs.Rows.{inside}
+use Rattle.nsc_arena.proofs.Changed.{IsChange, change_at, into_map}
+use Rattle.nsc_arena.proofs.Rows.{inside, node_at}
 use Rattle.nsc_model.specs.declared.kind.Kind.{Kind}
 use Rattle.nsc_model.specs.declared.answer.Request.{Request}
 use Rattle.nsc_model.specs.Kinds.{is_request, type_number}
+use Rattle.nsc_model.specs.Machine.{live_entry}
+use Rattle.nsc_shelf.specs.declared.finding.Mark.{Mark}
 use Rattle.nsc_shelf.specs.Hints.{AreHints, HasPlace, IsAlone, told_place}
-use Rattle.nsc_shelf.specs.Shelf.{AreEntries, request_in}
-use Rattle.nsc_shelf.proofs.States.{Leaves, asked, leaves_at, same_asked, same_number, usable_answers}
+use Rattle.nsc_shelf.specs.Shelf.{AreEntries, IsShelf, entries_in, kept_in, request_in}
+use Rattle.nsc_shelf.proofs.States.{asked, found_place, live_at, live_none, missing_place, same_asked, same_number, usable_answers}
 
 -- ---- nodes change
-
-among_map : (f : Placed → Placed) (nodes : List Placed) (p : Placed) → Among p nodes → Among (f p) (map f nodes)
-among_map f [] p among = absurd among
-among_map f (q ∷ nodes) p (inl e) = inl (ap f e)
-among_map f (q ∷ nodes) p (inr m) = inr (among_map f nodes p m)
 
 -- the nodes that words hold are these
 pub hints_by : {words : List ℕ} {layout : Layout} {nodes : List Placed} (hints : List ℕ) → Laid words layout nodes → AreHints hints layout nodes → AreHints hints layout (nodes_in words layout)
@@ -44,15 +42,15 @@ no_hints_in {layout} {nodes} hints count is some =
         (cases_lt i count)
 
 -- a change leaves the places
-pub hints_changed : (f : Placed → Placed) {layout : Layout} (hints : List ℕ) (nodes : List Placed) → Leaves f → AreHints hints layout nodes → AreHints hints layout (map f nodes)
+pub hints_changed : (f : Placed → Placed) {layout : Layout} (hints : List ℕ) (nodes : List Placed) → IsChange f → AreHints hints layout nodes → AreHints hints layout (map f nodes)
 hints_changed f {layout} hints nodes leaves are = record {
   some = are.some;
-  places = λ i told. let w = are.places i told in (f w.0, among_map f nodes w.0 w.1, leaves.place w.0 ∙ w.2);
+  places = λ i told. let w = are.places i told in (f w.0, into_map f nodes w.0 w.1, leaves.place w.0 ∙ w.2);
 }
 
 -- at one place
-pub hints_changed_at : (at : ℕ) (change : Placed → Placed) {layout : Layout} (hints : List ℕ) (nodes : List Placed) → Leaves change → AreHints hints layout nodes → AreHints hints layout (changed_at at change nodes)
-hints_changed_at at change {layout} hints nodes leaves = hints_changed _ hints nodes (leaves_at at change leaves)
+pub hints_changed_at : (at : ℕ) (change : Placed → Placed) {layout : Layout} (hints : List ℕ) (nodes : List Placed) → IsChange change → AreHints hints layout nodes → AreHints hints layout (changed_at at change nodes)
+hints_changed_at at change {layout} hints nodes leaves = hints_changed _ hints nodes (change_at at change leaves)
 
 -- a newer node adds one
 pub hints_more : {layout : Layout} (hints : List ℕ) (nodes : List Placed) (p : Placed) → AreHints hints layout nodes → AreHints hints layout (p ∷ nodes)
@@ -98,3 +96,31 @@ alone_in nodes inserted kind key are rising p q a b u v =
     let asks_p : is_request r (request_in p) ≡ true = sym (asked kind key p (are.kinds p a) one) ∙ u in
     let asks_q : is_request r (request_in q) ≡ true = sym (asked kind key q (are.kinds q b) two) ∙ v in
     same_number nodes p q rising a b (are.apart p q a b one two (same_asked r p q asks_p asks_q))
+
+-- ---- what a lookup found
+
+-- a usable node that answers a request
+pub record Answering (words : List ℕ) (layout : Layout) (kind : Kind) (key : List ℕ) (at : ℕ) : Type 0 where
+  pub node : Placed
+  pub among : Among node (nodes_in words layout)
+  pub here : IsNodeAt words at node
+  pub live : live_entry (record { kind = kind; key = key }) (entries_in (nodes_in words layout)) ≡ Some (kept_in node)
+  pub answers : answers (type_number kind) key node ≡ true
+
+pub answering : (words : List ℕ) (layout : Layout) (count : ℕ) (mark : Mark) (kind : Kind) (key : List ℕ) (number at : ℕ) → IsShelf words layout count mark → number ≡ type_number kind → Some at ≡ place_of (newest_for number key (nodes_in words layout)) → Answering words layout kind key at
+answering words layout count mark kind key number at is numbered found =
+    let nodes : List Placed = nodes_in words layout in
+    let n = found_place (answers (type_number kind) key) nodes at (sym (found ∙ ap (λ (k : ℕ). place_of (newest_for k key nodes)) numbered)) in
+    record {
+      node = n.0;
+      among = n.1;
+      here = node_at words layout nodes n.0 at is.sizes is.laid n.1 n.2;
+      live = live_at nodes (slice_index words 4) kind key n.0 is.entries is.laid.rising n.1 n.3;
+      answers = n.3;
+    }
+
+-- none does
+pub unanswered : (words : List ℕ) (layout : Layout) (count : ℕ) (mark : Mark) (kind : Kind) (key : List ℕ) (number : ℕ) → IsShelf words layout count mark → number ≡ type_number kind → None ≡ place_of (newest_for number key (nodes_in words layout)) → live_entry (record { kind = kind; key = key }) (entries_in (nodes_in words layout)) ≡ None
+unanswered words layout count mark kind key number is numbered found =
+    let nodes : List Placed = nodes_in words layout in
+    live_none nodes (slice_index words 4) kind key is.entries (missing_place (answers (type_number kind) key) nodes (sym (found ∙ ap (λ (k : ℕ). place_of (newest_for k key nodes)) numbered)))

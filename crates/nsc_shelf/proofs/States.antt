@@ -4,16 +4,18 @@ use Rattle.std.specs.Bool.{Decides}
 use Rattle.std.specs.Str.{bytes_eq}
 use Rattle.std.proofs.lemmas.Bool.{cases_eq, eqb-true, false≢true, ne_eqb}
 use Rattle.std.proofs.lemmas.Bool.Decides.{same_from_decides}
-use Rattle.std.proofs.lemmas.List.{map-append}
+use Rattle.std.proofs.lemmas.List.{length-map, map-append}
 use Rattle.std.proofs.lemmas.Slice.Eq.{bytes_eq-Decides}
 use Rattle.nsc_words.specs.declared.layout.Layout.{Layout}
 use Rattle.nsc_words.specs.declared.node.Node.{Node}
 use Rattle.nsc_words.specs.declared.node.Placed.{Placed}
-use Rattle.nsc_words.specs.Laid.{Among, Laid, Rising, answers, end_of, place_of, slid, words_in}
+use Rattle.nsc_words.specs.Laid.{Among, Laid, Rising, answers, end_of, place_of}
 use Rattle.nsc_words.specs.Layout.{IsLayout, arena_start}
-use Rattle.nsc_arena.specs.Changes.{IsMark, changed_at, ended, with_reloads}
+use Rattle.nsc_arena.specs.Changes.{IsMark, IsNext, IsPlaced, changed_at, ended, usable_at, with_reloads}
+use Rattle.nsc_arena.specs.ReadBack.{nodes_in}
+use Rattle.nsc_arena.specs.Written.{IsSameHead}
 use Rattle.nsc_arena.proofs.ReadBack.{read_back}
-use Rattle.nsc_arena.proofs.Slides.{slid_from}
+use Rattle.nsc_arena.proofs.Changed.{IsChange, change_at, ended_is, from_map, reloads_is, same_end}
 use Rattle.nsc_arena.proofs.Rows.{same_place}
 use Rattle.nsc_arena.proofs.Walks.{both}
 use Rattle.nsc_model.specs.declared.answer.Request.{Request}
@@ -58,44 +60,18 @@ shelf_by words map nodes inserted count mark sizes laid entries e4 counted live 
 
 -- ---- the entries of other nodes
 
-abbrev request_of : Node → Request
-request_of n = record { kind = kind_of n.kind; key = n.key }
+same_request : (f : Placed → Placed) → IsChange f → (p : Placed) → request_in (f p) ≡ request_in p
+same_request f is p i = record { kind = kind_of (is.kind p i); key = is.key p i }
 
-pub slid_entries : (start : ℕ) (nodes : List Placed) (inserted : ℕ) → AreEntries nodes inserted → AreEntries (slid start nodes) inserted
-slid_entries start nodes inserted are = record {
-  kinds = λ q among. let w = slid_from start nodes q among in subst (λ (n : Node). type_number (kind_of n.kind) ≡ n.kind) (sym w.2) (are.kinds w.0 w.1);
-  numbers = λ q among. let w = slid_from start nodes q among in subst (λ (n : Node). n.number < inserted) (sym w.2) (are.numbers w.0 w.1);
-  apart = λ p q a b u v same.
-      let x = slid_from start nodes p a in
-      let y = slid_from start nodes q b in
-      let one = subst (λ (n : Node). is_request (request_of n) (request_in q) ≡ true) x.2 same in
-      let two = subst (λ (n : Node). is_request (request_of x.0.node) (request_of n) ≡ true) y.2 one in
-      ap (λ (n : Node). n.number) x.2 ∙ are.apart x.0 y.0 x.1 y.1 (sym x.3 ∙ u) (sym y.3 ∙ v) two ∙ sym (ap (λ (n : Node). n.number) y.2);
-}
-
-from_map : (f : Placed → Placed) (nodes : List Placed) (q : Placed) → Among q (map f nodes) → (p : Placed) × Among p nodes × (q ≡ f p)
-from_map f [] q among = absurd among
-from_map f (p ∷ nodes) q (inl e) = (p, inl refl, e)
-from_map f (p ∷ nodes) q (inr m) = let w = from_map f nodes q m in (w.0, inr w.1, w.2)
-
--- a change that leaves number and request, and makes no ended node usable
-pub record Leaves (f : Placed → Placed) : Type 0 where
-  pub number : (p : Placed) → (f p).node.number ≡ p.node.number
-  pub kind : (p : Placed) → (f p).node.kind ≡ p.node.kind
-  pub request : (p : Placed) → request_in (f p) ≡ request_in p
-  pub usable : (p : Placed) → (f p).usable ≡ true → p.usable ≡ true
-  pub place : (p : Placed) → (f p).place ≡ p.place
-  pub words : (p : Placed) → words_in (f p).node ≡ words_in p.node
-
-pub changed_entries : (f : Placed → Placed) (nodes : List Placed) (inserted : ℕ) → Leaves f → AreEntries nodes inserted → AreEntries (map f nodes) inserted
+changed_entries : (f : Placed → Placed) (nodes : List Placed) (inserted : ℕ) → IsChange f → AreEntries nodes inserted → AreEntries (map f nodes) inserted
 changed_entries f nodes inserted leaves are = record {
   kinds = λ q among. let w = from_map f nodes q among in subst (λ (n : ℕ). type_number (kind_of n) ≡ n) (sym (ap (λ (r : Placed). r.node.kind) w.2 ∙ leaves.kind w.0)) (are.kinds w.0 w.1);
   numbers = λ q among. let w = from_map f nodes q among in subst (λ (n : ℕ). n < inserted) (sym (ap (λ (r : Placed). r.node.number) w.2 ∙ leaves.number w.0)) (are.numbers w.0 w.1);
   apart = λ p q a b u v same.
       let x = from_map f nodes p a in
       let y = from_map f nodes q b in
-      let px : request_in p ≡ request_in x.0 = ap request_in x.2 ∙ leaves.request x.0 in
-      let qy : request_in q ≡ request_in y.0 = ap request_in y.2 ∙ leaves.request y.0 in
+      let px : request_in p ≡ request_in x.0 = ap request_in x.2 ∙ same_request f leaves x.0 in
+      let qy : request_in q ≡ request_in y.0 = ap request_in y.2 ∙ same_request f leaves y.0 in
       let one = subst (λ (r : Request). is_request r (request_in q) ≡ true) px same in
       let two = subst (λ (r : Request). is_request (request_in x.0) r ≡ true) qy one in
       let nx : p.node.number ≡ x.0.node.number = ap (λ (r : Placed). r.node.number) x.2 ∙ leaves.number x.0 in
@@ -106,17 +82,32 @@ changed_entries f nodes inserted leaves are = record {
 }
 
 -- a mark stays one
-pub marked_still : (f : Placed → Placed) (layout : Layout) (nodes : List Placed) (from number : ℕ) → Leaves f → IsMark layout nodes from number → IsMark layout (map f nodes) from number
+marked_still : (f : Placed → Placed) (layout : Layout) (nodes : List Placed) (from number : ℕ) → IsChange f → IsMark layout nodes from number → IsMark layout (map f nodes) from number
 marked_still f layout nodes from number leaves mark = record {
   newer = map f mark.newer;
   older = map f mark.older;
   split = ap (map f) mark.split ∙ map-append f mark.newer mark.older;
-  place = mark.place ∙ sym (ends mark.older);
+  place = mark.place ∙ sym (same_end f (arena_start layout) mark.older leaves);
   below = λ q among. let w = from_map f mark.older q among in subst (λ (n : ℕ). n < number) (sym (ap (λ (r : Placed). r.node.number) w.2 ∙ leaves.number w.0)) (mark.below w.0 w.1);
-} where
-  ends : (ps : List Placed) → end_of (arena_start layout) (map f ps) ≡ end_of (arena_start layout) ps
-  ends [] = refl
-  ends (p ∷ ps) = λ i. leaves.place p i + leaves.words p i
+}
+
+-- the words of a shelf once its nodes were changed so
+pub record Altered (old new : List ℕ) (layout : Layout) (count : ℕ) (mark : Mark) (entries : List Kept) : Type 0 where
+  pub cycle : slice_index new 0 ≡ slice_index old 0
+  pub shelf : IsShelf new layout count mark
+  pub view : shelf_of new layout ≡ record (shelf_of old layout) { entries = entries }
+
+pub altered : (f : Placed → Placed) (old new : List ℕ) (layout : Layout) (count count' : ℕ) (mark : Mark) (entries : List Kept) → IsChange f → IsShelf old layout count mark → Laid new layout (map f (nodes_in old layout)) → IsSameHead old new → entries_in (map f (nodes_in old layout)) ≡ entries → count' ≡ length entries → Altered old new layout count' mark entries
+altered f old new layout count count' mark entries leaves is laid head same live =
+    let nodes : List Placed = nodes_in old layout in
+    let e0 = head 0 (omega arith) (omega arith) in
+    let e4 = head 4 (omega arith) (omega arith) in
+    let before : end_of (arena_start layout) (map f nodes) ≡ slice_index old 3 = same_end f (arena_start layout) nodes leaves ∙ sym is.laid.first_free in
+    record {
+      cycle = e0;
+      shelf = shelf_by new layout (map f nodes) (slice_index old 4) count' mark is.sizes laid (changed_entries f nodes (slice_index old 4) leaves is.entries) e4 is.counted (live ∙ ap length (sym same)) (marked_still f layout nodes mark.place mark.number leaves is.marked);
+      view = view_by new layout (map f nodes) (slice_index old 4) (slice_index old 0) (slice_index old 9) (head_in old) laid e4 e0 (head 9 (omega arith) (omega arith)) (head_same new old (λ i low z a b. head i (omega arith) a)) ∙ (λ i. record { entries = same i; used = before i - arena_start layout; inserted = slice_index old 4; cycle = slice_index old 0; add_failed = slice_index old 9; head = head_in old; layout = layout; slide = None });
+    }
 
 -- and where a newer node comes
 pub marked_more : (layout : Layout) (nodes : List Placed) (p : Placed) (from number : ℕ) → IsMark layout nodes from number → IsMark layout (p ∷ nodes) from number
@@ -186,27 +177,6 @@ same_number (r ∷ older) p q rising (inr a) (inr b) e = same_number older p q r
 
 -- ---- the changes
 
-pub ended_leaves : Leaves ended
-ended_leaves = record { number = λ p. refl; kind = λ p. refl; request = λ p. refl; usable = λ p e. absurd (false≢true e); place = λ p. refl; words = λ p. refl }
-
-pub same_end : (start : ℕ) (nodes : List Placed) → end_of start (map ended nodes) ≡ end_of start nodes
-same_end start [] = refl
-same_end start (p ∷ nodes) = refl
-
--- a change at one place alone
-pub leaves_at : (place : ℕ) (change : Placed → Placed) → Leaves change → Leaves (λ p. cond (eqb p.place place) (change p) p)
-leaves_at place change is = record {
-  number = λ p. by (eqb p.place place) (λ (q : Placed). q.node.number ≡ p.node.number) p (is.number p) refl;
-  kind = λ p. by (eqb p.place place) (λ (q : Placed). q.node.kind ≡ p.node.kind) p (is.kind p) refl;
-  request = λ p. by (eqb p.place place) (λ (q : Placed). request_in q ≡ request_in p) p (is.request p) refl;
-  usable = λ p. by (eqb p.place place) (λ (q : Placed). q.usable ≡ true → p.usable ≡ true) p (is.usable p) (λ e. e);
-  place = λ p. by (eqb p.place place) (λ (q : Placed). q.place ≡ p.place) p (is.place p) refl;
-  words = λ p. by (eqb p.place place) (λ (q : Placed). words_in q.node ≡ words_in p.node) p (is.words p) refl;
-} where
-  by : (b : Bool) (P : Placed → Type 0) (p : Placed) → P (change p) → P p → P (cond b (change p) p)
-  by true P p here other = here
-  by false P p here other = other
-
 -- the entry of a number leaves
 taken_cases : (words : List ℕ) (layout : Layout) (nodes : List Placed) (n : Placed) (at number : ℕ) → Laid words layout nodes → Among n nodes → n.place ≡ at → n.node.number ≡ number → (q : Placed) → Among q nodes → q.usable ≡ true
     → ((not (is_numbered number (kept_in q)) ≡ true) × (cond (eqb q.place at) (ended q) q ≡ q)) ⊎ ((not (is_numbered number (kept_in q)) ≡ false) × ((cond (eqb q.place at) (ended q) q).usable ≡ false))
@@ -226,7 +196,7 @@ ends_stay at q e = by (eqb q.place at) where
   by true = refl
   by false = e
 
-pub taken_out : (words : List ℕ) (layout : Layout) (nodes : List Placed) (n : Placed) (at number : ℕ) → Laid words layout nodes → Among n nodes → n.place ≡ at → n.node.number ≡ number → entries_in (changed_at at ended nodes) ≡ others_than number (entries_in nodes)
+taken_out : (words : List ℕ) (layout : Layout) (nodes : List Placed) (n : Placed) (at number : ℕ) → Laid words layout nodes → Among n nodes → n.place ≡ at → n.node.number ≡ number → entries_in (changed_at at ended nodes) ≡ others_than number (entries_in nodes)
 taken_out words layout nodes n at number laid among place is =
     left (λ q. cond (eqb q.place at) (ended q) q) (λ k. not (is_numbered number k)) nodes (taken_cases words layout nodes n at number laid among place is) (ends_stay at)
 
@@ -235,12 +205,11 @@ taken_less words layout nodes n at laid among place usable =
     one_less (λ q. cond (eqb q.place at) (ended q) q) nodes n laid.rising among usable (ap (λ (b : Bool). (cond b (ended n) n).usable) (eq-eqb n.place at place))
     (λ q m differs. let e : q.place ≢ at = λ f. differs (ap (λ (r : Placed). r.node.number) (same_place (arena_start layout) nodes q n laid.row m among (f ∙ sym place))) in ap (λ (b : Bool). cond b (ended q) q) (ne_eqb q.place at e))
 
-pub taken_end : (start : ℕ) (at : ℕ) (nodes : List Placed) → end_of start (changed_at at ended nodes) ≡ end_of start nodes
-taken_end start at [] = refl
-taken_end start at (p ∷ nodes) = by (eqb p.place at) where
-  by : (b : Bool) → (cond b (ended p) p).place + words_in (cond b (ended p) p).node ≡ p.place + words_in p.node
-  by true = refl
-  by false = refl
+pub taken : (old new : List ℕ) (layout : Layout) (count : ℕ) (mark : Mark) (n : Placed) (at number : ℕ) → IsShelf old layout count mark → Laid new layout (changed_at at ended (nodes_in old layout)) → IsSameHead old new → Among n (nodes_in old layout) → n.place ≡ at → n.usable ≡ true → n.node.number ≡ number → Altered old new layout (count - 1) mark (others_than number (entries_in (nodes_in old layout)))
+taken old new layout count mark n at number is laid head among place usable numbered =
+    let nodes : List Placed = nodes_in old layout in
+    let left = taken_out old layout nodes n at number is.laid among place numbered in
+    altered _ old new layout count (count - 1) mark (others_than number (entries_in nodes)) (change_at at ended ended_is) is laid head left (omega (arith, taken_less old layout nodes n at is.laid among place usable, is.live, ap length left))
 
 -- no entry has the number
 pub none_taken : (number : ℕ) (nodes : List Placed) → ((p : Placed) → Among p nodes → p.usable ≡ true → p.node.number ≢ number) → others_than number (entries_in nodes) ≡ entries_in nodes
@@ -249,26 +218,16 @@ none_taken number nodes none =
 
 -- ---- an entry is used
 
-pub reloads_leaves : (count : ℕ) → Leaves (with_reloads count)
-reloads_leaves count = record { number = λ p. refl; kind = λ p. refl; request = λ p. refl; usable = λ p e. e; place = λ p. refl; words = λ p. refl }
-
 reloads_usable : (at : ℕ) (p : Placed) → (cond (eqb p.place at) (with_reloads 0 p) p).usable ≡ p.usable
 reloads_usable at p = by (eqb p.place at) where
   by : (b : Bool) → (cond b (with_reloads 0 p) p).usable ≡ p.usable
   by true = refl
   by false = refl
 
-pub reloads_end : (start : ℕ) (at : ℕ) (nodes : List Placed) → end_of start (changed_at at (with_reloads 0) nodes) ≡ end_of start nodes
-reloads_end start at [] = refl
-reloads_end start at (p ∷ nodes) = by (eqb p.place at) where
-  by : (b : Bool) → (cond b (with_reloads 0 p) p).place + words_in (cond b (with_reloads 0 p) p).node ≡ p.place + words_in p.node
-  by true = refl
-  by false = refl
-
 used_if : (r : Request) (k : Kept) (b : Bool) → is_request r k.entry.request ≡ b → used_by r k ≡ cond b (record k { reloads = 0 }) k
 used_if r k b e = ap (λ (t : Bool). cond t (record k { reloads = 0 }) k) e
 
-pub used_same : (words : List ℕ) (layout : Layout) (nodes : List Placed) (inserted : ℕ) (kind : Kind) (key : List ℕ) (n : Placed) (at : ℕ) → Laid words layout nodes → AreEntries nodes inserted → Among n nodes → n.place ≡ at → answers (type_number kind) key n ≡ true → entries_in (changed_at at (with_reloads 0) nodes) ≡ used_now (record { kind = kind; key = key }) (entries_in nodes)
+used_same : (words : List ℕ) (layout : Layout) (nodes : List Placed) (inserted : ℕ) (kind : Kind) (key : List ℕ) (n : Placed) (at : ℕ) → Laid words layout nodes → AreEntries nodes inserted → Among n nodes → n.place ≡ at → answers (type_number kind) key n ≡ true → entries_in (changed_at at (with_reloads 0) nodes) ≡ used_now (record { kind = kind; key = key }) (entries_in nodes)
 used_same words layout nodes inserted kind key n at laid are among place e =
     let r : Request = record { kind = kind; key = key } in
     let usable = usable_answers (type_number kind) key n e in
@@ -287,6 +246,12 @@ used_same words layout nodes inserted kind key n at laid are among place e =
     fails true h = absurd (h refl)
     fails false h = refl
 
+pub reused : (old new : List ℕ) (layout : Layout) (count : ℕ) (mark : Mark) (kind : Kind) (key : List ℕ) (n : Placed) (at : ℕ) → IsShelf old layout count mark → Laid new layout (changed_at at (with_reloads 0) (nodes_in old layout)) → IsSameHead old new → Among n (nodes_in old layout) → n.place ≡ at → answers (type_number kind) key n ≡ true → Altered old new layout count mark (used_now (record { kind = kind; key = key }) (entries_in (nodes_in old layout)))
+reused old new layout count mark kind key n at is laid head among place asks =
+    let nodes : List Placed = nodes_in old layout in
+    let r : Request = record { kind = kind; key = key } in
+    altered _ old new layout count count mark (used_now r (entries_in nodes)) (change_at at (with_reloads 0) (reloads_is 0)) is laid head (used_same old layout nodes (slice_index old 4) kind key n at is.laid is.entries among place asks) (is.live ∙ sym (length-map (entries_in nodes) (used_by r)))
+
 -- ---- a new entry
 
 pub kind_back : (kind : Kind) → kind_of (type_number kind) ≡ kind
@@ -302,6 +267,11 @@ kind_back Ai = refl
 kind_back InitGroups = refl
 kind_back ServName = refl
 kind_back ServPort = refl
+
+-- the node that was written behind the others may be linked
+pub next_after : (old mid : List ℕ) (layout : Layout) (count : ℕ) (mark : Mark) (at : ℕ) (n : Node) → IsShelf old layout count mark → IsPlaced layout n old mid (Some at) → Laid mid layout (nodes_in old layout) → n.number ≡ slice_index old 4 → IsNext mid layout (nodes_in old layout) (usable_at at n)
+next_after old mid layout count mark at n is placed laid number =
+    record { laid = laid; place = placed.0 ∙ is.laid.first_free; room = placed.1; usable = refl; stands = placed.2; newest = λ q among. omega (arith, is.entries.numbers q among, number) }
 
 pub new_entries : (nodes : List Placed) (p : Placed) (inserted : ℕ) (kind : Kind) → AreEntries nodes inserted → p.node.kind ≡ type_number kind → p.node.number ≡ inserted → live_entry (request_in p) (entries_in nodes) ≡ None → AreEntries (p ∷ nodes) (inserted + 1)
 new_entries nodes p inserted kind are is number none =

@@ -4,13 +4,15 @@ use Rattle.std.specs.declared.snapshot.Snapshot.{Snapshot}
 use Rattle.nsc_words.specs.declared.layout.Layout.{Layout}
 use Rattle.nsc_words.specs.declared.node.Placed.{Placed}
 use Rattle.nsc_words.specs.Laid.{Laid}
-use Rattle.nsc_arena.specs.Changes.{IsMark}
+use Rattle.nsc_arena.specs.Changes.{IsFirst, IsMark}
 use Rattle.nsc_model.specs.Machine.{last_count}
 use Rattle.nsc_arena.specs.ReadBack.{nodes_in}
+use Rattle.nsc_shelf.specs.declared.finding.Found.{Found}
 use Rattle.nsc_shelf.specs.declared.finding.Mark.{Mark}
+use Rattle.nsc_shelf.specs.Finding.{IsFound}
 use Rattle.nsc_shelf.specs.Hints.{AreHints}
-use Rattle.nsc_shelf.specs.Shelf.{IsHeld, IsShelf, Shelf, shelf_in, shelf_of, under_way}
-use Rattle.nsc_shelf.proofs.Found.{remarked_by}
+use Rattle.nsc_shelf.specs.Shelf.{IsHeld, IsShelf, Shelf, entry_from, kept_in, shelf_in, shelf_of, under_way}
+use Rattle.nsc_shelf.proofs.Found.{found_entry, found_none, remarked_by}
 
 -- none is under way where the view says so
 pub no_slide : (slide : Option (Snapshot (List ℕ))) (words : List ℕ) → under_way slide words ≡ None → slide ≡ None
@@ -50,3 +52,11 @@ still_marked {slide} {words} {map} {count} {mark} {hints} {v} {words'} {mark'} i
 
 pub still_seen : (slide : Option (Snapshot (List ℕ))) (words : List ℕ) (map : Layout) (words' : List ℕ) {v v' : Shelf} → shelf_in slide words map ≡ v → v.slide ≡ None → shelf_of words' map ≡ v' → shelf_in slide words' map ≡ v'
 still_seen slide words map words' {v} {v'} is none seen = ap (λ (o : Option (Snapshot (List ℕ))). shelf_in o words' map) (none_of slide words map v is none) ∙ seen
+
+-- ---- its entries by number
+
+pub entry_found : (slide : Option (Snapshot (List ℕ))) (words : List ℕ) (map : Layout) {count : ℕ} {mark : Mark} {hints : List ℕ} {v : Shelf} (number : ℕ) (f : Found) (w : IsFound number (nodes_in words map) (Some f)) → shelf_in slide words map ≡ v → v.slide ≡ None → IsHeld slide words map count mark hints → Some (kept_in w.0) ≡ entry_from number v.entries
+entry_found slide words map {count} {mark} {hints} {v} number f w is none held = sym (found_entry number (nodes_in words map) f w (still is none held).laid.rising) ∙ ap (λ (s : Shelf). entry_from number s.entries) (still_view slide words map is none)
+
+pub entry_missing : (slide : Option (Snapshot (List ℕ))) (words : List ℕ) (map : Layout) {v : Shelf} (number : ℕ) → IsFirst number (nodes_in words map) None → shelf_in slide words map ≡ v → v.slide ≡ None → None ≡ entry_from number v.entries
+entry_missing slide words map {v} number none is still = sym (found_none number (nodes_in words map) none) ∙ ap (λ (s : Shelf). entry_from number s.entries) (still_view slide words map is still)

@@ -6,7 +6,7 @@ ghost use Rattle.nsc_words.specs.Layout.{IsLayout, arena_start};
 ghost use Rattle.nsc_arena.specs.Changes.{IsMark};
 ghost use Rattle.nsc_shelf.specs.Finding.{IsFound};
 
-use nsc_arena::{Head, VecWords, first_from, head_at};
+use nsc_arena::{Head, Words, first_from, head_at};
 use nsc_words::Layout;
 
 /// The place of a node, and a number that the nodes before it have not reached.
@@ -54,12 +54,18 @@ impl Mark {
 
 /// The oldest usable node of at least this number, which then is marked. The search begins at the mark where that is not behind the
 /// number, so that one who asks by rising numbers goes over the nodes once.
-pub fn find_from(words: &mut VecWords, map: Layout, mark: &mut Mark, number: u64) -> Option<Found>
+pub fn find_from<W: Words>(
+    words: &mut W,
+    map: Layout,
+    mark: &mut Mark,
+    number: u64,
+) -> Option<Found>
     requires layout { IsLayout map }
-    requires laid { (nodes : List Placed) × Laid words.old map nodes × IsMark map nodes mark.old.place mark.old.number }
-    ensures same { words.new ≡ words.old }
-    ensures found { (nodes : List Placed) → Laid words.old map nodes → IsMark map nodes mark.old.place mark.old.number → IsFound number nodes result }
-    ensures marked { (nodes : List Placed) → Laid words.old map nodes → IsMark map nodes mark.old.place mark.old.number → IsMark map nodes mark.new.place mark.new.number }
+    requires laid { (nodes : List Placed) × Laid (W.words words.old) map nodes × IsMark map nodes mark.old.place mark.old.number }
+    ensures same { W.words words.new ≡ W.words words.old }
+    ensures rest { W.rest words.new ≡ W.rest words.old }
+    ensures found { (nodes : List Placed) → Laid (W.words words.old) map nodes → IsMark map nodes mark.old.place mark.old.number → IsFound number nodes result }
+    ensures marked { (nodes : List Placed) → Laid (W.words words.old) map nodes → IsMark map nodes mark.old.place mark.old.number → IsMark map nodes mark.new.place mark.new.number }
 {
     let from = mark.start_for(map, number);
     let Some(at) = first_from(words, map, from, number) else {

@@ -1,12 +1,13 @@
 // Places of nodes that are kept beside the words of a table, so that a lookup of what is kept mostly reads one node, and not those before
 // it in its chain.
-ghost use Rattle.std.specs.Prelude.{◌≡◌, ℕ, ◌+◌, ◌-◌, ◌/◌, ◌%◌, ◌<◌, ◌≤◌, ◌≢◌, ◌⊎◌, true, IfOk, IfSome, Some, List, length, replicate, slice_index};
+ghost use Rattle.std.specs.Prelude.{◌≡◌, ℕ, ◌+◌, ◌-◌, ◌/◌, ◌%◌, ◌<◌, ◌≤◌, ◌≢◌, ◌⊎◌, true, IfOk, IfSome, Some, length, replicate, slice_index};
 ghost use Rattle.nsc_words.specs.declared.node.Placed.{Placed};
 ghost use Rattle.nsc_words.specs.Laid.{Among, Laid, answers, newest_for, place_of};
 ghost use Rattle.nsc_words.specs.Layout.{IsLayout, arena_start, table_words};
+ghost use Rattle.nsc_arena.specs.ReadBack.{nodes_in};
 ghost use Rattle.nsc_shelf.specs.Hints.{AreHints, HasPlace, IsAlone, told_place};
 
-use nsc_arena::{VecWords, answers_at, walk};
+use nsc_arena::{Words, answers_at, walk};
 use nsc_base::NoMemory;
 use nsc_words::{Layout, STATE, hash};
 use std::alloc::Global;
@@ -41,8 +42,8 @@ pub fn forget(hints: &mut [u32])
 }
 
 /// The place of the usable node of a request, by its kind, below 256, and its key: by a hint, or else by its chain, and then it is noted.
-pub fn find(
-    words: &mut VecWords,
+pub fn find<W: Words>(
+    words: &mut W,
     map: Layout,
     hints: &mut [u32],
     kind: u32,
@@ -50,29 +51,33 @@ pub fn find(
 ) -> Option<usize>
     requires layout { IsLayout map }
     requires kind { kind < 256 }
-    requires laid { (nodes : List Placed) × Laid words.old map nodes × AreHints hints.old map nodes }
-    ensures same { words.new ≡ words.old }
-    ensures newest { (nodes : List Placed) → Laid words.old map nodes → AreHints hints.old map nodes → IsAlone kind key.now nodes → result ≡ place_of (newest_for kind key.now nodes) }
-    ensures hinted { (nodes : List Placed) → Laid words.old map nodes → AreHints hints.old map nodes → AreHints hints.new map nodes }
+    requires laid { Laid (W.words words.old) map (nodes_in (W.words words.old) map) }
+    requires hints { AreHints hints.old map (nodes_in (W.words words.old) map) }
+    requires alone { IsAlone kind key.now (nodes_in (W.words words.old) map) }
+    ensures same { W.words words.new ≡ W.words words.old }
+    ensures rest { W.rest words.new ≡ W.rest words.old }
+    ensures newest { result ≡ place_of (newest_for kind key.now (nodes_in (W.words words.old) map)) }
+    ensures hinted { AreHints hints.new map (nodes_in (W.words words.old) map) }
 {
     let hash = hash(kind, key);
     if let Some(place) = find_hinted(words, map, hints, hash, kind, key) {
         return Some(place);
     }
-    let place = walk(words, map, kind, key)?;
+    let place = walk(words, map, hash, kind, key)?;
     note(words, map, hints, hash, place);
     Some(place)
 }
 
 /// Notes the place of a node of this hash, where its row has a hint that tells none, or that of a node that ended. A hint of a usable node
 /// stays: were it to give way, those that are asked in turn would drive each other out.
-pub fn note(words: &mut VecWords, map: Layout, hints: &mut [u32], hash: u32, place: usize)
+pub fn note<W: Words>(words: &mut W, map: Layout, hints: &mut [u32], hash: u32, place: usize)
     requires layout { IsLayout map }
     requires some { 4 ≤ length hints.old }
     requires from { arena_start map ≤ place }
     requires to { place < table_words map }
-    requires inside { (i : ℕ) → told_place map (slice_index hints.old i) + 8 ≤ length words.old }
-    ensures same { words.new ≡ words.old }
+    requires inside { (i : ℕ) → told_place map (slice_index hints.old i) + 8 ≤ length (W.words words.old) }
+    ensures same { W.words words.new ≡ W.words words.old }
+    ensures rest { W.rest words.new ≡ W.rest words.old }
     ensures count { length hints.new ≡ length hints.old }
     ensures hints { (i : ℕ) → (slice_index hints.new i ≡ slice_index hints.old i) ⊎ (told_place map (slice_index hints.new i) ≡ place) }
 {
@@ -83,8 +88,8 @@ pub fn note(words: &mut VecWords, map: Layout, hints: &mut [u32], hash: u32, pla
 }
 
 // The place that a hint of a hash tells, where the node there answers a request.
-fn find_hinted(
-    words: &mut VecWords,
+fn find_hinted<W: Words>(
+    words: &mut W,
     map: Layout,
     hints: &[u32],
     hash: u32,
@@ -92,9 +97,12 @@ fn find_hinted(
     key: &[u8],
 ) -> Option<usize>
     requires layout { IsLayout map }
-    requires laid { (nodes : List Placed) × Laid words.old map nodes × AreHints hints.now map nodes }
-    ensures same { words.new ≡ words.old }
-    ensures alone { (nodes : List Placed) → Laid words.old map nodes → AreHints hints.now map nodes → IsAlone kind key.now nodes → (place : ℕ) → result ≡ Some place → place_of (newest_for kind key.now nodes) ≡ Some place }
+    requires laid { Laid (W.words words.old) map (nodes_in (W.words words.old) map) }
+    requires hints { AreHints hints.now map (nodes_in (W.words words.old) map) }
+    requires alone { IsAlone kind key.now (nodes_in (W.words words.old) map) }
+    ensures same { W.words words.new ≡ W.words words.old }
+    ensures rest { W.rest words.new ≡ W.rest words.old }
+    ensures newest { IfSome result (λ place. place_of (newest_for kind key.now (nodes_in (W.words words.old) map)) ≡ Some place) }
 {
     let row = row_of(hash, hints.len());
     for index in row..row + ROW {
@@ -134,11 +142,13 @@ fn place_in(map: Layout, hint: u32) -> usize
 }
 
 // Whether a hint tells the place of a usable node that answers a request of this hash.
-fn is_of(words: &mut VecWords, map: Layout, hint: u32, hash: u32, kind: u32, key: &[u8]) -> bool
+fn is_of<W: Words>(words: &mut W, map: Layout, hint: u32, hash: u32, kind: u32, key: &[u8]) -> bool
     requires layout { IsLayout map }
-    requires laid { (nodes : List Placed) × Laid words.old map nodes × (hint ≢ 0 → HasPlace nodes (told_place map hint)) }
-    ensures same { words.new ≡ words.old }
-    ensures is { (nodes : List Placed) → Laid words.old map nodes → (hint ≢ 0 → HasPlace nodes (told_place map hint)) → result ≡ true → (p : Placed) × Among p nodes × (p.place ≡ told_place map hint) × (answers kind key.now p ≡ true) }
+    requires laid { Laid (W.words words.old) map (nodes_in (W.words words.old) map) }
+    requires hint { hint ≢ 0 → HasPlace (nodes_in (W.words words.old) map) (told_place map hint) }
+    ensures same { W.words words.new ≡ W.words words.old }
+    ensures rest { W.rest words.new ≡ W.rest words.old }
+    ensures is { result ≡ true → (p : Placed) × Among p (nodes_in (W.words words.old) map) × (p.place ≡ told_place map hint) × (answers kind key.now p ≡ true) }
 {
     if hint == 0 || hint / PLACES != hash / PLACES {
         return false;
@@ -147,11 +157,13 @@ fn is_of(words: &mut VecWords, map: Layout, hint: u32, hash: u32, kind: u32, key
 }
 
 // The first hint of a row that tells no place or, where each tells one, the first that tells that of a node that ended.
-fn free_in(words: &VecWords, map: Layout, hints: &[u32], row: usize) -> Option<usize>
+fn free_in<W: Words>(words: &mut W, map: Layout, hints: &[u32], row: usize) -> Option<usize>
     requires layout { IsLayout map }
     requires row { row + 4 ≤ length hints.now }
-    requires inside { (i : ℕ) → told_place map (slice_index hints.now i) + 8 ≤ length words.now }
-    ensures { IfSome result (λ index. index < length hints.now) }
+    requires inside { (i : ℕ) → told_place map (slice_index hints.now i) + 8 ≤ length (W.words words.old) }
+    ensures same { W.words words.new ≡ W.words words.old }
+    ensures rest { W.rest words.new ≡ W.rest words.old }
+    ensures index { IfSome result (λ index. index < length hints.now) }
 {
     for index in row..row + ROW {
         if hints[index] == 0 {
@@ -159,7 +171,7 @@ fn free_in(words: &VecWords, map: Layout, hints: &[u32], row: usize) -> Option<u
         }
     }
     for index in row..row + ROW {
-        if words.word(place_in(map, hints[index]) + STATE) != 1 {
+        if words.get(place_in(map, hints[index]) + STATE) != 1 {
             return Some(index);
         }
     }

@@ -6,16 +6,16 @@ ghost use Rattle.nsc_model.specs.Machine.{last_count, live_entry, used_now};
 ghost use Rattle.nsc_shelf.specs.Shelf.{Gives, IsTold, entry_from, fresh_entry, has_number, key_or, kind_of, no_head, number_of, others_than, reply_or};
 
 use crate::entry::{EntryAt, Hit};
-use crate::finding::{Mark, find_from};
+use crate::finding::{Found, Mark, find_from};
 use crate::hints::{find, no_hints, note};
+use crate::texts::{count_anew, read_key, read_reply};
 use nsc_arena::{
-    Fixed, VecWords, Words, chain, clear, end_node, end_nodes, head_at, place_bytes, read_bytes,
-    set_reloads, walk,
+    Fixed, VecWords, Words, chain, clear, end_node, end_nodes, head_at, place_bytes, walk,
 };
 use nsc_base::{Buf, NoMemory};
 use nsc_model::{Answer, Kind};
 use nsc_plain::LAST_COUNT;
-use nsc_words::{ADD_FAILED, CYCLE, FIRST_FREE, KEY, LOADS, Layout, hash};
+use nsc_words::{ADD_FAILED, CYCLE, FIRST_FREE, LOADS, Layout, hash};
 use std::alloc::Global;
 use std::marker::Model;
 use std::snapshot::Snapshot;
@@ -122,9 +122,9 @@ impl Shelf {
             return None;
         };
         let head = head_at(&mut self.words, at);
-        let text = at + KEY + head.key_len.div_ceil(8);
-        read_bytes(&mut self.words, text, head.reply_len, reply);
-        set_reloads(&mut self.words, self.map, at, 0);
+        let found = Found { at, head };
+        read_reply(&mut self.words, found, reply);
+        count_anew(&mut self.words, self.map, found);
         Some(Hit {
             number: head.number,
             version: head.version,
@@ -138,7 +138,8 @@ impl Shelf {
         ensures number { result ≡ number_of (live_entry (record { kind = kind; key = key.now }) self.old.entries) }
         ensures same { self.new ≡ self.old }
     {
-        match walk(&mut self.words, self.map, kind.number(), key) {
+        let number = kind.number();
+        match walk(&mut self.words, self.map, hash(number, key), number, key) {
             Some(at) => Some(head_at(&mut self.words, at).number),
             None => None,
         }
@@ -233,7 +234,7 @@ impl Shelf {
     {
         key.clear();
         if let Some(found) = find_from(&mut self.words, self.map, &mut self.mark, number) {
-            read_bytes(&mut self.words, found.at + KEY, found.head.key_len, key);
+            read_key(&mut self.words, found, key);
         }
     }
 
@@ -246,8 +247,7 @@ impl Shelf {
     {
         reply.clear();
         if let Some(found) = find_from(&mut self.words, self.map, &mut self.mark, number) {
-            let text = found.at + KEY + found.head.key_len.div_ceil(8);
-            read_bytes(&mut self.words, text, found.head.reply_len, reply);
+            read_reply(&mut self.words, found, reply);
         }
     }
 

@@ -7,14 +7,15 @@ use nsc_base::{Buf, u64_at};
 
 /// A word of the bytes, by its number from 0 on: eight bytes a word, the lowest byte first, and zeros past the end.
 pub fn word_of(bytes: &[u8], index: usize) -> u64
-    requires { 8 * index ≤ length bytes.now }
     ensures { result ≡ word_of bytes.now index }
 {
-    let from = 8 * index;
-    if from + 8 <= bytes.len() {
-        u64_at(bytes, from)
+    let whole = bytes.len() / 8;
+    if index < whole {
+        u64_at(bytes, 8 * index)
+    } else if index == whole {
+        last_word(&bytes[8 * index..])
     } else {
-        last_word(&bytes[from..])
+        0
     }
 }
 

@@ -56,7 +56,7 @@ impl Words for Writer {
 
     ghost rest = { λ w. without_words w };
 
-    ghost can_set = { λ at. (at == 3) || nat_le 16 at };
+    ghost can_set = { λ w at. (at == 3) || nat_le 16 at };
 
     fn len(&self) -> usize {
         self.shelf.slide_len()

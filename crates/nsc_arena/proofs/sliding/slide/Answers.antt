@@ -61,7 +61,8 @@ move_down-requires-clause-open g c = λ i from_to below.
     let behind = s.behind in
     let inside = n.here.inside in
     let table = s.laid.table in
-    c.requires.open.others i (omega arith) (omega arith)
+    let rest = c.get-to.ensures.rest ∙ c.get.ensures.rest ∙ c.words_at-count.ensures.rest ∙ c.nodes.invariant.1 in
+    (λ k. g.W.Words.can_set (rest k) i) ∙ c.requires.open.others i (omega arith) (omega arith)
 
 pub chain-requires-clause-next : goal.chain-requires-clause-next
 chain-requires-clause-next g c =

@@ -10,7 +10,7 @@ use Rattle.nsc_arena.proofs.walking.walk.Goals as goal
 pub chain-init : goal.chain-init
 chain-init g c =
     let sizes = c.requires.layout in
-    let bucket : c.bucket.result ≡ bucket_of c.args.map c.args.kind c.args.key.now = c.bucket.ensures ∙ ap (bucket_at c.args.map) c.hash.ensures in
+    let bucket : c.bucket.result ≡ bucket_of c.args.map c.args.kind c.args.key.now = c.bucket.ensures ∙ ap (bucket_at c.args.map) c.requires.hash in
     (c.get-at.ensures.same, c.get-at.ensures.rest, omega arith, omega arith, λ nodes laid. walk_starts (g.W.Words.words c.args.table.now) c.args.map c.args.kind c.args.key.now nodes c.get-at.result c.bucket.result c.words-below.result sizes laid bucket c.get-at.ensures.value c.words-below.ensures)
 
 pub returns-then-answers_at-clause-newest : goal.returns-then-answers_at-clause-newest

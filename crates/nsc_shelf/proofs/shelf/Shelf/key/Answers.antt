@@ -1,91 +1,37 @@
-use Rattle.std.proofs.Common.{◌≡◌, ◌++◌, List, [], length, sym, ap, ◌∙◌, arith}
+use Rattle.std.proofs.Common.{◌++◌, ap, ◌∙◌}
 use Rattle.nsc_base.specs.Buf.{Buf}
-use Rattle.nsc_words.specs.declared.layout.Layout.{Layout}
-use Rattle.nsc_words.specs.declared.node.Placed.{Placed}
 use Rattle.nsc_arena.specs.ReadBack.{nodes_in}
-use Rattle.nsc_shelf.specs.declared.finding.Found.{Found}
-use Rattle.nsc_shelf.specs.Shelf.{Shelf, entry_from, key_or}
-use Rattle.nsc_shelf.proofs.Found.{found_entry, found_none, size_of, text_of}
-use Rattle.nsc_shelf.proofs.Still.{still, still_marked, still_view}
+use Rattle.nsc_shelf.specs.Shelf.{key_or}
+use Rattle.nsc_shelf.proofs.Found.{found_at}
+use Rattle.nsc_shelf.proofs.Still.{entry_found, entry_missing, still, still_marked}
 use Rattle.nsc_shelf.proofs.shelf.Shelf.key.Goals as goal
 
-pub overflow_add-found : goal.overflow_add-found
-overflow_add-found c =
-    let shelf_is = still c.self.view_is c.requires.still c.self.invariant in
-    let w = c.self.inside.words in
-    let m : Layout = c.self.inside.map in
-    let nodes : List Placed = nodes_in w m in
-    let f : Found = c.in-Some.found in
-    let n = c.in-Some.ensures.found nodes shelf_is.laid shelf_is.marked in
-    let text = text_of w c.find_from.new.words m nodes c.args.number f n c.find_from.ensures.same shelf_is.sizes shelf_is.laid in
-    let key_len = text.key_len in
-    let reply_len = text.reply_len in
-    let inside = text.inside in
-    let size = text.size in
-    omega arith
-
-pub read_bytes-requires-clause-inside : goal.read_bytes-requires-clause-inside
-read_bytes-requires-clause-inside c =
-    let shelf_is = still c.self.view_is c.requires.still c.self.invariant in
-    let w = c.self.inside.words in
-    let m : Layout = c.self.inside.map in
-    let nodes : List Placed = nodes_in w m in
-    let f : Found = c.in-Some.found in
-    let n = c.in-Some.ensures.found nodes shelf_is.laid shelf_is.marked in
-    let text = text_of w c.find_from.new.words m nodes c.args.number f n c.find_from.ensures.same shelf_is.sizes shelf_is.laid in
-    let key_len = text.key_len in
-    let reply_len = text.reply_len in
-    let inside = text.inside in
-    omega arith
-
-pub read_bytes-requires-clause-room : goal.read_bytes-requires-clause-room
-read_bytes-requires-clause-room c =
-    let shelf_is = still c.self.view_is c.requires.still c.self.invariant in
-    let w = c.self.inside.words in
-    let m : Layout = c.self.inside.map in
-    let nodes : List Placed = nodes_in w m in
-    let f : Found = c.in-Some.found in
-    let n = c.in-Some.ensures.found nodes shelf_is.laid shelf_is.marked in
-    let text = text_of w c.find_from.new.words m nodes c.args.number f n c.find_from.ensures.same shelf_is.sizes shelf_is.laid in
-    let key_len = text.key_len in
-    let short = text.short_key in
-    let limit = c.requires.limit in
-    let empty : length c.clear.new.self.content ≡ 0 = ap (λ (b : Buf). length b.content) c.clear.ensures in
-    let own : c.clear.new.self.limit ≡ c.args.key.now.limit = ap (λ (b : Buf). b.limit) c.clear.ensures in
-    omega arith
-
-pub read_bytes-requires-clause-size : goal.read_bytes-requires-clause-size
-read_bytes-requires-clause-size c = size_of c.self.inside.words c.find_from.new.words c.self.inside.map c.find_from.ensures.same (still c.self.view_is c.requires.still c.self.invariant).sizes (still c.self.view_is c.requires.still c.self.invariant).laid
+pub read_key-requires-clause-node : goal.read_key-requires-clause-node
+read_key-requires-clause-node c =
+    let s = c.self.inside in
+    let is = still c.self.view_is c.requires.still c.self.invariant in
+    let n = c.in-Some.ensures.found (nodes_in s.words s.map) is.laid is.marked in
+    let here = found_at s.words c.find_from.new.words s.map s.live s.mark c.args.number c.in-Some.found n c.find_from.ensures.same is in
+    (n.0, here, n.6)
 
 pub invariant_of-self : goal.invariant_of-self
-invariant_of-self c = still_marked c.self.view_is c.requires.still c.self.invariant (c.read_bytes.ensures.same ∙ c.find_from.ensures.same) c.find_from.ensures.marked
+invariant_of-self c = still_marked c.self.view_is c.requires.still c.self.invariant (c.read_key.ensures.same ∙ c.find_from.ensures.same) c.find_from.ensures.marked
 
 pub invariant_of-self-in_default : goal.invariant_of-self-in_default
 invariant_of-self-in_default c = still_marked c.self.view_is c.requires.still c.self.invariant c.find_from.ensures.same c.find_from.ensures.marked
 
 pub returns-in-Some-clause-key : goal.returns-in-Some-clause-key
 returns-in-Some-clause-key c =
-    let shelf_is = still c.self.view_is c.requires.still c.self.invariant in
-    let w = c.self.inside.words in
-    let m : Layout = c.self.inside.map in
-    let nodes : List Placed = nodes_in w m in
-    let f : Found = c.in-Some.found in
-    let n = c.in-Some.ensures.found nodes shelf_is.laid shelf_is.marked in
-    let text = text_of w c.find_from.new.words m nodes c.args.number f n c.find_from.ensures.same shelf_is.sizes shelf_is.laid in
-    let key_len = text.key_len in
-    let holds = text.key in
-    let content : c.read_bytes.new.out.content ≡ n.0.node.key = c.read_bytes.ensures.bytes n.0.node.key text.key_bytes (sym key_len) holds ∙ ap (λ (b : Buf). b.content ++ n.0.node.key) c.clear.ensures in
-    let limit : c.read_bytes.new.out.limit ≡ c.args.key.now.limit = c.read_bytes.ensures.limit ∙ ap (λ (b : Buf). b.limit) c.clear.ensures in
-    let entry = found_entry c.args.number nodes f n shelf_is.laid.rising in
-    let is : n.0.node.key ≡ key_or (entry_from c.args.number c.args.self.now.entries) = sym (ap key_or entry) ∙ ap (λ (s : Shelf). key_or (entry_from c.args.number s.entries)) (still_view c.self.inside.slide c.self.inside.words c.self.inside.map c.self.view_is c.requires.still) in
-    λ i. record { content = (content ∙ is) i; limit = limit i }
+    let s = c.self.inside in
+    let is = still c.self.view_is c.requires.still c.self.invariant in
+    let n = c.in-Some.ensures.found (nodes_in s.words s.map) is.laid is.marked in
+    let here = found_at s.words c.find_from.new.words s.map s.live s.mark c.args.number c.in-Some.found n c.find_from.ensures.same is in
+    let told = ap key_or (entry_found s.slide s.words s.map c.args.number c.in-Some.found n c.self.view_is c.requires.still c.self.invariant) in
+    c.read_key.ensures.key n.0 here n.6 ∙ ap (λ (b : Buf). record b { content = b.content ++ n.0.node.key }) c.clear.ensures ∙ (λ i. record { content = told i; limit = c.args.key.now.limit })
 
 pub returns-in_default-clause-key : goal.returns-in_default-clause-key
 returns-in_default-clause-key c =
-    let shelf_is = still c.self.view_is c.requires.still c.self.invariant in
-    let w = c.self.inside.words in
-    let m : Layout = c.self.inside.map in
-    let nodes : List Placed = nodes_in w m in
-    let none = found_none c.args.number nodes (c.in_default.ensures.found nodes shelf_is.laid shelf_is.marked) in
-    let is : [] ≡ key_or (entry_from c.args.number c.args.self.now.entries) = sym (ap key_or none) ∙ ap (λ (s : Shelf). key_or (entry_from c.args.number s.entries)) (still_view c.self.inside.slide c.self.inside.words c.self.inside.map c.self.view_is c.requires.still) in
-    c.clear.ensures ∙ (λ i. record { content = is i; limit = c.args.key.now.limit })
+    let s = c.self.inside in
+    let is = still c.self.view_is c.requires.still c.self.invariant in
+    let told = ap key_or (entry_missing s.slide s.words s.map c.args.number (c.in_default.ensures.found (nodes_in s.words s.map) is.laid is.marked) c.self.view_is c.requires.still) in
+    c.clear.ensures ∙ (λ i. record { content = told i; limit = c.args.key.now.limit })

@@ -11,12 +11,12 @@ use Rattle.std.proofs.lemmas.List.{length-append}
 use Rattle.nsc_base.specs.Nodes.{node_words}
 use Rattle.nsc_model.specs.declared.answer.Request.{Request}
 use Rattle.nsc_model.specs.Machine.{last_count, live_entry}
-use Rattle.nsc_arena.specs.declared.placing.Fixed.{Fixed}
-use Rattle.nsc_arena.specs.Changes.{IsNext, node_of, usable_at}
+use Rattle.nsc_words.specs.declared.node.Node.{Node}
+use Rattle.nsc_arena.specs.Changes.{node_of, usable_at}
 use Rattle.nsc_arena.proofs.Rows.{end_after, set_head}
 use Rattle.nsc_shelf.specs.Shelf.{fresh_entry, kind_of, request_in}
 use Rattle.nsc_shelf.proofs.Entries.{few_entries, one_more}
-use Rattle.nsc_shelf.proofs.States.{kind_back, marked_more, new_entries}
+use Rattle.nsc_shelf.proofs.States.{kind_back, marked_more, new_entries, next_after}
 use Rattle.std.proofs.lemmas.List.{with_items_is}
 use Rattle.std.specs.Vec.{with_items}
 use Rattle.nsc_shelf.specs.Hints.{AreHints}
@@ -33,20 +33,10 @@ chain-requires-clause-next c =
     let kind = c.args.kind in
     let key : List ℕ = c.args.key.now in
     let at : ℕ = c.in-Some.at in
-    let fixed : Fixed = record { number = c.word-number.result; kind = c.number.result; version = c.args.version; timeout = c.args.timeout; reloads = c.args.reloads; not_found = c.is_not_found.result } in
-    let p : Placed = usable_at at (node_of fixed key c.bytes.result.now) in
+    let n : Node = node_of (record { number = c.word-number.result; kind = c.number.result; version = c.args.version; timeout = c.args.timeout; reloads = c.args.reloads; not_found = c.is_not_found.result }) key c.bytes.result.now in
+    let p : Placed = usable_at at n in
     let placed = c.in-Some.ensures.placed in
-    let written = c.place_bytes.ensures.laid nodes shelf_is.laid in
-    let first = shelf_is.laid.first_free in
-    let start_low = end_after (arena_start m) nodes shelf_is.laid.row in
-    let next : IsNext c.place_bytes.new.table m nodes p = record {
-      laid = written;
-      place = placed.0 ∙ first;
-      room = placed.1;
-      usable = refl;
-      stands = placed.2;
-      newest = λ q among. let less = shelf_is.entries.numbers q among in let number = c.word-number.ensures in omega arith;
-    } in
+    let next = next_after w c.place_bytes.new.table m c.self.inside.live c.self.inside.mark at n shelf_is placed (c.place_bytes.ensures.laid nodes shelf_is.laid) c.word-number.ensures in
     (nodes, p, next, refl)
 
 pub set-requires-clause-inside : goal.set-requires-clause-inside
@@ -58,20 +48,10 @@ set-requires-clause-inside c =
     let kind = c.args.kind in
     let key : List ℕ = c.args.key.now in
     let at : ℕ = c.in-Some.at in
-    let fixed : Fixed = record { number = c.word-number.result; kind = c.number.result; version = c.args.version; timeout = c.args.timeout; reloads = c.args.reloads; not_found = c.is_not_found.result } in
-    let p : Placed = usable_at at (node_of fixed key c.bytes.result.now) in
+    let n : Node = node_of (record { number = c.word-number.result; kind = c.number.result; version = c.args.version; timeout = c.args.timeout; reloads = c.args.reloads; not_found = c.is_not_found.result }) key c.bytes.result.now in
+    let p : Placed = usable_at at n in
     let placed = c.in-Some.ensures.placed in
-    let written = c.place_bytes.ensures.laid nodes shelf_is.laid in
-    let first = shelf_is.laid.first_free in
-    let start_low = end_after (arena_start m) nodes shelf_is.laid.row in
-    let next : IsNext c.place_bytes.new.table m nodes p = record {
-      laid = written;
-      place = placed.0 ∙ first;
-      room = placed.1;
-      usable = refl;
-      stands = placed.2;
-      newest = λ q among. let less = shelf_is.entries.numbers q among in let number = c.word-number.ensures in omega arith;
-    } in
+    let next = next_after w c.place_bytes.new.table m c.self.inside.live c.self.inside.mark at n shelf_is placed (c.place_bytes.ensures.laid nodes shelf_is.laid) c.word-number.ensures in
     let chained : Laid c.chain.new.table m (p ∷ nodes) = c.chain.ensures.laid nodes p next refl in
     let table = chained.table in
     omega arith
@@ -107,20 +87,10 @@ note-requires-clause-inside c i =
     let kind = c.args.kind in
     let key : List ℕ = c.args.key.now in
     let at : ℕ = c.in-Some.at in
-    let fixed : Fixed = record { number = c.word-number.result; kind = c.number.result; version = c.args.version; timeout = c.args.timeout; reloads = c.args.reloads; not_found = c.is_not_found.result } in
-    let p : Placed = usable_at at (node_of fixed key c.bytes.result.now) in
+    let n : Node = node_of (record { number = c.word-number.result; kind = c.number.result; version = c.args.version; timeout = c.args.timeout; reloads = c.args.reloads; not_found = c.is_not_found.result }) key c.bytes.result.now in
+    let p : Placed = usable_at at n in
     let placed = c.in-Some.ensures.placed in
-    let written = c.place_bytes.ensures.laid nodes shelf_is.laid in
-    let first = shelf_is.laid.first_free in
-    let start_low = end_after (arena_start m) nodes shelf_is.laid.row in
-    let next : IsNext c.place_bytes.new.table m nodes p = record {
-      laid = written;
-      place = placed.0 ∙ first;
-      room = placed.1;
-      usable = refl;
-      stands = placed.2;
-      newest = λ q among. let less = shelf_is.entries.numbers q among in let number = c.word-number.ensures in omega arith;
-    } in
+    let next = next_after w c.place_bytes.new.table m c.self.inside.live c.self.inside.mark at n shelf_is placed (c.place_bytes.ensures.laid nodes shelf_is.laid) c.word-number.ensures in
     let chained : Laid c.chain.new.table m (p ∷ nodes) = c.chain.ensures.laid nodes p next refl in
     let new : List ℕ = c.set.new.self in
     let laid : Laid new m (p ∷ nodes) = set_head c.chain.new.table new m (p ∷ nodes) 4 (c.word-number.result + 1) (omega arith) (omega arith) c.set.ensures.set chained in
@@ -136,20 +106,12 @@ invariant_of-self c =
     let kind = c.args.kind in
     let key : List ℕ = c.args.key.now in
     let at : ℕ = c.in-Some.at in
-    let fixed : Fixed = record { number = c.word-number.result; kind = c.number.result; version = c.args.version; timeout = c.args.timeout; reloads = c.args.reloads; not_found = c.is_not_found.result } in
-    let p : Placed = usable_at at (node_of fixed key c.bytes.result.now) in
+    let n : Node = node_of (record { number = c.word-number.result; kind = c.number.result; version = c.args.version; timeout = c.args.timeout; reloads = c.args.reloads; not_found = c.is_not_found.result }) key c.bytes.result.now in
+    let p : Placed = usable_at at n in
     let placed = c.in-Some.ensures.placed in
-    let written = c.place_bytes.ensures.laid nodes shelf_is.laid in
     let first = shelf_is.laid.first_free in
     let start_low = end_after (arena_start m) nodes shelf_is.laid.row in
-    let next : IsNext c.place_bytes.new.table m nodes p = record {
-      laid = written;
-      place = placed.0 ∙ first;
-      room = placed.1;
-      usable = refl;
-      stands = placed.2;
-      newest = λ q among. let less = shelf_is.entries.numbers q among in let number = c.word-number.ensures in omega arith;
-    } in
+    let next = next_after w c.place_bytes.new.table m c.self.inside.live c.self.inside.mark at n shelf_is placed (c.place_bytes.ensures.laid nodes shelf_is.laid) c.word-number.ensures in
     let chained : Laid c.chain.new.table m (p ∷ nodes) = c.chain.ensures.laid nodes p next refl in
     let new : List ℕ = c.set.new.self in
     let laid : Laid new m (p ∷ nodes) = set_head c.chain.new.table new m (p ∷ nodes) 4 (c.word-number.result + 1) (omega arith) (omega arith) c.set.ensures.set chained in
@@ -181,20 +143,12 @@ returns-in-Some c =
     let kind = c.args.kind in
     let key : List ℕ = c.args.key.now in
     let at : ℕ = c.in-Some.at in
-    let fixed : Fixed = record { number = c.word-number.result; kind = c.number.result; version = c.args.version; timeout = c.args.timeout; reloads = c.args.reloads; not_found = c.is_not_found.result } in
-    let p : Placed = usable_at at (node_of fixed key c.bytes.result.now) in
+    let n : Node = node_of (record { number = c.word-number.result; kind = c.number.result; version = c.args.version; timeout = c.args.timeout; reloads = c.args.reloads; not_found = c.is_not_found.result }) key c.bytes.result.now in
+    let p : Placed = usable_at at n in
     let placed = c.in-Some.ensures.placed in
-    let written = c.place_bytes.ensures.laid nodes shelf_is.laid in
     let first = shelf_is.laid.first_free in
     let start_low = end_after (arena_start m) nodes shelf_is.laid.row in
-    let next : IsNext c.place_bytes.new.table m nodes p = record {
-      laid = written;
-      place = placed.0 ∙ first;
-      room = placed.1;
-      usable = refl;
-      stands = placed.2;
-      newest = λ q among. let less = shelf_is.entries.numbers q among in let number = c.word-number.ensures in omega arith;
-    } in
+    let next = next_after w c.place_bytes.new.table m c.self.inside.live c.self.inside.mark at n shelf_is placed (c.place_bytes.ensures.laid nodes shelf_is.laid) c.word-number.ensures in
     let chained : Laid c.chain.new.table m (p ∷ nodes) = c.chain.ensures.laid nodes p next refl in
     let new : List ℕ = c.set.new.self in
     let laid : Laid new m (p ∷ nodes) = set_head c.chain.new.table new m (p ∷ nodes) 4 (c.word-number.result + 1) (omega arith) (omega arith) c.set.ensures.set chained in
