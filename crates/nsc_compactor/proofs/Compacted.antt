@@ -8,7 +8,8 @@ use Rattle.nsc_words.specs.Layout.{arena_start}
 use Rattle.nsc_arena.proofs.Slides.{slid_from}
 use Rattle.nsc_model.specs.Kinds.{type_number}
 use Rattle.nsc_model.specs.Machine.{all_words}
-use Rattle.nsc_shelf.specs.Shelf.{Shelf, entries_in, kind_of, slide_words}
+use Rattle.nsc_rule.specs.Entries.{entries_in, kind_of}
+use Rattle.nsc_shelf.specs.Shelf.{Shelf, slide_words}
 use Rattle.nsc_shelf.proofs.Entries.{slid_same, words_slid}
 use Rattle.nsc_writer.specs.Slide.{IsBegun, IsSlid, emptied_slide, without_words}
 use Rattle.nsc_writer.specs.Writer.{Writer}

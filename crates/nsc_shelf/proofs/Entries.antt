@@ -10,7 +10,8 @@ use Rattle.nsc_words.specs.declared.node.Placed.{Placed}
 use Rattle.nsc_words.specs.Laid.{Among, InRow, Rising, end_of, slid, words_in}
 use Rattle.nsc_arena.specs.Changes.{ended}
 use Rattle.nsc_model.specs.Machine.{Kept, all_words, entry_words}
-use Rattle.nsc_shelf.specs.Shelf.{entries_in, has_number, is_numbered, kept_in}
+use Rattle.nsc_rule.specs.Entries.{entries_in, kept_in}
+use Rattle.nsc_shelf.specs.Shelf.{has_number, is_numbered}
 
 -- ---- one node more
 

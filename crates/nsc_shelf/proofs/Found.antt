@@ -12,7 +12,8 @@ use Rattle.nsc_arena.proofs.Rows.{node_at}
 use Rattle.nsc_shelf.specs.declared.finding.Found.{Found}
 use Rattle.nsc_shelf.specs.declared.finding.Mark.{Mark}
 use Rattle.nsc_shelf.specs.Finding.{IsFound}
-use Rattle.nsc_shelf.specs.Shelf.{IsShelf, entries_in, entry_from, has_number, kept_in}
+use Rattle.nsc_rule.specs.Entries.{entries_in, kept_in}
+use Rattle.nsc_shelf.specs.Shelf.{IsShelf, entry_from, has_number}
 use Rattle.nsc_shelf.proofs.Entries.{find_none, find_one, number_among, number_missing}
 
 -- the oldest entry of at least a number

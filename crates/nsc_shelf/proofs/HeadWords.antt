@@ -1,12 +1,13 @@
 -- A number at the table's head is set.
-use Rattle.std.proofs.Common.{◌≡◌, ◌≢◌, ℕ, ◌-◌, ◌<◌, List, set, slice_index, None, sym, ap, ◌∙◌, arith, get_or-set_same, get_or-set_other}
+use Rattle.std.proofs.Common.{◌≡◌, ◌≢◌, ℕ, ◌-◌, ◌<◌, ◌≤◌, List, [], ◌∷◌, length, set, slice_index, None, refl, sym, ap, ◌∙◌, arith, get_or-set_other}
 use Rattle.nsc_words.specs.declared.layout.Layout.{Layout}
 use Rattle.nsc_words.specs.Layout.{arena_start}
 use Rattle.nsc_arena.specs.ReadBack.{nodes_in}
 use Rattle.nsc_arena.proofs.ReadBack.{read_back}
 use Rattle.nsc_arena.proofs.Rows.{set_head}
 use Rattle.nsc_shelf.specs.declared.finding.Mark.{Mark}
-use Rattle.nsc_shelf.specs.Shelf.{HeadWords, IsShelf, entries_in, head_in, shelf_of}
+use Rattle.nsc_rule.specs.Entries.{entries_in}
+use Rattle.nsc_shelf.specs.Shelf.{HeadWords, IsShelf, head_in, shelf_of}
 use Rattle.nsc_shelf.proofs.States.{shelf_by}
 
 -- the words are those of a shelf still, with another head
@@ -33,74 +34,33 @@ counted old new map count mark k value head low zero three four set_is is eh =
       nodes = sym same;
     }
 
+-- words of which there are nine at least
+nine : (P : List ℕ → Type 0) → ((a b c d e f g h i : ℕ) (more : List ℕ) → P (a ∷ b ∷ c ∷ d ∷ e ∷ f ∷ g ∷ h ∷ i ∷ more)) → (words : List ℕ) → 9 ≤ length words → P words
+nine P has (a ∷ b ∷ c ∷ d ∷ e ∷ f ∷ g ∷ h ∷ i ∷ more) long = has a b c d e f g h i more
+nine P has [] long = absurd (omega arith)
+nine P has (a ∷ []) long = absurd (omega arith)
+nine P has (a ∷ b ∷ []) long = absurd (omega arith)
+nine P has (a ∷ b ∷ c ∷ []) long = absurd (omega arith)
+nine P has (a ∷ b ∷ c ∷ d ∷ []) long = absurd (omega arith)
+nine P has (a ∷ b ∷ c ∷ d ∷ e ∷ []) long = absurd (omega arith)
+nine P has (a ∷ b ∷ c ∷ d ∷ e ∷ f ∷ []) long = absurd (omega arith)
+nine P has (a ∷ b ∷ c ∷ d ∷ e ∷ f ∷ g ∷ []) long = absurd (omega arith)
+nine P has (a ∷ b ∷ c ∷ d ∷ e ∷ f ∷ g ∷ h ∷ []) long = absurd (omega arith)
+
 pub set_epoch : (old new : List ℕ) (map : Layout) (count : ℕ) (mark : Mark) (value : ℕ) → new ≡ set old 1 value → IsShelf old map count mark → Counted old new map count mark (record (head_in old) { epoch = value })
-set_epoch old new map count mark value set_is is =
-    let table = is.laid.table in
-    let other : (i : ℕ) → i ≢ 1 → slice_index new i ≡ slice_index old i = λ i n. ap (λ (ws : List ℕ). slice_index ws i) set_is ∙ get_or-set_other old 1 i value 0 n in
-    let own : slice_index new 1 ≡ value = ap (λ (ws : List ℕ). slice_index ws 1) set_is ∙ get_or-set_same old 1 value 0 (omega arith) in
-    let e2 = other 2 (omega arith) in
-    let e5 = other 5 (omega arith) in
-    let e6 = other 6 (omega arith) in
-    let e7 = other 7 (omega arith) in
-    let e8 = other 8 (omega arith) in
-    counted old new map count mark 1 value (record (head_in old) { epoch = value }) (omega arith) (omega arith) (omega arith) (omega arith) set_is is (λ i. record { epoch = own i; source = e2 i; hits = e5 i; negative_hits = e6 i; misses = e7 i; negative_misses = e8 i })
+set_epoch old new map count mark value set_is is = counted old new map count mark 1 value _ (omega arith) (omega arith) (omega arith) (omega arith) set_is is (ap head_in set_is ∙ nine (λ (ws : List ℕ). head_in (set ws 1 value) ≡ record (head_in ws) { epoch = value }) (λ a b c d e f g h i more. refl) old (omega (arith, is.laid.table)))
 
 pub set_source : (old new : List ℕ) (map : Layout) (count : ℕ) (mark : Mark) (value : ℕ) → new ≡ set old 2 value → IsShelf old map count mark → Counted old new map count mark (record (head_in old) { source = value })
-set_source old new map count mark value set_is is =
-    let table = is.laid.table in
-    let other : (i : ℕ) → i ≢ 2 → slice_index new i ≡ slice_index old i = λ i n. ap (λ (ws : List ℕ). slice_index ws i) set_is ∙ get_or-set_other old 2 i value 0 n in
-    let own : slice_index new 2 ≡ value = ap (λ (ws : List ℕ). slice_index ws 2) set_is ∙ get_or-set_same old 2 value 0 (omega arith) in
-    let e1 = other 1 (omega arith) in
-    let e5 = other 5 (omega arith) in
-    let e6 = other 6 (omega arith) in
-    let e7 = other 7 (omega arith) in
-    let e8 = other 8 (omega arith) in
-    counted old new map count mark 2 value (record (head_in old) { source = value }) (omega arith) (omega arith) (omega arith) (omega arith) set_is is (λ i. record { epoch = e1 i; source = own i; hits = e5 i; negative_hits = e6 i; misses = e7 i; negative_misses = e8 i })
+set_source old new map count mark value set_is is = counted old new map count mark 2 value _ (omega arith) (omega arith) (omega arith) (omega arith) set_is is (ap head_in set_is ∙ nine (λ (ws : List ℕ). head_in (set ws 2 value) ≡ record (head_in ws) { source = value }) (λ a b c d e f g h i more. refl) old (omega (arith, is.laid.table)))
 
 pub set_hits : (old new : List ℕ) (map : Layout) (count : ℕ) (mark : Mark) (value : ℕ) → new ≡ set old 5 value → IsShelf old map count mark → Counted old new map count mark (record (head_in old) { hits = value })
-set_hits old new map count mark value set_is is =
-    let table = is.laid.table in
-    let other : (i : ℕ) → i ≢ 5 → slice_index new i ≡ slice_index old i = λ i n. ap (λ (ws : List ℕ). slice_index ws i) set_is ∙ get_or-set_other old 5 i value 0 n in
-    let own : slice_index new 5 ≡ value = ap (λ (ws : List ℕ). slice_index ws 5) set_is ∙ get_or-set_same old 5 value 0 (omega arith) in
-    let e1 = other 1 (omega arith) in
-    let e2 = other 2 (omega arith) in
-    let e6 = other 6 (omega arith) in
-    let e7 = other 7 (omega arith) in
-    let e8 = other 8 (omega arith) in
-    counted old new map count mark 5 value (record (head_in old) { hits = value }) (omega arith) (omega arith) (omega arith) (omega arith) set_is is (λ i. record { epoch = e1 i; source = e2 i; hits = own i; negative_hits = e6 i; misses = e7 i; negative_misses = e8 i })
+set_hits old new map count mark value set_is is = counted old new map count mark 5 value _ (omega arith) (omega arith) (omega arith) (omega arith) set_is is (ap head_in set_is ∙ nine (λ (ws : List ℕ). head_in (set ws 5 value) ≡ record (head_in ws) { hits = value }) (λ a b c d e f g h i more. refl) old (omega (arith, is.laid.table)))
 
 pub set_negative_hits : (old new : List ℕ) (map : Layout) (count : ℕ) (mark : Mark) (value : ℕ) → new ≡ set old 6 value → IsShelf old map count mark → Counted old new map count mark (record (head_in old) { negative_hits = value })
-set_negative_hits old new map count mark value set_is is =
-    let table = is.laid.table in
-    let other : (i : ℕ) → i ≢ 6 → slice_index new i ≡ slice_index old i = λ i n. ap (λ (ws : List ℕ). slice_index ws i) set_is ∙ get_or-set_other old 6 i value 0 n in
-    let own : slice_index new 6 ≡ value = ap (λ (ws : List ℕ). slice_index ws 6) set_is ∙ get_or-set_same old 6 value 0 (omega arith) in
-    let e1 = other 1 (omega arith) in
-    let e2 = other 2 (omega arith) in
-    let e5 = other 5 (omega arith) in
-    let e7 = other 7 (omega arith) in
-    let e8 = other 8 (omega arith) in
-    counted old new map count mark 6 value (record (head_in old) { negative_hits = value }) (omega arith) (omega arith) (omega arith) (omega arith) set_is is (λ i. record { epoch = e1 i; source = e2 i; hits = e5 i; negative_hits = own i; misses = e7 i; negative_misses = e8 i })
+set_negative_hits old new map count mark value set_is is = counted old new map count mark 6 value _ (omega arith) (omega arith) (omega arith) (omega arith) set_is is (ap head_in set_is ∙ nine (λ (ws : List ℕ). head_in (set ws 6 value) ≡ record (head_in ws) { negative_hits = value }) (λ a b c d e f g h i more. refl) old (omega (arith, is.laid.table)))
 
 pub set_misses : (old new : List ℕ) (map : Layout) (count : ℕ) (mark : Mark) (value : ℕ) → new ≡ set old 7 value → IsShelf old map count mark → Counted old new map count mark (record (head_in old) { misses = value })
-set_misses old new map count mark value set_is is =
-    let table = is.laid.table in
-    let other : (i : ℕ) → i ≢ 7 → slice_index new i ≡ slice_index old i = λ i n. ap (λ (ws : List ℕ). slice_index ws i) set_is ∙ get_or-set_other old 7 i value 0 n in
-    let own : slice_index new 7 ≡ value = ap (λ (ws : List ℕ). slice_index ws 7) set_is ∙ get_or-set_same old 7 value 0 (omega arith) in
-    let e1 = other 1 (omega arith) in
-    let e2 = other 2 (omega arith) in
-    let e5 = other 5 (omega arith) in
-    let e6 = other 6 (omega arith) in
-    let e8 = other 8 (omega arith) in
-    counted old new map count mark 7 value (record (head_in old) { misses = value }) (omega arith) (omega arith) (omega arith) (omega arith) set_is is (λ i. record { epoch = e1 i; source = e2 i; hits = e5 i; negative_hits = e6 i; misses = own i; negative_misses = e8 i })
+set_misses old new map count mark value set_is is = counted old new map count mark 7 value _ (omega arith) (omega arith) (omega arith) (omega arith) set_is is (ap head_in set_is ∙ nine (λ (ws : List ℕ). head_in (set ws 7 value) ≡ record (head_in ws) { misses = value }) (λ a b c d e f g h i more. refl) old (omega (arith, is.laid.table)))
 
 pub set_negative_misses : (old new : List ℕ) (map : Layout) (count : ℕ) (mark : Mark) (value : ℕ) → new ≡ set old 8 value → IsShelf old map count mark → Counted old new map count mark (record (head_in old) { negative_misses = value })
-set_negative_misses old new map count mark value set_is is =
-    let table = is.laid.table in
-    let other : (i : ℕ) → i ≢ 8 → slice_index new i ≡ slice_index old i = λ i n. ap (λ (ws : List ℕ). slice_index ws i) set_is ∙ get_or-set_other old 8 i value 0 n in
-    let own : slice_index new 8 ≡ value = ap (λ (ws : List ℕ). slice_index ws 8) set_is ∙ get_or-set_same old 8 value 0 (omega arith) in
-    let e1 = other 1 (omega arith) in
-    let e2 = other 2 (omega arith) in
-    let e5 = other 5 (omega arith) in
-    let e6 = other 6 (omega arith) in
-    let e7 = other 7 (omega arith) in
-    counted old new map count mark 8 value (record (head_in old) { negative_misses = value }) (omega arith) (omega arith) (omega arith) (omega arith) set_is is (λ i. record { epoch = e1 i; source = e2 i; hits = e5 i; negative_hits = e6 i; misses = e7 i; negative_misses = own i })
+set_negative_misses old new map count mark value set_is is = counted old new map count mark 8 value _ (omega arith) (omega arith) (omega arith) (omega arith) set_is is (ap head_in set_is ∙ nine (λ (ws : List ℕ). head_in (set ws 8 value) ≡ record (head_in ws) { negative_misses = value }) (λ a b c d e f g h i more. refl) old (omega (arith, is.laid.table)))

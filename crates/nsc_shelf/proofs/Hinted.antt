@@ -17,7 +17,8 @@ use Rattle.nsc_model.specs.Kinds.{is_request, type_number}
 use Rattle.nsc_model.specs.Machine.{live_entry}
 use Rattle.nsc_shelf.specs.declared.finding.Mark.{Mark}
 use Rattle.nsc_shelf.specs.Hints.{AreHints, HasPlace, IsAlone, told_place}
-use Rattle.nsc_shelf.specs.Shelf.{AreEntries, IsShelf, entries_in, kept_in, request_in}
+use Rattle.nsc_rule.specs.Entries.{entries_in, kept_in, request_in}
+use Rattle.nsc_shelf.specs.Shelf.{AreEntries, IsShelf}
 use Rattle.nsc_shelf.proofs.States.{asked, found_place, live_at, live_none, missing_place, same_asked, same_number, usable_answers}
 
 -- ---- nodes change

@@ -14,7 +14,8 @@ use Rattle.nsc_model.specs.Kinds.{is_request, type_number}
 use Rattle.nsc_model.specs.Machine.{Kept, all_words, entry_words, last_count}
 use Rattle.nsc_shelf.specs.declared.finding.Mark.{Mark}
 use Rattle.nsc_shelf.specs.Hints.{AreHints}
-use Rattle.nsc_shelf.specs.Shelf.{AreEntries, HoldEntries, IsBegun, IsHeld, IsShelf, IsSlid, entries_in, head_in, kept_in, kind_of, request_in, shelf_in, shelf_of, slide_words, under_way}
+use Rattle.nsc_rule.specs.Entries.{entries_in, kept_in, kind_of, request_in}
+use Rattle.nsc_shelf.specs.Shelf.{AreEntries, HoldEntries, IsBegun, IsHeld, IsShelf, IsSlid, head_in, shelf_in, shelf_of, slide_words, under_way}
 use Rattle.nsc_shelf.proofs.Entries.{one_more}
 use Rattle.nsc_shelf.proofs.States.{head_same, shelf_by, view_by}
 

@@ -24,7 +24,8 @@ use Rattle.nsc_model.specs.declared.kind.Kind.TheVariants.{PwName, PwUid, GrName
 use Rattle.nsc_model.specs.Kinds.{is_request, type_number}
 use Rattle.nsc_model.specs.Machine.{Kept, last_count, live_entry, used_by, used_now}
 use Rattle.nsc_shelf.specs.declared.finding.Mark.{Mark}
-use Rattle.nsc_shelf.specs.Shelf.{AreEntries, HeadWords, IsShelf, entries_in, head_in, is_numbered, kept_in, kind_of, others_than, request_in, shelf_of}
+use Rattle.nsc_rule.specs.Entries.{entries_in, kept_in, kind_of, request_in}
+use Rattle.nsc_shelf.specs.Shelf.{AreEntries, HeadWords, IsShelf, head_in, is_numbered, others_than, shelf_of}
 use Rattle.nsc_shelf.proofs.Entries.{find_none, find_one, left, mapped, none_found, one_less, unmoved}
 
 -- what a shelf is, where the other numbers at its head are those of these words

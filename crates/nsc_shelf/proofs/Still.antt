@@ -11,7 +11,8 @@ use Rattle.nsc_shelf.specs.declared.finding.Found.{Found}
 use Rattle.nsc_shelf.specs.declared.finding.Mark.{Mark}
 use Rattle.nsc_shelf.specs.Finding.{IsFound}
 use Rattle.nsc_shelf.specs.Hints.{AreHints}
-use Rattle.nsc_shelf.specs.Shelf.{IsHeld, IsShelf, Shelf, entry_from, kept_in, shelf_in, shelf_of, under_way}
+use Rattle.nsc_rule.specs.Entries.{kept_in}
+use Rattle.nsc_shelf.specs.Shelf.{IsHeld, IsShelf, Shelf, entry_from, shelf_in, shelf_of, under_way}
 use Rattle.nsc_shelf.proofs.Found.{found_entry, found_none, remarked_by}
 
 -- none is under way where the view says so

@@ -1,5 +1,5 @@
 -- The live entries of a database with their counts, apart from contents and history, the words in which they stand, and their slide.
-use Rattle.std.specs.Prelude.{◌≡◌, ℕ, ◌≢◌, ◌-◌, ◌<◌, ◌≤◌, ◌+◌, ◌%◌, ◌==◌, nat_le, not, min, Bool, true, if◌then◌else◌, List, [], ◌∷◌, ◌++◌, filter, find, length, Option, Some, None, slice_index}
+use Rattle.std.specs.Prelude.{◌≡◌, ℕ, ◌≢◌, ◌-◌, ◌<◌, ◌≤◌, ◌+◌, ◌%◌, ◌==◌, nat_le, not, min, Bool, true, if◌then◌else◌, List, [], filter, find, length, Option, Some, None, slice_index}
 use Rattle.std.specs.List.{list_any}
 use Rattle.std.specs.declared.snapshot.Snapshot.{Snapshot}
 use Rattle.nsc_words.specs.declared.layout.Layout.{Layout}
@@ -8,12 +8,11 @@ use Rattle.nsc_words.specs.Laid.{Among, Laid}
 use Rattle.nsc_words.specs.Layout.{IsLayout, arena_start}
 use Rattle.nsc_arena.specs.Changes.{IsMark}
 use Rattle.nsc_arena.specs.ReadBack.{nodes_in}
-use Rattle.nsc_model.specs.declared.answer.Request.{Request}
 use Rattle.nsc_model.specs.declared.kind.Kind.{Kind}
-use Rattle.nsc_model.specs.declared.kind.Kind.TheVariants.{PwName}
-use Rattle.nsc_model.specs.Kinds.{is_request, kind_numbered, type_number}
+use Rattle.nsc_model.specs.Kinds.{is_request, type_number}
 use Rattle.nsc_model.specs.Answer.{Answer}
 use Rattle.nsc_model.specs.Machine.{Kept, last_count}
+use Rattle.nsc_rule.specs.Entries.{entries_in, kind_of, request_in}
 use Rattle.nsc_shelf.specs.declared.entry.EntryAt.{EntryAt}
 use Rattle.nsc_shelf.specs.declared.entry.Hit.{Hit}
 use Rattle.nsc_shelf.specs.declared.finding.Mark.{Mark}
@@ -56,30 +55,6 @@ pub record Shelf : Type 0 where
   pub head : HeadWords
   pub layout : Layout
   pub slide : Option (List ℕ)
-
--- ---- the entries that stand in words
-
--- the kind of a number; any, where it is that of none
-abbrev pub kind_or : Option Kind → Kind
-kind_or None = PwName
-kind_or (Some kind) = kind
-
-abbrev pub kind_of : ℕ → Kind
-kind_of number = kind_or (kind_numbered number)
-
-abbrev pub request_in : Placed → Request
-request_in p = record { kind = kind_of p.node.kind; key = p.node.key }
-
-abbrev pub kept_in : Placed → Kept
-kept_in p = record {
-  entry = record { number = p.node.number; request = request_in p; version = p.node.version; answer = record { bytes = p.node.reply; not_found = p.node.not_found }; timeout = p.node.timeout };
-  reloads = p.node.reloads;
-}
-
--- the usable nodes, from the oldest on, of a list that begins with the newest one
-abbrev pub entries_in : List Placed → List Kept
-entries_in [] = []
-entries_in (p ∷ older) = if p.usable then entries_in older ++ kept_in p ∷ [] else entries_in older
 
 abbrev pub shelf_of : List ℕ → Layout → Shelf
 shelf_of words map = record {

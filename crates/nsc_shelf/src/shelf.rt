@@ -3,7 +3,8 @@ ghost use Rattle.nsc_words.specs.Layout.{IsLayout};
 ghost use Rattle.nsc_base.specs.Nodes.{node_words};
 ghost use Rattle.nsc_model.specs.Entry.{key_limit, kept_limit};
 ghost use Rattle.nsc_model.specs.Machine.{last_count, live_entry, used_now};
-ghost use Rattle.nsc_shelf.specs.Shelf.{Gives, IsTold, entry_from, fresh_entry, has_number, key_or, kind_of, no_head, number_of, others_than, reply_or};
+ghost use Rattle.nsc_rule.specs.Entries.{kind_of};
+ghost use Rattle.nsc_shelf.specs.Shelf.{Gives, IsTold, entry_from, fresh_entry, has_number, key_or, no_head, number_of, others_than, reply_or};
 
 use crate::entry::{EntryAt, Hit};
 use crate::finding::{Found, Mark, find_from};

@@ -1,6 +1,5 @@
 -- What the history tells of the writer's cache after each of its calls.
 use Rattle.std.proofs.Common.{◌≡◌, ◌≢◌, ℕ, ◌<◌, ◌≤◌, ◌+◌, Bool, true, false, not, ◌||◌, eqb, List, [], ◌∷◌, ◌++◌, length, get_or, drop, drop-cons, add-one, suc, None, refl, sym, ap, subst, ◌∙◌, arith, inl, inr}
-use Rattle.std.proofs.Math.ListN.{drop_of_length-le}
 use Rattle.std.proofs.lemmas.Bool.{eqb-true, eqb-false}
 use Rattle.nsc_model.specs.declared.answer.Request.{Request}
 use Rattle.nsc_model.specs.declared.record.Ending.{Ending}
@@ -164,6 +163,3 @@ ends_next k ks h all t = record {
 pub first_of : (ks : List Kept) (i : ℕ) (k : Kept) → i < length ks → k ≡ get_or ks i k → drop i ks ≡ k ∷ drop (i + 1) ks
 first_of ks i k low is = let next : drop (suc i) ks ≡ drop (i + 1) ks = ap (λ (n : ℕ). drop n ks) (sym (add-one i)) in
     drop-cons ks i k low ∙ (λ j. sym is j ∷ next j)
-
-pub ended_whole : (ks : List Kept) (i : ℕ) (h all : List Record) → length ks ≤ i → EndsTo (drop i ks) h all → h ≡ all
-ended_whole ks i h all past t = subst (λ (l : List Kept). ends_of by_invalidation l h ≡ all) (drop_of_length-le ks past) t.ends

@@ -181,6 +181,7 @@ impl Writer {
     pub fn invalidate(&mut self) -> Result<u64, Spent>
         requires { self.old.slide ≡ None }
         ensures done { IfOk result (λ epoch. (epoch ≡ self.old.cache.epoch + 1) × (self.new ≡ emptied_by self.old)) }
+        ensures below { IfOk result (λ _. self.old.cache.epoch < last_count) }
         ensures spent { IfErr result (λ spent. (self.old.cache.epoch ≡ last_count) × (spent.count ≡ last_count) × (self.new ≡ self.old)) }
     {
         let before = self.pen.epoch();

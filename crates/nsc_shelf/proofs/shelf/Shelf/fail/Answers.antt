@@ -4,7 +4,8 @@ use Rattle.nsc_words.specs.declared.node.Placed.{Placed}
 use Rattle.nsc_words.specs.Layout.{arena_start}
 use Rattle.nsc_arena.specs.ReadBack.{nodes_in}
 use Rattle.nsc_model.specs.Machine.{last_count}
-use Rattle.nsc_shelf.specs.Shelf.{Shelf, entries_in, head_in, shelf_of}
+use Rattle.nsc_rule.specs.Entries.{entries_in}
+use Rattle.nsc_shelf.specs.Shelf.{Shelf, head_in, shelf_of}
 use Rattle.nsc_shelf.proofs.States.{head_same, view_by, shelf_by}
 use Rattle.nsc_arena.proofs.Rows.{set_head}
 use Rattle.nsc_shelf.proofs.Hinted.{hints_by}

@@ -10,7 +10,8 @@ use Rattle.nsc_model.specs.declared.answer.Request.{Request}
 use Rattle.nsc_model.specs.Machine.{Kept, live_entry, used_now}
 use Rattle.nsc_shelf.specs.declared.entry.Hit.{Hit}
 use Rattle.nsc_shelf.specs.Hints.{AreHints, IsAlone}
-use Rattle.nsc_shelf.specs.Shelf.{Gives, IsShelf, Shelf, kept_in}
+use Rattle.nsc_rule.specs.Entries.{kept_in}
+use Rattle.nsc_shelf.specs.Shelf.{Gives, IsShelf, Shelf}
 use Rattle.nsc_shelf.proofs.Hinted.{alone_in, answering, hints_by, hints_changed_at, unanswered}
 use Rattle.nsc_shelf.proofs.States.{reused}
 use Rattle.nsc_arena.proofs.Changed.{reloads_is}

@@ -4,7 +4,8 @@ use Rattle.nsc_arena.specs.Changes.{head_of}
 use Rattle.nsc_arena.specs.declared.reading.Head.{Head}
 use Rattle.nsc_model.specs.Machine.{Kept}
 use Rattle.nsc_shelf.specs.declared.entry.EntryAt.{EntryAt}
-use Rattle.nsc_shelf.specs.Shelf.{IsTold, kept_in, kind_of}
+use Rattle.nsc_rule.specs.Entries.{kept_in, kind_of}
+use Rattle.nsc_shelf.specs.Shelf.{IsTold}
 use Rattle.nsc_shelf.proofs.Still.{entry_found, entry_missing, still, still_marked}
 use Rattle.nsc_shelf.proofs.shelf.Shelf.next.Goals as goal
 

@@ -5,7 +5,8 @@ use Rattle.nsc_words.specs.Laid.{Laid, end_of, words_in}
 use Rattle.nsc_words.specs.Layout.{arena_start}
 use Rattle.nsc_arena.specs.ReadBack.{nodes_in}
 use Rattle.nsc_model.specs.Machine.{Kept}
-use Rattle.nsc_shelf.specs.Shelf.{IsHeld, Shelf, entries_in, head_in, kept_in, shelf_in, shelf_of}
+use Rattle.nsc_rule.specs.Entries.{entries_in, kept_in}
+use Rattle.nsc_shelf.specs.Shelf.{IsHeld, Shelf, head_in, shelf_in, shelf_of}
 use Rattle.nsc_shelf.proofs.States.{head_same, view_by, shelf_by}
 use Rattle.std.proofs.lemmas.List.{length-append}
 use Rattle.nsc_base.specs.Nodes.{node_words}
@@ -14,7 +15,8 @@ use Rattle.nsc_model.specs.Machine.{last_count, live_entry}
 use Rattle.nsc_words.specs.declared.node.Node.{Node}
 use Rattle.nsc_arena.specs.Changes.{node_of, usable_at}
 use Rattle.nsc_arena.proofs.Rows.{end_after, set_head}
-use Rattle.nsc_shelf.specs.Shelf.{fresh_entry, kind_of, request_in}
+use Rattle.nsc_rule.specs.Entries.{kind_of, request_in}
+use Rattle.nsc_shelf.specs.Shelf.{fresh_entry}
 use Rattle.nsc_shelf.proofs.Entries.{few_entries, one_more}
 use Rattle.nsc_shelf.proofs.States.{kind_back, marked_more, new_entries, next_after}
 use Rattle.std.proofs.lemmas.List.{with_items_is}
