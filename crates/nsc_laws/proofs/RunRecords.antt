@@ -1,6 +1,6 @@
 -- A legal history whose records have their origins is made by moves of the core, record by record.
 use Rattle.std.proofs.Common.{◌≡◌, ◌≢◌, ℕ, ◌+◌, ◌<◌, Bool, true, false, eqb, List, [], ◌∷◌, ◌++◌, refl, sym, ap, subst, ◌∙◌, arith, inl, inr}
-use Rattle.std.specs.Prelude.{Option, Some, None}
+use Rattle.std.specs.Prelude.{◌⊎◌, Option, Some, None}
 use Rattle.std.proofs.lemmas.Bool.{eqb-true, eqb-false}
 use Rattle.std.proofs.lemmas.List.{append-nil}
 use Rattle.nsc_model.specs.declared.kind.Db.{Db}
@@ -14,12 +14,12 @@ use Rattle.nsc_model.specs.Entry.{Entry}
 use Rattle.nsc_model.specs.History.{changes, invalidations, newest, Legal, IsPrefix, LooksAt}
 use Rattle.nsc_laws.specs.Core.{Caller, Core, opening, Move, Begin, Insert, Finish, Empty, Inserts, Runs}
 use Rattle.nsc_model.specs.Live.{AreLive}
-use Rattle.nsc_laws.specs.Origins.{WasAsked, IsSourced, IsRun}
+use Rattle.nsc_laws.specs.Origins.{IsSourced, IsRun}
 use Rattle.nsc_laws.proofs.Prefixes.{more_after, prefix_legal}
 use Rattle.nsc_laws.proofs.CoreLaw.{begun}
 use Rattle.nsc_laws.proofs.CoreLawRecords.{prefix_more}
 use Rattle.nsc_laws.proofs.MachineLawSteps.{at_own, runs_append, same_prefix}
-use Rattle.nsc_laws.proofs.RunSteps.{Holder, Ready, other_callers, begins, IsNewest, Looks, looks}
+use Rattle.nsc_laws.proofs.RunSteps.{Holder, WasAsked, Ready, other_callers, begins, IsNewest, Looks, looks}
 
 -- the core moves on to this history
 pub record Reaches (db : Db) (old : Core) (history : List Record) : Type 0 where
@@ -44,10 +44,16 @@ change_differs v c (r ∷ h) some l = (l.1, l.2)
 
 newest_change : (v : ℕ) (c : Content) (h : List Record) → h ≢ [] → IsNewest (Change v c) h v
 newest_change v c [] some = absurd (some refl)
-newest_change v c (r ∷ h) some = record { same_epoch = refl; asked = λ m asked. asked }
+newest_change v c (r ∷ h) some = record { same_epoch = refl; asked = λ m asked. elim asked.0 [ inl same ↦ inl same | inr was ↦ inr (was, asked.1) ] }
 
 newest_poll : (v : ℕ) (h : List Record) → IsNewest (Poll v) h v
-newest_poll v h = record { same_epoch = refl; asked = λ m asked. asked }
+newest_poll v h = record { same_epoch = refl; asked = λ m asked. by_test m (eqb v m) refl asked } where
+  by_test : (m : ℕ) (b : Bool) → eqb v m ≡ b → WasAsked (Poll v ∷ h) m → (v ≡ m) ⊎ WasAsked h m
+  by_test m true e asked = inl (eqb-true v m e)
+  by_test m false e asked = elim asked.0 [
+    | inl same ↦ inl same
+    | inr was ↦ inr (was, λ first. elim (asked.1 first) [ inl same ↦ absurd (eqb-false v m e same) | inr polled ↦ polled ])
+  ]
 
 -- the newest content is what the database reads of some files
 newest_read : (db : Db) (h : List Record) → Legal h → IsSourced db h → (sources : Content) × (newest h ≡ Some (part_of db sources))
@@ -103,9 +109,9 @@ load_holder core a e fresh n low h = by_test (eqb a h.caller) refl where
         seen_before = subst (λ (c : Caller). IsPrefix c.seen (Load e ∷ core.history)) (sym is) (prefix_more (Load e) (core.callers h.caller).seen core.history h.seen_before);
       }
 
-load_step : (db : Db) (core : Core) (e : Entry) → Ready core → Legal (Load e ∷ core.history) → WasAsked core.history e.version → Reaches db core (Load e ∷ core.history)
-load_step db core e ready l asked =
-    let h = ready.holders e.version asked in
+load_step : (db : Db) (core : Core) (e : Entry) → Ready core → Legal (Load e ∷ core.history) → IsSourced db (Load e ∷ core.history) → Reaches db core (Load e ∷ core.history)
+load_step db core e ready l s =
+    let h = ready.holders e.version (l.4, s.1) in
     let a = h.caller in
     let c1 = begins core a (Some e.request) core.history in
     let is = at_own core.callers a (begun (core.callers a) (Some e.request) core.history) in
@@ -163,7 +169,7 @@ invalid_step db core n ready l =
       moves = Empty ∷ [];
       new = new;
       runs = (new, ([], none, refl), refl);
-      ready = record { fresh = ready.fresh; unused = ready.unused; holders = λ m was. absurd was };
+      ready = record { fresh = ready.fresh; unused = ready.unused; holders = λ m was. absurd was.0 };
       history_is = ap (λ (k : ℕ). Invalid k ∷ core.history) (sym l.1);
     }
 
@@ -172,7 +178,7 @@ invalid_step db core n ready l =
 step : (db : Db) (r : Record) (core : Core) → Ready core → core.history ≢ [] → Legal (r ∷ core.history) → IsSourced db (r ∷ core.history) → Reaches db core (r ∷ core.history)
 step db (Change v c) core ready some l s = look_step db core (Change v c) v (looks_at db core None [] (Change v c) v ready some refl l s (nothing_seen core.history))
 step db (Poll v) core ready some l s = look_step db core (Poll v) v (looks_at db core None [] (Poll v) v ready some refl l s (nothing_seen core.history))
-step db (Load e) core ready some l s = load_step db core e ready l s.1
+step db (Load e) core ready some l s = load_step db core e ready l s
 step db (End n cause) core ready some l s = end_step db core n cause ready l
 step db (Invalid n) core ready some l s = invalid_step db core n ready l
 
@@ -207,7 +213,7 @@ pub record Begins (db : Db) (history : List Record) : Type 0 where
   pub reaches : Reaches db (opening db first) history
 
 opening_ready : (db : Db) (sources : Content) → Ready (opening db sources)
-opening_ready db sources = record { fresh = 0; unused = λ b high. refl; holders = λ n was. absurd was }
+opening_ready db sources = record { fresh = 0; unused = λ b high. refl; holders = λ n was. elim was.0 [ inl same ↦ absurd (was.1 (sym same)) | inr none ↦ absurd none ] }
 
 more_begun : (db : Db) (r x : Record) (h : List Record) → Legal (r ∷ x ∷ h) → IsSourced db (r ∷ x ∷ h) → Begins db (x ∷ h) → Begins db (r ∷ x ∷ h)
 more_begun db r x h l s w = record { first = w.first; reaches = step_on db r (opening db w.first) (x ∷ h) (λ none. cc) l s w.reaches }

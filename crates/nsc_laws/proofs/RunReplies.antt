@@ -12,13 +12,13 @@ use Rattle.nsc_model.specs.Answers.{answer_of}
 use Rattle.nsc_model.specs.History.{changes, version_in, HasLoad, IsLive, Legal, IsPrefix, LooksAt, FromEntry, FromPoll, Answered}
 use Rattle.nsc_laws.specs.Core.{Caller, Core, new_caller, opening, Begin, Look}
 use Rattle.nsc_laws.specs.Moments.{WasLive}
-use Rattle.nsc_laws.specs.Origins.{WasAsked, IsSourced, IsOfCallers, IsAnswer, IsReply}
+use Rattle.nsc_laws.specs.Origins.{IsSourced, IsOfCallers, IsAnswer, IsReply}
 use Rattle.nsc_laws.proofs.Prefixes.{more_after, prefix_legal}
 use Rattle.nsc_laws.proofs.CoreLaw.{changed, begun, taking}
 use Rattle.nsc_laws.proofs.CoreLawRecords.{changes_rise}
 use Rattle.nsc_laws.proofs.LiveFronts.{reply_was_live}
 use Rattle.nsc_laws.proofs.MachineLawSteps.{at_own, runs_append}
-use Rattle.nsc_laws.proofs.RunSteps.{Holder, Ready, other_callers, begins}
+use Rattle.nsc_laws.proofs.RunSteps.{Holder, WasAsked, Ready, other_callers, begins}
 use Rattle.nsc_laws.proofs.RunRecords.{nothing_seen, change_differs, looks_at, sourced_before, reaches_on, begins_with}
 
 -- ---- prefixes

@@ -8,9 +8,9 @@ use Rattle.nsc_model.specs.declared.answer.Request.{Request}
 use Rattle.nsc_model.specs.declared.record.Record.{Record}
 use Rattle.nsc_model.specs.Content.{Content}
 use Rattle.nsc_model.specs.Files.{part_of}
-use Rattle.nsc_model.specs.History.{invalidations, IsPrefix}
+use Rattle.nsc_model.specs.History.{invalidations, WasPolled, IsPrefix}
 use Rattle.nsc_laws.specs.Core.{Caller, Core, new_caller, with_caller, Move, Files, Begin, Note, Fetch, PollStep, IsPoll, Runs}
-use Rattle.nsc_laws.specs.Origins.{WasAsked}
+use Rattle.nsc_laws.specs.Origins.{HasPoll}
 use Rattle.nsc_laws.proofs.CoreLaw.{changed, begun, noting, fetching, polling, after_poll}
 use Rattle.nsc_laws.proofs.CoreLawRecords.{prefix_more}
 use Rattle.nsc_laws.proofs.MachineLawSteps.{at_own}
@@ -22,6 +22,10 @@ pub record Holder (core : Core) (fresh n : ℕ) : Type 0 where
   pub version_is : (core.callers caller).version ≡ Some n
   pub noted_is : (core.callers caller).noted ≡ Some (invalidations core.history)
   pub seen_before : IsPrefix (core.callers caller).seen core.history
+
+-- the version was looked at since the last invalidation, and not only by the record that begins the history
+abbrev pub WasAsked : List Record → ℕ → Type 0
+WasAsked history n = WasPolled history n × (n ≡ 0 → HasPoll history n)
 
 -- from some number on every caller is new, and each version that was looked at since the last invalidation has a caller
 pub record Ready (core : Core) : Type 0 where

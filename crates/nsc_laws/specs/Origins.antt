@@ -1,4 +1,4 @@
--- Where the records of a history come from: contents from files, entries from callers who looked at their versions.
+-- Where the records of a history come from: contents from files, and entries of the first version from callers who polled it.
 use Rattle.std.specs.Prelude.{◌≡◌, ◌⊎◌, ◌<◌, ℕ, List, [], ◌∷◌, length, Some}
 use Rattle.std.proofs.Common.{inl, inr}
 use Rattle.nsc_model.specs.declared.kind.Db.{Db}
@@ -14,22 +14,22 @@ use Rattle.nsc_laws.specs.Core.{Core, Move, Runs, Replies, opening}
 abbrev pub IsRead : Db → Content → Type 0
 IsRead db content = (sources : Content) × (content ≡ part_of db sources)
 
--- some caller looked at the version since the last invalidation; the record that begins a history is no caller's
-abbrev pub WasAsked : List Record → ℕ → Type 0
-WasAsked [] n = ⊥
-WasAsked (Change version content ∷ []) n = ⊥
-WasAsked (Change version content ∷ record' ∷ before) n = (version ≡ n) ⊎ WasAsked (record' ∷ before) n
-WasAsked (Poll version ∷ before) n = (version ≡ n) ⊎ WasAsked before n
-WasAsked (Load entry ∷ before) n = WasAsked before n
-WasAsked (End number cause ∷ before) n = WasAsked before n
-WasAsked (Invalid epoch ∷ before) n = ⊥
+-- some caller found the version to be still the newest
+abbrev pub HasPoll : List Record → ℕ → Type 0
+HasPoll [] n = ⊥
+HasPoll (Change version content ∷ before) n = HasPoll before n
+HasPoll (Poll version ∷ before) n = (version ≡ n) ⊎ HasPoll before n
+HasPoll (Load entry ∷ before) n = HasPoll before n
+HasPoll (End number cause ∷ before) n = HasPoll before n
+HasPoll (Invalid epoch ∷ before) n = HasPoll before n
 
--- each content is what the database reads of some files, and each entry is of a version that some caller looked at
+-- each content is what the database reads of some files; and an entry of the first version stands after some caller's poll of
+-- it, since the record that begins a history is no caller's
 abbrev pub IsSourced : Db → List Record → Type 0
 IsSourced db [] = Unit {0}
 IsSourced db (Change version content ∷ before) = IsSourced db before × IsRead db content
 IsSourced db (Poll version ∷ before) = IsSourced db before
-IsSourced db (Load entry ∷ before) = IsSourced db before × WasAsked before entry.version
+IsSourced db (Load entry ∷ before) = IsSourced db before × (entry.version ≡ 0 → HasPoll before entry.version)
 IsSourced db (End number cause ∷ before) = IsSourced db before
 IsSourced db (Invalid epoch ∷ before) = IsSourced db before
 

@@ -10,7 +10,7 @@ ghost use Rattle.nsc_laws.specs.Core.{Core, Move, Empty, Moves, Runs, RepliesAns
 ghost use Rattle.nsc_laws.specs.Origins.{IsAnswer, IsReply, IsRun, IsSourced};
 
 /// In every run of moves from an opening, whatever its callers do and in whatever order, the history is legal, each of its
-/// contents is what the database reads of some files, and each of its entries is of a version that some caller looked at; and
+/// contents is what the database reads of some files, and an entry of the first version stands after some caller's poll of it; and
 /// each reply that a caller may get is an answer to its request, between what the caller had seen at the start of its call and
 /// the history at the reply.
 pub fn core_runs_are_legal()
@@ -32,8 +32,8 @@ pub fn core_can_be_emptied()
 {}
 
 /// Every legal history is made by some run of moves from an opening, where each of its contents is what the database reads of
-/// some files, and each of its entries is of a version that some caller looked at: so the runs make these histories and no
-/// others.
+/// some files, and an entry of the first version stands after some caller's poll of it: so the runs make these histories and
+/// no others. That a version was looked at since the last invalidation is of every legal history, and no premise.
 pub fn legal_histories_are_run()
     ensures { (db : Db) (history : List Record) → Legal history → IsSourced db history → IsRun db history }
 {}

@@ -5,4 +5,3 @@ pub mod CalmListener
 pub mod SharedSink
 pub mod MemListener
 pub mod Modes
-pub mod Requests
