@@ -1,7 +1,6 @@
 -- Requests: how far a connection is read, and which requests are refused on a socket of a role.
-use Rattle.std.specs.Prelude.{◌≡◌, ℕ, ◌+◌, ◌<◌, ◌≤◌, List, ◌++◌, length, take, Option, Some, None}
+use Rattle.std.specs.Prelude.{◌≡◌, ℕ, ◌<◌, ◌≤◌, List, ◌++◌, length, take, Option, Some, None}
 use Rattle.nsc_outside.specs.Stream.{Moves, IsDrained}
-use Rattle.nsc_model.specs.Entry.{key_limit}
 use Rattle.nsc_model.specs.Wire.{Asked, Look, Shutdown, Stat, Invalidate, Descriptor, Netgroup, Short, BadVersion, BadType, BadLength, request_of}
 use Rattle.nsc_sockets.specs.declared.role.Role.{Role}
 use Rattle.nsc_sockets.specs.declared.role.Role.TheVariants as role
@@ -36,13 +35,6 @@ closing_of on (BadLength size) = Some (closing.BadLength size)
 -- no byte was read that was not needed: at each one before the last the request was not whole, and not refused
 abbrev pub IsNeeded : List ℕ → Type 0
 IsNeeded front = (n : ℕ) → n < length front → request_of (take n front) ≡ Short n
-
--- the fields of a request want so many bytes of a key
-pub record Wants (fields : List ℕ) (size : ℕ) : Type 0 where
-  pub limit : size ≤ key_limit
-  pub whole : 0 < size → length fields ≡ 12
-  pub short : (more : List ℕ) → length more < size → request_of (fields ++ more) ≡ Short (length fields + length more)
-  pub enough : (more : List ℕ) (have : ℕ) → length more ≡ size → request_of (fields ++ more) ≡ Short have → length fields < 12
 
 -- a source gave bytes that are not a whole request, and not refused
 abbrev pub GetsShort : Option (List ℕ) → Option (List ℕ) → Type 0

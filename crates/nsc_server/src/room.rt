@@ -2,22 +2,13 @@ ghost use Rattle.std.specs.Prelude.{◌≡◌, ◌+◌, ◌≤◌, [], length, I
 ghost use Rattle.nsc_outside.specs.Stream.{Rose, Moves, MovesFewer};
 ghost use Rattle.nsc_model.specs.Wire.{request_of};
 ghost use Rattle.nsc_wire.specs.Request.{KeyFits, KeyIsIn, asked_by};
-ghost use Rattle.nsc_server.specs.Requests.{GetsMore, GetsShort, IsDrainedIfShort, IsNeeded, Wants};
+ghost use Rattle.nsc_server.specs.Requests.{GetsMore, GetsShort, IsDrainedIfShort, IsNeeded};
 
-use nsc_base::{NoMemory, u32_at};
+use nsc_base::NoMemory;
 use nsc_outside::{Failed, Source, fill};
-use nsc_wire::{Wire, read_request};
+use nsc_wire::{HEAD, LONGEST, Wire, key_wanted, read_request};
 use std::alloc::Global;
 use std::marker::Model;
-
-// The fields of a request before its key, in bytes.
-const FIELDS: usize = 12;
-
-// The place of the length of the key among them.
-const KEY_LENGTH: usize = 8;
-
-// The longest request, in bytes: its fields, and a key of 1,024 bytes.
-const LONGEST: usize = 1036;
 
 /// A worker's buffer for requests, seen in contracts as the bytes that it holds of one.
 #[derive(Debug, Drop)]
@@ -67,8 +58,8 @@ impl Room {
         ensures failed { OnErr result (Rose (R.faults input.old) (R.faults input.new)) }
     {
         self.clear();
-        self.read_on(input, FIELDS)?;
-        let key = self.wanted();
+        self.read_on(input, HEAD)?;
+        let key = key_wanted(self.bytes());
         self.read_on(input, key)?;
         Ok(read_request(self.bytes()))
     }
@@ -94,20 +85,5 @@ impl Room {
         let got = fill(input, &mut bytes[from..from + more])?;
         self.have = from + got;
         Ok(())
-    }
-
-    // How many bytes of a key are wanted after these fields: none where they are refused, or are not whole.
-    fn wanted(&self) -> usize
-        requires { length self.now ≤ 12 }
-        ensures { Wants self.now result }
-    {
-        let fields = self.bytes();
-        if fields.len() < FIELDS {
-            return 0;
-        }
-        match read_request(fields) {
-            Wire::Short { .. } => u32_at(fields, KEY_LENGTH) as usize,
-            _ => 0,
-        }
     }
 }

@@ -1,8 +1,8 @@
 -- What a reading of a request says of the bytes that were read.
-use Rattle.std.specs.Prelude.{◌≡◌, ℕ, ◌≤◌, List, length}
+use Rattle.std.specs.Prelude.{◌≡◌, ℕ, ◌+◌, ◌<◌, ◌≤◌, List, ◌++◌, length}
 use Rattle.nsc_base.specs.declared.span.Span.{Span}
 use Rattle.nsc_base.specs.Text.{part}
-use Rattle.nsc_model.specs.Wire.{Asked, Look, Shutdown, Stat, Invalidate, Descriptor, Netgroup, Short, BadVersion, BadType, BadLength}
+use Rattle.nsc_model.specs.Wire.{Asked, Look, Shutdown, Stat, Invalidate, Descriptor, Netgroup, Short, BadVersion, BadType, BadLength, request_of}
 use Rattle.nsc_model.specs.Entry.{key_limit}
 use Rattle.nsc_wire.specs.declared.request.Wire.{Wire}
 use Rattle.nsc_wire.specs.declared.request.Wire.TheVariants as wire
@@ -51,3 +51,10 @@ KeyFits bytes (wire.Short have) = Unit {0}
 KeyFits bytes (wire.BadVersion version) = Unit {0}
 KeyFits bytes (wire.BadType type) = Unit {0}
 KeyFits bytes (wire.BadLength length) = Unit {0}
+
+-- the head of a request, or a front of it, wants so many bytes of a key
+pub record Wants (fields : List ℕ) (size : ℕ) : Type 0 where
+  pub limit : size ≤ key_limit
+  pub whole : 0 < size → length fields ≡ 12
+  pub short : (more : List ℕ) → length more < size → request_of (fields ++ more) ≡ Short (length fields + length more)
+  pub enough : (more : List ℕ) (have : ℕ) → length more ≡ size → request_of (fields ++ more) ≡ Short have → length fields < 12

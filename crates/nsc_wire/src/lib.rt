@@ -5,6 +5,7 @@
 
 mod addresses;
 mod groups;
+mod head;
 mod hosts;
 mod reply;
 mod request;
@@ -12,6 +13,7 @@ mod services;
 mod texts;
 mod users;
 
+pub use head::{HEAD, LONGEST, is_settled, key_wanted};
 pub use nsc_model::Reply;
 pub use reply::encode;
 pub use request::{Wire, read_request};

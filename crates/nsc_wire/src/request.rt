@@ -5,9 +5,10 @@ ghost use Rattle.nsc_model.specs.Kinds.{kind_numbered};
 ghost use Rattle.nsc_model.specs.Wire.{asked_look, asked_otherwise, request_of, stored_key, text_key};
 ghost use Rattle.nsc_wire.specs.Request.{IsKeyIn, KeyFits, KeyIsIn, asked_by};
 
+use crate::head::HEAD;
 use crate::reply::VERSION;
 use nsc_base::{Span, i32_at, u32_at};
-use nsc_model::Kind;
+use nsc_model::{KEY_LIMIT, Kind};
 
 /// What the input of a connection asks. Spans are places in the input, in bytes.
 #[derive(Clone, Copy, Debug, PartialEq, Eq)]
@@ -45,12 +46,7 @@ pub enum Wire {
     BadLength(i32),
 }
 
-// The fields of a request before its key: version, type and key length, of four bytes each.
-const HEADER: usize = 12;
-
 const LAST_TYPE: u32 = 21;
-
-const KEY_LIMIT: u32 = 1024;
 
 /// Reads a request: its version, its type and the length of its key, and then the key. What stands after the key is
 /// not looked at. Of several faults the first is told, in the order of the fields: fewer than 12 bytes, the version,
@@ -60,7 +56,7 @@ pub fn read_request(bytes: &[u8]) -> Wire
     ensures key { KeyIsIn bytes.now result }
     ensures limit { KeyFits bytes.now result }
 {
-    if bytes.len() < HEADER {
+    if bytes.len() < HEAD {
         return Wire::Short { have: bytes.len() };
     }
     if u32_at(bytes, 0) != VERSION {
@@ -70,15 +66,15 @@ pub fn read_request(bytes: &[u8]) -> Wire
     if number > LAST_TYPE {
         return Wire::BadType(i32_at(bytes, 4));
     }
-    let length = u32_at(bytes, 8);
+    let length = u32_at(bytes, 8) as usize;
     if length > KEY_LIMIT {
         return Wire::BadLength(i32_at(bytes, 8));
     }
-    let end = HEADER + length as usize;
+    let end = HEAD + length;
     if bytes.len() < end {
         return Wire::Short { have: bytes.len() };
     }
-    asked(bytes, number, Span::new(HEADER, end))
+    asked(bytes, number, Span::new(HEAD, end))
 }
 
 // What a request of this type and this key asks.
