@@ -4,11 +4,11 @@ ghost use Rattle.std.specs.Bool.{OnTrue};
 ghost use Rattle.nsc_model.specs.Files.{part_of};
 ghost use Rattle.nsc_model.specs.History.{IsPrefix, Legal, NoneLive, invalidations};
 ghost use Rattle.nsc_writer.specs.Writer.{IsAnswered};
-ghost use Rattle.nsc_sourcebook.specs.Reads.{AllRose, AreAsTold, FaultRose, IsPartOf, TellsLength};
+ghost use Rattle.nsc_sourcebook.specs.Reads.{AllRose, AreAsTold, FaultRose, IsPartOf, NoneFell, TellsLength};
 ghost use Rattle.nsc_model.specs.Machine.{is_outdated, room_of};
 ghost use Rattle.nsc_model.specs.Reloads.{Reloaded};
 ghost use Rattle.nsc_model.specs.Settings.{settings_of};
-ghost use Rattle.nsc_model.specs.Stores.{IsCounted, IsEmptied, IsSpent, IsUnmoved, LoadsAgain};
+ghost use Rattle.nsc_model.specs.Stores.{IsCounted, IsEmptied, IsEndedYet, IsSpent, IsUnmoved, LoadsAgain};
 ghost use Rattle.nsc_writer.specs.Uses.{counted};
 ghost use Rattle.nsc_database.specs.declared.renewal.Checked.TheVariants as is_checked;
 ghost use Rattle.nsc_database.specs.Holds.{IsInserted, IsLooked, IsPolled};
@@ -156,7 +156,7 @@ impl<D: OfDb, B: Room> Desk<D, B> {
         ensures before { IsPrefix pass.old.pass.seen pass.new.pass.seen }
         ensures legal { Legal pass.new.pass.seen }
         ensures done { IfOk result (λ epoch. IsEmptied pass.old.pass.seen pass.new.pass.seen epoch) }
-        ensures spent { IfErr result (λ spent. IsUnmoved pass.new.pass.seen spent.count) }
+        ensures spent { IfErr result (λ spent. IsUnmoved pass.new.pass.seen spent.count × IsEndedYet pass.new.pass.seen (NoneLive pass.new.pass.seen)) }
     {
         holds::invalidate(&mut self.writer, &mut pass.pass)
     }
@@ -207,7 +207,7 @@ impl<D: OfDb, B: Room> Desk<D, B> {
         ensures checked { IfOk result (λ checked. IsChecked checked settings.now limit now pass.new.pass.seen) }
         ensures reloaded { OnOk result (Reloaded limit pass.new.pass.seen) }
         ensures again { OnOk result (LoadsAgain (room_of (settings_of B.conf D.db)) pass.new.pass.seen) }
-        ensures fault { IfErr result (λ fault. IsHoldFault fault pass.new.pass.seen) }
+        ensures fault { IfErr result (λ fault. IsHoldFault fault pass.new.pass.seen (NoneLive pass.new.pass.seen)) }
     {
         let newest = self.writer.version();
         if is_outdated(settings, newest, self.ticked) {
@@ -236,7 +236,7 @@ impl<D: OfDb, B: Room> Desk<D, B> {
         ensures checked { IfOk result (λ checked. IsChecked checked (settings_of B.conf D.db) limit now pass.new.pass.seen) }
         ensures reloaded { Reloaded limit pass.new.pass.seen }
         ensures again { LoadsAgain (room_of (settings_of B.conf D.db)) pass.new.pass.seen }
-        ensures fault { IfErr result (λ fault. IsHoldFault fault pass.new.pass.seen) }
+        ensures fault { IfErr result (λ fault. IsHoldFault fault pass.new.pass.seen (NoneLive pass.new.pass.seen)) }
     {
         let listed = renewal::list(&mut self.writer, &mut pass.pass, alloc, limit, now);
         self.ticked = newest;
@@ -262,7 +262,7 @@ impl<D: OfDb, B: Room> Desk<D, B> {
         ensures none { OnOk result (NoneLive pass.new.pass.seen) }
         ensures reloaded { OnOk result (Reloaded B.conf.reloads pass.new.pass.seen) }
         ensures again { OnOk result (LoadsAgain (room_of (settings_of B.conf D.db)) pass.new.pass.seen) }
-        ensures fault { IfErr result (λ fault. IsHoldFault fault pass.new.pass.seen) }
+        ensures fault { IfErr result (λ fault. IsHoldFault fault pass.new.pass.seen (NoneLive pass.new.pass.seen)) }
     {
         match holds::invalidate(&mut self.writer, &mut pass.pass) {
             Ok(_) => {
@@ -294,7 +294,7 @@ impl<D: OfDb, B: Room> Desk<D, B> {
         ensures files { pass.new.files ≡ pass.old.files }
         ensures before { IsPrefix pass.old.pass.seen pass.new.pass.seen }
         ensures legal { Legal pass.new.pass.seen }
-        ensures over { OnOk result (AreOver epoch pass.new.pass.seen due.old) }
+        ensures over { AreOver epoch pass.new.pass.seen due.old }
         ensures reloaded { Reloaded B.conf.reloads pass.new.pass.seen }
         ensures again { LoadsAgain (room_of (settings_of B.conf D.db)) pass.new.pass.seen }
         ensures spent { IfErr result (λ spent. IsUnmoved pass.new.pass.seen spent.count) }
@@ -335,6 +335,8 @@ impl<D: OfDb, F: FileSet + Drop, A: Answerer, B: Room> Shelved<D, F, A, B> {
         ensures read { OnOk result (AllRose D.db (F.reads pass.old.files) (F.reads pass.new.files)) }
         ensures calm { OnOk result (F.faults pass.new.files ≡ F.faults pass.old.files) }
         ensures faults { IfErr result (λ fault. FaultRose fault (F.faults pass.old.files) (F.faults pass.new.files) (F.file_faults pass.old.files) (F.file_faults pass.new.files)) }
+        ensures file_calm { OnOk result (F.file_faults pass.new.files ≡ F.file_faults pass.old.files) }
+        ensures kept { NoneFell (F.file_faults pass.old.files) (F.file_faults pass.new.files) }
         ensures length { IfErr result (λ fault. TellsLength fault (F.held pass.old.files)) }
     {
         self.book.fetch(alloc, &mut pass.files, answers)

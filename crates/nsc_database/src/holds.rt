@@ -2,10 +2,10 @@
 ghost use Rattle.std.specs.Prelude.{◌≡◌, ◌≤◌, None, IfOk, IfErr, OnOk};
 ghost use Rattle.std.specs.Bool.{OnTrue};
 ghost use Rattle.nsc_model.specs.Entry.{kept_limit};
-ghost use Rattle.nsc_model.specs.History.{IsPrefix, Legal, invalidations};
+ghost use Rattle.nsc_model.specs.History.{IsPrefix, Legal, NoneLive, invalidations};
 ghost use Rattle.nsc_writer.specs.Writer.{IsAnswered};
 ghost use Rattle.nsc_model.specs.Machine.{last_count};
-ghost use Rattle.nsc_model.specs.Stores.{IsCounted, IsEmptied, IsSpent, IsUnmoved};
+ghost use Rattle.nsc_model.specs.Stores.{IsCounted, IsEmptied, IsEndedYet, IsSpent, IsUnmoved};
 ghost use Rattle.nsc_database.specs.Holds.{IsInserted, IsLooked, IsPolled};
 ghost use Rattle.nsc_model.specs.Content.{Content};
 ghost use Rattle.nsc_model.specs.Files.{part_of};
@@ -138,7 +138,7 @@ pub fn invalidate(writer: &mut Writer, pass: &mut Pass) -> Result<u64, Spent>
     ensures rests { Rests writer.old writer.new }
     ensures version { KeepsVersion writer.old.cache writer.new.cache }
     ensures steady { (files : Content) (which : Db) → IsStill files which writer.old.cache → HasOne files which pass.new.seen }
-    ensures spent { IfErr result (λ spent. IsUnmoved pass.new.seen spent.count) }
+    ensures spent { IfErr result (λ spent. IsUnmoved pass.new.seen spent.count × IsEndedYet pass.new.seen (NoneLive pass.new.seen)) }
 {
     let is_empty = writer.is_empty();
     match end_all(writer, pass) {

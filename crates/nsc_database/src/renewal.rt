@@ -95,7 +95,7 @@ pub fn renew(
     ensures keeps { (settings : DbConf) (limit : Option ℕ) (ticked : ℕ) → All (IsDue limit now pass.old.seen) due.old → Keeps settings limit ticked writer.old → Keeps settings limit ticked writer.new }
     ensures packed { IsPacked writer.new }
     ensures again { LoadsAgain writer.new.layout.arena writer.new.seen }
-    ensures over { OnOk result (AreOver epoch pass.new.seen due.old) }
+    ensures over { AreOver epoch pass.new.seen due.old }
     ensures version { KeepsVersion writer.old.cache writer.new.cache }
     ensures steady { (files : Content) (which : Db) → IsStill files which writer.old.cache → HasOne files which pass.new.seen }
     ensures spent { IfErr result (λ spent. IsUnmoved pass.new.seen spent.count) }

@@ -1,4 +1,4 @@
-use Rattle.std.proofs.Common.{length, arith, sym, ap, ◌∙◌}
+use Rattle.std.proofs.Common.{length, arith, sym, ap, inr, ◌∙◌}
 use Rattle.std.proofs.lemmas.Bool.{eqb-false, eqb-true}
 use Rattle.nsc_database.proofs.Invalidations.{finds_compacted, rests_compacted, rests_left, rests_spent, unmoved}
 use Rattle.nsc_writer.specs.Writer.{Writer}
@@ -23,7 +23,7 @@ returns-in-Err-compact-clause-rests c = rests_spent c.args.writer.now c.end_all.
 
 pub returns-in-Err-compact-clause-spent : goal.returns-in-Err-compact-clause-spent
 returns-in-Err-compact-clause-spent c =
-    unmoved c.args.writer.now c.end_all.new.writer c.end_all.new.pass.seen c.in-Err-compact.spent.count c.in-Ok.ensures.emptied c.requires.packed c.in-Err-compact.ensures.spent.0 c.in-Err-compact.ensures.spent.1
+    (unmoved c.args.writer.now c.end_all.new.writer c.end_all.new.pass.seen c.in-Err-compact.spent.count c.in-Ok.ensures.emptied c.requires.packed c.in-Err-compact.ensures.spent.0 c.in-Err-compact.ensures.spent.1, inr c.in-Ok.ensures.done.none)
 
 pub returns-in-Err-clause-rests : goal.returns-in-Err-clause-rests
 returns-in-Err-clause-rests c = rests_same c.args.writer.now c.end_all.new.writer c.in-Err.ensures.stays

@@ -106,6 +106,13 @@ returns-in-Ok-clause-over c =
     let s = begun_leaves w c.end_due.new.writer b c.learn.ensures.told c.in-Ok.ensures.swept in
     inr (λ n has. subst (λ (h : List Record). HasEnd h n) (sym (ap (λ (p : Pass). p.seen) c.show-in-Ok.ensures.pass)) (end_on c.end_due.new.writer.seen c.reload.new.writer.seen n c.reload.ensures.rests.on (s.gone n has)))
 
+pub returns-in-Err-clause-over : goal.returns-in-Err-clause-over
+returns-in-Err-clause-over c =
+    let w = c.show.new.self in
+    let b = begun c.requires.due.0 c.requires.due.1 c.args.now c.requires.due.2 c.args.due.now c.args.pass.now.seen c.args.writer.now w c.show.ensures.same c.show.ensures.before c.requires.due.3 c.requires.due.4 c.requires.packed in
+    let s = begun_spent w c.end_due.new.writer b c.learn.ensures.told c.in-Err.ensures.spent.2 c.in-Err.ensures.spent.1 in
+    inr (λ n has. subst (λ (h : List Record). HasEnd h n) (sym (ap (λ (p : Pass). p.seen) c.show-in-Err.ensures.pass)) (s.gone n has))
+
 pub returns-in-Err-clause-writer : goal.returns-in-Err-clause-writer
 returns-in-Err-clause-writer c =
     let w = c.show.new.self in
