@@ -11,7 +11,7 @@ use Rattle.nsc_arena.specs.ReadBack.{nodes_in}
 use Rattle.nsc_model.specs.declared.kind.Kind.{Kind}
 use Rattle.nsc_model.specs.Kinds.{is_request, type_number}
 use Rattle.nsc_model.specs.Answer.{Answer}
-use Rattle.nsc_model.specs.Machine.{Kept, last_count}
+use Rattle.nsc_model.specs.Machine.{Kept, last_count, next_count}
 use Rattle.nsc_rule.specs.Entries.{entries_in, kind_of, request_in}
 use Rattle.nsc_shelf.specs.declared.entry.EntryAt.{EntryAt}
 use Rattle.nsc_shelf.specs.declared.entry.Hit.{Hit}
@@ -35,9 +35,6 @@ abbrev pub no_head : HeadWords
 no_head = record { epoch = 0; source = 0; hits = 0; negative_hits = 0; misses = 0; negative_misses = 0 }
 
 -- one lookup more of a kept reply, or of one that was made; a count stays at its end
-abbrev pub next_count : ℕ → ℕ
-next_count count = min (count + 1) last_count
-
 abbrev pub hit_counted : Bool → HeadWords → HeadWords
 hit_counted not_found head = if not_found then record head { negative_hits = next_count head.negative_hits } else record head { hits = next_count head.hits }
 

@@ -2,8 +2,9 @@
 ghost use Rattle.std.specs.Prelude.{◌≡◌, None};
 ghost use Rattle.nsc_shelf.specs.Shelf.{hit_counted, miss_counted};
 
-use crate::shelf::{Shelf, next_count};
+use crate::shelf::Shelf;
 use nsc_arena::Words;
+use nsc_model::next_count;
 use nsc_words::{EPOCH, HITS, MISSES, NEGATIVE_HITS, NEGATIVE_MISSES, SOURCE};
 
 impl Shelf {

@@ -14,8 +14,7 @@ use nsc_arena::{
     Fixed, VecWords, Words, chain, clear, end_node, end_nodes, head_at, place_bytes, walk,
 };
 use nsc_base::{Buf, NoMemory};
-use nsc_model::{Answer, Kind};
-use nsc_plain::LAST_COUNT;
+use nsc_model::{Answer, Kind, next_count};
 use nsc_words::{ADD_FAILED, CYCLE, FIRST_FREE, LOADS, Layout, hash};
 use std::alloc::Global;
 use std::marker::Model;
@@ -273,17 +272,6 @@ impl Shelf {
     {
         end_nodes(&mut self.words, self.map);
         self.live = 0;
-    }
-}
-
-// The next count, that stays at its end.
-pub(crate) fn next_count(count: u64) -> u64
-    ensures { result ≡ min (count + 1) last_count }
-{
-    if count < LAST_COUNT {
-        count + 1
-    } else {
-        LAST_COUNT
     }
 }
 

@@ -7,8 +7,7 @@ use crate::finding::Mark;
 use crate::hints::forget;
 use crate::shelf::Shelf;
 use nsc_arena::Words;
-use nsc_model::Spent;
-use nsc_plain::LAST_COUNT;
+use nsc_model::{LAST_COUNT, Spent};
 use nsc_words::CYCLE;
 use std::snapshot::Snapshot;
 

@@ -6,8 +6,7 @@ ghost use Rattle.nsc_model.specs.declared.kind.Kind.TheVariants as kind_is;
 
 use crate::loads::name_of;
 use nsc_base::{Buf, Bytes, NoMemory};
-use nsc_model::{Answer, Kind};
-use nsc_plain::LAST_COUNT;
+use nsc_model::{Answer, KEPT_LIMIT, Kind, LAST_COUNT};
 use nsc_shelf::Shelf;
 use nsc_words::{Layout, node_words};
 use std::alloc::Global;
@@ -16,9 +15,6 @@ use std::alloc::Global;
 const BUCKETS: usize = 65_536;
 
 const ARENA: usize = 8_388_608;
-
-// The longest reply that is kept.
-const KEPT_LIMIT: usize = 65_536;
 
 // The reply of every entry.
 const REPLY: [u8; 64] = [b'r'; 64];

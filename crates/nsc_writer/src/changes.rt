@@ -14,15 +14,11 @@ ghost use Rattle.nsc_writer.specs.Writer.{Inserts, IsAnswered, IsFree, IsNewest,
 
 use crate::loaded::{Inserted, Loaded, Stamp};
 use crate::writer::{Cause, Writer};
-use nsc_model::{Content, Ending, Spent};
-use nsc_plain::LAST_COUNT;
+use nsc_model::{Content, Ending, KEPT_LIMIT, LAST_COUNT, Spent};
 use nsc_rule::{Map, Pen};
 use nsc_shelf::Shelf;
 use nsc_words::node_words;
 use std::sync::Arc;
-
-// The longest reply that is kept.
-const KEPT_LIMIT: usize = 65_536;
 
 impl Writer {
     /// Enters that the files were looked at: this content becomes the next version, or confirms the newest one where they are the

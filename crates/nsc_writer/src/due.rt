@@ -9,14 +9,10 @@ ghost use Rattle.nsc_writer.specs.Due.{IsOver, due_cause_of, due_from, marked_by
 
 use crate::writer::{Cause, Writer};
 use nsc_base::{Buf, Bytes, NoMemory};
-use nsc_model::{Kind, Request};
-use nsc_plain::LAST_COUNT;
+use nsc_model::{KEY_LIMIT, Kind, Request, has_reached, next_count};
 use nsc_shelf::{EntryAt, Shelf};
 use std::alloc::Global;
 use std::marker::Model;
-
-// The longest key, in bytes.
-const KEY_LIMIT: usize = 1_024;
 
 /// What is known of an entry whose time was over: its number and request, how often it was reloaded without a use, whether it is
 /// dropped, and not reloaded, and whether it was ended since.
@@ -68,11 +64,7 @@ impl Due {
     pub fn next_reloads(&self) -> u64
         ensures { result ≡ next_reloads self.now.reloads }
     {
-        if self.reloads < LAST_COUNT {
-            self.reloads + 1
-        } else {
-            LAST_COUNT
-        }
+        next_count(self.reloads)
     }
 
     /// Whether it is dropped, and not reloaded: its reply is a not-found one, or it was reloaded often enough.
@@ -221,14 +213,4 @@ fn due_from(alloc: Global, entry: EntryAt, key: &[u8], limit: Option<u32>) -> Re
         dropped: entry.not_found || has_reached(limit, entry.reloads),
         ended: false,
     })
-}
-
-// Whether an entry was reloaded so often without a use.
-fn has_reached(limit: Option<u32>, reloads: u64) -> bool
-    ensures { result ≡ reached limit reloads }
-{
-    match limit {
-        Some(limit) => u64::from(limit) <= reloads,
-        None => false,
-    }
 }
