@@ -210,7 +210,7 @@ impl<D: OfDb, B: Room> Desk<D, B> {
         ensures fault { IfErr result (λ fault. IsHoldFault fault pass.new.pass.seen (NoneLive pass.new.pass.seen)) }
     {
         let newest = self.writer.version();
-        if is_outdated(settings, newest, self.ticked) {
+        if settings.is_outdated(newest, self.ticked) {
             return self.empty(pass, newest);
         }
         self.list(pass, alloc, limit, now, newest)
@@ -301,13 +301,6 @@ impl<D: OfDb, B: Room> Desk<D, B> {
     {
         renewal::renew(&mut self.writer, &mut pass.pass, epoch, due, loads, now)
     }
-}
-
-// Whether the newest version is not the one that the last tick found, and that counts.
-fn is_outdated(settings: &DbConf, newest: u64, ticked: u64) -> bool
-    ensures { result ≡ is_outdated settings.now newest ticked }
-{
-    settings.check_files && newest != ticked
 }
 
 impl<D: OfDb, F: FileSet + Drop, A: Answerer, B: Room> Shelved<D, F, A, B> {
