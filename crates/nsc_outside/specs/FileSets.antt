@@ -13,10 +13,6 @@ use Rattle.nsc_outside.specs.declared.files.ReadCause.TheVariants as causes
 abbrev pub told_of : Option Content → FileId → Option (Option (List ℕ))
 told_of held file = option_map (λ files. file_of files file) held
 
--- a file, absent or its bytes, is the one that is told, where one is told
-abbrev pub IsAsTold : Option (Option (List ℕ)) → Option (List ℕ) → Type 0
-IsAsTold told f = IfSome told (λ g. f ≡ g)
-
 -- a length is more than a file may have, and is that of the file that is told, where one is told
 pub record IsPastLimit (told : Option (Option (List ℕ))) (size : ℕ) : Type 0 where
   pub past : file_limit < size

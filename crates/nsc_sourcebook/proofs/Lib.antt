@@ -1,3 +1,3 @@
 pub mod Newest
-pub mod Still
+pub mod Each
 pub mod Crossing

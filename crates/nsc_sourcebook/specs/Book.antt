@@ -1,24 +1,32 @@
 -- What a source book is, and what its calls give.
-use Rattle.std.specs.Prelude.{◌≡◌, ℕ, Bool, Option, Result, Ok, Err}
+use Rattle.std.specs.Prelude.{◌≡◌, ℕ, List, Option, Result, Ok, Err, Some, IfSome}
 use Rattle.atomic_table.specs.Seated.{TableId}
 use Rattle.nsc_model.specs.declared.kind.Db.{Db}
+use Rattle.nsc_model.specs.declared.record.Record.{Record}
 use Rattle.nsc_model.specs.declared.store.Spent.{Spent}
 use Rattle.nsc_model.specs.Content.{Content}
+use Rattle.nsc_model.specs.History.{version_in}
 use Rattle.nsc_model.specs.Machine.{polled}
 use Rattle.nsc_writer.specs.declared.loaded.Stamp.{Stamp}
 use Rattle.nsc_writer.specs.Writer.{Writer, Polls}
 
--- the database, the words of its writer, the newest content, and the files that its file set holds, where that tells them
+-- the database, the words of its writer, what was seen of its history, the newest content then, and the files that its file set
+-- holds, where that tells them
 pub record SourceBook : Type 0 where
   pub db : Db
   pub table : TableId
+  pub seen : List Record
   pub newest : Content
   pub held : Option Content
 
--- a content that was read, and whether it is known to be the newest one
+-- a content that was read, and the number of the version that it was found equal to
 pub record Fetched : Type 0 where
   pub content : Content
-  pub is_newest : Bool
+  pub version : Option ℕ
+
+-- the content is the version of this history that it was found equal to
+abbrev pub IsNamed : List Record → Fetched → Type 0
+IsNamed history fetched = IfSome fetched.version (λ n. version_in history n ≡ Some fetched.content)
 
 -- a content that was polled, with its stamp
 pub record Polled : Type 0 where
@@ -27,5 +35,5 @@ pub record Polled : Type 0 where
 
 -- a poll of what was fetched: the writer polls it, and it is the newest content of the book; or nothing changed
 abbrev pub PollsBook : Fetched → ℕ → SourceBook → SourceBook → Writer → Writer → Result Polled Spent → Type 0
-PollsBook fetched epoch before after w w' (Ok p) = Polls (polled fetched.content w.cache) epoch w w' (Ok p.stamp) × (p.content ≡ fetched.content) × (after ≡ record before { newest = fetched.content })
+PollsBook fetched epoch before after w w' (Ok p) = Polls (polled fetched.content w.cache) epoch w w' (Ok p.stamp) × (p.content ≡ fetched.content) × (after ≡ record before { seen = w'.seen; newest = fetched.content })
 PollsBook fetched epoch before after w w' (Err spent) = Polls (polled fetched.content w.cache) epoch w w' (Err spent) × (after ≡ before)

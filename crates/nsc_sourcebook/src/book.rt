@@ -1,14 +1,16 @@
-ghost use Rattle.std.specs.Prelude.{◌≡◌, ◌≤◌, ◌∷◌, [], None, true, false, IfOk, IfErr, MatchResult, OnOk};
-ghost use Rattle.std.specs.Bool.{OnTrue};
+ghost use Rattle.std.specs.Prelude.{◌≡◌, ◌≤◌, ◌∷◌, [], None, Some, IfOk, IfErr, IfSome, MatchResult, OnOk, OnErr};
+ghost use Rattle.std.specs.Bool.{OnTrue, OnFalse};
 ghost use Rattle.std.specs.Arc.{arc_value};
 ghost use Rattle.nsc_model.specs.declared.record.Record.TheVariants as record_of;
 ghost use Rattle.nsc_model.specs.Files.{part_of};
-ghost use Rattle.nsc_model.specs.History.{PolledSince};
+ghost use Rattle.nsc_model.specs.Content.{Content};
+ghost use Rattle.nsc_model.specs.History.{PolledSince, version_in};
 ghost use Rattle.nsc_model.specs.Machine.{new_cache, polled};
+ghost use Rattle.nsc_model.specs.Reads.{AllRose, AreAsTold, NoneFell};
 ghost use Rattle.nsc_words.specs.Layout.{IsLayout};
 ghost use Rattle.nsc_writer.specs.Writer.{IsNewest, Polls};
-ghost use Rattle.nsc_sourcebook.specs.Reads.{AllRose, AreAsTold, FaultRose, IsPartOf, NoneFell, TellsLength};
-ghost use Rattle.nsc_sourcebook.specs.Book.{PollsBook};
+ghost use Rattle.nsc_sourcebook.specs.Reads.{FaultRose, IsPartOf, TellsLength};
+ghost use Rattle.nsc_sourcebook.specs.Book.{IsNamed, PollsBook};
 ghost use Rattle.nsc_sourcebook.specs.declared.fault.PollFault.TheVariants.{NoMemory as Memory};
 
 use crate::comparing::are_still;
@@ -30,7 +32,8 @@ pub struct Fetched<A: Answerer> {
     ready: Arc<A::Ready>,
     kept: Arc<A::Ready>,
     content: Arc<Content>,
-    is_newest: bool,
+    // The number of the version that it was found equal to.
+    version: Option<u64>,
 }
 
 impl<A: Answerer> Model for Fetched<A> {
@@ -40,7 +43,7 @@ impl<A: Answerer> Model for Fetched<A> {
 
     ghost Value = { Fetched };
 
-    ghost view = { λ f. record { content = arc_value f.content; is_newest = f.is_newest } };
+    ghost view = { λ f. record { content = arc_value f.content; version = f.version } };
 
     ghost invariant = { λ f. (A.prepared_from (arc_value f.ready) ≡ arc_value f.content) × (A.prepared_from (arc_value f.kept) ≡ arc_value f.content) };
 }
@@ -77,7 +80,8 @@ impl<A: Answerer> Polled<A> {
     }
 }
 
-/// The versions of a database's files: the newest content, made ready for answers, with its number.
+/// The versions of a database's files: the newest content, made ready for answers, with its number. It has no other files than
+/// those that the database reads.
 #[derive(Drop)]
 pub struct SourceBook<F: FileSet + Drop, A: Answerer> {
     files: F,
@@ -90,14 +94,15 @@ pub struct SourceBook<F: FileSet + Drop, A: Answerer> {
 impl<F: FileSet + Drop, A: Answerer> Model for SourceBook<F, A> {
     ghost use Rattle.std.specs.Prelude.{◌≡◌, Some};
     ghost use Rattle.std.specs.Arc.{arc_value};
+    ghost use Rattle.nsc_model.specs.Files.{part_of};
     ghost use Rattle.nsc_model.specs.History.{version_in};
     ghost use Rattle.nsc_sourcebook.specs.Book.{SourceBook};
 
     ghost Value = { SourceBook };
 
-    ghost view = { λ b. record { db = b.db; table = b.pass.table; newest = A.prepared_from (arc_value b.ready); held = F.held b.files } };
+    ghost view = { λ b. record { db = b.db; table = b.pass.table; seen = b.pass.seen; newest = A.prepared_from (arc_value b.ready); held = F.held b.files } };
 
-    ghost invariant = { λ b. version_in b.pass.seen b.version ≡ Some (A.prepared_from (arc_value b.ready)) };
+    ghost invariant = { λ b. (version_in b.pass.seen b.version ≡ Some (A.prepared_from (arc_value b.ready))) × (A.prepared_from (arc_value b.ready) ≡ part_of b.db (A.prepared_from (arc_value b.ready))) };
 }
 
 impl<F: FileSet + Drop, A: Answerer> SourceBook<F, A> {
@@ -153,11 +158,11 @@ impl<F: FileSet + Drop, A: Answerer> SourceBook<F, A> {
     }
 
     /// Reads the files of the database through this set, in rising number, and makes them ready for answers. Where they are the
-    /// newest content, that is handed on prepared for many answers, and is known to be the newest one. What the set can compare while
-    /// it reads is not kept then.
-    #[tactic(auto, using(crate::proofs::Still::all_rose_after))]
+    /// newest content, that is handed on prepared for many answers, with the number of its version. What the set can compare while it
+    /// reads is not kept then.
+    #[tactic(auto, using(crate::proofs::Each::all_rose_after))]
     pub fn fetch(&self, alloc: Global, files: &mut F, answers: &A) -> Result<Fetched<A>, PollFault>
-        ensures newest { IfOk result (λ f. OnTrue f.is_newest (f.content ≡ self.now.newest)) }
+        ensures named { IfOk result (λ f. IsNamed self.now.seen f) }
         ensures told { IfOk result (λ f. AreAsTold self.now.db (F.latest files.new) f.content) }
         ensures part { IfOk result (λ f. IsPartOf self.now.db (F.held files.old) f.content) }
         ensures only { IfOk result (λ f. f.content ≡ part_of self.now.db f.content) }
@@ -182,7 +187,7 @@ impl<F: FileSet + Drop, A: Answerer> SourceBook<F, A> {
         files: &mut F,
         answers: &A,
     ) -> Result<Fetched<A>, PollFault>
-        ensures newest { IfOk result (λ f. OnTrue f.is_newest (f.content ≡ self.now.newest)) }
+        ensures named { IfOk result (λ f. IsNamed self.now.seen f) }
         ensures told { IfOk result (λ f. AreAsTold self.now.db (F.latest files.new) f.content) }
         ensures part { IfOk result (λ f. IsPartOf self.now.db (F.held files.old) f.content) }
         ensures only { IfOk result (λ f. f.content ≡ part_of self.now.db f.content) }
@@ -205,7 +210,6 @@ impl<F: FileSet + Drop, A: Answerer> SourceBook<F, A> {
     fn is_still_newest(&self, alloc: Global, files: &mut F, answers: &A) -> bool
         ensures told { OnTrue result (AreAsTold self.now.db (F.latest files.new) self.now.newest) }
         ensures part { OnTrue result (IsPartOf self.now.db (F.held files.old) self.now.newest) }
-        ensures only { OnTrue result (self.now.newest ≡ part_of self.now.db self.now.newest) }
         ensures read { OnTrue result (AllRose self.now.db (F.reads files.old) (F.reads files.new)) }
         ensures kept { NoneFell (F.reads files.old) (F.reads files.new) }
         ensures calm { F.faults files.new ≡ F.faults files.old }
@@ -225,7 +229,9 @@ impl<F: FileSet + Drop, A: Answerer> SourceBook<F, A> {
     // The newest content once more, as it was made ready: prepared further, where that serves its later answers better, and memory
     // suffices for it.
     fn again(&self, alloc: Global, answers: &A) -> Result<Fetched<A>, NoMemory>
-        ensures { IfOk result (λ f. f ≡ record { content = self.now.newest; is_newest = true }) }
+        ensures content { IfOk result (λ f. f.content ≡ self.now.newest) }
+        ensures named { IfOk result (λ f. IsNamed self.now.seen f) }
+        ensures only { IfOk result (λ f. f.content ≡ part_of self.now.db f.content) }
     {
         let ready = match answers.prepare_further(alloc, &self.ready) {
             Some(further) => Arc::new(alloc, further)?,
@@ -235,12 +241,12 @@ impl<F: FileSet + Drop, A: Answerer> SourceBook<F, A> {
             kept: ready.clone()?,
             ready,
             content: answers.content(&self.ready).clone()?,
-            is_newest: true,
+            version: Some(self.version),
         })
     }
 
-    /// Enters in the writer that the files were looked at: what was fetched becomes the newest version, or confirms it. The
-    /// epoch is the number of invalidations before they were read. At `Spent` book and writer are as before: a new version is
+    /// Enters in the writer that the files were looked at: what was fetched becomes the newest version, or confirms it. It is not
+    /// compared with the newest one where it was found equal to a version and the writer still has that one. The epoch is the number of invalidations before they were read. At `Spent` book and writer are as before: a new version is
     /// needed, and the count of versions stands at its end.
     pub fn poll(
         &mut self,
@@ -249,7 +255,8 @@ impl<F: FileSet + Drop, A: Answerer> SourceBook<F, A> {
         epoch: u64,
     ) -> Result<Polled<A>, Spent>
         requires table { writer.old.table ≡ self.old.table }
-        requires newest { OnTrue fetched.is_newest (fetched.content ≡ self.old.newest) }
+        requires named { IsNamed self.old.seen fetched }
+        requires only { fetched.content ≡ part_of self.old.db fetched.content }
         requires epoch { epoch ≤ writer.old.cache.epoch }
         requires still { writer.old.slide ≡ None }
         ensures polls { PollsBook fetched epoch self.old self.new writer.old writer.new result }
@@ -260,9 +267,9 @@ impl<F: FileSet + Drop, A: Answerer> SourceBook<F, A> {
             ready,
             kept,
             content,
-            is_newest,
+            version,
         } = fetched;
-        let stamp = self.enter(writer, content, is_newest, epoch)?;
+        let stamp = self.enter(writer, content, version, epoch)?;
         writer.learn();
         writer.show(&mut self.pass);
         self.version = stamp.version;
@@ -270,44 +277,49 @@ impl<F: FileSet + Drop, A: Answerer> SourceBook<F, A> {
         Ok(Polled { ready, stamp })
     }
 
-    // Enters in the writer that the files were looked at, with this content. Nothing is compared where it is known to be the
-    // newest one.
+    // Enters in the writer that the files were looked at, with this content. Nothing is compared where it was found equal to a
+    // version, and that is the newest one.
     fn enter(
         &mut self,
         writer: &mut Writer,
         content: Arc<Content>,
-        is_newest: bool,
+        version: Option<u64>,
         epoch: u64,
     ) -> Result<Stamp, Spent>
         requires table { writer.old.table ≡ self.old.table }
-        requires newest { OnTrue is_newest (arc_value content ≡ self.old.newest) }
+        requires named { IfSome version (λ n. version_in self.old.seen n ≡ Some (arc_value content)) }
         requires epoch { epoch ≤ writer.old.cache.epoch }
         requires still { writer.old.slide ≡ None }
         ensures polls { Polls (polled (arc_value content) writer.old.cache) epoch writer.old writer.new result }
         ensures newest { IfOk result (λ stamp. IsNewest (arc_value content) stamp.version writer.new.cache) }
         ensures polled { IfOk result (λ stamp. PolledSince writer.new.seen stamp.version stamp.epoch) }
-        ensures book { self.new ≡ self.old }
+        ensures book { self.new ≡ record self.old { seen = self.new.seen } }
+        ensures spent { OnErr result (self.new ≡ self.old) }
     {
-        if is_newest {
-            if self.is_newest_of(writer) {
+        if let Some(version) = version {
+            if self.is_newest_of(writer, version) {
                 return Ok(writer.confirm(epoch));
             }
         }
         writer.record_poll(content, epoch)
     }
 
-    // Whether the writer's newest version is this book's. If it is, their newest contents are one.
-    fn is_newest_of(&mut self, writer: &mut Writer) -> bool
+    // Whether a version that was seen is the writer's newest one: then its content is.
+    fn is_newest_of(&mut self, writer: &mut Writer, version: u64) -> bool
         requires table { writer.old.table ≡ self.old.table }
         requires still { writer.old.slide ≡ None }
-        ensures newest { OnTrue result (writer.old.cache.sources ≡ self.old.newest) }
+        ensures newest { OnTrue result ((content : Content) → version_in self.old.seen version ≡ Some content → writer.old.cache.sources ≡ content) }
         ensures writer { writer.new ≡ writer.old }
-        ensures book { self.new ≡ self.old }
+        ensures book { self.new ≡ record self.old { seen = self.new.seen } }
+        ensures other { OnFalse result (self.new ≡ self.old) }
     {
+        if writer.version() != version {
+            return false;
+        }
         writer.learn();
         self.pass.learn();
         writer.show(&mut self.pass);
-        writer.version() == self.version
+        true
     }
 }
 
@@ -329,7 +341,7 @@ fn made_ready<A: Answerer>(
     answers: &A,
     content: Content,
 ) -> Result<Fetched<A>, PollFault>
-    ensures { MatchResult result (λ f. f ≡ record { content = content; is_newest = false }) (λ fault. fault ≡ Memory) }
+    ensures { MatchResult result (λ f. f ≡ record { content = content; version = None }) (λ fault. fault ≡ Memory) }
 {
     let content = Arc::new(alloc, content)?;
     let ready = Arc::new(alloc, answers.prepare(alloc, content.clone()?)?)?;
@@ -337,6 +349,6 @@ fn made_ready<A: Answerer>(
         kept: ready.clone()?,
         ready,
         content,
-        is_newest: false,
+        version: None,
     })
 }

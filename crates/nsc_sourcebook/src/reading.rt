@@ -1,9 +1,8 @@
-ghost use Rattle.std.specs.Prelude.{◌≡◌, IfOk, IfErr, OnOk};
-ghost use Rattle.nsc_model.specs.declared.kind.Db.TheVariants as db_is;
-ghost use Rattle.nsc_model.specs.Files.{FileFits, part_of};
-ghost use Rattle.nsc_outside.specs.Stream.{Rose};
-ghost use Rattle.nsc_outside.specs.FileSets.{IsAsTold, told_of};
-ghost use Rattle.nsc_sourcebook.specs.Reads.{AllRose, AreAsTold, FaultRose, IsPartOf, NoneFell, OthersStay, TellsLength};
+ghost use Rattle.std.specs.Prelude.{◌≡◌, true, IfOk, IfErr, OnOk};
+ghost use Rattle.nsc_model.specs.Files.{FileFits, file_of, is_read, part_of};
+ghost use Rattle.nsc_model.specs.Reads.{AllRose, AreAsTold, IsAsTold, NoneFell, Rose};
+ghost use Rattle.nsc_outside.specs.FileSets.{ChangesOnly, told_of};
+ghost use Rattle.nsc_sourcebook.specs.Reads.{FaultRose, IsPartOf, TellsLength};
 
 use crate::fault::PollFault;
 use nsc_base::Bytes;
@@ -12,6 +11,7 @@ use nsc_outside::FileSet;
 use std::alloc::Global;
 
 /// Reads the files of a database, in rising number. At a fault the counts of the file that is named rose, if it is one of a file.
+#[tactic(auto, using(crate::proofs::Each::none_read, crate::proofs::Each::all_rose, crate::proofs::Each::all_told))]
 pub fn read_files<F: FileSet>(alloc: Global, files: &mut F, db: Db) -> Result<Content, PollFault>
     ensures told { IfOk result (λ c. AreAsTold db (F.latest files.new) c) }
     ensures part { IfOk result (λ c. IsPartOf db (F.held files.old) c) }
@@ -24,96 +24,30 @@ pub fn read_files<F: FileSet>(alloc: Global, files: &mut F, db: Db) -> Result<Co
     ensures length { IfErr result (λ fault. TellsLength fault (F.held files.old)) }
     ensures held { F.held files.new ≡ F.held files.old }
 {
-    match db {
-        Db::Passwd => read_passwd(alloc, files),
-        Db::Group => read_group(alloc, files),
-        Db::Hosts => read_hosts(alloc, files),
-        Db::Services => read_services(alloc, files),
+    let mut content = Content::none();
+    let ids: &[FileId] = &FileId::ALL;
+    for file in ids {
+        if file.is_read_by(db) {
+            let bytes = read_file(alloc, files, *file)?;
+            put(&mut content, db, *file, bytes);
+        }
     }
-}
-
-fn read_passwd<F: FileSet>(alloc: Global, files: &mut F) -> Result<Content, PollFault>
-    ensures told { IfOk result (λ c. AreAsTold db_is.Passwd (F.latest files.new) c) }
-    ensures part { IfOk result (λ c. IsPartOf db_is.Passwd (F.held files.old) c) }
-    ensures only { IfOk result (λ c. c ≡ part_of db_is.Passwd c) }
-    ensures read { OnOk result (AllRose db_is.Passwd (F.reads files.old) (F.reads files.new)) }
-    ensures calm { OnOk result (F.faults files.new ≡ F.faults files.old) }
-    ensures file_calm { OnOk result (F.file_faults files.new ≡ F.file_faults files.old) }
-    ensures faults { IfErr result (λ fault. FaultRose fault (F.faults files.old) (F.faults files.new) (F.file_faults files.old) (F.file_faults files.new)) }
-    ensures kept { NoneFell (F.file_faults files.old) (F.file_faults files.new) }
-    ensures length { IfErr result (λ fault. TellsLength fault (F.held files.old)) }
-    ensures held { F.held files.new ≡ F.held files.old }
-{
-    let mut content = Content::none();
-    content.set(FileId::Switch, read_file(alloc, files, FileId::Switch)?);
-    content.set(FileId::Passwd, read_file(alloc, files, FileId::Passwd)?);
-    content.set(
-        FileId::ExtraPasswd,
-        read_file(alloc, files, FileId::ExtraPasswd)?,
-    );
     Ok(content)
 }
 
-fn read_group<F: FileSet>(alloc: Global, files: &mut F) -> Result<Content, PollFault>
-    ensures told { IfOk result (λ c. AreAsTold db_is.Group (F.latest files.new) c) }
-    ensures part { IfOk result (λ c. IsPartOf db_is.Group (F.held files.old) c) }
-    ensures only { IfOk result (λ c. c ≡ part_of db_is.Group c) }
-    ensures read { OnOk result (AllRose db_is.Group (F.reads files.old) (F.reads files.new)) }
-    ensures calm { OnOk result (F.faults files.new ≡ F.faults files.old) }
-    ensures file_calm { OnOk result (F.file_faults files.new ≡ F.file_faults files.old) }
-    ensures faults { IfErr result (λ fault. FaultRose fault (F.faults files.old) (F.faults files.new) (F.file_faults files.old) (F.file_faults files.new)) }
-    ensures kept { NoneFell (F.file_faults files.old) (F.file_faults files.new) }
-    ensures length { IfErr result (λ fault. TellsLength fault (F.held files.old)) }
-    ensures held { F.held files.new ≡ F.held files.old }
+// One file of a content, which the database reads, becomes this.
+fn put(content: &mut Content, db: Db, file: FileId, bytes: Option<Bytes>)
+    requires read { is_read db file ≡ true }
+    requires fits { FileFits bytes }
+    ensures file { file_of content.new file ≡ bytes }
+    ensures others { ChangesOnly file (file_of content.old) (file_of content.new) }
+    ensures only { content.old ≡ part_of db content.old → content.new ≡ part_of db content.new }
 {
-    let mut content = Content::none();
-    content.set(FileId::Switch, read_file(alloc, files, FileId::Switch)?);
-    content.set(FileId::Group, read_file(alloc, files, FileId::Group)?);
-    content.set(
-        FileId::ExtraGroup,
-        read_file(alloc, files, FileId::ExtraGroup)?,
-    );
-    Ok(content)
-}
-
-fn read_hosts<F: FileSet>(alloc: Global, files: &mut F) -> Result<Content, PollFault>
-    ensures told { IfOk result (λ c. AreAsTold db_is.Hosts (F.latest files.new) c) }
-    ensures part { IfOk result (λ c. IsPartOf db_is.Hosts (F.held files.old) c) }
-    ensures only { IfOk result (λ c. c ≡ part_of db_is.Hosts c) }
-    ensures read { OnOk result (AllRose db_is.Hosts (F.reads files.old) (F.reads files.new)) }
-    ensures calm { OnOk result (F.faults files.new ≡ F.faults files.old) }
-    ensures file_calm { OnOk result (F.file_faults files.new ≡ F.file_faults files.old) }
-    ensures faults { IfErr result (λ fault. FaultRose fault (F.faults files.old) (F.faults files.new) (F.file_faults files.old) (F.file_faults files.new)) }
-    ensures kept { NoneFell (F.file_faults files.old) (F.file_faults files.new) }
-    ensures length { IfErr result (λ fault. TellsLength fault (F.held files.old)) }
-    ensures held { F.held files.new ≡ F.held files.old }
-{
-    let mut content = Content::none();
-    content.set(FileId::Switch, read_file(alloc, files, FileId::Switch)?);
-    content.set(FileId::Hosts, read_file(alloc, files, FileId::Hosts)?);
-    Ok(content)
-}
-
-fn read_services<F: FileSet>(alloc: Global, files: &mut F) -> Result<Content, PollFault>
-    ensures told { IfOk result (λ c. AreAsTold db_is.Services (F.latest files.new) c) }
-    ensures part { IfOk result (λ c. IsPartOf db_is.Services (F.held files.old) c) }
-    ensures only { IfOk result (λ c. c ≡ part_of db_is.Services c) }
-    ensures read { OnOk result (AllRose db_is.Services (F.reads files.old) (F.reads files.new)) }
-    ensures calm { OnOk result (F.faults files.new ≡ F.faults files.old) }
-    ensures file_calm { OnOk result (F.file_faults files.new ≡ F.file_faults files.old) }
-    ensures faults { IfErr result (λ fault. FaultRose fault (F.faults files.old) (F.faults files.new) (F.file_faults files.old) (F.file_faults files.new)) }
-    ensures kept { NoneFell (F.file_faults files.old) (F.file_faults files.new) }
-    ensures length { IfErr result (λ fault. TellsLength fault (F.held files.old)) }
-    ensures held { F.held files.new ≡ F.held files.old }
-{
-    let mut content = Content::none();
-    content.set(FileId::Switch, read_file(alloc, files, FileId::Switch)?);
-    content.set(FileId::Services, read_file(alloc, files, FileId::Services)?);
-    Ok(content)
+    content.set(file, bytes);
 }
 
 // Reads one file.
-#[tactic(auto, using(crate::proofs::Still::none_fell_but))]
+#[tactic(auto, using(crate::proofs::Each::none_fell_but))]
 fn read_file<F: FileSet>(
     alloc: Global,
     files: &mut F,
@@ -122,9 +56,9 @@ fn read_file<F: FileSet>(
     ensures told { IfOk result (λ f. IsAsTold (F.latest files.new file) f) }
     ensures part { IfOk result (λ f. IsAsTold (told_of (F.held files.old) file) f) }
     ensures fits { IfOk result (λ f. FileFits f) }
-    ensures others_told { OnOk result (OthersStay file (F.latest files.old) (F.latest files.new)) }
+    ensures others_told { OnOk result (ChangesOnly file (F.latest files.old) (F.latest files.new)) }
     ensures read { OnOk result (Rose (F.reads files.old file) (F.reads files.new file)) }
-    ensures others_read { OnOk result (OthersStay file (F.reads files.old) (F.reads files.new)) }
+    ensures others_read { OnOk result (ChangesOnly file (F.reads files.old) (F.reads files.new)) }
     ensures calm { OnOk result (F.faults files.new ≡ F.faults files.old) }
     ensures file_calm { OnOk result (F.file_faults files.new ≡ F.file_faults files.old) }
     ensures faults { IfErr result (λ fault. FaultRose fault (F.faults files.old) (F.faults files.new) (F.file_faults files.old) (F.file_faults files.new)) }
