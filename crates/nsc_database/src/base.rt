@@ -1,14 +1,15 @@
 // A database of which it is known which one it is.
 ghost use Rattle.std.specs.Prelude.{◌≡◌, ◌≤◌, ◌<◌, ◌+◌, ◌^◌, length, IfOk, IfErr, OnOk};
-ghost use Rattle.std.specs.Bool.{OnTrue};
 ghost use Rattle.nsc_model.specs.Entry.{key_limit};
 ghost use Rattle.nsc_model.specs.Answers.{answer_of};
+ghost use Rattle.nsc_model.specs.Files.{part_of};
 ghost use Rattle.nsc_model.specs.History.{IsPrefix, Legal, invalidations};
 ghost use Rattle.nsc_writer.specs.Writer.{IsAnswered};
 ghost use Rattle.nsc_model.specs.Reads.{HasNotFallen, IsLookedUp, NoneFell};
 ghost use Rattle.nsc_model.specs.Machine.{life_of, room_of};
 ghost use Rattle.nsc_model.specs.Settings.{settings_of};
 ghost use Rattle.nsc_model.specs.Stores.{IsCounted, IsEmptied, IsFault, IsInvalidateFault, IsSpent};
+ghost use Rattle.nsc_sourcebook.specs.Book.{IsNamed};
 ghost use Rattle.nsc_database.specs.Frames.{Held};
 ghost use Rattle.nsc_database.specs.Holds.{IsLooked, IsPolled};
 ghost use Rattle.nsc_database.specs.Lookups.{Gives, IsKept};
@@ -118,7 +119,8 @@ impl<D: OfDb, F: FileSet + Drop, A: Answerer + Drop, B: Room> Base<D, F, A, B> {
         epoch: u64,
     ) -> Result<Polled<A>, Spent>
         requires db { pass.old.db ≡ D.db }
-        requires newest { OnTrue fetched.is_newest (fetched.content ≡ shelved.old.book.newest) }
+        requires named { IsNamed shelved.old.book.seen fetched }
+        requires only { fetched.content ≡ part_of D.db fetched.content }
         requires epoch { epoch ≤ invalidations pass.old.pass.seen }
         requires part { IsPart B.held D.db fetched.content }
         ensures frame { Held pass.old pass.new }

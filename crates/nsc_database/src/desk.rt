@@ -1,11 +1,12 @@
 // What the locks of a database keep.
 ghost use Rattle.std.specs.Prelude.{◌≡◌, ◌≤◌, false, All, IfOk, IfErr, OnOk};
-ghost use Rattle.std.specs.Bool.{OnTrue};
 ghost use Rattle.nsc_model.specs.Entry.{kept_limit};
 ghost use Rattle.nsc_model.specs.Files.{part_of};
 ghost use Rattle.nsc_model.specs.History.{Legal, NoneLive, invalidations};
 ghost use Rattle.nsc_writer.specs.Writer.{IsAnswered};
-ghost use Rattle.nsc_sourcebook.specs.Reads.{AllRose, AreAsTold, FaultRose, IsPartOf, NoneFell, TellsLength};
+ghost use Rattle.nsc_model.specs.Reads.{AllRose, AreAsTold, NoneFell};
+ghost use Rattle.nsc_sourcebook.specs.Book.{IsNamed};
+ghost use Rattle.nsc_sourcebook.specs.Reads.{FaultRose, IsPartOf, TellsLength};
 ghost use Rattle.nsc_model.specs.Machine.{is_outdated, room_of};
 ghost use Rattle.nsc_model.specs.Reloads.{Reloaded};
 ghost use Rattle.nsc_model.specs.Settings.{settings_of};
@@ -133,7 +134,8 @@ impl<D: OfDb, B: Room> Desk<D, B> {
         fetched: Fetched<A>,
         epoch: u64,
     ) -> Result<Polled<A>, Spent>
-        requires newest { OnTrue fetched.is_newest (fetched.content ≡ shelved.old.book.newest) }
+        requires named { IsNamed shelved.old.book.seen fetched }
+        requires only { fetched.content ≡ part_of D.db fetched.content }
         requires epoch { epoch ≤ invalidations self.old.writer.seen }
         requires part { IsPart B.held D.db fetched.content }
         ensures content { IfOk result (λ polled. polled.content ≡ fetched.content) }
@@ -271,7 +273,7 @@ impl<D: OfDb, F: FileSet + Drop, A: Answerer, B: Room> Shelved<D, F, A, B> {
     ) -> Result<Fetched<A>, PollFault>
         requires { pass.old.db ≡ D.db }
         ensures pass { (pass.new.db ≡ pass.old.db) × (pass.new.pass ≡ pass.old.pass) }
-        ensures newest { IfOk result (λ f. OnTrue f.is_newest (f.content ≡ self.now.book.newest)) }
+        ensures named { IfOk result (λ f. IsNamed self.now.book.seen f) }
         ensures told { IfOk result (λ f. AreAsTold D.db (F.latest pass.new.files) f.content) }
         ensures part { IfOk result (λ f. IsPartOf D.db (F.held pass.old.files) f.content) }
         ensures only { IfOk result (λ f. f.content ≡ part_of D.db f.content) }
