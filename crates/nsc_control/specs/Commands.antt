@@ -1,6 +1,7 @@
 -- What came of a command.
 use Rattle.std.specs.Prelude.{◌≡◌, ◌⊎◌, ℕ, ◌<◌, ◌≤◌, List, length, Option}
-use Rattle.nsc_outside.specs.Stream.{Rose, Moves, IsDrained, Grows, GrowsByFront}
+use Rattle.nsc_outside.specs.Stream.{Moves, IsDrained, Grows, GrowsByFront}
+use Rattle.nsc_model.specs.Reads.{Rose}
 use Rattle.nsc_outside.specs.declared.stream.Source as source
 use Rattle.nsc_outside.specs.declared.stream.Sink as sink
 use Rattle.nsc_model.specs.Wire.{field}

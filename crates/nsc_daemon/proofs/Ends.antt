@@ -1,6 +1,7 @@
 -- How the thread that accepts ends.
 use Rattle.std.proofs.Common.{◌≡◌, ◌∙◌, ℕ, List, [], ◌∷◌, ◌++◌, Option, Some, None, IfSome, refl, ap, subst, inl, inr, arith}
-use Rattle.nsc_outside.specs.Stream.{Moves, Rose}
+use Rattle.nsc_outside.specs.Stream.{Moves}
+use Rattle.nsc_model.specs.Reads.{Rose}
 use Rattle.nsc_model.specs.Content.{Content}
 use Rattle.nsc_model.specs.Wire.{Asked, Shutdown, request_of}
 use Rattle.nsc_server.specs.Requests.{closing_of}

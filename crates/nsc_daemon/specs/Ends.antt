@@ -1,6 +1,7 @@
 -- How a daemon ends, and what its outside tells of it: the output, the files, and the listener.
 use Rattle.std.specs.Prelude.{◌≡◌, ℕ, ◌<◌, ◌⊎◌, List, ◌∷◌, ◌++◌, [], Option, Some, None, IfSome, codes}
-use Rattle.nsc_outside.specs.Stream.{Grows, GrowsByFront, Rose}
+use Rattle.nsc_outside.specs.Stream.{Grows, GrowsByFront}
+use Rattle.nsc_model.specs.Reads.{Rose}
 use Rattle.nsc_outside.specs.FileSets.{IsPastLimit, told_of}
 use Rattle.nsc_model.specs.Content.{Content}
 use Rattle.nsc_model.specs.Files.{file_limit}

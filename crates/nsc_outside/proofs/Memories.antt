@@ -1,7 +1,8 @@
 -- What streams in memory do.
 use Rattle.std.proofs.Common.{◌≡◌, ℕ, ◌+◌, ◌-◌, ◌≤◌, List, ◌++◌, length, take, drop, Some, refl, sym, ◌∙◌, ap, arith}
 use Rattle.std.proofs.lemmas.List.{places, take-append-drop, take_at, drop-drop}
-use Rattle.nsc_outside.specs.Stream.{greatest, Rose, Moves}
+use Rattle.nsc_outside.specs.Stream.{Moves}
+use Rattle.nsc_model.specs.Reads.{greatest, Rose}
 use Rattle.nsc_outside.specs.Plan.{risen}
 
 -- a count that is counted up rose

@@ -3,7 +3,8 @@ use Rattle.std.proofs.Common.{◌≡◌, ◌<◌, inl, inr, ℕ, ◌+◌, ◌-�
 use Rattle.std.proofs.lemmas.List.{take_at, take_all, same_lists, places, take-append-drop}
 use Rattle.std.proofs.lemmas.Bool.{cases_eq}
 use borrow.Rule.Slice.PartMut.{put_mid}
-use Rattle.nsc_outside.specs.Stream.{greatest, Rose, Moves, Grows, GrowsByFront}
+use Rattle.nsc_outside.specs.Stream.{Moves, Grows, GrowsByFront}
+use Rattle.nsc_model.specs.Reads.{greatest, Rose}
 
 -- a call that moved nothing
 pub Moves-nothing : (before : Option (List ℕ)) → Moves before before []

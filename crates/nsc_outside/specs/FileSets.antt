@@ -5,7 +5,7 @@ use Rattle.nsc_model.specs.Files.{file_of, file_limit}
 use Rattle.nsc_model.specs.Kinds.{file_number}
 use Rattle.nsc_model.specs.declared.kind.FileId.{FileId}
 use Rattle.nsc_model.specs.declared.kind.FileId.TheVariants as file
-use Rattle.nsc_outside.specs.Stream.{Rose}
+use Rattle.nsc_model.specs.Reads.{Rose}
 use Rattle.nsc_outside.specs.declared.files.ReadCause.{ReadCause}
 use Rattle.nsc_outside.specs.declared.files.ReadCause.TheVariants as causes
 

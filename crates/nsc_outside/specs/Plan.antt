@@ -1,7 +1,7 @@
 -- Which calls of a stream in memory fail, and how many bytes a call moves.
 use Rattle.std.specs.Prelude.{ℕ, ◌+◌, min, Bool, ◌==◌, List}
 use Rattle.std.specs.List.{list_any}
-use Rattle.nsc_outside.specs.Stream.{greatest}
+use Rattle.nsc_model.specs.Reads.{greatest}
 
 -- a count one higher, up to the greatest
 abbrev pub risen : ℕ → ℕ

@@ -1,13 +1,5 @@
--- Streams of bytes, and counts of faults.
-use Rattle.std.specs.Prelude.{◌≡◌, ℕ, ◌-◌, ◌^◌, ◌<◌, ◌⊎◌, List, [], ◌++◌, length, Option, Some, None, IfSome}
-
--- the greatest count of faults
-abbrev pub greatest : ℕ
-greatest = 2 ^ 64 - 1
-
--- a count of faults rose; one that stands at the greatest stays there, and then counts as risen
-abbrev pub Rose : ℕ → ℕ → Type 0
-Rose before after = (before < after) ⊎ ((before ≡ greatest) × (after ≡ greatest))
+-- Streams of bytes.
+use Rattle.std.specs.Prelude.{◌≡◌, ℕ, ◌<◌, List, [], ◌++◌, length, Option, Some, None, IfSome}
 
 -- bytes moved out of a source: they stood at the front of what was left, where the source tells it
 abbrev pub Moves : Option (List ℕ) → Option (List ℕ) → List ℕ → Type 0

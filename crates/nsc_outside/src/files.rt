@@ -3,9 +3,8 @@ ghost use Rattle.std.specs.Bool.{OnTrue, OnFalse};
 ghost use Rattle.std.specs.Option.{option_copied};
 ghost use Rattle.nsc_model.specs.Content.{Content};
 ghost use Rattle.nsc_model.specs.Files.{FileFits};
-ghost use Rattle.nsc_model.specs.Reads.{IsAsTold};
+ghost use Rattle.nsc_model.specs.Reads.{IsAsTold, Rose};
 ghost use Rattle.nsc_model.specs.declared.kind.FileId.{FileId};
-ghost use Rattle.nsc_outside.specs.Stream.{Rose};
 ghost use Rattle.nsc_outside.specs.FileSets.{told_of, IsCause, RoseBy, ChangesOnly};
 ghost use Rattle.nsc_outside.specs.declared.files.ReadCause.TheVariants.{NoMemory as Memory, Failed as Fault};
 

@@ -1,7 +1,7 @@
 ghost use Rattle.std.specs.Prelude.{◌≡◌, None, Some, IfOk, IfErr, OnOk, OnErr, IsSomeAnd, false, []};
 ghost use Rattle.std.specs.Option.{option_copied};
 ghost use Rattle.nsc_model.specs.Files.{FileFits, file_of};
-ghost use Rattle.nsc_outside.specs.Stream.{Rose};
+ghost use Rattle.nsc_model.specs.Reads.{Rose};
 ghost use Rattle.nsc_outside.specs.FileSets.{IsCause, TellsNoLength, is_failed, RoseBy, ChangesOnly, latest_of};
 ghost use Rattle.nsc_outside.specs.Tally.{count_of};
 ghost use Rattle.nsc_outside.specs.Release.{IsLater};

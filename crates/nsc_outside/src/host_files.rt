@@ -3,7 +3,7 @@ ghost use Rattle.std.specs.Bool.{OnTrue, OnFalse};
 ghost use Rattle.std.specs.IoError.{error_kind};
 ghost use Rattle.std.specs.Fs.{file_type, IsFile};
 ghost use Rattle.nsc_model.specs.Files.{FileFits};
-ghost use Rattle.nsc_outside.specs.Stream.{Rose};
+ghost use Rattle.nsc_model.specs.Reads.{Rose};
 ghost use Rattle.nsc_outside.specs.FileSets.{IsCause, RoseBy, ChangesOnly};
 ghost use Rattle.nsc_outside.specs.Tally.{count_of, no_counts};
 

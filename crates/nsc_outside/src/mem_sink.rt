@@ -1,5 +1,6 @@
 ghost use Rattle.std.specs.Prelude.{◌≡◌, ◌-◌, ◌<◌, ◌≤◌, [], length, min, nat_lt, take, ◌||◌, IfOk, OnOk, OnErr, is_err};
-ghost use Rattle.nsc_outside.specs.Stream.{Rose, Grows};
+ghost use Rattle.nsc_outside.specs.Stream.{Grows};
+ghost use Rattle.nsc_model.specs.Reads.{Rose};
 ghost use Rattle.nsc_outside.specs.MemSink.{MemSink};
 ghost use Rattle.nsc_outside.specs.Plan.{after_call, after_fault, is_next_failing};
 

@@ -1,5 +1,5 @@
 ghost use Rattle.std.specs.Prelude.{◌≡◌, ◌<◌, ◌≤◌, [], OnOk, OnErr, is_err};
-ghost use Rattle.nsc_outside.specs.Stream.{greatest, Rose};
+ghost use Rattle.nsc_model.specs.Reads.{greatest, Rose};
 ghost use Rattle.nsc_outside.specs.Plan.{Plan, is_next_failing, after_call, after_fault};
 
 use crate::stream::Failed;

@@ -1,6 +1,6 @@
 ghost use Rattle.std.specs.Prelude.{◌≡◌, ◌<◌, ◌≤◌, length, take, IfOk, OnOk, OnErr};
 ghost use Rattle.std.specs.Io.KnownBytes.{Keeps, Consumes, Appends, IsAtEnd};
-ghost use Rattle.nsc_outside.specs.Stream.{Rose};
+ghost use Rattle.nsc_model.specs.Reads.{Rose};
 
 use crate::stream::{Failed, Sink, Source};
 use std::io::{Read, Write};

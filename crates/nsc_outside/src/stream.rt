@@ -1,5 +1,6 @@
 ghost use Rattle.std.specs.Prelude.{◌≡◌, ℕ, ◌<◌, ◌≤◌, List, Option, length, take, IfOk, OnOk, OnErr};
-ghost use Rattle.nsc_outside.specs.Stream.{Rose, Moves, IsDrained, Grows};
+ghost use Rattle.nsc_outside.specs.Stream.{Moves, IsDrained, Grows};
+ghost use Rattle.nsc_model.specs.Reads.{Rose};
 
 use thiserror::Error;
 

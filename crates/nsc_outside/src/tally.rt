@@ -1,5 +1,5 @@
 ghost use Rattle.std.specs.Prelude.{◌≡◌};
-ghost use Rattle.nsc_outside.specs.Stream.{Rose};
+ghost use Rattle.nsc_model.specs.Reads.{Rose};
 ghost use Rattle.nsc_outside.specs.FileSets.{RoseBy, ChangesOnly};
 ghost use Rattle.nsc_outside.specs.Tally.{count_of, no_counts};
 

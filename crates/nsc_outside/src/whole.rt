@@ -1,5 +1,6 @@
 ghost use Rattle.std.specs.Prelude.{◌≡◌, ◌<◌, ◌≤◌, length, take, IfOk, OnOk, OnErr};
-ghost use Rattle.nsc_outside.specs.Stream.{Rose, Moves, MovesFewer, IsDrained, Grows, GrowsByFront};
+ghost use Rattle.nsc_outside.specs.Stream.{Moves, MovesFewer, IsDrained, Grows, GrowsByFront};
+ghost use Rattle.nsc_model.specs.Reads.{Rose};
 
 use crate::stream::{Failed, Sink, Source};
 

@@ -1,6 +1,7 @@
 -- Frames read from a source: what is claimed of the bytes that were read, where the source tells them.
 use Rattle.std.specs.Prelude.{◌≡◌, ℕ, List, Option, Result, Ok, Err}
-use Rattle.nsc_outside.specs.Stream.{Rose, Moves, IsDrained}
+use Rattle.nsc_outside.specs.Stream.{Moves, IsDrained}
+use Rattle.nsc_model.specs.Reads.{Rose}
 use Rattle.nsc_model.specs.Frames as frames
 use Rattle.nsc_model.specs.Fronts.{Finds, Refuses, IsPartial}
 use Rattle.nsc_replay.specs.declared.halt.Halt.{Halt}

@@ -1,6 +1,7 @@
 -- A source and a sink over a run: what they tell of their bytes, and how often they failed.
 use Rattle.std.specs.Prelude.{◌≡◌, ℕ, List, Option}
-use Rattle.nsc_outside.specs.Stream.{Rose, Moves, Grows}
+use Rattle.nsc_outside.specs.Stream.{Moves, Grows}
+use Rattle.nsc_model.specs.Reads.{Rose}
 use Rattle.nsc_outside.specs.declared.stream.Source as source
 use Rattle.nsc_outside.specs.declared.stream.Sink as sink
 use Rattle.nsc_replay.specs.declared.ended.Ended.{Ended}

@@ -1,6 +1,7 @@
 -- One frame through the machine of a replay.
 use Rattle.std.specs.Prelude.{◌≡◌, ℕ, List, [], Option, Some, None, Result, Ok, Err}
-use Rattle.nsc_outside.specs.Stream.{Rose, Grows, GrowsByFront}
+use Rattle.nsc_outside.specs.Stream.{Grows, GrowsByFront}
+use Rattle.nsc_model.specs.Reads.{Rose}
 use Rattle.nsc_model.specs.Frames.{Finish, Spent}
 use Rattle.nsc_model.specs.Replay.{State, Went, framed}
 use Rattle.nsc_model.specs.declared.fault.CacheFault.{CacheFault}

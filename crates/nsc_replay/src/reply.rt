@@ -1,5 +1,6 @@
 ghost use Rattle.std.specs.Prelude.{◌≡◌, ◌≤◌, ◌<◌, ◌^◌, ◌++◌, ◌+◌, length, take, OnOk, OnErr};
-ghost use Rattle.nsc_outside.specs.Stream.{Grows, GrowsByFront, Rose};
+ghost use Rattle.nsc_outside.specs.Stream.{Grows, GrowsByFront};
+ghost use Rattle.nsc_model.specs.Reads.{Rose};
 ghost use Rattle.nsc_model.specs.Replay.{framed};
 
 use byteorder::{ByteOrder, LittleEndian};

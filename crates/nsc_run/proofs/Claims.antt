@@ -1,7 +1,8 @@
 -- What a run says at Ok and where no fault came, from what came of it, form by form.
 use Rattle.std.proofs.Common.{◌≡◌, ◌∙◌, ℕ, List, Option, Some, None, Result, Ok, Err, refl, sym, ap, subst, inl, inr, arith}
 use Rattle.std.specs.Prelude.{IfSome}
-use Rattle.nsc_outside.specs.Stream.{Grows, Rose}
+use Rattle.nsc_outside.specs.Stream.{Grows}
+use Rattle.nsc_model.specs.Reads.{Rose}
 use Rattle.nsc_outside.specs.declared.stream.Source as source
 use Rattle.nsc_outside.specs.declared.stream.Sink as sink
 use Rattle.nsc_model.specs.declared.conf.Conf.{Conf}

@@ -1,7 +1,7 @@
 -- The configuration that words name, and what is claimed of a replay.
 use Rattle.std.specs.Prelude.{◌≡◌, ℕ, ◌⊎◌, Bool, false, List, ◌++◌, drop, Option, Some, None, IfSome, Result, Ok, Err, codes, unwrap_or, min, max}
-use Rattle.nsc_outside.specs.Stream.{Rose, Grows}
-use Rattle.nsc_model.specs.Reads.{IsAsTold}
+use Rattle.nsc_outside.specs.Stream.{Grows}
+use Rattle.nsc_model.specs.Reads.{IsAsTold, Rose}
 use Rattle.nsc_outside.specs.FileSets.{IsPastLimit}
 use Rattle.nsc_model.specs.Frames.{Finish, Done, Bad, Long, Spent}
 use Rattle.nsc_model.specs.declared.conf.Conf.{Conf}

@@ -1,6 +1,7 @@
 -- What the program claims of a run, by the form of its words.
 use Rattle.std.specs.Prelude.{◌≡◌, ℕ, ◌⊎◌, List, Option, Some, None, IfSome, Result, Ok, Err}
-use Rattle.nsc_outside.specs.Stream.{Grows, Rose}
+use Rattle.nsc_outside.specs.Stream.{Grows}
+use Rattle.nsc_model.specs.Reads.{Rose}
 use Rattle.nsc_outside.specs.declared.stream.Source as source
 use Rattle.nsc_outside.specs.declared.stream.Sink as sink
 use Rattle.nsc_outside.specs.declared.files.FileSet as files

@@ -1,6 +1,7 @@
 -- A connection on which nothing failed is answered.
 use Rattle.std.proofs.Common.{◌≡◌, inl, inr, ℕ, List, length, Option, Some, None, IfSome, refl, sym, ◌∙◌, ap, subst}
-use Rattle.nsc_outside.specs.Stream.{Moves, Rose}
+use Rattle.nsc_outside.specs.Stream.{Moves}
+use Rattle.nsc_model.specs.Reads.{Rose}
 use Rattle.nsc_model.specs.declared.kind.Db.{Db}
 use Rattle.nsc_model.specs.declared.conf.DbConf.{DbConf}
 use Rattle.nsc_model.specs.declared.databases.Databases.{Databases}

@@ -1,5 +1,6 @@
 ghost use Rattle.std.specs.Prelude.{◌≡◌, ◌+◌, ◌≤◌, [], length, IfOk, OnOk, OnErr};
-ghost use Rattle.nsc_outside.specs.Stream.{Rose, Moves, MovesFewer};
+ghost use Rattle.nsc_outside.specs.Stream.{Moves, MovesFewer};
+ghost use Rattle.nsc_model.specs.Reads.{Rose};
 ghost use Rattle.nsc_model.specs.Wire.{request_of};
 ghost use Rattle.nsc_wire.specs.Request.{KeyFits, KeyIsIn, asked_by};
 ghost use Rattle.nsc_server.specs.Requests.{GetsMore, GetsShort, IsDrainedIfShort, IsNeeded};

@@ -1,6 +1,6 @@
 -- Counts of faults.
 use Rattle.std.proofs.Common.{ℕ, ◌≤◌, arith}
-use Rattle.nsc_outside.specs.Stream.{greatest, Rose}
+use Rattle.nsc_model.specs.Reads.{greatest, Rose}
 use Rattle.nsc_outside.specs.Plan.{risen}
 
 -- a count that is counted up rose

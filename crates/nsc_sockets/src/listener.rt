@@ -1,5 +1,5 @@
 ghost use Rattle.std.specs.Prelude.{◌≡◌, ℕ, List, Option, IfOk, OnOk, OnErr};
-ghost use Rattle.nsc_outside.specs.Stream.{Rose};
+ghost use Rattle.nsc_model.specs.Reads.{Rose};
 ghost use Rattle.nsc_sockets.specs.Connections.{Connection, Gives, IsPeer};
 
 use crate::role::Role;

@@ -1,5 +1,6 @@
 ghost use Rattle.std.specs.Prelude.{◌≡◌, ◌<◌, ◌≤◌, length, min, take, Some, IfOk, IfErr, OnOk, OnErr};
-ghost use Rattle.nsc_outside.specs.Stream.{Rose, Moves, IsDrained};
+ghost use Rattle.nsc_outside.specs.Stream.{Moves, IsDrained};
+ghost use Rattle.nsc_model.specs.Reads.{Rose};
 
 use nsc_base::Bytes;
 use nsc_outside::{Failed, Source};

@@ -1,7 +1,8 @@
 -- A workload that runs: the replies of each worker, and how it ends.
 use Rattle.std.specs.Prelude.{◌≡◌, ℕ, ◌<◌, ◌+◌, ◌*◌, ◌-◌, ◌/◌, ◌==◌, Bool, List, map, Option, Some, None}
 use Rattle.std.specs.List.{slice_index_or}
-use Rattle.nsc_outside.specs.Stream.{Grows, GrowsByFront, Rose}
+use Rattle.nsc_outside.specs.Stream.{Grows, GrowsByFront}
+use Rattle.nsc_model.specs.Reads.{Rose}
 use Rattle.nsc_workload.specs.declared.run.Worked.{Worked}
 use Rattle.nsc_workload.specs.declared.run.Worked.TheVariants as worked
 use Rattle.nsc_workload.specs.Workload.{answers_from, request_count}

@@ -1,5 +1,5 @@
 use Rattle.std.proofs.Common.{ℕ, refl, subst, ◌∙◌}
-use Rattle.nsc_outside.specs.Stream.{Rose}
+use Rattle.nsc_model.specs.Reads.{Rose}
 use Rattle.nsc_daemon.proofs.Ends.{ends_by, goes_given, goes_same}
 use Rattle.nsc_daemon.proofs.desk.accept_all.Goals as goal
 
