@@ -29,13 +29,9 @@ impl Shelf {
         requires { self.old.slide ≡ None }
         ensures { self.new ≡ record self.old { head = hit_counted not_found self.old.head } }
     {
-        if not_found {
-            let count = self.words.word(NEGATIVE_HITS);
-            self.words.set(NEGATIVE_HITS, next_count(count));
-        } else {
-            let count = self.words.word(HITS);
-            self.words.set(HITS, next_count(count));
-        }
+        let at = if not_found { NEGATIVE_HITS } else { HITS };
+        let count = self.words.word(at);
+        self.words.set(at, next_count(count));
     }
 
     /// Counts a lookup that made its reply.
@@ -43,13 +39,9 @@ impl Shelf {
         requires { self.old.slide ≡ None }
         ensures { self.new ≡ record self.old { head = miss_counted not_found self.old.head } }
     {
-        if not_found {
-            let count = self.words.word(NEGATIVE_MISSES);
-            self.words.set(NEGATIVE_MISSES, next_count(count));
-        } else {
-            let count = self.words.word(MISSES);
-            self.words.set(MISSES, next_count(count));
-        }
+        let at = if not_found { NEGATIVE_MISSES } else { MISSES };
+        let count = self.words.word(at);
+        self.words.set(at, next_count(count));
     }
 
     /// How many lookups there were of a kept found reply.
