@@ -1,10 +1,10 @@
 use crate::listener::Accepted;
 use crate::peer::{Peer, may_pass};
-use crate::request::{LONGEST, is_settled};
 use crate::role::Role;
 use crate::unix_input::UnixInput;
 use crate::unix_output::UnixOutput;
 use nsc_base::{Bytes, NoMemory};
+use nsc_wire::{LONGEST, is_settled};
 use std::alloc::Global;
 use std::os::fd::{AsRawFd, RawFd};
 use std::sync::Arc;

@@ -15,7 +15,6 @@ mod mem_listener;
 mod pace;
 mod peer;
 mod peer_source;
-mod request;
 mod role;
 mod shared_sink;
 mod unix_input;

@@ -1,6 +1,6 @@
 ghost use Rattle.std.specs.Prelude.{◌≤◌, length, IfOk};
 
-use crate::request::LONGEST;
+use nsc_wire::LONGEST;
 use std::io;
 use std::io::{ErrorKind, Read, Write};
 use std::net::TcpStream;

@@ -2,8 +2,8 @@ ghost use Rattle.std.specs.Prelude.{◌≡◌, ◌≤◌, length, IfOk, OnOk, On
 ghost use Rattle.nsc_model.specs.Reads.{Rose};
 
 use crate::peer::{Peer, may_pass};
-use crate::request::LONGEST;
 use nsc_outside::{Failed, Source};
+use nsc_wire::LONGEST;
 use std::io;
 use std::io::ErrorKind;
 use std::marker::Model;
