@@ -20,7 +20,9 @@ use crate::holds::Looked;
 use crate::pass::DbPass;
 use crate::room::{OfDb, Room};
 use nsc_base::{Buf, Bytes, NoMemory};
-use nsc_model::{Answerer, Db, DbConf, Given, InvalidateFault, Kind, LookupFault, Stats, Why};
+use nsc_model::{
+    Answerer, Db, DbConf, Given, InvalidateFault, Kind, LookupFault, Spent, Stats, Why,
+};
 use nsc_outside::FileSet;
 use nsc_rule::Map;
 use nsc_sourcebook::{Fetched, Polled};
