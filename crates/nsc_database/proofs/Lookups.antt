@@ -1,17 +1,20 @@
 -- What lookups come to, hold after hold.
-use Rattle.std.proofs.Common.{◌≡◌, ◌∙◌, ℕ, ◌+◌, ◌≤◌, List, refl, sym, ap, subst, arith, inl, inr}
+use Rattle.std.proofs.Common.{◌≡◌, ◌∙◌, ℕ, ◌+◌, ◌≤◌, true, List, refl, sym, ap, subst, arith, inl, inr}
+use Rattle.std.proofs.lemmas.Bool.{false≢true}
 use Rattle.nsc_model.specs.declared.answer.Request.{Request}
 use Rattle.nsc_model.specs.declared.record.Record.{Record}
 use Rattle.nsc_model.specs.declared.conf.DbConf.{DbConf}
 use Rattle.nsc_model.specs.declared.store.Given.{Given}
 use Rattle.nsc_model.specs.declared.store.Given.TheVariants as given
+use Rattle.nsc_model.specs.declared.store.LookupFault.{LookupFault}
+use Rattle.nsc_model.specs.declared.store.LookupFault.TheVariants as fault
 use Rattle.nsc_model.specs.declared.store.Why.{Why}
 use Rattle.nsc_model.specs.declared.store.Why.TheVariants as why
 use Rattle.nsc_model.specs.Entry.{Entry}
 use Rattle.nsc_model.specs.Answers.{answer_of}
 use Rattle.nsc_model.specs.History.{Answered, EndedAfter, HasLoad, IsPrefix, Legal, NoneLiveOf, PolledSince, invalidations, loads}
 use Rattle.nsc_model.specs.Machine.{life_of, room_of}
-use Rattle.nsc_model.specs.Stores.{IsGiven, IsHit, IsWhy, reply_of}
+use Rattle.nsc_model.specs.Stores.{IsGiven, IsHit, IsMissed, IsMissedAt, IsWhy, reply_of}
 use Rattle.nsc_laws.proofs.Prefixes.{load_below}
 use Rattle.nsc_writer.specs.declared.loaded.Inserted.{Inserted}
 use Rattle.nsc_writer.specs.declared.loaded.Inserted.TheVariants as inserted
@@ -20,7 +23,8 @@ use Rattle.nsc_writer.specs.Writer.{IsAnswered}
 use Rattle.nsc_writer.proofs.Later.{prefix_through, version_on, load_on, end_on}
 use Rattle.nsc_sourcebook.specs.Book.{Polled}
 use Rattle.nsc_database.specs.Holds.{IsInserted, IsPolled}
-use Rattle.nsc_database.specs.Lookups.{Gives, IsKept}
+use Rattle.nsc_database.specs.declared.holds.Looked.TheVariants as looked
+use Rattle.nsc_database.specs.Lookups.{Gives, IsFound, IsKept}
 use Rattle.nsc_database.proofs.Shown.{prefix_length, invalidations_on, loads_on}
 
 -- ---- hits
@@ -103,6 +107,30 @@ given_before (given.Loaded bytes number) settings now less seen after request p 
 given_before (given.Fresh bytes why_is) settings now less seen after request p g =
     (why_before why_is settings less seen after request bytes p g.0, elim g.1 [ inl off ↦ inl off | inr ended ↦ inr (ended_before less seen after request p ended) ])
 
+-- ---- a lookup that found no live entry
+
+none_on : (seen after : List Record) (request : Request) → IsPrefix seen after → NoneLiveOf seen request → EndedAfter seen after request
+none_on seen after request p none e loaded same = end_on seen after e.number p (none e loaded same)
+
+pub found_low : (settings : DbConf) (seen : List Record) (request : Request) (epoch : ℕ) (reply : List ℕ) → IsFound settings (looked.Missed epoch) seen request reply → epoch ≤ invalidations seen
+found_low settings seen request epoch reply (inl off) = let none = off.1 in omega arith
+found_low settings seen request epoch reply (inr none) = let all = none.0 in omega arith
+
+pub found_none : (settings : DbConf) (seen : List Record) (request : Request) (epoch : ℕ) (reply : List ℕ) → settings.enabled ≡ true → IsFound settings (looked.Missed epoch) seen request reply → (epoch ≡ invalidations seen) × NoneLiveOf seen request
+found_none settings seen request epoch reply on (inl off) = absurd (false≢true (sym off.0 ∙ on))
+found_none settings seen request epoch reply on (inr none) = none
+
+-- it found none, or the database is not cached
+pub is_missed : (settings : DbConf) (less seen after : List Record) (request : Request) (epoch : ℕ) (reply : List ℕ) → IsPrefix less seen → IsPrefix seen after → IsFound settings (looked.Missed epoch) seen request reply → IsMissed settings less after request
+is_missed settings less seen after request epoch reply p q (inl off) = inl off.0
+is_missed settings less seen after request epoch reply p q (inr none) = inr (ended_before less seen after request p (none_on seen after request q none.1))
+
+pub missed_at : (cause : LookupFault) (settings : DbConf) (seen after : List Record) (request : Request) → IsMissed settings seen after request → IsMissedAt cause settings seen after request
+missed_at fault.NoMemory settings seen after request m = tt
+missed_at (fault.Spent count) settings seen after request m = m
+missed_at (fault.SourceFault file) settings seen after request m = m
+missed_at (fault.TooLong file size) settings seen after request m = m
+
 -- ---- a lookup that makes its answer anew
 
 -- what it knows before its insertion: no entry of the request was live, and the content was polled since so many invalidations
@@ -120,9 +148,6 @@ loaded_of settings now request polled =
 
 pub anew_answers : (seen mid : List Record) (request : Request) (epoch : ℕ) (polled : Polled) (settings : DbConf) (now : ℕ) → IsPolled seen mid epoch polled → IsAnswered mid (loaded_of settings now request polled)
 anew_answers seen mid request epoch polled settings now is = record { files = polled.content; version = is.version; answer = refl; polled = subst (PolledSince mid polled.stamp.version) (sym is.epoch_is) is.since }
-
-none_on : (seen after : List Record) (request : Request) → IsPrefix seen after → NoneLiveOf seen request → EndedAfter seen after request
-none_on seen after request p none e loaded same = end_on seen after e.number p (none e loaded same)
 
 not_seen : (seen mid : List Record) (e : Entry) → Legal seen → IsPrefix seen mid → loads mid ≤ e.number → HasLoad seen e → ⊥
 not_seen seen mid e legal p low loaded = let below = load_below seen e legal loaded in let few = loads_on seen mid p in omega arith

@@ -1,24 +1,28 @@
 -- What a tick comes to, hold after hold.
 use Rattle.std.proofs.Common.{◌≡◌, ◌≢◌, ℕ, ◌+◌, ◌<◌, ◌≤◌, List, [], ◌∷◌, ◌++◌, Option, Some, refl, sym, ap, subst, ◌∙◌, arith, inl, inr}
+use Rattle.std.specs.Bool.{OnTrue}
 use Rattle.std.proofs.lemmas.Bool.{OnTrue_at, OnTrue_from}
 use Rattle.nsc_model.specs.declared.conf.DbConf.{DbConf}
 use Rattle.nsc_model.specs.declared.kind.Db.{Db}
 use Rattle.nsc_model.specs.declared.kind.FileId.{FileId}
 use Rattle.nsc_model.specs.declared.record.Record.{Record}
 use Rattle.nsc_model.specs.declared.record.Record.TheVariants.{Change, Poll, Load, End, Invalid}
+use Rattle.nsc_model.specs.declared.store.LookupFault.{LookupFault}
+use Rattle.nsc_model.specs.declared.store.LookupFault.TheVariants as fault
 use Rattle.nsc_model.specs.Entry.{Entry}
 use Rattle.nsc_model.specs.History.{HasEnd, HasLoad, IsPrefix, Legal, LookedBetween, NoneLive, PolledSince, changes, invalidations, version_in}
 use Rattle.nsc_model.specs.Reloads.{Reloaded}
-use Rattle.nsc_model.specs.Stores.{IsTicked, LoadsAgain}
+use Rattle.nsc_model.specs.Reads.{IsLookedUp}
+use Rattle.nsc_model.specs.Stores.{AreOverEnded, IsTickFault, IsTicked, LoadsAgain}
 use Rattle.nsc_model.specs.Machine.{room_of}
+use Rattle.nsc_model.specs.Content.{Content}
 use Rattle.nsc_laws.proofs.CoreLawRecords.{ended_or_not}
 use Rattle.nsc_laws.proofs.Prefixes.{more_after, prefix_legal}
 use Rattle.nsc_writer.specs.Due.{Due}
 use Rattle.nsc_writer.proofs.Later.{end_on, load_on, polled_on, prefix_through, version_on}
 use Rattle.nsc_sourcebook.specs.Book.{Polled}
-use Rattle.nsc_sourcebook.specs.Reads.{AllRose, AreAsTold}
 use Rattle.nsc_database.specs.Holds.{IsPolled}
-use Rattle.nsc_database.specs.Ticks.{AreListed, AreOver, IsTickedOver}
+use Rattle.nsc_database.specs.Ticks.{AreListed, AreOver, IsHoldFault}
 use Rattle.nsc_database.proofs.Shown.{invalidations_on, prefix_length}
 use Rattle.nsc_database.proofs.Rests.{version_within}
 
@@ -76,14 +80,29 @@ looked_at seen noted mid after last epoch polled t p =
 seen_on : (seen noted mid after : List Record) (epoch : ℕ) (polled : Polled) → Ticking seen noted mid after epoch polled → IsPrefix seen after
 seen_on seen noted mid after epoch polled t = prefix_through seen noted after t.before (prefix_through noted mid after t.to_mid t.to_after)
 
-pub emptied_ticked : (settings : DbConf) (limit : Option ℕ) (now : ℕ) (seen noted mid after : List Record) (epoch : ℕ) (polled : Polled) → Ticking seen noted mid after epoch polled → NoneLive after → Reloaded limit after → LoadsAgain (room_of settings) after
-    → IsTicked settings limit now seen after
-emptied_ticked settings limit now seen noted mid after epoch polled t none r l =
+-- what was polled is the content of its version still
+polled_still : (seen noted mid after last : List Record) (epoch : ℕ) (polled : Polled) → Ticking seen noted mid after epoch polled → IsPrefix after last → Legal last → version_in last polled.stamp.version ≡ Some polled.content
+polled_still seen noted mid after last epoch polled t p legal = version_on mid last polled.stamp.version polled.content legal t.legal_mid (prefix_through mid after last t.to_after p) t.is_polled.version
+
+-- a call before and after which no file was read
+pub files_kept : {Files : Type 0} (which : Db) (reads : Files → FileId → ℕ) (latest : Files → FileId → Option (Option (List ℕ))) (content : Content) (f0 f1 f2 f3 : Files) → f1 ≡ f0 → f3 ≡ f2 → IsLookedUp which (reads f1) (reads f2) (latest f2) content → IsLookedUp which (reads f0) (reads f3) (latest f3) content
+files_kept {Files} which reads latest content f0 f1 f2 f3 first same l = subst (λ (x : Files × Files). IsLookedUp which (reads x.0) (reads x.1) (latest x.1) content) (λ i. (first i, sym same i)) l
+
+-- where no entry is live, each one whose time was over is ended
+pub emptied_over : (now : ℕ) (seen after : List Record) → IsPrefix seen after → NoneLive after → AreOverEnded now seen after
+emptied_over now seen after on none e a low = none e (load_on seen after e on a)
+
+pub emptied_ticked : (which : Db) (m n : FileId → ℕ) (latest : FileId → Option (Option (List ℕ))) (settings : DbConf) (limit : Option ℕ) (now : ℕ) (seen noted mid after : List Record) (epoch : ℕ) (polled : Polled) → Ticking seen noted mid after epoch polled → IsLookedUp which m n latest polled.content → NoneLive after → Reloaded limit after
+    → LoadsAgain (room_of settings) after → IsTicked which m n latest settings limit now seen after
+emptied_ticked which m n latest settings limit now seen noted mid after epoch polled t files none r l =
     let on = seen_on seen noted mid after epoch polled t in
     record {
       version = polled.stamp.version;
       looked = looked_at seen noted mid after after epoch polled t ([], refl);
-      over = λ e a low. none e (load_on seen after e on a);
+      content = polled.content;
+      version_is = polled_still seen noted mid after after epoch polled t ([], refl) t.legal_after;
+      files = files;
+      over = emptied_over now seen after on none;
       outdated = OnTrue_from settings.check_files _ (λ on' e a other. none e (load_on seen after e on a));
       reloaded = r;
       again = l;
@@ -99,60 +118,50 @@ over_polled seen noted mid after epoch polled e t a high =
     let last = changes_on mid after t.to_after in
     omega arith
 
-pub listed_ticked : (settings : DbConf) (limit : Option ℕ) (now : ℕ) (seen noted mid after last : List Record) (epoch : ℕ) (polled : Polled) (due : List Due) → Ticking seen noted mid after epoch polled → AreListed settings limit now after due → IsPrefix after last → Legal last
-    → AreOver epoch last due → Reloaded limit last → LoadsAgain (room_of settings) last → IsTicked settings limit now seen last
-listed_ticked settings limit now seen noted mid after last epoch polled due t listed p legal over r l = by_over over where
-  on : IsPrefix seen after
-  on = seen_on seen noted mid after epoch polled t
+-- after an invalidation since it was noted how many there were, each entry that had been seen is ended
+ended_all : (seen noted mid after last : List Record) (epoch : ℕ) (polled : Polled) → Ticking seen noted mid after epoch polled → IsPrefix after last → Legal last → epoch < invalidations last → (e : Entry) → HasLoad seen e → HasEnd last e.number
+ended_all seen noted mid after last epoch polled t p legal more e a =
+    let to_last = prefix_through noted mid last t.to_mid (prefix_through mid after last t.to_after p) in
+    let rose : invalidations noted < invalidations last = (let same = t.epoch_is in omega arith) in
+    ended_by noted last e legal to_last rose (load_on seen noted e t.before a)
 
-  by_over : AreOver epoch last due → IsTicked settings limit now seen last
-  by_over (inl more) =
-      let to_last = prefix_through noted mid last t.to_mid (prefix_through mid after last t.to_after p) in
-      let rose : invalidations noted < invalidations last = (let same = t.epoch_is in omega arith) in
-      let ended : (e : Entry) → HasLoad seen e → HasEnd last e.number = λ e a. ended_by noted last e legal to_last rose (load_on seen noted e t.before a) in
-      record { version = polled.stamp.version; looked = looked_at seen noted mid after last epoch polled t p; over = λ e a low. ended e a; outdated = OnTrue_from settings.check_files _ (λ on' e a other. ended e a); reloaded = r; again = l }
-  by_over (inr gone) = record {
-    version = polled.stamp.version;
-    looked = looked_at seen noted mid after last epoch polled t p;
-    over = λ e a low. elim (listed.all e (load_on seen after e on a) low) [ inl ended ↦ end_on after last e.number p ended | inr has ↦ gone e.number has ];
-    outdated = OnTrue_from settings.check_files _ (λ on' e a other. elim (ended_or_not after e.number) [
-      | inl ended ↦ end_on after last e.number p ended
-      | inr lives ↦ absurd (other (over_polled seen noted mid after epoch polled e t a (OnTrue_at on' listed.current e (record { inserted = load_on seen after e on a; not_ended = lives }))))
-    ]);
-    reloaded = r;
-    again = l;
-  }
+pub listed_over : (settings : DbConf) (limit : Option ℕ) (now : ℕ) (seen noted mid after last : List Record) (epoch : ℕ) (polled : Polled) (due : List Due) → Ticking seen noted mid after epoch polled → AreListed settings limit now after due → IsPrefix after last → Legal last → AreOver epoch last due → AreOverEnded now seen last
+listed_over settings limit now seen noted mid after last epoch polled due t listed p legal (inl more) e a low = ended_all seen noted mid after last epoch polled t p legal more e a
+listed_over settings limit now seen noted mid after last epoch polled due t listed p legal (inr gone) e a low =
+    elim (listed.all e (load_on seen after e (seen_on seen noted mid after epoch polled t) a) low) [ inl ended ↦ end_on after last e.number p ended | inr has ↦ gone e.number has ]
 
--- a tick over files, of which it is known what was read
-pub over_files : {Files : Type 0} (which : Db) (reads : Files → FileId → ℕ) (latest : Files → FileId → Option (Option (List ℕ))) (settings : DbConf) (limit : Option ℕ) (now : ℕ) (seen noted mid after last : List Record) (epoch : ℕ) (polled : Polled) (f0 f1 f2 f3 : Files)
-    → Ticking seen noted mid after epoch polled → IsPrefix after last → Legal last → f1 ≡ f0 → f3 ≡ f2 → AllRose which (reads f1) (reads f2) → AreAsTold which (latest f2) polled.content → (ticked : IsTicked settings limit now seen last) → ticked.version ≡ polled.stamp.version
-    → IsTickedOver which (reads f0) (reads f3) (latest f3) settings limit now seen last
-over_files which reads latest settings limit now seen noted mid after last epoch polled f0 f1 f2 f3 t p legal first same rose told ticked is = record {
-  ticked = ticked;
-  read = subst (λ f. AllRose which (reads f0) (reads f)) (sym same) (subst (λ f. AllRose which (reads f) (reads f2)) first rose);
+listed_outdated : (settings : DbConf) (limit : Option ℕ) (now : ℕ) (seen noted mid after last : List Record) (epoch : ℕ) (polled : Polled) (due : List Due) → Ticking seen noted mid after epoch polled → AreListed settings limit now after due → IsPrefix after last → Legal last → AreOver epoch last due
+    → OnTrue settings.check_files ((e : Entry) → HasLoad seen e → e.version ≢ polled.stamp.version → HasEnd last e.number)
+listed_outdated settings limit now seen noted mid after last epoch polled due t listed p legal (inl more) = OnTrue_from settings.check_files _ (λ on e a other. ended_all seen noted mid after last epoch polled t p legal more e a)
+listed_outdated settings limit now seen noted mid after last epoch polled due t listed p legal (inr gone) = OnTrue_from settings.check_files _ (λ on e a other. elim (ended_or_not after e.number) [
+  | inl ended ↦ end_on after last e.number p ended
+  | inr lives ↦ absurd (other (over_polled seen noted mid after epoch polled e t a (OnTrue_at on listed.current e (record { inserted = load_on seen after e (seen_on seen noted mid after epoch polled t) a; not_ended = lives }))))
+])
+
+pub listed_ticked : (which : Db) (m n : FileId → ℕ) (latest : FileId → Option (Option (List ℕ))) (settings : DbConf) (limit : Option ℕ) (now : ℕ) (seen noted mid after last : List Record) (epoch : ℕ) (polled : Polled) (due : List Due) → Ticking seen noted mid after epoch polled → IsLookedUp which m n latest polled.content
+    → AreListed settings limit now after due → IsPrefix after last → Legal last → AreOver epoch last due → Reloaded limit last → LoadsAgain (room_of settings) last → IsTicked which m n latest settings limit now seen last
+listed_ticked which m n latest settings limit now seen noted mid after last epoch polled due t files listed p legal over r l = record {
+  version = polled.stamp.version;
+  looked = looked_at seen noted mid after last epoch polled t p;
   content = polled.content;
-  version = ap (version_in last) is ∙ version_on mid last polled.stamp.version polled.content legal t.legal_mid (prefix_through mid after last t.to_after p) t.is_polled.version;
-  told = subst (λ f. AreAsTold which (latest f) polled.content) (sym same) told;
+  version_is = polled_still seen noted mid after last epoch polled t p legal;
+  files = files;
+  over = listed_over settings limit now seen noted mid after last epoch polled due t listed p legal over;
+  outdated = listed_outdated settings limit now seen noted mid after last epoch polled due t listed p legal over;
+  reloaded = r;
+  again = l;
 }
 
-pub emptied_over : {Files : Type 0} (which : Db) (reads : Files → FileId → ℕ) (latest : Files → FileId → Option (Option (List ℕ))) (settings : DbConf) (limit : Option ℕ) (now : ℕ) (seen noted mid after : List Record) (epoch : ℕ) (polled : Polled) (f0 f1 f2 f3 : Files)
-    → Ticking seen noted mid after epoch polled → f1 ≡ f0 → f3 ≡ f2 → AllRose which (reads f1) (reads f2) → AreAsTold which (latest f2) polled.content → NoneLive after → Reloaded limit after → LoadsAgain (room_of settings) after → IsTickedOver which (reads f0) (reads f3) (latest f3) settings limit now seen after
-unfolding emptied_ticked
-emptied_over which reads latest settings limit now seen noted mid after epoch polled f0 f1 f2 f3 t first same rose told none r l =
-    over_files which reads latest settings limit now seen noted mid after after epoch polled f0 f1 f2 f3 t ([], refl) t.legal_after first same rose told (emptied_ticked settings limit now seen noted mid after epoch polled t none r l) refl
+-- ---- faults
 
-listed_version : (settings : DbConf) (limit : Option ℕ) (now : ℕ) (seen noted mid after last : List Record) (epoch : ℕ) (polled : Polled) (due : List Due) (t : Ticking seen noted mid after epoch polled) (listed : AreListed settings limit now after due) (p : IsPrefix after last) (legal : Legal last)
-    (over : AreOver epoch last due) (r : Reloaded limit last) (l : LoadsAgain (room_of settings) last) → (listed_ticked settings limit now seen noted mid after last epoch polled due t listed p legal over r l).version ≡ polled.stamp.version
-unfolding listed_ticked
-listed_version settings limit now seen noted mid after last epoch polled due t listed p legal (inl more) r l = refl
-listed_version settings limit now seen noted mid after last epoch polled due t listed p legal (inr gone) r l = refl
+-- a hold gave up, and the entries whose time was over are ended where its ends were made
+pub hold_fault : (cause : LookupFault) (now : ℕ) (seen after : List Record) (before_faults after_faults : ℕ) (before_each after_each : FileId → ℕ) (ended : Type 0) → (ended → AreOverEnded now seen after) → IsHoldFault cause after ended → IsTickFault cause now seen after before_faults after_faults before_each after_each
+hold_fault fault.NoMemory now seen after m n m' n' ended to f = tt
+hold_fault (fault.Spent count) now seen after m n m' n' ended to f = inr (f.0, elim f.1 [ inl last ↦ inl last | inr gone ↦ inr (to gone) ])
+hold_fault (fault.SourceFault file) now seen after m n m' n' ended to f = absurd f
+hold_fault (fault.TooLong file size) now seen after m n m' n' ended to f = absurd f
 
-pub listed_over : {Files : Type 0} (which : Db) (reads : Files → FileId → ℕ) (latest : Files → FileId → Option (Option (List ℕ))) (settings : DbConf) (limit : Option ℕ) (now : ℕ) (seen noted mid after last : List Record) (epoch : ℕ) (polled : Polled) (due : List Due) (f0 f1 f2 f3 : Files)
-    → Ticking seen noted mid after epoch polled → f1 ≡ f0 → f3 ≡ f2 → AllRose which (reads f1) (reads f2) → AreAsTold which (latest f2) polled.content → AreListed settings limit now after due → IsPrefix after last → Legal last → AreOver epoch last due → Reloaded limit last → LoadsAgain (room_of settings) last
-    → IsTickedOver which (reads f0) (reads f3) (latest f3) settings limit now seen last
-listed_over which reads latest settings limit now seen noted mid after last epoch polled due f0 f1 f2 f3 t first same rose told listed p legal over r l =
-    over_files which reads latest settings limit now seen noted mid after last epoch polled f0 f1 f2 f3 t p legal first same rose told (listed_ticked settings limit now seen noted mid after last epoch polled due t listed p legal over r l)
-    (listed_version settings limit now seen noted mid after last epoch polled due t listed p legal over r l)
+-- ---- before the last hold
 
 pub noted_low : (seen noted mid after : List Record) (epoch : ℕ) (polled : Polled) → Ticking seen noted mid after epoch polled → epoch ≤ invalidations after
 noted_low seen noted mid after epoch polled t = let same = t.epoch_is in let rise = invalidations_on noted after (prefix_through noted mid after t.to_mid t.to_after) in omega arith

@@ -1,12 +1,8 @@
 -- What holds of a database whose file sets all tell one content, whatever was read of them.
-use Rattle.std.specs.Prelude.{◌≡◌, ℕ, List, Option, Some}
-use Rattle.nsc_model.specs.declared.answer.Request.{Request}
+use Rattle.std.specs.Prelude.{◌≡◌, List, Option, Some}
 use Rattle.nsc_model.specs.declared.kind.Db.{Db}
 use Rattle.nsc_model.specs.declared.record.Record.{Record}
-use Rattle.nsc_model.specs.declared.store.LookupFault.{LookupFault}
-use Rattle.nsc_model.specs.declared.store.LookupFault.TheVariants as fault
 use Rattle.nsc_model.specs.Content.{Content}
-use Rattle.nsc_model.specs.Answers.{answer_of}
 use Rattle.nsc_model.specs.Files.{part_of}
 use Rattle.nsc_model.specs.History.{changes, version_in}
 use Rattle.nsc_model.specs.Machine.{Cache}
@@ -35,18 +31,3 @@ IsSteady held which history = (files : Content) → held ≡ Some files → HasO
 pub record KeepsVersion (before after : Cache) : Type 0 where
   pub version : after.newest_version ≡ before.newest_version
   pub sources : after.sources ≡ before.sources
-
--- a reply is the answer over the one content that the file sets tell, where they tell it
-abbrev pub IsOfHeld : Option Content → Db → Request → List ℕ → Type 0
-IsOfHeld held which request bytes = (files : Content) → held ≡ Some files → bytes ≡ (answer_of (part_of which files) request).bytes
-
--- no read through a file set of this type ever fails, or meets a file that is too long
-abbrev pub IsCalm : {F : Type 0} → (F → ℕ) → Type 0
-IsCalm {F} faults = (files : F) → faults files ≡ 0
-
--- no file is at fault
-abbrev pub NoFileFault : LookupFault → Type 0
-NoFileFault fault.NoMemory = Unit {0}
-NoFileFault (fault.Spent count) = Unit {0}
-NoFileFault (fault.SourceFault file) = ⊥
-NoFileFault (fault.TooLong file size) = ⊥

@@ -2,23 +2,19 @@
 use Rattle.std.specs.Prelude.{◌≡◌, ℕ, ◌+◌, ◌<◌, ◌≤◌, ◌⊎◌, true, false, if◌then◌else◌, All, List, [], ◌∷◌, filter, length, Option, Some, None}
 use Rattle.std.specs.Bool.{OnTrue}
 use Rattle.nsc_model.specs.declared.conf.DbConf.{DbConf}
-use Rattle.nsc_model.specs.declared.kind.Db.{Db}
-use Rattle.nsc_model.specs.declared.kind.FileId.{FileId}
 use Rattle.nsc_model.specs.declared.answer.Request.{Request}
 use Rattle.nsc_model.specs.declared.record.Ending.TheVariants.{Replaced}
 use Rattle.nsc_model.specs.declared.record.Record.{Record}
 use Rattle.nsc_model.specs.declared.record.Record.TheVariants.{End}
 use Rattle.nsc_model.specs.declared.store.LookupFault.{LookupFault}
 use Rattle.nsc_model.specs.declared.store.LookupFault.TheVariants as fault
-use Rattle.nsc_model.specs.Content.{Content}
 use Rattle.nsc_model.specs.Entry.{Entry}
-use Rattle.nsc_model.specs.History.{HasEnd, HasLoad, IsPrefix, Legal, NoneLive, invalidations, load_of, version_in}
+use Rattle.nsc_model.specs.History.{HasEnd, HasLoad, IsPrefix, Legal, NoneLive, invalidations, load_of}
 use Rattle.nsc_model.specs.Answers.{answer_of}
-use Rattle.nsc_model.specs.Machine.{all_words, is_outdated, life_of, next_reloads}
+use Rattle.nsc_model.specs.Machine.{all_words, life_of, next_reloads}
 use Rattle.nsc_model.specs.Reloads.{replaced}
-use Rattle.nsc_model.specs.Stores.{IsLoadedAgain, IsTicked, IsUnmoved, MayBeUnmoved}
+use Rattle.nsc_model.specs.Stores.{IsEndedYet, IsLoadedAgain, IsUnmoved, MayBeUnmoved}
 use Rattle.nsc_sourcebook.specs.Book.{Polled}
-use Rattle.nsc_sourcebook.specs.Reads.{AllRose, AreAsTold}
 use Rattle.nsc_writer.specs.Due.{Due, marked_by, pruned_by}
 use Rattle.nsc_writer.specs.Loaded.{Loaded}
 use Rattle.nsc_writer.specs.Writer.{IsAnswered, Writer}
@@ -57,12 +53,12 @@ abbrev pub IsChecked : Checked → DbConf → Option ℕ → ℕ → List Record
 IsChecked checked.Emptied settings limit now history = NoneLive history
 IsChecked (checked.Listed due) settings limit now history = AreListed settings limit now history due.items
 
--- why a hold gave up: memory was wanting, or a count stands at its end
-abbrev pub IsHoldFault : LookupFault → List Record → Type 0
-IsHoldFault fault.NoMemory after = Unit {0}
-IsHoldFault (fault.Spent count) after = IsUnmoved after count
-IsHoldFault (fault.SourceFault file) after = ⊥
-IsHoldFault (fault.TooLong file size) after = ⊥
+-- why a hold gave up: memory was wanting, or a count stands at its end, and the ends were made all the same
+abbrev pub IsHoldFault : LookupFault → List Record → Type 0 → Type 0
+IsHoldFault fault.NoMemory after ended = Unit {0}
+IsHoldFault (fault.Spent count) after ended = IsUnmoved after count × IsEndedYet after ended
+IsHoldFault (fault.SourceFault file) after ended = ⊥
+IsHoldFault (fault.TooLong file size) after ended = ⊥
 
 -- what is to be loaded again for those that are due, one for each: nothing for one that is dropped, or the answer to its request with
 -- one reload more
@@ -128,11 +124,3 @@ pub record IsSwept (now : ℕ) (due : List Due) (w w' : Writer) : Type 0 where
 -- the due entries are ended, or the database was invalidated after so many invalidations
 abbrev pub AreOver : ℕ → List Record → List Due → Type 0
 AreOver epoch history due = (epoch < invalidations history) ⊎ ((n : ℕ) → HasNumber due n → HasEnd history n)
-
--- a tick, and its files were read in the call: the version is made of what the reads gave, as far as that is told
-pub record IsTickedOver (which : Db) (before_reads after_reads : FileId → ℕ) (latest : FileId → Option (Option (List ℕ))) (settings : DbConf) (limit : Option ℕ) (now : ℕ) (seen after : List Record) : Type 0 where
-  pub ticked : IsTicked settings limit now seen after
-  pub read : AllRose which before_reads after_reads
-  pub content : Content
-  pub version : version_in after ticked.version ≡ Some content
-  pub told : AreAsTold which latest content

@@ -2,14 +2,13 @@
 ghost use Rattle.std.specs.Prelude.{◌≡◌, ◌≤◌, ◌<◌, ◌+◌, ◌^◌, length, IfOk, IfErr, OnOk};
 ghost use Rattle.std.specs.Bool.{OnTrue};
 ghost use Rattle.nsc_model.specs.Entry.{key_limit};
-ghost use Rattle.nsc_model.specs.Files.{part_of};
 ghost use Rattle.nsc_model.specs.Answers.{answer_of};
 ghost use Rattle.nsc_model.specs.History.{IsPrefix, Legal, invalidations};
 ghost use Rattle.nsc_writer.specs.Writer.{IsAnswered};
-ghost use Rattle.nsc_sourcebook.specs.Reads.{AllRose, AreAsTold, IsPartOf};
+ghost use Rattle.nsc_model.specs.Reads.{HasNotFallen, IsLookedUp, NoneFell};
 ghost use Rattle.nsc_model.specs.Machine.{life_of, room_of};
 ghost use Rattle.nsc_model.specs.Settings.{settings_of};
-ghost use Rattle.nsc_model.specs.Stores.{IsCounted, IsEmptied, IsFault, IsSpent, IsUnmoved};
+ghost use Rattle.nsc_model.specs.Stores.{IsCounted, IsEmptied, IsFault, IsInvalidateFault, IsSpent};
 ghost use Rattle.nsc_database.specs.Frames.{Held};
 ghost use Rattle.nsc_database.specs.Holds.{IsLooked, IsPolled};
 ghost use Rattle.nsc_database.specs.Lookups.{Gives, IsKept};
@@ -20,7 +19,9 @@ use crate::holds::Looked;
 use crate::pass::DbPass;
 use crate::room::{OfDb, Room};
 use nsc_base::{Buf, Bytes, NoMemory};
-use nsc_model::{Answer, Answerer, Db, DbConf, Given, Kind, LookupFault, Spent, Stats, Why};
+use nsc_model::{
+    Answer, Answerer, Db, DbConf, Given, InvalidateFault, Kind, LookupFault, Spent, Stats, Why,
+};
 use nsc_outside::FileSet;
 use nsc_rule::Map;
 use nsc_sourcebook::{Fetched, Polled};
@@ -93,13 +94,12 @@ impl<D: OfDb, F: FileSet + Drop, A: Answerer + Drop, B: Room> Base<D, F, A, B> {
         ensures before { IsPrefix pass.old.pass.seen pass.new.pass.seen }
         ensures legal { Legal pass.new.pass.seen }
         ensures polled { IfOk result (λ polled. IsPolled pass.old.pass.seen pass.new.pass.seen epoch polled) }
-        ensures told { IfOk result (λ polled. AreAsTold D.db (F.latest pass.new.files) polled.content) }
-        ensures part { IfOk result (λ polled. IsPartOf D.db (F.held pass.old.files) polled.content) }
-        ensures only { IfOk result (λ polled. polled.content ≡ part_of D.db polled.content) }
-        ensures read { OnOk result (AllRose D.db (F.reads pass.old.files) (F.reads pass.new.files)) }
+        ensures files { IfOk result (λ polled. IsLookedUp D.db (F.reads pass.old.files) (F.reads pass.new.files) (F.latest pass.new.files) polled.content) }
         ensures fault { IfErr result (λ fault. IsFault fault pass.new.pass.seen (F.faults pass.old.files) (F.faults pass.new.files) (F.file_faults pass.old.files) (F.file_faults pass.new.files)) }
+        ensures no_fault { OnOk result ((F.faults pass.new.files ≡ F.faults pass.old.files) × (F.file_faults pass.new.files ≡ F.file_faults pass.old.files)) }
+        ensures counts { HasNotFallen (F.faults pass.old.files) (F.faults pass.new.files) × NoneFell (F.file_faults pass.old.files) (F.file_faults pass.new.files) }
     {
-        pass.pass.learn();
+        pass.learn();
         let mut shelved = self.shelved.lock(rt);
         match shelved.fetch(alloc, pass, &self.answers) {
             Ok(fetched) => match self.enter(rt, &mut shelved, pass, fetched, epoch) {
@@ -178,14 +178,18 @@ impl<D: OfDb, F: FileSet + Drop, A: Answerer + Drop, B: Room> Base<D, F, A, B> {
 
 impl<D: OfDb, F: FileSet + Drop, A: Answerer + Drop, B: Room> Base<D, F, A, B> {
     /// Ends every entry, and gives the new number of invalidations.
-    pub fn invalidate<R: Wait>(&self, rt: &R, pass: &mut DbPass<F, B>) -> Result<u64, Spent>
+    pub fn invalidate<R: Wait>(
+        &self,
+        rt: &R,
+        pass: &mut DbPass<F, B>,
+    ) -> Result<u64, InvalidateFault>
         requires { pass.old.db ≡ D.db }
         ensures db { pass.new.db ≡ pass.old.db }
         ensures files { pass.new.files ≡ pass.old.files }
         ensures before { IsPrefix pass.old.pass.seen pass.new.pass.seen }
         ensures legal { Legal pass.new.pass.seen }
         ensures done { IfOk result (λ epoch. IsEmptied pass.old.pass.seen pass.new.pass.seen epoch) }
-        ensures spent { IfErr result (λ spent. IsUnmoved pass.new.pass.seen spent.count) }
+        ensures fault { IfErr result (λ fault. IsInvalidateFault fault pass.new.pass.seen) }
     {
         let mut lock = self.desk.lock(rt);
         let desk = &mut *lock;

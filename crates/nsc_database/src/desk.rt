@@ -5,11 +5,11 @@ ghost use Rattle.nsc_model.specs.Entry.{kept_limit};
 ghost use Rattle.nsc_model.specs.Files.{part_of};
 ghost use Rattle.nsc_model.specs.History.{Legal, NoneLive, invalidations};
 ghost use Rattle.nsc_writer.specs.Writer.{IsAnswered};
-ghost use Rattle.nsc_sourcebook.specs.Reads.{AllRose, AreAsTold, FaultRose, IsPartOf, TellsLength};
+ghost use Rattle.nsc_sourcebook.specs.Reads.{AllRose, AreAsTold, FaultRose, IsPartOf, NoneFell, TellsLength};
 ghost use Rattle.nsc_model.specs.Machine.{is_outdated, room_of};
 ghost use Rattle.nsc_model.specs.Reloads.{Reloaded};
 ghost use Rattle.nsc_model.specs.Settings.{settings_of};
-ghost use Rattle.nsc_model.specs.Stores.{IsCounted, IsEmptied, IsSpent, IsUnmoved, LoadsAgain};
+ghost use Rattle.nsc_model.specs.Stores.{IsCounted, IsEmptied, IsInvalidateFault, IsSpent, IsUnmoved, LoadsAgain};
 ghost use Rattle.nsc_writer.specs.Uses.{counted};
 ghost use Rattle.nsc_database.specs.declared.renewal.Checked.TheVariants as is_checked;
 ghost use Rattle.nsc_database.specs.Frames.{Held};
@@ -22,7 +22,7 @@ use crate::pass::DbPass;
 use crate::renewal::{Checked, end_due, reload};
 use crate::room::{OfDb, Room};
 use nsc_base::{Buf, NoMemory};
-use nsc_model::{Answerer, DbConf, Kind, LookupFault, Spent, Stats};
+use nsc_model::{Answerer, DbConf, InvalidateFault, Kind, LookupFault, Spent, Stats};
 use nsc_outside::FileSet;
 use nsc_rule::Pass;
 use nsc_sourcebook::{Fetched, PollFault, Polled, SourceBook};
@@ -160,11 +160,14 @@ impl<D: OfDb, B: Room> Desk<D, B> {
 
     /// Ends every entry, and gives the new number of invalidations. At `Spent` that number stands at its end; or every entry
     /// ended, and the count of the beginnings and the ends of slides does.
-    pub fn invalidate(&mut self) -> Result<u64, Spent>
+    pub fn invalidate(&mut self) -> Result<u64, InvalidateFault>
         ensures done { IfOk result (λ epoch. IsEmptied self.old.writer.seen self.new.writer.seen epoch) }
-        ensures spent { IfErr result (λ spent. IsUnmoved self.new.writer.seen spent.count) }
+        ensures fault { IfErr result (λ fault. IsInvalidateFault fault self.new.writer.seen) }
     {
-        holds::invalidate(&mut self.writer)
+        match holds::invalidate(&mut self.writer) {
+            Ok(epoch) => Ok(epoch),
+            Err(spent) => Err(InvalidateFault::Spent { count: spent.count }),
+        }
     }
 }
 
@@ -181,7 +184,7 @@ impl<D: OfDb, B: Room> Desk<D, B> {
         requires settings { settings.now ≡ settings_of B.conf D.db }
         requires limit { limit ≡ B.conf.reloads }
         ensures checked { IfOk result (λ checked. IsChecked checked settings.now limit now self.new.writer.seen) }
-        ensures fault { IfErr result (λ fault. IsHoldFault fault self.new.writer.seen) }
+        ensures fault { IfErr result (λ fault. IsHoldFault fault self.new.writer.seen (NoneLive self.new.writer.seen)) }
     {
         if is_outdated(settings, self.writer.version(), self.ticked) {
             return self.empty();
@@ -194,7 +197,7 @@ impl<D: OfDb, B: Room> Desk<D, B> {
         requires limit { limit ≡ B.conf.reloads }
         requires current { is_outdated (settings_of B.conf D.db) self.old.writer.cache.newest_version self.old.ticked ≡ false }
         ensures checked { IfOk result (λ checked. IsChecked checked (settings_of B.conf D.db) limit now self.new.writer.seen) }
-        ensures fault { IfErr result (λ fault. IsHoldFault fault self.new.writer.seen) }
+        ensures fault { IfErr result (λ fault. IsHoldFault fault self.new.writer.seen (NoneLive self.new.writer.seen)) }
     {
         self.writer.learn();
         let newest = self.writer.version();
@@ -210,7 +213,7 @@ impl<D: OfDb, B: Room> Desk<D, B> {
     fn empty(&mut self) -> Result<Checked, LookupFault>
         ensures emptied { IfOk result (λ checked. checked ≡ is_checked.Emptied) }
         ensures none { OnOk result (NoneLive self.new.writer.seen) }
-        ensures fault { IfErr result (λ fault. IsHoldFault fault self.new.writer.seen) }
+        ensures fault { IfErr result (λ fault. IsHoldFault fault self.new.writer.seen (NoneLive self.new.writer.seen)) }
     {
         let newest = self.writer.version();
         match holds::invalidate(&mut self.writer) {
@@ -236,7 +239,7 @@ impl<D: OfDb, B: Room> Desk<D, B> {
         requires due { All (IsDue B.conf.reloads now self.old.writer.seen) due.old }
         requires loads { AreAnew self.old.writer.seen due.old loads.now }
         requires stamps { HaveStamp epoch loads.now }
-        ensures over { OnOk result (AreOver epoch self.new.writer.seen due.old) }
+        ensures over { AreOver epoch self.new.writer.seen due.old }
         ensures spent { IfErr result (λ spent. IsUnmoved self.new.writer.seen spent.count) }
     {
         self.writer.learn();
@@ -285,6 +288,8 @@ impl<D: OfDb, F: FileSet + Drop, A: Answerer, B: Room> Shelved<D, F, A, B> {
         ensures read { OnOk result (AllRose D.db (F.reads pass.old.files) (F.reads pass.new.files)) }
         ensures calm { OnOk result (F.faults pass.new.files ≡ F.faults pass.old.files) }
         ensures faults { IfErr result (λ fault. FaultRose fault (F.faults pass.old.files) (F.faults pass.new.files) (F.file_faults pass.old.files) (F.file_faults pass.new.files)) }
+        ensures file_calm { OnOk result (F.file_faults pass.new.files ≡ F.file_faults pass.old.files) }
+        ensures kept { NoneFell (F.file_faults pass.old.files) (F.file_faults pass.new.files) }
         ensures length { IfErr result (λ fault. TellsLength fault (F.held pass.old.files)) }
     {
         self.book.fetch(alloc, &mut pass.files, answers)

@@ -1,20 +1,23 @@
 // Lookups.
-ghost use Rattle.std.specs.Prelude.{◌≡◌, ◌≤◌, ◌<◌, ◌^◌, false, length, IfOk, IfErr};
+ghost use Rattle.std.specs.Prelude.{◌≡◌, ◌≤◌, ◌<◌, ◌^◌, length, IfOk, IfErr, OnOk};
 ghost use Rattle.std.specs.Bool.{OnFalse};
 ghost use Rattle.nsc_model.specs.declared.store.Given.TheVariants as given;
 ghost use Rattle.nsc_model.specs.declared.store.Why.TheVariants as why;
+ghost use Rattle.nsc_model.specs.Answers.{answer_of};
 ghost use Rattle.nsc_model.specs.Entry.{key_limit};
-ghost use Rattle.nsc_model.specs.History.{Answered, IsPrefix, Legal, NoneLiveOf, invalidations};
-ghost use Rattle.nsc_model.specs.Stores.{IsGiven, IsFault, reply_of};
-ghost use Rattle.nsc_database.specs.Lookups.{IsMade};
+ghost use Rattle.nsc_model.specs.History.{Answered, IsPrefix, Legal};
+ghost use Rattle.nsc_model.specs.Reads.{HasNotFallen, IsMade, IsOfHeld, NoFileFault, NoneFell};
+ghost use Rattle.nsc_model.specs.Stores.{IsFault, IsGiven, IsMissedAt, reply_of};
+ghost use Rattle.nsc_database.specs.Lookups.{IsFound};
 
 use crate::base::Base;
 use crate::holds::Looked;
 use crate::pass::DbPass;
 use crate::room::{OfDb, Room};
-use nsc_base::Bytes;
+use nsc_base::{Bytes, NoMemory};
 use nsc_model::{Answerer, Given, Kind, LookupFault, Why};
 use nsc_outside::FileSet;
+use nsc_sourcebook::Polled;
 use std::alloc::Global;
 use std::sync::Wait;
 
@@ -34,61 +37,44 @@ impl<D: OfDb, F: FileSet + Drop, A: Answerer + Drop, B: Room> Base<D, F, A, B> {
         requires moment { now < 2 ^ 62 }
         ensures db { pass.new.db ≡ pass.old.db }
         ensures before { IsPrefix pass.old.pass.seen pass.new.pass.seen }
+        ensures legal { Legal pass.new.pass.seen }
         ensures answered { IfOk result (λ g. Answered pass.old.pass.seen pass.new.pass.seen (record { kind = kind; key = key.now }) (reply_of g)) }
         ensures given { IfOk result (λ g. IsGiven g self.now.settings now pass.old.pass.seen pass.new.pass.seen (record { kind = kind; key = key.now })) }
         ensures made { IfOk result (λ g. IsMade D.db (F.reads pass.old.files) (F.reads pass.new.files) (F.latest pass.new.files) (record { kind = kind; key = key.now }) g) }
         ensures uncached { OnFalse self.now.settings.enabled (IfOk result (λ g. g ≡ given.Fresh (reply_of g) why.Disabled)) }
+        ensures held { IfOk result (λ g. IsOfHeld B.held D.db (record { kind = kind; key = key.now }) (reply_of g)) }
+        ensures missed { IfErr result (λ fault. IsMissedAt fault self.now.settings pass.old.pass.seen pass.new.pass.seen (record { kind = kind; key = key.now })) }
         ensures fault { IfErr result (λ fault. IsFault fault pass.new.pass.seen (F.faults pass.old.files) (F.faults pass.new.files) (F.file_faults pass.old.files) (F.file_faults pass.new.files)) }
+        ensures calm { F.faults pass.old.files ≡ 0 → F.faults pass.new.files ≡ 0 → IfErr result NoFileFault }
+        ensures no_fault { OnOk result ((F.faults pass.new.files ≡ F.faults pass.old.files) × (F.file_faults pass.new.files ≡ F.file_faults pass.old.files)) }
+        ensures counts { HasNotFallen (F.faults pass.old.files) (F.faults pass.new.files) × NoneFell (F.file_faults pass.old.files) (F.file_faults pass.new.files) }
     {
-        pass.pass.learn();
-        if !self.settings.enabled {
-            return self.lookup_uncached(rt, alloc, pass, kind, key);
-        }
-        match self.look(rt, pass, kind, key) {
+        let epoch = match self.find(rt, pass, kind, key) {
             Looked::Hit(hit) => match Bytes::copy(alloc, pass.reply.bytes()) {
-                Ok(bytes) => Ok(Given::Hit {
-                    bytes,
-                    number: hit.number,
-                }),
-                Err(_) => Err(LookupFault::NoMemory),
-            },
-            Looked::Missed { epoch } => {
-                match self.lookup_anew(rt, alloc, pass, kind, key, now, epoch) {
-                    Ok(given) => Ok(given),
-                    Err(fault) => Err(fault),
+                Ok(bytes) => {
+                    return Ok(Given::Hit {
+                        bytes,
+                        number: hit.number,
+                    });
                 }
-            }
-        }
-    }
-
-    // A lookup of a request of which no entry is live, after so many invalidations.
-    fn lookup_anew<R: Wait>(
-        &self,
-        rt: &R,
-        alloc: Global,
-        pass: &mut DbPass<F, B>,
-        kind: Kind,
-        key: &[u8],
-        now: u64,
-        epoch: u64,
-    ) -> Result<Given, LookupFault>
-        requires db { pass.old.db ≡ D.db }
-        requires key { length key.now ≤ key_limit }
-        requires moment { now < 2 ^ 62 }
-        requires epoch { epoch ≡ invalidations pass.old.pass.seen }
-        requires none { NoneLiveOf pass.old.pass.seen (record { kind = kind; key = key.now }) }
-        requires legal { Legal pass.old.pass.seen }
-        ensures db { pass.new.db ≡ pass.old.db }
-        ensures before { IsPrefix pass.old.pass.seen pass.new.pass.seen }
-        ensures answered { IfOk result (λ g. Answered pass.old.pass.seen pass.new.pass.seen (record { kind = kind; key = key.now }) (reply_of g)) }
-        ensures given { IfOk result (λ g. IsGiven g self.now.settings now pass.old.pass.seen pass.new.pass.seen (record { kind = kind; key = key.now })) }
-        ensures made { IfOk result (λ g. IsMade D.db (F.reads pass.old.files) (F.reads pass.new.files) (F.latest pass.new.files) (record { kind = kind; key = key.now }) g) }
-        ensures fault { IfErr result (λ fault. IsFault fault pass.new.pass.seen (F.faults pass.old.files) (F.faults pass.new.files) (F.file_faults pass.old.files) (F.file_faults pass.new.files)) }
-    {
+                Err(_) => return Err(LookupFault::NoMemory),
+            },
+            Looked::Missed { epoch } => epoch,
+        };
         let polled = match self.poll(rt, alloc, pass, epoch) {
             Ok(polled) => polled,
             Err(fault) => return Err(fault),
         };
+        if !self.settings.enabled {
+            let bytes = match self.reply(rt, alloc, &polled, kind, key) {
+                Ok(bytes) => bytes,
+                Err(_) => return Err(LookupFault::NoMemory),
+            };
+            return Ok(Given::Fresh {
+                bytes,
+                why: Why::Disabled,
+            });
+        }
         let loaded = match self.load(alloc, &polled, kind, key, now) {
             Ok(loaded) => loaded,
             Err(_) => return Err(LookupFault::NoMemory),
@@ -96,37 +82,35 @@ impl<D: OfDb, F: FileSet + Drop, A: Answerer + Drop, B: Room> Base<D, F, A, B> {
         Ok(self.keep(rt, pass, loaded))
     }
 
-    // A lookup where the database is not cached.
-    fn lookup_uncached<R: Wait>(
+    // Looks for the live entry of the request, where the database is cached.
+    fn find<R: Wait>(&self, rt: &R, pass: &mut DbPass<F, B>, kind: Kind, key: &[u8]) -> Looked
+        requires { pass.old.db ≡ D.db }
+        ensures db { pass.new.db ≡ pass.old.db }
+        ensures files { pass.new.files ≡ pass.old.files }
+        ensures before { IsPrefix pass.old.pass.seen pass.new.pass.seen }
+        ensures legal { Legal pass.new.pass.seen }
+        ensures found { IsFound self.now.settings result pass.new.pass.seen (record { kind = kind; key = key.now }) pass.new.reply.content }
+    {
+        if self.settings.enabled {
+            return self.look(rt, pass, kind, key);
+        }
+        pass.learn();
+        Looked::Missed { epoch: 0 }
+    }
+
+    // The answer over a polled content, which is not to be inserted. Counts a miss.
+    fn reply<R: Wait>(
         &self,
         rt: &R,
         alloc: Global,
-        pass: &mut DbPass<F, B>,
+        polled: &Polled<A>,
         kind: Kind,
         key: &[u8],
-    ) -> Result<Given, LookupFault>
-        requires db { pass.old.db ≡ D.db }
-        requires disabled { self.now.settings.enabled ≡ false }
-        ensures db { pass.new.db ≡ pass.old.db }
-        ensures before { IsPrefix pass.old.pass.seen pass.new.pass.seen }
-        ensures answered { IfOk result (λ g. Answered pass.old.pass.seen pass.new.pass.seen (record { kind = kind; key = key.now }) (reply_of g)) }
-        ensures given { IfOk result (λ g. IsGiven g self.now.settings 0 pass.old.pass.seen pass.new.pass.seen (record { kind = kind; key = key.now })) }
-        ensures fresh { IfOk result (λ g. g ≡ given.Fresh (reply_of g) why.Disabled) }
-        ensures made { IfOk result (λ g. IsMade D.db (F.reads pass.old.files) (F.reads pass.new.files) (F.latest pass.new.files) (record { kind = kind; key = key.now }) g) }
-        ensures fault { IfErr result (λ fault. IsFault fault pass.new.pass.seen (F.faults pass.old.files) (F.faults pass.new.files) (F.file_faults pass.old.files) (F.file_faults pass.new.files)) }
+    ) -> Result<Bytes, NoMemory>
+        ensures { IfOk result (λ bytes. bytes ≡ (answer_of polled.now.content (record { kind = kind; key = key.now })).bytes) }
     {
-        let polled = match self.poll(rt, alloc, pass, 0) {
-            Ok(polled) => polled,
-            Err(fault) => return Err(fault),
-        };
-        let answer = match self.answers.answer(alloc, polled.ready(), kind, key) {
-            Ok(answer) => answer,
-            Err(_) => return Err(LookupFault::NoMemory),
-        };
+        let answer = self.answers.answer(alloc, polled.ready(), kind, key)?;
         self.desk.lock(rt).miss(answer.is_not_found());
-        Ok(Given::Fresh {
-            bytes: answer.into_bytes(),
-            why: Why::Disabled,
-        })
+        Ok(answer.into_bytes())
     }
 }

@@ -1,6 +1,6 @@
 ghost use Rattle.std.specs.Prelude.{◌≡◌};
 ghost use Rattle.nsc_model.specs.Entry.{kept_limit};
-ghost use Rattle.nsc_model.specs.History.{IsPrefix};
+ghost use Rattle.nsc_model.specs.History.{IsPrefix, Legal};
 ghost use Rattle.nsc_database.specs.Steady.{IsSteady};
 
 use crate::room::Room;
@@ -26,12 +26,13 @@ pub struct DbPass<F: FileSet + Drop, B: Room> {
 }
 
 impl<F: FileSet + Drop, B: Room> DbPass<F, B> {
-    /// Where the file sets of the room tell what they hold, the history that it has seen has one version, its database's part of
-    /// that.
+    /// What it has seen is legal; and where the file sets of the room tell what they hold, that has one version, its database's
+    /// part of it.
     pub fn learn(&self)
-        ensures { IsSteady B.held self.now.db self.now.pass.seen }
+        ensures legal { Legal self.now.pass.seen }
+        ensures steady { IsSteady B.held self.now.db self.now.pass.seen }
     {
-        let _ = &self.pass;
+        self.pass.learn();
     }
 
     /// It has seen, then, all that it and the other one had seen.
@@ -41,6 +42,7 @@ impl<F: FileSet + Drop, B: Room> DbPass<F, B> {
         ensures files { self.new.files ≡ self.old.files }
         ensures before { IsPrefix self.old.pass.seen self.new.pass.seen }
         ensures other { IsPrefix other.pass.seen self.new.pass.seen }
+        ensures legal { Legal self.new.pass.seen }
     {
         let DbPass {
             db: _,
@@ -51,5 +53,6 @@ impl<F: FileSet + Drop, B: Room> DbPass<F, B> {
             room: _,
         } = other;
         self.pass.meet(&self.map, pass);
+        self.learn();
     }
 }

@@ -1,10 +1,11 @@
-ghost use Rattle.std.specs.Prelude.{◌≡◌, ◌<◌, ◌≤◌, ◌^◌, All, Some, map, IfOk, IfErr, IfSome, OnOk};
-ghost use Rattle.std.specs.Bool.{OnTrue};
-ghost use Rattle.nsc_model.specs.History.{IsPrefix, Legal, PolledSince, invalidations, version_in};
+ghost use Rattle.std.specs.Prelude.{◌≡◌, ◌<◌, ◌≤◌, ◌^◌, All, Some, map, IsOk, IfOk, IfErr, IfSome, OnOk};
+ghost use Rattle.std.specs.Bool.{OnFalse, OnTrue};
+ghost use Rattle.nsc_model.specs.History.{IsPrefix, Legal, NoneLive, PolledSince, invalidations, version_in};
+ghost use Rattle.nsc_model.specs.Reads.{HasNotFallen, NoFileFault, NoneFell};
 ghost use Rattle.nsc_model.specs.Reloads.{Reloaded};
 ghost use Rattle.nsc_model.specs.Machine.{room_of};
-ghost use Rattle.nsc_model.specs.Stores.{IsTickFault, LoadsAgain};
-ghost use Rattle.nsc_database.specs.Ticks.{AreOver, IsChecked, IsDue, IsHoldFault, IsTickedOver, anew_of};
+ghost use Rattle.nsc_model.specs.Stores.{IsTickFault, IsTicked, LoadsAgain};
+ghost use Rattle.nsc_database.specs.Ticks.{AreOver, IsChecked, IsDue, IsHoldFault, anew_of};
 
 use crate::base::{Base, life_of};
 use crate::pass::DbPass;
@@ -32,20 +33,21 @@ impl<D: OfDb, F: FileSet + Drop, A: Answerer + Drop, B: Room> Base<D, F, A, B> {
         ensures db { pass.new.db ≡ pass.old.db }
         ensures before { IsPrefix pass.old.pass.seen pass.new.pass.seen }
         ensures legal { Legal pass.new.pass.seen }
-        ensures ticked { OnOk result (OnTrue self.now.settings.enabled (IsTickedOver D.db (F.reads pass.old.files) (F.reads pass.new.files) (F.latest pass.new.files) self.now.settings self.now.reloads now pass.old.pass.seen pass.new.pass.seen)) }
-        ensures fault { IfErr result (λ fault. IsTickFault fault pass.new.pass.seen (F.faults pass.old.files) (F.faults pass.new.files) (F.file_faults pass.old.files) (F.file_faults pass.new.files)) }
+        ensures ticked { OnOk result (OnTrue self.now.settings.enabled (IsTicked D.db (F.reads pass.old.files) (F.reads pass.new.files) (F.latest pass.new.files) self.now.settings self.now.reloads now pass.old.pass.seen pass.new.pass.seen)) }
+        ensures uncached { OnFalse self.now.settings.enabled (IsOk result × (pass.new ≡ pass.old)) }
+        ensures fault { IfErr result (λ fault. IsTickFault fault now pass.old.pass.seen pass.new.pass.seen (F.faults pass.old.files) (F.faults pass.new.files) (F.file_faults pass.old.files) (F.file_faults pass.new.files)) }
+        ensures calm { F.faults pass.old.files ≡ 0 → F.faults pass.new.files ≡ 0 → IfErr result NoFileFault }
+        ensures no_fault { OnOk result ((F.faults pass.new.files ≡ F.faults pass.old.files) × (F.file_faults pass.new.files ≡ F.file_faults pass.old.files)) }
+        ensures counts { HasNotFallen (F.faults pass.old.files) (F.faults pass.new.files) × NoneFell (F.file_faults pass.old.files) (F.file_faults pass.new.files) }
     {
-        pass.pass.learn();
         if !self.settings.enabled {
+            pass.learn();
             return Ok(());
         }
         let epoch = self.note(rt, pass);
         let polled = match self.poll(rt, alloc, pass, epoch) {
             Ok(polled) => polled,
-            Err(fault) => {
-                pass.pass.learn();
-                return Err(fault);
-            }
+            Err(fault) => return Err(fault),
         };
         let checked = match self.check(rt, alloc, pass, now) {
             Ok(checked) => checked,
@@ -78,7 +80,7 @@ impl<D: OfDb, F: FileSet + Drop, A: Answerer + Drop, B: Room> Base<D, F, A, B> {
         ensures checked { IfOk result (λ checked. IsChecked checked self.now.settings self.now.reloads now pass.new.pass.seen) }
         ensures reloaded { Reloaded self.now.reloads pass.new.pass.seen }
         ensures again { LoadsAgain (room_of self.now.settings) pass.new.pass.seen }
-        ensures fault { IfErr result (λ fault. IsHoldFault fault pass.new.pass.seen) }
+        ensures fault { IfErr result (λ fault. IsHoldFault fault pass.new.pass.seen (NoneLive pass.new.pass.seen)) }
     {
         let mut lock = self.desk.lock(rt);
         let desk = &mut *lock;
@@ -113,7 +115,7 @@ impl<D: OfDb, F: FileSet + Drop, A: Answerer + Drop, B: Room> Base<D, F, A, B> {
         ensures over { OnOk result (AreOver epoch pass.new.pass.seen due.items) }
         ensures reloaded { OnOk result (Reloaded self.now.reloads pass.new.pass.seen) }
         ensures again { OnOk result (LoadsAgain (room_of self.now.settings) pass.new.pass.seen) }
-        ensures fault { IfErr result (λ fault. IsHoldFault fault pass.new.pass.seen) }
+        ensures fault { IfErr result (λ fault. IsHoldFault fault pass.new.pass.seen (AreOver epoch pass.new.pass.seen due.items)) }
     {
         let loads = match self.loads(alloc, polled, &due, now) {
             Ok(loads) => loads,

@@ -1,5 +1,5 @@
 -- Databases, kinds of lookups and files, with their numbers (glibc's nscd-client.h, protocol version 2).
-use Rattle.std.specs.Prelude.{ℕ, Bool, ◌==◌, ◌&&◌, if◌then◌else◌, List, [], ◌∷◌, Option, Some, None}
+use Rattle.std.specs.Prelude.{ℕ, Bool, ◌==◌, ◌&&◌, if◌then◌else◌, List, [], ◌∷◌, Option, Some, None, codes}
 use Rattle.std.specs.Str.{bytes_eq}
 use Rattle.nsc_model.specs.declared.kind.Db.{Db}
 use Rattle.nsc_model.specs.declared.kind.Db.TheVariants as db
@@ -31,6 +31,20 @@ db_numbered n =
     if n == 1 then Some db.Group else (
     if n == 2 then Some db.Hosts else (
     if n == 3 then Some db.Services else None)))
+
+-- the name of a database, as nscd.conf(5) has it, and the database of a name
+abbrev pub name_of : Db → List ℕ
+name_of db.Passwd = codes "passwd"
+name_of db.Group = codes "group"
+name_of db.Hosts = codes "hosts"
+name_of db.Services = codes "services"
+
+abbrev pub db_named : List ℕ → Option Db
+db_named name =
+    if bytes_eq name (name_of db.Passwd) then Some db.Passwd else (
+    if bytes_eq name (name_of db.Group) then Some db.Group else (
+    if bytes_eq name (name_of db.Hosts) then Some db.Hosts else (
+    if bytes_eq name (name_of db.Services) then Some db.Services else None)))
 
 -- the request type of a kind
 abbrev pub type_number : Kind → ℕ

@@ -27,4 +27,5 @@ pub mod Faults
 pub mod Frames
 pub mod Replay
 pub mod Fronts
+pub mod Reads
 pub mod Stores

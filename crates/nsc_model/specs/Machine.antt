@@ -20,6 +20,10 @@ use Rattle.nsc_model.specs.Answers.{answer_of}
 abbrev pub last_count : ℕ
 last_count = 2 ^ 62
 
+-- the next count, which stays there
+abbrev pub next_count : ℕ → ℕ
+next_count count = min (count + 1) last_count
+
 -- a live entry, and how often it was reloaded since it was last used
 pub record Kept : Type 0 where
   pub entry : Entry
@@ -158,7 +162,7 @@ tried_by (Some (TooLarge size)) k cache = unchanged cache
 tried_by (Some (Discarded loaded epoch)) k cache = unchanged cache
 tried_by (Some (Present number)) k cache = unchanged cache
 tried_by (Some (Spent count)) k cache = unchanged cache
-tried_by (Some (Full need free)) k cache = unchanged (record cache { add_failed = min (cache.add_failed + 1) last_count })
+tried_by (Some (Full need free)) k cache = unchanged (record cache { add_failed = next_count cache.add_failed })
 
 -- an insertion is tried
 abbrev pub tried : DbConf → ℕ → Request → ℕ → Cache → Passed
@@ -247,7 +251,7 @@ abbrev pub due_cause : Option ℕ → ℕ → Kept → Ending
 due_cause reloads now k = if is_dropped reloads k then Expired now else Replaced
 
 abbrev pub next_reloads : ℕ → ℕ
-next_reloads count = min (count + 1) last_count
+next_reloads count = next_count count
 
 -- entries are reloaded, one after the other; one whose insertion is refused is gone
 abbrev pub reloaded : DbConf → ℕ → List Kept → Cache → Passed

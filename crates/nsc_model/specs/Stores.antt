@@ -10,6 +10,7 @@ use Rattle.nsc_model.specs.declared.record.Record.TheVariants.{Change, End, Load
 use Rattle.nsc_model.specs.declared.conf.DbConf.{DbConf}
 use Rattle.nsc_model.specs.declared.store.Given.{Given}
 use Rattle.nsc_model.specs.declared.store.Given.TheVariants as given
+use Rattle.nsc_model.specs.declared.kind.Db.{Db}
 use Rattle.nsc_model.specs.declared.kind.FileId.{FileId}
 use Rattle.nsc_model.specs.declared.store.LookupFault.{LookupFault}
 use Rattle.nsc_model.specs.declared.store.LookupFault.TheVariants as fault
@@ -24,6 +25,7 @@ use Rattle.nsc_model.specs.Files.{file_limit}
 use Rattle.nsc_model.specs.Entry.{Entry, kept_limit}
 use Rattle.nsc_model.specs.History.{HasLoad, HasEnd, IsLive, EndedAfter, IsPrefix, LookedBetween, NoneLive, invalidations, load_of, loads, version_in}
 use Rattle.nsc_model.specs.Live.{AreLive}
+use Rattle.nsc_model.specs.Reads.{IsLookedUp, Rose}
 use Rattle.nsc_model.specs.Reloads.{Reloaded, ends}
 use Rattle.nsc_model.specs.Machine.{entry_words, last_count, life_of, room_of}
 
@@ -117,10 +119,6 @@ IsWhy (why.Present number) settings seen after request bytes = (e : Entry) × Is
 IsWhy (why.Spent count) settings seen after request bytes = (count ≡ last_count) × (loads after ≡ count)
 IsWhy (why.Full need free) settings seen after request bytes = IsFull (room_of settings) after request bytes need free
 
--- a count of faults rose; one that stands at the greatest stays there, and then counts as risen
-abbrev pub FaultsRose : ℕ → ℕ → Type 0
-FaultsRose before after = (before < after) ⊎ ((before ≡ 18446744073709551615) × (after ≡ 18446744073709551615))
-
 -- a new version was needed, and the count of versions stands at its end
 pub record IsSpent (after : List Record) (count : ℕ) : Type 0 where
   pub last : count ≡ last_count
@@ -131,15 +129,24 @@ pub record IsSpent (after : List Record) (count : ℕ) : Type 0 where
 abbrev pub IsFault : LookupFault → List Record → ℕ → ℕ → (FileId → ℕ) → (FileId → ℕ) → Type 0
 IsFault fault.NoMemory after before_faults after_faults before_each after_each = Unit {0}
 IsFault (fault.Spent count) after before_faults after_faults before_each after_each = IsSpent after count
-IsFault (fault.SourceFault file) after before_faults after_faults before_each after_each = FaultsRose before_faults after_faults × FaultsRose (before_each file) (after_each file)
+IsFault (fault.SourceFault file) after before_faults after_faults before_each after_each = Rose before_faults after_faults × Rose (before_each file) (after_each file)
 IsFault (fault.TooLong file size) after before_faults after_faults before_each after_each =
-    FaultsRose before_faults after_faults × FaultsRose (before_each file) (after_each file) × (file_limit < size)
+    Rose before_faults after_faults × Rose (before_each file) (after_each file) × (file_limit < size)
+
+-- no entry of the request answers: the database is not cached, or each one that had been seen is ended
+abbrev pub IsMissed : DbConf → List Record → List Record → Request → Type 0
+IsMissed settings seen after request = (settings.enabled ≡ false) ⊎ EndedAfter seen after request
+
+-- a lookup gives up only where no entry answers, unless memory was wanting
+abbrev pub IsMissedAt : LookupFault → DbConf → List Record → List Record → Request → Type 0
+IsMissedAt fault.NoMemory settings seen after request = Unit {0}
+IsMissedAt _ settings seen after request = IsMissed settings seen after request
 
 -- a lookup gave this
 abbrev pub IsGiven : Given → DbConf → ℕ → List Record → List Record → Request → Type 0
 IsGiven (given.Hit bytes number) settings now seen after request = IsHit after request bytes number
 IsGiven (given.Loaded bytes number) settings now seen after request = IsLoaded settings now seen after request bytes number × EndedAfter seen after request
-IsGiven (given.Fresh bytes why) settings now seen after request = IsWhy why settings seen after request bytes × ((settings.enabled ≡ false) ⊎ EndedAfter seen after request)
+IsGiven (given.Fresh bytes why) settings now seen after request = IsWhy why settings seen after request bytes × IsMissed settings seen after request
 
 -- ---- invalidations, counts and ticks
 
@@ -154,10 +161,14 @@ pub record IsUnmoved (after : List Record) (count : ℕ) : Type 0 where
   pub last : count ≡ last_count
   pub cause : (invalidations after ≡ count) ⊎ MayBeUnmoved after
 
+-- the ends of a call that gave up were made all the same, unless the count of invalidations stands at its end
+abbrev pub IsEndedYet : List Record → Type 0 → Type 0
+IsEndedYet after ended = (invalidations after ≡ last_count) ⊎ ended
+
 -- why an invalidation gave up
 abbrev pub IsInvalidateFault : InvalidateFault → List Record → Type 0
 IsInvalidateFault invalidate_fault.NoMemory after = Unit {0}
-IsInvalidateFault (invalidate_fault.Spent count) after = IsUnmoved after count
+IsInvalidateFault (invalidate_fault.Spent count) after = IsUnmoved after count × IsEndedYet after (NoneLive after)
 
 -- the counts are those of this history, and the words those of its live entries
 pub record IsCounted (arena : ℕ) (after : List Record) (stats : Stats) : Type 0 where
@@ -168,24 +179,24 @@ pub record IsCounted (arena : ℕ) (after : List Record) (stats : Stats) : Type 
   pub invalidations_are : stats.invalidations ≡ invalidations after
   pub arena_is : stats.arena ≡ arena
 
--- a tick at this moment looked at a version: every entry that had been seen is ended whose time was over, and, where changes of
--- the files count, whose version is another one
-pub record IsTicked (settings : DbConf) (limit : Option ℕ) (now : ℕ) (seen after : List Record) : Type 0 where
+-- every entry that had been seen is ended whose time was over at this moment
+abbrev pub AreOverEnded : ℕ → List Record → List Record → Type 0
+AreOverEnded now seen after = (e : Entry) → HasLoad seen e → e.timeout < now → HasEnd after e.number
+
+-- a tick at this moment read the files, and looked at the version that they are: every entry that had been seen is ended whose time
+-- was over, and, where changes of the files count, whose version is another one
+pub record IsTicked (which : Db) (before_reads after_reads : FileId → ℕ) (latest : FileId → Option (Option (List ℕ))) (settings : DbConf) (limit : Option ℕ) (now : ℕ) (seen after : List Record) : Type 0 where
   pub version : ℕ
   pub looked : LookedBetween seen after version
-  pub over : (e : Entry) → HasLoad seen e → e.timeout < now → HasEnd after e.number
+  pub content : Content
+  pub version_is : version_in after version ≡ Some content
+  pub files : IsLookedUp which before_reads after_reads latest content
+  pub over : AreOverEnded now seen after
   pub outdated : OnTrue settings.check_files ((e : Entry) → HasLoad seen e → e.version ≢ version → HasEnd after e.number)
   pub reloaded : Reloaded limit after
   pub again : LoadsAgain (room_of settings) after
 
--- a tick does nothing where the database is not cached
-abbrev pub Ticks : DbConf → Option ℕ → ℕ → List Record → List Record → Type 0
-Ticks settings limit now seen after = OnTrue settings.enabled (IsTicked settings limit now seen after)
-
 -- why a tick gave up
-abbrev pub IsTickFault : LookupFault → List Record → ℕ → ℕ → (FileId → ℕ) → (FileId → ℕ) → Type 0
-IsTickFault fault.NoMemory after before_faults after_faults before_each after_each = Unit {0}
-IsTickFault (fault.Spent count) after before_faults after_faults before_each after_each = IsSpent after count ⊎ IsUnmoved after count
-IsTickFault (fault.SourceFault file) after before_faults after_faults before_each after_each = FaultsRose before_faults after_faults × FaultsRose (before_each file) (after_each file)
-IsTickFault (fault.TooLong file size) after before_faults after_faults before_each after_each =
-    FaultsRose before_faults after_faults × FaultsRose (before_each file) (after_each file) × (file_limit < size)
+abbrev pub IsTickFault : LookupFault → ℕ → List Record → List Record → ℕ → ℕ → (FileId → ℕ) → (FileId → ℕ) → Type 0
+IsTickFault (fault.Spent count) now seen after before_faults after_faults before_each after_each = IsSpent after count ⊎ (IsUnmoved after count × IsEndedYet after (AreOverEnded now seen after))
+IsTickFault other now seen after before_faults after_faults before_each after_each = IsFault other after before_faults after_faults before_each after_each

@@ -1,6 +1,8 @@
-ghost use Rattle.std.specs.Prelude.{◌≡◌};
+ghost use Rattle.std.specs.Prelude.{◌≡◌, ◌<◌, ◌^◌};
+ghost use Rattle.nsc_model.specs.Machine.{is_outdated, life_of, room_of};
 ghost use Rattle.nsc_model.specs.Settings.{cached_for, default_settings, settings_of};
 
+use crate::answer::Answer;
 use crate::kind::Db;
 
 /// The settings of one database.
@@ -59,6 +61,32 @@ impl DbConf {
             max_size: 32 << 20,
             propagate: true,
         }
+    }
+
+    /// For how many seconds an answer is kept.
+    pub fn life_of(&self, answer: &Answer) -> u64
+        ensures value { result ≡ life_of self.now answer.now }
+        ensures bound { result < 2 ^ 32 }
+    {
+        if answer.is_not_found() {
+            u64::from(self.negative)
+        } else {
+            u64::from(self.positive)
+        }
+    }
+
+    /// How many words entries may take.
+    pub fn room(&self) -> usize
+        ensures { result ≡ room_of self.now }
+    {
+        self.size as usize * 128
+    }
+
+    /// Whether the newest version is not the one that the last tick found, and such a change counts.
+    pub fn is_outdated(&self, newest: u64, ticked: u64) -> bool
+        ensures { result ≡ is_outdated self.now newest ticked }
+    {
+        self.check_files && newest != ticked
     }
 }
 

@@ -1,6 +1,6 @@
 ghost use Rattle.std.specs.Prelude.{◌≡◌};
 ghost use Rattle.nsc_model.specs.Files.{is_read};
-ghost use Rattle.nsc_model.specs.Kinds.{database_of, db_numbered, file_numbered, file_number, kind_numbered, type_number};
+ghost use Rattle.nsc_model.specs.Kinds.{database_of, db_named, db_numbered, name_of, file_numbered, file_number, kind_numbered, type_number};
 
 /// A database of the name service: each has its own files, cache and settings.
 #[derive(Clone, Copy, Debug, PartialEq, Eq)]
@@ -76,6 +76,37 @@ impl Db {
             3 => Some(Db::Services),
             _ => None,
         }
+    }
+
+    /// Its name, as nscd.conf(5) has it.
+    pub fn name(self) -> &'static [u8]
+        ensures { result.now ≡ name_of self }
+    {
+        match self {
+            Db::Passwd => b"passwd",
+            Db::Group => b"group",
+            Db::Hosts => b"hosts",
+            Db::Services => b"services",
+        }
+    }
+
+    /// The database of this name; `None` where there is none.
+    pub fn named(name: &[u8]) -> Option<Db>
+        ensures { result ≡ db_named name.now }
+    {
+        if name == Db::Passwd.name() {
+            return Some(Db::Passwd);
+        }
+        if name == Db::Group.name() {
+            return Some(Db::Group);
+        }
+        if name == Db::Hosts.name() {
+            return Some(Db::Hosts);
+        }
+        if name == Db::Services.name() {
+            return Some(Db::Services);
+        }
+        None
     }
 
     /// The database that answers lookups of this kind.

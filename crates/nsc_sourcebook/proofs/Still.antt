@@ -1,13 +1,15 @@
 -- Files that are found to be as they are known.
-use Rattle.std.proofs.Common.{◌≡◌, ℕ, ◌⊎◌, inl, inr, Option, Some, None, sym, subst, ◌∙◌, arith, cond}
+use Rattle.std.proofs.Common.{◌≡◌, ℕ, ◌⊎◌, inl, inr, Bool, true, false, eqb, Option, Some, None, refl, sym, ap, subst, ◌∙◌, arith, cond}
+use Rattle.std.proofs.lemmas.Bool.{eqb-false, eqb-true}
 use Rattle.nsc_model.specs.declared.kind.Db.{Db}
 use Rattle.nsc_model.specs.declared.kind.Db.TheVariants as db
 use Rattle.nsc_model.specs.declared.kind.FileId.{FileId}
 use Rattle.nsc_model.specs.declared.kind.FileId.TheVariants as file
 use Rattle.nsc_model.specs.Content.{Content}
 use Rattle.nsc_model.specs.Files.{file_of, is_read, part_of}
+use Rattle.nsc_model.specs.Kinds.{file_number, file_numbered}
 use Rattle.nsc_outside.specs.Stream.{Rose}
-use Rattle.nsc_outside.specs.FileSets.{told_of}
+use Rattle.nsc_outside.specs.FileSets.{ChangesOnly, told_of}
 use Rattle.nsc_sourcebook.specs.Reads.{AllRose, AreAsTold, IsPartOf, NoneFell}
 
 -- a content is a database's part of it, if its other files are absent
@@ -50,3 +52,22 @@ kept_on a b c first (inr rose) = inr (rose_after a b c first rose)
 
 pub none_fell_after : (m n o : FileId → ℕ) → NoneFell m n → NoneFell n o → NoneFell m o
 none_fell_after m n o first then = λ f. kept_on (m f) (n f) (o f) (first f) (then f)
+
+-- a count of one file did not fall, and no other changed
+file_back : (f : FileId) → file_numbered (file_number f) ≡ Some f
+file_back file.Switch = refl
+file_back file.Passwd = refl
+file_back file.Group = refl
+file_back file.Hosts = refl
+file_back file.Services = refl
+file_back file.ExtraPasswd = refl
+file_back file.ExtraGroup = refl
+
+pub none_fell_but : (which : FileId) (m n : FileId → ℕ) → ChangesOnly which m n → (n which ≡ m which) ⊎ Rose (m which) (n which) → NoneFell m n
+none_fell_but which m n others one f = by (eqb (file_number f) (file_number which)) refl where
+  by : (b : Bool) → eqb (file_number f) (file_number which) ≡ b → (n f ≡ m f) ⊎ Rose (m f) (n f)
+  by true is =
+      let same : Some which ≡ Some f = sym (file_back which) ∙ ap file_numbered (sym (eqb-true (file_number f) (file_number which) is)) ∙ file_back f in
+      let one_file : which ≡ f = cc in
+      subst (λ (x : FileId). (n x ≡ m x) ⊎ Rose (m x) (n x)) one_file one
+  by false is = inl (others f (λ same. eqb-false (file_number f) (file_number which) is (ap file_number same)))

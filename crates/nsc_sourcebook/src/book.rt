@@ -163,7 +163,9 @@ impl<F: FileSet + Drop, A: Answerer> SourceBook<F, A> {
         ensures only { IfOk result (λ f. f.content ≡ part_of self.now.db f.content) }
         ensures read { OnOk result (AllRose self.now.db (F.reads files.old) (F.reads files.new)) }
         ensures calm { OnOk result (F.faults files.new ≡ F.faults files.old) }
+        ensures file_calm { OnOk result (F.file_faults files.new ≡ F.file_faults files.old) }
         ensures faults { IfErr result (λ fault. FaultRose fault (F.faults files.old) (F.faults files.new) (F.file_faults files.old) (F.file_faults files.new)) }
+        ensures kept { NoneFell (F.file_faults files.old) (F.file_faults files.new) }
         ensures length { IfErr result (λ fault. TellsLength fault (F.held files.old)) }
         ensures held { F.held files.new ≡ F.held files.old }
     {
@@ -186,7 +188,9 @@ impl<F: FileSet + Drop, A: Answerer> SourceBook<F, A> {
         ensures only { IfOk result (λ f. f.content ≡ part_of self.now.db f.content) }
         ensures read { OnOk result (AllRose self.now.db (F.reads files.old) (F.reads files.new)) }
         ensures calm { OnOk result (F.faults files.new ≡ F.faults files.old) }
+        ensures file_calm { OnOk result (F.file_faults files.new ≡ F.file_faults files.old) }
         ensures faults { IfErr result (λ fault. FaultRose fault (F.faults files.old) (F.faults files.new) (F.file_faults files.old) (F.file_faults files.new)) }
+        ensures kept { NoneFell (F.file_faults files.old) (F.file_faults files.new) }
         ensures length { IfErr result (λ fault. TellsLength fault (F.held files.old)) }
         ensures held { F.held files.new ≡ F.held files.old }
     {

@@ -3,7 +3,7 @@ ghost use Rattle.nsc_model.specs.declared.kind.Db.TheVariants as db_is;
 ghost use Rattle.nsc_model.specs.Files.{FileFits, part_of};
 ghost use Rattle.nsc_outside.specs.Stream.{Rose};
 ghost use Rattle.nsc_outside.specs.FileSets.{IsAsTold, told_of};
-ghost use Rattle.nsc_sourcebook.specs.Reads.{AllRose, AreAsTold, FaultRose, IsPartOf, OthersStay, TellsLength};
+ghost use Rattle.nsc_sourcebook.specs.Reads.{AllRose, AreAsTold, FaultRose, IsPartOf, NoneFell, OthersStay, TellsLength};
 
 use crate::fault::PollFault;
 use nsc_base::Bytes;
@@ -18,7 +18,9 @@ pub fn read_files<F: FileSet>(alloc: Global, files: &mut F, db: Db) -> Result<Co
     ensures only { IfOk result (λ c. c ≡ part_of db c) }
     ensures read { OnOk result (AllRose db (F.reads files.old) (F.reads files.new)) }
     ensures calm { OnOk result (F.faults files.new ≡ F.faults files.old) }
+    ensures file_calm { OnOk result (F.file_faults files.new ≡ F.file_faults files.old) }
     ensures faults { IfErr result (λ fault. FaultRose fault (F.faults files.old) (F.faults files.new) (F.file_faults files.old) (F.file_faults files.new)) }
+    ensures kept { NoneFell (F.file_faults files.old) (F.file_faults files.new) }
     ensures length { IfErr result (λ fault. TellsLength fault (F.held files.old)) }
     ensures held { F.held files.new ≡ F.held files.old }
 {
@@ -36,7 +38,9 @@ fn read_passwd<F: FileSet>(alloc: Global, files: &mut F) -> Result<Content, Poll
     ensures only { IfOk result (λ c. c ≡ part_of db_is.Passwd c) }
     ensures read { OnOk result (AllRose db_is.Passwd (F.reads files.old) (F.reads files.new)) }
     ensures calm { OnOk result (F.faults files.new ≡ F.faults files.old) }
+    ensures file_calm { OnOk result (F.file_faults files.new ≡ F.file_faults files.old) }
     ensures faults { IfErr result (λ fault. FaultRose fault (F.faults files.old) (F.faults files.new) (F.file_faults files.old) (F.file_faults files.new)) }
+    ensures kept { NoneFell (F.file_faults files.old) (F.file_faults files.new) }
     ensures length { IfErr result (λ fault. TellsLength fault (F.held files.old)) }
     ensures held { F.held files.new ≡ F.held files.old }
 {
@@ -56,7 +60,9 @@ fn read_group<F: FileSet>(alloc: Global, files: &mut F) -> Result<Content, PollF
     ensures only { IfOk result (λ c. c ≡ part_of db_is.Group c) }
     ensures read { OnOk result (AllRose db_is.Group (F.reads files.old) (F.reads files.new)) }
     ensures calm { OnOk result (F.faults files.new ≡ F.faults files.old) }
+    ensures file_calm { OnOk result (F.file_faults files.new ≡ F.file_faults files.old) }
     ensures faults { IfErr result (λ fault. FaultRose fault (F.faults files.old) (F.faults files.new) (F.file_faults files.old) (F.file_faults files.new)) }
+    ensures kept { NoneFell (F.file_faults files.old) (F.file_faults files.new) }
     ensures length { IfErr result (λ fault. TellsLength fault (F.held files.old)) }
     ensures held { F.held files.new ≡ F.held files.old }
 {
@@ -76,7 +82,9 @@ fn read_hosts<F: FileSet>(alloc: Global, files: &mut F) -> Result<Content, PollF
     ensures only { IfOk result (λ c. c ≡ part_of db_is.Hosts c) }
     ensures read { OnOk result (AllRose db_is.Hosts (F.reads files.old) (F.reads files.new)) }
     ensures calm { OnOk result (F.faults files.new ≡ F.faults files.old) }
+    ensures file_calm { OnOk result (F.file_faults files.new ≡ F.file_faults files.old) }
     ensures faults { IfErr result (λ fault. FaultRose fault (F.faults files.old) (F.faults files.new) (F.file_faults files.old) (F.file_faults files.new)) }
+    ensures kept { NoneFell (F.file_faults files.old) (F.file_faults files.new) }
     ensures length { IfErr result (λ fault. TellsLength fault (F.held files.old)) }
     ensures held { F.held files.new ≡ F.held files.old }
 {
@@ -92,7 +100,9 @@ fn read_services<F: FileSet>(alloc: Global, files: &mut F) -> Result<Content, Po
     ensures only { IfOk result (λ c. c ≡ part_of db_is.Services c) }
     ensures read { OnOk result (AllRose db_is.Services (F.reads files.old) (F.reads files.new)) }
     ensures calm { OnOk result (F.faults files.new ≡ F.faults files.old) }
+    ensures file_calm { OnOk result (F.file_faults files.new ≡ F.file_faults files.old) }
     ensures faults { IfErr result (λ fault. FaultRose fault (F.faults files.old) (F.faults files.new) (F.file_faults files.old) (F.file_faults files.new)) }
+    ensures kept { NoneFell (F.file_faults files.old) (F.file_faults files.new) }
     ensures length { IfErr result (λ fault. TellsLength fault (F.held files.old)) }
     ensures held { F.held files.new ≡ F.held files.old }
 {
@@ -103,6 +113,7 @@ fn read_services<F: FileSet>(alloc: Global, files: &mut F) -> Result<Content, Po
 }
 
 // Reads one file.
+#[tactic(auto, using(crate::proofs::Still::none_fell_but))]
 fn read_file<F: FileSet>(
     alloc: Global,
     files: &mut F,
@@ -117,6 +128,7 @@ fn read_file<F: FileSet>(
     ensures calm { OnOk result (F.faults files.new ≡ F.faults files.old) }
     ensures file_calm { OnOk result (F.file_faults files.new ≡ F.file_faults files.old) }
     ensures faults { IfErr result (λ fault. FaultRose fault (F.faults files.old) (F.faults files.new) (F.file_faults files.old) (F.file_faults files.new)) }
+    ensures kept { NoneFell (F.file_faults files.old) (F.file_faults files.new) }
     ensures length { IfErr result (λ fault. TellsLength fault (F.held files.old)) }
     ensures held { F.held files.new ≡ F.held files.old }
 {

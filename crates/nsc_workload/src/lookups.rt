@@ -49,10 +49,7 @@ impl<C: OfContent, B: Room> Job<'_, C, B> {
     {
         let asked = request(alloc, self.number, place)?;
         let key = asked.key.as_slice();
-        match self
-            .database
-            .lookup_told(rt, alloc, pass, asked.kind, key, 0)
-        {
+        match self.database.lookup(rt, alloc, pass, asked.kind, key, 0) {
             Ok(given) => Ok(bytes_of(given)),
             Err(_) => Err(NoMemory),
         }

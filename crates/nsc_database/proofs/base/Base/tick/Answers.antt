@@ -2,8 +2,8 @@ use Rattle.std.proofs.Common.{◌∙◌}
 use Rattle.std.proofs.lemmas.Bool.{OnTrue_from}
 use Rattle.nsc_model.specs.History.{NoneLive}
 use Rattle.nsc_writer.proofs.Later.{prefix_through}
-use Rattle.nsc_database.specs.Ticks.{AreListed}
-use Rattle.nsc_database.proofs.Ticked.{emptied_over, listed_over, noted_low, since_low, ticking, version_low}
+use Rattle.nsc_database.specs.Ticks.{AreListed, AreOver}
+use Rattle.nsc_database.proofs.Ticked.{emptied_over, emptied_ticked, files_kept, hold_fault, listed_over, listed_ticked, noted_low, since_low, ticking, version_low}
 use Rattle.nsc_database.proofs.base.Base.tick.Goals as goal
 
 pub returns-in-Err-clause-before : goal.returns-in-Err-clause-before
@@ -13,6 +13,12 @@ pub returns-in-Err-check-clause-before : goal.returns-in-Err-check-clause-before
 returns-in-Err-check-clause-before g c =
     prefix_through c.args.pass.now.pass.seen c.poll.new.pass.pass.seen c.check.new.pass.pass.seen
     (prefix_through c.args.pass.now.pass.seen c.note-epoch.new.pass.pass.seen c.poll.new.pass.pass.seen c.note-epoch.ensures.before c.in-Ok.ensures.before) c.in-Err-check.ensures.before
+
+pub returns-in-Err-check-clause-fault : goal.returns-in-Err-check-clause-fault
+returns-in-Err-check-clause-fault g c =
+    let seen = c.args.pass.now.pass.seen in
+    let after = c.check.new.pass.pass.seen in
+    hold_fault c.in-Err-check.fault c.args.now seen after _ _ _ _ (NoneLive after) (emptied_over c.args.now seen after (returns-in-Err-check-clause-before g c)) c.in-Err-check.ensures.fault
 
 pub returns-in-Emptied-clause-before : goal.returns-in-Emptied-clause-before
 returns-in-Emptied-clause-before g c =
@@ -27,8 +33,8 @@ returns-in-Emptied-clause-ticked g c = OnTrue_from c.args.self.now.settings.enab
     let after = c.check.new.pass.pass.seen in
     let t = ticking seen noted mid after c.note-epoch.result c.in-Ok.polled c.note-epoch.ensures.before c.note-epoch.ensures.legal c.note-epoch.ensures.noted c.in-Ok.ensures.before c.in-Ok.ensures.legal c.in-Ok.ensures.polled c.in-Ok-check.ensures.before c.in-Ok-check.ensures.legal in
     let none : NoneLive after = rw c.in-Emptied.is at c.in-Ok-check.ensures.checked in
-    emptied_over g.D.OfDb.db g.F.FileSet.reads g.F.FileSet.latest c.args.self.now.settings c.args.self.now.reloads c.args.now seen noted mid after c.note-epoch.result c.in-Ok.polled c.args.pass.now.files c.note-epoch.new.pass.files c.poll.new.pass.files c.check.new.pass.files t
-    c.note-epoch.ensures.files c.in-Ok-check.ensures.files c.in-Ok.ensures.read c.in-Ok.ensures.told none c.in-Ok-check.ensures.reloaded c.in-Ok-check.ensures.again)
+    emptied_ticked g.D.OfDb.db _ _ _ c.args.self.now.settings c.args.self.now.reloads c.args.now seen noted mid after c.note-epoch.result c.in-Ok.polled t (files_kept g.D.OfDb.db g.F.FileSet.reads g.F.FileSet.latest c.in-Ok.polled.content _ _ _ _ c.note-epoch.ensures.files c.in-Ok-check.ensures.files c.in-Ok.ensures.files)
+    none c.in-Ok-check.ensures.reloaded c.in-Ok-check.ensures.again)
 
 pub renew-requires-clause-noted : goal.renew-requires-clause-noted
 renew-requires-clause-noted g c =
@@ -69,6 +75,18 @@ returns-clause-before g c =
     (prefix_through c.args.pass.now.pass.seen c.poll.new.pass.pass.seen c.check.new.pass.pass.seen
     (prefix_through c.args.pass.now.pass.seen c.note-epoch.new.pass.pass.seen c.poll.new.pass.pass.seen c.note-epoch.ensures.before c.in-Ok.ensures.before) c.in-Ok-check.ensures.before) c.renew.ensures.before
 
+pub returns-clause-fault : goal.returns-clause-fault
+returns-clause-fault g c =
+    let seen = c.args.pass.now.pass.seen in
+    let noted = c.note-epoch.new.pass.pass.seen in
+    let mid = c.poll.new.pass.pass.seen in
+    let after = c.check.new.pass.pass.seen in
+    let last = c.renew.new.pass.pass.seen in
+    let t = ticking seen noted mid after c.note-epoch.result c.in-Ok.polled c.note-epoch.ensures.before c.note-epoch.ensures.legal c.note-epoch.ensures.noted c.in-Ok.ensures.before c.in-Ok.ensures.legal c.in-Ok.ensures.polled c.in-Ok-check.ensures.before c.in-Ok-check.ensures.legal in
+    let listed : AreListed c.args.self.now.settings c.args.self.now.reloads c.args.now after c.in-Listed.due.items = rw c.in-Listed.is at c.in-Ok-check.ensures.checked in
+    hold_fault c.in-Err-renew.fault c.args.now seen last _ _ _ _ (AreOver c.note-epoch.result last c.in-Listed.due.items)
+    (listed_over c.args.self.now.settings c.args.self.now.reloads c.args.now seen noted mid after last c.note-epoch.result c.in-Ok.polled c.in-Listed.due.items t listed c.renew.ensures.before c.renew.ensures.legal) c.in-Err-renew.ensures.fault
+
 pub returns-in-Ok-renew-clause-ticked : goal.returns-in-Ok-renew-clause-ticked
 returns-in-Ok-renew-clause-ticked g c = OnTrue_from c.args.self.now.settings.enabled _ (λ on.
     let seen = c.args.pass.now.pass.seen in
@@ -77,6 +95,6 @@ returns-in-Ok-renew-clause-ticked g c = OnTrue_from c.args.self.now.settings.ena
     let after = c.check.new.pass.pass.seen in
     let t = ticking seen noted mid after c.note-epoch.result c.in-Ok.polled c.note-epoch.ensures.before c.note-epoch.ensures.legal c.note-epoch.ensures.noted c.in-Ok.ensures.before c.in-Ok.ensures.legal c.in-Ok.ensures.polled c.in-Ok-check.ensures.before c.in-Ok-check.ensures.legal in
     let listed : AreListed c.args.self.now.settings c.args.self.now.reloads c.args.now after c.in-Listed.due.items = rw c.in-Listed.is at c.in-Ok-check.ensures.checked in
-    listed_over g.D.OfDb.db g.F.FileSet.reads g.F.FileSet.latest c.args.self.now.settings c.args.self.now.reloads c.args.now seen noted mid after c.renew.new.pass.pass.seen c.note-epoch.result c.in-Ok.polled c.in-Listed.due.items
-    c.args.pass.now.files c.note-epoch.new.pass.files c.poll.new.pass.files c.renew.new.pass.files t c.note-epoch.ensures.files (c.renew.ensures.files ∙ c.in-Ok-check.ensures.files) c.in-Ok.ensures.read c.in-Ok.ensures.told listed
+    listed_ticked g.D.OfDb.db _ _ _ c.args.self.now.settings c.args.self.now.reloads c.args.now seen noted mid after c.renew.new.pass.pass.seen c.note-epoch.result c.in-Ok.polled c.in-Listed.due.items t
+    (files_kept g.D.OfDb.db g.F.FileSet.reads g.F.FileSet.latest c.in-Ok.polled.content _ _ _ _ c.note-epoch.ensures.files (c.renew.ensures.files ∙ c.in-Ok-check.ensures.files) c.in-Ok.ensures.files) listed
     c.renew.ensures.before c.renew.ensures.legal c.in-Ok-renew.ensures.over c.in-Ok-renew.ensures.reloaded c.in-Ok-renew.ensures.again)

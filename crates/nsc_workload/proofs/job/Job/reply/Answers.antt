@@ -1,5 +1,7 @@
-use Rattle.std.proofs.Common.{◌∙◌, ap}
+use Rattle.std.proofs.Common.{◌∙◌, Option, ap, subst}
 use Rattle.nsc_model.specs.declared.answer.Request.{Request}
+use Rattle.nsc_model.specs.Content.{Content}
+use Rattle.nsc_model.specs.Reads.{IsOfHeld}
 use Rattle.nsc_model.specs.Stores.{reply_of}
 use Rattle.nsc_workload.specs.Workload.{files_of}
 use Rattle.nsc_workload.proofs.Told.{held_reply}
@@ -10,5 +12,5 @@ returns-in-Ok-clause-reply g c =
     let job = c.args.self.now in
     let asked = c.in_ok-asked.asked in
     let request : Request = record { kind = asked.kind; key = c.as_slice-key.result.now } in
-    let told = c.in-Ok.ensures.held (files_of job.number) job.held in
+    let told = subst (λ (held : Option Content). IsOfHeld held job.database.now.db request (reply_of c.in-Ok.given)) job.held c.in-Ok.ensures.held in
     c.bytes_of.ensures ∙ held_reply job.number c.args.place job.database.now.db request (reply_of c.in-Ok.given) job.users (ap (λ key. record asked { key = key }) c.as_slice-key.ensures ∙ c.in_ok-asked.ensures.request) told
