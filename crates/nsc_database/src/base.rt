@@ -20,7 +20,7 @@ use crate::pass::DbPass;
 use crate::room::{OfDb, Room};
 use nsc_base::{Buf, Bytes, NoMemory};
 use nsc_model::{
-    Answer, Answerer, Db, DbConf, Given, InvalidateFault, Kind, LookupFault, Spent, Stats, Why,
+    Answerer, Db, DbConf, Given, InvalidateFault, Kind, LookupFault, Spent, Stats, Why,
 };
 use nsc_outside::FileSet;
 use nsc_rule::Map;
@@ -171,7 +171,7 @@ impl<D: OfDb, F: FileSet + Drop, A: Answerer + Drop, B: Room> Base<D, F, A, B> {
     {
         let answer = self.answers.answer(alloc, polled.ready(), kind, key)?;
         let key = Bytes::copy(alloc, key)?;
-        let timeout = now + life_of(&self.settings, &answer);
+        let timeout = now + self.settings.life_of(&answer);
         Ok(Loaded::new(kind, key, answer, polled.stamp(), timeout, 0))
     }
 }
@@ -248,18 +248,6 @@ fn with_enabled(counted: Stats, enabled: bool) -> Stats
         invalidations: counted.invalidations,
         compactions: counted.compactions,
         addfailed: counted.addfailed,
-    }
-}
-
-/// How long an answer is kept, in seconds.
-pub fn life_of(settings: &DbConf, answer: &Answer) -> u64
-    ensures value { result ≡ life_of settings.now answer.now }
-    ensures bound { result < 2 ^ 32 }
-{
-    if answer.is_not_found() {
-        u64::from(settings.negative)
-    } else {
-        u64::from(settings.positive)
     }
 }
 

@@ -186,7 +186,8 @@ impl<D: OfDb, B: Room> Desk<D, B> {
         ensures checked { IfOk result (λ checked. IsChecked checked settings.now limit now self.new.writer.seen) }
         ensures fault { IfErr result (λ fault. IsHoldFault fault self.new.writer.seen (NoneLive self.new.writer.seen)) }
     {
-        if is_outdated(settings, self.writer.version(), self.ticked) {
+        let newest = self.writer.version();
+        if settings.is_outdated(newest, self.ticked) {
             return self.empty();
         }
         self.list(alloc, limit, now)
@@ -254,13 +255,6 @@ impl<D: OfDb, B: Room> Desk<D, B> {
             Err(spent) => Err(spent),
         }
     }
-}
-
-// Whether the newest version is not the one that the last tick found, and that counts.
-fn is_outdated(settings: &DbConf, newest: u64, ticked: u64) -> bool
-    ensures { result ≡ is_outdated settings.now newest ticked }
-{
-    settings.check_files && newest != ticked
 }
 
 impl<D: OfDb, F: FileSet + Drop, A: Answerer, B: Room> Shelved<D, F, A, B> {

@@ -71,7 +71,7 @@ impl<F: FileSet + Drop, A: Answerer + Drop> Opened<F, A> {
         let settings = conf.of(db);
         let layout = Layout {
             buckets: settings.size as usize,
-            arena: settings.size as usize * 128,
+            arena: settings.room(),
         };
         let reply = Buf::new(alloc, 65_536)?;
         let own = files.split(alloc)?;

@@ -7,7 +7,7 @@ ghost use Rattle.nsc_model.specs.Machine.{room_of};
 ghost use Rattle.nsc_model.specs.Stores.{IsTickFault, IsTicked, LoadsAgain};
 ghost use Rattle.nsc_database.specs.Ticks.{AreOver, IsChecked, IsDue, IsHoldFault, anew_of};
 
-use crate::base::{Base, life_of};
+use crate::base::Base;
 use crate::pass::DbPass;
 use crate::renewal::Checked;
 use crate::room::{OfDb, Room};
@@ -200,7 +200,7 @@ impl<D: OfDb, F: FileSet + Drop, A: Answerer + Drop, B: Room> Base<D, F, A, B> {
         }
         let answer = self.answers.answer(alloc, ready, due.kind(), due.key())?;
         let key = Bytes::copy(alloc, due.key())?;
-        let timeout = now + life_of(&self.settings, &answer);
+        let timeout = now + self.settings.life_of(&answer);
         Ok(Some(Loaded::new(
             due.kind(),
             key,
