@@ -1,17 +1,17 @@
 -- What an invalidation leaves of a writer, with and without its compaction.
 use Rattle.std.proofs.Common.{◌≡◌, ℕ, ◌+◌, ◌≤◌, List, [], ◌∷◌, length, refl, sym, ap, subst, ◌∙◌, arith, inr}
-use Rattle.nsc_model.specs.declared.record.Record.{Record}
 use Rattle.nsc_model.specs.Machine.{Kept, all_words, by_invalidation, ends_of, last_count}
 use Rattle.nsc_model.specs.Reloads.{ends}
 use Rattle.nsc_model.specs.Stores.{IsUnmoved}
 use Rattle.nsc_laws.specs.Calls.{Tells}
 use Rattle.nsc_writer.specs.Writer.{Writer, emptied_by}
-use Rattle.nsc_database.specs.Rests.{FindsNewest, IsLeft, IsPacked, Rests}
+use Rattle.nsc_database.specs.Rests.{FindsNewest, IsPacked, Rests}
 use Rattle.nsc_database.specs.Ticks.{compacted_by}
 use Rattle.nsc_model.specs.Stores.{LoadsAgain}
 use Rattle.nsc_model.specs.declared.record.Record.TheVariants.{Invalid}
 use Rattle.nsc_database.proofs.Again.{again_ends, again_more}
 use Rattle.nsc_database.proofs.Shown.{emptied_on}
+use Rattle.nsc_database.proofs.Steady.{version_emptied}
 use Rattle.nsc_database.proofs.Ended.{ends_through, keeps_compacted, keeps_emptied, keeps_newest, packed_compacted, packed_spent}
 
 -- the count of ends after it
@@ -22,49 +22,49 @@ again_emptied : (w w' : Writer) → w' ≡ emptied_by w → LoadsAgain w.layout.
 again_emptied w w' is l = subst (λ (x : Writer). LoadsAgain x.layout.arena x.seen) (sym is) (again_more w.layout.arena (Invalid (w.cache.epoch + 1)) (ends_of by_invalidation w.cache.entries w.seen) tt (again_ends w.layout.arena w.cache.entries w.seen l))
 
 rests_from : (w w' : Writer) → w' ≡ emptied_by w → Tells w.seen w.cache → (IsPacked w → IsPacked w') → Rests w w'
-rests_from w w' is t packed = let on = emptied_on w w' is in record { on = on.on; table = on.table; layout = on.layout; slide = on.slide; keeps = λ settings limit ticked k. keeps_emptied settings limit ticked w w' is t k; packed = packed; again = again_emptied w w' is }
+rests_from w w' is t packed =
+    let goes = emptied_on w w' is in
+    record { on = goes.on; table = goes.table; layout = goes.layout; slide = goes.slide; keeps = λ settings limit ticked k. keeps_emptied settings limit ticked w w' is t k; packed = packed; again = again_emptied w w' is; version = version_emptied w w' is }
 
 no_entries : (ks : List Kept) → length ks ≡ 0 → ks ≡ []
 no_entries [] e = refl
 no_entries (k ∷ ks) e = absurd (omega arith)
 
 -- where no entry was live
-pub rests_left : (w w' : Writer) (shown : List Record) → IsLeft w w' shown → length w.cache.entries ≡ 0 → Rests w w'
-rests_left w w' shown l none = rests_from w w' l.emptied l.told (λ p. subst IsPacked (sym l.emptied) (record {
+pub rests_left : (w w' : Writer) → w' ≡ emptied_by w → Tells w.seen w.cache → length w.cache.entries ≡ 0 → Rests w w'
+rests_left w w' is t none = rests_from w w' is t (λ p. subst IsPacked (sym is) (record {
   taken = λ low. p.taken low ∙ ap all_words (no_entries w.cache.entries none);
   cycles = let same : ends (emptied_by w).seen ≡ ends w.seen + length w.cache.entries = left_ends w (emptied_by w) refl in let low = p.cycles in omega arith;
 }))
 
 -- where it was compacted
-pub rests_compacted : (w w' w'' : Writer) (shown : List Record) → IsLeft w w' shown → 1 ≤ length w.cache.entries → w'' ≡ compacted_by w' → Rests w w''
-rests_compacted w w' w'' shown l some is =
-    let r = rests_from w w' l.emptied l.told in
-    let on = emptied_on w w' l.emptied in
+pub rests_compacted : (w w' w'' : Writer) → w' ≡ emptied_by w → Tells w.seen w.cache → 1 ≤ length w.cache.entries → w'' ≡ compacted_by w' → Rests w w''
+rests_compacted w w' w'' empty t some is =
+    let goes = emptied_on w w' empty in
+    let version = version_emptied w w' empty in
     subst (Rests w) (sym is) (record {
-      on = on.on;
-      table = on.table;
-      layout = on.layout;
-      slide = on.slide;
-      keeps = λ settings limit ticked k. keeps_compacted settings limit ticked (all_words w'.cache.entries) (w'.cache.cycle + 2) w' (compacted_by w') refl (keeps_emptied settings limit ticked w w' l.emptied l.told k);
+      on = goes.on;
+      table = goes.table;
+      layout = goes.layout;
+      slide = goes.slide;
+      keeps = λ settings limit ticked k. keeps_compacted settings limit ticked (all_words w'.cache.entries) (w'.cache.cycle + 2) w' (compacted_by w') refl (keeps_emptied settings limit ticked w w' empty t k);
       packed = λ p. packed_compacted w' (compacted_by w') refl
-          (let more = left_ends w w' l.emptied in let low = p.cycles in let cycle : w'.cache.cycle ≡ w.cache.cycle = ap (λ (x : Writer). x.cache.cycle) l.emptied in omega arith);
-      again = again_emptied w w' l.emptied;
+          (let more = left_ends w w' empty in let low = p.cycles in let cycle : w'.cache.cycle ≡ w.cache.cycle = ap (λ (x : Writer). x.cache.cycle) empty in omega arith);
+      again = again_emptied w w' empty;
+      version = record { version = version.version; sources = version.sources };
     })
 
 -- where the count of the beginnings and the ends of slides stands at its end
-pub rests_spent : (w w' w'' : Writer) (shown : List Record) → IsLeft w w' shown → w'.cache.cycle ≡ last_count → w'' ≡ w' → Rests w w''
-rests_spent w w' w'' shown l last is = subst (Rests w) (sym is) (rests_from w w' l.emptied l.told (λ p. packed_spent w' w' refl (omega arith)
-    (let more = left_ends w w' l.emptied in let low = p.cycles in let cycle : w'.cache.cycle ≡ w.cache.cycle = ap (λ (x : Writer). x.cache.cycle) l.emptied in omega arith)))
+pub rests_spent : (w w' w'' : Writer) → w' ≡ emptied_by w → Tells w.seen w.cache → w'.cache.cycle ≡ last_count → w'' ≡ w' → Rests w w''
+rests_spent w w' w'' empty t last is = subst (Rests w) (sym is) (rests_from w w' empty t (λ p. packed_spent w' w' refl (omega arith)
+    (let more = left_ends w w' empty in let low = p.cycles in let cycle : w'.cache.cycle ≡ w.cache.cycle = ap (λ (x : Writer). x.cache.cycle) empty in omega arith)))
 
-pub unmoved : (w w' : Writer) (shown : List Record) (count : ℕ) → IsLeft w w' shown → IsPacked w → w'.cache.cycle ≡ last_count → count ≡ last_count → IsUnmoved shown count
-unmoved w w' shown count l p last is = record {
-  last = is;
-  cause = inr (let more = left_ends w w' l.emptied in let low = p.cycles in let cycle : w'.cache.cycle ≡ w.cache.cycle = ap (λ (x : Writer). x.cache.cycle) l.emptied in let same : ends shown ≡ ends w'.seen = ap ends l.seen in omega arith);
-}
+pub packed_unmoved : (w : Writer) (count : ℕ) → IsPacked w → last_count ≤ w.cache.cycle → count ≡ last_count → IsUnmoved w.seen count
+packed_unmoved w count p high is = record { last = is; cause = inr (let low = p.cycles in omega arith) }
 
-pub finds_left : (w w' : Writer) (shown : List Record) → IsLeft w w' shown → FindsNewest w w'
-finds_left w w' shown l settings limit ticked k = keeps_newest settings limit ticked w.cache.newest_version w w' l.emptied l.told refl k
+pub finds_left : (w w' : Writer) → w' ≡ emptied_by w → Tells w.seen w.cache → FindsNewest w w'
+finds_left w w' is t settings limit ticked k = keeps_newest settings limit ticked w.cache.newest_version w w' is t refl k
 
-pub finds_compacted : (w w' w'' : Writer) (shown : List Record) → IsLeft w w' shown → w'' ≡ compacted_by w' → FindsNewest w w''
-finds_compacted w w' w'' shown l is settings limit ticked k =
-    keeps_compacted settings limit w.cache.newest_version (all_words w'.cache.entries) (w'.cache.cycle + 2) w' w'' is (finds_left w w' shown l settings limit ticked k)
+pub finds_compacted : (w w' w'' : Writer) → w' ≡ emptied_by w → Tells w.seen w.cache → w'' ≡ compacted_by w' → FindsNewest w w''
+finds_compacted w w' w'' empty t is settings limit ticked k =
+    keeps_compacted settings limit w.cache.newest_version (all_words w'.cache.entries) (w'.cache.cycle + 2) w' w'' is (finds_left w w' empty t settings limit ticked k)

@@ -2,6 +2,7 @@ pub mod Shown
 pub mod Lookups
 pub mod Rests
 pub mod Steady
+pub mod Standing
 pub mod Ended
 pub mod Pruning
 pub mod Invalidations

@@ -130,9 +130,6 @@ all_leave settings limit now ticked (d ∷ due) w all t k =
 renewed_on : (a b : List Record) (d : Due) → IsPrefix a b → IsRenewed a d → IsRenewed b d
 renewed_on a b d p r ended kept = let low = r ended kept in let rise = replaced_on a b d.request p in omega arith
 
-pub all_renewed_on : (a b : List Record) (due : List Due) → IsPrefix a b → All (IsRenewed a) due → All (IsRenewed b) due
-all_renewed_on a b due p all i d low = renewed_on a b (get_or due i d) p (all i d low)
-
 pub all_cons : {A : Type 0} (P : A → Type 0) (x : A) (xs : List A) → P x → All P xs → All P (x ∷ xs)
 all_cons P x xs first rest zero d low = first
 all_cons P x xs first rest (suc i) d low = rest i d (omega arith)

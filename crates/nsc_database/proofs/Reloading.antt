@@ -153,7 +153,7 @@ pub pend_inserted : (said : Inserted) (l : Loaded) (d : Due) (due : List Due) (w
     → LoadsBut w.layout.arena (IsPending (d ∷ due)) w.seen → LoadsBut w.layout.arena (IsPending due) w'.seen
 pend_inserted said l d due w w' t packed i r answered stamp asked waits = by_fine (fine_or w.layout.arena said l w.seen w'.seen is) waits where
   is : IsInserted w.layout.arena said l w.seen w'.seen
-  is = is_inserted said l w.seen w w' t packed ([], refl) i r
+  is = is_inserted said l w w' t packed i r
 
   on : IsPrefix w.seen w'.seen
   on = (inserts_on said l w w' i).on

@@ -3,11 +3,13 @@ use Rattle.std.proofs.Common.{◌≡◌, ◌∙◌, drop, ℕ, zero, suc, ◌+�
 use Rattle.std.proofs.Math.Nat.{min-le_left}
 use Rattle.nsc_model.specs.Answers.{answer_of}
 use Rattle.nsc_model.specs.declared.conf.DbConf.{DbConf}
+use Rattle.nsc_model.specs.declared.kind.Db.{Db}
+use Rattle.nsc_model.specs.Content.{Content}
 use Rattle.nsc_model.specs.declared.record.Record.{Record}
 use Rattle.nsc_model.specs.History.{HasEnd, IsPrefix, Legal, PolledSince, version_in}
 use Rattle.nsc_model.specs.Machine.{all_words, last_count, life_of, next_reloads}
 use Rattle.nsc_model.specs.Reloads.{replaced}
-use Rattle.nsc_model.specs.Stores.{IsUnmoved, LoadsAgain}
+use Rattle.nsc_model.specs.Stores.{LoadsAgain}
 use Rattle.nsc_laws.specs.Calls.{Tells}
 use Rattle.nsc_writer.specs.declared.loaded.Inserted.{Inserted}
 use Rattle.nsc_writer.specs.declared.loaded.Inserted.TheVariants as inserted
@@ -18,13 +20,15 @@ use Rattle.nsc_writer.specs.Loaded.{Loaded}
 use Rattle.nsc_writer.specs.Writer.{Inserts, IsAnswered, IsRefused, Writer, ending_of, without_entry}
 use Rattle.nsc_writer.proofs.Pruned.{split_at}
 use Rattle.nsc_sourcebook.specs.Book.{Polled}
-use Rattle.nsc_database.specs.Rests.{IsPacked, Keeps, Rests}
-use Rattle.nsc_database.specs.Ticks.{AreAnew, HasNumber, IsAnew, IsDue, IsPending, IsRenewed, IsSwept, HaveStamp, LoadsBut, anew_of, compacted_by, ended_of}
-use Rattle.nsc_database.proofs.Shown.{answered_on, inserts_on}
+use Rattle.nsc_database.specs.Rests.{IsPacked, Keeps, Rests, Stands}
+use Rattle.nsc_database.specs.Steady.{KeepsVersion}
+use Rattle.nsc_database.specs.Ticks.{AreAnew, AwaitsLoads, HasNumber, IsAnew, IsDue, IsPending, IsRenewed, IsSwept, HaveStamp, LoadsBut, anew_of, compacted_by, ended_of}
+use Rattle.nsc_database.proofs.Shown.{answered_on}
 use Rattle.nsc_database.proofs.Ended.{keeps_compacted, packed_compacted, packed_spent, replaced_on}
-use Rattle.nsc_database.proofs.Pruning.{all_count, all_due_on, all_leave}
+use Rattle.nsc_database.proofs.Pruning.{all_count, all_leave, anew_marked}
 use Rattle.nsc_database.proofs.Reloading.{pend_inserted, pend_past, pends}
 use Rattle.nsc_database.proofs.Rests.{rests_inserted, rests_through}
+use Rattle.nsc_database.proofs.Steady.{keeps_through, still_kept, version_pruned}
 
 -- ends leave the count of invalidations
 epoch_pruned : (now : ℕ) (due : List Due) (w : Writer) → (pruned_by now due w).cache.epoch ≡ w.cache.epoch
@@ -47,6 +51,7 @@ pub record Swept (settings : DbConf) (limit : Option ℕ) (now ticked : ℕ) (du
   pub renewed : All (IsRenewed w'.seen) (marked_by now due w)
   pub epoch : w'.cache.epoch ≡ w.cache.epoch
   pub waits : LoadsAgain w.layout.arena w.seen → LoadsBut w'.layout.arena (IsPending (marked_by now due w)) w'.seen
+  pub version : KeepsVersion w.cache w'.cache
 
 -- what waits after the ends
 waits_of : (settings : DbConf) (limit : Option ℕ) (now ticked : ℕ) (due : List Due) (w : Writer) → All (IsDue limit now w.seen) due → Tells w.seen w.cache → Keeps settings limit ticked w → (pruned_by now due w).layout ≡ w.layout
@@ -62,7 +67,7 @@ swept_leaves settings limit now ticked due w w' all t k p s = by_case s.swept wh
       let c = all_count settings limit now ticked due w all t k in
       let same = c.same (ap (λ (ds : List Due). length ds) none) in
       subst (Swept settings limit now ticked due w) (sym is)
-      (record { legal = l.told.legal; on = l.on; table = l.table; layout = l.layout; slide = l.slide; keeps = l.keeps; packed = subst IsPacked (sym same) p; gone = l.gone; renewed = c.renewed; epoch = epoch_pruned now due w; waits = waits_of settings limit now ticked due w all t k l.layout })
+      (record { legal = l.told.legal; on = l.on; table = l.table; layout = l.layout; slide = l.slide; keeps = l.keeps; packed = subst IsPacked (sym same) p; gone = l.gone; renewed = c.renewed; epoch = epoch_pruned now due w; waits = waits_of settings limit now ticked due w all t k l.layout; version = version_pruned now due w })
   by_case (inr (some, is)) =
       let l = all_leave settings limit now ticked due w all t k in
       let c = all_count settings limit now ticked due w all t k in
@@ -82,6 +87,7 @@ swept_leaves settings limit now ticked due w w' all t k p s = by_case s.swept wh
         renewed = c.renewed;
         epoch = epoch_pruned now due w;
         waits = waits_of settings limit now ticked due w all t k l.layout;
+        version = let v = version_pruned now due w in record { version = v.version; sources = v.sources };
       })
 
 -- where the count of the beginnings and the ends of slides stands at its end
@@ -96,29 +102,7 @@ swept_spent settings limit now ticked due w w' all t k p is high =
     let more = c.ended in
     let high1 : last_count ≤ w1.cache.cycle = subst (λ (x : Writer). last_count ≤ x.cache.cycle) is high in
     subst (Swept settings limit now ticked due w) (sym is)
-    (record { legal = l.told.legal; on = l.on; table = l.table; layout = l.layout; slide = l.slide; keeps = l.keeps; packed = packed_spent w1 w1 refl high1 (omega arith); gone = l.gone; renewed = c.renewed; epoch = epoch_pruned now due w; waits = waits_of settings limit now ticked due w all t k l.layout })
-
--- what is known of a renewal once the writer was shown to the pass: its entries are due, and what the lock keeps
-pub record Begun (settings : DbConf) (limit : Option ℕ) (now ticked : ℕ) (due_list : List Due) (seen : List Record) (w : Writer) : Type 0 where
-  pub before : IsPrefix seen w.seen
-  pub due : All (IsDue limit now w.seen) due_list
-  pub keeps : Keeps settings limit ticked w
-  pub packed : IsPacked w
-
-pub begun : (settings : DbConf) (limit : Option ℕ) (now ticked : ℕ) (due : List Due) (seen : List Record) (old w : Writer) → w ≡ old → IsPrefix seen old.seen → All (IsDue limit now seen) due → Keeps settings limit ticked old → IsPacked old → Begun settings limit now ticked due seen w
-begun settings limit now ticked due seen old w same before all keeps packed =
-    let on = subst (λ (x : Writer). IsPrefix seen x.seen) (sym same) before in
-    record { before = on; due = all_due_on limit now seen w.seen due on all; keeps = subst (Keeps settings limit ticked) (sym same) keeps; packed = subst IsPacked (sym same) packed }
-
-pub begun_leaves : {settings : DbConf} {limit : Option ℕ} {now ticked : ℕ} {due : List Due} {seen : List Record} (w w' : Writer) → Begun settings limit now ticked due seen w → Tells w.seen w.cache → IsSwept now due w w' → Swept settings limit now ticked due w w'
-begun_leaves {settings} {limit} {now} {ticked} {due} {seen} w w' b t s = swept_leaves settings limit now ticked due w w' b.due t b.keeps b.packed s
-
-pub begun_spent : {settings : DbConf} {limit : Option ℕ} {now ticked : ℕ} {due : List Due} {seen : List Record} (w w' : Writer) → Begun settings limit now ticked due seen w → Tells w.seen w.cache → w' ≡ pruned_by now due w → last_count ≤ w'.cache.cycle
-    → Swept settings limit now ticked due w w'
-begun_spent {settings} {limit} {now} {ticked} {due} {seen} w w' b t is high = swept_spent settings limit now ticked due w w' b.due t b.keeps b.packed is high
-
-pub swept_unmoved : (w' : Writer) (count : ℕ) → IsPacked w' → last_count ≤ w'.cache.cycle → count ≡ last_count → IsUnmoved w'.seen count
-swept_unmoved w' count p high is = record { last = is; cause = inr (let low = p.cycles in omega arith) }
+    (record { legal = l.told.legal; on = l.on; table = l.table; layout = l.layout; slide = l.slide; keeps = l.keeps; packed = packed_spent w1 w1 refl high1 (omega arith); gone = l.gone; renewed = c.renewed; epoch = epoch_pruned now due w; waits = waits_of settings limit now ticked due w all t k l.layout; version = version_pruned now due w })
 
 pub all_over : (limit : Option ℕ) (now : ℕ) (h : List Record) (due : List Due) → All (IsDue limit now h) due → All (IsOver h now) due
 all_over limit now h due all i d low = let x = all i d low in (x.entry, x.inserted, x.numbered, x.over)
@@ -132,6 +116,28 @@ anew_on a b (d ∷ due) [] la lb p n = n
 anew_on a b (d ∷ due) (None ∷ loads) la lb p n = (n.0, anew_on a b due loads la lb p n.1)
 anew_on a b (d ∷ due) (Some l ∷ loads) la lb p n = ((n.0.0, n.0.1, n.0.2, answered_on a b l lb la p n.0.3), anew_on a b due loads la lb p n.1)
 
+pub awaits_swept : {settings : DbConf} {limit : Option ℕ} {ticked : ℕ} (now epoch : ℕ) (due : List Due) (loads : List (Option Loaded)) (w w' : Writer) → Swept settings limit now ticked due w w' → Legal w.seen → w.slide ≡ None → LoadsAgain w.layout.arena w.seen → AreAnew w.seen due loads → HaveStamp epoch loads → w.cache.epoch ≡ epoch
+    → AwaitsLoads (marked_by now due w) loads w'
+awaits_swept {settings} {limit} {ticked} now epoch due loads w w' s legal still again anew stamps same = record {
+  legal = s.legal;
+  due = s.renewed;
+  loads = anew_marked now w'.seen due w loads (anew_on w.seen w'.seen due loads legal s.legal s.on anew);
+  stamps = subst (λ (n : ℕ). HaveStamp n loads) (sym (s.epoch ∙ same)) stamps;
+  packed = s.packed;
+  slide = s.slide ∙ still;
+  waits = s.waits again;
+}
+
+-- the lock's writer after it
+pub stands_swept : {settings : DbConf} {limit : Option ℕ} {held : Option Content} {which : Db} {ticked : ℕ} {now : ℕ} {due : List Due} (w w' w'' : Writer) → Swept settings limit now ticked due w w' → Rests w' w'' → LoadsAgain w''.layout.arena w''.seen → Stands settings limit held which ticked w → Stands settings limit held which ticked w''
+stands_swept {settings} {limit} {held} {which} {ticked} {now} {due} w w' w'' s r again st = (
+  r.keeps settings limit ticked s.keeps,
+  r.packed s.packed,
+  λ files e. still_kept files which w.cache w''.cache (keeps_through w.cache w'.cache w''.cache s.version r.version) (st.2 files e),
+  again,
+  r.slide ∙ s.slide ∙ st.4,
+)
+
 -- the one at a place
 pub anew_at : (h : List Record) (due : List Due) (loads : List (Option Loaded)) (i : ℕ) (d : Due) (o : Option Loaded) (l : Loaded) → AreAnew h due loads → i < length loads → get_or loads i o ≡ Some l → (i < length due) × IsAnew h (get_or due i d) (Some l)
 anew_at h [] [] i d o l n low is = absurd (omega arith)
@@ -143,12 +149,11 @@ anew_at h (e ∷ due) (load ∷ loads) (suc i) d o l n low is = let r = anew_at 
 -- one insertion
 pub reloads_one : (h : List Record) (d : Due) (l : Loaded) (said : Inserted) (w0 w w' : Writer) → h ≡ w0.seen → Rests w0 w → IsRenewed h d → d.ended ≡ true → IsAnew h d (Some l) → Inserts said l w w' → Rests w0 w'
 reloads_one h d l said w0 w w' same r renewed ended anew i =
-    let on = inserts_on said l w w' i in
     let low = renewed ended anew.0 in
     let few = anew.2 in
     let rise = replaced_on h w.seen d.request (subst (λ (x : List Record). IsPrefix x w.seen) (sym same) r.on) in
     let asked : replaced w.seen l.request ≡ replaced w.seen d.request = ap (replaced w.seen) anew.1 in
-    rests_through w0 w w' r (rests_inserted said l w w' on.on on.table on.layout on.slide i (omega arith))
+    rests_through w0 w w' r (rests_inserted said l w w' i (omega arith))
 
 next_low : (n : ℕ) → next_reloads n ≤ n + 1
 next_low n = min-le_left (n + 1) last_count

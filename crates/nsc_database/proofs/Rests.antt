@@ -1,6 +1,7 @@
 -- What holds of a writer while its lock is free stays so through each of its calls.
-use Rattle.std.proofs.Common.{◌≡◌, ℕ, zero, suc, ◌+◌, ◌<◌, ◌≤◌, Bool, true, false, not, ◌&&◌, cond, eqb, All, List, [], ◌∷◌, ◌++◌, get_or, sum_by, add-zero, Option, Ok, Err, refl, sym, ap, subst, ◌∙◌, arith, inl, inr}
+use Rattle.std.proofs.Common.{◌≡◌, ℕ, zero, suc, ◌+◌, ◌<◌, ◌≤◌, Bool, true, false, not, ◌&&◌, cond, eqb, All, List, [], ◌∷◌, ◌++◌, get_or, sum_by, add-zero, Option, Some, None, Ok, Err, refl, sym, ap, subst, ◌∙◌, arith, inl, inr}
 use Rattle.std.specs.Bool.{OnTrue}
+use Rattle.std.specs.Prelude.{IfNone, IfSome}
 use Rattle.std.proofs.lemmas.Bool.{eqb-true, false≢true}
 use Rattle.std.proofs.lemmas.List.Elements.{All-append}
 use Rattle.std.proofs.lemmas.List.Sums.{sum_by-append, sum_by-cons}
@@ -11,7 +12,7 @@ use Rattle.nsc_model.specs.declared.record.Record.TheVariants.{Change, Poll, Loa
 use Rattle.nsc_model.specs.Content.{Content}
 use Rattle.nsc_model.specs.Entry.{Entry}
 use Rattle.nsc_model.specs.Files.{same_files}
-use Rattle.nsc_model.specs.History.{HasLoad, IsLive, IsPrefix, Legal, WasPolled, changes}
+use Rattle.nsc_model.specs.History.{HasLoad, IsLive, Legal, WasPolled, changes}
 use Rattle.nsc_model.specs.Machine.{Kept, all_words, entry_words, is_outdated, last_count, polled, used_by, used_now}
 use Rattle.nsc_model.specs.Kinds.{is_request}
 use Rattle.nsc_model.specs.Reloads.{Reloaded, ends, invalidated_at, replaced}
@@ -20,12 +21,14 @@ use Rattle.nsc_writer.specs.declared.loaded.Inserted.TheVariants as inserted
 use Rattle.nsc_writer.specs.declared.loaded.Stamp.{Stamp}
 use Rattle.nsc_writer.specs.Loaded.{Loaded, kept_of}
 use Rattle.nsc_writer.specs.Writer.{Writer, Inserts, Polls, with_entry}
-use Rattle.nsc_writer.specs.Uses.{Uses}
+use Rattle.nsc_shelf.specs.declared.entry.Hit.{Hit}
+use Rattle.nsc_writer.specs.Uses.{Uses, counted}
 use Rattle.nsc_writer.proofs.Later.{prefix_through}
 use Rattle.nsc_model.specs.Stores.{LoadsAgain}
-use Rattle.nsc_words.specs.declared.layout.Layout.{Layout}
 use Rattle.nsc_database.specs.Rests.{IsPacked, IsReloaded, Keeps, Rests}
 use Rattle.nsc_database.proofs.Again.{again_more}
+use Rattle.nsc_database.proofs.Shown.{inserts_on}
+use Rattle.nsc_database.proofs.Steady.{keeps_through, version_inserted}
 
 -- ---- versions of a legal history
 
@@ -99,9 +102,6 @@ poll_adds_none v h = record { reloaded = λ limit r. record { dropped = r.droppe
 
 change_adds_none : (v : ℕ) (c : Content) (h : List Record) → AddsNone h (Change v c ∷ h)
 change_adds_none v c h = record { reloaded = λ limit r. record { dropped = r.dropped; invalidated = r.invalidated }; replaced_is = λ request. refl; invalidated_is = refl; ends_are = refl; again = λ arena l. again_more arena (Change v c) h tt l }
-
-load_adds_none : (e : Entry) (h : List Record) → AddsNone h (Load e ∷ h)
-load_adds_none e h = record { reloaded = λ limit r. record { dropped = r.dropped; invalidated = r.invalidated }; replaced_is = λ request. refl; invalidated_is = refl; ends_are = refl; again = λ arena l. again_more arena (Load e) h tt l }
 
 -- a writer with such a history, and the same entries in as many words
 pub keeps_with : (settings : DbConf) (limit : Option ℕ) (ticked : ℕ) (w w' : Writer) → AddsNone w.seen w'.seen → w'.cache.entries ≡ w.cache.entries → Keeps settings limit ticked w → Keeps settings limit ticked w'
@@ -181,10 +181,10 @@ words_used request (k ∷ ks) =
     let f : Kept → ℕ = λ x. entry_words x.entry in
     sum_by-cons f (used_by request k) (used_now request ks) ∙ (λ i. used_words request k i + words_used request ks i) ∙ sym (sum_by-cons f k ks)
 
-pub keeps_used : (settings : DbConf) (limit : Option ℕ) (ticked : ℕ) (request : Request) (w : Writer) → Keeps settings limit ticked w → Keeps settings limit ticked (record w { cache = record w.cache { entries = used_now request w.cache.entries } })
+keeps_used : (settings : DbConf) (limit : Option ℕ) (ticked : ℕ) (request : Request) (w : Writer) → Keeps settings limit ticked w → Keeps settings limit ticked (record w { cache = record w.cache { entries = used_now request w.cache.entries } })
 keeps_used settings limit ticked request w k = record { reloaded = k.reloaded; counted = reloaded_used w.seen request w.cache.entries k.counted; found = k.found }
 
-pub packed_used : (request : Request) (w : Writer) → IsPacked w → IsPacked (record w { cache = record w.cache { entries = used_now request w.cache.entries } })
+packed_used : (request : Request) (w : Writer) → IsPacked w → IsPacked (record w { cache = record w.cache { entries = used_now request w.cache.entries } })
 packed_used request w p = record { taken = λ low. p.taken low ∙ sym (words_used request w.cache.entries); cycles = p.cycles }
 
 -- ---- insertions
@@ -234,7 +234,7 @@ again_insert (inserted.Full need free) loaded w w' i l = subst (λ (x : Writer).
 -- ---- whole calls
 
 pub rests_same : (w w' : Writer) → w' ≡ w → Rests w w'
-rests_same w w' is = subst (Rests w) (sym is) (record { on = ([], refl); table = refl; layout = refl; slide = refl; keeps = λ settings limit ticked k. k; packed = λ p. p; again = λ l. l })
+rests_same w w' is = subst (Rests w) (sym is) (record { on = ([], refl); table = refl; layout = refl; slide = refl; keeps = λ settings limit ticked k. k; packed = λ p. p; again = λ l. l; version = record { version = refl; sources = refl } })
 
 pub rests_through : (a b c : Writer) → Rests a b → Rests b c → Rests a c
 rests_through a b c r s = record {
@@ -245,13 +245,24 @@ rests_through a b c r s = record {
   keeps = λ settings limit ticked k. s.keeps settings limit ticked (r.keeps settings limit ticked k);
   packed = λ p. s.packed (r.packed p);
   again = λ l. s.again (r.again l);
+  version = keeps_through a.cache b.cache c.cache r.version s.version;
 }
 
 pub rests_missed : (m : Uses) (w w' : Writer) → w' ≡ record w { misses = m } → Rests w w'
-rests_missed m w w' is = subst (Rests w) (sym is) (record { on = ([], refl); table = refl; layout = refl; slide = refl; keeps = λ settings limit ticked k. record { reloaded = k.reloaded; counted = k.counted; found = k.found }; packed = λ p. record { taken = p.taken; cycles = p.cycles }; again = λ l. l })
+rests_missed m w w' is = subst (Rests w) (sym is) (record {
+  on = ([], refl);
+  table = refl;
+  layout = refl;
+  slide = refl;
+  keeps = λ settings limit ticked k. record { reloaded = k.reloaded; counted = k.counted; found = k.found };
+  packed = λ p. record { taken = p.taken; cycles = p.cycles };
+  again = λ l. l;
+  version = record { version = refl; sources = refl };
+})
 
-pub rests_used : (request : Request) (hits : Uses) (w w' : Writer) → w' ≡ record w { cache = record w.cache { entries = used_now request w.cache.entries }; hits = hits } → Rests w w'
-rests_used request hits w w' is = subst (Rests w) (sym is) (record {
+pub rests_searched : (request : Request) (found : Option Hit) (w w' : Writer) → IfNone found (w' ≡ w) → IfSome found (λ hit. w' ≡ record w { cache = record w.cache { entries = used_now request w.cache.entries }; hits = counted hit.not_found w.hits }) → Rests w w'
+rests_searched request None w w' same used = rests_same w w' same
+rests_searched request (Some hit) w w' same used = subst (Rests w) (sym used) (record {
   on = ([], refl);
   table = refl;
   layout = refl;
@@ -259,13 +270,19 @@ rests_used request hits w w' is = subst (Rests w) (sym is) (record {
   keeps = λ settings limit ticked k. let u = keeps_used settings limit ticked request w k in record { reloaded = u.reloaded; counted = u.counted; found = u.found };
   packed = λ p. let u = packed_used request w p in record { taken = u.taken; cycles = u.cycles };
   again = λ l. l;
+  version = record { version = refl; sources = refl };
 })
 
-pub rests_polled : (files : Content) (epoch : ℕ) (w w' : Writer) (stamp : Stamp) → IsPrefix w.seen w'.seen → w'.table ≡ w.table → Polls (polled files w.cache) epoch w w' (Ok stamp) → Rests w w'
-rests_polled files epoch w w' stamp on table p =
-    let s = polls_stay files epoch w w' stamp p in
-    record { on = on; table = table; layout = s.layout; slide = s.slide; keeps = λ settings limit ticked k. keeps_stays settings limit ticked w w' s k; packed = λ q. packed_stays w w' s q; again = λ l. subst (λ (n : ℕ). LoadsAgain n w'.seen) (sym (ap (λ (x : Layout). x.arena) s.layout)) (s.adds.again w.layout.arena l) }
-
-pub rests_inserted : (said : Inserted) (loaded : Loaded) (w w' : Writer) → IsPrefix w.seen w'.seen → w'.table ≡ w.table → w'.layout ≡ w.layout → w'.slide ≡ w.slide → Inserts said loaded w w' → loaded.reloads ≤ replaced w.seen loaded.request → Rests w w'
-rests_inserted said loaded w w' on table layout slide i low =
-    record { on = on; table = table; layout = layout; slide = slide; keeps = λ settings limit ticked k. keeps_insert settings limit ticked said loaded w w' i low k; packed = λ q. packed_insert said loaded w w' i q; again = λ l. again_insert said loaded w w' i l }
+pub rests_inserted : (said : Inserted) (loaded : Loaded) (w w' : Writer) → Inserts said loaded w w' → loaded.reloads ≤ replaced w.seen loaded.request → Rests w w'
+rests_inserted said loaded w w' i low =
+    let goes = inserts_on said loaded w w' i in
+    record {
+      on = goes.on;
+      table = goes.table;
+      layout = goes.layout;
+      slide = goes.slide;
+      keeps = λ settings limit ticked k. keeps_insert settings limit ticked said loaded w w' i low k;
+      packed = λ q. packed_insert said loaded w w' i q;
+      again = λ l. again_insert said loaded w w' i l;
+      version = version_inserted said loaded w w' i;
+    }

@@ -1,5 +1,6 @@
 -- What holds of the writer's lock show.
-use Rattle.std.proofs.Common.{◌≡◌, ◌∙◌, ℕ, suc, ◌+◌, ◌/◌, ◌^◌, ◌<◌, ◌≤◌, ◌⊎◌, Bool, true, false, cond, eqb, ltb, List, [], ◌∷◌, ◌++◌, length, length-append, Option, Some, None, Ok, Err, refl, sym, ap, subst, arith, inl, inr}
+use Rattle.std.proofs.Common.{◌≡◌, ◌∙◌, ℕ, suc, ◌+◌, ◌/◌, ◌^◌, ◌<◌, ◌≤◌, ◌⊎◌, Bool, true, false, cond, eqb, ltb, List, [], ◌∷◌, ◌++◌, length, length-append, Option, Some, None, Result, Ok, Err, refl, sym, ap, subst, arith, inl, inr}
+use Rattle.std.specs.Prelude.{IfErr, IfOk}
 use Rattle.std.proofs.lemmas.Bool.{eqb-true, ltb-false, ltb-true}
 use Rattle.std.proofs.lemmas.List.Sums.{sum_by-cons}
 use Rattle.nsc_model.specs.declared.answer.Request.{Request}
@@ -26,7 +27,7 @@ use Rattle.nsc_shelf.specs.declared.entry.Hit.{Hit}
 use Rattle.nsc_writer.specs.Loaded.{Loaded, kept_of}
 use Rattle.nsc_shelf.specs.Shelf.{Gives, number_of}
 use Rattle.nsc_writer.specs.Writer.{Writer, Inserts, IsAnswered, IsNewest, IsRefused, Polls, emptied_by}
-use Rattle.nsc_sourcebook.specs.Book.{Polled}
+use Rattle.nsc_sourcebook.specs.Book.{Fetched, Polled, PollsBook, SourceBook}
 use Rattle.nsc_sourcebook.proofs.Newest.{newest_held}
 use Rattle.nsc_writer.proofs.Told.{asked_none, invalidations_rise}
 use Rattle.nsc_writer.proofs.Later.{prefix_through, version_on, polled_on}
@@ -66,6 +67,9 @@ pub record GoesOn (w w' : Writer) : Type 0 where
   pub layout : w'.layout ≡ w.layout
   pub slide : w'.slide ≡ w.slide
 
+same_writer : (w w' : Writer) → w' ≡ w → GoesOn w w'
+same_writer w w' is = subst (GoesOn w) (sym is) (record { on = ([], refl); table = refl; layout = refl; slide = refl })
+
 -- the newest record after a poll looked at this version
 pub record Looks (w w' : Writer) (version : ℕ) : Type 0 where
   pub goes : GoesOn w w'
@@ -75,7 +79,7 @@ pub record Looks (w w' : Writer) (version : ℕ) : Type 0 where
 one_more : (r : Record) (cache : Cache) (w w' : Writer) (version : ℕ) → w' ≡ record w { cache = cache; seen = r ∷ w.seen } → LooksAt (r ∷ w.seen) version → Looks w w' version
 one_more r cache w w' version is looks = subst (λ (x : Writer). Looks w x version) (sym is) (record { goes = record { on = (r ∷ [], refl); table = refl; layout = refl; slide = refl }; longer = omega arith; looks = looks })
 
-pub polls_looks : (files : Content) (epoch : ℕ) (w w' : Writer) (stamp : Stamp) → Polls (polled files w.cache) epoch w w' (Ok stamp) → Looks w w' stamp.version
+polls_looks : (files : Content) (epoch : ℕ) (w w' : Writer) (stamp : Stamp) → Polls (polled files w.cache) epoch w w' (Ok stamp) → Looks w w' stamp.version
 polls_looks files epoch w w' stamp p = by_same (same_files files w.cache.sources) p where
   by_count : (b : Bool) → Polls (cond b (Err (record { cache = w.cache; adds = []; count = last_count })) (Ok (record { cache = record w.cache { sources = files; newest_version = w.cache.newest_version + 1 }; adds = Change (w.cache.newest_version + 1) files ∷ [] }))) epoch w w' (Ok stamp)
       → Looks w w' stamp.version
@@ -87,7 +91,7 @@ polls_looks files epoch w w' stamp p = by_same (same_files files w.cache.sources
   by_same true q = one_more (Poll w.cache.newest_version) w.cache w w' stamp.version q.1 (sym (ap (λ (s : Stamp). s.version) q.0))
   by_same false q = by_count (eqb w.cache.newest_version last_count) q
 
-polls_spent : (files : Content) (epoch : ℕ) (w w' : Writer) (spent : SpentCount) → Polls (polled files w.cache) epoch w w' (Err spent) → (spent.count ≡ last_count) × (w.cache.newest_version ≡ last_count) × (w' ≡ w)
+pub polls_spent : (files : Content) (epoch : ℕ) (w w' : Writer) (spent : SpentCount) → Polls (polled files w.cache) epoch w w' (Err spent) → (spent.count ≡ last_count) × (w.cache.newest_version ≡ last_count) × (w' ≡ w)
 polls_spent files epoch w w' spent p = by_same (same_files files w.cache.sources) p where
   by_count : (b : Bool) → eqb w.cache.newest_version last_count ≡ b
       → Polls (cond b (Err (record { cache = w.cache; adds = []; count = last_count })) (Ok (record { cache = record w.cache { sources = files; newest_version = w.cache.newest_version + 1 }; adds = Change (w.cache.newest_version + 1) files ∷ [] }))) epoch w w' (Err spent)
@@ -107,30 +111,57 @@ prefix_length a b p =
     let all : length b ≡ length (p.0 ++ a) = ap (λ (l : List Record). length l) p.1 in
     omega arith
 
-pub looked_between : (seen : List Record) (w w' : Writer) (version : ℕ) → IsPrefix seen w.seen → Looks w w' version → LookedBetween seen w'.seen version
-looked_between seen w w' version p l = let low = prefix_length seen w.seen p in let more = l.longer in (w'.seen, ([], refl), omega arith, l.looks)
+looked_between : (w w' : Writer) (version : ℕ) → Looks w w' version → LookedBetween w.seen w'.seen version
+looked_between w w' version l = (w'.seen, ([], refl), l.longer, l.looks)
 
 pub invalidations_on : (a b : List Record) → IsPrefix a b → invalidations a ≤ invalidations b
 invalidations_on a b p = let low = invalidations_rise p.0 a in let same : invalidations b ≡ invalidations (p.0 ++ a) = ap invalidations p.1 in omega arith
 
-pub is_polled : (seen : List Record) (epoch : ℕ) (w w' : Writer) (p : Polled) → Tells w'.seen w'.cache → IsPrefix seen w.seen → Polls (polled p.content w.cache) epoch w w' (Ok p.stamp) → IsNewest p.content p.stamp.version w'.cache
-    → PolledSince w'.seen p.stamp.version p.stamp.epoch → p.stamp.epoch ≡ epoch → IsPolled seen w'.seen epoch p
-is_polled seen epoch w w' p t before polls newest since is = record {
-  epoch_is = is;
-  version = newest_held w'.seen w'.cache p.content p.stamp.version t newest;
-  since = subst (PolledSince w'.seen p.stamp.version) is since;
-  newest = t.counted ∙ ap (λ (n : ℕ). n + 1) newest.number;
-  looked = looked_between seen w w' p.stamp.version before (polls_looks p.content epoch w w' p.stamp polls);
+stamp_epoch : (files : Content) (epoch : ℕ) (w w' : Writer) (stamp : Stamp) → Polls (polled files w.cache) epoch w w' (Ok stamp) → stamp.epoch ≡ epoch
+stamp_epoch files epoch w w' stamp p = by_same (same_files files w.cache.sources) p where
+  by_count : (b : Bool) → Polls (cond b (Err (record { cache = w.cache; adds = []; count = last_count })) (Ok (record { cache = record w.cache { sources = files; newest_version = w.cache.newest_version + 1 }; adds = Change (w.cache.newest_version + 1) files ∷ [] }))) epoch w w' (Ok stamp)
+      → stamp.epoch ≡ epoch
+  by_count true q = absurd q
+  by_count false q = ap (λ (s : Stamp). s.epoch) q.0
+
+  by_same : (b : Bool) → Polls (cond b (Ok (record { cache = w.cache; adds = Poll w.cache.newest_version ∷ [] })) (cond (eqb w.cache.newest_version last_count) (Err (record { cache = w.cache; adds = []; count = last_count }))
+      (Ok (record { cache = record w.cache { sources = files; newest_version = w.cache.newest_version + 1 }; adds = Change (w.cache.newest_version + 1) files ∷ [] })))) epoch w w' (Ok stamp) → stamp.epoch ≡ epoch
+  by_same true q = ap (λ (s : Stamp). s.epoch) q.0
+  by_same false q = by_count (eqb w.cache.newest_version last_count) q
+
+pub is_polled : (fetched : Fetched) (epoch : ℕ) (b b' : SourceBook) (w w' : Writer) (result : Result Polled SpentCount) → Tells w'.seen w'.cache → PollsBook fetched epoch b b' w w' result → IfOk result (λ p. IsNewest p.content p.stamp.version w'.cache) → IfOk result (λ p. PolledSince w'.seen p.stamp.version p.stamp.epoch)
+    → IfOk result (λ p. IsPolled w.seen w'.seen epoch p)
+is_polled fetched epoch b b' w w' (Ok p) t q newest since =
+    let is = stamp_epoch fetched.content epoch w w' p.stamp q.0 in
+    record {
+      epoch_is = is;
+      version = newest_held w'.seen w'.cache p.content p.stamp.version t newest;
+      since = subst (PolledSince w'.seen p.stamp.version) is since;
+      newest = t.counted ∙ ap (λ (n : ℕ). n + 1) newest.number;
+      looked = looked_between w w' p.stamp.version (polls_looks fetched.content epoch w w' p.stamp q.0);
+    }
+is_polled fetched epoch b b' w w' (Err spent) t q newest since = tt
+
+-- a pass that had seen less than the writer
+pub polled_since : (seen h after : List Record) (epoch : ℕ) (p : Polled) → IsPrefix seen h → IsPolled h after epoch p → IsPolled seen after epoch p
+polled_since seen h after epoch p on is = record {
+  epoch_is = is.epoch_is;
+  version = is.version;
+  since = is.since;
+  newest = is.newest;
+  looked = let low = prefix_length seen h on in let more = is.looked.2 in (is.looked.0, is.looked.1, omega arith, is.looked.3);
 }
 
-pub spent_stays : (files : Content) (epoch : ℕ) (w w' : Writer) (spent : SpentCount) → Polls (polled files w.cache) epoch w w' (Err spent) → w' ≡ w
-spent_stays files epoch w w' spent p = (polls_spent files epoch w w' spent p).2
-
 -- a new version cannot be counted
-pub is_spent : (files : Content) (epoch : ℕ) (w w' : Writer) (spent : SpentCount) → Tells w.seen w.cache → Polls (polled files w.cache) epoch w w' (Err spent) → IsSpent w.seen spent.count
-is_spent files epoch w w' spent t p =
-    let q = polls_spent files epoch w w' spent p in
-    record { last = q.0; content = w.cache.sources; version = ap (version_in w.seen) (q.0 ∙ sym q.1) ∙ t.held }
+pub is_spent : (fetched : Fetched) (epoch : ℕ) (b b' : SourceBook) (w w' : Writer) (result : Result Polled SpentCount) → Tells w.seen w.cache → PollsBook fetched epoch b b' w w' result → IfErr result (λ spent. IsSpent w'.seen spent.count)
+is_spent fetched epoch b b' w w' (Ok p) t q = tt
+is_spent fetched epoch b b' w w' (Err spent) t q =
+    let s = polls_spent fetched.content epoch w w' spent q.0 in
+    subst (λ (x : Writer). IsSpent x.seen spent.count) (sym s.2) (record { last = s.0; content = w.cache.sources; version = ap (version_in w.seen) (s.0 ∙ sym s.1) ∙ t.held })
+
+pub polls_on : (fetched : Fetched) (epoch : ℕ) (b b' : SourceBook) (w w' : Writer) (result : Result Polled SpentCount) → PollsBook fetched epoch b b' w w' result → GoesOn w w'
+polls_on fetched epoch b b' w w' (Ok p) q = (polls_looks fetched.content epoch w w' p.stamp q.0).goes
+polls_on fetched epoch b b' w w' (Err spent) q = same_writer w w' (polls_spent fetched.content epoch w w' spent q.0).2
 
 -- ---- an insertion
 
@@ -141,9 +172,6 @@ answered_on seen h loaded legal legal_seen p a = record {
   answer = a.answer;
   polled = polled_on seen h loaded.stamp.version loaded.stamp.epoch p a.polled;
 }
-
-same_writer : (w w' : Writer) → w' ≡ w → GoesOn w w'
-same_writer w w' is = subst (GoesOn w) (sym is) (record { on = ([], refl); table = refl; layout = refl; slide = refl })
 
 pub inserts_on : (said : Inserted) (loaded : Loaded) (w w' : Writer) → Inserts said loaded w w' → GoesOn w w'
 inserts_on (inserted.Done number) loaded w w' i = subst (GoesOn w) (sym i.2) (record { on = (Load (kept_of loaded w.cache.inserted).entry ∷ [], refl); table = refl; layout = refl; slide = refl })
@@ -186,41 +214,32 @@ is_free h w free t seen p rest = by_cycle (ltb w.cache.cycle last_count) refl wh
   by_cycle false is = inr (let high = ltb-false w.cache.cycle last_count is in let low = p.cycles in let same : ends w.seen ≡ ends h = ap ends seen in omega arith)
   by_cycle true is = let low = ltb-true w.cache.cycle last_count is in inl (record { entries = entries_of w.cache.entries; live = t.entries_are; rest = ap (λ (n : ℕ). free + n) (words_live w.cache.entries ∙ sym (p.taken low)) ∙ rest })
 
-pub is_inserted : (said : Inserted) (loaded : Loaded) (seen : List Record) (w w' : Writer) → Tells w.seen w.cache → IsPacked w → IsPrefix seen w.seen → Inserts said loaded w w' → IsRefused said loaded w → IsInserted w.layout.arena said loaded seen w'.seen
-is_inserted (inserted.Done number) loaded seen w w' t packed p i r =
-    let low = loads_on seen w.seen p in
+pub is_inserted : (said : Inserted) (loaded : Loaded) (w w' : Writer) → Tells w.seen w.cache → IsPacked w → Inserts said loaded w w' → IsRefused said loaded w → IsInserted w.layout.arena said loaded w.seen w'.seen
+is_inserted (inserted.Done number) loaded w w' t packed i r =
     let counted = t.loads_are in
-    let is = i.1 in (
-      subst (λ (x : Writer). HasLoad x.seen (kept_of loaded number).entry) (sym i.2) (inl (ap (λ (n : ℕ). (kept_of loaded n).entry) (sym is))),
-      omega arith,
-    )
-is_inserted (inserted.TooLarge size) loaded seen w w' t packed p i r = r
-is_inserted (inserted.Discarded noted epoch) loaded seen w w' t packed p i r = (r.0, r.1 ∙ sym t.epochs_are ∙ sym (ap (λ (x : Writer). invalidations x.seen) i.1), r.2)
-is_inserted (inserted.Present number) loaded seen w w' t packed p i r =
+    let is = i.1 in (subst (λ (x : Writer). HasLoad x.seen (kept_of loaded number).entry) (sym i.2) (inl (ap (λ (n : ℕ). (kept_of loaded n).entry) (sym is))), omega arith)
+is_inserted (inserted.TooLarge size) loaded w w' t packed i r = r
+is_inserted (inserted.Discarded noted epoch) loaded w w' t packed i r = (r.0, r.1 ∙ sym t.epochs_are ∙ sym (ap (λ (x : Writer). invalidations x.seen) i.1), r.2)
+is_inserted (inserted.Present number) loaded w w' t packed i r =
     let e = numbered w.seen w.cache loaded.request number t r in
     (e.0, subst (λ (x : Writer). IsLive x.seen e.0) (sym i.1) e.1, e.2, e.3)
-is_inserted (inserted.Spent count) loaded seen w w' t packed p i r = (r.0, ap (λ (x : Writer). loads x.seen) i.1 ∙ t.loads_are ∙ r.1)
-is_inserted (inserted.Full need free) loaded seen w w' t packed p i r =
+is_inserted (inserted.Spent count) loaded w w' t packed i r = (r.0, ap (λ (x : Writer). loads x.seen) i.1 ∙ t.loads_are ∙ r.1)
+is_inserted (inserted.Full need free) loaded w w' t packed i r =
     let same : w'.seen ≡ w.seen = ap (λ (x : Writer). x.seen) i.1 in
     subst (λ (h : List Record). IsFull w.layout.arena h loaded.request loaded.answer.bytes need free) (sym same) (record { needed = r.0; less = r.2; left = is_free w.seen w free t refl packed r.1 })
 
-pub stamp_epoch : (files : Content) (epoch : ℕ) (w w' : Writer) (stamp : Stamp) → Polls (polled files w.cache) epoch w w' (Ok stamp) → stamp.epoch ≡ epoch
-stamp_epoch files epoch w w' stamp p = by_same (same_files files w.cache.sources) p where
-  by_count : (b : Bool) → Polls (cond b (Err (record { cache = w.cache; adds = []; count = last_count })) (Ok (record { cache = record w.cache { sources = files; newest_version = w.cache.newest_version + 1 }; adds = Change (w.cache.newest_version + 1) files ∷ [] }))) epoch w w' (Ok stamp)
-      → stamp.epoch ≡ epoch
-  by_count true q = absurd q
-  by_count false q = ap (λ (s : Stamp). s.epoch) q.0
-
-  by_same : (b : Bool) → Polls (cond b (Ok (record { cache = w.cache; adds = Poll w.cache.newest_version ∷ [] })) (cond (eqb w.cache.newest_version last_count) (Err (record { cache = w.cache; adds = []; count = last_count }))
-      (Ok (record { cache = record w.cache { sources = files; newest_version = w.cache.newest_version + 1 }; adds = Change (w.cache.newest_version + 1) files ∷ [] })))) epoch w w' (Ok stamp) → stamp.epoch ≡ epoch
-  by_same true q = ap (λ (s : Stamp). s.epoch) q.0
-  by_same false q = by_count (eqb w.cache.newest_version last_count) q
+pub inserted_since : (arena : ℕ) (said : Inserted) (loaded : Loaded) (seen h after : List Record) → IsPrefix seen h → IsInserted arena said loaded h after → IsInserted arena said loaded seen after
+inserted_since arena (inserted.Done number) loaded seen h after on i = let low = loads_on seen h on in let more = i.1 in (i.0, omega arith)
+inserted_since arena (inserted.TooLarge size) loaded seen h after on i = i
+inserted_since arena (inserted.Discarded noted epoch) loaded seen h after on i = i
+inserted_since arena (inserted.Present number) loaded seen h after on i = i
+inserted_since arena (inserted.Spent count) loaded seen h after on i = i
+inserted_since arena (inserted.Full need free) loaded seen h after on i = i
 
 -- ---- an invalidation, and counts
 
-pub is_emptied : (seen : List Record) (w w' : Writer) (epoch : ℕ) → Tells w.seen w.cache → Tells w'.seen w'.cache → IsPrefix seen w.seen → epoch ≡ w.cache.epoch + 1 → w' ≡ emptied_by w → IsEmptied seen w'.seen epoch
-is_emptied seen w w' epoch t t' p next is =
-    let low = invalidations_on seen w.seen p in
+pub is_emptied : (w w' : Writer) (epoch : ℕ) → Tells w.seen w.cache → Tells w'.seen w'.cache → epoch ≡ w.cache.epoch + 1 → w' ≡ emptied_by w → IsEmptied w.seen w'.seen epoch
+is_emptied w w' epoch t t' next is =
     let before = t.epochs_are in
     let legal = subst Legal (ap (λ (x : Writer). x.seen) is) t'.legal in
     record {
@@ -228,6 +247,9 @@ is_emptied seen w w' epoch t t' p next is =
       new = omega arith;
       none = subst (λ (x : Writer). NoneLive x.seen) (sym is) legal.2;
     }
+
+pub emptied_since : (seen h after : List Record) (epoch : ℕ) → IsPrefix seen h → IsEmptied h after epoch → IsEmptied seen after epoch
+emptied_since seen h after epoch on e = record { last = e.last; new = (let low = invalidations_on seen h on in let more = e.new in omega arith); none = e.none }
 
 ends_prefix : (ks : List Kept) (h : List Record) → IsPrefix h (ends_of by_invalidation ks h)
 ends_prefix [] h = ([], refl)

@@ -19,14 +19,12 @@ use Rattle.nsc_sourcebook.specs.Reads.{IsPartOf}
 use Rattle.nsc_writer.specs.declared.loaded.Inserted.{Inserted}
 use Rattle.nsc_writer.specs.declared.loaded.Inserted.TheVariants as inserted
 use Rattle.nsc_writer.specs.declared.loaded.Stamp.{Stamp}
-use Rattle.nsc_writer.specs.Uses.{Uses}
 use Rattle.nsc_writer.specs.Due.{Due, due_cause_of, pruned_by, pruned_one}
 use Rattle.nsc_shelf.specs.Shelf.{has_number}
 use Rattle.nsc_writer.specs.Loaded.{Loaded}
 use Rattle.nsc_writer.specs.Writer.{Writer, Inserts, Polls, emptied_by, ending_of, without_entry}
 use Rattle.nsc_writer.proofs.Later.{version_on}
 use Rattle.nsc_database.specs.Steady.{HasOne, IsPart, IsSteady, IsStill, KeepsVersion, StaysStill}
-use Rattle.nsc_database.specs.Ticks.{IsSwept}
 
 pub is_part : (held : Option Content) (which : Db) (content : Content) → IsPartOf which held content → IsPart held which content
 is_part None which content p files e = absurd cc
@@ -41,10 +39,6 @@ still_kept files which before after k s = record { first = k.version ∙ s.first
 
 pub keeps_same : (w w' : Writer) → w' ≡ w → KeepsVersion w.cache w'.cache
 keeps_same w w' is = record { version = ap (λ (x : Writer). x.cache.newest_version) is; sources = ap (λ (x : Writer). x.cache.sources) is }
-
--- a writer that counted a miss
-pub version_missed : (m : Uses) (w w' : Writer) → w' ≡ record w { misses = m } → KeepsVersion w.cache w'.cache
-version_missed m w w' is = subst (λ (x : Writer). KeepsVersion w.cache x.cache) (sym is) (record { version = refl; sources = refl })
 
 pub keeps_through : (a b c : Cache) → KeepsVersion a b → KeepsVersion b c → KeepsVersion a c
 keeps_through a b c k l = record { version = l.version ∙ k.version; sources = l.sources ∙ k.sources }
@@ -69,12 +63,6 @@ version_pruned_one now d w = by_test (has_number d.number w.cache.entries) where
 pub version_pruned : (now : ℕ) (due : List Due) (w : Writer) → KeepsVersion w.cache (pruned_by now due w).cache
 version_pruned now [] w = record { version = refl; sources = refl }
 version_pruned now (d ∷ due) w = keeps_through w.cache (pruned_one now d w).cache (pruned_by now due (pruned_one now d w)).cache (version_pruned_one now d w) (version_pruned now due (pruned_one now d w))
-
-pub version_swept : (now : ℕ) (due : List Due) (w w' : Writer) → IsSwept now due w w' → KeepsVersion w.cache w'.cache
-version_swept now due w w' s = elim s.swept [
-  | inl none ↦ subst (λ (x : Writer). KeepsVersion w.cache x.cache) (sym none.1) (version_pruned now due w)
-  | inr some ↦ let v = version_pruned now due w in subst (λ (x : Writer). KeepsVersion w.cache x.cache) (sym some.1) (record { version = v.version; sources = v.sources })
-]
 
 -- a poll of the database's part of the files confirms the version
 pub still_polled : (files : Content) (all : Content) (which : Db) (epoch : ℕ) (w w' : Writer) (stamp : Stamp) → Polls (polled files w.cache) epoch w w' (Ok stamp) → IsStill all which w.cache → files ≡ part_of which all → IsStill all which w'.cache

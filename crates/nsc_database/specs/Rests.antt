@@ -10,8 +10,9 @@ use Rattle.nsc_model.specs.History.{IsLive, IsPrefix, changes}
 use Rattle.nsc_model.specs.Machine.{Kept, all_words, last_count, new_cache}
 use Rattle.nsc_model.specs.Reloads.{Reloaded, ends, invalidated_at, replaced}
 use Rattle.nsc_model.specs.Stores.{LoadsAgain}
-use Rattle.nsc_laws.specs.Calls.{Tells}
-use Rattle.nsc_writer.specs.Writer.{Writer, emptied_by}
+use Rattle.nsc_model.specs.declared.kind.Db.{Db}
+use Rattle.nsc_writer.specs.Writer.{Writer}
+use Rattle.nsc_database.specs.Steady.{KeepsVersion, StaysStill}
 
 -- an entry was reloaded at most as often as entries of its request ended for that
 abbrev pub IsReloaded : List Record → Kept → Type 0
@@ -35,6 +36,10 @@ pub record IsPacked (w : Writer) : Type 0 where
   pub taken : w.cache.cycle < last_count → w.cache.used ≡ all_words w.cache.entries
   pub cycles : w.cache.cycle ≤ 2 * ends w.seen
 
+-- what holds of a writer while its lock is free
+abbrev pub Stands : DbConf → Option ℕ → Option Content → Db → ℕ → Writer → Type 0
+Stands settings limit held which ticked w = Keeps settings limit ticked w × IsPacked w × StaysStill held which w.cache × LoadsAgain w.layout.arena w.seen × (w.slide ≡ None)
+
 -- a writer of an empty cache over this content as its first version, in an arena of so many words, with no slide under way
 pub record IsNew (w : Writer) (content : Content) (arena : ℕ) : Type 0 where
   pub seen : w.seen ≡ Change 0 content ∷ []
@@ -51,16 +56,11 @@ pub record Rests (w w' : Writer) : Type 0 where
   pub keeps : (settings : DbConf) (limit : Option ℕ) (ticked : ℕ) → Keeps settings limit ticked w → Keeps settings limit ticked w'
   pub packed : IsPacked w → IsPacked w'
   pub again : LoadsAgain w.layout.arena w.seen → LoadsAgain w'.layout.arena w'.seen
+  pub version : KeepsVersion w.cache w'.cache
 
 -- the newest version is known to be there when the database was last invalidated, where changes of the files count
 abbrev pub FindsNewest : Writer → Writer → Type 0
 FindsNewest w w' = (settings : DbConf) (limit : Option ℕ) (ticked : ℕ) → Keeps settings limit ticked w → Keeps settings limit w.cache.newest_version w'
-
--- every entry was ended as invalidated, and this is what was shown of it
-pub record IsLeft (w w' : Writer) (shown : List Record) : Type 0 where
-  pub told : Tells w.seen w.cache
-  pub emptied : w' ≡ emptied_by w
-  pub seen : shown ≡ w'.seen
 
 -- where changes of the files count, each live entry is over the newest version
 abbrev pub IsCurrent : DbConf → List Record → Type 0

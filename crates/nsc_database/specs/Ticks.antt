@@ -9,9 +9,9 @@ use Rattle.nsc_model.specs.declared.record.Record.TheVariants.{End}
 use Rattle.nsc_model.specs.declared.store.LookupFault.{LookupFault}
 use Rattle.nsc_model.specs.declared.store.LookupFault.TheVariants as fault
 use Rattle.nsc_model.specs.Entry.{Entry}
-use Rattle.nsc_model.specs.History.{HasEnd, HasLoad, IsPrefix, NoneLive, invalidations, load_of}
+use Rattle.nsc_model.specs.History.{HasEnd, HasLoad, IsPrefix, Legal, NoneLive, invalidations, load_of}
 use Rattle.nsc_model.specs.Answers.{answer_of}
-use Rattle.nsc_model.specs.Machine.{all_words, is_outdated, life_of, next_reloads}
+use Rattle.nsc_model.specs.Machine.{all_words, life_of, next_reloads}
 use Rattle.nsc_model.specs.Reloads.{replaced}
 use Rattle.nsc_model.specs.Stores.{IsEndedYet, IsLoadedAgain, IsUnmoved, MayBeUnmoved}
 use Rattle.nsc_sourcebook.specs.Book.{Polled}
@@ -20,7 +20,7 @@ use Rattle.nsc_writer.specs.Loaded.{Loaded}
 use Rattle.nsc_writer.specs.Writer.{IsAnswered, Writer}
 use Rattle.nsc_database.specs.declared.renewal.Checked.{Checked}
 use Rattle.nsc_database.specs.declared.renewal.Checked.TheVariants as checked
-use Rattle.nsc_database.specs.Rests.{IsCurrent, Keeps}
+use Rattle.nsc_database.specs.Rests.{IsCurrent, IsPacked}
 
 -- an entry of this number and request was inserted, its time is over, and entries of the request ended so often to be reloaded; it is
 -- dropped where its reply is a not-found one, or where the limit is reached
@@ -48,9 +48,6 @@ pub record AreListed (settings : DbConf) (limit : Option ℕ) (now : ℕ) (histo
   pub current : IsCurrent settings history
   pub each : All (IsDue limit now history) due
   pub all : AreAllDue now history due
-
-abbrev pub IsListing : Option ℕ → ℕ → Writer → List Record → List Due → Type 0
-IsListing limit now w shown due = (settings : DbConf) (ticked : ℕ) → Keeps settings limit ticked w → is_outdated settings w.cache.newest_version ticked ≡ false → AreListed settings limit now shown due
 
 abbrev pub IsChecked : Checked → DbConf → Option ℕ → ℕ → List Record → Type 0
 IsChecked checked.Emptied settings limit now history = NoneLive history
@@ -96,6 +93,16 @@ LoadsBut arena those history = AreLoadedBut arena those history ⊎ MayBeUnmoved
 -- it is ended to be loaded again, and counted as such
 abbrev pub IsRenewed : List Record → Due → Type 0
 IsRenewed history d = d.ended ≡ true → d.dropped ≡ false → d.reloads + 1 ≤ replaced history d.request
+
+-- entries were ended that are to be loaded again, and this is to be loaded for them
+pub record AwaitsLoads (marked : List Due) (anew : List (Option Loaded)) (w : Writer) : Type 0 where
+  pub legal : Legal w.seen
+  pub due : All (IsRenewed w.seen) marked
+  pub loads : AreAnew w.seen marked anew
+  pub stamps : HaveStamp w.cache.epoch anew
+  pub packed : IsPacked w
+  pub slide : w.slide ≡ None
+  pub waits : LoadsBut w.layout.arena (IsPending marked) w.seen
 
 -- what is to be loaded again over what was polled: nothing for an entry that is dropped
 abbrev pub anew_of : DbConf → Polled → ℕ → Due → Option Loaded

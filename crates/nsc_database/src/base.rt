@@ -1,5 +1,6 @@
 // A database of which it is known which one it is.
 ghost use Rattle.std.specs.Prelude.{◌≡◌, ◌≤◌, ◌<◌, ◌+◌, ◌^◌, length, IfOk, IfErr, OnOk};
+ghost use Rattle.std.specs.Bool.{OnTrue};
 ghost use Rattle.nsc_model.specs.Entry.{key_limit};
 ghost use Rattle.nsc_model.specs.Answers.{answer_of};
 ghost use Rattle.nsc_model.specs.History.{IsPrefix, Legal, invalidations};
@@ -7,19 +8,23 @@ ghost use Rattle.nsc_writer.specs.Writer.{IsAnswered};
 ghost use Rattle.nsc_model.specs.Reads.{HasNotFallen, IsLookedUp, NoneFell};
 ghost use Rattle.nsc_model.specs.Machine.{life_of, room_of};
 ghost use Rattle.nsc_model.specs.Settings.{settings_of};
-ghost use Rattle.nsc_model.specs.Stores.{IsCounted, IsEmptied, IsFault, IsInvalidateFault};
+ghost use Rattle.nsc_model.specs.Stores.{IsCounted, IsEmptied, IsFault, IsInvalidateFault, IsSpent};
+ghost use Rattle.nsc_database.specs.Frames.{Held};
 ghost use Rattle.nsc_database.specs.Holds.{IsLooked, IsPolled};
 ghost use Rattle.nsc_database.specs.Lookups.{Gives, IsKept};
+ghost use Rattle.nsc_database.specs.Steady.{IsPart};
 
 use crate::desk::{Desk, Shelved};
 use crate::holds::Looked;
 use crate::pass::DbPass;
 use crate::room::{OfDb, Room};
 use nsc_base::{Buf, Bytes, NoMemory};
-use nsc_model::{Answerer, Db, DbConf, Given, InvalidateFault, Kind, LookupFault, Stats, Why};
+use nsc_model::{
+    Answerer, Db, DbConf, Given, InvalidateFault, Kind, LookupFault, Spent, Stats, Why,
+};
 use nsc_outside::FileSet;
 use nsc_rule::Map;
-use nsc_sourcebook::Polled;
+use nsc_sourcebook::{Fetched, Polled};
 use nsc_writer::{Inserted, Loaded};
 use std::alloc::Global;
 use std::marker::PhantomData;
@@ -69,7 +74,10 @@ impl<D: OfDb, F: FileSet + Drop, A: Answerer + Drop, B: Room> Base<D, F, A, B> {
         ensures legal { Legal pass.new.pass.seen }
         ensures looked { IsLooked result pass.new.pass.seen (record { kind = kind; key = key.now }) pass.new.reply.content }
     {
-        self.desk.lock(rt).look(pass, kind, key)
+        let mut lock = self.desk.lock(rt);
+        let desk = &mut *lock;
+        desk.show(pass);
+        desk.look(kind, key, &mut pass.reply)
     }
 
     /// Reads the files of the database and polls them, where so many invalidations were noted before.
@@ -94,12 +102,38 @@ impl<D: OfDb, F: FileSet + Drop, A: Answerer + Drop, B: Room> Base<D, F, A, B> {
         pass.learn();
         let mut shelved = self.shelved.lock(rt);
         match shelved.fetch(alloc, pass, &self.answers) {
-            Ok(fetched) => match self.desk.lock(rt).poll(&mut shelved, pass, fetched, epoch) {
+            Ok(fetched) => match self.enter(rt, &mut shelved, pass, fetched, epoch) {
                 Ok(polled) => Ok(polled),
                 Err(spent) => Err(LookupFault::Spent { count: spent.count }),
             },
             Err(fault) => Err(LookupFault::from(fault)),
         }
+    }
+
+    // Enters what was fetched of the files, whose lock is taken.
+    fn enter<R: Wait>(
+        &self,
+        rt: &R,
+        shelved: &mut Shelved<D, F, A, B>,
+        pass: &mut DbPass<F, B>,
+        fetched: Fetched<A>,
+        epoch: u64,
+    ) -> Result<Polled<A>, Spent>
+        requires db { pass.old.db ≡ D.db }
+        requires newest { OnTrue fetched.is_newest (fetched.content ≡ shelved.old.book.newest) }
+        requires epoch { epoch ≤ invalidations pass.old.pass.seen }
+        requires part { IsPart B.held D.db fetched.content }
+        ensures frame { Held pass.old pass.new }
+        ensures content { IfOk result (λ polled. polled.content ≡ fetched.content) }
+        ensures polled { IfOk result (λ polled. IsPolled pass.old.pass.seen pass.new.pass.seen epoch polled) }
+        ensures spent { IfErr result (λ spent. IsSpent pass.new.pass.seen spent.count) }
+    {
+        let mut lock = self.desk.lock(rt);
+        let desk = &mut *lock;
+        desk.show(pass);
+        let polled = desk.poll(shelved, fetched, epoch);
+        desk.show(pass);
+        polled
     }
 
     /// Counts a miss, and tries an insertion.
@@ -113,7 +147,12 @@ impl<D: OfDb, F: FileSet + Drop, A: Answerer + Drop, B: Room> Base<D, F, A, B> {
         ensures legal { Legal pass.new.pass.seen }
         ensures kept { IsKept (room_of self.now.settings) loaded pass.old.pass.seen pass.new.pass.seen result }
     {
-        let (said, loaded) = self.desk.lock(rt).insert(pass, loaded);
+        pass.pass.learn();
+        let mut lock = self.desk.lock(rt);
+        let desk = &mut *lock;
+        desk.show(pass);
+        let (said, loaded) = desk.insert(loaded);
+        desk.show(pass);
         given_after(said, loaded.into_reply())
     }
 
@@ -152,10 +191,27 @@ impl<D: OfDb, F: FileSet + Drop, A: Answerer + Drop, B: Room> Base<D, F, A, B> {
         ensures done { IfOk result (λ epoch. IsEmptied pass.old.pass.seen pass.new.pass.seen epoch) }
         ensures fault { IfErr result (λ fault. IsInvalidateFault fault pass.new.pass.seen) }
     {
-        match self.desk.lock(rt).invalidate(pass) {
-            Ok(epoch) => Ok(epoch),
-            Err(spent) => Err(InvalidateFault::Spent { count: spent.count }),
-        }
+        let mut lock = self.desk.lock(rt);
+        let desk = &mut *lock;
+        desk.show(pass);
+        let ended = desk.invalidate();
+        desk.show(pass);
+        ended
+    }
+
+    /// The number of invalidations.
+    pub fn note<R: Wait>(&self, rt: &R, pass: &mut DbPass<F, B>) -> u64
+        requires { pass.old.db ≡ D.db }
+        ensures db { pass.new.db ≡ pass.old.db }
+        ensures files { pass.new.files ≡ pass.old.files }
+        ensures before { IsPrefix pass.old.pass.seen pass.new.pass.seen }
+        ensures legal { Legal pass.new.pass.seen }
+        ensures noted { result ≡ invalidations pass.new.pass.seen }
+    {
+        let mut lock = self.desk.lock(rt);
+        let desk = &mut *lock;
+        desk.show(pass);
+        desk.epoch()
     }
 
     /// What the database counts.
@@ -168,7 +224,10 @@ impl<D: OfDb, F: FileSet + Drop, A: Answerer + Drop, B: Room> Base<D, F, A, B> {
         ensures counted { IsCounted (room_of self.now.settings) pass.new.pass.seen result }
         ensures enabled { result.enabled ≡ self.now.settings.enabled }
     {
-        let counted = self.desk.lock(rt).stats(pass);
+        let mut lock = self.desk.lock(rt);
+        let desk = &mut *lock;
+        desk.show(pass);
+        let counted = desk.stats();
         with_enabled(counted, self.settings.enabled)
     }
 }

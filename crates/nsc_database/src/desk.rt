@@ -1,27 +1,28 @@
 // What the locks of a database keep.
 ghost use Rattle.std.specs.Prelude.{◌≡◌, ◌≤◌, false, All, IfOk, IfErr, OnOk};
 ghost use Rattle.std.specs.Bool.{OnTrue};
+ghost use Rattle.nsc_model.specs.Entry.{kept_limit};
 ghost use Rattle.nsc_model.specs.Files.{part_of};
-ghost use Rattle.nsc_model.specs.History.{IsPrefix, Legal, NoneLive, invalidations};
+ghost use Rattle.nsc_model.specs.History.{Legal, NoneLive, invalidations};
 ghost use Rattle.nsc_writer.specs.Writer.{IsAnswered};
 ghost use Rattle.nsc_sourcebook.specs.Reads.{AllRose, AreAsTold, FaultRose, IsPartOf, NoneFell, TellsLength};
 ghost use Rattle.nsc_model.specs.Machine.{is_outdated, room_of};
 ghost use Rattle.nsc_model.specs.Reloads.{Reloaded};
 ghost use Rattle.nsc_model.specs.Settings.{settings_of};
-ghost use Rattle.nsc_model.specs.Stores.{IsCounted, IsEmptied, IsEndedYet, IsSpent, IsUnmoved, LoadsAgain};
+ghost use Rattle.nsc_model.specs.Stores.{IsCounted, IsEmptied, IsInvalidateFault, IsSpent, IsUnmoved, LoadsAgain};
 ghost use Rattle.nsc_writer.specs.Uses.{counted};
 ghost use Rattle.nsc_database.specs.declared.renewal.Checked.TheVariants as is_checked;
+ghost use Rattle.nsc_database.specs.Frames.{Held};
 ghost use Rattle.nsc_database.specs.Holds.{IsInserted, IsLooked, IsPolled};
 ghost use Rattle.nsc_database.specs.Steady.{IsPart, IsSteady};
 ghost use Rattle.nsc_database.specs.Ticks.{AreAnew, AreOver, HaveStamp, IsChecked, IsDue, IsHoldFault};
 
-use crate::holds::Looked;
+use crate::holds::{self, Looked};
 use crate::pass::DbPass;
-use crate::renewal::Checked;
+use crate::renewal::{Checked, end_due, reload};
 use crate::room::{OfDb, Room};
-use crate::{holds, renewal};
-use nsc_base::NoMemory;
-use nsc_model::{Answerer, DbConf, Kind, LookupFault, Spent, Stats};
+use nsc_base::{Buf, NoMemory};
+use nsc_model::{Answerer, DbConf, InvalidateFault, Kind, LookupFault, Spent, Stats};
 use nsc_outside::FileSet;
 use nsc_rule::Pass;
 use nsc_sourcebook::{Fetched, PollFault, Polled, SourceBook};
@@ -40,17 +41,14 @@ pub struct Desk<D: OfDb, B: Room> {
 }
 
 impl<D: OfDb, B: Room> Model for Desk<D, B> {
-    ghost use Rattle.std.specs.Prelude.{◌≡◌, None};
     ghost use Rattle.nsc_model.specs.Settings.{settings_of};
-    ghost use Rattle.nsc_database.specs.Rests.{Desk, IsPacked, Keeps};
-    ghost use Rattle.nsc_database.specs.Steady.{StaysStill};
-    ghost use Rattle.nsc_model.specs.Stores.{LoadsAgain};
+    ghost use Rattle.nsc_database.specs.Rests.{Desk, Stands};
 
     ghost Value = { Desk };
 
     ghost view = { λ d. record { writer = d.writer; ticked = d.ticked } };
 
-    ghost invariant = { λ d. Keeps (settings_of B.conf D.db) B.conf.reloads d.ticked d.writer × IsPacked d.writer × StaysStill B.held D.db d.writer.cache × LoadsAgain d.writer.layout.arena d.writer.seen × (d.writer.slide ≡ None) };
+    ghost invariant = { λ d. Stands (settings_of B.conf D.db) B.conf.reloads B.held D.db d.ticked d.writer };
 }
 
 /// Its source book.
@@ -80,22 +78,51 @@ impl<D: OfDb, B: Room> Desk<D, B> {
         self.writer.miss(not_found);
     }
 
-    /// Looks for the live entry of the request of this kind and key, whose reply the buffer of the pass has then; at a miss it
-    /// gives the number of invalidations.
-    pub fn look<F: FileSet + Drop>(
-        &mut self,
-        pass: &mut DbPass<F, B>,
-        kind: Kind,
-        key: &[u8],
-    ) -> Looked
+    /// The pass has seen the whole history then, which begins with what it had seen. This is the one place where a pass learns of
+    /// it: what is done under a hold of the lock knows no pass.
+    pub fn show<F: FileSet + Drop>(&mut self, pass: &mut DbPass<F, B>)
         requires { pass.old.db ≡ D.db }
-        ensures db { pass.new.db ≡ pass.old.db }
-        ensures files { pass.new.files ≡ pass.old.files }
-        ensures before { IsPrefix pass.old.pass.seen pass.new.pass.seen }
-        ensures legal { Legal pass.new.pass.seen }
-        ensures looked { IsLooked result pass.new.pass.seen (record { kind = kind; key = key.now }) pass.new.reply.content }
+        ensures same { self.new ≡ self.old }
+        ensures frame { Held pass.old pass.new }
+        ensures seen { pass.new.pass.seen ≡ self.old.writer.seen }
+        ensures reloaded { Reloaded B.conf.reloads pass.new.pass.seen }
+        ensures again { LoadsAgain (room_of (settings_of B.conf D.db)) pass.new.pass.seen }
+        ensures reply { pass.new.reply ≡ pass.old.reply }
     {
-        holds::look(&mut self.writer, &mut pass.pass, kind, key, &mut pass.reply)
+        self.writer.learn();
+        self.writer.show(&mut pass.pass);
+    }
+
+    /// The number of invalidations.
+    pub fn epoch(&self) -> u64
+        ensures { result ≡ invalidations self.now.writer.seen }
+    {
+        self.writer.learn();
+        self.writer.epoch()
+    }
+
+    /// What the writer counts.
+    pub fn stats(&self) -> Stats
+        ensures { IsCounted (room_of (settings_of B.conf D.db)) self.now.writer.seen result }
+    {
+        self.writer.learn();
+        self.writer.stats()
+    }
+
+    /// Looks for the live entry of the request of this kind and key, whose reply the buffer has then; at a miss it gives the number
+    /// of invalidations.
+    pub fn look(&mut self, kind: Kind, key: &[u8], reply: &mut Buf) -> Looked
+        requires { kept_limit ≤ reply.old.limit }
+        ensures looked { IsLooked result self.old.writer.seen (record { kind = kind; key = key.now }) reply.new.content }
+        ensures limit { reply.new.limit ≡ reply.old.limit }
+    {
+        self.writer.learn();
+        match self.writer.search(kind, key, reply) {
+            Some(hit) => Looked::Hit(hit),
+            None => Looked::Missed {
+                epoch: self.writer.epoch(),
+            },
+        }
     }
 
     /// Enters that the files were looked at, after so many invalidations: what was fetched becomes the newest version, or confirms
@@ -103,142 +130,79 @@ impl<D: OfDb, B: Room> Desk<D, B> {
     pub fn poll<F: FileSet + Drop, A: Answerer>(
         &mut self,
         shelved: &mut Shelved<D, F, A, B>,
-        pass: &mut DbPass<F, B>,
         fetched: Fetched<A>,
         epoch: u64,
     ) -> Result<Polled<A>, Spent>
-        requires db { pass.old.db ≡ D.db }
         requires newest { OnTrue fetched.is_newest (fetched.content ≡ shelved.old.book.newest) }
-        requires epoch { epoch ≤ invalidations pass.old.pass.seen }
+        requires epoch { epoch ≤ invalidations self.old.writer.seen }
         requires part { IsPart B.held D.db fetched.content }
-        ensures db { pass.new.db ≡ pass.old.db }
-        ensures files { pass.new.files ≡ pass.old.files }
-        ensures before { IsPrefix pass.old.pass.seen pass.new.pass.seen }
-        ensures legal { Legal pass.new.pass.seen }
         ensures content { IfOk result (λ polled. polled.content ≡ fetched.content) }
-        ensures polled { IfOk result (λ polled. IsPolled pass.old.pass.seen pass.new.pass.seen epoch polled) }
-        ensures spent { IfErr result (λ spent. IsSpent pass.new.pass.seen spent.count) }
+        ensures polled { IfOk result (λ polled. IsPolled self.old.writer.seen self.new.writer.seen epoch polled) }
+        ensures spent { IfErr result (λ spent. IsSpent self.new.writer.seen spent.count) }
     {
-        holds::poll(
-            &mut shelved.book,
-            &mut self.writer,
-            &mut pass.pass,
-            fetched,
-            epoch,
-        )
+        self.writer.learn();
+        let polled = shelved.book.poll(&mut self.writer, fetched, epoch);
+        self.writer.learn();
+        polled
     }
 
     /// Counts a miss, tries an insertion, and hands back what was to be inserted.
-    pub fn insert<F: FileSet + Drop>(
-        &mut self,
-        pass: &mut DbPass<F, B>,
-        loaded: Loaded,
-    ) -> (Inserted, Loaded)
-        requires db { pass.old.db ≡ D.db }
-        requires answered { IsAnswered pass.old.pass.seen loaded }
+    pub fn insert(&mut self, loaded: Loaded) -> (Inserted, Loaded)
+        requires answered { IsAnswered self.old.writer.seen loaded }
         requires new { loaded.reloads ≡ 0 }
-        ensures db { pass.new.db ≡ pass.old.db }
-        ensures files { pass.new.files ≡ pass.old.files }
-        ensures before { IsPrefix pass.old.pass.seen pass.new.pass.seen }
-        ensures legal { Legal pass.new.pass.seen }
-        ensures inserted { IsInserted (room_of (settings_of B.conf D.db)) result.0 loaded pass.old.pass.seen pass.new.pass.seen }
+        ensures inserted { IsInserted (room_of (settings_of B.conf D.db)) result.0 loaded self.old.writer.seen self.new.writer.seen }
         ensures back { result.1 ≡ loaded }
     {
-        holds::insert(&mut self.writer, &mut pass.pass, loaded)
+        self.writer.miss(loaded.answer().is_not_found());
+        self.writer.learn();
+        self.writer.insert(loaded)
     }
 
     /// Ends every entry, and gives the new number of invalidations. At `Spent` that number stands at its end; or every entry
     /// ended, and the count of the beginnings and the ends of slides does.
-    pub fn invalidate<F: FileSet + Drop>(&mut self, pass: &mut DbPass<F, B>) -> Result<u64, Spent>
-        requires { pass.old.db ≡ D.db }
-        ensures db { pass.new.db ≡ pass.old.db }
-        ensures files { pass.new.files ≡ pass.old.files }
-        ensures before { IsPrefix pass.old.pass.seen pass.new.pass.seen }
-        ensures legal { Legal pass.new.pass.seen }
-        ensures done { IfOk result (λ epoch. IsEmptied pass.old.pass.seen pass.new.pass.seen epoch) }
-        ensures spent { IfErr result (λ spent. IsUnmoved pass.new.pass.seen spent.count × IsEndedYet pass.new.pass.seen (NoneLive pass.new.pass.seen)) }
+    pub fn invalidate(&mut self) -> Result<u64, InvalidateFault>
+        ensures done { IfOk result (λ epoch. IsEmptied self.old.writer.seen self.new.writer.seen epoch) }
+        ensures fault { IfErr result (λ fault. IsInvalidateFault fault self.new.writer.seen) }
     {
-        holds::invalidate(&mut self.writer, &mut pass.pass)
-    }
-
-    /// What the writer counts.
-    pub fn stats<F: FileSet + Drop>(&mut self, pass: &mut DbPass<F, B>) -> Stats
-        requires { pass.old.db ≡ D.db }
-        ensures db { pass.new.db ≡ pass.old.db }
-        ensures files { pass.new.files ≡ pass.old.files }
-        ensures before { IsPrefix pass.old.pass.seen pass.new.pass.seen }
-        ensures legal { Legal pass.new.pass.seen }
-        ensures counted { IsCounted (room_of (settings_of B.conf D.db)) pass.new.pass.seen result }
-    {
-        holds::stats(&mut self.writer, &mut pass.pass)
+        match holds::invalidate(&mut self.writer) {
+            Ok(epoch) => Ok(epoch),
+            Err(spent) => Err(InvalidateFault::Spent { count: spent.count }),
+        }
     }
 }
 
 impl<D: OfDb, B: Room> Desk<D, B> {
-    /// The number of invalidations.
-    pub fn note<F: FileSet + Drop>(&mut self, pass: &mut DbPass<F, B>) -> u64
-        requires { pass.old.db ≡ D.db }
-        ensures db { pass.new.db ≡ pass.old.db }
-        ensures files { pass.new.files ≡ pass.old.files }
-        ensures before { IsPrefix pass.old.pass.seen pass.new.pass.seen }
-        ensures legal { Legal pass.new.pass.seen }
-        ensures noted { result ≡ invalidations pass.new.pass.seen }
-    {
-        renewal::note(&mut self.writer, &mut pass.pass)
-    }
-
     /// Where the newest version is not the one that the last tick found, and that counts, every entry ends; else it says which are
     /// due at this moment, in seconds. At `NoMemory` no entry was ended; at `Spent` a count stands at its end, as at an invalidation.
-    pub fn check<F: FileSet + Drop>(
+    pub fn check(
         &mut self,
-        pass: &mut DbPass<F, B>,
         alloc: Global,
         settings: &DbConf,
         limit: Option<u32>,
         now: u64,
     ) -> Result<Checked, LookupFault>
-        requires db { pass.old.db ≡ D.db }
         requires settings { settings.now ≡ settings_of B.conf D.db }
         requires limit { limit ≡ B.conf.reloads }
-        ensures db { pass.new.db ≡ pass.old.db }
-        ensures files { pass.new.files ≡ pass.old.files }
-        ensures before { IsPrefix pass.old.pass.seen pass.new.pass.seen }
-        ensures legal { Legal pass.new.pass.seen }
-        ensures checked { IfOk result (λ checked. IsChecked checked settings.now limit now pass.new.pass.seen) }
-        ensures reloaded { OnOk result (Reloaded limit pass.new.pass.seen) }
-        ensures again { OnOk result (LoadsAgain (room_of (settings_of B.conf D.db)) pass.new.pass.seen) }
-        ensures fault { IfErr result (λ fault. IsHoldFault fault pass.new.pass.seen (NoneLive pass.new.pass.seen)) }
+        ensures checked { IfOk result (λ checked. IsChecked checked settings.now limit now self.new.writer.seen) }
+        ensures fault { IfErr result (λ fault. IsHoldFault fault self.new.writer.seen (NoneLive self.new.writer.seen)) }
     {
         let newest = self.writer.version();
         if settings.is_outdated(newest, self.ticked) {
-            return self.empty(pass, newest);
+            return self.empty();
         }
-        self.list(pass, alloc, limit, now, newest)
+        self.list(alloc, limit, now)
     }
 
-    // Says which are due, since the newest version, which is this one, is the one that the last tick found, or that does not count.
-    fn list<F: FileSet + Drop>(
-        &mut self,
-        pass: &mut DbPass<F, B>,
-        alloc: Global,
-        limit: Option<u32>,
-        now: u64,
-        newest: u64,
-    ) -> Result<Checked, LookupFault>
-        requires db { pass.old.db ≡ D.db }
+    // Says which are due, since the newest version is the one that the last tick found, or that does not count.
+    fn list(&mut self, alloc: Global, limit: Option<u32>, now: u64) -> Result<Checked, LookupFault>
         requires limit { limit ≡ B.conf.reloads }
-        requires newest { newest ≡ self.old.writer.cache.newest_version }
-        requires current { is_outdated (settings_of B.conf D.db) newest self.old.ticked ≡ false }
-        ensures db { pass.new.db ≡ pass.old.db }
-        ensures files { pass.new.files ≡ pass.old.files }
-        ensures before { IsPrefix pass.old.pass.seen pass.new.pass.seen }
-        ensures legal { Legal pass.new.pass.seen }
-        ensures checked { IfOk result (λ checked. IsChecked checked (settings_of B.conf D.db) limit now pass.new.pass.seen) }
-        ensures reloaded { Reloaded limit pass.new.pass.seen }
-        ensures again { LoadsAgain (room_of (settings_of B.conf D.db)) pass.new.pass.seen }
-        ensures fault { IfErr result (λ fault. IsHoldFault fault pass.new.pass.seen (NoneLive pass.new.pass.seen)) }
+        requires current { is_outdated (settings_of B.conf D.db) self.old.writer.cache.newest_version self.old.ticked ≡ false }
+        ensures checked { IfOk result (λ checked. IsChecked checked (settings_of B.conf D.db) limit now self.new.writer.seen) }
+        ensures fault { IfErr result (λ fault. IsHoldFault fault self.new.writer.seen (NoneLive self.new.writer.seen)) }
     {
-        let listed = renewal::list(&mut self.writer, &mut pass.pass, alloc, limit, now);
+        self.writer.learn();
+        let newest = self.writer.version();
+        let listed = self.writer.expired(alloc, limit, now);
         self.ticked = newest;
         match listed {
             Ok(due) => Ok(Checked::Listed(due)),
@@ -246,25 +210,14 @@ impl<D: OfDb, B: Room> Desk<D, B> {
         }
     }
 
-    // Ends every entry, since the newest version, which is this one, is not the one that the last tick found.
-    fn empty<F: FileSet + Drop>(
-        &mut self,
-        pass: &mut DbPass<F, B>,
-        newest: u64,
-    ) -> Result<Checked, LookupFault>
-        requires db { pass.old.db ≡ D.db }
-        requires newest { newest ≡ self.old.writer.cache.newest_version }
-        ensures db { pass.new.db ≡ pass.old.db }
-        ensures files { pass.new.files ≡ pass.old.files }
-        ensures before { IsPrefix pass.old.pass.seen pass.new.pass.seen }
-        ensures legal { Legal pass.new.pass.seen }
+    // Ends every entry, since the newest version is not the one that the last tick found.
+    fn empty(&mut self) -> Result<Checked, LookupFault>
         ensures emptied { IfOk result (λ checked. checked ≡ is_checked.Emptied) }
-        ensures none { OnOk result (NoneLive pass.new.pass.seen) }
-        ensures reloaded { OnOk result (Reloaded B.conf.reloads pass.new.pass.seen) }
-        ensures again { OnOk result (LoadsAgain (room_of (settings_of B.conf D.db)) pass.new.pass.seen) }
-        ensures fault { IfErr result (λ fault. IsHoldFault fault pass.new.pass.seen (NoneLive pass.new.pass.seen)) }
+        ensures none { OnOk result (NoneLive self.new.writer.seen) }
+        ensures fault { IfErr result (λ fault. IsHoldFault fault self.new.writer.seen (NoneLive self.new.writer.seen)) }
     {
-        match holds::invalidate(&mut self.writer, &mut pass.pass) {
+        let newest = self.writer.version();
+        match holds::invalidate(&mut self.writer) {
             Ok(_) => {
                 self.ticked = newest;
                 Ok(Checked::Emptied)
@@ -276,30 +229,31 @@ impl<D: OfDb, B: Room> Desk<D, B> {
     /// Ends those that are due, unless the database was invalidated since so many invalidations, and loads those again that are
     /// to be. At `Spent` the count of the beginnings and the ends of slides stands at its end, and the ended ones are not loaded
     /// again.
-    pub fn renew<F: FileSet + Drop>(
+    pub fn renew(
         &mut self,
-        pass: &mut DbPass<F, B>,
         epoch: u64,
         due: &mut [Due],
         loads: &[Option<Loaded>],
         now: u64,
     ) -> Result<(), Spent>
-        requires db { pass.old.db ≡ D.db }
-        requires legal { Legal pass.old.pass.seen }
-        requires noted { epoch ≤ invalidations pass.old.pass.seen }
-        requires due { All (IsDue B.conf.reloads now pass.old.pass.seen) due.old }
-        requires loads { AreAnew pass.old.pass.seen due.old loads.now }
+        requires noted { epoch ≤ invalidations self.old.writer.seen }
+        requires due { All (IsDue B.conf.reloads now self.old.writer.seen) due.old }
+        requires loads { AreAnew self.old.writer.seen due.old loads.now }
         requires stamps { HaveStamp epoch loads.now }
-        ensures db { pass.new.db ≡ pass.old.db }
-        ensures files { pass.new.files ≡ pass.old.files }
-        ensures before { IsPrefix pass.old.pass.seen pass.new.pass.seen }
-        ensures legal { Legal pass.new.pass.seen }
-        ensures over { AreOver epoch pass.new.pass.seen due.old }
-        ensures reloaded { Reloaded B.conf.reloads pass.new.pass.seen }
-        ensures again { LoadsAgain (room_of (settings_of B.conf D.db)) pass.new.pass.seen }
-        ensures spent { IfErr result (λ spent. IsUnmoved pass.new.pass.seen spent.count) }
+        ensures over { AreOver epoch self.new.writer.seen due.old }
+        ensures spent { IfErr result (λ spent. IsUnmoved self.new.writer.seen spent.count) }
     {
-        renewal::renew(&mut self.writer, &mut pass.pass, epoch, due, loads, now)
+        self.writer.learn();
+        if self.writer.epoch() != epoch {
+            return Ok(());
+        }
+        match end_due(&mut self.writer, due, now) {
+            Ok(()) => {
+                reload(&mut self.writer, due, loads);
+                Ok(())
+            }
+            Err(spent) => Err(spent),
+        }
     }
 }
 

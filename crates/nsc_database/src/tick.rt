@@ -44,7 +44,7 @@ impl<D: OfDb, F: FileSet + Drop, A: Answerer + Drop, B: Room> Base<D, F, A, B> {
             pass.learn();
             return Ok(());
         }
-        let epoch = self.desk.lock(rt).note(pass);
+        let epoch = self.note(rt, pass);
         let polled = match self.poll(rt, alloc, pass, epoch) {
             Ok(polled) => polled,
             Err(fault) => return Err(fault),
@@ -78,13 +78,15 @@ impl<D: OfDb, F: FileSet + Drop, A: Answerer + Drop, B: Room> Base<D, F, A, B> {
         ensures before { IsPrefix pass.old.pass.seen pass.new.pass.seen }
         ensures legal { Legal pass.new.pass.seen }
         ensures checked { IfOk result (λ checked. IsChecked checked self.now.settings self.now.reloads now pass.new.pass.seen) }
-        ensures reloaded { OnOk result (Reloaded self.now.reloads pass.new.pass.seen) }
-        ensures again { OnOk result (LoadsAgain (room_of self.now.settings) pass.new.pass.seen) }
+        ensures reloaded { Reloaded self.now.reloads pass.new.pass.seen }
+        ensures again { LoadsAgain (room_of self.now.settings) pass.new.pass.seen }
         ensures fault { IfErr result (λ fault. IsHoldFault fault pass.new.pass.seen (NoneLive pass.new.pass.seen)) }
     {
-        self.desk
-            .lock(rt)
-            .check(pass, alloc, &self.settings, self.reloads, now)
+        let mut lock = self.desk.lock(rt);
+        let desk = &mut *lock;
+        let checked = desk.check(alloc, &self.settings, self.reloads, now);
+        desk.show(pass);
+        checked
     }
 
     // Answers what is to be loaded again, ends those that are due, and loads it.
@@ -119,7 +121,12 @@ impl<D: OfDb, F: FileSet + Drop, A: Answerer + Drop, B: Room> Base<D, F, A, B> {
             Ok(loads) => loads,
             Err(_) => return Err(LookupFault::NoMemory),
         };
-        match self.desk.lock(rt).renew(pass, epoch, &mut due, &loads, now) {
+        let mut lock = self.desk.lock(rt);
+        let desk = &mut *lock;
+        desk.show(pass);
+        let renewed = desk.renew(epoch, &mut due, &loads, now);
+        desk.show(pass);
+        match renewed {
             Ok(()) => Ok(()),
             Err(spent) => Err(LookupFault::Spent { count: spent.count }),
         }

@@ -1,23 +1,51 @@
-use Rattle.std.proofs.Common.{◌≡◌, ◌∙◌, ℕ, List, Option, ap, map, subst, sym}
-use Rattle.nsc_writer.specs.Due.{Due}
-use Rattle.nsc_writer.specs.Loaded.{Loaded}
-use Rattle.nsc_database.specs.Ticks.{AreAnew, HaveStamp, anew_of}
-use Rattle.nsc_database.proofs.Renewed.{anew_all, stamps_all}
+use Rattle.std.proofs.Common.{◌≡◌, ◌∙◌, ℕ, All, List, Option, ap, arith, map, subst, sym}
 use Rattle.nsc_model.specs.declared.conf.DbConf.{DbConf}
+use Rattle.nsc_model.specs.declared.record.Record.{Record}
+use Rattle.nsc_model.specs.History.{IsPrefix}
 use Rattle.nsc_model.specs.Machine.{room_of}
 use Rattle.nsc_model.specs.Stores.{LoadsAgain}
+use Rattle.nsc_writer.specs.Due.{Due}
+use Rattle.nsc_writer.specs.Loaded.{Loaded}
+use Rattle.nsc_database.specs.Rests.{Desk}
+use Rattle.nsc_database.specs.Ticks.{AreAnew, HaveStamp, IsDue, anew_of}
+use Rattle.nsc_database.proofs.Pruning.{all_due_on}
+use Rattle.nsc_database.proofs.Renewed.{anew_all, anew_on, stamps_all}
+use Rattle.nsc_database.proofs.Shown.{invalidations_on}
+use Rattle.nsc_database.proofs.Standing.{held_through}
 use Rattle.nsc_database.proofs.base.Base.renew.Goals as goal
 
-pub renew-requires-clause-loads : goal.renew-requires-clause-loads
-renew-requires-clause-loads g c =
-    let made = anew_all c.args.self.now.settings c.args.now c.args.pass.now.pass.seen c.args.polled.now c.args.due.items c.requires.version c.requires.since in
-    subst (λ (x : List Due × List (Option Loaded)). AreAnew c.args.pass.now.pass.seen x.0 x.1) (λ i. (sym c.deref_mut-2.ensures.value i, sym (c.deref-2.ensures.value ∙ c.in-Ok.ensures ∙ ap (map (anew_of c.args.self.now.settings c.args.polled.now c.args.now)) c.deref.ensures.value) i)) made
+pub renew-renewed-requires-clause-noted : goal.renew-renewed-requires-clause-noted
+renew-renewed-requires-clause-noted g c =
+    let seen = c.show.ensures.seen ∙ sym (ap (λ (d : Desk). d.writer.seen) c.show.ensures.same) in
+    let rise = invalidations_on c.args.pass.now.pass.seen c.show.new.self.writer.seen (subst (IsPrefix c.args.pass.now.pass.seen) seen c.show.ensures.frame.before) in
+    let low = c.requires.noted in
+    omega arith
 
-pub renew-requires-clause-stamps : goal.renew-requires-clause-stamps
-renew-requires-clause-stamps g c =
+pub renew-renewed-requires-clause-due : goal.renew-renewed-requires-clause-due
+renew-renewed-requires-clause-due g c =
+    let seen = c.show.ensures.seen ∙ sym (ap (λ (d : Desk). d.writer.seen) c.show.ensures.same) in
+    let due = all_due_on c.args.self.now.reloads c.args.now c.args.pass.now.pass.seen c.show.new.pass.pass.seen c.args.due.items c.show.ensures.frame.before c.requires.due in
+    subst (λ (x : Option ℕ × List Record × List Due). All (IsDue x.0 c.args.now x.1) x.2) (λ i. (c.args.self.now.conf.1 i, seen i, sym c.deref_mut.ensures.value i)) due
+
+pub renew-renewed-requires-clause-loads : goal.renew-renewed-requires-clause-loads
+renew-renewed-requires-clause-loads g c =
+    let seen = c.show.ensures.seen ∙ sym (ap (λ (d : Desk). d.writer.seen) c.show.ensures.same) in
+    let made = anew_all c.args.self.now.settings c.args.now c.args.pass.now.pass.seen c.args.polled.now c.args.due.items c.requires.version c.requires.since in
+    let loads : c.deref-2.result.now ≡ map (anew_of c.args.self.now.settings c.args.polled.now c.args.now) c.args.due.items = c.deref-2.ensures.value ∙ c.in-Ok.ensures ∙ ap (map (anew_of c.args.self.now.settings c.args.polled.now c.args.now)) c.deref.ensures.value in
+    subst (λ (x : List Record × List Due × List (Option Loaded)). AreAnew x.0 x.1 x.2) (λ i. (seen i, sym c.deref_mut.ensures.value i, sym loads i))
+    (anew_on c.args.pass.now.pass.seen c.show.new.pass.pass.seen c.args.due.items _ c.requires.legal c.show.ensures.frame.legal c.show.ensures.frame.before made)
+
+pub renew-renewed-requires-clause-stamps : goal.renew-renewed-requires-clause-stamps
+renew-renewed-requires-clause-stamps g c =
     let made = stamps_all c.args.self.now.settings c.args.now c.args.polled.now c.args.due.items in
     let loads : c.deref-2.result.now ≡ map (anew_of c.args.self.now.settings c.args.polled.now c.args.now) c.args.due.items = c.deref-2.ensures.value ∙ c.in-Ok.ensures ∙ ap (map (anew_of c.args.self.now.settings c.args.polled.now c.args.now)) c.deref.ensures.value in
     subst (λ (x : ℕ × List (Option Loaded)). HaveStamp x.0 x.1) (λ i. (c.requires.stamp i, sym loads i)) made
 
-pub returns-in-Ok-renew-clause-again : goal.returns-in-Ok-renew-clause-again
-returns-in-Ok-renew-clause-again g c = subst (λ (s : DbConf). LoadsAgain (room_of s) c.renew.new.pass.pass.seen) (sym c.args.self.now.conf.0) c.in-Ok-renew.ensures.again
+pub returns-in-Ok-renewed-clause-before : goal.returns-in-Ok-renewed-clause-before
+returns-in-Ok-renewed-clause-before g c = (held_through _ _ _ c.show.ensures.frame c.show-2.ensures.frame).before
+
+pub returns-clause-before : goal.returns-clause-before
+returns-clause-before g c = (held_through _ _ _ c.show.ensures.frame c.show-2.ensures.frame).before
+
+pub returns-in-Ok-renewed-clause-again : goal.returns-in-Ok-renewed-clause-again
+returns-in-Ok-renewed-clause-again g c = subst (λ (s : DbConf). LoadsAgain (room_of s) c.show-2.new.pass.pass.seen) (sym c.args.self.now.conf.0) c.show-2.ensures.again

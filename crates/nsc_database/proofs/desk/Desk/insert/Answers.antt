@@ -1,11 +1,25 @@
-use Rattle.std.proofs.Common.{◌∙◌, subst, sym}
-use Rattle.nsc_model.specs.declared.kind.Db.{Db}
-use Rattle.nsc_database.specs.Steady.{IsSteady}
-use Rattle.nsc_database.proofs.Steady.{still_kept}
+use Rattle.std.proofs.Common.{◌∙◌, ℕ, List, ap, arith, subst}
+use Rattle.nsc_model.specs.declared.record.Record.{Record}
+use Rattle.nsc_writer.specs.Writer.{Writer}
+use Rattle.nsc_writer.specs.Uses.{counted}
+use Rattle.nsc_database.specs.Holds.{IsInserted}
+use Rattle.nsc_database.specs.Rests.{Desk}
+use Rattle.nsc_database.proofs.Rests.{rests_inserted, rests_missed, rests_through}
+use Rattle.nsc_database.proofs.Shown.{is_inserted}
+use Rattle.nsc_database.proofs.Standing.{stands_on}
 use Rattle.nsc_database.proofs.desk.Desk.insert.Goals as goal
 
 pub invariant_of-self : goal.invariant_of-self
-invariant_of-self g c = (c.insert.ensures.rests.keeps _ _ _ c.self.invariant.0, c.insert.ensures.rests.packed c.self.invariant.1, λ files e. still_kept files _ _ _ c.insert.ensures.version (c.self.invariant.2 files e), c.insert.ensures.rests.again c.self.invariant.3, c.insert.ensures.rests.slide ∙ c.self.invariant.4)
+invariant_of-self g c =
+    let w = c.self.inside.writer in
+    let none = c.requires.new in
+    stands_on w c.insert.new.self (rests_through w c.miss.new.self c.insert.new.self (rests_missed (counted c.is_not_found.result w.misses) w c.miss.new.self c.miss.ensures) (rests_inserted c.insert.result.0 c.args.loaded c.miss.new.self c.insert.new.self c.insert.ensures.inserted (omega arith))) c.self.invariant
 
-pub invariant_of-pass-clause-steady : goal.invariant_of-pass-clause-steady
-invariant_of-pass-clause-steady g c = subst (λ (d : Db). IsSteady g.B.Room.held d c.insert.new.pass.seen) (sym c.requires.db) (λ files e. c.insert.ensures.steady files g.D.OfDb.db (c.self.invariant.2 files e))
+pub returns-clause-inserted : goal.returns-clause-inserted
+returns-clause-inserted g c =
+    let w = c.miss.new.self in
+    let missed = rests_missed (counted c.is_not_found.result c.self.inside.writer.misses) c.self.inside.writer w c.miss.ensures in
+    let seen = ap (λ (x : Writer). x.seen) c.miss.ensures ∙ ap (λ (d : Desk). d.writer.seen) c.self.view_is in
+    let arena = ap (λ (x : Writer). x.layout.arena) c.miss.ensures ∙ c.self.inside.own.1 in
+    subst (λ (x : ℕ × List Record). IsInserted x.0 c.insert.result.0 c.args.loaded x.1 c.insert.new.self.seen) (λ i. (arena i, seen i))
+    (is_inserted c.insert.result.0 c.args.loaded w c.insert.new.self c.learn.ensures.told (missed.packed c.self.invariant.1) c.insert.ensures.inserted c.insert.ensures.why)

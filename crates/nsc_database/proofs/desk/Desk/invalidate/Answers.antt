@@ -1,11 +1,5 @@
-use Rattle.std.proofs.Common.{◌∙◌, subst, sym}
-use Rattle.nsc_model.specs.declared.kind.Db.{Db}
-use Rattle.nsc_database.specs.Steady.{IsSteady}
-use Rattle.nsc_database.proofs.Steady.{still_kept}
+use Rattle.nsc_database.proofs.Standing.{stands_on}
 use Rattle.nsc_database.proofs.desk.Desk.invalidate.Goals as goal
 
 pub invariant_of-self : goal.invariant_of-self
-invariant_of-self g c = (c.invalidate.ensures.rests.keeps _ _ _ c.self.invariant.0, c.invalidate.ensures.rests.packed c.self.invariant.1, λ files e. still_kept files _ _ _ c.invalidate.ensures.version (c.self.invariant.2 files e), c.invalidate.ensures.rests.again c.self.invariant.3, c.invalidate.ensures.rests.slide ∙ c.self.invariant.4)
-
-pub invariant_of-pass-clause-steady : goal.invariant_of-pass-clause-steady
-invariant_of-pass-clause-steady g c = subst (λ (d : Db). IsSteady g.B.Room.held d c.invalidate.new.pass.seen) (sym c.requires) (λ files e. c.invalidate.ensures.steady files g.D.OfDb.db (c.self.invariant.2 files e))
+invariant_of-self g c = stands_on c.self.inside.writer c.invalidate.new.writer c.invalidate.ensures.rests c.self.invariant

@@ -1,23 +1,35 @@
-use Rattle.std.proofs.Common.{◌∙◌, ◌≡◌, false, subst, sym, ℕ, List}
+use Rattle.std.proofs.Common.{◌≡◌, ℕ, List, Option, Result, false, ap, subst, sym}
+use Rattle.std.specs.Prelude.{IfOk}
+use Rattle.nsc_model.specs.declared.record.Record.{Record}
+use Rattle.nsc_model.specs.declared.store.LookupFault.{LookupFault}
 use Rattle.nsc_model.specs.Machine.{is_outdated}
 use Rattle.nsc_model.specs.Settings.{settings_of}
-use Rattle.nsc_database.specs.Rests.{Desk}
-use Rattle.nsc_model.specs.declared.kind.Db.{Db}
-use Rattle.nsc_database.specs.Steady.{IsSteady}
-use Rattle.nsc_database.proofs.Rests.{keeps_current, rests_same}
-use Rattle.nsc_database.proofs.Steady.{keeps_same, still_kept}
-use Rattle.nsc_model.specs.declared.record.Record.{Record}
-use Rattle.nsc_model.specs.Stores.{LoadsAgain}
+use Rattle.nsc_writer.specs.Due.{Due}
+use Rattle.nsc_writer.specs.Writer.{Writer}
+use Rattle.nsc_database.specs.declared.renewal.Checked.{Checked}
+use Rattle.nsc_database.specs.Rests.{Desk, Keeps}
+use Rattle.nsc_database.specs.Ticks.{AreListed, IsChecked}
+use Rattle.nsc_database.proofs.Listed.{are_listed}
+use Rattle.nsc_database.proofs.Standing.{stands_current}
 use Rattle.nsc_database.proofs.desk.Desk.list.Goals as goal
+use Rattle.nsc_database.proofs.desk.Desk.list.Goals.{in-Err, in-Ok}
 
 pub invariant_of-self : goal.invariant_of-self
 invariant_of-self g c =
-    let r = rests_same c.self.inside.writer c.list-listed.new.writer c.list-listed.ensures.writer in
-    let keeps = keeps_current _ _ _ c.args.newest c.self.inside.writer (subst (λ (d : Desk). is_outdated (settings_of g.B.Room.conf g.D.OfDb.db) c.args.newest d.ticked ≡ false) (sym c.self.view_is) c.requires.current) c.self.invariant.0 in
-    (r.keeps _ _ _ keeps, r.packed c.self.invariant.1, λ files e. still_kept files _ _ _ (keeps_same c.self.inside.writer c.list-listed.new.writer c.list-listed.ensures.writer) (c.self.invariant.2 files e), r.again c.self.invariant.3, r.slide ∙ c.self.invariant.4)
+    let current = subst (λ (d : Desk). is_outdated (settings_of g.B.Room.conf g.D.OfDb.db) d.writer.cache.newest_version d.ticked ≡ false) (sym c.self.view_is) c.requires.current in
+    stands_current c.version-newest.result c.self.inside.writer c.expired-listed.new.self c.expired-listed.ensures.same c.version-newest.ensures current c.self.invariant
 
-pub invariant_of-pass-clause-steady : goal.invariant_of-pass-clause-steady
-invariant_of-pass-clause-steady g c = subst (λ (d : Db). IsSteady g.B.Room.held d c.list-listed.new.pass.seen) (sym c.requires.db) (λ files e. c.list-listed.ensures.steady files g.D.OfDb.db (c.self.invariant.2 files e))
-
-pub returns-clause-again : goal.returns-clause-again
-returns-clause-again g c = subst (λ (x : ℕ × List Record). LoadsAgain x.0 x.1) (λ i. (c.self.inside.own.1 i, sym c.list-listed.ensures.shown i)) c.self.invariant.3
+pub returns-clause-checked : goal.returns-clause-checked
+returns-clause-checked g c =
+    let settings = settings_of g.B.Room.conf g.D.OfDb.db in
+    let w = c.self.inside.writer in
+    let current = subst (λ (d : Desk). is_outdated settings d.writer.cache.newest_version d.ticked ≡ false) (sym c.self.view_is) c.requires.current in
+    let keeps = subst (λ (n : Option ℕ). Keeps settings n c.self.inside.ticked w) (sym c.requires.limit) c.self.invariant.0 in
+    let listed = are_listed settings c.args.limit c.args.now c.self.inside.ticked w c.learn.ensures.told keeps current in
+    let seen = sym (ap (λ (x : Writer). x.seen) c.expired-listed.ensures.same) in
+    elim c.match-listed.branch [
+      | in-Ok s ↦
+          let all = rw s.in-Ok.is at c.expired-listed.ensures.all in
+          subst (λ (r : Result Checked LookupFault). IfOk r (λ x. IsChecked x settings c.args.limit c.args.now c.expired-listed.new.self.seen)) (sym s.result-is) (subst (λ (x : List Record × List Due). AreListed settings c.args.limit c.args.now x.0 x.1) (λ i. (seen i, sym all i)) listed)
+      | in-Err s ↦ subst (λ (r : Result Checked LookupFault). IfOk r (λ x. IsChecked x settings c.args.limit c.args.now c.expired-listed.new.self.seen)) (sym s.result-is) tt
+    ]

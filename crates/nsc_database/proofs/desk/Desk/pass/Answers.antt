@@ -1,14 +1,12 @@
-use Rattle.std.proofs.Common.{◌∙◌, ap, subst, sym}
+use Rattle.std.proofs.Common.{ap, subst, sym}
 use Rattle.nsc_rule.specs.Pass.{Pass}
 use Rattle.nsc_database.specs.Steady.{HasOne}
-use Rattle.nsc_database.proofs.Rests.{rests_same}
-use Rattle.nsc_database.proofs.Steady.{keeps_same, one_of_still, still_kept}
+use Rattle.nsc_database.proofs.Standing.{stands_same}
+use Rattle.nsc_database.proofs.Steady.{one_of_still}
 use Rattle.nsc_database.proofs.desk.Desk.pass.Goals as goal
 
 pub invariant_of-self : goal.invariant_of-self
-invariant_of-self g c =
-    let r = rests_same c.self.inside.writer c.pass.new.self c.pass.ensures.same in
-    (r.keeps _ _ _ c.self.invariant.0, r.packed c.self.invariant.1, λ files e. still_kept files _ _ _ (keeps_same c.self.inside.writer c.pass.new.self c.pass.ensures.same) (c.self.invariant.2 files e), r.again c.self.invariant.3, r.slide ∙ c.self.invariant.4)
+invariant_of-self g c = stands_same c.self.inside.writer c.pass.new.self c.pass.ensures.same c.self.invariant
 
 pub returns-clause-steady : goal.returns-clause-steady
 returns-clause-steady g c files e =

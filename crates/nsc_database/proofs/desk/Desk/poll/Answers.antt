@@ -1,10 +1,33 @@
-use Rattle.std.proofs.Common.{◌∙◌, subst, sym}
-use Rattle.nsc_model.specs.declared.kind.Db.{Db}
-use Rattle.nsc_database.specs.Steady.{IsSteady}
+use Rattle.std.proofs.Common.{◌∙◌, List, ap, arith, subst}
+use Rattle.std.specs.Prelude.{IfOk}
+use Rattle.nsc_words.specs.declared.layout.Layout.{Layout}
+use Rattle.nsc_model.specs.declared.record.Record.{Record}
+use Rattle.nsc_model.specs.History.{invalidations}
+use Rattle.nsc_database.specs.Holds.{IsPolled}
+use Rattle.nsc_database.specs.Rests.{Desk}
+use Rattle.nsc_database.proofs.Shown.{is_polled, is_spent, polls_on}
+use Rattle.nsc_database.proofs.Standing.{stands_polled}
 use Rattle.nsc_database.proofs.desk.Desk.poll.Goals as goal
 
-pub invariant_of-self : goal.invariant_of-self
-invariant_of-self g c = (c.poll.ensures.rests.keeps _ _ _ c.self.invariant.0, c.poll.ensures.rests.packed c.self.invariant.1, λ files e. c.poll.ensures.still files g.D.OfDb.db (c.self.invariant.2 files e) (c.requires.part files e), c.poll.ensures.rests.again c.self.invariant.3, c.poll.ensures.rests.slide ∙ c.self.invariant.4)
+pub poll-polled-requires-clause-epoch : goal.poll-polled-requires-clause-epoch
+poll-polled-requires-clause-epoch g c =
+    let same = ap (λ (d : Desk). invalidations d.writer.seen) c.self.view_is in
+    let epochs = c.learn.ensures.told.epochs_are in
+    let low = c.requires.epoch in
+    omega arith
 
-pub invariant_of-pass-clause-steady : goal.invariant_of-pass-clause-steady
-invariant_of-pass-clause-steady g c = subst (λ (d : Db). IsSteady g.B.Room.held d c.poll.new.pass.seen) (sym c.requires.db) (λ files e. c.poll.ensures.steady files g.D.OfDb.db (c.self.invariant.2 files e) (c.requires.part files e))
+pub invariant_of-self : goal.invariant_of-self
+invariant_of-self g c = stands_polled c.args.fetched c.args.epoch _ _ c.self.inside.writer c.poll-polled.new.writer c.poll-polled.result c.poll-polled.ensures.polls c.requires.part c.self.invariant
+
+pub invariant_of-self-inside : goal.invariant_of-self-inside
+invariant_of-self-inside g c =
+    let goes = polls_on c.args.fetched c.args.epoch _ _ c.self.inside.writer c.poll-polled.new.writer c.poll-polled.result c.poll-polled.ensures.polls in
+    ((goes.table ∙ c.self.inside.own.0, ap (λ (x : Layout). x.arena) goes.layout ∙ c.self.inside.own.1), tt)
+
+pub returns-clause-polled : goal.returns-clause-polled
+returns-clause-polled g c =
+    subst (λ (h : List Record). IfOk c.poll-polled.result (λ p. IsPolled h c.poll-polled.new.writer.seen c.args.epoch p)) (ap (λ (d : Desk). d.writer.seen) c.self.view_is)
+    (is_polled c.args.fetched c.args.epoch _ _ c.self.inside.writer c.poll-polled.new.writer c.poll-polled.result c.learn-2.ensures.told c.poll-polled.ensures.polls c.poll-polled.ensures.newest c.poll-polled.ensures.polled)
+
+pub returns-clause-spent : goal.returns-clause-spent
+returns-clause-spent g c = is_spent c.args.fetched c.args.epoch _ _ c.self.inside.writer c.poll-polled.new.writer c.poll-polled.result c.learn.ensures.told c.poll-polled.ensures.polls

@@ -1,14 +1,19 @@
-use Rattle.std.proofs.Common.{◌∙◌, subst, sym}
-use Rattle.nsc_model.specs.declared.kind.Db.{Db}
-use Rattle.nsc_database.specs.Steady.{IsSteady}
-use Rattle.nsc_database.proofs.Rests.{rests_same}
-use Rattle.nsc_database.proofs.Steady.{keeps_same, still_kept}
+use Rattle.std.proofs.Common.{ℕ, List, ap, subst}
+use Rattle.nsc_model.specs.declared.record.Record.{Record}
+use Rattle.nsc_model.specs.declared.store.Stats.{Stats}
+use Rattle.nsc_model.specs.Stores.{IsCounted}
+use Rattle.nsc_database.specs.Rests.{Desk}
+use Rattle.nsc_database.proofs.Shown.{Counted, is_counted}
 use Rattle.nsc_database.proofs.desk.Desk.stats.Goals as goal
 
-pub invariant_of-self : goal.invariant_of-self
-invariant_of-self g c =
-    let r = rests_same c.self.inside.writer c.stats.new.writer c.stats.ensures.writer in
-    (r.keeps _ _ _ c.self.invariant.0, r.packed c.self.invariant.1, λ files e. still_kept files _ _ _ (keeps_same c.self.inside.writer c.stats.new.writer c.stats.ensures.writer) (c.self.invariant.2 files e), r.again c.self.invariant.3, r.slide ∙ c.self.invariant.4)
-
-pub invariant_of-pass-clause-steady : goal.invariant_of-pass-clause-steady
-invariant_of-pass-clause-steady g c = subst (λ (d : Db). IsSteady g.B.Room.held d c.stats.new.pass.seen) (sym c.requires) (λ files e. c.stats.ensures.steady files g.D.OfDb.db (c.self.invariant.2 files e))
+pub returns : goal.returns
+returns g c =
+    let w = c.self.inside.writer in
+    let counts : Counted w c.stats.result = record {
+      entries = ap (λ (s : Stats). s.entries) c.stats.ensures.value;
+      used = ap (λ (s : Stats). s.used) c.stats.ensures.value;
+      arena = ap (λ (s : Stats). s.arena) c.stats.ensures.value;
+      invalidations_are = ap (λ (s : Stats). s.invalidations) c.stats.ensures.value;
+      compactions = ap (λ (s : Stats). s.compactions) c.stats.ensures.value;
+    } in
+    subst (λ (x : ℕ × List Record). IsCounted x.0 x.1 c.stats.result) (λ i. (c.self.inside.own.1 i, ap (λ (d : Desk). d.writer.seen) c.self.view_is i)) (is_counted w c.stats.result c.learn.ensures.told c.self.invariant.1 counts)
