@@ -112,10 +112,6 @@ given_before (given.Fresh bytes why_is) settings now less seen after request p g
 none_on : (seen after : List Record) (request : Request) → IsPrefix seen after → NoneLiveOf seen request → EndedAfter seen after request
 none_on seen after request p none e loaded same = end_on seen after e.number p (none e loaded same)
 
-pub found_low : (settings : DbConf) (seen : List Record) (request : Request) (epoch : ℕ) (reply : List ℕ) → IsFound settings (looked.Missed epoch) seen request reply → epoch ≤ invalidations seen
-found_low settings seen request epoch reply (inl off) = let none = off.1 in omega arith
-found_low settings seen request epoch reply (inr none) = let all = none.0 in omega arith
-
 pub found_none : (settings : DbConf) (seen : List Record) (request : Request) (epoch : ℕ) (reply : List ℕ) → settings.enabled ≡ true → IsFound settings (looked.Missed epoch) seen request reply → (epoch ≡ invalidations seen) × NoneLiveOf seen request
 found_none settings seen request epoch reply on (inl off) = absurd (false≢true (sym off.0 ∙ on))
 found_none settings seen request epoch reply on (inr none) = none

@@ -3,9 +3,6 @@ use Rattle.std.proofs.Common.{◌≡◌, ◌∙◌, ℕ, ◌+◌, Bool, true, fa
 use Rattle.std.proofs.lemmas.Bool.{false≢true}
 use Rattle.nsc_model.specs.declared.answer.Request.{Request}
 use Rattle.nsc_model.specs.declared.kind.Db.{Db}
-use Rattle.nsc_model.specs.declared.kind.FileId.{FileId}
-use Rattle.nsc_model.specs.declared.store.LookupFault.{LookupFault}
-use Rattle.nsc_model.specs.declared.store.LookupFault.TheVariants as fault
 use Rattle.nsc_model.specs.declared.record.Record.{Record}
 use Rattle.nsc_model.specs.declared.record.Record.TheVariants.{Change, Poll, Load, End, Invalid}
 use Rattle.nsc_model.specs.Answers.{answer_of}
@@ -14,8 +11,7 @@ use Rattle.nsc_model.specs.Entry.{Entry}
 use Rattle.nsc_model.specs.Files.{part_of, same_files}
 use Rattle.nsc_model.specs.History.{Answered, HasLoad, IsTrueAnswer, Legal, changes, version_in}
 use Rattle.nsc_model.specs.Machine.{Cache, last_count, new_cache, polled}
-use Rattle.nsc_model.specs.Reads.{IsOfHeld, NoFileFault, Rose}
-use Rattle.nsc_model.specs.Stores.{IsFault, IsTickFault}
+use Rattle.nsc_model.specs.Reads.{IsOfHeld}
 use Rattle.nsc_model.proofs.Contents.{content_same}
 use Rattle.nsc_laws.specs.Calls.{Tells}
 use Rattle.nsc_laws.proofs.SpelledHistories.{version_below}
@@ -129,21 +125,3 @@ one_answer files which seen h request bytes l one a = elim a.source [
 pub is_of_held : (held : Option Content) (which : Db) (seen h : List Record) (request : Request) (bytes : List ℕ) → Legal h → IsSteady held which h → Answered seen h request bytes → IsOfHeld held which request bytes
 is_of_held None which seen h request bytes l steady a = tt
 is_of_held (Some files) which seen h request bytes l steady a = one_answer files which seen h request bytes l (steady files refl) a
-
--- ---- calm file sets
-
-never_rose : (before after : ℕ) → before ≡ 0 → after ≡ 0 → Rose before after → ⊥
-never_rose before after b a (inl more) = omega arith
-never_rose before after b a (inr full) = let high = full.0 in absurd (omega arith)
-
-pub calm_lookup : (cause : LookupFault) (seen : List Record) (before after : ℕ) (each each' : FileId → ℕ) → before ≡ 0 → after ≡ 0 → IsFault cause seen before after each each' → NoFileFault cause
-calm_lookup fault.NoMemory seen before after each each' b a f = tt
-calm_lookup (fault.Spent count) seen before after each each' b a f = tt
-calm_lookup (fault.SourceFault file) seen before after each each' b a f = never_rose before after b a f.0
-calm_lookup (fault.TooLong file size) seen before after each each' b a f = never_rose before after b a f.0
-
-pub calm_tick : (cause : LookupFault) (now : ℕ) (less seen : List Record) (before after : ℕ) (each each' : FileId → ℕ) → before ≡ 0 → after ≡ 0 → IsTickFault cause now less seen before after each each' → NoFileFault cause
-calm_tick fault.NoMemory now less seen before after each each' b a f = tt
-calm_tick (fault.Spent count) now less seen before after each each' b a f = tt
-calm_tick (fault.SourceFault file) now less seen before after each each' b a f = never_rose before after b a f.0
-calm_tick (fault.TooLong file size) now less seen before after each each' b a f = never_rose before after b a f.0

@@ -9,9 +9,9 @@ use Rattle.nsc_model.specs.declared.record.Record.TheVariants.{End}
 use Rattle.nsc_model.specs.declared.store.LookupFault.{LookupFault}
 use Rattle.nsc_model.specs.declared.store.LookupFault.TheVariants as fault
 use Rattle.nsc_model.specs.Entry.{Entry}
-use Rattle.nsc_model.specs.History.{HasEnd, HasLoad, IsPrefix, Legal, NoneLive, invalidations, load_of, version_in}
+use Rattle.nsc_model.specs.History.{HasEnd, HasLoad, IsPrefix, Legal, NoneLive, invalidations, load_of}
 use Rattle.nsc_model.specs.Answers.{answer_of}
-use Rattle.nsc_model.specs.Machine.{all_words, is_outdated, life_of, next_reloads}
+use Rattle.nsc_model.specs.Machine.{all_words, life_of, next_reloads}
 use Rattle.nsc_model.specs.Reloads.{replaced}
 use Rattle.nsc_model.specs.Stores.{IsEndedYet, IsLoadedAgain, IsUnmoved, MayBeUnmoved}
 use Rattle.nsc_sourcebook.specs.Book.{Polled}

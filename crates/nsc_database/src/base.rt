@@ -100,7 +100,7 @@ impl<D: OfDb, F: FileSet + Drop, A: Answerer + Drop, B: Room> Base<D, F, A, B> {
         ensures no_fault { OnOk result ((F.faults pass.new.files ≡ F.faults pass.old.files) × (F.file_faults pass.new.files ≡ F.file_faults pass.old.files)) }
         ensures counts { HasNotFallen (F.faults pass.old.files) (F.faults pass.new.files) × NoneFell (F.file_faults pass.old.files) (F.file_faults pass.new.files) }
     {
-        pass.pass.learn();
+        pass.learn();
         let mut shelved = self.shelved.lock(rt);
         match shelved.fetch(alloc, pass, &self.answers) {
             Ok(fetched) => match self.enter(rt, &mut shelved, pass, fetched, epoch) {
@@ -198,10 +198,7 @@ impl<D: OfDb, F: FileSet + Drop, A: Answerer + Drop, B: Room> Base<D, F, A, B> {
         desk.show(pass);
         let ended = desk.invalidate();
         desk.show(pass);
-        match ended {
-            Ok(epoch) => Ok(epoch),
-            Err(spent) => Err(InvalidateFault::Spent { count: spent.count }),
-        }
+        ended
     }
 
     /// The number of invalidations.

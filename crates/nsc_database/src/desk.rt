@@ -4,13 +4,13 @@ ghost use Rattle.nsc_model.specs.Entry.{kept_limit};
 ghost use Rattle.nsc_model.specs.Files.{part_of};
 ghost use Rattle.nsc_model.specs.History.{Legal, NoneLive, invalidations};
 ghost use Rattle.nsc_writer.specs.Writer.{IsAnswered};
-ghost use Rattle.nsc_model.specs.Reads.{AllRose, AreAsTold, NoneFell};
 ghost use Rattle.nsc_sourcebook.specs.Book.{IsNamed};
 ghost use Rattle.nsc_sourcebook.specs.Reads.{FaultRose, IsPartOf, TellsLength};
+ghost use Rattle.nsc_model.specs.Reads.{AllRose, AreAsTold, NoneFell};
 ghost use Rattle.nsc_model.specs.Machine.{is_outdated, room_of};
 ghost use Rattle.nsc_model.specs.Reloads.{Reloaded};
 ghost use Rattle.nsc_model.specs.Settings.{settings_of};
-ghost use Rattle.nsc_model.specs.Stores.{IsCounted, IsEmptied, IsEndedYet, IsSpent, IsUnmoved, LoadsAgain};
+ghost use Rattle.nsc_model.specs.Stores.{IsCounted, IsEmptied, IsInvalidateFault, IsSpent, IsUnmoved, LoadsAgain};
 ghost use Rattle.nsc_writer.specs.Uses.{counted};
 ghost use Rattle.nsc_database.specs.declared.renewal.Checked.TheVariants as is_checked;
 ghost use Rattle.nsc_database.specs.Frames.{Held};
@@ -23,7 +23,7 @@ use crate::pass::DbPass;
 use crate::renewal::{Checked, end_due, reload};
 use crate::room::{OfDb, Room};
 use nsc_base::{Buf, NoMemory};
-use nsc_model::{Answerer, DbConf, Kind, LookupFault, Spent, Stats};
+use nsc_model::{Answerer, DbConf, InvalidateFault, Kind, LookupFault, Spent, Stats};
 use nsc_outside::FileSet;
 use nsc_rule::Pass;
 use nsc_sourcebook::{Fetched, PollFault, Polled, SourceBook};
@@ -162,11 +162,14 @@ impl<D: OfDb, B: Room> Desk<D, B> {
 
     /// Ends every entry, and gives the new number of invalidations. At `Spent` that number stands at its end; or every entry
     /// ended, and the count of the beginnings and the ends of slides does.
-    pub fn invalidate(&mut self) -> Result<u64, Spent>
+    pub fn invalidate(&mut self) -> Result<u64, InvalidateFault>
         ensures done { IfOk result (λ epoch. IsEmptied self.old.writer.seen self.new.writer.seen epoch) }
-        ensures spent { IfErr result (λ spent. IsUnmoved self.new.writer.seen spent.count × IsEndedYet self.new.writer.seen (NoneLive self.new.writer.seen)) }
+        ensures fault { IfErr result (λ fault. IsInvalidateFault fault self.new.writer.seen) }
     {
-        holds::invalidate(&mut self.writer)
+        match holds::invalidate(&mut self.writer) {
+            Ok(epoch) => Ok(epoch),
+            Err(spent) => Err(InvalidateFault::Spent { count: spent.count }),
+        }
     }
 }
 
@@ -185,7 +188,8 @@ impl<D: OfDb, B: Room> Desk<D, B> {
         ensures checked { IfOk result (λ checked. IsChecked checked settings.now limit now self.new.writer.seen) }
         ensures fault { IfErr result (λ fault. IsHoldFault fault self.new.writer.seen (NoneLive self.new.writer.seen)) }
     {
-        if settings.is_outdated(self.writer.version(), self.ticked) {
+        let newest = self.writer.version();
+        if settings.is_outdated(newest, self.ticked) {
             return self.empty();
         }
         self.list(alloc, limit, now)

@@ -7,8 +7,8 @@ ghost use Rattle.nsc_model.specs.Settings.{settings_of};
 ghost use Rattle.nsc_model.specs.Sizes.{SizeFits};
 ghost use Rattle.nsc_database.specs.Rests.{IsNew};
 ghost use Rattle.nsc_database.specs.Steady.{IsPart};
-ghost use Rattle.nsc_model.specs.Reads.{AllRose, AreAsTold};
 ghost use Rattle.nsc_sourcebook.specs.Reads.{FaultRose, IsPartOf, TellsLength};
+ghost use Rattle.nsc_model.specs.Reads.{AllRose, AreAsTold};
 
 use crate::base::Base;
 use crate::database::{Bases, Database};

@@ -1,4 +1,4 @@
-use Rattle.std.proofs.Common.{◌≡◌, ◌∙◌, [], ap, refl, sym, subst}
+use Rattle.std.proofs.Common.{◌∙◌, [], ap, refl, sym, subst}
 use Rattle.nsc_model.specs.declared.answer.Request.{Request}
 use Rattle.nsc_model.specs.declared.kind.Db.{Db}
 use Rattle.nsc_model.specs.History.{Answered}
@@ -9,7 +9,7 @@ use Rattle.nsc_writer.specs.Writer.{IsAnswered}
 use Rattle.nsc_writer.proofs.Later.{prefix_through}
 use Rattle.nsc_database.specs.Lookups.{IsKept}
 use Rattle.nsc_database.specs.Steady.{IsSteady}
-use Rattle.nsc_database.proofs.Lookups.{Anew, anew_answers, anew_given, answered_before, found_low, found_none, given_before, hit_answered, is_missed, kept_reply, missed_at, poll_answered}
+use Rattle.nsc_database.proofs.Lookups.{Anew, anew_answers, anew_given, answered_before, found_none, given_before, hit_answered, is_missed, kept_reply, missed_at, poll_answered}
 use Rattle.nsc_database.proofs.Steady.{is_of_held}
 use Rattle.nsc_database.proofs.base.Base.lookup.Goals as goal
 

@@ -81,3 +81,10 @@ returns-in-Err-clause-spent g c =
     let due = subst (λ (d : Desk). All (IsDue g.B.Room.conf.reloads c.args.now d.writer.seen) c.args.due.now) (sym c.self.view_is) c.requires.due in
     let s = swept_spent _ _ c.args.now _ c.args.due.now c.self.inside.writer c.end_due.new.writer due c.learn.ensures.told inv.0 inv.1 c.in-Err.ensures.spent.2 c.in-Err.ensures.spent.1 in
     packed_unmoved c.end_due.new.writer c.in-Err.spent.count s.packed c.in-Err.ensures.spent.1 c.in-Err.ensures.spent.0
+
+pub returns-in-Err-clause-over : goal.returns-in-Err-clause-over
+returns-in-Err-clause-over g c =
+    let inv = c.self.invariant in
+    let due = subst (λ (d : Desk). All (IsDue g.B.Room.conf.reloads c.args.now d.writer.seen) c.args.due.now) (sym c.self.view_is) c.requires.due in
+    let s = swept_spent _ _ c.args.now _ c.args.due.now c.self.inside.writer c.end_due.new.writer due c.learn.ensures.told inv.0 inv.1 c.in-Err.ensures.spent.2 c.in-Err.ensures.spent.1 in
+    inr s.gone

@@ -3,7 +3,6 @@ use Rattle.nsc_model.specs.declared.answer.Request.{Request}
 use Rattle.nsc_model.specs.Content.{Content}
 use Rattle.nsc_model.specs.Reads.{IsOfHeld}
 use Rattle.nsc_model.specs.Stores.{reply_of}
-use Rattle.nsc_workload.specs.Workload.{files_of}
 use Rattle.nsc_workload.proofs.Told.{held_reply}
 use Rattle.nsc_workload.proofs.job.Job.reply.Goals as goal
 
