@@ -1,7 +1,6 @@
 -- Requests that control a daemon.
-use Rattle.std.specs.Prelude.{ℕ, List, [], ◌++◌, length, codes}
-use Rattle.nsc_model.specs.declared.kind.Db.{Db}
-use Rattle.nsc_model.specs.declared.kind.Db.TheVariants as db
+use Rattle.std.specs.Prelude.{ℕ, List, [], ◌++◌, length}
+use Rattle.nsc_model.specs.Kinds.{name_of}
 use Rattle.nsc_model.specs.Wire.{field, text}
 use Rattle.nsc_control.specs.declared.ask.AdminAsk.{AdminAsk}
 use Rattle.nsc_control.specs.declared.ask.AdminAsk.TheVariants as ask
@@ -11,13 +10,6 @@ abbrev pub type_of : AdminAsk → ℕ
 type_of ask.Shutdown = 8
 type_of ask.Stat = 9
 type_of (ask.Invalidate which) = 10
-
--- the name of a database
-abbrev pub name_of : Db → List ℕ
-name_of db.Passwd = codes "passwd"
-name_of db.Group = codes "group"
-name_of db.Hosts = codes "hosts"
-name_of db.Services = codes "services"
 
 -- its key: the name of the database and a zero byte, or nothing
 abbrev pub key_of : AdminAsk → List ℕ

@@ -6,6 +6,7 @@ use Rattle.nsc_model.specs.Reads.{Rose}
 use Rattle.nsc_outside.specs.declared.stream.Source as source
 use Rattle.nsc_outside.specs.declared.stream.Sink as sink
 use Rattle.nsc_model.specs.declared.conf.Conf.{Conf}
+use Rattle.nsc_model.specs.Content.{Content}
 use Rattle.nsc_daemonconf.specs.declared.lines.ConfFault.{ConfFault}
 use Rattle.nsc_replay.specs.declared.ended.Ended.{Ended}
 use Rattle.nsc_replay.specs.declared.ended.Ended.TheVariants as ended
@@ -142,11 +143,11 @@ ended_done : (by : daemon_end.Ended) → exits.Ok ≡ daemon_exit by → by ≡ 
 ended_done daemon_ended.ShutDown e = refl
 ended_done _ e = absurd cc
 
-served_done : (told : Option (Option (List ℕ))) (a b : daemon.Outside) (exit : Exit) → Serves told a b exit → exit ≡ exits.Ok → daemon.IsReady a b × daemon.EndsBy a.given b.given
-served_done told a b exit (inl h) e =
+served_done : (told : Option (Option (List ℕ))) (etc : Option (List ℕ)) (held : Option Content) (a b : daemon.Outside) (exit : Exit) → Serves told etc held a b exit → exit ≡ exits.Ok → daemon.IsReady a b × daemon.EndsBy a.given b.given
+served_done told etc held a b exit (inl h) e =
     let ends = subst (λ (by : daemon_end.Ended). daemon.EndsSo by a b) (ended_done h.ended (sym e ∙ h.exit_is)) h.ends in
     (ends.0, ends.1)
-served_done told a b exit (inr h) e = absurd (subst (NotSet told a.source_faults b.source_faults) e h.0)
+served_done told etc held a b exit (inr h) e = absurd (subst (NotSet told a.source_faults b.source_faults) e h.0)
 
 end_tells : (settings : Conf) (by : daemon_end.Ended) (a b : daemon.Outside) → daemon.EndsSo by a b
     → (Rose a.source_faults b.source_faults → ⊥) → (Rose a.net_faults b.net_faults → ⊥) → (Rose a.output_faults b.output_faults → ⊥) → TellsServed (Ok settings) (daemon_exit by)
@@ -161,12 +162,12 @@ no_memory_serves : (r : Result Conf ConfFault) → TellsServed r exits.NoMemory
 no_memory_serves (Ok settings) = inr refl
 no_memory_serves (Err fault) = inr refl
 
-served_tells : (told : Option (Option (List ℕ))) (a b : daemon.Outside) (exit : Exit) → Serves told a b exit
+served_tells : (told : Option (Option (List ℕ))) (etc : Option (List ℕ)) (held : Option Content) (a b : daemon.Outside) (exit : Exit) → Serves told etc held a b exit
     → (Rose a.source_faults b.source_faults → ⊥) → (Rose a.net_faults b.net_faults → ⊥) → (Rose a.output_faults b.output_faults → ⊥) → IfSome told (λ text. TellsServed (settings_by text) exit)
-served_tells told a b exit (inl h) sources net output =
+served_tells told etc held a b exit (inl h) sources net output =
     gives_told told (Ok h.settings) (λ r. TellsServed r exit) h.of_config
     (subst (λ (e : Exit). TellsServed (Ok h.settings) e) (sym h.exit_is) (end_tells h.settings h.ended a b h.ends sources net output))
-served_tells told a b exit (inr h) sources net output =
+served_tells told etc held a b exit (inr h) sources net output =
     unset_tells told a.source_faults b.source_faults TellsServed (λ fault. inl refl) no_memory_serves exit h.0 sources
 
 -- ---- a run
@@ -197,14 +198,14 @@ module _ {I O : Type 0} (i : source.Ghosts I) (o : sink.Ghosts O) (a b : Outside
   run_done (Some (Replay config)) h e = done_by _ _ _ _ exit h.0 e
   run_done (Some (Ask asked folder)) h e = ask_done i o asked a.peer _ _ _ _ exit h.0 e
   run_done (Some (Workload number workers)) h e = work_done number _ _ exit h.0 e
-  run_done (Some (Daemon service)) h e = served_done _ _ _ exit h.0 e
+  run_done (Some (Daemon service)) h e = served_done _ _ _ _ _ exit h.0 e
 
   pub run_tells : (form : Option Form) → Runs i o form a b exit → Tells i o form a b exit
   run_tells None h = h.0
   run_tells (Some (Replay config)) h = replay_tells _ _ _ _ exit h.0 h.1
   run_tells (Some (Ask asked folder)) h = ask_tells i o asked a.peer _ _ _ _ exit h.0
   run_tells (Some (Workload number workers)) h = work_tells number _ _ exit h.0
-  run_tells (Some (Daemon service)) h = served_tells _ _ _ exit h.0
+  run_tells (Some (Daemon service)) h = served_tells _ _ _ _ _ exit h.0
 
   -- Usage comes of no form
   unused : (form : Form) → Runs i o (Some form) a b exit → exit ≡ exits.Usage → ⊥
@@ -234,9 +235,9 @@ module _ {I O : Type 0} (i : source.Ghosts I) (o : sink.Ghosts O) (a : Outside) 
   unread : (form : Option Form) → Runs i o form a a exits.NoMemory
   unread None = (inr refl, refl)
   unread (Some (Replay config)) = (inr (refl, record { left_stays = refl; taken_stays = refl }), record { input_stays = refl; output_stays = refl }, record { given_stays = refl; peer_stays = refl; calm = refl })
-  unread (Some (Ask asked folder)) = (inr (inl (refl, refl, refl)), record { left_stays = refl; calm = refl }, record { held_stays = refl; calm = refl })
+  unread (Some (Ask asked folder)) = (inr (inl (refl, refl, refl)), record { left_stays = refl; calm = refl }, record { held_stays = refl; conf_stays = refl; calm = refl })
   unread (Some (Workload number workers)) =
-      (record { ended = worked.NoMemory; exit_is = refl; written = refl; counted = refl }, record { left_stays = refl; calm = refl }, record { held_stays = refl; calm = refl }, record { given_stays = refl; peer_stays = refl; calm = refl })
+      (record { ended = worked.NoMemory; exit_is = refl; written = refl; counted = refl }, record { left_stays = refl; calm = refl }, record { held_stays = refl; conf_stays = refl; calm = refl }, record { given_stays = refl; peer_stays = refl; calm = refl })
   unread (Some (Daemon service)) = (inr (refl, refl), record { left_stays = refl; calm = refl })
 
   -- the words were refused

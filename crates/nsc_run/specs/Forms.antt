@@ -10,9 +10,7 @@ use Rattle.clap.specs.Faults.{fault_of}
 use Rattle.clap.specs.declared.builder.action.ArgAction.TheVariants.{Set, SetTrue}
 use Rattle.clap.specs.declared.builder.value_parser.ValueParser.TheVariants.{NonEmptyString}
 use Rattle.nsc_base.specs.Decimal.{decimal_of}
-use Rattle.nsc_model.specs.declared.kind.Db.{Db}
-use Rattle.nsc_model.specs.declared.kind.Db.TheVariants as db
-use Rattle.nsc_control.specs.Asks.{name_of}
+use Rattle.nsc_model.specs.Kinds.{db_named}
 use Rattle.nsc_control.specs.declared.ask.AdminAsk.{AdminAsk}
 use Rattle.nsc_control.specs.declared.ask.AdminAsk.TheVariants as ask
 
@@ -124,14 +122,6 @@ workers_in text = number_below 65 text
 abbrev pub workers_of : Option Text → Option (Option ℕ)
 workers_of None = Some None
 workers_of (Some text) = option_map (λ n. Some n) (workers_in text)
-
--- the database of this name
-abbrev pub db_named : Text → Option Db
-db_named name =
-    if bytes_eq name (name_of db.Passwd) then Some db.Passwd else (
-    if bytes_eq name (name_of db.Group) then Some db.Group else (
-    if bytes_eq name (name_of db.Hosts) then Some db.Hosts else (
-    if bytes_eq name (name_of db.Services) then Some db.Services else None)))
 
 -- no option occurs that is the daemon's alone
 abbrev pub is_no_service : Options → Bool

@@ -8,6 +8,7 @@ use Rattle.nsc_outside.specs.declared.files.FileSet as files
 use Rattle.nsc_sockets.specs.Connections.{Connection, IsPeer}
 use Rattle.nsc_sockets.specs.declared.listener.Listener as listener
 use Rattle.nsc_model.specs.declared.conf.Conf.{Conf}
+use Rattle.nsc_model.specs.Content.{Content}
 use Rattle.nsc_daemonconf.specs.declared.lines.ConfFault.{ConfFault}
 use Rattle.nsc_replay.specs.Streams.{Streams, StreamsAt, streams_at}
 use Rattle.nsc_control.specs.Commands as control
@@ -28,6 +29,7 @@ use Rattle.nsc_run.specs.Commands.{ConfGives, Counted, Course, IsReplayedBy, NoF
 -- What the outside tells at one moment: of the input and the output, of the files, and of the listener.
 pub record Outside : Type 0 where
   pub streams : StreamsAt
+  pub held : Option Content
   pub conf_held : List ℕ → Option (Option (List ℕ))
   pub source_faults : ℕ
   pub given : Option (List Connection)
@@ -37,6 +39,7 @@ pub record Outside : Type 0 where
 abbrev pub outside : {R K F N I O : Type 0} → source.Ghosts R → sink.Ghosts K → files.Ghosts F → listener.Ghosts N I O → R → K → F → N → Outside
 outside r k f n input output set net = record {
   streams = streams_at r k input output;
+  held = f.held set;
   conf_held = f.conf_held set;
   source_faults = f.faults set;
   given = n.given net;
@@ -69,7 +72,8 @@ pub record NetStays (before after : Outside) : Type 0 where
   pub calm : after.net_faults ≡ before.net_faults
 
 pub record FilesStay (before after : Outside) : Type 0 where
-  pub held_stays : after.conf_held ≡ before.conf_held
+  pub held_stays : after.held ≡ before.held
+  pub conf_stays : after.conf_held ≡ before.conf_held
   pub calm : after.source_faults ≡ before.source_faults
 
 -- no count of the files, of the output, or of the listener rose
@@ -127,18 +131,20 @@ IsWorked exit = (exit ≡ exits.Ok) ⊎ (exit ≡ exits.NoMemory)
 
 -- ---- the daemon
 
--- settings were read, and a daemon ended so under them
-pub record Served (told : Option (Option (List ℕ))) (before after : daemon.Outside) (exit : Exit) : Type 0 where
+-- settings were read, and a daemon ended so under them; where no folder is named, a length that is told is that of one of the files that
+-- were held, where these are told
+pub record Served (told : Option (Option (List ℕ))) (etc : Option (List ℕ)) (held : Option Content) (before after : daemon.Outside) (exit : Exit) : Type 0 where
   pub settings : Conf
   pub of_config : ConfGives told (Ok settings)
   pub ended : daemon_end.Ended
   pub exit_is : exit ≡ daemon_exit ended
   pub ends : daemon.EndsSo ended before after
+  pub length : etc ≡ None → daemon.TellsLength ended held
 
 -- a daemon ended, or no settings were read and it did not begin
-abbrev pub Serves : Option (Option (List ℕ)) → daemon.Outside → daemon.Outside → Exit → Type 0
-Serves told before after exit =
-    Served told before after exit
+abbrev pub Serves : Option (Option (List ℕ)) → Option (List ℕ) → Option Content → daemon.Outside → daemon.Outside → Exit → Type 0
+Serves told etc held before after exit =
+    Served told etc held before after exit
     ⊎ (NotSet told before.source_faults after.source_faults exit × (after ≡ record before { source_faults = after.source_faults }))
 
 -- the daemon was told to end, or why a line is refused, unless memory was wanting
@@ -168,7 +174,7 @@ Runs i o (Some (Workload number workers)) before after exit =
     Works number (output_of before) (output_of after) exit
     × InputStays before after × FilesStay before after × NetStays before after
 Runs i o (Some (Daemon service)) before after exit =
-    Serves (daemon_told before service) (daemon_outside before) (daemon_outside after) exit × InputStays before after
+    Serves (daemon_told before service) service.etc before.held (daemon_outside before) (daemon_outside after) exit × InputStays before after
 
 -- The command was done: the input was read to the end of its first E, and the output is that of the replay; or a daemon did what
 -- was asked; or the lines of the workload were written; or the daemon was ready, and was told to end.

@@ -1,5 +1,5 @@
 // What is done, form by form.
-ghost use Rattle.std.specs.Prelude.{◌≡◌, IfErr, IfOk, option_map};
+ghost use Rattle.std.specs.Prelude.{◌≡◌, IfErr, IfOk, None, option_map};
 ghost use Rattle.nsc_replay.specs.Streams.{streams};
 ghost use Rattle.nsc_control.specs.Commands.{stream_out};
 ghost use Rattle.nsc_run.specs.Commands.{Counted, Course, IsSet, NotSet, config_told, worker_count};
@@ -70,7 +70,7 @@ pub fn serve<
 where
     N::In: 'static,
     N::Out: 'static,
-    ensures { Serves (F.conf_held files.old (conf_path_for service.now)) (daemon_at K.Sink F.FileSet N.Listener output.old files.old net.old) (daemon_at K.Sink F.FileSet N.Listener output.new files.new net.new) result }
+    ensures { Serves (F.conf_held files.old (conf_path_for service.now)) (option_map (λ p. p.now) service.now.etc) (F.held files.old) (daemon_at K.Sink F.FileSet N.Listener output.old files.old net.old) (daemon_at K.Sink F.FileSet N.Listener output.new files.new net.new) result }
 {
     match settings(rt.alloc(), service, files) {
         Ok(conf) => {
@@ -87,6 +87,7 @@ where
 
 // The settings of a daemon, with its files from now on in the folder that it is told.
 fn settings<F: FileSet>(alloc: Global, service: &Service<'_>, files: &mut F) -> Result<Conf, Exit>
+    ensures held { option_map (λ p. p.now) service.now.etc ≡ None → F.held files.new ≡ F.held files.old }
     ensures ok { IfOk result (λ conf. IsSet (F.conf_held files.old (conf_path_for service.now)) (F.faults files.old) (F.faults files.new) conf) }
     ensures err { IfErr result (λ exit. NotSet (F.conf_held files.old (conf_path_for service.now)) (F.faults files.old) (F.faults files.new) exit) }
 {

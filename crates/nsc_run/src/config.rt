@@ -14,6 +14,7 @@ use std::alloc::Global;
 /// A text that is no nscd.conf(5) is `BadConf`. Where the file could not be read, the exit is `SourceFault`, and where it
 /// is longer than a file may be, `TooLong`; then the set's count of faults rose. At `NoMemory` all is as before.
 pub fn conf_at<F: FileSet>(alloc: Global, path: Option<&str>, files: &mut F) -> Result<Conf, Exit>
+    ensures held { F.held files.new ≡ F.held files.old }
     ensures ok { IfOk result (λ conf. IsSet (config_told (F.conf_held files.old) (option_map (λ p. p.now) path.entry)) (F.faults files.old) (F.faults files.new) conf) }
     ensures err { IfErr result (λ exit. NotSet (config_told (F.conf_held files.old) (option_map (λ p. p.now) path.entry)) (F.faults files.old) (F.faults files.new) exit) }
 {

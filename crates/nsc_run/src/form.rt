@@ -1,5 +1,5 @@
 ghost use Rattle.std.specs.Prelude.{◌≡◌, ◌<◌, ◌≤◌, IfSome, option_map, unwrap_or};
-ghost use Rattle.nsc_run.specs.Forms.{ask_form, daemon_form, db_named, form_with, has_flag, is_no_service, number_below, options_of, replay_form, run_dir_of, workers_of, workload_form};
+ghost use Rattle.nsc_run.specs.Forms.{ask_form, daemon_form, form_with, has_flag, is_no_service, number_below, options_of, replay_form, run_dir_of, workers_of, workload_form};
 ghost use Rattle.nsc_run.specs.Shown.{CanRun, shown};
 ghost use Rattle.clap.specs.Words.{first_of, found_of, rows_of};
 
@@ -127,7 +127,7 @@ impl<'a> Options<'a> {
             (false, true, false, None, None) => self.ask_form(AdminAsk::Stat),
             (false, false, true, None, None) => self.ask_form(AdminAsk::Shutdown),
             (false, false, false, Some(name), None) => self.ask_form(AdminAsk::Invalidate {
-                db: db_named(name)?,
+                db: Db::named(name.as_bytes())?,
             }),
             (false, false, false, None, Some(text)) => self.workload_form(text),
             (false, false, false, None, None) => self.daemon_form(),
@@ -230,19 +230,6 @@ fn number_below(limit: u32, text: &str) -> Option<u32>
         Some(number)
     } else {
         None
-    }
-}
-
-// The database of this name. `None` where there is none.
-fn db_named(name: &str) -> Option<Db>
-    ensures { result ≡ db_named name.now }
-{
-    match name {
-        "passwd" => Some(Db::Passwd),
-        "group" => Some(Db::Group),
-        "hosts" => Some(Db::Hosts),
-        "services" => Some(Db::Services),
-        _ => None,
     }
 }
 
