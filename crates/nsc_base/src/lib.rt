@@ -19,7 +19,7 @@ pub use bytes::{Bytes, Ids, Texts, equal};
 pub use cuts::{before_byte, before_remark, has_zero_byte, trim_front};
 pub use decimals::decimal;
 pub use fields::{exact_fields, field_at};
-pub use lines::{first_line, line_at};
+pub use lines::line_at;
 pub use memory::NoMemory;
 pub use number::{i32_at, u32_at, u64_at};
 pub use search::{Case, first_line_with, line_start, line_with, search_on};

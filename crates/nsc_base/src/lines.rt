@@ -1,6 +1,5 @@
 ghost use Rattle.std.specs.Prelude.{◌≡◌, ◌≤◌, ◌↔◌, length, IfSome, IsNone};
-ghost use Rattle.nsc_base.specs.Found.{FirstOf};
-ghost use Rattle.nsc_base.specs.Text.{IsLine, line_spans};
+ghost use Rattle.nsc_base.specs.Text.{IsLine};
 
 use crate::span::{Line, Span};
 use memchr::memchr;
@@ -25,20 +24,4 @@ pub fn line_at(text: &[u8], from: usize) -> Option<Line>
             next: text.len(),
         }),
     }
-}
-
-/// What `entry_of` gives for the first line of the text for which it gives something: no line after it is looked at.
-/// `None` where it gives nothing for any line. Takes no memory of its own.
-pub fn first_line<E, F: Fn(Span) -> Option<E>>(text: &[u8], entry_of: F) -> Option<E>
-    requires { (line : Span) → line.from ≤ line.to → line.to ≤ length text.now → F.pre entry_of line }
-    ensures { FirstOf (F.post entry_of) (line_spans text.now 0) result }
-{
-    let mut from = 0;
-    while let Some(line) = line_at(text, from) {
-        if let Some(entry) = entry_of(line.span) {
-            return Some(entry);
-        }
-        from = line.next;
-    }
-    None
 }

@@ -1,9 +1,8 @@
 // Bytes in words.
-ghost use Rattle.std.specs.Prelude.{◌≡◌, ◌+◌, ◌<◌, ◌≤◌, ◌*◌, ◌++◌, length};
-ghost use Rattle.byteorder.specs.Endian.{little_bytes};
+ghost use Rattle.std.specs.Prelude.{◌≡◌, ◌<◌, length};
 ghost use Rattle.nsc_words.specs.Words.{word_of};
 
-use nsc_base::{Buf, u64_at};
+use nsc_base::u64_at;
 
 /// A word of the bytes, by its number from 0 on: eight bytes a word, the lowest byte first, and zeros past the end.
 pub fn word_of(bytes: &[u8], index: usize) -> u64
@@ -27,14 +26,4 @@ fn last_word(bytes: &[u8]) -> u64
     let mut word = [0u8; 8];
     word[..bytes.len()].copy_from_slice(bytes);
     u64_at(&word, 0)
-}
-
-/// Puts the first `count` bytes of a word, at most eight, its lowest byte first, after those of a buffer. The caller knows that they
-/// fit.
-pub fn push_word(out: &mut Buf, word: u64, count: usize)
-    requires count { count ≤ 8 }
-    requires room { length out.old.content + count ≤ out.old.limit }
-    ensures { out.new ≡ record out.old { content = out.old.content ++ little_bytes count word } }
-{
-    out.push(&word.to_le_bytes()[..count]);
 }

@@ -7,7 +7,7 @@ mod layout;
 mod node;
 mod packing;
 
-pub use bytes::{push_word, word_of};
+pub use bytes::word_of;
 pub use hashing::{hash, hash_kind, hash_word};
 pub use layout::{
     ADD_FAILED, CYCLE, EPOCH, FIRST_FREE, HEAD_WORDS, HITS, LOADS, Layout, MISSES, NEGATIVE_HITS,
