@@ -10,12 +10,11 @@ use Rattle.nsc_model.specs.Content.{Content}
 use Rattle.nsc_model.specs.Entry.{Entry}
 use Rattle.nsc_model.specs.Files.{part_of, same_files}
 use Rattle.nsc_model.specs.History.{Answered, HasLoad, IsTrueAnswer, Legal, changes, version_in}
-use Rattle.nsc_model.specs.Machine.{Cache, last_count, new_cache, polled}
+use Rattle.nsc_model.specs.Machine.{Cache, last_count, polled}
 use Rattle.nsc_model.specs.Reads.{IsOfHeld}
 use Rattle.nsc_model.proofs.Contents.{content_same}
 use Rattle.nsc_laws.specs.Calls.{Tells}
 use Rattle.nsc_laws.proofs.SpelledHistories.{version_below}
-use Rattle.nsc_sourcebook.specs.Reads.{IsPartOf}
 use Rattle.nsc_writer.specs.declared.loaded.Inserted.{Inserted}
 use Rattle.nsc_writer.specs.declared.loaded.Inserted.TheVariants as inserted
 use Rattle.nsc_writer.specs.declared.loaded.Stamp.{Stamp}
@@ -24,13 +23,7 @@ use Rattle.nsc_shelf.specs.Shelf.{has_number}
 use Rattle.nsc_writer.specs.Loaded.{Loaded}
 use Rattle.nsc_writer.specs.Writer.{Writer, Inserts, Polls, emptied_by, ending_of, without_entry}
 use Rattle.nsc_writer.proofs.Later.{version_on}
-use Rattle.nsc_database.specs.Steady.{HasOne, IsPart, IsSteady, IsStill, KeepsVersion, StaysStill}
-
-pub is_part : (held : Option Content) (which : Db) (content : Content) → IsPartOf which held content → IsPart held which content
-is_part None which content p files e = absurd cc
-is_part (Some all) which content p files e = p ∙ ap (part_of which) (some_is all files e) where
-  some_is : (a b : Content) → Some a ≡ Some b → a ≡ b
-  some_is a b s = cc
+use Rattle.nsc_database.specs.Steady.{HasOne, IsSteady, IsStill, KeepsVersion}
 
 -- ---- a cache that keeps its version
 
@@ -82,12 +75,6 @@ one_of_still files which h cache t s =
     let counted : changes h ≡ cache.newest_version + 1 = t.counted in
     let first : cache.newest_version ≡ 0 = s.first in
     record { one = omega arith; part = subst (λ (n : ℕ). version_in h n ≡ Some (part_of which files)) s.first (t.held ∙ ap (λ (c : Content). Some c) s.part) }
-
-pub opening_steady : (held : Option Content) (which : Db) (content : Content) → IsPart held which content → IsSteady held which (Change 0 content ∷ [])
-opening_steady held which content p files e = record { one = refl; part = ap (λ (c : Content). Some c) (p files e) }
-
-pub opening_still : (held : Option Content) (which : Db) (content : Content) (cache : Cache) → cache ≡ new_cache content → IsPart held which content → StaysStill held which cache
-opening_still held which content cache is p files e = subst (IsStill files which) (sym is) (record { first = refl; part = p files e })
 
 -- ---- answers over it
 
