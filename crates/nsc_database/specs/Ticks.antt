@@ -1,5 +1,5 @@
 -- What the holds of a tick come to.
-use Rattle.std.specs.Prelude.{◌≡◌, ℕ, ◌+◌, ◌<◌, ◌≤◌, ◌⊎◌, true, false, if◌then◌else◌, All, List, [], ◌∷◌, filter, length, Option, Some, None}
+use Rattle.std.specs.Prelude.{◌≡◌, ℕ, ◌+◌, ◌<◌, ◌≤◌, ◌⊎◌, Bool, true, false, if◌then◌else◌, All, List, [], ◌∷◌, filter, length, Option, Some, None}
 use Rattle.std.specs.Bool.{OnTrue}
 use Rattle.nsc_model.specs.declared.conf.DbConf.{DbConf}
 use Rattle.nsc_model.specs.declared.answer.Request.{Request}
@@ -52,6 +52,11 @@ pub record AreListed (settings : DbConf) (limit : Option ℕ) (now : ℕ) (histo
 abbrev pub IsChecked : Checked → DbConf → Option ℕ → ℕ → List Record → Type 0
 IsChecked checked.Emptied settings limit now history = NoneLive history
 IsChecked (checked.Listed due) settings limit now history = AreListed settings limit now history due.items
+
+-- every entry was ended where the newest version is outdated, and only there
+abbrev pub IsCause : Checked → Bool → Type 0
+IsCause checked.Emptied outdated = outdated ≡ true
+IsCause (checked.Listed due) outdated = outdated ≡ false
 
 -- why a hold gave up: memory was wanting, or a count stands at its end, and the ends were made all the same
 abbrev pub IsHoldFault : LookupFault → List Record → Type 0 → Type 0

@@ -15,7 +15,7 @@ ghost use Rattle.nsc_database.specs.declared.renewal.Checked.TheVariants as is_c
 ghost use Rattle.nsc_database.specs.Frames.{Held};
 ghost use Rattle.nsc_database.specs.Holds.{IsInserted, IsLooked, IsPolled};
 ghost use Rattle.nsc_database.specs.Steady.{IsPart, IsSteady};
-ghost use Rattle.nsc_database.specs.Ticks.{AreAnew, AreOver, HaveStamp, IsChecked, IsDue, IsHoldFault};
+ghost use Rattle.nsc_database.specs.Ticks.{AreAnew, AreOver, HaveStamp, IsCause, IsChecked, IsDue, IsHoldFault};
 
 use crate::holds::{self, Looked};
 use crate::pass::DbPass;
@@ -184,6 +184,7 @@ impl<D: OfDb, B: Room> Desk<D, B> {
         requires settings { settings.now ≡ settings_of B.conf D.db }
         requires limit { limit ≡ B.conf.reloads }
         ensures checked { IfOk result (λ checked. IsChecked checked settings.now limit now self.new.writer.seen) }
+        ensures cause { IfOk result (λ checked. IsCause checked (is_outdated settings.now self.old.writer.cache.newest_version self.old.ticked)) }
         ensures fault { IfErr result (λ fault. IsHoldFault fault self.new.writer.seen (NoneLive self.new.writer.seen)) }
     {
         let newest = self.writer.version();
@@ -198,6 +199,7 @@ impl<D: OfDb, B: Room> Desk<D, B> {
         requires limit { limit ≡ B.conf.reloads }
         requires current { is_outdated (settings_of B.conf D.db) self.old.writer.cache.newest_version self.old.ticked ≡ false }
         ensures checked { IfOk result (λ checked. IsChecked checked (settings_of B.conf D.db) limit now self.new.writer.seen) }
+        ensures cause { IfOk result (λ checked. IsCause checked false) }
         ensures fault { IfErr result (λ fault. IsHoldFault fault self.new.writer.seen (NoneLive self.new.writer.seen)) }
     {
         self.writer.learn();
