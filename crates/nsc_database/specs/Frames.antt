@@ -1,11 +1,17 @@
--- What a hold of the writer's lock leaves of a pass.
+-- What a call leaves of a pass.
 use Rattle.std.specs.Prelude.{◌≡◌}
 use Rattle.nsc_model.specs.History.{IsPrefix, Legal}
 use Rattle.nsc_outside.specs.declared.files.FileSet as file_set
 use Rattle.nsc_database.specs.declared.room.Room as room
 use Rattle.nsc_database.specs.declared.pass.DbPass.{DbPass}
 
--- it is of the same database, has read no file, and has seen more of the same history
+-- it is of the same database, and has seen more of the same history
+pub record Goes {F B : Type 0} {G : file_set.Ghosts F} {R : room.Ghosts B} (p p' : DbPass F B G R) : Type 0 where
+  pub db : p'.db ≡ p.db
+  pub before : IsPrefix p.pass.seen p'.pass.seen
+  pub legal : Legal p'.pass.seen
+
+-- the same, and it has read no file, as under a hold of the writer's lock
 pub record Held {F B : Type 0} {G : file_set.Ghosts F} {R : room.Ghosts B} (p p' : DbPass F B G R) : Type 0 where
   pub db : p'.db ≡ p.db
   pub files : p'.files ≡ p.files

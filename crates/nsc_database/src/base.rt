@@ -3,14 +3,14 @@ ghost use Rattle.std.specs.Prelude.{◌≡◌, ◌≤◌, ◌<◌, ◌+◌, ◌^
 ghost use Rattle.nsc_model.specs.Entry.{key_limit};
 ghost use Rattle.nsc_model.specs.Answers.{answer_of};
 ghost use Rattle.nsc_model.specs.Files.{part_of};
-ghost use Rattle.nsc_model.specs.History.{IsPrefix, Legal, invalidations};
+ghost use Rattle.nsc_model.specs.History.{Legal, invalidations};
 ghost use Rattle.nsc_writer.specs.Writer.{IsAnswered};
 ghost use Rattle.nsc_model.specs.Reads.{HasNotFallen, IsLookedUp, NoneFell};
 ghost use Rattle.nsc_model.specs.Machine.{life_of, room_of};
 ghost use Rattle.nsc_model.specs.Settings.{settings_of};
 ghost use Rattle.nsc_model.specs.Stores.{IsCounted, IsEmptied, IsFault, IsInvalidateFault, IsSpent};
 ghost use Rattle.nsc_sourcebook.specs.Book.{IsNamed};
-ghost use Rattle.nsc_database.specs.Frames.{Held};
+ghost use Rattle.nsc_database.specs.Frames.{Goes, Held};
 ghost use Rattle.nsc_database.specs.Holds.{IsLooked, IsPolled};
 ghost use Rattle.nsc_database.specs.Lookups.{Gives, IsKept};
 ghost use Rattle.nsc_database.specs.Steady.{IsPart};
@@ -69,10 +69,7 @@ impl<D: OfDb, F: FileSet + Drop, A: Answerer + Drop, B: Room> Base<D, F, A, B> {
     /// Looks for the live entry of the request.
     pub fn look<R: Wait>(&self, rt: &R, pass: &mut DbPass<F, B>, kind: Kind, key: &[u8]) -> Looked
         requires { pass.old.db ≡ D.db }
-        ensures db { pass.new.db ≡ pass.old.db }
-        ensures files { pass.new.files ≡ pass.old.files }
-        ensures before { IsPrefix pass.old.pass.seen pass.new.pass.seen }
-        ensures legal { Legal pass.new.pass.seen }
+        ensures frame { Held pass.old pass.new }
         ensures looked { IsLooked result pass.new.pass.seen (record { kind = kind; key = key.now }) pass.new.reply.content }
     {
         let mut lock = self.desk.lock(rt);
@@ -91,9 +88,7 @@ impl<D: OfDb, F: FileSet + Drop, A: Answerer + Drop, B: Room> Base<D, F, A, B> {
     ) -> Result<Polled<A>, LookupFault>
         requires db { pass.old.db ≡ D.db }
         requires epoch { epoch ≤ invalidations pass.old.pass.seen }
-        ensures db { pass.new.db ≡ pass.old.db }
-        ensures before { IsPrefix pass.old.pass.seen pass.new.pass.seen }
-        ensures legal { Legal pass.new.pass.seen }
+        ensures frame { Goes pass.old pass.new }
         ensures polled { IfOk result (λ polled. IsPolled pass.old.pass.seen pass.new.pass.seen epoch polled) }
         ensures files { IfOk result (λ polled. IsLookedUp D.db (F.reads pass.old.files) (F.reads pass.new.files) (F.latest pass.new.files) polled.content) }
         ensures fault { IfErr result (λ fault. IsFault fault pass.new.pass.seen (F.faults pass.old.files) (F.faults pass.new.files) (F.file_faults pass.old.files) (F.file_faults pass.new.files)) }
@@ -143,10 +138,7 @@ impl<D: OfDb, F: FileSet + Drop, A: Answerer + Drop, B: Room> Base<D, F, A, B> {
         requires db { pass.old.db ≡ D.db }
         requires answered { IsAnswered pass.old.pass.seen loaded }
         requires new { loaded.reloads ≡ 0 }
-        ensures db { pass.new.db ≡ pass.old.db }
-        ensures files { pass.new.files ≡ pass.old.files }
-        ensures before { IsPrefix pass.old.pass.seen pass.new.pass.seen }
-        ensures legal { Legal pass.new.pass.seen }
+        ensures frame { Held pass.old pass.new }
         ensures kept { IsKept (room_of self.now.settings) loaded pass.old.pass.seen pass.new.pass.seen result }
     {
         pass.pass.learn();
@@ -186,10 +178,7 @@ impl<D: OfDb, F: FileSet + Drop, A: Answerer + Drop, B: Room> Base<D, F, A, B> {
         pass: &mut DbPass<F, B>,
     ) -> Result<u64, InvalidateFault>
         requires { pass.old.db ≡ D.db }
-        ensures db { pass.new.db ≡ pass.old.db }
-        ensures files { pass.new.files ≡ pass.old.files }
-        ensures before { IsPrefix pass.old.pass.seen pass.new.pass.seen }
-        ensures legal { Legal pass.new.pass.seen }
+        ensures frame { Held pass.old pass.new }
         ensures done { IfOk result (λ epoch. IsEmptied pass.old.pass.seen pass.new.pass.seen epoch) }
         ensures fault { IfErr result (λ fault. IsInvalidateFault fault pass.new.pass.seen) }
     {
@@ -204,10 +193,7 @@ impl<D: OfDb, F: FileSet + Drop, A: Answerer + Drop, B: Room> Base<D, F, A, B> {
     /// The number of invalidations.
     pub fn note<R: Wait>(&self, rt: &R, pass: &mut DbPass<F, B>) -> u64
         requires { pass.old.db ≡ D.db }
-        ensures db { pass.new.db ≡ pass.old.db }
-        ensures files { pass.new.files ≡ pass.old.files }
-        ensures before { IsPrefix pass.old.pass.seen pass.new.pass.seen }
-        ensures legal { Legal pass.new.pass.seen }
+        ensures frame { Held pass.old pass.new }
         ensures noted { result ≡ invalidations pass.new.pass.seen }
     {
         let mut lock = self.desk.lock(rt);
@@ -219,10 +205,7 @@ impl<D: OfDb, F: FileSet + Drop, A: Answerer + Drop, B: Room> Base<D, F, A, B> {
     /// What the database counts.
     pub fn stats<R: Wait>(&self, rt: &R, pass: &mut DbPass<F, B>) -> Stats
         requires { pass.old.db ≡ D.db }
-        ensures db { pass.new.db ≡ pass.old.db }
-        ensures files { pass.new.files ≡ pass.old.files }
-        ensures before { IsPrefix pass.old.pass.seen pass.new.pass.seen }
-        ensures legal { Legal pass.new.pass.seen }
+        ensures frame { Held pass.old pass.new }
         ensures counted { IsCounted (room_of self.now.settings) pass.new.pass.seen result }
         ensures enabled { result.enabled ≡ self.now.settings.enabled }
     {

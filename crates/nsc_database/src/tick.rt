@@ -5,6 +5,7 @@ ghost use Rattle.nsc_model.specs.Reads.{HasNotFallen, NoFileFault, NoneFell};
 ghost use Rattle.nsc_model.specs.Reloads.{Reloaded};
 ghost use Rattle.nsc_model.specs.Machine.{room_of};
 ghost use Rattle.nsc_model.specs.Stores.{IsTickFault, IsTicked, LoadsAgain};
+ghost use Rattle.nsc_database.specs.Frames.{Held};
 ghost use Rattle.nsc_database.specs.Ticks.{AreOver, IsChecked, IsDue, IsHoldFault, anew_of};
 
 use crate::base::Base;
@@ -73,10 +74,7 @@ impl<D: OfDb, F: FileSet + Drop, A: Answerer + Drop, B: Room> Base<D, F, A, B> {
         now: u64,
     ) -> Result<Checked, LookupFault>
         requires { pass.old.db ≡ D.db }
-        ensures db { pass.new.db ≡ pass.old.db }
-        ensures files { pass.new.files ≡ pass.old.files }
-        ensures before { IsPrefix pass.old.pass.seen pass.new.pass.seen }
-        ensures legal { Legal pass.new.pass.seen }
+        ensures frame { Held pass.old pass.new }
         ensures checked { IfOk result (λ checked. IsChecked checked self.now.settings self.now.reloads now pass.new.pass.seen) }
         ensures reloaded { Reloaded self.now.reloads pass.new.pass.seen }
         ensures again { LoadsAgain (room_of self.now.settings) pass.new.pass.seen }
@@ -108,10 +106,7 @@ impl<D: OfDb, F: FileSet + Drop, A: Answerer + Drop, B: Room> Base<D, F, A, B> {
         requires version { version_in pass.old.pass.seen polled.now.stamp.version ≡ Some polled.now.content }
         requires since { PolledSince pass.old.pass.seen polled.now.stamp.version polled.now.stamp.epoch }
         requires stamp { polled.now.stamp.epoch ≡ epoch }
-        ensures db { pass.new.db ≡ pass.old.db }
-        ensures files { pass.new.files ≡ pass.old.files }
-        ensures before { IsPrefix pass.old.pass.seen pass.new.pass.seen }
-        ensures legal { Legal pass.new.pass.seen }
+        ensures frame { Held pass.old pass.new }
         ensures over { OnOk result (AreOver epoch pass.new.pass.seen due.items) }
         ensures reloaded { OnOk result (Reloaded self.now.reloads pass.new.pass.seen) }
         ensures again { OnOk result (LoadsAgain (room_of self.now.settings) pass.new.pass.seen) }

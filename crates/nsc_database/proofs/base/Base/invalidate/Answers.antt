@@ -8,8 +8,8 @@ use Rattle.nsc_database.proofs.Shown.{emptied_since}
 use Rattle.nsc_database.proofs.Standing.{held_through}
 use Rattle.nsc_database.proofs.base.Base.invalidate.Goals as goal
 
-pub returns-clause-before : goal.returns-clause-before
-returns-clause-before g c = (held_through _ _ _ c.show.ensures.frame c.show-2.ensures.frame).before
+pub returns-clause-frame : goal.returns-clause-frame
+returns-clause-frame g c = held_through _ _ _ c.show.ensures.frame c.show-2.ensures.frame
 
 pub returns-clause-done : goal.returns-clause-done
 returns-clause-done g c = IfOk-weaker c.invalidate-ended.result _ _ (λ epoch e.

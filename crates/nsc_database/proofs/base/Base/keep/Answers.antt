@@ -15,8 +15,8 @@ insert-said-requires-clause-answered g c =
     let seen = c.show.ensures.seen ∙ sym (ap (λ (d : Desk). d.writer.seen) c.show.ensures.same) in
     subst (λ (h : List Record). IsAnswered h c.args.loaded) seen (answered_on c.args.pass.now.pass.seen c.show.new.pass.pass.seen c.args.loaded c.show.ensures.frame.legal c.learn.ensures c.show.ensures.frame.before c.requires.answered)
 
-pub returns-clause-before : goal.returns-clause-before
-returns-clause-before g c = (held_through _ _ _ c.show.ensures.frame c.show-2.ensures.frame).before
+pub returns-clause-frame : goal.returns-clause-frame
+returns-clause-frame g c = held_through _ _ _ c.show.ensures.frame c.show-2.ensures.frame
 
 pub returns-clause-kept : goal.returns-clause-kept
 returns-clause-kept g c =

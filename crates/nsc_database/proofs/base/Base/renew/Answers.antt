@@ -41,11 +41,11 @@ renew-renewed-requires-clause-stamps g c =
     let loads : c.deref-2.result.now ≡ map (anew_of c.args.self.now.settings c.args.polled.now c.args.now) c.args.due.items = c.deref-2.ensures.value ∙ c.in-Ok.ensures ∙ ap (map (anew_of c.args.self.now.settings c.args.polled.now c.args.now)) c.deref.ensures.value in
     subst (λ (x : ℕ × List (Option Loaded)). HaveStamp x.0 x.1) (λ i. (c.requires.stamp i, sym loads i)) made
 
-pub returns-in-Ok-renewed-clause-before : goal.returns-in-Ok-renewed-clause-before
-returns-in-Ok-renewed-clause-before g c = (held_through _ _ _ c.show.ensures.frame c.show-2.ensures.frame).before
+pub returns-in-Ok-renewed-clause-frame : goal.returns-in-Ok-renewed-clause-frame
+returns-in-Ok-renewed-clause-frame g c = held_through _ _ _ c.show.ensures.frame c.show-2.ensures.frame
 
-pub returns-clause-before : goal.returns-clause-before
-returns-clause-before g c = (held_through _ _ _ c.show.ensures.frame c.show-2.ensures.frame).before
+pub returns-clause-frame : goal.returns-clause-frame
+returns-clause-frame g c = held_through _ _ _ c.show.ensures.frame c.show-2.ensures.frame
 
 pub returns-in-Ok-renewed-clause-again : goal.returns-in-Ok-renewed-clause-again
 returns-in-Ok-renewed-clause-again g c = subst (λ (s : DbConf). LoadsAgain (room_of s) c.show-2.new.pass.pass.seen) (sym c.args.self.now.conf.0) c.show-2.ensures.again
