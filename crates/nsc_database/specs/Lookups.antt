@@ -15,7 +15,7 @@ use Rattle.nsc_database.specs.declared.holds.Looked.{Looked}
 use Rattle.nsc_database.specs.declared.holds.Looked.TheVariants as looked
 use Rattle.nsc_database.specs.Holds.{IsInserted}
 
--- a look for a live entry of the request, where the database is cached; where it is not, none is found after no invalidation
+-- a look for a live entry of the request, where the database is cached; where it is not, none is found, and the count of invalidations that is told is 0
 abbrev pub IsFound : DbConf → Looked → List Record → Request → List ℕ → Type 0
 IsFound settings (looked.Hit hit) after request reply = (settings.enabled ≡ true) × IsHit after request reply hit.number
 IsFound settings (looked.Missed epoch) after request reply = ((settings.enabled ≡ false) × (epoch ≡ 0)) ⊎ ((epoch ≡ invalidations after) × NoneLiveOf after request)

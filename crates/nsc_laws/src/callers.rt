@@ -1,10 +1,12 @@
 //! The core of a database: what its callers do in any order, and the history that this makes.
 
-ghost use Rattle.std.specs.Prelude.{◌≡◌, ◌≢◌, ℕ, List, [], Some};
+ghost use Rattle.std.specs.Prelude.{◌≡◌, ◌≢◌, ℕ, List, [], ◌∷◌, Some};
 ghost use Rattle.nsc_model.specs.declared.answer.Request.{Request};
 ghost use Rattle.nsc_model.specs.declared.kind.Db.{Db};
 ghost use Rattle.nsc_model.specs.declared.record.Record.{Record};
+ghost use Rattle.nsc_model.specs.declared.record.Record.TheVariants as record_of;
 ghost use Rattle.nsc_model.specs.Content.{Content};
+ghost use Rattle.nsc_model.specs.Entry.{Entry};
 ghost use Rattle.nsc_model.specs.History.{Answered, Legal, version_in};
 ghost use Rattle.nsc_laws.specs.Core.{Core, Move, Empty, Moves, Runs, RepliesAnswer, opening};
 ghost use Rattle.nsc_laws.specs.Origins.{IsAnswer, IsReply, IsRun, IsSourced};
@@ -36,6 +38,13 @@ pub fn core_can_be_emptied()
 /// no others. That a version was looked at since the last invalidation is of every legal history, and no premise.
 pub fn legal_histories_are_run()
     ensures { (db : Db) (history : List Record) → Legal history → IsSourced db history → IsRun db history }
+{}
+
+/// So Legal has to say that a version was looked at since the last invalidation: an entry of a later version right after an
+/// invalidation has its origins, and no run makes that history.
+pub fn unpolled_entries_are_not_run()
+    ensures sourced { (db : Db) (e : Entry) (epoch : ℕ) (before : List Record) → e.version ≢ 0 → IsSourced db before → IsSourced db (record_of.Load e ∷ record_of.Invalid epoch ∷ before) }
+    ensures refuted { (db : Db) (e : Entry) (epoch : ℕ) (before : List Record) → IsRun db (record_of.Load e ∷ record_of.Invalid epoch ∷ before) → ⊥ }
 {}
 
 /// Every answer over such a history is a reply that some caller may get in a run that makes the history, for a call at whose

@@ -20,7 +20,7 @@ use Rattle.nsc_model.specs.Answers.{answer_of}
 abbrev pub last_count : ℕ
 last_count = 2 ^ 62
 
--- the next count, which stays there
+-- the next count; the last one stays
 abbrev pub next_count : ℕ → ℕ
 next_count count = min (count + 1) last_count
 

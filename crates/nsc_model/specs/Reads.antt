@@ -49,7 +49,7 @@ pub record IsLookedUp (which : Db) (before_reads after_reads : FileId → ℕ) (
 abbrev pub IsMadeOf : Db → (FileId → ℕ) → (FileId → ℕ) → (FileId → Option (Option (List ℕ))) → Request → List ℕ → Type 0
 IsMadeOf which before_reads after_reads latest request bytes = (content : Content) × IsLookedUp which before_reads after_reads latest content × ((answer_of content request).bytes ≡ bytes)
 
--- where the reply is that of a live entry, no file was read; else it was made of files that were
+-- where the reply is that of a live entry, no file was read with an answer; else it was made of files that were
 abbrev pub IsMade : Db → (FileId → ℕ) → (FileId → ℕ) → (FileId → Option (Option (List ℕ))) → Request → Given → Type 0
 IsMade which before_reads after_reads latest request (given.Hit bytes number) = after_reads ≡ before_reads
 IsMade which before_reads after_reads latest request (given.Loaded bytes number) = IsMadeOf which before_reads after_reads latest request bytes

@@ -246,8 +246,9 @@ impl<F: FileSet + Drop, A: Answerer> SourceBook<F, A> {
     }
 
     /// Enters in the writer that the files were looked at: what was fetched becomes the newest version, or confirms it. It is not
-    /// compared with the newest one where it was found equal to a version and the writer still has that one. The epoch is the number of invalidations before they were read. At `Spent` book and writer are as before: a new version is
-    /// needed, and the count of versions stands at its end.
+    /// compared with the newest one where it was found equal to a version and the writer still has that one. The epoch is the
+    /// number of invalidations before they were read. At `Spent` book and writer are as before: a new version is needed, and the
+    /// count of versions stands at its end.
     pub fn poll(
         &mut self,
         writer: &mut Writer,
