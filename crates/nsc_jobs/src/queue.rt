@@ -1,4 +1,4 @@
-ghost use Rattle.std.specs.Prelude.{◌≡◌, ◌<◌, ◌++◌, ◌∷◌, [], ◌↔◌, ◌-◌, IsTrue, length, false, true, if◌then◌else◌, IfNone, OnOk, OnErr, option_to_list};
+ghost use Rattle.std.specs.Prelude.{◌≡◌, ◌<◌, ◌++◌, ◌∷◌, [], ◌↔◌, ◌-◌, IsTrue, length, false, true, if◌then◌else◌, OnOk, OnErr};
 ghost use Rattle.std.specs.Duration.{as_nanos};
 ghost use Rattle.nsc_jobs.specs.Jobs.{GoesOn, HasNoWorker, IsWorkerWanted};
 
