@@ -33,7 +33,7 @@ invalidate_lacked invalidate_fault.NoMemory after is calm = refl
 invalidate_lacked (invalidate_fault.Spent count) after is calm = absurd (calm count is.0)
 
 named_lacked : (which : Option Db) (after : Databases PassAt) (by : Served) → IsInvalidateRefusal which after by → IfSome which (λ db. NoInvalidateFault (database_in after db)) → by ≡ served.NoMemory
-named_lacked (Some which) after by is calm = is.1 ∙ invalidate_lacked is.0 (database_in after which) is.2 calm
+named_lacked (Some which) after by is calm = is.1 ∙ invalidate_lacked is.0 (database_in after which) is.3 calm
 named_lacked None after by is calm = absurd is
 
 -- a reply that is refused though no fault came is refused for want of memory

@@ -60,11 +60,12 @@ pub record IsLookReply (settings : DbConf) (moment : ℕ) (request : Request) (b
 
 -- a database was emptied, or none has the name
 abbrev pub IsInvalidateReply : Option Db → Databases PassAt → Databases PassAt → List ℕ → Type 0
-IsInvalidateReply (Some which) before after reply = (reply ≡ done) × (epoch : ℕ) × IsEmptied (database_in before which).seen (database_in after which).seen epoch
+IsInvalidateReply (Some which) before after reply = (reply ≡ done) × Legal (database_in after which).seen × (epoch : ℕ) × IsEmptied (database_in before which).seen (database_in after which).seen epoch
 IsInvalidateReply None before after reply = (reply ≡ no_database) × (after ≡ before)
 
 -- the counts are those of a database of these settings, as the pass has seen it
 pub record IsCountOf (settings : DbConf) (after : PassAt) (stats : Stats) : Type 0 where
+  pub legal : Legal after.seen
   pub counted : IsCounted (room_of settings) after.seen stats
   pub enabled : stats.enabled ≡ settings.enabled
 
@@ -102,7 +103,7 @@ pub record IsLookFault (settings : DbConf) (request : Request) (before after : P
   pub missed : IsMissedAt cause settings before.seen after.seen request
 
 abbrev pub IsInvalidateRefusal : Option Db → Databases PassAt → Served → Type 0
-IsInvalidateRefusal (Some which) after by = (f : InvalidateFault) × (by ≡ served_after f) × IsInvalidateFault f (database_in after which).seen
+IsInvalidateRefusal (Some which) after by = (f : InvalidateFault) × (by ≡ served_after f) × Legal (database_in after which).seen × IsInvalidateFault f (database_in after which).seen
 IsInvalidateRefusal None after by = ⊥
 
 abbrev pub IsRefusal : Databases DbConf → Asked → Databases PassAt → Databases PassAt → Served → Type 0

@@ -105,6 +105,7 @@ pub(crate) fn empty<R: Wait, S: Store>(
     ensures passes { ArePasses S.Store stores.now passes.new }
     ensures before { SawMore (passes_at S.Store passes.old) (passes_at S.Store passes.new) }
     ensures others { OthersThan db (passes_at S.Store passes.old) (passes_at S.Store passes.new) }
+    ensures legal { Legal (database_in (passes_at S.Store passes.new) db).seen }
     ensures done { IfOk result (λ epoch. IsEmptied (database_in (passes_at S.Store passes.old) db).seen (database_in (passes_at S.Store passes.new) db).seen epoch) }
     ensures fault { IfErr result (λ fault. IsInvalidateFault fault (database_in (passes_at S.Store passes.new) db).seen) }
 {
