@@ -59,8 +59,8 @@ pub rests_spent : (w w' w'' : Writer) → w' ≡ emptied_by w → Tells w.seen w
 rests_spent w w' w'' empty t last is = subst (Rests w) (sym is) (rests_from w w' empty t (λ p. packed_spent w' w' refl (omega arith)
     (let more = left_ends w w' empty in let low = p.cycles in let cycle : w'.cache.cycle ≡ w.cache.cycle = ap (λ (x : Writer). x.cache.cycle) empty in omega arith)))
 
-pub packed_unmoved : (w : Writer) (count : ℕ) → IsPacked w → last_count ≤ w.cache.cycle → count ≡ last_count → IsUnmoved w.seen count
-packed_unmoved w count p high is = record { last = is; cause = inr (let low = p.cycles in omega arith) }
+pub packed_unmoved : (w : Writer) (count : ℕ) (ended : Type 0) → IsPacked w → last_count ≤ w.cache.cycle → count ≡ last_count → ended → IsUnmoved w.seen count ended
+packed_unmoved w count ended p high is made = record { last = is; cause = inr ((let low = p.cycles in omega arith), made) }
 
 pub finds_left : (w w' : Writer) → w' ≡ emptied_by w → Tells w.seen w.cache → FindsNewest w w'
 finds_left w w' is t settings limit ticked k = keeps_newest settings limit ticked w.cache.newest_version w w' is t refl k

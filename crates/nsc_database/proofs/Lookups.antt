@@ -1,6 +1,6 @@
 -- What lookups come to, hold after hold.
 use Rattle.std.proofs.Common.{◌≡◌, ◌∙◌, ℕ, ◌+◌, ◌≤◌, true, List, refl, sym, ap, subst, arith, inl, inr}
-use Rattle.std.proofs.lemmas.Bool.{false≢true}
+use Rattle.std.proofs.lemmas.Bool.{OnFalse_from, false≢true}
 use Rattle.nsc_model.specs.declared.answer.Request.{Request}
 use Rattle.nsc_model.specs.declared.record.Record.{Record}
 use Rattle.nsc_model.specs.declared.conf.DbConf.{DbConf}
@@ -14,7 +14,7 @@ use Rattle.nsc_model.specs.Entry.{Entry}
 use Rattle.nsc_model.specs.Answers.{answer_of}
 use Rattle.nsc_model.specs.History.{Answered, EndedAfter, HasLoad, IsPrefix, Legal, NoneLiveOf, PolledSince, invalidations, loads}
 use Rattle.nsc_model.specs.Machine.{life_of, room_of}
-use Rattle.nsc_model.specs.Stores.{IsGiven, IsHit, IsMissed, IsMissedAt, IsWhy, reply_of}
+use Rattle.nsc_model.specs.Stores.{GivesAnswer, IsGiven, IsHit, IsMissed, IsMissedAt, IsWhy, reply_of}
 use Rattle.nsc_laws.proofs.Prefixes.{load_below}
 use Rattle.nsc_writer.specs.declared.loaded.Inserted.{Inserted}
 use Rattle.nsc_writer.specs.declared.loaded.Inserted.TheVariants as inserted
@@ -23,13 +23,13 @@ use Rattle.nsc_writer.specs.Writer.{IsAnswered}
 use Rattle.nsc_writer.proofs.Later.{prefix_through, version_on, load_on, end_on}
 use Rattle.nsc_sourcebook.specs.Book.{Polled}
 use Rattle.nsc_database.specs.Holds.{IsInserted, IsPolled}
-use Rattle.nsc_database.specs.declared.holds.Looked.TheVariants as looked
-use Rattle.nsc_database.specs.Lookups.{Gives, IsFound, IsKept}
+use Rattle.nsc_database.specs.declared.holds.HitOrMiss.TheVariants as looked
+use Rattle.nsc_database.specs.Lookups.{IsFoundIfCached, IsTried, given_by}
 use Rattle.nsc_database.proofs.Shown.{prefix_length, invalidations_on, loads_on}
 
 -- ---- hits
 
-pub hit_answered : (seen after : List Record) (request : Request) (bytes : List ℕ) (number : ℕ) → IsPrefix seen after → IsHit after request bytes number → Answered seen after request bytes
+hit_answered : (seen after : List Record) (request : Request) (bytes : List ℕ) (number : ℕ) → IsPrefix seen after → IsHit after request bytes number → Answered seen after request bytes
 hit_answered seen after request bytes number p hit = record {
   seen_before = p;
   source = inl (record {
@@ -39,6 +39,13 @@ hit_answered seen after request bytes number p hit = record {
     said = hit.said;
     not_seen_to_end = λ ended. hit.live.not_ended (end_on seen after hit.entry.number p ended);
   });
+}
+
+pub hit_answer : (settings : DbConf) (now : ℕ) (seen after : List Record) (request : Request) (bytes : List ℕ) (number : ℕ) → IsPrefix seen after → settings.enabled ≡ true → IsHit after request bytes number → GivesAnswer settings now seen after request (given.Hit bytes number)
+hit_answer settings now seen after request bytes number p on hit = record {
+  answered = hit_answered seen after request bytes number p hit;
+  source = hit;
+  uncached = OnFalse_from settings.enabled _ (λ off. absurd (false≢true (sym off ∙ on)));
 }
 
 -- ---- replies from a poll
@@ -112,12 +119,12 @@ given_before (given.Fresh bytes why_is) settings now less seen after request p g
 none_on : (seen after : List Record) (request : Request) → IsPrefix seen after → NoneLiveOf seen request → EndedAfter seen after request
 none_on seen after request p none e loaded same = end_on seen after e.number p (none e loaded same)
 
-pub found_none : (settings : DbConf) (seen : List Record) (request : Request) (epoch : ℕ) (reply : List ℕ) → settings.enabled ≡ true → IsFound settings (looked.Missed epoch) seen request reply → (epoch ≡ invalidations seen) × NoneLiveOf seen request
+pub found_none : (settings : DbConf) (seen : List Record) (request : Request) (epoch : ℕ) (reply : List ℕ) → settings.enabled ≡ true → IsFoundIfCached settings (looked.Missed epoch) seen request reply → (epoch ≡ invalidations seen) × NoneLiveOf seen request
 found_none settings seen request epoch reply on (inl off) = absurd (false≢true (sym off.0 ∙ on))
 found_none settings seen request epoch reply on (inr none) = none
 
 -- it found none, or the database is not cached
-pub is_missed : (settings : DbConf) (less seen after : List Record) (request : Request) (epoch : ℕ) (reply : List ℕ) → IsPrefix less seen → IsPrefix seen after → IsFound settings (looked.Missed epoch) seen request reply → IsMissed settings less after request
+pub is_missed : (settings : DbConf) (less seen after : List Record) (request : Request) (epoch : ℕ) (reply : List ℕ) → IsPrefix less seen → IsPrefix seen after → IsFoundIfCached settings (looked.Missed epoch) seen request reply → IsMissed settings less after request
 is_missed settings less seen after request epoch reply p q (inl off) = inl off.0
 is_missed settings less seen after request epoch reply p q (inr none) = inr (ended_before less seen after request p (none_on seen after request q none.1))
 
@@ -149,7 +156,7 @@ not_seen : (seen mid : List Record) (e : Entry) → Legal seen → IsPrefix seen
 not_seen seen mid e legal p low loaded = let below = load_below seen e legal loaded in let few = loads_on seen mid p in omega arith
 
 by_said : (said : Inserted) (g : Given) (seen mid after : List Record) (request : Request) (epoch : ℕ) (polled : Polled) (settings : DbConf) (now : ℕ) → Anew seen mid request epoch polled → IsPrefix mid after
-    → IsInserted (room_of settings) said (loaded_of settings now request polled) mid after → Gives said (answer_of polled.content request).bytes g → IsGiven g settings now seen after request
+    → IsInserted (room_of settings) said (loaded_of settings now request polled) mid after → g ≡ given_by said (answer_of polled.content request).bytes → IsGiven g settings now seen after request
 by_said (inserted.Done number) g seen mid after request epoch polled settings now a p i is =
     let l = loaded_of settings now request polled in
     let e = (kept_of l number).entry in
@@ -171,17 +178,17 @@ by_said (inserted.Full need free) g seen mid after request epoch polled settings
     subst (λ (x : Given). IsGiven x settings now seen after request) (sym is) (i, inr (none_on seen after request (prefix_through seen mid after a.on p) a.none))
 
 pub anew_given : (g : Given) (seen mid after : List Record) (request : Request) (epoch : ℕ) (polled : Polled) (settings : DbConf) (now : ℕ) → Anew seen mid request epoch polled → IsPrefix mid after
-    → IsKept (room_of settings) (loaded_of settings now request polled) mid after g → IsGiven g settings now seen after request
+    → IsTried (room_of settings) (loaded_of settings now request polled) mid after g → IsGiven g settings now seen after request
 anew_given g seen mid after request epoch polled settings now a p k = by_said k.said g seen mid after request epoch polled settings now a p k.inserted k.gives
 
 -- the reply of what is given after an insertion
-said_reply : (said : Inserted) (bytes : List ℕ) (g : Given) → Gives said bytes g → reply_of g ≡ bytes
-said_reply (inserted.Done number) bytes g is = ap reply_of is
-said_reply (inserted.TooLarge size) bytes g is = ap reply_of is
-said_reply (inserted.Discarded noted epoch) bytes g is = ap reply_of is
-said_reply (inserted.Present number) bytes g is = ap reply_of is
-said_reply (inserted.Spent count) bytes g is = ap reply_of is
-said_reply (inserted.Full need free) bytes g is = ap reply_of is
+said_reply : (said : Inserted) (bytes : List ℕ) → reply_of (given_by said bytes) ≡ bytes
+said_reply (inserted.Done number) bytes = refl
+said_reply (inserted.TooLarge size) bytes = refl
+said_reply (inserted.Discarded noted epoch) bytes = refl
+said_reply (inserted.Present number) bytes = refl
+said_reply (inserted.Spent count) bytes = refl
+said_reply (inserted.Full need free) bytes = refl
 
-pub kept_reply : (arena : ℕ) (l : Loaded) (seen after : List Record) (g : Given) → IsKept arena l seen after g → reply_of g ≡ l.answer.bytes
-kept_reply arena l seen after g k = said_reply k.said l.answer.bytes g k.gives
+pub kept_reply : (arena : ℕ) (l : Loaded) (seen after : List Record) (g : Given) → IsTried arena l seen after g → reply_of g ≡ l.answer.bytes
+kept_reply arena l seen after g k = ap reply_of k.gives ∙ said_reply k.said l.answer.bytes

@@ -11,7 +11,7 @@ use Rattle.nsc_model.specs.Answer.{Answer}
 use Rattle.nsc_model.specs.Answers.{answer_of}
 use Rattle.nsc_model.specs.Entry.{Entry}
 use Rattle.nsc_model.specs.History.{IsLive, IsPrefix, load_of}
-use Rattle.nsc_model.specs.Stores.{IsFree, IsLoadedAgain, LoadsAgain, MayBeUnmoved}
+use Rattle.nsc_model.specs.Stores.{HasFree, IsLoadedAgain, LoadsAgain, MayBeUnmoved}
 use Rattle.nsc_laws.specs.Calls.{Tells}
 use Rattle.nsc_shelf.specs.Shelf.{has_number}
 use Rattle.nsc_writer.specs.declared.loaded.Inserted.{Inserted}
@@ -97,7 +97,7 @@ IsFine arena (inserted.TooLarge size) h = Unit {0}
 IsFine arena (inserted.Discarded noted epoch) h = Unit {0}
 IsFine arena (inserted.Present number) h = Unit {0}
 IsFine arena (inserted.Spent count) h = Unit {0}
-IsFine arena (inserted.Full need free) h = IsFree arena free h
+IsFine arena (inserted.Full need free) h = HasFree arena free h
 
 fine_or : (arena : ℕ) (said : Inserted) (l : Loaded) (seen after : List Record) → IsInserted arena said l seen after → IsFine arena said after ⊎ MayBeUnmoved after
 fine_or arena (inserted.Done number) l seen after i = inl tt

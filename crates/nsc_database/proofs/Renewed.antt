@@ -20,7 +20,7 @@ use Rattle.nsc_writer.specs.Loaded.{Loaded}
 use Rattle.nsc_writer.specs.Writer.{Inserts, IsAnswered, IsRefused, Writer, ending_of, without_entry}
 use Rattle.nsc_writer.proofs.Pruned.{split_at}
 use Rattle.nsc_sourcebook.specs.Book.{Polled}
-use Rattle.nsc_database.specs.Rests.{IsPacked, Keeps, Rests, Stands}
+use Rattle.nsc_database.specs.Rests.{IsPacked, Keeps, Rests, IsAtRest}
 use Rattle.nsc_database.specs.Steady.{KeepsVersion}
 use Rattle.nsc_database.specs.Ticks.{AreAnew, AwaitsLoads, HasNumber, IsAnew, IsDue, IsPending, IsRenewed, IsSwept, HaveStamp, LoadsBut, anew_of, compacted_by, ended_of}
 use Rattle.nsc_database.proofs.Shown.{answered_on}
@@ -129,8 +129,8 @@ awaits_swept {settings} {limit} {ticked} now epoch due loads w w' s legal still 
 }
 
 -- the lock's writer after it
-pub stands_swept : {settings : DbConf} {limit : Option ℕ} {held : Option Content} {which : Db} {ticked : ℕ} {now : ℕ} {due : List Due} (w w' w'' : Writer) → Swept settings limit now ticked due w w' → Rests w' w'' → LoadsAgain w''.layout.arena w''.seen → Stands settings limit held which ticked w → Stands settings limit held which ticked w''
-stands_swept {settings} {limit} {held} {which} {ticked} {now} {due} w w' w'' s r again st = (
+pub at_rest_swept : {settings : DbConf} {limit : Option ℕ} {held : Option Content} {which : Db} {ticked : ℕ} {now : ℕ} {due : List Due} (w w' w'' : Writer) → Swept settings limit now ticked due w w' → Rests w' w'' → LoadsAgain w''.layout.arena w''.seen → IsAtRest settings limit held which ticked w → IsAtRest settings limit held which ticked w''
+at_rest_swept {settings} {limit} {held} {which} {ticked} {now} {due} w w' w'' s r again st = (
   r.keeps settings limit ticked s.keeps,
   r.packed s.packed,
   λ files e. still_kept files which w.cache w''.cache (keeps_through w.cache w'.cache w''.cache s.version r.version) (st.2 files e),

@@ -16,7 +16,7 @@ use Rattle.nsc_model.specs.Files.{same_files}
 use Rattle.nsc_model.specs.History.{HasLoad, IsLive, IsPrefix, Legal, LookedBetween, NoneLive, NoneLiveOf, PolledSince, LooksAt, invalidations, loads, version_in}
 use Rattle.nsc_model.specs.Machine.{Kept, Cache, all_words, entry_words, last_count, by_invalidation, ends_of, live_entry, polled}
 use Rattle.nsc_model.specs.Reloads.{ends}
-use Rattle.nsc_model.specs.Stores.{IsCounted, IsEmptied, IsFree, IsFull, IsHit, IsSpent, MayBeUnmoved, words_of}
+use Rattle.nsc_model.specs.Stores.{IsCounted, IsEmptied, HasFree, IsFull, IsHit, IsSpent, MayBeUnmoved, words_of}
 use Rattle.nsc_laws.specs.Calls.{Tells, entries_of}
 use Rattle.nsc_laws.proofs.Requests.{same_request}
 use Rattle.nsc_laws.proofs.MachineLawLists.{found}
@@ -208,9 +208,9 @@ words_live (k ∷ ks) =
     sum_by-cons entry_words k.entry (entries_of ks) ∙ ap (λ (n : ℕ). entry_words k.entry + n) (words_live ks) ∙ sym (sum_by-cons f k ks)
 
 -- what is free, by what the writer counts
-pub is_free : (h : List Record) (w : Writer) (free : ℕ) → Tells h w.cache → w.seen ≡ h → IsPacked w → free + w.cache.used ≡ w.layout.arena → IsFree w.layout.arena free h ⊎ MayBeUnmoved h
+pub is_free : (h : List Record) (w : Writer) (free : ℕ) → Tells h w.cache → w.seen ≡ h → IsPacked w → free + w.cache.used ≡ w.layout.arena → HasFree w.layout.arena free h ⊎ MayBeUnmoved h
 is_free h w free t seen p rest = by_cycle (ltb w.cache.cycle last_count) refl where
-  by_cycle : (b : Bool) → ltb w.cache.cycle last_count ≡ b → IsFree w.layout.arena free h ⊎ MayBeUnmoved h
+  by_cycle : (b : Bool) → ltb w.cache.cycle last_count ≡ b → HasFree w.layout.arena free h ⊎ MayBeUnmoved h
   by_cycle false is = inr (let high = ltb-false w.cache.cycle last_count is in let low = p.cycles in let same : ends w.seen ≡ ends h = ap ends seen in omega arith)
   by_cycle true is = let low = ltb-true w.cache.cycle last_count is in inl (record { entries = entries_of w.cache.entries; live = t.entries_are; rest = ap (λ (n : ℕ). free + n) (words_live w.cache.entries ∙ sym (p.taken low)) ∙ rest })
 

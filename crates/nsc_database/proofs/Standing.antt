@@ -13,22 +13,22 @@ use Rattle.nsc_sourcebook.specs.Book.{Fetched, Polled, PollsBook, SourceBook}
 use Rattle.nsc_writer.proofs.Later.{prefix_through}
 use Rattle.nsc_database.specs.declared.pass.DbPass.{DbPass}
 use Rattle.nsc_database.specs.declared.room.Room as room
-use Rattle.nsc_database.specs.Frames.{Held}
-use Rattle.nsc_database.specs.Rests.{Rests, Stands}
-use Rattle.nsc_database.specs.Steady.{IsPart}
+use Rattle.nsc_database.specs.Frames.{Goes, Held}
+use Rattle.nsc_database.specs.Rests.{Rests, IsAtRest}
+use Rattle.nsc_sourcebook.specs.Reads.{IsPart}
 use Rattle.nsc_database.proofs.Rests.{keeps_current, keeps_stays, packed_stays, polls_stay, rests_same}
 use Rattle.nsc_database.proofs.Shown.{polls_spent}
 use Rattle.nsc_database.proofs.Steady.{still_kept, still_polled}
 
-pub stands_on : {settings : DbConf} {limit : Option ℕ} {held : Option Content} {which : Db} {ticked : ℕ} (w w' : Writer) → Rests w w' → Stands settings limit held which ticked w → Stands settings limit held which ticked w'
-stands_on {settings} {limit} {held} {which} {ticked} w w' r s = (r.keeps settings limit ticked s.0, r.packed s.1, λ files e. still_kept files which w.cache w'.cache r.version (s.2 files e), r.again s.3, r.slide ∙ s.4)
+pub at_rest_on : {settings : DbConf} {limit : Option ℕ} {held : Option Content} {which : Db} {ticked : ℕ} (w w' : Writer) → Rests w w' → IsAtRest settings limit held which ticked w → IsAtRest settings limit held which ticked w'
+at_rest_on {settings} {limit} {held} {which} {ticked} w w' r s = (r.keeps settings limit ticked s.0, r.packed s.1, λ files e. still_kept files which w.cache w'.cache r.version (s.2 files e), r.again s.3, r.slide ∙ s.4)
 
-pub stands_same : {settings : DbConf} {limit : Option ℕ} {held : Option Content} {which : Db} {ticked : ℕ} (w w' : Writer) → w' ≡ w → Stands settings limit held which ticked w → Stands settings limit held which ticked w'
-stands_same w w' is s = stands_on w w' (rests_same w w' is) s
+pub at_rest_same : {settings : DbConf} {limit : Option ℕ} {held : Option Content} {which : Db} {ticked : ℕ} (w w' : Writer) → w' ≡ w → IsAtRest settings limit held which ticked w → IsAtRest settings limit held which ticked w'
+at_rest_same w w' is s = at_rest_on w w' (rests_same w w' is) s
 
-pub stands_polled : {settings : DbConf} {limit : Option ℕ} {held : Option Content} {which : Db} {ticked : ℕ} (fetched : Fetched) (epoch : ℕ) (b b' : SourceBook) (w w' : Writer) (result : Result Polled SpentCount) → PollsBook fetched epoch b b' w w' result → IsPart held which fetched.content
-    → Stands settings limit held which ticked w → Stands settings limit held which ticked w'
-stands_polled {settings} {limit} {held} {which} {ticked} fetched epoch b b' w w' (Ok p) q part s =
+pub at_rest_polled : {settings : DbConf} {limit : Option ℕ} {held : Option Content} {which : Db} {ticked : ℕ} (fetched : Fetched) (epoch : ℕ) (b b' : SourceBook) (w w' : Writer) (result : Result Polled SpentCount) → PollsBook fetched epoch b b' w w' result → IsPart held which fetched.content
+    → IsAtRest settings limit held which ticked w → IsAtRest settings limit held which ticked w'
+at_rest_polled {settings} {limit} {held} {which} {ticked} fetched epoch b b' w w' (Ok p) q part s =
     let stays = polls_stay fetched.content epoch w w' p.stamp q.0 in (
       keeps_stays settings limit ticked w w' stays s.0,
       packed_stays w w' stays s.1,
@@ -36,14 +36,20 @@ stands_polled {settings} {limit} {held} {which} {ticked} fetched epoch b b' w w'
       subst (λ (n : ℕ). LoadsAgain n w'.seen) (sym (ap (λ (x : Layout). x.arena) stays.layout)) (stays.adds.again w.layout.arena s.3),
       stays.slide ∙ s.4,
     )
-stands_polled {settings} {limit} {held} {which} {ticked} fetched epoch b b' w w' (Err spent) q part s = stands_same w w' (polls_spent fetched.content epoch w w' spent q.0).2 s
+at_rest_polled {settings} {limit} {held} {which} {ticked} fetched epoch b b' w w' (Err spent) q part s = at_rest_same w w' (polls_spent fetched.content epoch w w' spent q.0).2 s
 
 -- where the newest version is the one that the last tick found, or that does not count
-pub stands_current : {settings : DbConf} {limit : Option ℕ} {held : Option Content} {which : Db} {ticked : ℕ} (newest : ℕ) (w w' : Writer) → w' ≡ w → newest ≡ w.cache.newest_version → is_outdated settings w.cache.newest_version ticked ≡ false → Stands settings limit held which ticked w
-    → Stands settings limit held which newest w'
-stands_current {settings} {limit} {held} {which} {ticked} newest w w' same is current s =
-    stands_same w w' same (keeps_current settings limit ticked newest w (subst (λ (n : ℕ). is_outdated settings n ticked ≡ false) (sym is) current) s.0, s.1, s.2, s.3, s.4)
+pub at_rest_current : {settings : DbConf} {limit : Option ℕ} {held : Option Content} {which : Db} {ticked : ℕ} (newest : ℕ) (w w' : Writer) → w' ≡ w → newest ≡ w.cache.newest_version → is_outdated settings w.cache.newest_version ticked ≡ false → IsAtRest settings limit held which ticked w
+    → IsAtRest settings limit held which newest w'
+at_rest_current {settings} {limit} {held} {which} {ticked} newest w w' same is current s =
+    at_rest_same w w' same (keeps_current settings limit ticked newest w (subst (λ (n : ℕ). is_outdated settings n ticked ≡ false) (sym is) current) s.0, s.1, s.2, s.3, s.4)
 
 -- one hold after the other
 pub held_through : {F B : Type 0} {G : file_set.Ghosts F} {R : room.Ghosts B} (a b c : DbPass F B G R) → Held a b → Held b c → Held a c
 held_through a b c h i = record { db = i.db ∙ h.db; files = i.files ∙ h.files; before = prefix_through a.pass.seen b.pass.seen c.pass.seen h.before i.before; legal = i.legal }
+
+pub goes_after : {F B : Type 0} {G : file_set.Ghosts F} {R : room.Ghosts B} (a b c : DbPass F B G R) → Held a b → Goes b c → Goes a c
+goes_after a b c h i = record { db = i.db ∙ h.db; before = prefix_through a.pass.seen b.pass.seen c.pass.seen h.before i.before; legal = i.legal }
+
+pub goes_on : {F B : Type 0} {G : file_set.Ghosts F} {R : room.Ghosts B} (a b c : DbPass F B G R) → Goes a b → Held b c → Goes a c
+goes_on a b c h i = record { db = i.db ∙ h.db; before = prefix_through a.pass.seen b.pass.seen c.pass.seen h.before i.before; legal = i.legal }

@@ -12,16 +12,20 @@ use Rattle.nsc_model.specs.declared.store.LookupFault.TheVariants as fault
 use Rattle.nsc_model.specs.Entry.{Entry}
 use Rattle.nsc_model.specs.History.{HasEnd, HasLoad, IsPrefix, Legal, LookedBetween, NoneLive, PolledSince, changes, invalidations, version_in}
 use Rattle.nsc_model.specs.Reloads.{Reloaded}
-use Rattle.nsc_model.specs.Reads.{IsLookedUp}
-use Rattle.nsc_model.specs.Stores.{AreOverEnded, IsTickFault, IsTicked, LoadsAgain}
+use Rattle.nsc_model.specs.Reads.{FaultsStay, IsLookedUp}
+use Rattle.nsc_model.specs.Stores.{EndsStale, IsTickFault, IsTicked, LoadsAgain}
 use Rattle.nsc_model.specs.Machine.{room_of}
 use Rattle.nsc_model.specs.Content.{Content}
 use Rattle.nsc_laws.proofs.CoreLawRecords.{ended_or_not}
 use Rattle.nsc_laws.proofs.Prefixes.{more_after, prefix_legal}
 use Rattle.nsc_writer.specs.Due.{Due}
 use Rattle.nsc_writer.proofs.Later.{end_on, load_on, polled_on, prefix_through, version_on}
+use Rattle.nsc_outside.specs.declared.files.FileSet as file_set
 use Rattle.nsc_sourcebook.specs.Book.{Polled}
-use Rattle.nsc_database.specs.Holds.{IsPolled}
+use Rattle.nsc_database.specs.declared.pass.DbPass.{DbPass}
+use Rattle.nsc_database.specs.declared.room.Room as room
+use Rattle.nsc_database.specs.Frames.{Goes, Held}
+use Rattle.nsc_database.specs.Holds.{IsPolled, WasPolled}
 use Rattle.nsc_database.specs.Ticks.{AreListed, AreOver, IsHoldFault}
 use Rattle.nsc_database.proofs.Shown.{invalidations_on, prefix_length}
 use Rattle.nsc_database.proofs.Rests.{version_within}
@@ -65,10 +69,10 @@ pub record Ticking (seen noted mid after : List Record) (epoch : ℕ) (polled : 
   pub to_after : IsPrefix mid after
   pub legal_after : Legal after
 
-pub ticking : (seen noted mid after : List Record) (epoch : ℕ) (polled : Polled) → IsPrefix seen noted → Legal noted → epoch ≡ invalidations noted → IsPrefix noted mid → Legal mid → IsPolled noted mid epoch polled → IsPrefix mid after → Legal after
-    → Ticking seen noted mid after epoch polled
-ticking seen noted mid after epoch polled before legal epoch_is to_mid legal_mid is_polled to_after legal_after =
-    record { before = before; legal = legal; epoch_is = epoch_is; to_mid = to_mid; legal_mid = legal_mid; is_polled = is_polled; to_after = to_after; legal_after = legal_after }
+pub ticking : {F B : Type 0} {G : file_set.Ghosts F} {R : room.Ghosts B} (p noted mid after : DbPass F B G R) (epoch : ℕ) (polled : Polled) → Held p noted → epoch ≡ invalidations noted.pass.seen → Goes noted mid → IsPolled noted.pass.seen mid.pass.seen epoch polled → Held mid after
+    → Ticking p.pass.seen noted.pass.seen mid.pass.seen after.pass.seen epoch polled
+ticking p noted mid after epoch polled note is poll is_polled check =
+    record { before = note.before; legal = note.legal; epoch_is = is; to_mid = poll.before; legal_mid = poll.legal; is_polled = is_polled; to_after = check.before; legal_after = check.legal }
 
 pub looked_at : (seen noted mid after last : List Record) (epoch : ℕ) (polled : Polled) → Ticking seen noted mid after epoch polled → IsPrefix after last → LookedBetween seen last polled.stamp.version
 looked_at seen noted mid after last epoch polled t p =
@@ -85,28 +89,30 @@ polled_still : (seen noted mid after last : List Record) (epoch : ℕ) (polled :
 polled_still seen noted mid after last epoch polled t p legal = version_on mid last polled.stamp.version polled.content legal t.legal_mid (prefix_through mid after last t.to_after p) t.is_polled.version
 
 -- a call before and after which no file was read
-pub files_kept : {Files : Type 0} (which : Db) (reads : Files → FileId → ℕ) (latest : Files → FileId → Option (Option (List ℕ))) (content : Content) (f0 f1 f2 f3 : Files) → f1 ≡ f0 → f3 ≡ f2 → IsLookedUp which (reads f1) (reads f2) (latest f2) content → IsLookedUp which (reads f0) (reads f3) (latest f3) content
-files_kept {Files} which reads latest content f0 f1 f2 f3 first same l = subst (λ (x : Files × Files). IsLookedUp which (reads x.0) (reads x.1) (latest x.1) content) (λ i. (first i, sym same i)) l
+pub files_kept : {Files : Type 0} (P : Files → Files → Type 0) (f0 f1 f2 f3 : Files) → f1 ≡ f0 → f3 ≡ f2 → P f1 f2 → P f0 f3
+files_kept {Files} P f0 f1 f2 f3 first same l = subst (λ (x : Files × Files). P x.0 x.1) (λ i. (first i, sym same i)) l
 
--- where no entry is live, each one whose time was over is ended
-pub emptied_over : (now : ℕ) (seen after : List Record) → IsPrefix seen after → NoneLive after → AreOverEnded now seen after
-emptied_over now seen after on none e a low = none e (load_on seen after e on a)
-
-pub emptied_ticked : (which : Db) (m n : FileId → ℕ) (latest : FileId → Option (Option (List ℕ))) (settings : DbConf) (limit : Option ℕ) (now : ℕ) (seen noted mid after : List Record) (epoch : ℕ) (polled : Polled) → Ticking seen noted mid after epoch polled → IsLookedUp which m n latest polled.content → NoneLive after → Reloaded limit after
-    → LoadsAgain (room_of settings) after → IsTicked which m n latest settings limit now seen after
-emptied_ticked which m n latest settings limit now seen noted mid after epoch polled t files none r l =
+-- where no entry is live, the stale ones are ended
+pub emptied_stale : (settings : DbConf) (now : ℕ) (seen noted mid after : List Record) (epoch : ℕ) (polled : Polled) → Ticking seen noted mid after epoch polled → NoneLive after → EndsStale settings now seen after
+emptied_stale settings now seen noted mid after epoch polled t none =
     let on = seen_on seen noted mid after epoch polled t in
     record {
       version = polled.stamp.version;
       looked = looked_at seen noted mid after after epoch polled t ([], refl);
-      content = polled.content;
-      version_is = polled_still seen noted mid after after epoch polled t ([], refl) t.legal_after;
-      files = files;
-      over = emptied_over now seen after on none;
+      over = λ e a low. none e (load_on seen after e on a);
       outdated = OnTrue_from settings.check_files _ (λ on' e a other. none e (load_on seen after e on a));
-      reloaded = r;
-      again = l;
     }
+
+pub emptied_ticked : (which : Db) (m n : FileId → ℕ) (latest : FileId → Option (Option (List ℕ))) (settings : DbConf) (limit : Option ℕ) (now : ℕ) (seen noted mid after : List Record) (epoch : ℕ) (polled : Polled) → Ticking seen noted mid after epoch polled → IsLookedUp which m n latest polled.content → NoneLive after → Reloaded limit after
+    → LoadsAgain (room_of settings) after → IsTicked which m n latest settings limit now seen after
+emptied_ticked which m n latest settings limit now seen noted mid after epoch polled t files none r l = record {
+  ends = emptied_stale settings now seen noted mid after epoch polled t none;
+  content = polled.content;
+  version_is = polled_still seen noted mid after after epoch polled t ([], refl) t.legal_after;
+  files = files;
+  reloaded = r;
+  again = l;
+}
 
 -- an entry that had been seen is over the version that was polled, where it is live and each live entry is over the newest version
 over_polled : (seen noted mid after : List Record) (epoch : ℕ) (polled : Polled) (e : Entry) → Ticking seen noted mid after epoch polled → HasLoad seen e → changes after ≤ e.version + 1 → e.version ≡ polled.stamp.version
@@ -125,7 +131,8 @@ ended_all seen noted mid after last epoch polled t p legal more e a =
     let rose : invalidations noted < invalidations last = (let same = t.epoch_is in omega arith) in
     ended_by noted last e legal to_last rose (load_on seen noted e t.before a)
 
-pub listed_over : (settings : DbConf) (limit : Option ℕ) (now : ℕ) (seen noted mid after last : List Record) (epoch : ℕ) (polled : Polled) (due : List Due) → Ticking seen noted mid after epoch polled → AreListed settings limit now after due → IsPrefix after last → Legal last → AreOver epoch last due → AreOverEnded now seen last
+listed_over : (settings : DbConf) (limit : Option ℕ) (now : ℕ) (seen noted mid after last : List Record) (epoch : ℕ) (polled : Polled) (due : List Due) → Ticking seen noted mid after epoch polled → AreListed settings limit now after due → IsPrefix after last → Legal last → AreOver epoch last due
+    → (e : Entry) → HasLoad seen e → e.timeout < now → HasEnd last e.number
 listed_over settings limit now seen noted mid after last epoch polled due t listed p legal (inl more) e a low = ended_all seen noted mid after last epoch polled t p legal more e a
 listed_over settings limit now seen noted mid after last epoch polled due t listed p legal (inr gone) e a low =
     elim (listed.all e (load_on seen after e (seen_on seen noted mid after epoch polled t) a) low) [ inl ended ↦ end_on after last e.number p ended | inr has ↦ gone e.number has ]
@@ -138,36 +145,43 @@ listed_outdated settings limit now seen noted mid after last epoch polled due t 
   | inr lives ↦ absurd (other (over_polled seen noted mid after epoch polled e t a (OnTrue_at on listed.current e (record { inserted = load_on seen after e (seen_on seen noted mid after epoch polled t) a; not_ended = lives }))))
 ])
 
+pub listed_stale : (settings : DbConf) (limit : Option ℕ) (now : ℕ) (seen noted mid after last : List Record) (epoch : ℕ) (polled : Polled) (due : List Due) → Ticking seen noted mid after epoch polled → AreListed settings limit now after due → IsPrefix after last → Legal last → AreOver epoch last due → EndsStale settings now seen last
+listed_stale settings limit now seen noted mid after last epoch polled due t listed p legal over = record {
+  version = polled.stamp.version;
+  looked = looked_at seen noted mid after last epoch polled t p;
+  over = listed_over settings limit now seen noted mid after last epoch polled due t listed p legal over;
+  outdated = listed_outdated settings limit now seen noted mid after last epoch polled due t listed p legal over;
+}
+
 pub listed_ticked : (which : Db) (m n : FileId → ℕ) (latest : FileId → Option (Option (List ℕ))) (settings : DbConf) (limit : Option ℕ) (now : ℕ) (seen noted mid after last : List Record) (epoch : ℕ) (polled : Polled) (due : List Due) → Ticking seen noted mid after epoch polled → IsLookedUp which m n latest polled.content
     → AreListed settings limit now after due → IsPrefix after last → Legal last → AreOver epoch last due → Reloaded limit last → LoadsAgain (room_of settings) last → IsTicked which m n latest settings limit now seen last
 listed_ticked which m n latest settings limit now seen noted mid after last epoch polled due t files listed p legal over r l = record {
-  version = polled.stamp.version;
-  looked = looked_at seen noted mid after last epoch polled t p;
+  ends = listed_stale settings limit now seen noted mid after last epoch polled due t listed p legal over;
   content = polled.content;
   version_is = polled_still seen noted mid after last epoch polled t p legal;
   files = files;
-  over = listed_over settings limit now seen noted mid after last epoch polled due t listed p legal over;
-  outdated = listed_outdated settings limit now seen noted mid after last epoch polled due t listed p legal over;
   reloaded = r;
   again = l;
 }
 
 -- ---- faults
 
--- a hold gave up, and the entries whose time was over are ended where its ends were made
-pub hold_fault : (cause : LookupFault) (now : ℕ) (seen after : List Record) (before_faults after_faults : ℕ) (before_each after_each : FileId → ℕ) (ended : Type 0) → (ended → AreOverEnded now seen after) → IsHoldFault cause after ended → IsTickFault cause now seen after before_faults after_faults before_each after_each
-hold_fault fault.NoMemory now seen after m n m' n' ended to f = tt
-hold_fault (fault.Spent count) now seen after m n m' n' ended to f = inr (f.0, elim f.1 [ inl last ↦ inl last | inr gone ↦ inr (to gone) ])
-hold_fault (fault.SourceFault file) now seen after m n m' n' ended to f = absurd f
-hold_fault (fault.TooLong file size) now seen after m n m' n' ended to f = absurd f
+-- a hold gave up, and the stale entries are ended where its ends were made
+pub hold_fault : (cause : LookupFault) (settings : DbConf) (now : ℕ) (seen after : List Record) (before_faults after_faults : ℕ) (before_each after_each : FileId → ℕ) (ended : Type 0) → (ended → EndsStale settings now seen after) → FaultsStay before_faults after_faults before_each after_each → IsHoldFault cause after ended
+    → IsTickFault cause settings now seen after before_faults after_faults before_each after_each
+hold_fault fault.NoMemory settings now seen after m n m' n' ended to same f = same
+hold_fault (fault.Spent count) settings now seen after m n m' n' ended to same f = (inr (record { last = f.last; cause = elim f.cause [ inl last ↦ inl last | inr unmoved ↦ inr (unmoved.0, to unmoved.1) ] }), same)
+hold_fault (fault.SourceFault file) settings now seen after m n m' n' ended to same f = absurd f
+hold_fault (fault.TooLong file size) settings now seen after m n m' n' ended to same f = absurd f
 
 -- ---- before the last hold
 
 pub noted_low : (seen noted mid after : List Record) (epoch : ℕ) (polled : Polled) → Ticking seen noted mid after epoch polled → epoch ≤ invalidations after
 noted_low seen noted mid after epoch polled t = let same = t.epoch_is in let rise = invalidations_on noted after (prefix_through noted mid after t.to_mid t.to_after) in omega arith
 
-pub version_low : (seen noted mid after : List Record) (epoch : ℕ) (polled : Polled) → Ticking seen noted mid after epoch polled → version_in after polled.stamp.version ≡ Some polled.content
-version_low seen noted mid after epoch polled t = version_on mid after polled.stamp.version polled.content t.legal_after t.legal_mid t.to_after t.is_polled.version
-
-pub since_low : (seen noted mid after : List Record) (epoch : ℕ) (polled : Polled) → Ticking seen noted mid after epoch polled → PolledSince after polled.stamp.version polled.stamp.epoch
-since_low seen noted mid after epoch polled t = polled_on mid after polled.stamp.version polled.stamp.epoch t.to_after (subst (PolledSince mid polled.stamp.version) (sym t.is_polled.epoch_is) t.is_polled.since)
+pub was_polled : (seen noted mid after : List Record) (epoch : ℕ) (polled : Polled) → Ticking seen noted mid after epoch polled → WasPolled after epoch polled
+was_polled seen noted mid after epoch polled t = record {
+  epoch_is = t.is_polled.epoch_is;
+  version = version_on mid after polled.stamp.version polled.content t.legal_after t.legal_mid t.to_after t.is_polled.version;
+  since = polled_on mid after polled.stamp.version polled.stamp.epoch t.to_after (subst (PolledSince mid polled.stamp.version) (sym t.is_polled.epoch_is) t.is_polled.since);
+}

@@ -10,13 +10,19 @@ use Rattle.nsc_writer.specs.declared.loaded.Inserted.{Inserted}
 use Rattle.nsc_writer.specs.declared.loaded.Inserted.TheVariants as inserted
 use Rattle.nsc_writer.specs.Loaded.{Loaded, kept_of}
 use Rattle.nsc_sourcebook.specs.Book.{Polled}
-use Rattle.nsc_database.specs.declared.holds.Looked.{Looked}
-use Rattle.nsc_database.specs.declared.holds.Looked.TheVariants as looked
+use Rattle.nsc_database.specs.declared.holds.HitOrMiss.{HitOrMiss}
+use Rattle.nsc_database.specs.declared.holds.HitOrMiss.TheVariants as looked
 
 -- a look for a live entry of the request: its reply, or the number of invalidations where none is live
-abbrev pub IsLooked : Looked → List Record → Request → List ℕ → Type 0
+abbrev pub IsLooked : HitOrMiss → List Record → Request → List ℕ → Type 0
 IsLooked (looked.Hit hit) after request reply = IsHit after request reply hit.number
 IsLooked (looked.Missed epoch) after request reply = (epoch ≡ invalidations after) × NoneLiveOf after request
+
+-- this content is a version, polled after so many invalidations
+pub record WasPolled (seen : List Record) (epoch : ℕ) (polled : Polled) : Type 0 where
+  pub epoch_is : polled.stamp.epoch ≡ epoch
+  pub version : version_in seen polled.stamp.version ≡ Some polled.content
+  pub since : PolledSince seen polled.stamp.version polled.stamp.epoch
 
 -- a poll of this content, after so many invalidations
 pub record IsPolled (seen after : List Record) (epoch : ℕ) (polled : Polled) : Type 0 where

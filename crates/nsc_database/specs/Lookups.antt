@@ -11,26 +11,26 @@ use Rattle.nsc_model.specs.Stores.{IsHit}
 use Rattle.nsc_writer.specs.declared.loaded.Inserted.{Inserted}
 use Rattle.nsc_writer.specs.declared.loaded.Inserted.TheVariants as inserted
 use Rattle.nsc_writer.specs.Loaded.{Loaded}
-use Rattle.nsc_database.specs.declared.holds.Looked.{Looked}
-use Rattle.nsc_database.specs.declared.holds.Looked.TheVariants as looked
+use Rattle.nsc_database.specs.declared.holds.HitOrMiss.{HitOrMiss}
+use Rattle.nsc_database.specs.declared.holds.HitOrMiss.TheVariants as looked
 use Rattle.nsc_database.specs.Holds.{IsInserted}
 
 -- a look for a live entry of the request, where the database is cached; where it is not, none is found, and the count of invalidations that is told is 0
-abbrev pub IsFound : DbConf → Looked → List Record → Request → List ℕ → Type 0
-IsFound settings (looked.Hit hit) after request reply = (settings.enabled ≡ true) × IsHit after request reply hit.number
-IsFound settings (looked.Missed epoch) after request reply = ((settings.enabled ≡ false) × (epoch ≡ 0)) ⊎ ((epoch ≡ invalidations after) × NoneLiveOf after request)
+abbrev pub IsFoundIfCached : DbConf → HitOrMiss → List Record → Request → List ℕ → Type 0
+IsFoundIfCached settings (looked.Hit hit) after request reply = (settings.enabled ≡ true) × IsHit after request reply hit.number
+IsFoundIfCached settings (looked.Missed epoch) after request reply = ((settings.enabled ≡ false) × (epoch ≡ 0)) ⊎ ((epoch ≡ invalidations after) × NoneLiveOf after request)
 
 -- what a lookup gives after its insertion, whose reply has these bytes
-abbrev pub Gives : Inserted → List ℕ → Given → Type 0
-Gives (inserted.Done number) bytes g = g ≡ given.Loaded bytes number
-Gives (inserted.TooLarge size) bytes g = g ≡ given.Fresh bytes (why.TooLarge size)
-Gives (inserted.Discarded noted epoch) bytes g = g ≡ given.Fresh bytes (why.Discarded noted epoch)
-Gives (inserted.Present number) bytes g = g ≡ given.Fresh bytes (why.Present number)
-Gives (inserted.Spent count) bytes g = g ≡ given.Fresh bytes (why.Spent count)
-Gives (inserted.Full need free) bytes g = g ≡ given.Fresh bytes (why.Full need free)
+abbrev pub given_by : Inserted → List ℕ → Given
+given_by (inserted.Done number) bytes = given.Loaded bytes number
+given_by (inserted.TooLarge size) bytes = given.Fresh bytes (why.TooLarge size)
+given_by (inserted.Discarded noted epoch) bytes = given.Fresh bytes (why.Discarded noted epoch)
+given_by (inserted.Present number) bytes = given.Fresh bytes (why.Present number)
+given_by (inserted.Spent count) bytes = given.Fresh bytes (why.Spent count)
+given_by (inserted.Full need free) bytes = given.Fresh bytes (why.Full need free)
 
 -- an insertion into an arena of so many words was tried, and the lookup gives this
-pub record IsKept (arena : ℕ) (loaded : Loaded) (seen after : List Record) (g : Given) : Type 0 where
+pub record IsTried (arena : ℕ) (loaded : Loaded) (seen after : List Record) (g : Given) : Type 0 where
   pub said : Inserted
   pub inserted : IsInserted arena said loaded seen after
-  pub gives : Gives said loaded.answer.bytes g
+  pub gives : g ≡ given_by said loaded.answer.bytes

@@ -37,8 +37,8 @@ pub record IsPacked (w : Writer) : Type 0 where
   pub cycles : w.cache.cycle ≤ 2 * ends w.seen
 
 -- what holds of a writer while its lock is free
-abbrev pub Stands : DbConf → Option ℕ → Option Content → Db → ℕ → Writer → Type 0
-Stands settings limit held which ticked w = Keeps settings limit ticked w × IsPacked w × StaysStill held which w.cache × LoadsAgain w.layout.arena w.seen × (w.slide ≡ None)
+abbrev pub IsAtRest : DbConf → Option ℕ → Option Content → Db → ℕ → Writer → Type 0
+IsAtRest settings limit held which ticked w = Keeps settings limit ticked w × IsPacked w × StaysStill held which w.cache × LoadsAgain w.layout.arena w.seen × (w.slide ≡ None)
 
 -- a writer of an empty cache over this content as its first version, in an arena of so many words, with no slide under way
 pub record IsNew (w : Writer) (content : Content) (arena : ℕ) : Type 0 where

@@ -7,10 +7,6 @@ use Rattle.nsc_model.specs.Files.{part_of}
 use Rattle.nsc_model.specs.History.{changes, version_in}
 use Rattle.nsc_model.specs.Machine.{Cache}
 
--- a content is the database's part of the files, where these are told
-abbrev pub IsPart : Option Content → Db → Content → Type 0
-IsPart held which content = (files : Content) → held ≡ Some files → content ≡ part_of which files
-
 -- the newest version of a cache is its first one, and is the database's part of these files
 pub record IsStill (files : Content) (which : Db) (cache : Cache) : Type 0 where
   pub first : cache.newest_version ≡ 0

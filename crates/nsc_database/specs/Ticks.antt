@@ -13,7 +13,7 @@ use Rattle.nsc_model.specs.History.{HasEnd, HasLoad, IsPrefix, Legal, NoneLive, 
 use Rattle.nsc_model.specs.Answers.{answer_of}
 use Rattle.nsc_model.specs.Machine.{all_words, life_of, next_reloads}
 use Rattle.nsc_model.specs.Reloads.{replaced}
-use Rattle.nsc_model.specs.Stores.{IsEndedYet, IsLoadedAgain, IsUnmoved, MayBeUnmoved}
+use Rattle.nsc_model.specs.Stores.{IsLoadedAgain, IsUnmoved, MayBeUnmoved}
 use Rattle.nsc_sourcebook.specs.Book.{Polled}
 use Rattle.nsc_writer.specs.Due.{Due, marked_by, pruned_by}
 use Rattle.nsc_writer.specs.Loaded.{Loaded}
@@ -54,14 +54,14 @@ IsChecked checked.Emptied settings limit now history = NoneLive history
 IsChecked (checked.Listed due) settings limit now history = AreListed settings limit now history due.items
 
 -- every entry was ended where the newest version is outdated, and only there
-abbrev pub IsCause : Checked → Bool → Type 0
-IsCause checked.Emptied outdated = outdated ≡ true
-IsCause (checked.Listed due) outdated = outdated ≡ false
+abbrev pub EmptiesOutdated : Checked → Bool → Type 0
+EmptiesOutdated checked.Emptied outdated = outdated ≡ true
+EmptiesOutdated (checked.Listed due) outdated = outdated ≡ false
 
 -- why a hold gave up: memory was wanting, or a count stands at its end, and the ends were made all the same
 abbrev pub IsHoldFault : LookupFault → List Record → Type 0 → Type 0
 IsHoldFault fault.NoMemory after ended = Unit {0}
-IsHoldFault (fault.Spent count) after ended = IsUnmoved after count × IsEndedYet after ended
+IsHoldFault (fault.Spent count) after ended = IsUnmoved after count ended
 IsHoldFault (fault.SourceFault file) after ended = ⊥
 IsHoldFault (fault.TooLong file size) after ended = ⊥
 

@@ -2,21 +2,20 @@
 ghost use Rattle.std.specs.Prelude.{◌≡◌, ◌≤◌, ◌<◌, ◌+◌, ◌^◌, length, IfOk, IfErr, OnOk};
 ghost use Rattle.nsc_model.specs.Entry.{key_limit};
 ghost use Rattle.nsc_model.specs.Answers.{answer_of};
-ghost use Rattle.nsc_model.specs.Files.{part_of};
 ghost use Rattle.nsc_model.specs.History.{Legal, invalidations};
 ghost use Rattle.nsc_writer.specs.Writer.{IsAnswered};
-ghost use Rattle.nsc_model.specs.Reads.{HasNotFallen, IsLookedUp, NoneFell};
+ghost use Rattle.nsc_model.specs.Reads.{IsLookedUp};
 ghost use Rattle.nsc_model.specs.Machine.{life_of, room_of};
 ghost use Rattle.nsc_model.specs.Settings.{settings_of};
 ghost use Rattle.nsc_model.specs.Stores.{IsCounted, IsEmptied, IsFault, IsInvalidateFault, IsSpent};
-ghost use Rattle.nsc_sourcebook.specs.Book.{IsNamed};
+ghost use Rattle.nsc_sourcebook.specs.Book.{FitsBook};
+ghost use Rattle.nsc_sourcebook.specs.Reads.{IsPart, NoneFailed};
 ghost use Rattle.nsc_database.specs.Frames.{Goes, Held};
 ghost use Rattle.nsc_database.specs.Holds.{IsLooked, IsPolled};
-ghost use Rattle.nsc_database.specs.Lookups.{Gives, IsKept};
-ghost use Rattle.nsc_database.specs.Steady.{IsPart};
+ghost use Rattle.nsc_database.specs.Lookups.{IsTried, given_by};
 
 use crate::desk::{Desk, Shelved};
-use crate::holds::Looked;
+use crate::holds::HitOrMiss;
 use crate::pass::DbPass;
 use crate::room::{OfDb, Room};
 use nsc_base::{Buf, Bytes, NoMemory};
@@ -67,7 +66,13 @@ impl<D: OfDb, F: FileSet + Drop, A: Answerer + Drop, B: Room> Base<D, F, A, B> {
     }
 
     /// Looks for the live entry of the request.
-    pub fn look<R: Wait>(&self, rt: &R, pass: &mut DbPass<F, B>, kind: Kind, key: &[u8]) -> Looked
+    pub fn look<R: Wait>(
+        &self,
+        rt: &R,
+        pass: &mut DbPass<F, B>,
+        kind: Kind,
+        key: &[u8],
+    ) -> HitOrMiss
         requires { pass.old.db ≡ D.db }
         ensures frame { Held pass.old pass.new }
         ensures looked { IsLooked result pass.new.pass.seen (record { kind = kind; key = key.now }) pass.new.reply.content }
@@ -92,8 +97,7 @@ impl<D: OfDb, F: FileSet + Drop, A: Answerer + Drop, B: Room> Base<D, F, A, B> {
         ensures polled { IfOk result (λ polled. IsPolled pass.old.pass.seen pass.new.pass.seen epoch polled) }
         ensures files { IfOk result (λ polled. IsLookedUp D.db (F.reads pass.old.files) (F.reads pass.new.files) (F.latest pass.new.files) polled.content) }
         ensures fault { IfErr result (λ fault. IsFault fault pass.new.pass.seen (F.faults pass.old.files) (F.faults pass.new.files) (F.file_faults pass.old.files) (F.file_faults pass.new.files)) }
-        ensures no_fault { OnOk result ((F.faults pass.new.files ≡ F.faults pass.old.files) × (F.file_faults pass.new.files ≡ F.file_faults pass.old.files)) }
-        ensures counts { HasNotFallen (F.faults pass.old.files) (F.faults pass.new.files) × NoneFell (F.file_faults pass.old.files) (F.file_faults pass.new.files) }
+        ensures no_fault { OnOk result (NoneFailed F.FileSet pass.old.files pass.new.files) }
     {
         pass.learn();
         let mut shelved = self.shelved.lock(rt);
@@ -116,8 +120,7 @@ impl<D: OfDb, F: FileSet + Drop, A: Answerer + Drop, B: Room> Base<D, F, A, B> {
         epoch: u64,
     ) -> Result<Polled<A>, Spent>
         requires db { pass.old.db ≡ D.db }
-        requires named { IsNamed shelved.old.book.seen fetched }
-        requires only { fetched.content ≡ part_of D.db fetched.content }
+        requires fits { FitsBook shelved.old.book fetched }
         requires epoch { epoch ≤ invalidations pass.old.pass.seen }
         requires part { IsPart B.held D.db fetched.content }
         ensures frame { Held pass.old pass.new }
@@ -139,7 +142,7 @@ impl<D: OfDb, F: FileSet + Drop, A: Answerer + Drop, B: Room> Base<D, F, A, B> {
         requires answered { IsAnswered pass.old.pass.seen loaded }
         requires new { loaded.reloads ≡ 0 }
         ensures frame { Held pass.old pass.new }
-        ensures kept { IsKept (room_of self.now.settings) loaded pass.old.pass.seen pass.new.pass.seen result }
+        ensures kept { IsTried (room_of self.now.settings) loaded pass.old.pass.seen pass.new.pass.seen result }
     {
         pass.pass.learn();
         let mut lock = self.desk.lock(rt);
@@ -238,7 +241,7 @@ fn with_enabled(counted: Stats, enabled: bool) -> Stats
 
 // What a lookup gives after its insertion, with this reply.
 fn given_after(said: Inserted, bytes: Bytes) -> Given
-    ensures { Gives said bytes result }
+    ensures { result ≡ given_by said bytes }
 {
     let why = match said {
         Inserted::Done { number } => return Given::Loaded { bytes, number },

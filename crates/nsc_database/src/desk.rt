@@ -1,12 +1,10 @@
 // What the locks of a database keep.
 ghost use Rattle.std.specs.Prelude.{◌≡◌, ◌≤◌, false, All, IfOk, IfErr, OnOk};
 ghost use Rattle.nsc_model.specs.Entry.{kept_limit};
-ghost use Rattle.nsc_model.specs.Files.{part_of};
 ghost use Rattle.nsc_model.specs.History.{Legal, NoneLive, invalidations};
 ghost use Rattle.nsc_writer.specs.Writer.{IsAnswered};
-ghost use Rattle.nsc_sourcebook.specs.Book.{IsNamed};
-ghost use Rattle.nsc_sourcebook.specs.Reads.{FaultRose, IsPartOf, TellsLength};
-ghost use Rattle.nsc_model.specs.Reads.{AllRose, AreAsTold, NoneFell};
+ghost use Rattle.nsc_sourcebook.specs.Book.{FitsBook};
+ghost use Rattle.nsc_sourcebook.specs.Reads.{IsFetched, IsPart, NoneFailed, NotFetched};
 ghost use Rattle.nsc_model.specs.Machine.{is_outdated, room_of};
 ghost use Rattle.nsc_model.specs.Reloads.{Reloaded};
 ghost use Rattle.nsc_model.specs.Settings.{settings_of};
@@ -15,10 +13,10 @@ ghost use Rattle.nsc_writer.specs.Uses.{counted};
 ghost use Rattle.nsc_database.specs.declared.renewal.Checked.TheVariants as is_checked;
 ghost use Rattle.nsc_database.specs.Frames.{Held};
 ghost use Rattle.nsc_database.specs.Holds.{IsInserted, IsLooked, IsPolled};
-ghost use Rattle.nsc_database.specs.Steady.{IsPart, IsSteady};
-ghost use Rattle.nsc_database.specs.Ticks.{AreAnew, AreOver, HaveStamp, IsCause, IsChecked, IsDue, IsHoldFault};
+ghost use Rattle.nsc_database.specs.Steady.{IsSteady};
+ghost use Rattle.nsc_database.specs.Ticks.{AreAnew, AreOver, HaveStamp, EmptiesOutdated, IsChecked, IsDue, IsHoldFault};
 
-use crate::holds::{self, Looked};
+use crate::holds::{self, HitOrMiss};
 use crate::pass::DbPass;
 use crate::renewal::{Checked, end_due, reload};
 use crate::room::{OfDb, Room};
@@ -43,13 +41,13 @@ pub struct Desk<D: OfDb, B: Room> {
 
 impl<D: OfDb, B: Room> Model for Desk<D, B> {
     ghost use Rattle.nsc_model.specs.Settings.{settings_of};
-    ghost use Rattle.nsc_database.specs.Rests.{Desk, Stands};
+    ghost use Rattle.nsc_database.specs.Rests.{Desk, IsAtRest};
 
     ghost Value = { Desk };
 
     ghost view = { λ d. record { writer = d.writer; ticked = d.ticked } };
 
-    ghost invariant = { λ d. Stands (settings_of B.conf D.db) B.conf.reloads B.held D.db d.ticked d.writer };
+    ghost invariant = { λ d. IsAtRest (settings_of B.conf D.db) B.conf.reloads B.held D.db d.ticked d.writer };
 }
 
 /// Its source book.
@@ -112,15 +110,15 @@ impl<D: OfDb, B: Room> Desk<D, B> {
 
     /// Looks for the live entry of the request of this kind and key, whose reply the buffer has then; at a miss it gives the number
     /// of invalidations.
-    pub fn look(&mut self, kind: Kind, key: &[u8], reply: &mut Buf) -> Looked
+    pub fn look(&mut self, kind: Kind, key: &[u8], reply: &mut Buf) -> HitOrMiss
         requires { kept_limit ≤ reply.old.limit }
         ensures looked { IsLooked result self.old.writer.seen (record { kind = kind; key = key.now }) reply.new.content }
         ensures limit { reply.new.limit ≡ reply.old.limit }
     {
         self.writer.learn();
         match self.writer.search(kind, key, reply) {
-            Some(hit) => Looked::Hit(hit),
-            None => Looked::Missed {
+            Some(hit) => HitOrMiss::Hit(hit),
+            None => HitOrMiss::Missed {
                 epoch: self.writer.epoch(),
             },
         }
@@ -134,8 +132,7 @@ impl<D: OfDb, B: Room> Desk<D, B> {
         fetched: Fetched<A>,
         epoch: u64,
     ) -> Result<Polled<A>, Spent>
-        requires named { IsNamed shelved.old.book.seen fetched }
-        requires only { fetched.content ≡ part_of D.db fetched.content }
+        requires fits { FitsBook shelved.old.book fetched }
         requires epoch { epoch ≤ invalidations self.old.writer.seen }
         requires part { IsPart B.held D.db fetched.content }
         ensures content { IfOk result (λ polled. polled.content ≡ fetched.content) }
@@ -186,7 +183,7 @@ impl<D: OfDb, B: Room> Desk<D, B> {
         requires settings { settings.now ≡ settings_of B.conf D.db }
         requires limit { limit ≡ B.conf.reloads }
         ensures checked { IfOk result (λ checked. IsChecked checked settings.now limit now self.new.writer.seen) }
-        ensures cause { IfOk result (λ checked. IsCause checked (is_outdated settings.now self.old.writer.cache.newest_version self.old.ticked)) }
+        ensures cause { IfOk result (λ checked. EmptiesOutdated checked (is_outdated settings.now self.old.writer.cache.newest_version self.old.ticked)) }
         ensures fault { IfErr result (λ fault. IsHoldFault fault self.new.writer.seen (NoneLive self.new.writer.seen)) }
     {
         let newest = self.writer.version();
@@ -201,7 +198,7 @@ impl<D: OfDb, B: Room> Desk<D, B> {
         requires limit { limit ≡ B.conf.reloads }
         requires current { is_outdated (settings_of B.conf D.db) self.old.writer.cache.newest_version self.old.ticked ≡ false }
         ensures checked { IfOk result (λ checked. IsChecked checked (settings_of B.conf D.db) limit now self.new.writer.seen) }
-        ensures cause { IfOk result (λ checked. IsCause checked false) }
+        ensures cause { IfOk result (λ checked. EmptiesOutdated checked false) }
         ensures fault { IfErr result (λ fault. IsHoldFault fault self.new.writer.seen (NoneLive self.new.writer.seen)) }
     {
         self.writer.learn();
@@ -244,8 +241,8 @@ impl<D: OfDb, B: Room> Desk<D, B> {
         requires due { All (IsDue B.conf.reloads now self.old.writer.seen) due.old }
         requires loads { AreAnew self.old.writer.seen due.old loads.now }
         requires stamps { HaveStamp epoch loads.now }
-        ensures over { AreOver epoch self.new.writer.seen due.old }
-        ensures spent { IfErr result (λ spent. IsUnmoved self.new.writer.seen spent.count) }
+        ensures over { OnOk result (AreOver epoch self.new.writer.seen due.old) }
+        ensures spent { IfErr result (λ spent. IsUnmoved self.new.writer.seen spent.count (AreOver epoch self.new.writer.seen due.old)) }
     {
         self.writer.learn();
         if self.writer.epoch() != epoch {
@@ -279,16 +276,10 @@ impl<D: OfDb, F: FileSet + Drop, A: Answerer, B: Room> Shelved<D, F, A, B> {
     ) -> Result<Fetched<A>, PollFault>
         requires { pass.old.db ≡ D.db }
         ensures pass { (pass.new.db ≡ pass.old.db) × (pass.new.pass ≡ pass.old.pass) }
-        ensures named { IfOk result (λ f. IsNamed self.now.book.seen f) }
-        ensures told { IfOk result (λ f. AreAsTold D.db (F.latest pass.new.files) f.content) }
-        ensures part { IfOk result (λ f. IsPartOf D.db (F.held pass.old.files) f.content) }
-        ensures only { IfOk result (λ f. f.content ≡ part_of D.db f.content) }
-        ensures read { OnOk result (AllRose D.db (F.reads pass.old.files) (F.reads pass.new.files)) }
-        ensures calm { OnOk result (F.faults pass.new.files ≡ F.faults pass.old.files) }
-        ensures faults { IfErr result (λ fault. FaultRose fault (F.faults pass.old.files) (F.faults pass.new.files) (F.file_faults pass.old.files) (F.file_faults pass.new.files)) }
-        ensures file_calm { OnOk result (F.file_faults pass.new.files ≡ F.file_faults pass.old.files) }
-        ensures kept { NoneFell (F.file_faults pass.old.files) (F.file_faults pass.new.files) }
-        ensures length { IfErr result (λ fault. TellsLength fault (F.held pass.old.files)) }
+        ensures fits { IfOk result (λ f. FitsBook self.now.book f) }
+        ensures fetched { IfOk result (λ f. IsFetched F.FileSet D.db pass.old.files pass.new.files f.content) }
+        ensures no_fault { OnOk result (NoneFailed F.FileSet pass.old.files pass.new.files) }
+        ensures fault { IfErr result (NotFetched F.FileSet pass.old.files pass.new.files) }
     {
         self.book.fetch(alloc, &mut pass.files, answers)
     }

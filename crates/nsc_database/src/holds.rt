@@ -1,7 +1,7 @@
 // What a look under a hold of the writer's lock finds, and how entries end under it.
 ghost use Rattle.std.specs.Prelude.{◌≡◌, None, IfOk, IfErr, OnOk};
 ghost use Rattle.nsc_model.specs.History.{NoneLive};
-ghost use Rattle.nsc_model.specs.Stores.{IsEmptied, IsEndedYet, IsUnmoved};
+ghost use Rattle.nsc_model.specs.Stores.{IsEmptied, IsUnmoved};
 ghost use Rattle.nsc_database.specs.Rests.{FindsNewest, IsPacked, Rests};
 
 use nsc_compactor::compact;
@@ -11,7 +11,7 @@ use nsc_writer::Writer;
 
 /// What a look for a live entry found.
 #[derive(Clone, Copy, Debug, PartialEq, Eq)]
-pub enum Looked {
+pub enum HitOrMiss {
     /// An entry.
     Hit(Hit),
     /// None.
@@ -28,7 +28,7 @@ pub fn invalidate(writer: &mut Writer) -> Result<u64, Spent>
     ensures done { IfOk result (λ epoch. IsEmptied writer.old.seen writer.new.seen epoch) }
     ensures found { OnOk result (FindsNewest writer.old writer.new) }
     ensures rests { Rests writer.old writer.new }
-    ensures spent { IfErr result (λ spent. IsUnmoved writer.new.seen spent.count × IsEndedYet writer.new.seen (NoneLive writer.new.seen)) }
+    ensures spent { IfErr result (λ spent. IsUnmoved writer.new.seen spent.count (NoneLive writer.new.seen)) }
 {
     writer.learn();
     let is_empty = writer.is_empty();

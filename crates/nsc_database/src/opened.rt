@@ -1,14 +1,11 @@
 ghost use Rattle.std.specs.Prelude.{◌≡◌, ◌≤◌, ◌∷◌, [], IfOk, IfErr, OnOk};
 ghost use Rattle.nsc_model.specs.declared.record.Record.TheVariants as record_of;
 ghost use Rattle.nsc_model.specs.Entry.{kept_limit};
-ghost use Rattle.nsc_model.specs.Files.{part_of};
 ghost use Rattle.nsc_model.specs.Machine.{room_of};
 ghost use Rattle.nsc_model.specs.Settings.{settings_of};
 ghost use Rattle.nsc_model.specs.Sizes.{SizeFits};
 ghost use Rattle.nsc_database.specs.Rests.{IsNew};
-ghost use Rattle.nsc_database.specs.Steady.{IsPart};
-ghost use Rattle.nsc_sourcebook.specs.Reads.{FaultRose, IsPartOf, TellsLength};
-ghost use Rattle.nsc_model.specs.Reads.{AllRose, AreAsTold};
+ghost use Rattle.nsc_sourcebook.specs.Reads.{IsFetched, IsPart, NoneFailed, NotFetched};
 
 use crate::base::Base;
 use crate::database::{Bases, Database};
@@ -58,16 +55,11 @@ impl<F: FileSet + Drop, A: Answerer + Drop> Opened<F, A> {
     ) -> Result<Opened<F, A>, PollFault>
         requires { SizeFits (settings_of conf.now db) }
         ensures db { IfOk result (λ o. (o.db ≡ db) × (o.settings ≡ settings_of conf.now db) × (o.reloads ≡ conf.now.reloads)) }
-        ensures seen { IfOk result (λ o. o.pass.seen ≡ record_of.Change 0 o.book.newest ∷ []) }
-        ensures told { IfOk result (λ o. AreAsTold db (F.latest files.new) o.book.newest) }
-        ensures part { IfOk result (λ o. IsPartOf db (F.held files.old) o.book.newest) }
-        ensures only { IfOk result (λ o. o.book.newest ≡ part_of db o.book.newest) }
+        ensures fetched { IfOk result (λ o. IsFetched F.FileSet db files.old files.new o.book.newest) }
         ensures held { IfOk result (λ o. F.held o.files ≡ F.held files.old) }
         ensures stays { OnOk result (F.held files.new ≡ F.held files.old) }
-        ensures calm { OnOk result (F.faults files.new ≡ F.faults files.old) }
-        ensures read { OnOk result (AllRose db (F.reads files.old) (F.reads files.new)) }
-        ensures faults { IfErr result (λ fault. FaultRose fault (F.faults files.old) (F.faults files.new) (F.file_faults files.old) (F.file_faults files.new)) }
-        ensures length { IfErr result (λ fault. TellsLength fault (F.held files.old)) }
+        ensures no_fault { OnOk result (NoneFailed F.FileSet files.old files.new) }
+        ensures fault { IfErr result (NotFetched F.FileSet files.old files.new) }
     {
         let settings = conf.of(db);
         let layout = Layout {

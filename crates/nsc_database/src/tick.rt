@@ -1,11 +1,12 @@
 ghost use Rattle.std.specs.Prelude.{◌≡◌, ◌<◌, ◌≤◌, ◌^◌, All, Some, map, IsOk, IfOk, IfErr, IfSome, OnOk};
 ghost use Rattle.std.specs.Bool.{OnFalse, OnTrue};
-ghost use Rattle.nsc_model.specs.History.{IsPrefix, Legal, NoneLive, PolledSince, invalidations, version_in};
-ghost use Rattle.nsc_model.specs.Reads.{HasNotFallen, NoFileFault, NoneFell};
+ghost use Rattle.nsc_model.specs.History.{NoneLive, invalidations};
 ghost use Rattle.nsc_model.specs.Reloads.{Reloaded};
 ghost use Rattle.nsc_model.specs.Machine.{room_of};
 ghost use Rattle.nsc_model.specs.Stores.{IsTickFault, IsTicked, LoadsAgain};
-ghost use Rattle.nsc_database.specs.Frames.{Held};
+ghost use Rattle.nsc_sourcebook.specs.Reads.{NoneFailed};
+ghost use Rattle.nsc_database.specs.Frames.{Goes, Held};
+ghost use Rattle.nsc_database.specs.Holds.{WasPolled};
 ghost use Rattle.nsc_database.specs.Ticks.{AreOver, IsChecked, IsDue, IsHoldFault, anew_of};
 
 use crate::base::Base;
@@ -31,15 +32,11 @@ impl<D: OfDb, F: FileSet + Drop, A: Answerer + Drop, B: Room> Base<D, F, A, B> {
     ) -> Result<(), LookupFault>
         requires db { pass.old.db ≡ D.db }
         requires moment { now < 2 ^ 62 }
-        ensures db { pass.new.db ≡ pass.old.db }
-        ensures before { IsPrefix pass.old.pass.seen pass.new.pass.seen }
-        ensures legal { Legal pass.new.pass.seen }
+        ensures frame { Goes pass.old pass.new }
         ensures ticked { OnOk result (OnTrue self.now.settings.enabled (IsTicked D.db (F.reads pass.old.files) (F.reads pass.new.files) (F.latest pass.new.files) self.now.settings self.now.reloads now pass.old.pass.seen pass.new.pass.seen)) }
         ensures uncached { OnFalse self.now.settings.enabled (IsOk result × (pass.new ≡ pass.old)) }
-        ensures fault { IfErr result (λ fault. IsTickFault fault now pass.old.pass.seen pass.new.pass.seen (F.faults pass.old.files) (F.faults pass.new.files) (F.file_faults pass.old.files) (F.file_faults pass.new.files)) }
-        ensures calm { F.faults pass.old.files ≡ 0 → F.faults pass.new.files ≡ 0 → IfErr result NoFileFault }
-        ensures no_fault { OnOk result ((F.faults pass.new.files ≡ F.faults pass.old.files) × (F.file_faults pass.new.files ≡ F.file_faults pass.old.files)) }
-        ensures counts { HasNotFallen (F.faults pass.old.files) (F.faults pass.new.files) × NoneFell (F.file_faults pass.old.files) (F.file_faults pass.new.files) }
+        ensures fault { IfErr result (λ fault. IsTickFault fault self.now.settings now pass.old.pass.seen pass.new.pass.seen (F.faults pass.old.files) (F.faults pass.new.files) (F.file_faults pass.old.files) (F.file_faults pass.new.files)) }
+        ensures no_fault { OnOk result (NoneFailed F.FileSet pass.old.files pass.new.files) }
     {
         if !self.settings.enabled {
             pass.learn();
@@ -100,12 +97,9 @@ impl<D: OfDb, F: FileSet + Drop, A: Answerer + Drop, B: Room> Base<D, F, A, B> {
     ) -> Result<(), LookupFault>
         requires db { pass.old.db ≡ D.db }
         requires moment { now < 2 ^ 62 }
-        requires legal { Legal pass.old.pass.seen }
         requires noted { epoch ≤ invalidations pass.old.pass.seen }
         requires due { All (IsDue self.now.reloads now pass.old.pass.seen) due.items }
-        requires version { version_in pass.old.pass.seen polled.now.stamp.version ≡ Some polled.now.content }
-        requires since { PolledSince pass.old.pass.seen polled.now.stamp.version polled.now.stamp.epoch }
-        requires stamp { polled.now.stamp.epoch ≡ epoch }
+        requires polled { WasPolled pass.old.pass.seen epoch polled.now }
         ensures frame { Held pass.old pass.new }
         ensures over { OnOk result (AreOver epoch pass.new.pass.seen due.items) }
         ensures reloaded { OnOk result (Reloaded self.now.reloads pass.new.pass.seen) }
@@ -116,6 +110,7 @@ impl<D: OfDb, F: FileSet + Drop, A: Answerer + Drop, B: Room> Base<D, F, A, B> {
             Ok(loads) => loads,
             Err(_) => return Err(LookupFault::NoMemory),
         };
+        pass.learn();
         let mut lock = self.desk.lock(rt);
         let desk = &mut *lock;
         desk.show(pass);

@@ -1,12 +1,10 @@
 -- What the reads of a database's files gave, and how the counts of a caller's reads go.
-use Rattle.std.specs.Prelude.{◌≡◌, ℕ, ◌-◌, ◌^◌, ◌<◌, ◌⊎◌, true, List, Option, IfSome}
+use Rattle.std.specs.Prelude.{◌≡◌, ◌≢◌, ℕ, ◌-◌, ◌^◌, ◌<◌, ◌⊎◌, true, List, Option, IfSome}
 use Rattle.nsc_model.specs.declared.kind.Db.{Db}
 use Rattle.nsc_model.specs.declared.kind.FileId.{FileId}
 use Rattle.nsc_model.specs.declared.answer.Request.{Request}
 use Rattle.nsc_model.specs.declared.store.Given.{Given}
 use Rattle.nsc_model.specs.declared.store.Given.TheVariants as given
-use Rattle.nsc_model.specs.declared.store.LookupFault.{LookupFault}
-use Rattle.nsc_model.specs.declared.store.LookupFault.TheVariants as fault
 use Rattle.nsc_model.specs.Answers.{answer_of}
 use Rattle.nsc_model.specs.Content.{Content}
 use Rattle.nsc_model.specs.Files.{file_of, is_read, part_of}
@@ -26,6 +24,16 @@ HasNotFallen before after = (after ≡ before) ⊎ Rose before after
 -- no count of a file fell
 abbrev pub NoneFell : (FileId → ℕ) → (FileId → ℕ) → Type 0
 NoneFell before after = (f : FileId) → HasNotFallen (before f) (after f)
+
+-- no count of faults changed, neither that of all nor that of any file
+abbrev pub FaultsStay : ℕ → ℕ → (FileId → ℕ) → (FileId → ℕ) → Type 0
+FaultsStay before after before_each after_each = (after ≡ before) × (after_each ≡ before_each)
+
+-- a file is at fault: of the counts of faults that of all rose, and its own, and no other one changed
+pub record FileFailed (file : FileId) (before after : ℕ) (before_each after_each : FileId → ℕ) : Type 0 where
+  pub all : Rose before after
+  pub own : Rose (before_each file) (after_each file)
+  pub others : (other : FileId) → other ≢ file → after_each other ≡ before_each other
 
 -- the count of each file that the database reads rose
 abbrev pub AllRose : Db → (FileId → ℕ) → (FileId → ℕ) → Type 0
@@ -58,14 +66,3 @@ IsMade which before_reads after_reads latest request (given.Fresh bytes why) = I
 -- a reply is the answer over the files that are held, where these are told
 abbrev pub IsOfHeld : Option Content → Db → Request → List ℕ → Type 0
 IsOfHeld held which request bytes = IfSome held (λ files. bytes ≡ (answer_of (part_of which files) request).bytes)
-
--- no call ever counts a fault
-abbrev pub IsCalm : {P : Type 0} → (P → ℕ) → Type 0
-IsCalm {P} faults = (p : P) → faults p ≡ 0
-
--- no file is at fault
-abbrev pub NoFileFault : LookupFault → Type 0
-NoFileFault fault.NoMemory = Unit {0}
-NoFileFault (fault.Spent count) = Unit {0}
-NoFileFault (fault.SourceFault file) = ⊥
-NoFileFault (fault.TooLong file size) = ⊥

@@ -1,7 +1,7 @@
 -- What a lookup in a store gives a caller who had seen one beginning of the database's history before, and has seen another one
 -- after it.
 use Rattle.std.specs.Prelude.{◌≡◌, ◌≢◌, ℕ, ◌+◌, ◌^◌, ◌<◌, ◌≤◌, ◌⊎◌, false, List, ◌∷◌, length, sum_by, Option, Some}
-use Rattle.std.specs.Bool.{OnTrue}
+use Rattle.std.specs.Bool.{OnFalse, OnTrue}
 use Rattle.nsc_base.specs.Nodes.{node_words}
 use Rattle.nsc_model.specs.declared.answer.Request.{Request}
 use Rattle.nsc_model.specs.declared.record.Ending.TheVariants.{Replaced}
@@ -23,11 +23,16 @@ use Rattle.nsc_model.specs.Answers.{answer_of}
 use Rattle.nsc_model.specs.Content.{Content}
 use Rattle.nsc_model.specs.Files.{file_limit}
 use Rattle.nsc_model.specs.Entry.{Entry, kept_limit}
-use Rattle.nsc_model.specs.History.{HasLoad, HasEnd, IsLive, EndedAfter, IsPrefix, LookedBetween, NoneLive, invalidations, load_of, loads, version_in}
+use Rattle.nsc_model.specs.History.{Answered, HasLoad, HasEnd, IsLive, EndedAfter, IsPrefix, Legal, LookedBetween, NoneLive, invalidations, load_of, loads, version_in}
 use Rattle.nsc_model.specs.Live.{AreLive}
-use Rattle.nsc_model.specs.Reads.{IsLookedUp, Rose}
+use Rattle.nsc_model.specs.Reads.{FaultsStay, FileFailed, IsLookedUp, IsMade, IsOfHeld}
 use Rattle.nsc_model.specs.Reloads.{Reloaded, ends}
 use Rattle.nsc_model.specs.Machine.{entry_words, last_count, life_of, room_of}
+
+-- what a call leaves of what its caller has seen: it goes on from what was seen before, and is legal
+pub record Continues (seen after : List Record) : Type 0 where
+  pub before : IsPrefix seen after
+  pub legal : Legal after
 
 -- the reply
 abbrev pub reply_of : Given → List ℕ
@@ -99,7 +104,7 @@ abbrev pub LoadsAgain : ℕ → List Record → Type 0
 LoadsAgain arena history = AreLoadedAgain arena history ⊎ MayBeUnmoved history
 
 -- the words that are free are those of the arena that no live entry takes
-pub record IsFree (arena free : ℕ) (history : List Record) : Type 0 where
+pub record HasFree (arena free : ℕ) (history : List Record) : Type 0 where
   pub entries : List Entry
   pub live : AreLive history entries
   pub rest : free + words_of entries ≡ arena
@@ -108,7 +113,7 @@ pub record IsFree (arena free : ℕ) (history : List Record) : Type 0 where
 pub record IsFull (arena : ℕ) (history : List Record) (request : Request) (bytes : List ℕ) (need free : ℕ) : Type 0 where
   pub needed : need ≡ node_words (length request.key) (length bytes)
   pub less : free < need
-  pub left : IsFree arena free history ⊎ MayBeUnmoved history
+  pub left : HasFree arena free history ⊎ MayBeUnmoved history
 
 -- why a reply that was made anew is not kept
 abbrev pub IsWhy : Why → DbConf → List Record → List Record → Request → List ℕ → Type 0
@@ -125,13 +130,13 @@ pub record IsSpent (after : List Record) (count : ℕ) : Type 0 where
   pub content : Content
   pub version : version_in after count ≡ Some content
 
--- why a lookup gave up: a count stands at its end, as what was seen says, or a file gave no answer, and its count of faults rose
+-- why a lookup gave up: memory was wanting, or a count stands at its end, as what was seen says, and no count of faults changed; or
+-- a file gave no answer, and is at fault
 abbrev pub IsFault : LookupFault → List Record → ℕ → ℕ → (FileId → ℕ) → (FileId → ℕ) → Type 0
-IsFault fault.NoMemory after before_faults after_faults before_each after_each = Unit {0}
-IsFault (fault.Spent count) after before_faults after_faults before_each after_each = IsSpent after count
-IsFault (fault.SourceFault file) after before_faults after_faults before_each after_each = Rose before_faults after_faults × Rose (before_each file) (after_each file)
-IsFault (fault.TooLong file size) after before_faults after_faults before_each after_each =
-    Rose before_faults after_faults × Rose (before_each file) (after_each file) × (file_limit < size)
+IsFault fault.NoMemory after before_faults after_faults before_each after_each = FaultsStay before_faults after_faults before_each after_each
+IsFault (fault.Spent count) after before_faults after_faults before_each after_each = IsSpent after count × FaultsStay before_faults after_faults before_each after_each
+IsFault (fault.SourceFault file) after before_faults after_faults before_each after_each = FileFailed file before_faults after_faults before_each after_each
+IsFault (fault.TooLong file size) after before_faults after_faults before_each after_each = FileFailed file before_faults after_faults before_each after_each × (file_limit < size)
 
 -- no entry of the request answers: the database is not cached, or each one that had been seen is ended
 abbrev pub IsMissed : DbConf → List Record → List Record → Request → Type 0
@@ -142,11 +147,27 @@ abbrev pub IsMissedAt : LookupFault → DbConf → List Record → List Record �
 IsMissedAt fault.NoMemory settings seen after request = Unit {0}
 IsMissedAt _ settings seen after request = IsMissed settings seen after request
 
--- a lookup gave this
+-- which entry gave the reply of a lookup, or why none did
 abbrev pub IsGiven : Given → DbConf → ℕ → List Record → List Record → Request → Type 0
 IsGiven (given.Hit bytes number) settings now seen after request = IsHit after request bytes number
 IsGiven (given.Loaded bytes number) settings now seen after request = IsLoaded settings now seen after request bytes number × EndedAfter seen after request
 IsGiven (given.Fresh bytes why) settings now seen after request = IsWhy why settings seen after request bytes × IsMissed settings seen after request
+
+-- a lookup gave up, for this cause, and no entry answers, unless memory was wanting
+pub record GivesUp (settings : DbConf) (seen after : List Record) (request : Request) (before_faults after_faults : ℕ) (before_each after_each : FileId → ℕ) (cause : LookupFault) : Type 0 where
+  pub missed : IsMissedAt cause settings seen after request
+  pub fault : IsFault cause after before_faults after_faults before_each after_each
+
+-- a lookup gave this, by what its caller has seen: its reply answers the request, and is not kept where the database is not cached
+pub record GivesAnswer (settings : DbConf) (now : ℕ) (seen after : List Record) (request : Request) (g : Given) : Type 0 where
+  pub answered : Answered seen after request (reply_of g)
+  pub source : IsGiven g settings now seen after request
+  pub uncached : OnFalse settings.enabled (g ≡ given.Fresh (reply_of g) why.Disabled)
+
+-- a lookup gave this, by its files: by what it read of them, and by those that are held
+pub record IsOfFiles (which : Db) (before_reads after_reads : FileId → ℕ) (latest : FileId → Option (Option (List ℕ))) (held : Option Content) (request : Request) (g : Given) : Type 0 where
+  pub made : IsMade which before_reads after_reads latest request g
+  pub of_held : IsOfHeld held which request (reply_of g)
 
 -- ---- invalidations, counts and ticks
 
@@ -156,19 +177,16 @@ pub record IsEmptied (seen after : List Record) (epoch : ℕ) : Type 0 where
   pub new : invalidations seen < epoch
   pub none : NoneLive after
 
--- a count stands at its end: that of the invalidations; or that of the compactions, and the words of ended entries are not free
-pub record IsUnmoved (after : List Record) (count : ℕ) : Type 0 where
+-- a count stands at its end: that of the invalidations; or that of the compactions, so that the words of ended entries are not free,
+-- though the entries ended that were to end
+pub record IsUnmoved (after : List Record) (count : ℕ) (ended : Type 0) : Type 0 where
   pub last : count ≡ last_count
-  pub cause : (invalidations after ≡ count) ⊎ MayBeUnmoved after
-
--- the ends of a call that gave up were made all the same, unless the count of invalidations stands at its end
-abbrev pub IsEndedYet : List Record → Type 0 → Type 0
-IsEndedYet after ended = (invalidations after ≡ last_count) ⊎ ended
+  pub cause : (invalidations after ≡ count) ⊎ (MayBeUnmoved after × ended)
 
 -- why an invalidation gave up
 abbrev pub IsInvalidateFault : InvalidateFault → List Record → Type 0
 IsInvalidateFault invalidate_fault.NoMemory after = Unit {0}
-IsInvalidateFault (invalidate_fault.Spent count) after = IsUnmoved after count × IsEndedYet after (NoneLive after)
+IsInvalidateFault (invalidate_fault.Spent count) after = IsUnmoved after count (NoneLive after)
 
 -- the counts are those of this history, and the words those of its live entries
 pub record IsCounted (arena : ℕ) (after : List Record) (stats : Stats) : Type 0 where
@@ -179,24 +197,25 @@ pub record IsCounted (arena : ℕ) (after : List Record) (stats : Stats) : Type 
   pub invalidations_are : stats.invalidations ≡ invalidations after
   pub arena_is : stats.arena ≡ arena
 
--- every entry that had been seen is ended whose time was over at this moment
-abbrev pub AreOverEnded : ℕ → List Record → List Record → Type 0
-AreOverEnded now seen after = (e : Entry) → HasLoad seen e → e.timeout < now → HasEnd after e.number
-
--- a tick at this moment read the files, and looked at the version that they are: every entry that had been seen is ended whose time
--- was over, and, where changes of the files count, whose version is another one
-pub record IsTicked (which : Db) (before_reads after_reads : FileId → ℕ) (latest : FileId → Option (Option (List ℕ))) (settings : DbConf) (limit : Option ℕ) (now : ℕ) (seen after : List Record) : Type 0 where
+-- a tick at this moment looked at a version, and the stale entries ended: every one that had been seen whose time was over, and, where
+-- changes of the files count, whose version is another one
+pub record EndsStale (settings : DbConf) (now : ℕ) (seen after : List Record) : Type 0 where
   pub version : ℕ
   pub looked : LookedBetween seen after version
-  pub content : Content
-  pub version_is : version_in after version ≡ Some content
-  pub files : IsLookedUp which before_reads after_reads latest content
-  pub over : AreOverEnded now seen after
+  pub over : (e : Entry) → HasLoad seen e → e.timeout < now → HasEnd after e.number
   pub outdated : OnTrue settings.check_files ((e : Entry) → HasLoad seen e → e.version ≢ version → HasEnd after e.number)
+
+-- a tick at this moment read the files, looked at the version that they are, and ended what was stale
+pub record IsTicked (which : Db) (before_reads after_reads : FileId → ℕ) (latest : FileId → Option (Option (List ℕ))) (settings : DbConf) (limit : Option ℕ) (now : ℕ) (seen after : List Record) : Type 0 where
+  pub ends : EndsStale settings now seen after
+  pub content : Content
+  pub version_is : version_in after ends.version ≡ Some content
+  pub files : IsLookedUp which before_reads after_reads latest content
   pub reloaded : Reloaded limit after
   pub again : LoadsAgain (room_of settings) after
 
--- why a tick gave up
-abbrev pub IsTickFault : LookupFault → ℕ → List Record → List Record → ℕ → ℕ → (FileId → ℕ) → (FileId → ℕ) → Type 0
-IsTickFault (fault.Spent count) now seen after before_faults after_faults before_each after_each = IsSpent after count ⊎ (IsUnmoved after count × IsEndedYet after (AreOverEnded now seen after))
-IsTickFault other now seen after before_faults after_faults before_each after_each = IsFault other after before_faults after_faults before_each after_each
+-- why a tick gave up: as a lookup does; or no count of faults changed, and one that its ends need stands at its end
+abbrev pub IsTickFault : LookupFault → DbConf → ℕ → List Record → List Record → ℕ → ℕ → (FileId → ℕ) → (FileId → ℕ) → Type 0
+IsTickFault (fault.Spent count) settings now seen after before_faults after_faults before_each after_each =
+    (IsSpent after count ⊎ IsUnmoved after count (EndsStale settings now seen after)) × FaultsStay before_faults after_faults before_each after_each
+IsTickFault other settings now seen after before_faults after_faults before_each after_each = IsFault other after before_faults after_faults before_each after_each

@@ -3,16 +3,14 @@ ghost use Rattle.std.specs.Bool.{OnFalse, OnTrue};
 ghost use Rattle.nsc_model.specs.declared.kind.Db.{Db};
 ghost use Rattle.nsc_model.specs.declared.kind.FileId.{FileId};
 ghost use Rattle.nsc_model.specs.declared.conf.DbConf.{DbConf};
-ghost use Rattle.nsc_model.specs.declared.store.Given.TheVariants as given;
-ghost use Rattle.nsc_model.specs.declared.store.Why.TheVariants as why;
 ghost use Rattle.nsc_model.specs.Content.{Content};
 ghost use Rattle.nsc_model.specs.declared.record.Record.{Record};
 ghost use Rattle.nsc_model.specs.Entry.{key_limit};
 ghost use Rattle.nsc_model.specs.Kinds.{database_of};
-ghost use Rattle.nsc_model.specs.History.{Answered, IsPrefix, Legal};
+ghost use Rattle.nsc_model.specs.History.{IsPrefix, Legal};
 ghost use Rattle.nsc_model.specs.Machine.{room_of};
-ghost use Rattle.nsc_model.specs.Reads.{HasNotFallen, IsCalm, IsMade, IsOfHeld, NoFileFault, NoneFell};
-ghost use Rattle.nsc_model.specs.Stores.{IsCounted, IsEmptied, IsFault, IsGiven, IsInvalidateFault, IsMissedAt, IsTicked, IsTickFault, reply_of};
+ghost use Rattle.nsc_model.specs.Reads.{FaultsStay};
+ghost use Rattle.nsc_model.specs.Stores.{Continues, GivesAnswer, GivesUp, IsCounted, IsEmptied, IsInvalidateFault, IsOfFiles, IsTicked, IsTickFault};
 
 use crate::kind::{FileId, Kind};
 use nsc_base::{Bytes, NoMemory};
@@ -235,22 +233,11 @@ pub trait Store {
         requires key { length key.now ≤ key_limit }
         requires moment { now < 2 ^ 62 }
         ensures pass { is_pass self.now pass.new }
-        ensures before { IsPrefix (seen pass.old) (seen pass.new) }
-        ensures legal { Legal (seen pass.new) }
-
-        // The reply, by the history and by the files.
-        ensures answered { IfOk result (λ g. Answered (seen pass.old) (seen pass.new) (record { kind = kind; key = key.now }) (reply_of g)) }
-        ensures given { IfOk result (λ g. IsGiven g (settings self.now) now (seen pass.old) (seen pass.new) (record { kind = kind; key = key.now })) }
-        ensures made { IfOk result (λ g. IsMade (db self.now) (reads pass.old) (reads pass.new) (latest pass.new) (record { kind = kind; key = key.now }) g) }
-        ensures uncached { OnFalse (settings self.now).enabled (IfOk result (λ g. g ≡ given.Fresh (reply_of g) why.Disabled)) }
-        ensures held { IfOk result (λ g. IsOfHeld (held self.now) (db self.now) (record { kind = kind; key = key.now }) (reply_of g)) }
-
-        // Why there is none, and the counts of faults.
-        ensures missed { IfErr result (λ fault. IsMissedAt fault (settings self.now) (seen pass.old) (seen pass.new) (record { kind = kind; key = key.now })) }
-        ensures fault { IfErr result (λ fault. IsFault fault (seen pass.new) (faults pass.old) (faults pass.new) (file_faults pass.old) (file_faults pass.new)) }
-        ensures calm { IsCalm faults → IfErr result NoFileFault }
-        ensures no_fault { OnOk result ((faults pass.new ≡ faults pass.old) × (file_faults pass.new ≡ file_faults pass.old)) }
-        ensures counts { HasNotFallen (faults pass.old) (faults pass.new) × NoneFell (file_faults pass.old) (file_faults pass.new) };
+        ensures seen { Continues (seen pass.old) (seen pass.new) }
+        ensures answer { IfOk result (GivesAnswer (settings self.now) now (seen pass.old) (seen pass.new) (record { kind = kind; key = key.now })) }
+        ensures files { IfOk result (IsOfFiles (db self.now) (reads pass.old) (reads pass.new) (latest pass.new) (held self.now) (record { kind = kind; key = key.now })) }
+        ensures fault { IfErr result (GivesUp (settings self.now) (seen pass.old) (seen pass.new) (record { kind = kind; key = key.now }) (faults pass.old) (faults pass.new) (file_faults pass.old) (file_faults pass.new)) }
+        ensures no_fault { OnOk result (FaultsStay (faults pass.old) (faults pass.new) (file_faults pass.old) (file_faults pass.new)) };
 
     /// What is due at this moment, in seconds, where the database is cached: the files are looked at; where they changed since the
     /// last tick, and that counts, every entry ends; else the entries whose time is over end, and those that are not dropped are
@@ -267,42 +254,36 @@ pub trait Store {
         requires pass { is_pass self.now pass.old }
         requires moment { now < 2 ^ 62 }
         ensures pass { is_pass self.now pass.new }
-        ensures before { IsPrefix (seen pass.old) (seen pass.new) }
-        ensures legal { Legal (seen pass.new) }
+        ensures seen { Continues (seen pass.old) (seen pass.new) }
         ensures ticked { OnOk result (OnTrue (settings self.now).enabled (IsTicked (db self.now) (reads pass.old) (reads pass.new) (latest pass.new) (settings self.now) (reloads self.now) now (seen pass.old) (seen pass.new))) }
         ensures uncached { OnFalse (settings self.now).enabled (IsOk result × (pass.new ≡ pass.old)) }
-        ensures fault { IfErr result (λ fault. IsTickFault fault now (seen pass.old) (seen pass.new) (faults pass.old) (faults pass.new) (file_faults pass.old) (file_faults pass.new)) }
-        ensures calm { IsCalm faults → IfErr result NoFileFault }
-        ensures no_fault { OnOk result ((faults pass.new ≡ faults pass.old) × (file_faults pass.new ≡ file_faults pass.old)) }
-        ensures counts { HasNotFallen (faults pass.old) (faults pass.new) × NoneFell (file_faults pass.old) (file_faults pass.new) };
+        ensures fault { IfErr result (λ fault. IsTickFault fault (settings self.now) now (seen pass.old) (seen pass.new) (faults pass.old) (faults pass.new) (file_faults pass.old) (file_faults pass.new)) }
+        ensures no_fault { OnOk result (FaultsStay (faults pass.old) (faults pass.new) (file_faults pass.old) (file_faults pass.new)) };
 
     /// Ends every live entry as invalidated, and gives the new number of invalidations.
     fn invalidate<R: Wait>(&self, rt: &R, pass: &mut Self::Pass) -> Result<u64, InvalidateFault>
         requires { is_pass self.now pass.old }
         ensures pass { is_pass self.now pass.new }
-        ensures before { IsPrefix (seen pass.old) (seen pass.new) }
-        ensures legal { Legal (seen pass.new) }
+        ensures seen { Continues (seen pass.old) (seen pass.new) }
         ensures done { IfOk result (λ epoch. IsEmptied (seen pass.old) (seen pass.new) epoch) }
         ensures fault { IfErr result (λ fault. IsInvalidateFault fault (seen pass.new)) }
-        ensures calm { (faults pass.new ≡ faults pass.old) × (file_faults pass.new ≡ file_faults pass.old) };
+        ensures no_fault { FaultsStay (faults pass.old) (faults pass.new) (file_faults pass.old) (file_faults pass.new) };
 
     /// What the database counts. Fails only for want of memory.
     fn stats<R: Wait>(&self, rt: &R, pass: &mut Self::Pass) -> Result<Stats, NoMemory>
         requires { is_pass self.now pass.old }
         ensures pass { is_pass self.now pass.new }
-        ensures before { IsPrefix (seen pass.old) (seen pass.new) }
-        ensures legal { Legal (seen pass.new) }
+        ensures seen { Continues (seen pass.old) (seen pass.new) }
         ensures counted { IfOk result (λ stats. IsCounted (room_of (settings self.now)) (seen pass.new) stats) }
         ensures enabled { IfOk result (λ stats. stats.enabled ≡ (settings self.now).enabled) }
-        ensures calm { (faults pass.new ≡ faults pass.old) × (file_faults pass.new ≡ file_faults pass.old) };
+        ensures no_fault { FaultsStay (faults pass.old) (faults pass.new) (file_faults pass.old) (file_faults pass.new) };
 
     /// The pass has seen, then, all that it and the other one had seen.
     fn meet(&self, pass: &mut Self::Pass, other: Self::Pass)
         requires pass { is_pass self.now pass.old }
         requires other { is_pass self.now other }
         ensures pass { is_pass self.now pass.new }
-        ensures before { IsPrefix (seen pass.old) (seen pass.new) }
+        ensures seen { Continues (seen pass.old) (seen pass.new) }
         ensures other { IsPrefix (seen other) (seen pass.new) }
-        ensures legal { Legal (seen pass.new) }
-        ensures calm { (faults pass.new ≡ faults pass.old) × (file_faults pass.new ≡ file_faults pass.old) };
+        ensures no_fault { FaultsStay (faults pass.old) (faults pass.new) (file_faults pass.old) (file_faults pass.new) };
 }

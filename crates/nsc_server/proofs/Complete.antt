@@ -24,13 +24,13 @@ use Rattle.nsc_server.specs.Outcomes.{Answers, Completes, CountsInput, Ends, IsR
 look_lacked : (f : LookupFault) (before after : PassAt) → IsFault f after.seen before.faults after.faults before.file_faults after.file_faults
     → NoLookFault before after → served_by f ≡ served.NoMemory
 look_lacked fault.NoMemory before after is calm = refl
-look_lacked (fault.Spent count) before after is calm = absurd (calm.count_left count is)
-look_lacked (fault.SourceFault file) before after is calm = absurd (calm.calm is.0)
-look_lacked (fault.TooLong file size) before after is calm = absurd (calm.calm is.0)
+look_lacked (fault.Spent count) before after is calm = absurd (calm.count_left count is.0)
+look_lacked (fault.SourceFault file) before after is calm = absurd (calm.calm is.all)
+look_lacked (fault.TooLong file size) before after is calm = absurd (calm.calm is.0.all)
 
 invalidate_lacked : (f : InvalidateFault) (after : PassAt) → IsInvalidateFault f after.seen → NoInvalidateFault after → served_after f ≡ served.NoMemory
 invalidate_lacked invalidate_fault.NoMemory after is calm = refl
-invalidate_lacked (invalidate_fault.Spent count) after is calm = absurd (calm count is.0)
+invalidate_lacked (invalidate_fault.Spent count) after is calm = absurd (calm count is)
 
 named_lacked : (which : Option Db) (after : Databases PassAt) (by : Served) → IsInvalidateRefusal which after by → IfSome which (λ db. NoInvalidateFault (database_in after db)) → by ≡ served.NoMemory
 named_lacked (Some which) after by is calm = is.1 ∙ invalidate_lacked is.0 (database_in after which) is.3 calm
@@ -39,7 +39,7 @@ named_lacked None after by is calm = absurd is
 -- a reply that is refused though no fault came is refused for want of memory
 lacked : (settings : Databases DbConf) (asked : Asked) (before after : Databases PassAt) (by : Served) → IsRefusal settings asked before after by → NoStoreFault asked before after → by ≡ served.NoMemory
 lacked settings (Look request) before after by is calm =
-    is.told ∙ look_lacked is.cause (database_in before (database_of request.kind)) (database_in after (database_of request.kind)) is.fault calm
+    is.told ∙ look_lacked is.cause (database_in before (database_of request.kind)) (database_in after (database_of request.kind)) is.gives_up.fault calm
 lacked settings Shutdown before after by is calm = absurd is
 lacked settings Stat before after by is calm = is
 lacked settings (Invalidate name) before after by is calm = named_lacked (db_named name) after by is calm

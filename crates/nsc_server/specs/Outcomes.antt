@@ -12,11 +12,11 @@ use Rattle.nsc_model.specs.declared.store.InvalidateFault.TheVariants as invalid
 use Rattle.nsc_model.specs.declared.store.Given.{Given}
 use Rattle.nsc_model.specs.declared.store.Stats.{Stats}
 use Rattle.nsc_model.specs.Databases.{database_in}
-use Rattle.nsc_model.specs.History.{Answered, Legal}
+use Rattle.nsc_model.specs.History.{Legal, NoneLive}
 use Rattle.nsc_model.specs.Kinds.{database_of, db_named}
 use Rattle.nsc_model.specs.Machine.{room_of}
 use Rattle.nsc_model.specs.Reads.{Rose}
-use Rattle.nsc_model.specs.Stores.{IsCounted, IsEmptied, IsFault, IsGiven, IsInvalidateFault, IsMissedAt, IsSpent, IsUnmoved, reply_of}
+use Rattle.nsc_model.specs.Stores.{GivesAnswer, GivesUp, IsCounted, IsEmptied, IsInvalidateFault, IsSpent, IsUnmoved, reply_of}
 use Rattle.nsc_model.specs.Wire.{Asked, Look, Shutdown, Stat, Invalidate, Short, field, request_of}
 use Rattle.nsc_sockets.specs.declared.role.Role.{Role}
 use Rattle.nsc_server.specs.declared.served.Served.{Served}
@@ -53,10 +53,9 @@ no_database = field 22
 -- a pass was answered, as its store says at this moment, and what it has seen is legal
 pub record IsLookReply (settings : DbConf) (moment : ℕ) (request : Request) (before after : PassAt) (reply : List ℕ) : Type 0 where
   pub legal : Legal after.seen
-  pub answered : Answered before.seen after.seen request reply
   pub given : Given
   pub says : reply_of given ≡ reply
-  pub as_given : IsGiven given settings moment before.seen after.seen request
+  pub gives : GivesAnswer settings moment before.seen after.seen request given
 
 -- a database was emptied, or none has the name
 abbrev pub IsInvalidateReply : Option Db → Databases PassAt → Databases PassAt → List ℕ → Type 0
@@ -93,14 +92,12 @@ IsReply settings moment Stat before after reply = IsStatReply settings after rep
 IsReply settings moment (Invalidate name) before after reply = IsInvalidateReply (db_named name) before after reply
 IsReply settings moment _ before after reply = ⊥
 
--- why there is no reply: as the store's call answered, which gives up only where no entry answers, unless memory was wanting; what the
--- pass has seen is legal
+-- why there is no reply: as the store's call gave up; what the pass has seen is legal
 pub record IsLookFault (settings : DbConf) (request : Request) (before after : PassAt) (by : Served) : Type 0 where
   pub legal : Legal after.seen
   pub cause : LookupFault
   pub told : by ≡ served_by cause
-  pub fault : IsFault cause after.seen before.faults after.faults before.file_faults after.file_faults
-  pub missed : IsMissedAt cause settings before.seen after.seen request
+  pub gives_up : GivesUp settings before.seen after.seen request before.faults after.faults before.file_faults after.file_faults cause
 
 abbrev pub IsInvalidateRefusal : Option Db → Databases PassAt → Served → Type 0
 IsInvalidateRefusal (Some which) after by = (f : InvalidateFault) × (by ≡ served_after f) × Legal (database_in after which).seen × IsInvalidateFault f (database_in after which).seen
@@ -204,7 +201,7 @@ pub record NoLookFault (before after : PassAt) : Type 0 where
 
 -- of an invalidation: no count that it needs is at its end
 abbrev pub NoInvalidateFault : PassAt → Type 0
-NoInvalidateFault after = (count : ℕ) → IsUnmoved after.seen count → ⊥
+NoInvalidateFault after = (count : ℕ) → IsUnmoved after.seen count (NoneLive after.seen) → ⊥
 
 abbrev pub NoStoreFault : Asked → Databases PassAt → Databases PassAt → Type 0
 NoStoreFault (Look request) before after = NoLookFault (database_in before (database_of request.kind)) (database_in after (database_of request.kind))

@@ -1,7 +1,7 @@
 ghost use Rattle.std.specs.Prelude.{◌≡◌, ◌≤◌, ◌<◌, ◌^◌, length, IfErr, IfOk};
 ghost use Rattle.nsc_model.specs.Databases.{database_in};
-ghost use Rattle.nsc_model.specs.Stores.{IsFault, IsGiven, IsInvalidateFault, IsEmptied, IsMissedAt, reply_of};
-ghost use Rattle.nsc_model.specs.History.{Answered, Legal};
+ghost use Rattle.nsc_model.specs.Stores.{GivesAnswer, GivesUp, IsInvalidateFault, IsEmptied, reply_of};
+ghost use Rattle.nsc_model.specs.History.{Legal};
 ghost use Rattle.nsc_model.specs.Entry.{key_limit};
 ghost use Rattle.nsc_model.specs.Kinds.{database_of};
 ghost use Rattle.nsc_server.specs.Made.{bytes_of};
@@ -72,11 +72,9 @@ pub(crate) fn look_up<R: Wait, S: Store>(
     ensures passes { ArePasses S.Store stores.now passes.new }
     ensures before { SawMore (passes_at S.Store passes.old) (passes_at S.Store passes.new) }
     ensures others { OthersThan db (passes_at S.Store passes.old) (passes_at S.Store passes.new) }
-    ensures answered { IfOk result (λ g. Answered (database_in (passes_at S.Store passes.old) db).seen (database_in (passes_at S.Store passes.new) db).seen (record { kind = kind; key = key.now }) (reply_of g)) }
-    ensures given { IfOk result (λ g. IsGiven g (database_in (settings_of S.Store stores.now) db) now (database_in (passes_at S.Store passes.old) db).seen (database_in (passes_at S.Store passes.new) db).seen (record { kind = kind; key = key.now })) }
     ensures legal { Legal (database_in (passes_at S.Store passes.new) db).seen }
-    ensures missed { IfErr result (λ fault. IsMissedAt fault (database_in (settings_of S.Store stores.now) db) (database_in (passes_at S.Store passes.old) db).seen (database_in (passes_at S.Store passes.new) db).seen (record { kind = kind; key = key.now })) }
-    ensures fault { IfErr result (λ fault. IsFault fault (database_in (passes_at S.Store passes.new) db).seen (database_in (passes_at S.Store passes.old) db).faults (database_in (passes_at S.Store passes.new) db).faults (database_in (passes_at S.Store passes.old) db).file_faults (database_in (passes_at S.Store passes.new) db).file_faults) }
+    ensures answer { IfOk result (GivesAnswer (database_in (settings_of S.Store stores.now) db) now (database_in (passes_at S.Store passes.old) db).seen (database_in (passes_at S.Store passes.new) db).seen (record { kind = kind; key = key.now })) }
+    ensures fault { IfErr result (GivesUp (database_in (settings_of S.Store stores.now) db) (database_in (passes_at S.Store passes.old) db).seen (database_in (passes_at S.Store passes.new) db).seen (record { kind = kind; key = key.now }) (database_in (passes_at S.Store passes.old) db).faults (database_in (passes_at S.Store passes.new) db).faults (database_in (passes_at S.Store passes.old) db).file_faults (database_in (passes_at S.Store passes.new) db).file_faults) }
 {
     match db {
         Db::Passwd => stores

@@ -10,9 +10,15 @@ use Rattle.nsc_model.specs.declared.kind.FileId.TheVariants as file
 use Rattle.nsc_model.specs.Content.{Content}
 use Rattle.nsc_model.specs.Files.{file_of, is_read, part_of}
 use Rattle.nsc_model.specs.Kinds.{all_files, file_number, file_numbered}
-use Rattle.nsc_model.specs.Reads.{AllRose, AreAsTold, HasNotFallen, IsAsTold, NoneFell, Rose}
-use Rattle.nsc_outside.specs.FileSets.{ChangesOnly, told_of}
-use Rattle.nsc_sourcebook.specs.Reads.{IsPartOf}
+use Rattle.nsc_model.specs.Reads.{AreAsTold, FaultsStay, FileFailed, HasNotFallen, IsAsTold, NoneFell, Rose}
+use Rattle.nsc_outside.specs.declared.files.FileSet as file_set
+use Rattle.nsc_outside.specs.declared.files.ReadCause.{ReadCause}
+use Rattle.nsc_outside.specs.declared.files.ReadCause.TheVariants as causes
+use Rattle.nsc_outside.specs.FileSets.{ChangesOnly, IsCause, IsPastLimit, RoseBy, told_of}
+use Rattle.nsc_sourcebook.specs.declared.fault.PollFault.{PollFault}
+use Rattle.nsc_sourcebook.specs.declared.fault.PollFault.TheVariants as poll
+use Rattle.nsc_sourcebook.specs.Faults.{fault_of}
+use Rattle.nsc_sourcebook.specs.Reads.{IsFetched, IsPart, NoneFailed, NotFetched}
 
 -- ---- numbers of files
 
@@ -63,15 +69,12 @@ rose_after a b c (inr (inl less)) (inr last) = inl (omega (arith, last.0, last.1
 rose_after a b c (inr (inr last)) (inl more) = inl (omega (arith, last.0, last.1))
 rose_after a b c (inr (inr last)) (inr still) = inr (last.0, still.1)
 
-pub all_rose_after : (which : Db) (m n o : FileId → ℕ) → NoneFell m n → AllRose which n o → AllRose which m o
-all_rose_after which m n o kept rose f on = rose_after (m f) (n f) (o f) (kept f) (rose f on)
-
 kept_on : (a b c : ℕ) → HasNotFallen a b → HasNotFallen b c → HasNotFallen a c
 kept_on a b c first (inl same) = subst (HasNotFallen a) (sym same) first
 kept_on a b c first (inr rose) = inr (rose_after a b c first rose)
 
 -- counts of which one at most changed, and did not fall
-pub none_fell_but : (id : FileId) (m n : FileId → ℕ) → ChangesOnly id m n → HasNotFallen (m id) (n id) → NoneFell m n
+none_fell_but : (id : FileId) (m n : FileId → ℕ) → ChangesOnly id m n → HasNotFallen (m id) (n id) → NoneFell m n
 none_fell_but id m n others own f = elim (file_or_other f id) [
   | inl same ↦ subst (λ (g : FileId). HasNotFallen (m g) (n g)) (sym same) own
   | inr other ↦ inl (others f other)
@@ -79,6 +82,37 @@ none_fell_but id m n others own f = elim (file_or_other f id) [
 
 none_fell_after : (m n o : FileId → ℕ) → NoneFell m n → NoneFell n o → NoneFell m o
 none_fell_after m n o first then f = kept_on (m f) (n f) (o f) (first f) (then f)
+
+-- ---- one file that gave no answer
+
+-- of counts none changed
+none_changed : (id : FileId) (m n : FileId → ℕ) → ChangesOnly id m n → n id ≡ m id → n ≡ m
+none_changed id m n others own = λ i f. each f i where
+  each : (f : FileId) → n f ≡ m f
+  each f = elim (file_or_other f id) [ inl same ↦ subst (λ (g : FileId). n g ≡ m g) (sym same) own | inr other ↦ others f other ]
+
+pub not_read : {F : Type 0} (g : file_set.Ghosts F) (file : FileId) (cause : ReadCause) (files files' : F) → RoseBy cause (g.faults files) (g.faults files') → RoseBy cause (g.file_faults files file) (g.file_faults files' file)
+    → ChangesOnly file (g.file_faults files) (g.file_faults files') → IsCause (told_of (g.held files) file) cause → NotFetched g files files' (fault_of file cause)
+not_read g file causes.NoMemory files files' all own others is = (all, none_changed file (g.file_faults files) (g.file_faults files') others own)
+not_read g file causes.Failed files files' all own others is = record { all = all; own = own; others = others }
+not_read g file (causes.TooLong size) files files' all own others is = (record { all = all; own = own; others = others }, is)
+
+-- ---- after reads with no fault
+
+failed_since : (file : FileId) (a b c : ℕ) (a' b' c' : FileId → ℕ) → FaultsStay a b a' b' → FileFailed file b c b' c' → FileFailed file a c a' c'
+failed_since file a b c a' b' c' same failed = subst (λ (x : ℕ × (FileId → ℕ)). FileFailed file x.0 c x.1 c') (λ i. (same.0 i, same.1 i)) failed
+
+pub not_fetched_since : {F : Type 0} (g : file_set.Ghosts F) (files mid files' : F) (fault : PollFault) → NoneFailed g files mid → g.held mid ≡ g.held files → NotFetched g mid files' fault → NotFetched g files files' fault
+not_fetched_since g files mid files' poll.NoMemory same held f = (f.0 ∙ same.0, f.1 ∙ same.1)
+not_fetched_since g files mid files' (poll.SourceFault file) same held f = failed_since file _ _ _ _ _ _ same f
+not_fetched_since g files mid files' (poll.TooLong file size) same held f =
+    (failed_since file _ _ _ _ _ _ same f.0, subst (λ (h : Option Content). IsPastLimit (told_of h file) size) held f.1)
+
+pub fetched_since : {F : Type 0} (g : file_set.Ghosts F) (which : Db) (files mid files' : F) (content : Content) → NoneFell (g.reads files) (g.reads mid) → g.held mid ≡ g.held files → IsFetched g which mid files' content → IsFetched g which files files' content
+fetched_since g which files mid files' content kept held is = record {
+  looked = record { read = λ f on. rose_after (g.reads files f) (g.reads mid f) (g.reads files' f) (kept f) (is.looked.read f on); only = is.looked.only; told = is.looked.told };
+  part = subst (λ (h : Option Content). IsPart h which content) held is.part;
+}
 
 -- ---- what is known of the first files
 
@@ -133,18 +167,14 @@ all_read : {which : Db} {i : ℕ} {reads0 reads : FileId → ℕ} {latest : File
     → (f : FileId) → is_read which f ≡ true → IsReadAs reads0 reads latest held content f
 all_read all a f on = let low : file_number f < 7 = number_below f in a.each f (omega arith) on
 
-pub all_rose : (which : Db) (i : ℕ) (reads0 reads : FileId → ℕ) (latest : FileId → Option (Option (List ℕ))) (held : Option Content) (content : Content) → 7 ≤ i → AreRead which i reads0 reads latest held content → AllRose which reads0 reads
-all_rose which i reads0 reads latest held content all a f on = (all_read all a f on).rose
+part_told : (which : Db) (files content : Content) → content ≡ part_of which content → AreAsTold which (told_of (Some files)) content → content ≡ part_of which files
+part_told db.Passwd files c only told = only ∙ (λ i. record { switch = told file.Switch refl i; passwd = told file.Passwd refl i; group = None; hosts = None; services = None; extra_passwd = told file.ExtraPasswd refl i; extra_group = None })
+part_told db.Group files c only told = only ∙ (λ i. record { switch = told file.Switch refl i; passwd = None; group = told file.Group refl i; hosts = None; services = None; extra_passwd = None; extra_group = told file.ExtraGroup refl i })
+part_told db.Hosts files c only told = only ∙ (λ i. record { switch = told file.Switch refl i; passwd = None; group = None; hosts = told file.Hosts refl i; services = None; extra_passwd = None; extra_group = None })
+part_told db.Services files c only told = only ∙ (λ i. record { switch = told file.Switch refl i; passwd = None; group = None; hosts = None; services = told file.Services refl i; extra_passwd = None; extra_group = None })
 
-pub all_told : (which : Db) (i : ℕ) (reads0 reads : FileId → ℕ) (latest : FileId → Option (Option (List ℕ))) (held : Option Content) (content : Content) → 7 ≤ i → AreRead which i reads0 reads latest held content → AreAsTold which latest content
-all_told which i reads0 reads latest held content all a f on = (all_read all a f on).told
-
-part_told : (which : Db) (held : Option Content) (content : Content) → content ≡ part_of which content → AreAsTold which (told_of held) content → IsPartOf which held content
-part_told which None content only told = tt
-part_told db.Passwd (Some files) c only told = only ∙ (λ i. record { switch = told file.Switch refl i; passwd = told file.Passwd refl i; group = None; hosts = None; services = None; extra_passwd = told file.ExtraPasswd refl i; extra_group = None })
-part_told db.Group (Some files) c only told = only ∙ (λ i. record { switch = told file.Switch refl i; passwd = None; group = told file.Group refl i; hosts = None; services = None; extra_passwd = None; extra_group = told file.ExtraGroup refl i })
-part_told db.Hosts (Some files) c only told = only ∙ (λ i. record { switch = told file.Switch refl i; passwd = None; group = None; hosts = told file.Hosts refl i; services = None; extra_passwd = None; extra_group = None })
-part_told db.Services (Some files) c only told = only ∙ (λ i. record { switch = told file.Switch refl i; passwd = None; group = None; hosts = None; services = told file.Services refl i; extra_passwd = None; extra_group = None })
-
-pub all_part : {which : Db} {i : ℕ} {reads0 reads : FileId → ℕ} {latest : FileId → Option (Option (List ℕ))} {held : Option Content} {content : Content} → 7 ≤ i → content ≡ part_of which content → AreRead which i reads0 reads latest held content → IsPartOf which held content
-all_part {which} {i} {reads0} {reads} {latest} {held} {content} all only a = part_told which held content only (λ f on. (all_read all a f on).part)
+pub all_fetched : {F : Type 0} (g : file_set.Ghosts F) (which : Db) (i : ℕ) (files files' : F) (content : Content) → 7 ≤ i → content ≡ part_of which content → AreRead which i (g.reads files) (g.reads files') (g.latest files') (g.held files) content → IsFetched g which files files' content
+all_fetched g which i files files' content all only a = record {
+  looked = record { read = λ f on. (all_read all a f on).rose; only = only; told = λ f on. (all_read all a f on).told };
+  part = λ held is. part_told which held content only (subst (λ (h : Option Content). AreAsTold which (told_of h) content) is (λ f on. (all_read all a f on).part));
+}

@@ -5,6 +5,7 @@ use Rattle.nsc_model.specs.declared.kind.Db.{Db}
 use Rattle.nsc_model.specs.declared.record.Record.{Record}
 use Rattle.nsc_model.specs.declared.store.Spent.{Spent}
 use Rattle.nsc_model.specs.Content.{Content}
+use Rattle.nsc_model.specs.Files.{part_of}
 use Rattle.nsc_model.specs.History.{version_in}
 use Rattle.nsc_model.specs.Machine.{polled}
 use Rattle.nsc_writer.specs.declared.loaded.Stamp.{Stamp}
@@ -24,9 +25,11 @@ pub record Fetched : Type 0 where
   pub content : Content
   pub version : Option ℕ
 
--- the content is the version of this history that it was found equal to
-abbrev pub IsNamed : List Record → Fetched → Type 0
-IsNamed history fetched = IfSome fetched.version (λ n. version_in history n ≡ Some fetched.content)
+-- what was fetched may be entered in a book: it has no other files than those of the book's database, and is the version that it was
+-- found equal to
+pub record FitsBook (book : SourceBook) (fetched : Fetched) : Type 0 where
+  pub only : fetched.content ≡ part_of book.db fetched.content
+  pub named : IfSome fetched.version (λ n. version_in book.seen n ≡ Some fetched.content)
 
 -- a content that was polled, with its stamp
 pub record Polled : Type 0 where

@@ -2,15 +2,14 @@ ghost use Rattle.std.specs.Prelude.{◌≡◌, ◌≤◌, ◌∷◌, [], None, S
 ghost use Rattle.std.specs.Bool.{OnTrue, OnFalse};
 ghost use Rattle.std.specs.Arc.{arc_value};
 ghost use Rattle.nsc_model.specs.declared.record.Record.TheVariants as record_of;
-ghost use Rattle.nsc_model.specs.Files.{part_of};
 ghost use Rattle.nsc_model.specs.Content.{Content};
 ghost use Rattle.nsc_model.specs.History.{PolledSince, version_in};
 ghost use Rattle.nsc_model.specs.Machine.{new_cache, polled};
-ghost use Rattle.nsc_model.specs.Reads.{AllRose, AreAsTold, NoneFell};
+ghost use Rattle.nsc_model.specs.Reads.{NoneFell};
 ghost use Rattle.nsc_words.specs.Layout.{IsLayout};
 ghost use Rattle.nsc_writer.specs.Writer.{IsNewest, Polls};
-ghost use Rattle.nsc_sourcebook.specs.Reads.{FaultRose, IsPartOf, TellsLength};
-ghost use Rattle.nsc_sourcebook.specs.Book.{IsNamed, PollsBook};
+ghost use Rattle.nsc_sourcebook.specs.Reads.{IsFetched, NoneFailed, NotFetched};
+ghost use Rattle.nsc_sourcebook.specs.Book.{FitsBook, PollsBook};
 ghost use Rattle.nsc_sourcebook.specs.declared.fault.PollFault.TheVariants.{NoMemory as Memory};
 
 use crate::comparing::are_still;
@@ -120,13 +119,9 @@ impl<F: FileSet + Drop, A: Answerer> SourceBook<F, A> {
         ensures held { IfOk result (λ r. (r.0.held ≡ F.held files.old) × (F.held files.new ≡ F.held files.old)) }
         ensures writer { IfOk result (λ r. r.1 ≡ record { table = r.2.table; layout = layout; seen = record_of.Change 0 r.0.newest ∷ []; cache = new_cache r.0.newest; hits = record { found = 0; not_found = 0 }; misses = record { found = 0; not_found = 0 }; slide = None }) }
         ensures pass { IfOk result (λ r. r.2.seen ≡ record_of.Change 0 r.0.newest ∷ []) }
-        ensures told { IfOk result (λ r. AreAsTold db (F.latest files.new) r.0.newest) }
-        ensures part { IfOk result (λ r. IsPartOf db (F.held files.old) r.0.newest) }
-        ensures only { IfOk result (λ r. r.0.newest ≡ part_of db r.0.newest) }
-        ensures read { OnOk result (AllRose db (F.reads files.old) (F.reads files.new)) }
-        ensures calm { OnOk result (F.faults files.new ≡ F.faults files.old) }
-        ensures faults { IfErr result (λ fault. FaultRose fault (F.faults files.old) (F.faults files.new) (F.file_faults files.old) (F.file_faults files.new)) }
-        ensures length { IfErr result (λ fault. TellsLength fault (F.held files.old)) }
+        ensures fetched { IfOk result (λ r. IsFetched F.FileSet db files.old files.new r.0.newest) }
+        ensures no_fault { OnOk result (NoneFailed F.FileSet files.old files.new) }
+        ensures fault { IfErr result (NotFetched F.FileSet files.old files.new) }
     {
         let content = Arc::new(alloc, read_files(alloc, files, db)?)?;
         let ready = Arc::new(alloc, prepared_further(alloc, answers, content.clone()?)?)?;
@@ -150,28 +145,15 @@ impl<F: FileSet + Drop, A: Answerer> SourceBook<F, A> {
         self.files.split(alloc)
     }
 
-    /// What was made ready of the newest content. Fails only for want of memory.
-    pub fn newest(&self) -> Result<Arc<A::Ready>, NoMemory>
-        ensures { IfOk result (λ ready. A.prepared_from (arc_value ready) ≡ self.now.newest) }
-    {
-        Ok(self.ready.clone()?)
-    }
-
     /// Reads the files of the database through this set, in rising number, and makes them ready for answers. Where they are the
     /// newest content, that is handed on prepared for many answers, with the number of its version. What the set can compare while it
     /// reads is not kept then.
-    #[tactic(auto, using(crate::proofs::Each::all_rose_after))]
+    #[tactic(auto, using(crate::proofs::Each::fetched_since, crate::proofs::Each::not_fetched_since))]
     pub fn fetch(&self, alloc: Global, files: &mut F, answers: &A) -> Result<Fetched<A>, PollFault>
-        ensures named { IfOk result (λ f. IsNamed self.now.seen f) }
-        ensures told { IfOk result (λ f. AreAsTold self.now.db (F.latest files.new) f.content) }
-        ensures part { IfOk result (λ f. IsPartOf self.now.db (F.held files.old) f.content) }
-        ensures only { IfOk result (λ f. f.content ≡ part_of self.now.db f.content) }
-        ensures read { OnOk result (AllRose self.now.db (F.reads files.old) (F.reads files.new)) }
-        ensures calm { OnOk result (F.faults files.new ≡ F.faults files.old) }
-        ensures file_calm { OnOk result (F.file_faults files.new ≡ F.file_faults files.old) }
-        ensures faults { IfErr result (λ fault. FaultRose fault (F.faults files.old) (F.faults files.new) (F.file_faults files.old) (F.file_faults files.new)) }
-        ensures kept { NoneFell (F.file_faults files.old) (F.file_faults files.new) }
-        ensures length { IfErr result (λ fault. TellsLength fault (F.held files.old)) }
+        ensures fits { IfOk result (λ f. FitsBook self.now f) }
+        ensures fetched { IfOk result (λ f. IsFetched F.FileSet self.now.db files.old files.new f.content) }
+        ensures no_fault { OnOk result (NoneFailed F.FileSet files.old files.new) }
+        ensures fault { IfErr result (NotFetched F.FileSet files.old files.new) }
         ensures held { F.held files.new ≡ F.held files.old }
     {
         if self.is_still_newest(alloc, files, answers) {
@@ -187,16 +169,10 @@ impl<F: FileSet + Drop, A: Answerer> SourceBook<F, A> {
         files: &mut F,
         answers: &A,
     ) -> Result<Fetched<A>, PollFault>
-        ensures named { IfOk result (λ f. IsNamed self.now.seen f) }
-        ensures told { IfOk result (λ f. AreAsTold self.now.db (F.latest files.new) f.content) }
-        ensures part { IfOk result (λ f. IsPartOf self.now.db (F.held files.old) f.content) }
-        ensures only { IfOk result (λ f. f.content ≡ part_of self.now.db f.content) }
-        ensures read { OnOk result (AllRose self.now.db (F.reads files.old) (F.reads files.new)) }
-        ensures calm { OnOk result (F.faults files.new ≡ F.faults files.old) }
-        ensures file_calm { OnOk result (F.file_faults files.new ≡ F.file_faults files.old) }
-        ensures faults { IfErr result (λ fault. FaultRose fault (F.faults files.old) (F.faults files.new) (F.file_faults files.old) (F.file_faults files.new)) }
-        ensures kept { NoneFell (F.file_faults files.old) (F.file_faults files.new) }
-        ensures length { IfErr result (λ fault. TellsLength fault (F.held files.old)) }
+        ensures fits { IfOk result (λ f. FitsBook self.now f) }
+        ensures fetched { IfOk result (λ f. IsFetched F.FileSet self.now.db files.old files.new f.content) }
+        ensures no_fault { OnOk result (NoneFailed F.FileSet files.old files.new) }
+        ensures fault { IfErr result (NotFetched F.FileSet files.old files.new) }
         ensures held { F.held files.new ≡ F.held files.old }
     {
         let content = read_files(alloc, files, self.db)?;
@@ -208,12 +184,9 @@ impl<F: FileSet + Drop, A: Answerer> SourceBook<F, A> {
 
     // Whether the files are found to be the newest content, by one read of each that keeps nothing.
     fn is_still_newest(&self, alloc: Global, files: &mut F, answers: &A) -> bool
-        ensures told { OnTrue result (AreAsTold self.now.db (F.latest files.new) self.now.newest) }
-        ensures part { OnTrue result (IsPartOf self.now.db (F.held files.old) self.now.newest) }
-        ensures read { OnTrue result (AllRose self.now.db (F.reads files.old) (F.reads files.new)) }
+        ensures fetched { OnTrue result (IsFetched F.FileSet self.now.db files.old files.new self.now.newest) }
         ensures kept { NoneFell (F.reads files.old) (F.reads files.new) }
-        ensures calm { F.faults files.new ≡ F.faults files.old }
-        ensures file_calm { F.file_faults files.new ≡ F.file_faults files.old }
+        ensures no_fault { NoneFailed F.FileSet files.old files.new }
         ensures held { F.held files.new ≡ F.held files.old }
     {
         are_still(alloc, files, self.db, answers.content(&self.ready))
@@ -230,8 +203,7 @@ impl<F: FileSet + Drop, A: Answerer> SourceBook<F, A> {
     // suffices for it.
     fn again(&self, alloc: Global, answers: &A) -> Result<Fetched<A>, NoMemory>
         ensures content { IfOk result (λ f. f.content ≡ self.now.newest) }
-        ensures named { IfOk result (λ f. IsNamed self.now.seen f) }
-        ensures only { IfOk result (λ f. f.content ≡ part_of self.now.db f.content) }
+        ensures fits { IfOk result (λ f. FitsBook self.now f) }
     {
         let ready = match answers.prepare_further(alloc, &self.ready) {
             Some(further) => Arc::new(alloc, further)?,
@@ -256,8 +228,7 @@ impl<F: FileSet + Drop, A: Answerer> SourceBook<F, A> {
         epoch: u64,
     ) -> Result<Polled<A>, Spent>
         requires table { writer.old.table ≡ self.old.table }
-        requires named { IsNamed self.old.seen fetched }
-        requires only { fetched.content ≡ part_of self.old.db fetched.content }
+        requires fits { FitsBook self.old fetched }
         requires epoch { epoch ≤ writer.old.cache.epoch }
         requires still { writer.old.slide ≡ None }
         ensures polls { PollsBook fetched epoch self.old self.new writer.old writer.new result }

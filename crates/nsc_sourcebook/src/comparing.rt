@@ -2,8 +2,8 @@
 ghost use Rattle.std.specs.Prelude.{◌≡◌};
 ghost use Rattle.std.specs.Bool.{OnTrue};
 ghost use Rattle.nsc_model.specs.Files.{part_of};
-ghost use Rattle.nsc_model.specs.Reads.{AllRose, AreAsTold, NoneFell};
-ghost use Rattle.nsc_sourcebook.specs.Reads.{IsPartOf};
+ghost use Rattle.nsc_model.specs.Reads.{NoneFell};
+ghost use Rattle.nsc_sourcebook.specs.Reads.{IsFetched, NoneFailed};
 
 use nsc_model::{Content, Db, FileId};
 use nsc_outside::FileSet;
@@ -11,15 +11,12 @@ use std::alloc::Global;
 
 /// Whether the files of a database are found to be those of a content, which has no others, by one read of each that keeps nothing.
 /// Where the answer is no, some of them may have been read.
-#[tactic(auto, using(crate::proofs::Each::none_read, crate::proofs::Each::all_rose, crate::proofs::Each::all_told))]
+#[tactic(auto, using(crate::proofs::Each::none_read))]
 pub fn are_still<F: FileSet>(alloc: Global, files: &mut F, db: Db, known: &Content) -> bool
     requires { known.now ≡ part_of db known.now }
-    ensures told { OnTrue result (AreAsTold db (F.latest files.new) known.now) }
-    ensures part { OnTrue result (IsPartOf db (F.held files.old) known.now) }
-    ensures read { OnTrue result (AllRose db (F.reads files.old) (F.reads files.new)) }
+    ensures fetched { OnTrue result (IsFetched F.FileSet db files.old files.new known.now) }
     ensures kept { NoneFell (F.reads files.old) (F.reads files.new) }
-    ensures calm { F.faults files.new ≡ F.faults files.old }
-    ensures file_calm { F.file_faults files.new ≡ F.file_faults files.old }
+    ensures no_fault { NoneFailed F.FileSet files.old files.new }
     ensures held { F.held files.new ≡ F.held files.old }
 {
     let ids: &[FileId] = &FileId::ALL;

@@ -1,8 +1,8 @@
 ghost use Rattle.std.specs.Prelude.{◌≡◌, true, IfOk, IfErr, OnOk};
 ghost use Rattle.nsc_model.specs.Files.{FileFits, file_of, is_read, part_of};
-ghost use Rattle.nsc_model.specs.Reads.{AllRose, AreAsTold, IsAsTold, NoneFell, Rose};
+ghost use Rattle.nsc_model.specs.Reads.{IsAsTold, Rose};
 ghost use Rattle.nsc_outside.specs.FileSets.{ChangesOnly, told_of};
-ghost use Rattle.nsc_sourcebook.specs.Reads.{FaultRose, IsPartOf, TellsLength};
+ghost use Rattle.nsc_sourcebook.specs.Reads.{IsFetched, NoneFailed, NotFetched};
 
 use crate::fault::PollFault;
 use nsc_base::Bytes;
@@ -10,18 +10,12 @@ use nsc_model::{Content, Db, FileId};
 use nsc_outside::FileSet;
 use std::alloc::Global;
 
-/// Reads the files of a database, in rising number. At a fault the counts of the file that is named rose, if it is one of a file.
-#[tactic(auto, using(crate::proofs::Each::none_read, crate::proofs::Each::all_rose, crate::proofs::Each::all_told))]
+/// Reads the files of a database, in rising number.
+#[tactic(auto, using(crate::proofs::Each::none_read))]
 pub fn read_files<F: FileSet>(alloc: Global, files: &mut F, db: Db) -> Result<Content, PollFault>
-    ensures told { IfOk result (λ c. AreAsTold db (F.latest files.new) c) }
-    ensures part { IfOk result (λ c. IsPartOf db (F.held files.old) c) }
-    ensures only { IfOk result (λ c. c ≡ part_of db c) }
-    ensures read { OnOk result (AllRose db (F.reads files.old) (F.reads files.new)) }
-    ensures calm { OnOk result (F.faults files.new ≡ F.faults files.old) }
-    ensures file_calm { OnOk result (F.file_faults files.new ≡ F.file_faults files.old) }
-    ensures faults { IfErr result (λ fault. FaultRose fault (F.faults files.old) (F.faults files.new) (F.file_faults files.old) (F.file_faults files.new)) }
-    ensures kept { NoneFell (F.file_faults files.old) (F.file_faults files.new) }
-    ensures length { IfErr result (λ fault. TellsLength fault (F.held files.old)) }
+    ensures fetched { IfOk result (λ c. IsFetched F.FileSet db files.old files.new c) }
+    ensures no_fault { OnOk result (NoneFailed F.FileSet files.old files.new) }
+    ensures fault { IfErr result (NotFetched F.FileSet files.old files.new) }
     ensures held { F.held files.new ≡ F.held files.old }
 {
     let mut content = Content::none();
@@ -47,7 +41,6 @@ fn put(content: &mut Content, db: Db, file: FileId, bytes: Option<Bytes>)
 }
 
 // Reads one file.
-#[tactic(auto, using(crate::proofs::Each::none_fell_but))]
 fn read_file<F: FileSet>(
     alloc: Global,
     files: &mut F,
@@ -59,11 +52,8 @@ fn read_file<F: FileSet>(
     ensures others_told { OnOk result (ChangesOnly file (F.latest files.old) (F.latest files.new)) }
     ensures read { OnOk result (Rose (F.reads files.old file) (F.reads files.new file)) }
     ensures others_read { OnOk result (ChangesOnly file (F.reads files.old) (F.reads files.new)) }
-    ensures calm { OnOk result (F.faults files.new ≡ F.faults files.old) }
-    ensures file_calm { OnOk result (F.file_faults files.new ≡ F.file_faults files.old) }
-    ensures faults { IfErr result (λ fault. FaultRose fault (F.faults files.old) (F.faults files.new) (F.file_faults files.old) (F.file_faults files.new)) }
-    ensures kept { NoneFell (F.file_faults files.old) (F.file_faults files.new) }
-    ensures length { IfErr result (λ fault. TellsLength fault (F.held files.old)) }
+    ensures no_fault { OnOk result (NoneFailed F.FileSet files.old files.new) }
+    ensures fault { IfErr result (NotFetched F.FileSet files.old files.new) }
     ensures held { F.held files.new ≡ F.held files.old }
 {
     match files.read(alloc, file) {

@@ -46,7 +46,7 @@ returns-in-Err-compact-clause-spent c =
     let last = ap (λ (x : Writer). x.cache.cycle) c.in-Err-compact.ensures.spent.2 ∙ c.in-Err-compact.ensures.spent.0 in
     let emptied = is_emptied c.args.writer.now c.invalidate.new.self c.in-Ok.epoch c.learn.ensures.told c.learn-in-Ok.ensures.told c.in-Ok.ensures.done.0 c.in-Ok.ensures.done.1 in
     let none = subst (λ (x : Writer). NoneLive x.seen) (sym c.in-Err-compact.ensures.spent.2) emptied.none in
-    (packed_unmoved w c.in-Err-compact.spent.count (rests.packed c.requires.packed) (omega arith) c.in-Err-compact.ensures.spent.1, inr none)
+    packed_unmoved w c.in-Err-compact.spent.count _ (rests.packed c.requires.packed) (omega arith) c.in-Err-compact.ensures.spent.1 none
 
 pub returns-in-Err-clause-rests : goal.returns-in-Err-clause-rests
 returns-in-Err-clause-rests c = rests_same c.args.writer.now c.invalidate.new.self c.in-Err.ensures.spent.2
@@ -55,4 +55,4 @@ pub returns-in-Err-clause-spent : goal.returns-in-Err-clause-spent
 returns-in-Err-clause-spent c =
     let s = c.in-Err.ensures.spent in
     let last = ap (λ (x : Writer). invalidations x.seen) s.2 ∙ c.learn.ensures.told.epochs_are ∙ s.0 in
-    (record { last = s.1; cause = inl (last ∙ sym s.1) }, inl last)
+    record { last = s.1; cause = inl (last ∙ sym s.1) }

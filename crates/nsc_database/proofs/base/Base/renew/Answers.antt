@@ -30,16 +30,16 @@ renew-renewed-requires-clause-due g c =
 pub renew-renewed-requires-clause-loads : goal.renew-renewed-requires-clause-loads
 renew-renewed-requires-clause-loads g c =
     let seen = c.show.ensures.seen ∙ sym (ap (λ (d : Desk). d.writer.seen) c.show.ensures.same) in
-    let made = anew_all c.args.self.now.settings c.args.now c.args.pass.now.pass.seen c.args.polled.now c.args.due.items c.requires.version c.requires.since in
+    let made = anew_all c.args.self.now.settings c.args.now c.args.pass.now.pass.seen c.args.polled.now c.args.due.items c.requires.polled.version c.requires.polled.since in
     let loads : c.deref-2.result.now ≡ map (anew_of c.args.self.now.settings c.args.polled.now c.args.now) c.args.due.items = c.deref-2.ensures.value ∙ c.in-Ok.ensures ∙ ap (map (anew_of c.args.self.now.settings c.args.polled.now c.args.now)) c.deref.ensures.value in
     subst (λ (x : List Record × List Due × List (Option Loaded)). AreAnew x.0 x.1 x.2) (λ i. (seen i, sym c.deref_mut.ensures.value i, sym loads i))
-    (anew_on c.args.pass.now.pass.seen c.show.new.pass.pass.seen c.args.due.items _ c.requires.legal c.show.ensures.frame.legal c.show.ensures.frame.before made)
+    (anew_on c.args.pass.now.pass.seen c.show.new.pass.pass.seen c.args.due.items _ c.learn.ensures.legal c.show.ensures.frame.legal c.show.ensures.frame.before made)
 
 pub renew-renewed-requires-clause-stamps : goal.renew-renewed-requires-clause-stamps
 renew-renewed-requires-clause-stamps g c =
     let made = stamps_all c.args.self.now.settings c.args.now c.args.polled.now c.args.due.items in
     let loads : c.deref-2.result.now ≡ map (anew_of c.args.self.now.settings c.args.polled.now c.args.now) c.args.due.items = c.deref-2.ensures.value ∙ c.in-Ok.ensures ∙ ap (map (anew_of c.args.self.now.settings c.args.polled.now c.args.now)) c.deref.ensures.value in
-    subst (λ (x : ℕ × List (Option Loaded)). HaveStamp x.0 x.1) (λ i. (c.requires.stamp i, sym loads i)) made
+    subst (λ (x : ℕ × List (Option Loaded)). HaveStamp x.0 x.1) (λ i. (c.requires.polled.epoch_is i, sym loads i)) made
 
 pub returns-in-Ok-renewed-clause-frame : goal.returns-in-Ok-renewed-clause-frame
 returns-in-Ok-renewed-clause-frame g c = held_through _ _ _ c.show.ensures.frame c.show-2.ensures.frame

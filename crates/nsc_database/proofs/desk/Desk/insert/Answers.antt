@@ -6,14 +6,14 @@ use Rattle.nsc_database.specs.Holds.{IsInserted}
 use Rattle.nsc_database.specs.Rests.{Desk}
 use Rattle.nsc_database.proofs.Rests.{rests_inserted, rests_missed, rests_through}
 use Rattle.nsc_database.proofs.Shown.{is_inserted}
-use Rattle.nsc_database.proofs.Standing.{stands_on}
+use Rattle.nsc_database.proofs.Standing.{at_rest_on}
 use Rattle.nsc_database.proofs.desk.Desk.insert.Goals as goal
 
 pub invariant_of-self : goal.invariant_of-self
 invariant_of-self g c =
     let w = c.self.inside.writer in
     let none = c.requires.new in
-    stands_on w c.insert.new.self (rests_through w c.miss.new.self c.insert.new.self (rests_missed (counted c.is_not_found.result w.misses) w c.miss.new.self c.miss.ensures) (rests_inserted c.insert.result.0 c.args.loaded c.miss.new.self c.insert.new.self c.insert.ensures.inserted (omega arith))) c.self.invariant
+    at_rest_on w c.insert.new.self (rests_through w c.miss.new.self c.insert.new.self (rests_missed (counted c.is_not_found.result w.misses) w c.miss.new.self c.miss.ensures) (rests_inserted c.insert.result.0 c.args.loaded c.miss.new.self c.insert.new.self c.insert.ensures.inserted (omega arith))) c.self.invariant
 
 pub returns-clause-inserted : goal.returns-clause-inserted
 returns-clause-inserted g c =

@@ -10,14 +10,14 @@ use Rattle.nsc_database.specs.declared.renewal.Checked.{Checked}
 use Rattle.nsc_database.specs.Rests.{Desk, Keeps}
 use Rattle.nsc_database.specs.Ticks.{AreListed, IsChecked}
 use Rattle.nsc_database.proofs.Listed.{are_listed}
-use Rattle.nsc_database.proofs.Standing.{stands_current}
+use Rattle.nsc_database.proofs.Standing.{at_rest_current}
 use Rattle.nsc_database.proofs.desk.Desk.list.Goals as goal
 use Rattle.nsc_database.proofs.desk.Desk.list.Goals.{in-Err, in-Ok}
 
 pub invariant_of-self : goal.invariant_of-self
 invariant_of-self g c =
     let current = subst (λ (d : Desk). is_outdated (settings_of g.B.Room.conf g.D.OfDb.db) d.writer.cache.newest_version d.ticked ≡ false) (sym c.self.view_is) c.requires.current in
-    stands_current c.version-newest.result c.self.inside.writer c.expired-listed.new.self c.expired-listed.ensures.same c.version-newest.ensures current c.self.invariant
+    at_rest_current c.version-newest.result c.self.inside.writer c.expired-listed.new.self c.expired-listed.ensures.same c.version-newest.ensures current c.self.invariant
 
 pub returns-clause-checked : goal.returns-clause-checked
 returns-clause-checked g c =

@@ -6,7 +6,7 @@ use Rattle.nsc_model.specs.History.{invalidations}
 use Rattle.nsc_database.specs.Holds.{IsPolled}
 use Rattle.nsc_database.specs.Rests.{Desk}
 use Rattle.nsc_database.proofs.Shown.{is_polled, is_spent, polls_on}
-use Rattle.nsc_database.proofs.Standing.{stands_polled}
+use Rattle.nsc_database.proofs.Standing.{at_rest_polled}
 use Rattle.nsc_database.proofs.desk.Desk.poll.Goals as goal
 
 pub poll-polled-requires-clause-epoch : goal.poll-polled-requires-clause-epoch
@@ -17,7 +17,7 @@ poll-polled-requires-clause-epoch g c =
     omega arith
 
 pub invariant_of-self : goal.invariant_of-self
-invariant_of-self g c = stands_polled c.args.fetched c.args.epoch _ _ c.self.inside.writer c.poll-polled.new.writer c.poll-polled.result c.poll-polled.ensures.polls c.requires.part c.self.invariant
+invariant_of-self g c = at_rest_polled c.args.fetched c.args.epoch _ _ c.self.inside.writer c.poll-polled.new.writer c.poll-polled.result c.poll-polled.ensures.polls c.requires.part c.self.invariant
 
 pub invariant_of-self-inside : goal.invariant_of-self-inside
 invariant_of-self-inside g c =

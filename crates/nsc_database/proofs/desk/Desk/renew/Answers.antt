@@ -6,7 +6,7 @@ use Rattle.nsc_writer.proofs.Later.{end_on}
 use Rattle.nsc_database.specs.Rests.{Desk}
 use Rattle.nsc_database.specs.Ticks.{AreAnew, AwaitsLoads, IsDue}
 use Rattle.nsc_database.proofs.Invalidations.{packed_unmoved}
-use Rattle.nsc_database.proofs.Renewed.{all_over, awaits_swept, stands_swept, swept_leaves, swept_spent}
+use Rattle.nsc_database.proofs.Renewed.{all_over, awaits_swept, at_rest_swept, swept_leaves, swept_spent}
 use Rattle.nsc_database.proofs.Rests.{rests_same}
 use Rattle.nsc_database.proofs.desk.Desk.renew.Goals as goal
 
@@ -40,7 +40,7 @@ invariant_of-self g c =
     let inv = c.self.invariant in
     let due = subst (λ (d : Desk). All (IsDue g.B.Room.conf.reloads c.args.now d.writer.seen) c.args.due.now) (sym c.self.view_is) c.requires.due in
     let s = swept_leaves _ _ c.args.now _ c.args.due.now w c.end_due.new.writer due c.learn.ensures.told inv.0 inv.1 c.in-Ok.ensures.swept in
-    stands_swept w c.end_due.new.writer c.reload.new.writer s c.reload.ensures.rests c.reload.ensures.again inv
+    at_rest_swept w c.end_due.new.writer c.reload.new.writer s c.reload.ensures.rests c.reload.ensures.again inv
 
 pub invariant_of-self-in-Err : goal.invariant_of-self-in-Err
 invariant_of-self-in-Err g c =
@@ -51,7 +51,7 @@ invariant_of-self-in-Err g c =
     let s = swept_spent _ _ c.args.now _ c.args.due.now w w' due c.learn.ensures.told inv.0 inv.1 c.in-Err.ensures.spent.2 c.in-Err.ensures.spent.1 in
     let low = s.packed.cycles in
     let high = c.in-Err.ensures.spent.1 in
-    stands_swept w w' w' s (rests_same w' w' refl) (inr (omega arith)) inv
+    at_rest_swept w w' w' s (rests_same w' w' refl) (inr (omega arith)) inv
 
 pub invariant_of-self-inside : goal.invariant_of-self-inside
 invariant_of-self-inside g c =
@@ -80,11 +80,4 @@ returns-in-Err-clause-spent g c =
     let inv = c.self.invariant in
     let due = subst (λ (d : Desk). All (IsDue g.B.Room.conf.reloads c.args.now d.writer.seen) c.args.due.now) (sym c.self.view_is) c.requires.due in
     let s = swept_spent _ _ c.args.now _ c.args.due.now c.self.inside.writer c.end_due.new.writer due c.learn.ensures.told inv.0 inv.1 c.in-Err.ensures.spent.2 c.in-Err.ensures.spent.1 in
-    packed_unmoved c.end_due.new.writer c.in-Err.spent.count s.packed c.in-Err.ensures.spent.1 c.in-Err.ensures.spent.0
-
-pub returns-in-Err-clause-over : goal.returns-in-Err-clause-over
-returns-in-Err-clause-over g c =
-    let inv = c.self.invariant in
-    let due = subst (λ (d : Desk). All (IsDue g.B.Room.conf.reloads c.args.now d.writer.seen) c.args.due.now) (sym c.self.view_is) c.requires.due in
-    let s = swept_spent _ _ c.args.now _ c.args.due.now c.self.inside.writer c.end_due.new.writer due c.learn.ensures.told inv.0 inv.1 c.in-Err.ensures.spent.2 c.in-Err.ensures.spent.1 in
-    inr s.gone
+    packed_unmoved c.end_due.new.writer c.in-Err.spent.count _ s.packed c.in-Err.ensures.spent.1 c.in-Err.ensures.spent.0 (inr s.gone)

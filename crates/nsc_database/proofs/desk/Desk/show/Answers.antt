@@ -4,12 +4,12 @@ use Rattle.nsc_model.specs.declared.record.Record.{Record}
 use Rattle.nsc_model.specs.Stores.{LoadsAgain}
 use Rattle.nsc_rule.specs.Pass.{Pass}
 use Rattle.nsc_database.specs.Steady.{HasOne}
-use Rattle.nsc_database.proofs.Standing.{stands_same}
+use Rattle.nsc_database.proofs.Standing.{at_rest_same}
 use Rattle.nsc_database.proofs.Steady.{one_of_still}
 use Rattle.nsc_database.proofs.desk.Desk.show.Goals as goal
 
 pub invariant_of-self : goal.invariant_of-self
-invariant_of-self g c = stands_same c.self.inside.writer c.show.new.self c.show.ensures.same c.self.invariant
+invariant_of-self g c = at_rest_same c.self.inside.writer c.show.new.self c.show.ensures.same c.self.invariant
 
 pub invariant_of-pass-clause-steady : goal.invariant_of-pass-clause-steady
 invariant_of-pass-clause-steady g c files e =

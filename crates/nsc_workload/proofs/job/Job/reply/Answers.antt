@@ -11,5 +11,5 @@ returns-in-Ok-clause-reply g c =
     let job = c.args.self.now in
     let asked = c.in_ok-asked.asked in
     let request : Request = record { kind = asked.kind; key = c.as_slice-key.result.now } in
-    let told = subst (λ (held : Option Content). IsOfHeld held job.database.now.db request (reply_of c.in-Ok.given)) job.held c.in-Ok.ensures.held in
+    let told = subst (λ (held : Option Content). IsOfHeld held job.database.now.db request (reply_of c.in-Ok.given)) job.held c.in-Ok.ensures.files.of_held in
     c.bytes_of.ensures ∙ held_reply job.number c.args.place job.database.now.db request (reply_of c.in-Ok.given) job.users (ap (λ key. record asked { key = key }) c.as_slice-key.ensures ∙ c.in_ok-asked.ensures.request) told
