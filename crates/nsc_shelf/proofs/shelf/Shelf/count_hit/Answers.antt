@@ -14,7 +14,7 @@ invariant_of-self c =
       | then-not_found w ↦ w.at-is ∙ ap (λ (b : Bool). cond b 6 5) (sym w.if-not_found.true)
       | else-not_found w ↦ w.at-is ∙ ap (λ (b : Bool). cond b 6 5) (sym w.if-not_found.false)
     ] in
-    let count = c.next_count.ensures ∙ ap (λ (n : ℕ). min (n + 1) last_count) c.word-count.ensures in
+    let count = c.next_count.ensures ∙ ap (λ (n : ℕ). min (n + 1) last_count) c.head-count.ensures in
     let is = hit_counts s.words c.set.new.self s.map s.live s.mark c.args.not_found c.if-not_found.at c.next_count.result at count c.set.ensures.set (still c.self.view_is c.requires c.self.invariant) in
     still_held c.self.view_is c.requires c.self.invariant is.cycle is.shelf (subst (AreHints s.hints.items s.map) is.nodes)
 
@@ -25,6 +25,6 @@ returns c =
       | then-not_found w ↦ w.at-is ∙ ap (λ (b : Bool). cond b 6 5) (sym w.if-not_found.true)
       | else-not_found w ↦ w.at-is ∙ ap (λ (b : Bool). cond b 6 5) (sym w.if-not_found.false)
     ] in
-    let count = c.next_count.ensures ∙ ap (λ (n : ℕ). min (n + 1) last_count) c.word-count.ensures in
+    let count = c.next_count.ensures ∙ ap (λ (n : ℕ). min (n + 1) last_count) c.head-count.ensures in
     let is = hit_counts s.words c.set.new.self s.map s.live s.mark c.args.not_found c.if-not_found.at c.next_count.result at count c.set.ensures.set (still c.self.view_is c.requires c.self.invariant) in
     still_seen s.slide s.words s.map c.set.new.self c.self.view_is c.requires (is.view ∙ ap (λ (v : Shelf). record v { head = hit_counted c.args.not_found v.head }) (still_view s.slide s.words s.map c.self.view_is c.requires))
