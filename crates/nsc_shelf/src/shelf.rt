@@ -173,11 +173,10 @@ impl Shelf {
             not_found: answer.is_not_found(),
         };
         if let Some(at) = place_bytes(&mut self.words, self.map, fixed, key, answer.bytes()) {
-            chain(&mut self.words, self.map, at);
+            let hash = chain(&mut self.words, self.map, at);
             self.words.set(LOADS, number + 1);
             self.live += 1;
-            let hash = hash(fixed.kind, key);
-            note(&mut self.words, self.map, &mut self.hints, hash, at);
+            note(self.map, &mut self.hints, hash, at);
         }
     }
 
