@@ -1,16 +1,16 @@
 -- Hints of nodes, as these are changed, and what they tell.
-use Rattle.std.proofs.Common.{◌≡◌, ◌≢◌, ℕ, ◌+◌, ◌<◌, ◌≤◌, ◌⊎◌, inl, inr, ⊎_elim, Bool, true, false, cond, List, [], ◌∷◌, length, map, find, replicate, slice_index, Some, None, refl, sym, ap, subst, ◌∙◌, arith}
-use Rattle.std.proofs.lemmas.Bool.{cases_eq, cases_lt}
+use Rattle.std.proofs.Common.{◌≡◌, ℕ, ◌<◌, ◌≤◌, ◌⊎◌, inl, inr, ⊎_elim, Bool, true, false, cond, List, [], ◌∷◌, length, map, find, replicate, slice_index, Some, None, refl, sym, ap, subst, ◌∙◌, arith}
+use Rattle.std.proofs.lemmas.Bool.{cases_lt}
 use Rattle.std.proofs.lemmas.List.{get_or-replicate, get_or_past, length-replicate}
 use Rattle.nsc_words.specs.declared.layout.Layout.{Layout}
 use Rattle.nsc_words.specs.declared.node.Placed.{Placed}
 use Rattle.nsc_words.specs.Laid.{Among, Laid, Rising, answers, newest_for, place_of}
-use Rattle.nsc_words.specs.Layout.{IsLayout, arena_start, table_words}
+use Rattle.nsc_words.specs.Layout.{arena_start, table_words}
 use Rattle.nsc_arena.specs.Changes.{IsNodeAt, changed_at}
 use Rattle.nsc_arena.specs.ReadBack.{nodes_in}
 use Rattle.nsc_arena.proofs.ReadBack.{read_back}
 use Rattle.nsc_arena.proofs.Changed.{IsChange, change_at, into_map}
-use Rattle.nsc_arena.proofs.Rows.{inside, node_at, within}
+use Rattle.nsc_arena.proofs.Rows.{node_at, within}
 use Rattle.nsc_model.specs.declared.kind.Kind.{Kind}
 use Rattle.nsc_model.specs.declared.answer.Request.{Request}
 use Rattle.nsc_model.specs.Kinds.{is_request, type_number}

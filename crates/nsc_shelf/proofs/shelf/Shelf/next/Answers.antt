@@ -1,4 +1,4 @@
-use Rattle.std.proofs.Common.{◌≡◌, ◌+◌, Option, Some, None, refl, ap, subst, ◌∙◌, arith}
+use Rattle.std.proofs.Common.{◌+◌, Option, Some, None, refl, ap, subst, ◌∙◌, arith}
 use Rattle.nsc_arena.specs.ReadBack.{nodes_in}
 use Rattle.nsc_arena.specs.declared.reading.Head.{Head}
 use Rattle.nsc_model.specs.Machine.{Kept}

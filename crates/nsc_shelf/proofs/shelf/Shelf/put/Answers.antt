@@ -1,6 +1,5 @@
 use Rattle.std.proofs.Common.{◌≡◌, ◌≢◌, ℕ, ◌+◌, ◌-◌, ◌<◌, inl, List, [], ◌∷◌, ◌++◌, length, slice_index, None, refl, sym, ap, subst, ◌∙◌, arith, get_or-set_same, get_or-set_other}
 use Rattle.std.proofs.lemmas.List.{length-append, with_items_is}
-use Rattle.std.specs.Vec.{with_items}
 use Rattle.nsc_base.specs.Nodes.{node_words}
 use Rattle.nsc_words.specs.declared.layout.Layout.{Layout}
 use Rattle.nsc_words.specs.declared.node.Placed.{Placed}
@@ -13,7 +12,7 @@ use Rattle.nsc_model.specs.declared.answer.Request.{Request}
 use Rattle.nsc_model.specs.Machine.{Kept, last_count, live_entry}
 use Rattle.nsc_rule.specs.Entries.{entries_in, kept_in, kind_of, request_in}
 use Rattle.nsc_shelf.specs.Hints.{AreHints}
-use Rattle.nsc_shelf.specs.Shelf.{IsShelf, Shelf, fresh_entry, head_in, shelf_of}
+use Rattle.nsc_shelf.specs.Shelf.{Shelf, fresh_entry, head_in, shelf_of}
 use Rattle.nsc_shelf.proofs.Entries.{few_entries, one_more}
 use Rattle.nsc_shelf.proofs.Hinted.{hints_by, hints_more, hints_noted}
 use Rattle.nsc_shelf.proofs.States.{head_same, kind_back, marked_more, new_entries, next_after, shelf_by, view_by}
