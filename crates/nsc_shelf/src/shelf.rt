@@ -1,4 +1,4 @@
-ghost use Rattle.std.specs.Prelude.{◌≡◌, ◌↔◌, ◌≤◌, ◌<◌, ◌+◌, ◌%◌, ◌^◌, ◌++◌, [], ◌∷◌, None, length, min, IfOk, IfNone, IfSome};
+ghost use Rattle.std.specs.Prelude.{◌≡◌, ◌↔◌, ◌≤◌, ◌<◌, ◌+◌, ◌%◌, ◌++◌, [], ◌∷◌, None, length, min, IfOk, IfNone, IfSome};
 ghost use Rattle.nsc_words.specs.Layout.{IsLayout};
 ghost use Rattle.nsc_base.specs.Nodes.{node_words};
 ghost use Rattle.nsc_model.specs.Entry.{key_limit, kept_limit};

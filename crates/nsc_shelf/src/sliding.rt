@@ -1,5 +1,5 @@
 // The slide of the entries: whoever moves them reads and writes the words of the table one by one.
-ghost use Rattle.std.specs.Prelude.{◌≡◌, ◌≢◌, ◌≤◌, ◌<◌, ◌+◌, ◌⊎◌, None, Some, length, slice_index, slice_set, IfOk, IfErr};
+ghost use Rattle.std.specs.Prelude.{◌≡◌, ◌≤◌, ◌<◌, ◌+◌, ◌⊎◌, None, Some, length, slice_index, slice_set, IfOk, IfErr};
 ghost use Rattle.nsc_model.specs.Machine.{all_words, last_count};
 ghost use Rattle.nsc_shelf.specs.Shelf.{IsBegun, IsSlid, slide_words};
 

@@ -1,10 +1,9 @@
-ghost use Rattle.std.specs.Prelude.{◌≡◌, true, ◌≤◌, ◌<◌, ◌+◌, ◌*◌, ◌/◌, ◌==◌, ◌^◌, [], ◌∷◌, None, length, slice_get, IfNone, IfSome, IfOk};
-ghost use Rattle.std.specs.Bool.{OnTrue};
+ghost use Rattle.std.specs.Prelude.{◌≡◌, true, ◌≤◌, ◌<◌, ◌*◌, ◌/◌, ◌==◌, [], ◌∷◌, None, length, IfNone, IfSome, IfOk};
 ghost use Rattle.std.specs.Arc.{arc_value};
 ghost use Rattle.nsc_model.specs.declared.record.Record.TheVariants as record_of;
-ghost use Rattle.nsc_model.specs.Entry.{Entry, key_limit, kept_limit};
-ghost use Rattle.nsc_model.specs.History.{Allows, IsLive, IsPrefix};
-ghost use Rattle.nsc_model.specs.Machine.{emptied, last_count, live_entry, new_cache, polled, used_now};
+ghost use Rattle.nsc_model.specs.Entry.{key_limit, kept_limit};
+ghost use Rattle.nsc_model.specs.History.{IsPrefix};
+ghost use Rattle.nsc_model.specs.Machine.{last_count, live_entry, new_cache, used_now};
 ghost use Rattle.nsc_laws.specs.Calls.{Tells};
 ghost use Rattle.nsc_writer.specs.Uses.{counted};
 ghost use Rattle.nsc_words.specs.Layout.{IsLayout};

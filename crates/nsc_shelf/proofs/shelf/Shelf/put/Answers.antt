@@ -18,7 +18,7 @@ use Rattle.nsc_shelf.proofs.Hinted.{hints_by, hints_more, hints_noted}
 use Rattle.nsc_shelf.proofs.States.{head_same, kind_back, marked_more, new_entries, next_after, shelf_by, view_by}
 use Rattle.nsc_shelf.proofs.Still.{still, still_held, still_hinted, still_seen, still_view}
 use Rattle.nsc_shelf.proofs.shelf.Shelf.put.Goals as goal
-use Rattle.nsc_shelf.proofs.shelf.Shelf.put.Goals.{In-Some, After-chain-hash, After-set}
+use Rattle.nsc_shelf.proofs.shelf.Shelf.put.Goals.{In-Some, After-set}
 
 -- the new node
 abbrev node : In-Some → Placed
