@@ -49,7 +49,7 @@ with_reloads count p = record p { node = record p.node { reloads = count } }
 
 -- what is read of a node but for its key and its reply
 abbrev pub head_of : Placed → Head
-head_of p = record { number = p.node.number; kind = p.node.kind; key_len = length p.node.key; reply_len = length p.node.reply; not_found = p.node.not_found; version = p.node.version; timeout = p.node.timeout; reloads = p.node.reloads; usable = p.usable }
+head_of p = record { number = p.node.number; kind = p.node.kind; key_len = length p.node.key; reply_len = length p.node.reply; not_found = p.node.not_found; version = p.node.version; timeout = p.node.timeout; reloads = p.node.reloads }
 
 -- a node stands at a place, within the words
 pub record IsNodeAt (words : List ℕ) (at : ℕ) (p : Placed) : Type 0 where

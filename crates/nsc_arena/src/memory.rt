@@ -57,14 +57,6 @@ impl VecWords {
             words: vec![in alloc; 0; len]?,
         })
     }
-
-    /// The word at a place.
-    pub fn word(&self, at: usize) -> u64
-        requires { at < length self.now }
-        ensures { result ≡ slice_index self.now at }
-    {
-        self.words[at]
-    }
 }
 
 impl Words for VecWords {

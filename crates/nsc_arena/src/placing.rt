@@ -8,7 +8,7 @@ ghost use Rattle.nsc_arena.specs.Written.{IsSameBelow, MaySet, MaySetFree};
 
 use crate::memory::Words;
 use crate::writing::{put_bytes, put_words};
-use nsc_words::{FIRST_FREE, KEY, Layout, Node, node_words, shape, size_word};
+use nsc_words::{FIRST_FREE, KEY, Layout, node_words, shape, size_word};
 
 /// What is written of a node, but for its key and its reply.
 #[derive(Clone, Copy, Debug, PartialEq, Eq)]
@@ -29,35 +29,6 @@ pub struct Fixed {
 
 /// Writes a node behind the others, and gives its place; `None` exactly where it does not fit, and then nothing changed. The node is
 /// usable, but no chain leads to it yet. Its kind is below 256; its key has at most 1,024 bytes, and its reply at most 65,536.
-pub fn place<W: Words>(table: &mut W, map: Layout, node: &Node) -> Option<usize>
-    requires layout { IsLayout map }
-    requires kind { node.now.kind < 256 }
-    requires key { length node.now.key ≤ 1024 }
-    requires reply { length node.now.reply ≤ 65536 }
-    requires open { MaySetFree map (W.words table.old) (W.can_set (W.rest table.old)) }
-    requires laid { (nodes : List Placed) × Laid (W.words table.old) map nodes }
-    ensures placed { IsPlaced map node.now (W.words table.old) (W.words table.new) result }
-    ensures laid { (nodes : List Placed) → Laid (W.words table.old) map nodes → Laid (W.words table.new) map nodes }
-    ensures rest { W.rest table.new ≡ W.rest table.old }
-{
-    let fixed = Fixed {
-        number: node.number,
-        kind: node.kind,
-        version: node.version,
-        timeout: node.timeout,
-        reloads: node.reloads,
-        not_found: node.not_found,
-    };
-    place_bytes(
-        table,
-        map,
-        fixed,
-        node.key.as_slice(),
-        node.reply.as_slice(),
-    )
-}
-
-/// The same with a key and a reply that are lent.
 pub fn place_bytes<W: Words>(
     table: &mut W,
     map: Layout,

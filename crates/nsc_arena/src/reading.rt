@@ -11,7 +11,7 @@ ghost use Rattle.nsc_arena.specs.ReadBack.{byte_in};
 use crate::memory::Words;
 use nsc_base::Buf;
 use nsc_words::{
-    KEY, NUMBER, RELOADS, SHAPE, SIZE, STATE, TIMEOUT, VERSION, hash_kind, hash_word, node_words,
+    KEY, NUMBER, RELOADS, SHAPE, SIZE, TIMEOUT, VERSION, hash_kind, hash_word, node_words,
     shape_kind, shape_len, size_len, size_not_found, word_of,
 };
 
@@ -39,8 +39,6 @@ pub struct Head {
     pub timeout: u64,
     /// How often it was reloaded without a use.
     pub reloads: u64,
-    /// Whether it is usable, and did not end.
-    pub usable: bool,
 }
 
 /// What is read of the node at a place, but for its key and its reply.
@@ -62,7 +60,6 @@ pub fn head_at<W: Words>(table: &mut W, at: usize) -> Head
         version: table.get(at + VERSION),
         timeout: table.get(at + TIMEOUT),
         reloads: table.get(at + RELOADS),
-        usable: table.get(at + STATE) == 1,
     }
 }
 

@@ -4,20 +4,19 @@ use Rattle.std.proofs.lemmas.Bool.{cases_eq, leb-true, le-leb, lt-leb, ne_eqb}
 use Rattle.nsc_words.specs.declared.layout.Layout.{Layout}
 use Rattle.nsc_words.specs.declared.node.Placed.{Placed}
 use Rattle.nsc_words.specs.Laid.{Among, Laid, Rising}
-use Rattle.nsc_arena.specs.Changes.{IsFirst, IsMark, IsNodeAt}
+use Rattle.nsc_arena.specs.Changes.{IsFirst, IsMark}
 use Rattle.nsc_arena.specs.ReadBack.{nodes_in}
 use Rattle.nsc_arena.specs.declared.reading.Head.{Head}
 use Rattle.nsc_arena.proofs.Passed.{mark_at}
-use Rattle.nsc_arena.proofs.Rows.{node_at}
 use Rattle.nsc_shelf.specs.declared.finding.Found.{Found}
 use Rattle.nsc_shelf.specs.declared.finding.Mark.{Mark}
-use Rattle.nsc_shelf.specs.Finding.{IsFound}
+use Rattle.nsc_shelf.specs.Finding.{IsOldest}
 use Rattle.nsc_rule.specs.Entries.{entries_in, kept_in}
 use Rattle.nsc_shelf.specs.Shelf.{IsShelf, entry_from, has_number}
 use Rattle.nsc_shelf.proofs.Entries.{find_none, find_one, number_among, number_missing}
 
 -- the oldest entry of at least a number
-pub found_entry : (number : ℕ) (nodes : List Placed) (f : Found) (w : IsFound number nodes (Some f)) → Rising nodes → entry_from number (entries_in nodes) ≡ Some (kept_in w.0)
+pub found_entry : (number : ℕ) (nodes : List Placed) (f : Found) (w : IsOldest number nodes (Some f)) → Rising nodes → entry_from number (entries_in nodes) ≡ Some (kept_in w.0)
 found_entry number nodes f w rising =
     find_one (λ k. leb number k.entry.number) nodes w.0 rising w.1 w.3 (le-leb number w.0.node.number w.4) (λ q m u t. w.5 q m u (leb-true number q.node.number t))
 
@@ -25,7 +24,7 @@ pub found_none : (number : ℕ) (nodes : List Placed) → IsFirst number nodes N
 found_none number nodes none = find_none (λ k. leb number k.entry.number) nodes (λ q m u. lt-leb number q.node.number (none q m u))
 
 -- whether an entry has a number
-pub has_by : (number : ℕ) (nodes : List Placed) (f : Found) → IsFound number nodes (Some f) → eqb f.head.number number ≡ has_number number (entries_in nodes)
+pub has_by : (number : ℕ) (nodes : List Placed) (f : Found) → IsOldest number nodes (Some f) → eqb f.head.number number ≡ has_number number (entries_in nodes)
 has_by number nodes f w =
     let is : f.head.number ≡ w.0.node.number = ap (λ (h : Head). h.number) w.6 in
     let least : number ≤ w.0.node.number = w.4 in
@@ -37,13 +36,9 @@ has_by number nodes f w =
 pub has_none : (number : ℕ) (nodes : List Placed) → IsFirst number nodes None → has_number number (entries_in nodes) ≡ false
 has_none number nodes none = number_missing number nodes (λ q m u same. let less = none q m u in absurd (omega arith))
 
--- the same words with another mark
-pub remarked : (words words' : List ℕ) (map : Layout) (count : ℕ) (mark mark' : Mark) → words' ≡ words → IsShelf words map count mark → IsMark map (nodes_in words map) mark'.place mark'.number → IsShelf words' map count mark'
-remarked words words' map count mark mark' same is marked = subst (λ (ws : List ℕ). IsShelf ws map count mark') (sym same) (record { sizes = is.sizes; laid = is.laid; entries = is.entries; counted = is.counted; live = is.live; marked = marked })
-
--- the same by what a search says of its mark
-pub remarked_by : (words words' : List ℕ) (map : Layout) (count : ℕ) (mark mark' : Mark) → words' ≡ words → IsShelf words map count mark → ((nodes : List Placed) → Laid words map nodes → IsMark map nodes mark.place mark.number → IsMark map nodes mark'.place mark'.number) → IsShelf words' map count mark'
-remarked_by words words' map count mark mark' same is marks = remarked words words' map count mark mark' same is (marks (nodes_in words map) is.laid is.marked)
+-- the same words with another mark, by what a search says of it
+pub remarked : (words words' : List ℕ) (map : Layout) (count : ℕ) (mark mark' : Mark) → words' ≡ words → IsShelf words map count mark → ((nodes : List Placed) → Laid words map nodes → IsMark map nodes mark.place mark.number → IsMark map nodes mark'.place mark'.number) → IsShelf words' map count mark'
+remarked words words' map count mark mark' same is marks = subst (λ (ws : List ℕ). IsShelf ws map count mark') (sym same) (record { sizes = is.sizes; laid = is.laid; entries = is.entries; counted = is.counted; live = is.live; marked = marks (nodes_in words map) is.laid is.marked })
 
 -- a mark of a lower number
 pub marked_above : (map : Layout) (nodes : List Placed) (from low high : ℕ) → low ≤ high → IsMark map nodes from low → IsMark map nodes from high
@@ -52,7 +47,3 @@ marked_above map nodes from low high more mark = record { newer = mark.newer; ol
 -- the place of a node is one of its number
 pub marked_found : (words : List ℕ) (map : Layout) (nodes : List Placed) (at number : ℕ) (p : Placed) → Laid words map nodes → Among p nodes → p.place ≡ at → number ≡ p.node.number → IsMark map nodes at number
 marked_found words map nodes at number p laid among place is = subst (λ (x : ℕ × ℕ). IsMark map nodes x.0 x.1) (λ i. (place i, sym is i)) (mark_at map nodes p laid.row laid.rising among)
-
--- the node that was found, in words that are the same
-pub found_at : (old words : List ℕ) (map : Layout) (count : ℕ) (mark : Mark) (number : ℕ) (f : Found) (w : IsFound number (nodes_in old map) (Some f)) → words ≡ old → IsShelf old map count mark → IsNodeAt words f.at w.0
-found_at old words map count mark number f w same is = subst (λ (ws : List ℕ). IsNodeAt ws f.at w.0) (sym same) (node_at old map (nodes_in old map) w.0 f.at is.sizes is.laid w.1 w.2)

@@ -1,16 +1,16 @@
 -- Hints of nodes, as these are changed, and what they tell.
-use Rattle.std.proofs.Common.{◌≡◌, ◌≢◌, ℕ, ◌+◌, ◌<◌, ◌≤◌, ◌⊎◌, inl, inr, ⊎_elim, Bool, true, false, cond, List, [], ◌∷◌, length, map, find, replicate, slice_index, Some, None, refl, sym, ap, subst, ◌∙◌, arith}
-use Rattle.std.proofs.lemmas.Bool.{cases_eq, cases_lt}
+use Rattle.std.proofs.Common.{◌≡◌, ℕ, ◌<◌, ◌≤◌, ◌⊎◌, inl, inr, ⊎_elim, Bool, true, false, cond, List, [], ◌∷◌, length, map, find, replicate, slice_index, Some, None, refl, sym, ap, subst, ◌∙◌, arith}
+use Rattle.std.proofs.lemmas.Bool.{cases_lt}
 use Rattle.std.proofs.lemmas.List.{get_or-replicate, get_or_past, length-replicate}
 use Rattle.nsc_words.specs.declared.layout.Layout.{Layout}
 use Rattle.nsc_words.specs.declared.node.Placed.{Placed}
 use Rattle.nsc_words.specs.Laid.{Among, Laid, Rising, answers, newest_for, place_of}
-use Rattle.nsc_words.specs.Layout.{IsLayout}
+use Rattle.nsc_words.specs.Layout.{arena_start, table_words}
 use Rattle.nsc_arena.specs.Changes.{IsNodeAt, changed_at}
 use Rattle.nsc_arena.specs.ReadBack.{nodes_in}
 use Rattle.nsc_arena.proofs.ReadBack.{read_back}
 use Rattle.nsc_arena.proofs.Changed.{IsChange, change_at, into_map}
-use Rattle.nsc_arena.proofs.Rows.{inside, node_at}
+use Rattle.nsc_arena.proofs.Rows.{node_at, within}
 use Rattle.nsc_model.specs.declared.kind.Kind.{Kind}
 use Rattle.nsc_model.specs.declared.answer.Request.{Request}
 use Rattle.nsc_model.specs.Kinds.{is_request, type_number}
@@ -72,13 +72,6 @@ hints_noted old new layout nodes p place are among is size each = record {
 
 -- ---- what hints tell
 
--- their places lie within the words
-pub hints_inside : (words : List ℕ) (layout : Layout) (hints : List ℕ) (nodes : List Placed) → IsLayout layout → Laid words layout nodes → AreHints hints layout nodes → (i : ℕ) → told_place layout (slice_index hints i) + 8 ≤ length words
-hints_inside words layout hints nodes sizes laid are i = ⊎_elim
-    (λ (none : slice_index hints i ≡ 0). let table = laid.table in let room = sizes.some_room in omega arith)
-    (λ (told : slice_index hints i ≢ 0). let w = are.places i told in let here = inside words layout nodes w.0 sizes laid w.1 in let fits = here.1 in let place = w.2 in omega arith)
-    (cases_eq (slice_index hints i) 0)
-
 -- the first of nodes that pass a test is the one that does
 pub only_place : (test : Placed → Bool) (nodes : List Placed) (p : Placed) → Among p nodes → test p ≡ true → ((q : Placed) → Among q nodes → test q ≡ true → q ≡ p) → place_of (find test nodes) ≡ Some p.place
 only_place test [] p among passes alone = absurd among
@@ -99,6 +92,23 @@ alone_in nodes inserted kind key are rising p q a b u v =
     same_number nodes p q rising a b (are.apart p q a b one two (same_asked r p q asks_p asks_q))
 
 -- ---- what a lookup found
+
+-- the node that a walk leads to
+pub record Walked (words : List ℕ) (layout : Layout) (kind : ℕ) (key : List ℕ) (at : ℕ) : Type 0 where
+  pub newest : Some at ≡ place_of (newest_for kind key (nodes_in words layout))
+  pub node : Placed
+  pub among : Among node (nodes_in words layout)
+  pub place : node.place ≡ at
+  pub from : arena_start layout ≤ at
+  pub to : at < table_words layout
+
+pub walked : {words words' : List ℕ} {layout : Layout} (kind : ℕ) (key : List ℕ) (at : ℕ) → Laid words layout (nodes_in words layout) → words' ≡ words → ((nodes : List Placed) → Laid words' layout nodes → Some at ≡ place_of (newest_for kind key nodes)) → Walked words layout kind key at
+walked {words} {words'} {layout} kind key at laid same found =
+    let nodes : List Placed = nodes_in words layout in
+    let newest = found nodes (subst (λ (ws : List ℕ). Laid ws layout nodes) (sym same) laid) in
+    let n = found_place (answers kind key) nodes at (sym newest) in
+    let here = within (arena_start layout) nodes n.0 laid.row n.1 in
+    record { newest = newest; node = n.0; among = n.1; place = n.2; from = omega (arith, here.0, n.2); to = omega (arith, here.1, laid.room, n.2) }
 
 -- a usable node that answers a request
 pub record Answering (words : List ℕ) (layout : Layout) (kind : Kind) (key : List ℕ) (at : ℕ) : Type 0 where

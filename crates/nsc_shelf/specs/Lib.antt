@@ -1,3 +1,4 @@
 pub mod Shelf
 pub mod Finding
 pub mod Hints
+pub mod Heads

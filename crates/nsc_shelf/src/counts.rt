@@ -30,7 +30,7 @@ impl Shelf {
         ensures { self.new ≡ record self.old { head = hit_counted not_found self.old.head } }
     {
         let at = if not_found { NEGATIVE_HITS } else { HITS };
-        let count = self.words.word(at);
+        let count = self.words.head(at);
         self.words.set(at, next_count(count));
     }
 
@@ -40,7 +40,7 @@ impl Shelf {
         ensures { self.new ≡ record self.old { head = miss_counted not_found self.old.head } }
     {
         let at = if not_found { NEGATIVE_MISSES } else { MISSES };
-        let count = self.words.word(at);
+        let count = self.words.head(at);
         self.words.set(at, next_count(count));
     }
 
@@ -48,27 +48,27 @@ impl Shelf {
     pub fn hits(&self) -> u64
         ensures { result ≡ self.now.head.hits }
     {
-        self.words.word(HITS)
+        self.words.head(HITS)
     }
 
     /// How many lookups there were of a kept not-found reply.
     pub fn negative_hits(&self) -> u64
         ensures { result ≡ self.now.head.negative_hits }
     {
-        self.words.word(NEGATIVE_HITS)
+        self.words.head(NEGATIVE_HITS)
     }
 
     /// How many lookups made a found reply.
     pub fn misses(&self) -> u64
         ensures { result ≡ self.now.head.misses }
     {
-        self.words.word(MISSES)
+        self.words.head(MISSES)
     }
 
     /// How many lookups made a not-found reply.
     pub fn negative_misses(&self) -> u64
         ensures { result ≡ self.now.head.negative_misses }
     {
-        self.words.word(NEGATIVE_MISSES)
+        self.words.head(NEGATIVE_MISSES)
     }
 }

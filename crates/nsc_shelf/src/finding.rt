@@ -4,7 +4,7 @@ ghost use Rattle.nsc_words.specs.declared.node.Placed.{Placed};
 ghost use Rattle.nsc_words.specs.Laid.{Laid};
 ghost use Rattle.nsc_words.specs.Layout.{IsLayout, arena_start};
 ghost use Rattle.nsc_arena.specs.Changes.{IsMark};
-ghost use Rattle.nsc_shelf.specs.Finding.{IsFound};
+ghost use Rattle.nsc_shelf.specs.Finding.{IsOldest};
 
 use nsc_arena::{Head, Words, first_from, head_at};
 use nsc_words::Layout;
@@ -64,7 +64,7 @@ pub fn find_from<W: Words>(
     requires laid { (nodes : List Placed) × Laid (W.words words.old) map nodes × IsMark map nodes mark.old.place mark.old.number }
     ensures same { W.words words.new ≡ W.words words.old }
     ensures rest { W.rest words.new ≡ W.rest words.old }
-    ensures found { (nodes : List Placed) → Laid (W.words words.old) map nodes → IsMark map nodes mark.old.place mark.old.number → IsFound number nodes result }
+    ensures found { (nodes : List Placed) → Laid (W.words words.old) map nodes → IsMark map nodes mark.old.place mark.old.number → IsOldest number nodes result }
     ensures marked { (nodes : List Placed) → Laid (W.words words.old) map nodes → IsMark map nodes mark.old.place mark.old.number → IsMark map nodes mark.new.place mark.new.number }
 {
     let from = mark.start_for(map, number);

@@ -9,7 +9,7 @@ ghost use Rattle.nsc_shelf.specs.Hints.{AreHints, HasPlace, IsAlone, told_place}
 
 use nsc_arena::{Words, answers_at, walk};
 use nsc_base::NoMemory;
-use nsc_words::{Layout, STATE, hash};
+use nsc_words::{Layout, hash};
 use std::alloc::Global;
 
 // How many words of the arena there are for each hint. The least node has eight.
@@ -64,25 +64,22 @@ pub fn find<W: Words>(
         return Some(place);
     }
     let place = walk(words, map, hash, kind, key)?;
-    note(words, map, hints, hash, place);
+    note(map, hints, hash, place);
     Some(place)
 }
 
-/// Notes the place of a node of this hash, where its row has a hint that tells none, or that of a node that ended. A hint of a usable node
-/// stays: were it to give way, those that are asked in turn would drive each other out.
-pub fn note<W: Words>(words: &mut W, map: Layout, hints: &mut [u32], hash: u32, place: usize)
+/// Notes the place of a node of this hash, where its row has a hint that tells none. A hint stays until all are forgotten: were it to give
+/// way, those that are asked in turn would drive each other out.
+pub fn note(map: Layout, hints: &mut [u32], hash: u32, place: usize)
     requires layout { IsLayout map }
     requires some { 4 ≤ length hints.old }
     requires from { arena_start map ≤ place }
     requires to { place < table_words map }
-    requires inside { (i : ℕ) → told_place map (slice_index hints.old i) + 8 ≤ length (W.words words.old) }
-    ensures same { W.words words.new ≡ W.words words.old }
-    ensures rest { W.rest words.new ≡ W.rest words.old }
     ensures count { length hints.new ≡ length hints.old }
     ensures hints { (i : ℕ) → (slice_index hints.new i ≡ slice_index hints.old i) ⊎ (told_place map (slice_index hints.new i) ≡ place) }
 {
     let row = row_of(hash, hints.len());
-    if let Some(index) = free_in(words, map, hints, row) {
+    if let Some(index) = free_in(hints, row) {
         hints[index] = hint_of(map, hash, place);
     }
 }
@@ -156,22 +153,13 @@ fn is_of<W: Words>(words: &mut W, map: Layout, hint: u32, hash: u32, kind: u32, 
     answers_at(words, place_in(map, hint), kind, key)
 }
 
-// The first hint of a row that tells no place or, where each tells one, the first that tells that of a node that ended.
-fn free_in<W: Words>(words: &mut W, map: Layout, hints: &[u32], row: usize) -> Option<usize>
-    requires layout { IsLayout map }
-    requires row { row + 4 ≤ length hints.now }
-    requires inside { (i : ℕ) → told_place map (slice_index hints.now i) + 8 ≤ length (W.words words.old) }
-    ensures same { W.words words.new ≡ W.words words.old }
-    ensures rest { W.rest words.new ≡ W.rest words.old }
-    ensures index { IfSome result (λ index. index < length hints.now) }
+// The first hint of a row that tells no place.
+fn free_in(hints: &[u32], row: usize) -> Option<usize>
+    requires { row + 4 ≤ length hints.now }
+    ensures { IfSome result (λ index. index < length hints.now) }
 {
     for index in row..row + ROW {
         if hints[index] == 0 {
-            return Some(index);
-        }
-    }
-    for index in row..row + ROW {
-        if words.get(place_in(map, hints[index]) + STATE) != 1 {
             return Some(index);
         }
     }

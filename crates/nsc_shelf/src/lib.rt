@@ -7,6 +7,7 @@ mod finding;
 mod hints;
 mod shelf;
 mod sliding;
+mod table;
 mod texts;
 
 pub use entry::{EntryAt, Hit};

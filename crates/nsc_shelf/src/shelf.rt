@@ -1,4 +1,4 @@
-ghost use Rattle.std.specs.Prelude.{◌≡◌, ◌↔◌, ◌≤◌, ◌<◌, ◌+◌, ◌%◌, ◌^◌, ◌++◌, [], ◌∷◌, None, length, min, IfOk, IfNone, IfSome};
+ghost use Rattle.std.specs.Prelude.{◌≡◌, ◌↔◌, ◌≤◌, ◌<◌, ◌+◌, ◌%◌, ◌++◌, [], ◌∷◌, None, length, min, IfOk, IfNone, IfSome};
 ghost use Rattle.nsc_words.specs.Layout.{IsLayout};
 ghost use Rattle.nsc_base.specs.Nodes.{node_words};
 ghost use Rattle.nsc_model.specs.Entry.{key_limit, kept_limit};
@@ -9,10 +9,9 @@ ghost use Rattle.nsc_shelf.specs.Shelf.{Gives, IsTold, entry_from, fresh_entry, 
 use crate::entry::{EntryAt, Hit};
 use crate::finding::{Found, Mark, find_from};
 use crate::hints::{find, no_hints, note};
+use crate::table::Table;
 use crate::texts::{count_anew, read_key, read_reply};
-use nsc_arena::{
-    Fixed, VecWords, Words, chain, clear, end_node, end_nodes, head_at, place_bytes, walk,
-};
+use nsc_arena::{Fixed, Words, chain, clear, end_node, end_nodes, head_at, place_bytes, walk};
 use nsc_base::{Buf, NoMemory};
 use nsc_model::{Answer, Kind, next_count};
 use nsc_words::{ADD_FAILED, CYCLE, FIRST_FREE, LOADS, Layout, hash};
@@ -24,11 +23,11 @@ use std::snapshot::Snapshot;
 /// history. Its memory is taken when it is made.
 #[derive(Drop)]
 pub struct Shelf {
-    pub(crate) words: VecWords,
+    pub(crate) words: Table,
     pub(crate) map: Layout,
     pub(crate) live: usize,
     pub(crate) mark: Mark,
-    pub(crate) slide: Option<Snapshot<VecWords>>,
+    pub(crate) slide: Option<Snapshot<Table>>,
     // Places of nodes, by the hashes of their requests.
     pub(crate) hints: Vec<u32>,
 }
@@ -50,7 +49,7 @@ impl Shelf {
         ensures { IfOk result (λ s. s ≡ record { entries = []; used = 0; inserted = 0; cycle = 0; add_failed = 0; head = no_head; layout = map; slide = None }) }
     {
         let hints = no_hints(alloc, map)?;
-        let mut words = VecWords::new(alloc, map.words())?;
+        let mut words = Table::new(alloc, map.words())?;
         clear(&mut words, map);
         Ok(Shelf {
             words,
@@ -74,7 +73,7 @@ impl Shelf {
         requires { self.now.slide ≡ None }
         ensures { result ≡ self.now.used }
     {
-        self.words.word(FIRST_FREE) as usize - self.map.arena_start()
+        self.words.head(FIRST_FREE) as usize - self.map.arena_start()
     }
 
     /// How many entries were inserted.
@@ -82,7 +81,7 @@ impl Shelf {
         ensures value { result ≡ self.now.inserted }
         ensures bound { result ≤ last_count }
     {
-        self.words.word(LOADS)
+        self.words.head(LOADS)
     }
 
     /// The count of the beginnings and the ends of slides, which is odd while one is under way, and even else.
@@ -91,14 +90,14 @@ impl Shelf {
         ensures bound { result ≤ last_count }
         ensures even { self.now.slide ≡ None ↔ result % 2 ≡ 0 }
     {
-        self.words.word(CYCLE)
+        self.words.head(CYCLE)
     }
 
     /// How many insertions found no room.
     pub fn add_failed(&self) -> u64
         ensures { result ≡ self.now.add_failed }
     {
-        self.words.word(ADD_FAILED)
+        self.words.head(ADD_FAILED)
     }
 
     /// The entry that answers the request of this kind and key, if there is one: the buffer then has its reply, and its count of
@@ -164,7 +163,7 @@ impl Shelf {
         requires room { self.old.used + node_words (length key.now) (length answer.now.bytes) ≤ self.old.layout.arena }
         ensures { self.new ≡ record self.old { entries = self.old.entries ++ fresh_entry self.old.inserted kind key.now answer.now version timeout reloads ∷ []; used = self.old.used + node_words (length key.now) (length answer.now.bytes); inserted = self.old.inserted + 1 } }
     {
-        let number = self.words.word(LOADS);
+        let number = self.words.head(LOADS);
         let fixed = Fixed {
             number,
             kind: kind.number(),
@@ -174,11 +173,10 @@ impl Shelf {
             not_found: answer.is_not_found(),
         };
         if let Some(at) = place_bytes(&mut self.words, self.map, fixed, key, answer.bytes()) {
-            chain(&mut self.words, self.map, at);
+            let hash = chain(&mut self.words, self.map, at);
             self.words.set(LOADS, number + 1);
             self.live += 1;
-            let hash = hash(fixed.kind, key);
-            note(&mut self.words, self.map, &mut self.hints, hash, at);
+            note(self.map, &mut self.hints, hash, at);
         }
     }
 
@@ -187,7 +185,7 @@ impl Shelf {
         requires { self.old.slide ≡ None }
         ensures { self.new ≡ record self.old { add_failed = min (self.old.add_failed + 1) last_count } }
     {
-        let count = self.words.word(ADD_FAILED);
+        let count = self.words.head(ADD_FAILED);
         self.words.set(ADD_FAILED, next_count(count));
     }
 

@@ -1,5 +1,5 @@
 // The slide of the entries: whoever moves them reads and writes the words of the table one by one.
-ghost use Rattle.std.specs.Prelude.{◌≡◌, ◌≢◌, ◌≤◌, ◌<◌, ◌+◌, ◌⊎◌, None, Some, length, slice_index, slice_set, IfOk, IfErr};
+ghost use Rattle.std.specs.Prelude.{◌≡◌, ◌≤◌, ◌<◌, ◌+◌, ◌⊎◌, None, Some, length, slice_index, slice_set, IfOk, IfErr};
 ghost use Rattle.nsc_model.specs.Machine.{all_words, last_count};
 ghost use Rattle.nsc_shelf.specs.Shelf.{IsBegun, IsSlid, slide_words};
 
@@ -19,7 +19,7 @@ impl Shelf {
         ensures begun { IfOk result (λ _. IsBegun self.old self.new) }
         ensures spent { IfErr result (λ spent. (self.old.cycle ≡ last_count) × (spent.count ≡ last_count) × (self.new ≡ self.old)) }
     {
-        let cycle = self.words.word(CYCLE);
+        let cycle = self.words.head(CYCLE);
         if cycle >= LAST_COUNT {
             return Err(Spent { count: LAST_COUNT });
         }
@@ -45,7 +45,7 @@ impl Shelf {
         ensures word { result ≡ slice_index (slide_words self.old.slide) at }
         ensures same { self.new ≡ self.old }
     {
-        self.words.word(at)
+        self.words.get(at)
     }
 
     /// Sets a word of the slide that is under way: FIRST_FREE, a bucket, or a word of the arena.
@@ -62,7 +62,7 @@ impl Shelf {
         requires { IsSlid self.old }
         ensures { self.new ≡ record self.old { used = all_words self.old.entries; cycle = self.old.cycle + 1; slide = None } }
     {
-        let cycle = self.words.word(CYCLE);
+        let cycle = self.words.head(CYCLE);
         self.words.set(CYCLE, cycle + 1);
         self.mark = Mark::start(self.map);
         self.slide = None;

@@ -121,7 +121,7 @@ IsRefused (inserted.Spent count) loaded w = (count ≡ last_count) × (w.cache.i
 IsRefused (inserted.Full need free) loaded w = (need ≡ entry_words (kept_of loaded w.cache.inserted).entry) × (free + w.cache.used ≡ w.layout.arena) × (free < need)
 
 -- nothing refuses an insertion
-pub record IsFree (w : Writer) (loaded : Loaded) : Type 0 where
+pub record MayInsert (w : Writer) (loaded : Loaded) : Type 0 where
   pub short : length loaded.answer.bytes ≤ kept_limit
   pub noted : w.cache.epoch ≤ loaded.stamp.epoch
   pub new : live_entry loaded.request w.cache.entries ≡ None
@@ -145,6 +145,6 @@ emptied_by w = record w { cache = (emptied w.cache).cache; seen = Invalid (w.cac
 -- ---- lists
 
 -- an entry with its key and its reply, if there is one
-abbrev pub Stands : Option Kept → Option EntryAt → List ℕ → List ℕ → Type 0
-Stands None said key reply = said ≡ None
-Stands (Some k) said key reply = IsTold (Some k) said × (key ≡ k.entry.request.key) × (reply ≡ k.entry.answer.bytes)
+abbrev pub IsListed : Option Kept → Option EntryAt → List ℕ → List ℕ → Type 0
+IsListed None said key reply = said ≡ None
+IsListed (Some k) said key reply = IsTold (Some k) said × (key ≡ k.entry.request.key) × (reply ≡ k.entry.answer.bytes)

@@ -1,15 +1,14 @@
-ghost use Rattle.std.specs.Prelude.{◌≡◌, true, ◌≤◌, ◌<◌, ◌+◌, ◌*◌, ◌/◌, ◌==◌, ◌^◌, [], ◌∷◌, None, length, slice_get, IfNone, IfSome, IfOk};
-ghost use Rattle.std.specs.Bool.{OnTrue};
+ghost use Rattle.std.specs.Prelude.{◌≡◌, true, ◌≤◌, ◌<◌, ◌*◌, ◌/◌, ◌==◌, [], ◌∷◌, None, length, IfNone, IfSome, IfOk};
 ghost use Rattle.std.specs.Arc.{arc_value};
 ghost use Rattle.nsc_model.specs.declared.record.Record.TheVariants as record_of;
-ghost use Rattle.nsc_model.specs.Entry.{Entry, key_limit, kept_limit};
-ghost use Rattle.nsc_model.specs.History.{Allows, IsLive, IsPrefix};
-ghost use Rattle.nsc_model.specs.Machine.{emptied, last_count, live_entry, new_cache, polled, used_now};
+ghost use Rattle.nsc_model.specs.Entry.{key_limit, kept_limit};
+ghost use Rattle.nsc_model.specs.History.{IsPrefix};
+ghost use Rattle.nsc_model.specs.Machine.{last_count, live_entry, new_cache, used_now};
 ghost use Rattle.nsc_laws.specs.Calls.{Tells};
 ghost use Rattle.nsc_writer.specs.Uses.{counted};
 ghost use Rattle.nsc_words.specs.Layout.{IsLayout};
 ghost use Rattle.nsc_shelf.specs.Shelf.{Gives, entry_from};
-ghost use Rattle.nsc_writer.specs.Writer.{Stands, most_words};
+ghost use Rattle.nsc_writer.specs.Writer.{IsListed, most_words};
 
 use nsc_base::{Buf, NoMemory};
 use nsc_model::{Content, Kind, Stats};
@@ -156,7 +155,7 @@ impl Writer {
         requires key { key_limit ≤ key.old.limit }
         requires reply { kept_limit ≤ reply.old.limit }
         requires still { self.old.slide ≡ None }
-        ensures entry { Stands (entry_from at self.old.cache.entries) result key.new.content reply.new.content }
+        ensures entry { IsListed (entry_from at self.old.cache.entries) result key.new.content reply.new.content }
         ensures same { self.new ≡ self.old }
         ensures key { key.new.limit ≡ key.old.limit }
         ensures reply { reply.new.limit ≡ reply.old.limit }

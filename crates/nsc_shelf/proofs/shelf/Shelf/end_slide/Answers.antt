@@ -12,7 +12,7 @@ pub invariant_of-self : goal.invariant_of-self
 invariant_of-self c =
     let s = c.self.inside in
     let slid = subst IsSlid (sym c.self.view_is) c.requires in
-    let is = c.set.ensures.set ∙ ap (λ (n : ℕ). set s.words 0 (n + 1)) c.word-cycle.ensures in
+    let is = c.set.ensures.set ∙ ap (λ (n : ℕ). set s.words 0 (n + 1)) c.head-cycle.ensures in
     let size : length c.forget.new.hints ≡ s.hints.len = omega (arith, c.deref_mut.ensures.len, s.hints.ok.0) in
     let held = c.self.invariant.hinted.some in
     let some : 4 ≤ length c.deref_mut.result.now = omega (arith, c.deref_mut.ensures.len, s.hints.ok.0) in
@@ -23,5 +23,5 @@ pub returns : goal.returns
 returns c =
     let s = c.self.inside in
     let slid = subst IsSlid (sym c.self.view_is) c.requires in
-    let is = c.set.ensures.set ∙ ap (λ (n : ℕ). set s.words 0 (n + 1)) c.word-cycle.ensures in
+    let is = c.set.ensures.set ∙ ap (λ (n : ℕ). set s.words 0 (n + 1)) c.head-cycle.ensures in
     (ends s.slide s.words c.set.new.self s.map s.live s.mark s.hints.items c.self.invariant slid is).view ∙ ap (λ (v : Shelf). record v { used = all_words v.entries; cycle = v.cycle + 1; slide = None }) c.self.view_is

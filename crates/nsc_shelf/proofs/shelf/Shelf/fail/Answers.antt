@@ -35,7 +35,7 @@ returns c =
     let table = old_laid.table in
     let laid = set_head w new m nodes 9 c.next_count.result (omega arith) (omega arith) c.set.ensures.set old_laid in
     let other : (i : ℕ) → i ≢ 9 → slice_index new i ≡ slice_index w i = λ i n. ap (λ (ws : List ℕ). slice_index ws i) c.set.ensures.set ∙ get_or-set_other w 9 i c.next_count.result 0 n in
-    let e9 : slice_index new 9 ≡ min (slice_index w 9 + 1) last_count = ap (λ (ws : List ℕ). slice_index ws 9) c.set.ensures.set ∙ get_or-set_same w 9 c.next_count.result 0 (omega arith) ∙ c.next_count.ensures ∙ ap (λ (n : ℕ). min (n + 1) last_count) c.word-count.ensures in
+    let e9 : slice_index new 9 ≡ min (slice_index w 9 + 1) last_count = ap (λ (ws : List ℕ). slice_index ws 9) c.set.ensures.set ∙ get_or-set_same w 9 c.next_count.result 0 (omega arith) ∙ c.next_count.ensures ∙ ap (λ (n : ℕ). min (n + 1) last_count) c.head-count.ensures in
     let view = view_by new m nodes (slice_index w 4) (slice_index w 0) (min (slice_index w 9 + 1) last_count) (head_in w) laid (other 4 (omega arith)) (other 0 (omega arith)) e9 (head_same new w (λ i low z a b. other i (omega arith))) in
     let before = old_laid.first_free in
     let is : shelf_of new m ≡ record v { add_failed = min (v.add_failed + 1) last_count } = view ∙ (λ i. record { entries = entries_in nodes; used = sym before i - arena_start m; inserted = slice_index w 4; cycle = slice_index w 0; add_failed = min (slice_index w 9 + 1) last_count; head = head_in w; layout = m; slide = None }) in

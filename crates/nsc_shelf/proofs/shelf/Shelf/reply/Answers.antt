@@ -1,18 +1,13 @@
 use Rattle.std.proofs.Common.{◌++◌, ap, ◌∙◌}
 use Rattle.nsc_base.specs.Buf.{Buf}
-use Rattle.nsc_arena.specs.ReadBack.{nodes_in}
 use Rattle.nsc_shelf.specs.Shelf.{reply_or}
-use Rattle.nsc_shelf.proofs.Found.{found_at}
-use Rattle.nsc_shelf.proofs.Still.{entry_found, entry_missing, still, still_marked}
+use Rattle.nsc_shelf.proofs.Still.{entered, none_entered, still_marked}
 use Rattle.nsc_shelf.proofs.shelf.Shelf.reply.Goals as goal
 
 pub read_reply-requires-clause-node : goal.read_reply-requires-clause-node
 read_reply-requires-clause-node c =
-    let s = c.self.inside in
-    let is = still c.self.view_is c.requires.still c.self.invariant in
-    let n = c.in-Some.ensures.found (nodes_in s.words s.map) is.laid is.marked in
-    let here = found_at s.words c.find_from.new.words s.map s.live s.mark c.args.number c.in-Some.found n c.find_from.ensures.same is in
-    (n.0, here, n.6)
+    let n = entered c.args.number c.in-Some.found c.self.view_is c.requires.still c.self.invariant c.find_from.ensures.same c.in-Some.ensures.found in
+    (n.node, n.here, n.head)
 
 pub invariant_of-self : goal.invariant_of-self
 invariant_of-self c = still_marked c.self.view_is c.requires.still c.self.invariant (c.read_reply.ensures.same ∙ c.find_from.ensures.same) c.find_from.ensures.marked
@@ -22,16 +17,10 @@ invariant_of-self-in_default c = still_marked c.self.view_is c.requires.still c.
 
 pub returns-in-Some-clause-reply : goal.returns-in-Some-clause-reply
 returns-in-Some-clause-reply c =
-    let s = c.self.inside in
-    let is = still c.self.view_is c.requires.still c.self.invariant in
-    let n = c.in-Some.ensures.found (nodes_in s.words s.map) is.laid is.marked in
-    let here = found_at s.words c.find_from.new.words s.map s.live s.mark c.args.number c.in-Some.found n c.find_from.ensures.same is in
-    let told = ap reply_or (entry_found s.slide s.words s.map c.args.number c.in-Some.found n c.self.view_is c.requires.still c.self.invariant) in
-    c.read_reply.ensures.reply n.0 here n.6 ∙ ap (λ (b : Buf). record b { content = b.content ++ n.0.node.reply }) c.clear.ensures ∙ (λ i. record { content = told i; limit = c.args.reply.now.limit })
+    let n = entered c.args.number c.in-Some.found c.self.view_is c.requires.still c.self.invariant c.find_from.ensures.same c.in-Some.ensures.found in
+    c.read_reply.ensures.reply n.node n.here n.head ∙ ap (λ (b : Buf). record b { content = b.content ++ n.node.node.reply }) c.clear.ensures ∙ (λ i. record { content = reply_or (n.entry i); limit = c.args.reply.now.limit })
 
 pub returns-in_default-clause-reply : goal.returns-in_default-clause-reply
 returns-in_default-clause-reply c =
-    let s = c.self.inside in
-    let is = still c.self.view_is c.requires.still c.self.invariant in
-    let told = ap reply_or (entry_missing s.slide s.words s.map c.args.number (c.in_default.ensures.found (nodes_in s.words s.map) is.laid is.marked) c.self.view_is c.requires.still) in
-    c.clear.ensures ∙ (λ i. record { content = told i; limit = c.args.reply.now.limit })
+    let none = none_entered c.args.number c.self.view_is c.requires.still c.self.invariant c.in_default.ensures.found in
+    c.clear.ensures ∙ (λ i. record { content = reply_or (none i); limit = c.args.reply.now.limit })

@@ -1,17 +1,24 @@
-use Rattle.std.proofs.Common.{◌≡◌, ℕ, List, refl, sym, ap, subst, ◌∙◌, arith}
+use Rattle.std.proofs.Common.{◌≡◌, ℕ, ◌-◌, List, refl, sym, ap, subst, ◌∙◌, arith}
 use Rattle.nsc_words.specs.declared.node.Placed.{Placed}
 use Rattle.nsc_words.specs.Laid.{Laid}
-use Rattle.nsc_arena.specs.Changes.{ended}
+use Rattle.nsc_arena.specs.Changes.{changed_at, ended}
 use Rattle.nsc_arena.specs.ReadBack.{nodes_in}
 use Rattle.nsc_arena.specs.Written.{IsSameHead}
 use Rattle.nsc_arena.specs.declared.reading.Head.{Head}
-use Rattle.nsc_shelf.specs.Shelf.{Shelf, others_than, shelf_of}
-use Rattle.nsc_shelf.proofs.Found.{remarked_by}
+use Rattle.nsc_rule.specs.Entries.{entries_in}
+use Rattle.nsc_shelf.specs.declared.finding.Mark.{Mark}
+use Rattle.nsc_shelf.specs.Shelf.{IsShelf, Shelf, others_than, shelf_of}
+use Rattle.nsc_shelf.proofs.Found.{remarked}
 use Rattle.nsc_shelf.proofs.Hinted.{hints_by, hints_changed_at}
-use Rattle.nsc_shelf.proofs.States.{none_taken, taken, taken_less}
+use Rattle.nsc_shelf.proofs.States.{Altered, none_taken, taken, taken_less}
 use Rattle.nsc_arena.proofs.Changed.{ended_is}
 use Rattle.nsc_shelf.proofs.Still.{still, still_held, still_marked, still_seen, still_view}
 use Rattle.nsc_shelf.proofs.shelf.Shelf.take_out.Goals as goal
+use Rattle.nsc_shelf.proofs.shelf.Shelf.take_out.Goals.{After-end_node}
+
+record Taken (c : After-end_node) (mark : Mark) : Type 0 where
+  laid : Laid c.end_node.new.table c.self.inside.map (changed_at c.in-Some.found.at ended (nodes_in c.self.inside.words c.self.inside.map))
+  altered : Altered c.self.inside.words c.end_node.new.table c.self.inside.map (c.self.inside.live - 1) mark (others_than c.args.number (entries_in (nodes_in c.self.inside.words c.self.inside.map)))
 
 pub overflow_sub-self : goal.overflow_sub-self
 overflow_sub-self c =
@@ -29,32 +36,30 @@ end_node-requires-clause-node c =
     let n = c.in-Some.ensures.found nodes is.laid is.marked in
     (nodes, n.0, subst (λ (ws : List ℕ). Laid ws s.map nodes) (sym c.find_from.ensures.same) is.laid, n.1, n.2)
 
-pub invariant_of-self-then-found-number : goal.invariant_of-self-then-found-number
-invariant_of-self-then-found-number c =
+-- the words once it ended, with any mark
+taken_so : (c : After-end_node) (mark : Mark) → IsShelf c.self.inside.words c.self.inside.map c.self.inside.live mark → Taken c mark
+taken_so c mark marked =
     let s = c.self.inside in
     let is = still c.self.view_is c.requires c.self.invariant in
     let nodes : List Placed = nodes_in s.words s.map in
     let n = c.in-Some.ensures.found nodes is.laid is.marked in
-    let same : Laid c.find_from.new.words s.map nodes = subst (λ (ws : List ℕ). Laid ws s.map nodes) (sym c.find_from.ensures.same) is.laid in
-    let laid = c.end_node.ensures.laid nodes n.0 same n.1 n.2 in
+    let laid = c.end_node.ensures.laid nodes n.0 (subst (λ (ws : List ℕ). Laid ws s.map nodes) (sym c.find_from.ensures.same) is.laid) n.1 n.2 in
     let head = subst (λ (ws : List ℕ). IsSameHead ws c.end_node.new.table) c.find_from.ensures.same c.end_node.ensures.head in
     let numbered : n.0.node.number ≡ c.args.number = sym (ap (λ (h : Head). h.number) n.6) ∙ c.if-found-number.true in
-    let marked = remarked_by s.words s.words s.map s.live s.mark c.find_from.new.mark refl is c.find_from.ensures.marked in
-    let by = taken s.words c.end_node.new.table s.map s.live c.find_from.new.mark n.0 c.in-Some.found.at c.args.number marked laid head n.1 n.2 n.3 numbered in
-    still_held c.self.view_is c.requires c.self.invariant by.cycle by.shelf (λ h. hints_by s.hints.items laid (hints_changed_at c.in-Some.found.at ended s.hints.items nodes ended_is h))
+    record { laid = laid; altered = taken s.words c.end_node.new.table s.map s.live mark n.0 c.in-Some.found.at c.args.number marked laid head n.1 n.2 n.3 numbered }
+
+pub invariant_of-self-then-found-number : goal.invariant_of-self-then-found-number
+invariant_of-self-then-found-number c =
+    let s = c.self.inside in
+    let marked = remarked s.words s.words s.map s.live s.mark c.find_from.new.mark refl (still c.self.view_is c.requires c.self.invariant) c.find_from.ensures.marked in
+    let by = taken_so (goal.at.invariant_of-self-then-found-number c).After-end_node c.find_from.new.mark marked in
+    still_held c.self.view_is c.requires c.self.invariant by.altered.cycle by.altered.shelf (λ h. hints_by s.hints.items by.laid (hints_changed_at c.in-Some.found.at ended s.hints.items (nodes_in s.words s.map) ended_is h))
 
 pub returns-then-found-number : goal.returns-then-found-number
 returns-then-found-number c =
     let s = c.self.inside in
-    let is = still c.self.view_is c.requires c.self.invariant in
-    let nodes : List Placed = nodes_in s.words s.map in
-    let n = c.in-Some.ensures.found nodes is.laid is.marked in
-    let same : Laid c.find_from.new.words s.map nodes = subst (λ (ws : List ℕ). Laid ws s.map nodes) (sym c.find_from.ensures.same) is.laid in
-    let laid = c.end_node.ensures.laid nodes n.0 same n.1 n.2 in
-    let head = subst (λ (ws : List ℕ). IsSameHead ws c.end_node.new.table) c.find_from.ensures.same c.end_node.ensures.head in
-    let numbered : n.0.node.number ≡ c.args.number = sym (ap (λ (h : Head). h.number) n.6) ∙ c.if-found-number.true in
-    let by = taken s.words c.end_node.new.table s.map s.live s.mark n.0 c.in-Some.found.at c.args.number is laid head n.1 n.2 n.3 numbered in
-    still_seen s.slide s.words s.map c.end_node.new.table c.self.view_is c.requires (by.view ∙ ap (λ (v : Shelf). record v { entries = others_than c.args.number v.entries }) (still_view s.slide s.words s.map c.self.view_is c.requires))
+    let by = taken_so (goal.at.returns-then-found-number c).After-end_node s.mark (still c.self.view_is c.requires c.self.invariant) in
+    still_seen s.slide s.words s.map c.end_node.new.table c.self.view_is c.requires (by.altered.view ∙ ap (λ (v : Shelf). record v { entries = others_than c.args.number v.entries }) (still_view s.slide s.words s.map c.self.view_is c.requires))
 
 pub returns-in_default : goal.returns-in_default
 returns-in_default c =

@@ -11,6 +11,6 @@ overflow_sub-result c =
     let laid = shelf_is.laid in
     let low = end_after (arena_start c.self.inside.map) (nodes_in c.self.inside.words c.self.inside.map) laid.row in
     let first = laid.first_free in
-    let value = c.word.ensures in
+    let value = c.head.ensures in
     let start = c.arena_start.ensures in
     omega arith
