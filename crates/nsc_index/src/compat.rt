@@ -49,6 +49,6 @@ impl<'a> SubLookup for SubServices<'a> {
     fn named_groups(&self, alloc: Global, user: &[u8]) -> Result<Vec<NamedId>, NoMemory> {
         let steps = self.prepared.compat_list(Db::Group);
         let decided = decide(alloc, self, steps, Kind::InitGroups, user)?;
-        self.prepared.named_groups(alloc, decided.service, user)
+        self.prepared.groups_taken(alloc, decided.taker, user)
     }
 }

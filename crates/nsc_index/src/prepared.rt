@@ -1,8 +1,8 @@
-ghost use Rattle.std.specs.Prelude.{◌≡◌, ◌≤◌, IfOk, length, map};
+ghost use Rattle.std.specs.Prelude.{◌≡◌, ◌≤◌, IfOk, flat_map, length, map};
 ghost use Rattle.std.specs.Arc.{arc_value};
 ghost use Rattle.nsc_model.specs.declared.switch.SwitchService.TheVariants.{Files, Extrausers};
 ghost use Rattle.nsc_model.specs.Answers.{service_answer};
-ghost use Rattle.std.specs.Option.{option_copied};
+ghost use Rattle.std.specs.Option.{option_copied, option_to_list};
 ghost use Rattle.nsc_accounts.specs.NamedId.{pair_of};
 ghost use Rattle.nsc_model.specs.Answers.{pairs_of};
 ghost use Rattle.nsc_index.specs.Groups.{IsGroupIndex};
@@ -193,21 +193,27 @@ impl Prepared {
         }
     }
 
-    /// The names and ids of the groups of a user in the file of a service, none dropped. Fails only for want of memory.
-    pub(crate) fn named_groups(
+    /// The names and ids of the groups of a user that a switch takes, none dropped: those in the file of its taker. Fails only for
+    /// want of memory.
+    pub(crate) fn groups_taken(
         &self,
         alloc: Global,
-        service: SwitchService,
+        taker: Option<SwitchService>,
         user: &[u8],
     ) -> Result<Vec<NamedId>, NoMemory>
-        ensures { IfOk result (λ groups. map pair_of groups.items ≡ service_pairs self.now user.now service) }
+        ensures { IfOk result (λ groups. map pair_of groups.items ≡ flat_map (service_pairs self.now user.now) (option_to_list taker)) }
     {
         let group = self.content.file(FileId::Group);
         let extra_group = self.content.file(FileId::ExtraGroup);
-        match service {
-            SwitchService::Files => groups_in(alloc, group, &self.groups, user),
-            SwitchService::Extrausers => groups_in(alloc, extra_group, &self.extra_groups, user),
-            SwitchService::Compat | SwitchService::Other => Ok(Vec::new(alloc)),
+        match taker {
+            Some(SwitchService::Files) => groups_in(alloc, group, &self.groups, user),
+            Some(SwitchService::Extrausers) => groups_in(
+                alloc,
+                extra_group,
+                &self.extra_groups,
+                user,
+            ),
+            Some(SwitchService::Compat | SwitchService::Other) | None => Ok(Vec::new(alloc)),
         }
     }
 }

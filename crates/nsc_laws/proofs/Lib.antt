@@ -23,7 +23,7 @@ pub mod ZeroRuns
 pub mod AddressTexts
 pub mod LiveFronts
 pub mod GivenLists
-pub mod Deciding
+pub mod Takers
 pub mod RunSteps
 pub mod RunRecords
 pub mod RunReplies

@@ -1,5 +1,5 @@
 -- The ids that compat gathers for a user can be sent.
-use Rattle.std.proofs.Common.{◌≡◌, ℕ, ◌+◌, ◌*◌, ◌≤◌, true, false, not, ◌&&◌, if◌then◌else◌, List, [], ◌∷◌, ◌++◌, filter, length, Option, Some, None, IfSome, refl, subst, arith, length-append}
+use Rattle.std.proofs.Common.{◌≡◌, ℕ, ◌+◌, ◌*◌, ◌≤◌, true, false, not, ◌&&◌, if◌then◌else◌, List, [], ◌∷◌, ◌++◌, filter, flat_map, length, Option, Some, None, IfSome, refl, subst, arith, length-append}
 use Rattle.std.specs.List.{AllByRecursion, filter_map}
 use Rattle.std.proofs.lemmas.List.{length-map}
 use Rattle.nsc_base.specs.Text.{lines_of}
@@ -7,7 +7,7 @@ use Rattle.nsc_model.specs.declared.kind.Db.TheVariants as db
 use Rattle.nsc_model.specs.declared.kind.Kind.TheVariants.{GrName, InitGroups}
 use Rattle.nsc_model.specs.declared.row.Group.{Group}
 use Rattle.nsc_model.specs.declared.row.Row.TheVariants as row
-use Rattle.nsc_model.specs.Answers.{answer_by, deciding, found_or_unavail, gathered_file, group_in, group_named, id_scan, named_groups, pairs_of, service_pairs, sub_answer}
+use Rattle.nsc_model.specs.Answers.{answer_by, found_or_unavail, gathered_file, group_in, group_named, id_scan, named_groups, pairs_of, service_pairs, sub_answer, takers}
 use Rattle.nsc_model.specs.Compat.{IdScan, before_ids, gather_line, gathered, id_of_group, ids_of_pairs, is_excluded}
 use Rattle.nsc_model.specs.Content.{Content}
 use Rattle.nsc_model.specs.Files.{FilesFit, file_limit}
@@ -73,8 +73,12 @@ module _ (P : ℕ → Type 0) (files : Content) (own : AllByRecursion (λ g. P g
   pairs_by service.Extrausers = file_pairs P user files.extra_group extra
   pairs_by service.Other = tt
 
+  pairs_of_all : (services : List SwitchService) → AllByRecursion (λ p. P p.1) (flat_map (service_pairs files user) services)
+  pairs_of_all [] = tt
+  pairs_of_all (service ∷ services) = append_keeps (λ p. P p.1) (service_pairs files user service) (flat_map (service_pairs files user) services) (pairs_by service) (pairs_of_all services)
+
   pairs : AllByRecursion (λ p. P p.1) (named_groups files user)
-  pairs = pairs_by (deciding (sub_answer files (record { kind = InitGroups; key = user })) (compat_list files db.Group))
+  pairs = pairs_of_all (takers (sub_answer files (record { kind = InitGroups; key = user })) (compat_list files db.Group))
 
   file_gathered : (file : List ℕ) → files.group ≡ Some file → IfSome (gathered (id_scan files user) (lines_of file) []) (AllByRecursion P)
   file_gathered file is = gathered_keeps P (id_scan files user) named pairs (lines_of file) (subst (λ (f : Option (List ℕ)). AllByRecursion (λ g. P g.gid) (entries_in group_of_line f)) is own) []
