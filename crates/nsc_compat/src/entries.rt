@@ -12,7 +12,7 @@ use crate::asking::{Asking, Wanted, names_entry};
 use crate::excluded::Excluded;
 use crate::lines::{LineScan, scan_lines, scan_on};
 use crate::reading::Lines;
-use crate::said::{Said, line_says};
+use crate::said::{LineSays, line_says};
 use crate::sub::SubLookup;
 use nsc_base::{NoMemory, Span};
 use nsc_model::Looked;
@@ -91,7 +91,7 @@ struct EntryScan<'s, 'k, E: Account, S: SubLookup> {
 impl<'s, 'k, 't, E: Account, S: SubLookup> LineScan<'t> for EntryScan<'s, 'k, E, S> {
     type Seen = Excluded<'t>;
 
-    ghost comes = { λ s excluded lines. scanned (scan_of E.accounts (S.content s.sub.now) s.asking) lines excluded };
+    ghost comes = { λ s excluded later. scanned (scan_of E.accounts (S.content s.sub.now) s.asking) later excluded };
 
     fn take(
         &self,
@@ -101,22 +101,22 @@ impl<'s, 'k, 't, E: Account, S: SubLookup> LineScan<'t> for EntryScan<'s, 'k, E,
         excluded: &mut Excluded<'t>,
     ) -> Result<Option<Looked>, NoMemory> {
         match line_says(text, line) {
-            Said::Own => E::own(alloc, text, line, &self.asking.wanted, excluded),
-            Said::Excludes(name) => {
+            LineSays::Own => E::own(alloc, text, line, &self.asking.wanted, excluded),
+            LineSays::Excludes(name) => {
                 excluded.add(name)?;
                 Ok(None)
             }
-            Said::Asks { name, all } => {
+            LineSays::Asks { name, all } => {
                 let found = self.sub.look(alloc, E::by_name(), name)?;
                 let found = E::in_outcome(found);
                 named(alloc, &self.asking.wanted, found, all, excluded)
             }
-            Said::AsksAll { all } => {
+            LineSays::AsksAll { all } => {
                 let found = self.sub.look(alloc, self.asking.kind, self.asking.key)?;
                 asked(alloc, E::in_outcome(found), all, excluded)
             }
-            Said::Netgroup => Ok(Some(Looked::Unavail)),
-            Said::Nothing => Ok(None),
+            LineSays::Netgroup => Ok(Some(Looked::Unavail)),
+            LineSays::Nothing => Ok(None),
         }
     }
 

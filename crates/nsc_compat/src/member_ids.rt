@@ -15,7 +15,7 @@ use crate::account::Account;
 use crate::excluded::Excluded;
 use crate::lines::{LineScan, scan_lines, scan_on};
 use crate::reading::Lines;
-use crate::said::{Said, line_says};
+use crate::said::{LineSays, line_says};
 use crate::sub::SubLookup;
 use nsc_accounts::{NamedId, OnceIds, group_line, has_member};
 use nsc_base::{Ids, NoMemory, Span, equal};
@@ -74,7 +74,7 @@ struct MembersSeen<'t> {
 impl<'s, 'u, 't, S: SubLookup> LineScan<'t> for MemberScan<'s, 'u, S> {
     type Seen = MembersSeen<'t>;
 
-    ghost comes = { λ s seen lines. ids_or_unavail (option_map (all_ids seen.ids) (gathered (id_scan (S.content s.sub.now) s.user.now) lines seen.excluded)) };
+    ghost comes = { λ s seen later. ids_or_unavail (option_map (all_ids seen.ids) (gathered (id_scan (S.content s.sub.now) s.user.now) later seen.excluded)) };
 
     fn take(
         &self,
@@ -84,26 +84,26 @@ impl<'s, 'u, 't, S: SubLookup> LineScan<'t> for MemberScan<'s, 'u, S> {
         seen: &mut MembersSeen<'t>,
     ) -> Result<Option<Looked>, NoMemory> {
         match line_says(text, line) {
-            Said::Own => {
+            LineSays::Own => {
                 add_own(text, line, self.user, &seen.excluded, &mut seen.ids)?;
                 Ok(None)
             }
-            Said::Excludes(name) => {
+            LineSays::Excludes(name) => {
                 seen.excluded.add(name)?;
                 Ok(None)
             }
-            Said::Asks { name, .. } => {
+            LineSays::Asks { name, .. } => {
                 let found = self.sub.look(alloc, Kind::GrName, name)?;
                 add_found(found, self.user, &seen.excluded, &mut seen.ids)?;
                 Ok(None)
             }
-            Said::AsksAll { .. } => {
+            LineSays::AsksAll { .. } => {
                 let groups = self.sub.named_groups(alloc, self.user)?;
                 add_all(&groups, &seen.excluded, &mut seen.ids)?;
                 Ok(None)
             }
-            Said::Netgroup => Ok(Some(Looked::Unavail)),
-            Said::Nothing => Ok(None),
+            LineSays::Netgroup => Ok(Some(Looked::Unavail)),
+            LineSays::Nothing => Ok(None),
         }
     }
 

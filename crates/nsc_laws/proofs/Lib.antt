@@ -38,7 +38,6 @@ pub mod SentAccounts
 pub mod SentNets
 pub mod SentIds
 pub mod SentAnswers
-pub mod SentSays
 pub mod SentScans
 pub mod SentSwitches
 pub mod SentCompatEntries

@@ -32,7 +32,7 @@ use Rattle.nsc_model.specs.declared.switch.SwitchService.TheVariants as service
 use Rattle.nsc_model.specs.declared.switch.SwitchStep.{SwitchStep}
 use Rattle.nsc_model.specs.Services.{action_at, ends}
 use Rattle.nsc_model.specs.Switches.{compat_list, service_list}
-use Rattle.nsc_model.specs.Compat.{IdScan, Scan, gathered, replaced_user, scanned_file}
+use Rattle.nsc_model.specs.Compat.{IdScan, Scan, gathered, replaced_user, sayings, scanned_file}
 
 -- ---- ways to name an entry
 
@@ -229,7 +229,7 @@ found_or_unavail (Some ids) = found_ids (each_once ids)
 
 abbrev pub gathered_file : IdScan → Option (List ℕ) → Looked
 gathered_file scan None = Unavail
-gathered_file scan (Some file) = found_or_unavail (gathered scan (lines_of file) [])
+gathered_file scan (Some file) = found_or_unavail (gathered scan (flat_map sayings (lines_of file)) [])
 
 -- the outcome of compat: users and groups have it
 abbrev pub compat_by : Kind → Content → List ℕ → Looked

@@ -8,6 +8,6 @@ scan_lines-requires g c κs =
     let account = g.met.E.Account in
     let files = g.S.SubLookup.content c.args.sub.now in (
       (refl, tt),
-      λ excluded line others may.
-          may_pass g.E.Account.accounts files account.lacks (account.gives files) c.args.asking.kind c.args.asking.key c.args.asking.wanted c.requires.name excluded line others (subst (λ (r : Reading). MayPass r.name line) c.lines_on.ensures may),
+      λ excluded line later may.
+          may_pass g.E.Account.accounts files account.lacks (account.gives files) c.args.asking.kind c.args.asking.key c.args.asking.wanted c.requires.name excluded line later (subst (λ (r : Reading). MayPass r.name line) c.lines_on.ensures may),
     )

@@ -1,7 +1,7 @@
-use Rattle.std.proofs.Common.{Some, [], ◌≡◌, filter, ◌∙◌, ap}
+use Rattle.std.proofs.Common.{Some, [], ◌≡◌, filter, flat_map, ◌∙◌, ap}
 use Rattle.std.proofs.lemmas.Result.{IfOk-weaker}
 use Rattle.nsc_base.specs.Text.{lines_of}
-use Rattle.nsc_model.specs.Compat.{scanned, scanned_file}
+use Rattle.nsc_model.specs.Compat.{sayings, scanned, scanned_file}
 use Rattle.nsc_model.specs.Files.{file_of}
 use Rattle.nsc_compat.specs.Accounts.{is_wanted, scan_of, wanted_names}
 use Rattle.nsc_compat.specs.Matters.{matters}
@@ -21,6 +21,6 @@ returns g c =
     let given = lines_there text (file_of files accounts.file) test c.args.lines.now file c.requires.lines in
     IfOk-weaker c.scan_on.result _ _
     (λ looked is.
-    is ∙ ap (λ lines. scanned scan lines c.new.result) given ∙ ap (scanned scan (filter test (lines_of text))) c.new.ensures
+    is ∙ ap (λ lines. scanned scan (flat_map sayings lines) c.new.result) given ∙ ap (scanned scan (flat_map sayings (filter test (lines_of text)))) c.new.ensures
     ∙ entry_filtered accounts files (g.met.E.Account.gives files) asking.kind asking.key asking.wanted c.requires.name (lines_of text) [] ∙ ap (scanned_file scan) file)
     c.scan_on.ensures

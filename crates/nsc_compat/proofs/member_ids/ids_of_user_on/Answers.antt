@@ -1,10 +1,10 @@
-use Rattle.std.proofs.Common.{◌≡◌, ℕ, List, [], map, true, Some, ◌∙◌, ap}
+use Rattle.std.proofs.Common.{◌≡◌, ℕ, List, [], flat_map, map, true, Some, ◌∙◌, ap}
 use Rattle.std.specs.Option.{option_map}
 use Rattle.std.proofs.lemmas.Result.{IfOk-weaker}
 use Rattle.nsc_base.specs.Text.{lines_of, part}
 use Rattle.nsc_model.specs.declared.kind.FileId.TheVariants as file
 use Rattle.nsc_model.specs.Answers.{found_or_unavail, gathered_file, id_scan}
-use Rattle.nsc_model.specs.Compat.{gathered}
+use Rattle.nsc_model.specs.Compat.{gathered, sayings}
 use Rattle.nsc_model.specs.Files.{file_of}
 use Rattle.nsc_model.specs.Groups.{group_of_line, has_member}
 use Rattle.nsc_accounts.specs.Once.{all_ids}
@@ -21,12 +21,12 @@ returns g c =
     let user = c.args.user.now in
     let scan = id_scan files user in
     let text = c.in-Some.text.now in
-    let lines = map (part text) c.args.lines.now in
+    let said = flat_map sayings (map (part text) c.args.lines.now) in
     let file : Some text ≡ files.group = c.in-Some.ensures.value ∙ ap (λ content. file_of content file.Group) c.content.ensures in
     let given = lines_there text files.group (matters group_of_line (has_member user) (λ name. true)) c.args.lines.now file c.requires in
-    let begins = ap (λ ids. ids_or_unavail (option_map (all_ids ids) (gathered scan lines c.new.result))) c.new-2.ensures ∙ ap (λ names. ids_or_unavail (option_map (all_ids []) (gathered scan lines names))) c.new.ensures in
+    let begins = ap (λ ids. ids_or_unavail (option_map (all_ids ids) (gathered scan said c.new.result))) c.new-2.ensures ∙ ap (λ names. ids_or_unavail (option_map (all_ids []) (gathered scan said names))) c.new.ensures in
     IfOk-weaker c.scan_on.result _ _
     (λ looked is.
-    is ∙ begins ∙ all_left (gathered scan lines [])
-    ∙ ap (λ (ls : List (List ℕ)). found_or_unavail (gathered scan ls [])) given ∙ ap found_or_unavail (ids_filtered scan (lines_of text) []) ∙ ap (gathered_file scan) file)
+    is ∙ begins ∙ all_left (gathered scan said [])
+    ∙ ap (λ (ls : List (List ℕ)). found_or_unavail (gathered scan (flat_map sayings ls) [])) given ∙ ap found_or_unavail (ids_filtered scan (lines_of text) []) ∙ ap (gathered_file scan) file)
     c.scan_on.ensures
