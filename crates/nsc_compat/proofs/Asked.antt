@@ -9,8 +9,8 @@ use Rattle.nsc_model.specs.Answers.{sub_looked}
 use Rattle.nsc_model.specs.Compat.{Saying, sayings, scanned}
 use Rattle.nsc_model.specs.Content.{Content}
 use Rattle.nsc_model.specs.Entries.{if_named}
-use Rattle.nsc_compat.specs.declared.asking.Wanted.{Wanted}
-use Rattle.nsc_compat.specs.declared.asking.Wanted.TheVariants.{Name, Id}
+use Rattle.nsc_compat.specs.declared.asking.Naming.{Naming}
+use Rattle.nsc_compat.specs.declared.asking.Naming.TheVariants.{Name, Id}
 use Rattle.nsc_compat.specs.Accounts.{Accounts, IsAskedBy, scan_of, wanted_name}
 use Rattle.nsc_compat.specs.Reading.{MayPass}
 use Rattle.nsc_compat.proofs.Silent.{silent_line}
@@ -24,7 +24,7 @@ module _ {A : Type 0} (accounts : Accounts A) (files : Content) (gives : (name :
 
 module _ {A : Type 0} (accounts : Accounts A) (files : Content) (lacks : (line name : List ℕ) → Lacks Counts name line → if_named (λ a. bytes_eq (accounts.name_of a) name) (accounts.entry_of line) ≡ None)
     (gives : (name : List ℕ) → IfSome (accounts.entry_in (sub_looked files accounts.database accounts.by_name name)) (λ a. accounts.name_of a ≡ name)) where
-  pub may_pass : (by : Kind) (key : Bor (List ℕ)) (wanted : Wanted) → IsAskedBy accounts by key.now wanted → (excluded : List (List ℕ)) (line : List ℕ) (later : List Saying) → MayPass (wanted_name wanted) line
+  pub may_pass : (by : Kind) (key : Bor (List ℕ)) (wanted : Naming) → IsAskedBy accounts by key.now wanted → (excluded : List (List ℕ)) (line : List ℕ) (later : List Saying) → MayPass (wanted_name wanted) line
       → scanned (scan_of accounts files (record { kind = by; key = key; wanted = wanted })) (sayings line ++ later) excluded ≡ scanned (scan_of accounts files (record { kind = by; key = key; wanted = wanted })) later excluded
   may_pass by key (Name name) asked excluded line later silent =
       silent_line (scan_of accounts files (record { kind = by; key = key; wanted = Name name })) name.now line later excluded (record {

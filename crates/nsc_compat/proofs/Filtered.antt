@@ -12,8 +12,8 @@ use Rattle.nsc_model.specs.Compat.{IdScan, Saying, Scan, before_ids, gather_sayi
 use Rattle.nsc_model.specs.Content.{Content}
 use Rattle.nsc_model.specs.Entries.{if_named}
 use Rattle.nsc_model.proofs.Sayings.{line_case}
-use Rattle.nsc_compat.specs.declared.asking.Wanted.{Wanted}
-use Rattle.nsc_compat.specs.declared.asking.Wanted.TheVariants.{Name, Id}
+use Rattle.nsc_compat.specs.declared.asking.Naming.{Naming}
+use Rattle.nsc_compat.specs.declared.asking.Naming.TheVariants.{Name, Id}
 use Rattle.nsc_compat.specs.Accounts.{Accounts, IsAskedBy, is_wanted, scan_of, wanted_names}
 use Rattle.nsc_compat.specs.Matters.{matters, sign_name, speaks_on}
 use Rattle.nsc_compat.proofs.Asked.{asked_named}
@@ -80,7 +80,7 @@ module _ {A : Type 0} (accounts : Accounts A) (files : Content) (gives : (name :
   given_other key name None has other = refl
   given_other key name (Some a) has other = ap (λ (n : List ℕ). if bytes_eq n key then Some a else None) has ∙ ap (λ v. if v then Some a else None) other
 
-  pub entry_filtered : (by : Kind) (key : Bor (List ℕ)) (wanted : Wanted) → IsAskedBy accounts by key.now wanted → (lines excluded : List (List ℕ))
+  pub entry_filtered : (by : Kind) (key : Bor (List ℕ)) (wanted : Naming) → IsAskedBy accounts by key.now wanted → (lines excluded : List (List ℕ))
       → scanned (scan_of accounts files (record { kind = by; key = key; wanted = wanted })) (flat_map sayings (filter (matters accounts.entry_of (is_wanted accounts wanted) (wanted_names wanted)) lines)) excluded ≡ scanned (scan_of accounts files (record { kind = by; key = key; wanted = wanted })) (flat_map sayings lines) excluded
   entry_filtered by key (Name name) asked =
       filtered (scan_of accounts files (record { kind = by; key = key; wanted = Name name })) (λ n. bytes_eq n name.now) (record {

@@ -122,6 +122,10 @@ nothing_added scan line excluded ids is later = said_line scan line excluded ids
 
 -- ---- the whole file
 
-pub all_left : (o : Option (List ℕ)) → ids_or_unavail (option_map (all_ids []) o) ≡ found_or_unavail o
+all_left : (o : Option (List ℕ)) → ids_or_unavail (option_map (all_ids []) o) ≡ found_or_unavail o
 all_left None = refl
 all_left (Some ids) = ap found_ids (all_once ids)
+
+-- at first there is no id, and no name is excluded
+pub all_gathered : (scan : IdScan) (said : List Saying) (ids : List ℕ) (excluded : List (List ℕ)) → ids ≡ [] → excluded ≡ [] → outcome_after scan ids said excluded ≡ found_or_unavail (gathered scan said [])
+all_gathered scan said ids excluded none no_name = ap (λ those. outcome_after scan those said excluded) none ∙ ap (outcome_after scan [] said) no_name ∙ all_left (gathered scan said [])

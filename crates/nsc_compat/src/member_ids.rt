@@ -1,4 +1,4 @@
-ghost use Rattle.std.specs.Prelude.{◌≡◌, ◌≤◌, ◌∷◌, ℕ, List, [], IfOk, OnOk, length, map, true};
+ghost use Rattle.std.specs.Prelude.{◌≡◌, ◌≤◌, ◌∷◌, ℕ, List, [], IfOk, IfSome, OnOk, length, map, true};
 ghost use Rattle.std.specs.Option.{option_map};
 ghost use Rattle.nsc_base.specs.Text.{part};
 ghost use Rattle.nsc_model.specs.Answers.{found_ids, gathered_file, group_in as group_found, id_scan};
@@ -23,28 +23,15 @@ use nsc_model::{FileId, Group, Kind, Looked, Row};
 use std::alloc::Global;
 
 /// The outcome of compat for the groups of a user: their ids in the order of the lines, each once, and not found where there
-/// is none. Unavailable where the group file is absent, or a netgroup is reached. Fails only for want of memory.
-pub fn ids_of_user<S: SubLookup>(alloc: Global, user: &[u8], sub: &S) -> Result<Looked, NoMemory>
-    ensures { IfOk result (λ looked. looked ≡ gathered_file (id_scan (S.content sub.now) user.now) (S.content sub.now).group) }
-{
-    let Some(text) = sub.content().file(FileId::Group) else {
-        return Ok(Looked::Unavail);
-    };
-    let seen = MembersSeen {
-        excluded: Excluded::new(alloc),
-        ids: OnceIds::new(alloc),
-    };
-    scan_lines(alloc, &MemberScan { sub, user }, seen, Lines::every(text))
-}
-
-/// The same by the lines of the group file that matter to the request. Fails only for want of memory.
-pub fn ids_of_user_on<S: SubLookup>(
+/// is none; by the lines that matter to the request, where they are known, and else by all. Unavailable where the group file is
+/// absent, or a netgroup is reached. Fails only for want of memory.
+pub fn ids_of_user<S: SubLookup>(
     alloc: Global,
     user: &[u8],
     sub: &S,
-    lines: &[Span],
+    lines: Option<&[Span]>,
 ) -> Result<Looked, NoMemory>
-    requires { AreLines (text_of (S.content sub.now).group) (matters group_of_line (is_member user.now) (λ name. true)) lines.now }
+    requires { IfSome lines (λ lines. AreLines (text_of (S.content sub.now).group) (matters group_of_line (is_member user.now) (λ name. true)) lines.now) }
     ensures { IfOk result (λ looked. looked ≡ gathered_file (id_scan (S.content sub.now) user.now) (S.content sub.now).group) }
 {
     let Some(text) = sub.content().file(FileId::Group) else {
@@ -54,7 +41,11 @@ pub fn ids_of_user_on<S: SubLookup>(
         excluded: Excluded::new(alloc),
         ids: OnceIds::new(alloc),
     };
-    scan_on(alloc, &MemberScan { sub, user }, seen, text, lines)
+    let scan = MemberScan { sub, user };
+    match lines {
+        Some(lines) => scan_on(alloc, &scan, seen, text, lines),
+        None => scan_lines(alloc, &scan, seen, Lines::every(text)),
+    }
 }
 
 // A scan for the groups of a user: who is asked, and the user's name.

@@ -1,4 +1,4 @@
-use Rattle.std.proofs.Common.{ℕ, List, [], flat_map, sym, ◌∙◌, ap}
+use Rattle.std.proofs.Common.{[], flat_map, sym, ◌∙◌, ap}
 use Rattle.nsc_model.specs.Compat.{sayings}
 use Rattle.nsc_compat.specs.Lines.{looked_or}
 use Rattle.nsc_compat.specs.Reading.{lines_left}
