@@ -19,13 +19,13 @@ use std::alloc::Global;
 /// The services of the lists `passwd_compat` and `group_compat`, over a content whose lists were read before: compat
 /// itself is unavailable there.
 #[derive(Drop)]
-pub(crate) struct SubServices<'a> {
+pub(crate) struct PlainSubServices<'a> {
     pub content: &'a Content,
     pub lists: &'a Lists,
     pub ghost read: { lists.now ≡ lists_of content.now },
 }
 
-impl<'a> ServiceLook for SubServices<'a> {
+impl<'a> ServiceLook for PlainSubServices<'a> {
     ghost outcome = { λ services. sub_answer services.content.now };
 
     fn look(
@@ -43,7 +43,7 @@ impl<'a> ServiceLook for SubServices<'a> {
     }
 }
 
-impl<'a> SubLookup for SubServices<'a> {
+impl<'a> SubLookup for PlainSubServices<'a> {
     ghost content = { λ services. services.content.now };
 
     fn content(&self) -> &Content {
