@@ -1,18 +1,19 @@
 -- Lines that do not matter to a request change nothing.
-use Rattle.std.proofs.Common.{◌≡◌, ℕ, Bool, true, false, not, cond, ◌&&◌, ◌||◌, if◌then◌else◌, List, [], ◌∷◌, filter, Bor, IfSome, Option, Some, None, refl, sym, ◌∙◌, ap}
+use Rattle.std.proofs.Common.{◌≡◌, ℕ, Bool, true, false, not, cond, ◌&&◌, ◌||◌, if◌then◌else◌, List, [], ◌∷◌, ◌++◌, filter, flat_map, Bor, IfSome, Option, Some, None, refl, sym, ◌∙◌, ap}
 use Rattle.std.specs.Option.{is_some}
 use Rattle.std.specs.Str.{bytes_eq}
 use Rattle.std.proofs.lemmas.Bool.{false_from_ne_true}
 use Rattle.std.proofs.lemmas.Slice.Eq.{bytes_eq-Decides}
-use Rattle.nsc_base.specs.Text.{is_filled}
+use Rattle.nsc_base.specs.Text.{fields_of, is_filled, trimmed}
 use Rattle.nsc_model.specs.declared.kind.Kind.{Kind}
 use Rattle.nsc_model.specs.declared.row.Group.{Group}
 use Rattle.nsc_model.specs.Answers.{sub_looked}
-use Rattle.nsc_model.specs.Compat.{IdScan, Says, Own, Excludes, Asks, AsksAll, Netgroup, Nothing, Scan, before_ids, gather_line, gathered, id_of_group, is_excluded, says, scan_line, scanned}
+use Rattle.nsc_model.specs.Compat.{IdScan, Saying, Scan, before_ids, gather_saying, gathered, id_of_group, is_excluded, sayings, scan_saying, scanned}
 use Rattle.nsc_model.specs.Content.{Content}
 use Rattle.nsc_model.specs.Entries.{if_named}
-use Rattle.nsc_compat.specs.declared.asking.Wanted.{Wanted}
-use Rattle.nsc_compat.specs.declared.asking.Wanted.TheVariants.{Name, Id}
+use Rattle.nsc_model.proofs.Sayings.{line_case}
+use Rattle.nsc_compat.specs.declared.asking.Naming.{Naming}
+use Rattle.nsc_compat.specs.declared.asking.Naming.TheVariants.{Name, Id}
 use Rattle.nsc_compat.specs.Accounts.{Accounts, IsAskedBy, is_wanted, scan_of, wanted_names}
 use Rattle.nsc_compat.specs.Matters.{matters, sign_name, speaks_on}
 use Rattle.nsc_compat.proofs.Asked.{asked_named}
@@ -45,28 +46,32 @@ module _ {A : Type 0} (scan : Scan A) (these : List ℕ → Bool) (among : Answe
   other_name : (name q : List ℕ) → these name ≡ false → these q ≡ true → bytes_eq name q ≡ false
   other_name name q is there = false_from_ne_true (bytes_eq name q) (λ same. let e : these name ≡ these q = ap these ((bytes_eq-Decides name q).0 same) in cc)
 
-  says_nothing : (line : List ℕ) (said : Says) (lines excluded : List (List ℕ)) → if_named scan.names (scan.entry_of line) ≡ None → speaks_on these (sign_name said) ≡ false → scanned scan lines excluded ≡ scan_line scan excluded line said (scanned scan lines)
-  says_nothing line Own lines excluded own none = sym (unnamed scan excluded (scan.entry_of line) (λ a. a) (scanned scan lines excluded) own)
-  says_nothing line (Excludes name) lines excluded own none =
+  says_nothing : (line : List ℕ) (later : List Saying) (excluded : List (List ℕ)) → if_named scan.names (scan.entry_of line) ≡ None → speaks_on these (sign_name (sayings line)) ≡ false → scanned scan later excluded ≡ scanned scan (sayings line ++ later) excluded
+  says_nothing line later excluded own =
+      let next = scanned scan later excluded in
+      line_case (λ said. speaks_on these (sign_name said) ≡ false → next ≡ scanned scan (said ++ later) excluded) (λ none. refl) (λ none. cc)
+      (λ name none.
       let is = (neither (not (is_filled name)) (these name) none).1 in
-      sym (scanned_among scan (λ n. these n ≡ true) among lines (name ∷ excluded) excluded (λ q there. ap (λ v. v || is_excluded excluded q) (other_name name q is there)))
-  says_nothing line (Asks name fields) lines excluded own none =
+      sym (scanned_among scan (λ n. these n ≡ true) among later (name ∷ excluded) excluded (λ q there. ap (λ v. v || is_excluded excluded q) (other_name name q is there)))) line
+      (λ none. sym (unnamed scan excluded (scan.entry_of line) (λ a. a) next own)) (λ clean none. cc)
+      (λ clean name none.
       let is = (neither (not (is_filled name)) (these name) none).1 in
-      sym (unnamed scan excluded (scan.by_name name) (scan.replaced fields) (scanned scan lines excluded) (others name is))
-  says_nothing line (AsksAll fields) lines excluded own none = cc
-  says_nothing line Netgroup lines excluded own none = cc
-  says_nothing line Nothing lines excluded own none = refl
+      sym (unnamed scan excluded (scan.by_name name) (scan.replaced (fields_of 58 (trimmed line))) next (others name is)))
+
+  after_said : (said these those : List Saying) → ((excluded : List (List ℕ)) → scanned scan these excluded ≡ scanned scan those excluded) → (excluded : List (List ℕ)) → scanned scan (said ++ these) excluded ≡ scanned scan (said ++ those) excluded
+  after_said [] these those same excluded = same excluded
+  after_said (saying ∷ said) these those same excluded = ap (scan_saying scan excluded saying) (same_functions (scanned scan (said ++ these)) (scanned scan (said ++ those)) (after_said said these those same))
 
   -- a scan comes to the same over the lines that matter
-  pub filtered : (lines excluded : List (List ℕ)) → scanned scan (filter (matters scan.entry_of scan.names these) lines) excluded ≡ scanned scan lines excluded
+  pub filtered : (lines excluded : List (List ℕ)) → scanned scan (flat_map sayings (filter (matters scan.entry_of scan.names these) lines)) excluded ≡ scanned scan (flat_map sayings lines) excluded
   filtered [] excluded = refl
   filtered (line ∷ lines) excluded =
       let kept = filter (matters scan.entry_of scan.names these) lines in
-      filtered_step (λ ls. scanned scan ls excluded) (matters scan.entry_of scan.names these) line lines
+      filtered_step (λ ls. scanned scan (flat_map sayings ls) excluded) (matters scan.entry_of scan.names these) line lines
       (λ is.
-      let none = neither (is_some (if_named scan.names (scan.entry_of line))) (speaks_on these (sign_name (says line))) is in
-      says_nothing line (says line) lines excluded (has_none (if_named scan.names (scan.entry_of line)) none.0) none.1)
-      (ap (scan_line scan excluded line (says line)) (same_functions (scanned scan kept) (scanned scan lines) (filtered lines)))
+      let none = neither (is_some (if_named scan.names (scan.entry_of line))) (speaks_on these (sign_name (sayings line))) is in
+      says_nothing line (flat_map sayings lines) excluded (has_none (if_named scan.names (scan.entry_of line)) none.0) none.1)
+      (after_said (sayings line) (flat_map sayings kept) (flat_map sayings lines) (filtered lines) excluded)
       (filtered lines excluded)
 
 module _ {A : Type 0} (accounts : Accounts A) (files : Content) (gives : (name : List ℕ) → IfSome (accounts.entry_in (sub_looked files accounts.database accounts.by_name name)) (λ a. accounts.name_of a ≡ name)) where
@@ -75,8 +80,8 @@ module _ {A : Type 0} (accounts : Accounts A) (files : Content) (gives : (name :
   given_other key name None has other = refl
   given_other key name (Some a) has other = ap (λ (n : List ℕ). if bytes_eq n key then Some a else None) has ∙ ap (λ v. if v then Some a else None) other
 
-  pub entry_filtered : (by : Kind) (key : Bor (List ℕ)) (wanted : Wanted) → IsAskedBy accounts by key.now wanted → (lines excluded : List (List ℕ))
-      → scanned (scan_of accounts files (record { kind = by; key = key; wanted = wanted })) (filter (matters accounts.entry_of (is_wanted accounts wanted) (wanted_names wanted)) lines) excluded ≡ scanned (scan_of accounts files (record { kind = by; key = key; wanted = wanted })) lines excluded
+  pub entry_filtered : (by : Kind) (key : Bor (List ℕ)) (wanted : Naming) → IsAskedBy accounts by key.now wanted → (lines excluded : List (List ℕ))
+      → scanned (scan_of accounts files (record { kind = by; key = key; wanted = wanted })) (flat_map sayings (filter (matters accounts.entry_of (is_wanted accounts wanted) (wanted_names wanted)) lines)) excluded ≡ scanned (scan_of accounts files (record { kind = by; key = key; wanted = wanted })) (flat_map sayings lines) excluded
   entry_filtered by key (Name name) asked =
       filtered (scan_of accounts files (record { kind = by; key = key; wanted = Name name })) (λ n. bytes_eq n name.now) (record {
         named = λ a is. is;
@@ -108,21 +113,25 @@ no_id scan excluded (Some g) is =
       | false ↦ λ e. refl
     ] is
 
-adds_nothing : (scan : IdScan) (line : List ℕ) (said : Says) (lines excluded : List (List ℕ)) → if_named scan.has_user (scan.group_of line) ≡ None → speaks_on (λ name. true) (sign_name said) ≡ false → gathered scan lines excluded ≡ gather_line scan excluded line said (gathered scan lines)
-adds_nothing scan line Own lines excluded own none = no_ids (gathered scan lines excluded) ∙ ap (λ ids. before_ids ids (gathered scan lines excluded)) (no_id scan excluded (scan.group_of line) own)
-adds_nothing scan line (Excludes name) lines excluded own none = let is = (neither (not (is_filled name)) true none).1 in cc
-adds_nothing scan line (Asks name fields) lines excluded own none = let is = (neither (not (is_filled name)) true none).1 in cc
-adds_nothing scan line (AsksAll fields) lines excluded own none = cc
-adds_nothing scan line Netgroup lines excluded own none = cc
-adds_nothing scan line Nothing lines excluded own none = refl
+adds_nothing : (scan : IdScan) (line : List ℕ) (later : List Saying) (excluded : List (List ℕ)) → if_named scan.has_user (scan.group_of line) ≡ None → speaks_on (λ name. true) (sign_name (sayings line)) ≡ false → gathered scan later excluded ≡ gathered scan (sayings line ++ later) excluded
+adds_nothing scan line later excluded own =
+    let next = gathered scan later excluded in
+    line_case (λ said. speaks_on (λ name. true) (sign_name said) ≡ false → next ≡ gathered scan (said ++ later) excluded) (λ none. refl) (λ none. cc)
+    (λ name none. let is = (neither (not (is_filled name)) true none).1 in cc) line
+    (λ none. no_ids next ∙ ap (λ ids. before_ids ids next) (no_id scan excluded (scan.group_of line) own)) (λ clean none. cc)
+    (λ clean name none. let is = (neither (not (is_filled name)) true none).1 in cc)
 
-pub ids_filtered : (scan : IdScan) (lines excluded : List (List ℕ)) → gathered scan (filter (matters scan.group_of scan.has_user (λ name. true)) lines) excluded ≡ gathered scan lines excluded
+after_gathered : (scan : IdScan) (said these those : List Saying) → ((excluded : List (List ℕ)) → gathered scan these excluded ≡ gathered scan those excluded) → (excluded : List (List ℕ)) → gathered scan (said ++ these) excluded ≡ gathered scan (said ++ those) excluded
+after_gathered scan [] these those same excluded = same excluded
+after_gathered scan (saying ∷ said) these those same excluded = ap (gather_saying scan excluded saying) (same_functions (gathered scan (said ++ these)) (gathered scan (said ++ those)) (after_gathered scan said these those same))
+
+pub ids_filtered : (scan : IdScan) (lines excluded : List (List ℕ)) → gathered scan (flat_map sayings (filter (matters scan.group_of scan.has_user (λ name. true)) lines)) excluded ≡ gathered scan (flat_map sayings lines) excluded
 ids_filtered scan [] excluded = refl
 ids_filtered scan (line ∷ lines) excluded =
     let kept = filter (matters scan.group_of scan.has_user (λ name. true)) lines in
-    filtered_step (λ ls. gathered scan ls excluded) (matters scan.group_of scan.has_user (λ name. true)) line lines
+    filtered_step (λ ls. gathered scan (flat_map sayings ls) excluded) (matters scan.group_of scan.has_user (λ name. true)) line lines
     (λ is.
-    let none = neither (is_some (if_named scan.has_user (scan.group_of line))) (speaks_on (λ name. true) (sign_name (says line))) is in
-    adds_nothing scan line (says line) lines excluded (has_none (if_named scan.has_user (scan.group_of line)) none.0) none.1)
-    (ap (gather_line scan excluded line (says line)) (same_functions (gathered scan kept) (gathered scan lines) (ids_filtered scan lines)))
+    let none = neither (is_some (if_named scan.has_user (scan.group_of line))) (speaks_on (λ name. true) (sign_name (sayings line))) is in
+    adds_nothing scan line (flat_map sayings lines) excluded (has_none (if_named scan.has_user (scan.group_of line)) none.0) none.1)
+    (after_gathered scan (sayings line) (flat_map sayings kept) (flat_map sayings lines) (ids_filtered scan lines) excluded)
     (ids_filtered scan lines excluded)

@@ -1,4 +1,4 @@
--- The ids of a user's groups, gathered line by line.
+-- The ids of a user's groups, gathered saying by saying.
 use Rattle.std.proofs.Common.{◌≡◌, ℕ, ◌+◌, ◌<◌, true, false, not, cond, ◌&&◌, if◌then◌else◌, List, [], ◌∷◌, ◌++◌, drop, filter, get_or, length, map, Option, Some, None, refl, sym, ◌∙◌, ap}
 use Rattle.std.specs.Option.{option_map}
 use Rattle.std.proofs.lemmas.List.{at_drop_more}
@@ -6,7 +6,7 @@ use Rattle.nsc_model.specs.declared.row.Group.{Group}
 use Rattle.nsc_model.specs.declared.row.Looked.{Looked}
 use Rattle.nsc_model.specs.declared.row.Looked.TheVariants.{Unavail}
 use Rattle.nsc_model.specs.Answers.{found_ids, found_or_unavail}
-use Rattle.nsc_model.specs.Compat.{IdScan, Says, Own, Excludes, Asks, AsksAll, Netgroup, Nothing, before_ids, gather_line, gathered, id_of_group, ids_of_pairs, is_excluded, says}
+use Rattle.nsc_model.specs.Compat.{IdScan, Saying, Own, Excludes, Asks, AsksAll, Netgroup, before_ids, gather_saying, gathered, id_of_group, ids_of_pairs, is_excluded, sayings}
 use Rattle.nsc_accounts.specs.Once.{all_ids, with_id}
 use Rattle.nsc_accounts.proofs.Collected.{all_once}
 use Rattle.nsc_accounts.specs.declared.named_id.NamedId.{NamedId}
@@ -65,61 +65,67 @@ pairs_same these those same (p ∷ pairs) =
 before_same : (these those : List ℕ) (o p : Option (List ℕ)) → these ≡ those → o ≡ p → before_ids these o ≡ before_ids those p
 before_same these those o p e f = ap (λ (ids : List ℕ). before_ids ids o) e ∙ ap (before_ids those) f
 
-line_same : (scan : IdScan) (line : List ℕ) (said : Says) (these those : List (List ℕ)) (next : List (List ℕ) → Option (List ℕ)) → ((a b : List (List ℕ)) → SameNames a b → next a ≡ next b) → SameNames these those → gather_line scan these line said next ≡ gather_line scan those line said next
-line_same scan line Own these those next each same = before_same (id_of_group scan these (scan.group_of line)) (id_of_group scan those (scan.group_of line)) (next these) (next those) (group_same scan these those same (scan.group_of line)) (each these those same)
-line_same scan line (Excludes name) these those next each same = each (name ∷ these) (name ∷ those) (with_name name these those same)
-line_same scan line (Asks name fields) these those next each same =
+saying_same : (scan : IdScan) (saying : Saying) (these those : List (List ℕ)) (next : List (List ℕ) → Option (List ℕ)) → ((a b : List (List ℕ)) → SameNames a b → next a ≡ next b) → SameNames these those → gather_saying scan these saying next ≡ gather_saying scan those saying next
+saying_same scan (Own line) these those next each same = before_same (id_of_group scan these (scan.group_of line)) (id_of_group scan those (scan.group_of line)) (next these) (next those) (group_same scan these those same (scan.group_of line)) (each these those same)
+saying_same scan (Excludes name) these those next each same = each (name ∷ these) (name ∷ those) (with_name name these those same)
+saying_same scan (Asks name fields) these those next each same =
     before_same (id_of_group scan these (scan.by_name name)) (id_of_group scan those (scan.by_name name)) (next these) (next those) (group_same scan these those same (scan.by_name name)) (each these those same)
-line_same scan line (AsksAll fields) these those next each same = before_same (ids_of_pairs these scan.pairs) (ids_of_pairs those scan.pairs) (next these) (next those) (pairs_same these those same scan.pairs) (each these those same)
-line_same scan line Netgroup these those next each same = refl
-line_same scan line Nothing these those next each same = each these those same
+saying_same scan (AsksAll fields) these those next each same = before_same (ids_of_pairs these scan.pairs) (ids_of_pairs those scan.pairs) (next these) (next those) (pairs_same these those same scan.pairs) (each these those same)
+saying_same scan Netgroup these those next each same = refl
 
-gathered_same : (scan : IdScan) (lines : List (List ℕ)) (these those : List (List ℕ)) → SameNames these those → gathered scan lines these ≡ gathered scan lines those
+gathered_same : (scan : IdScan) (later : List Saying) (these those : List (List ℕ)) → SameNames these those → gathered scan later these ≡ gathered scan later those
 gathered_same scan [] these those same = refl
-gathered_same scan (line ∷ lines) these those same = line_same scan line (says line) these those (gathered scan lines) (gathered_same scan lines) same
+gathered_same scan (saying ∷ later) these those same = saying_same scan saying these those (gathered scan later) (gathered_same scan later) same
 
 -- ---- line by line
 
--- what is gathered from some lines on, after these ids
-abbrev after_ids : IdScan → List ℕ → List (List ℕ) → List (List ℕ) → Option (List ℕ)
-after_ids scan ids lines excluded = option_map (all_ids ids) (gathered scan lines excluded)
+-- what is gathered from some sayings on, after these ids
+abbrev after_ids : IdScan → List ℕ → List Saying → List (List ℕ) → Option (List ℕ)
+after_ids scan ids later excluded = option_map (all_ids ids) (gathered scan later excluded)
 
 -- and its outcome
-abbrev pub outcome_after : IdScan → List ℕ → List (List ℕ) → List (List ℕ) → Looked
-outcome_after scan ids lines excluded = ids_or_unavail (after_ids scan ids lines excluded)
+abbrev pub outcome_after : IdScan → List ℕ → List Saying → List (List ℕ) → Looked
+outcome_after scan ids later excluded = ids_or_unavail (after_ids scan ids later excluded)
 
-pub name_excluded : (scan : IdScan) (line name : List ℕ) (excluded more : List (List ℕ)) (ids : List ℕ) → Excludes name ≡ says line → SameNames more (name ∷ excluded) → (lines : List (List ℕ)) → outcome_after scan ids lines more ≡ outcome_after scan ids (line ∷ lines) excluded
-name_excluded scan line name excluded more ids is same lines =
-    ap (λ o. ids_or_unavail (option_map (all_ids ids) o)) (gathered_same scan lines more (name ∷ excluded) same ∙ ap (λ said. gather_line scan excluded line said (gathered scan lines)) is)
+-- a line comes to what it says
+said_line : (scan : IdScan) (line : List ℕ) (excluded : List (List ℕ)) (ids : List ℕ) (said : List Saying) → said ≡ sayings line → (later : List Saying) → outcome_after scan ids (said ++ later) excluded ≡ outcome_after scan ids (sayings line ++ later) excluded
+said_line scan line excluded ids said is later = ap (λ (s : List Saying). outcome_after scan ids (s ++ later) excluded) is
+
+pub name_excluded : (scan : IdScan) (line name : List ℕ) (excluded more : List (List ℕ)) (ids : List ℕ) → Excludes name ∷ [] ≡ sayings line → SameNames more (name ∷ excluded) → (later : List Saying) → outcome_after scan ids later more ≡ outcome_after scan ids (sayings line ++ later) excluded
+name_excluded scan line name excluded more ids is same later =
+    ap (λ o. ids_or_unavail (option_map (all_ids ids) o)) (gathered_same scan later more (name ∷ excluded) same) ∙ said_line scan line excluded ids (Excludes name ∷ []) is later
 
 -- a line that adds ids
-ids_added : (scan : IdScan) (line : List ℕ) (excluded : List (List ℕ)) (ids now added : List ℕ) (said : Says) → ((next : List (List ℕ) → Option (List ℕ)) → before_ids added (next excluded) ≡ gather_line scan excluded line said next) → said ≡ says line
-    → now ≡ all_ids ids added → (lines : List (List ℕ)) → outcome_after scan now lines excluded ≡ outcome_after scan ids (line ∷ lines) excluded
-ids_added scan line excluded ids now added said adds is e lines =
-    ap (λ (those : List ℕ). outcome_after scan those lines excluded) e ∙ ap ids_or_unavail (sym (before_added ids added (gathered scan lines excluded))
-    ∙ ap (option_map (all_ids ids)) (adds (gathered scan lines) ∙ ap (λ s. gather_line scan excluded line s (gathered scan lines)) is))
+ids_added : (scan : IdScan) (line : List ℕ) (excluded : List (List ℕ)) (ids now added : List ℕ) (saying : Saying) → ((later : List Saying) → before_ids added (gathered scan later excluded) ≡ gathered scan (saying ∷ later) excluded) → saying ∷ [] ≡ sayings line
+    → now ≡ all_ids ids added → (later : List Saying) → outcome_after scan now later excluded ≡ outcome_after scan ids (sayings line ++ later) excluded
+ids_added scan line excluded ids now added saying adds is e later =
+    ap (λ (those : List ℕ). outcome_after scan those later excluded) e ∙ ap ids_or_unavail (sym (before_added ids added (gathered scan later excluded)) ∙ ap (option_map (all_ids ids)) (adds later)) ∙ said_line scan line excluded ids (saying ∷ []) is later
 
-pub own_added : (scan : IdScan) (line : List ℕ) (excluded : List (List ℕ)) (ids now : List ℕ) → Own ≡ says line → now ≡ all_ids ids (id_of_group scan excluded (scan.group_of line))
-    → (lines : List (List ℕ)) → outcome_after scan now lines excluded ≡ outcome_after scan ids (line ∷ lines) excluded
-own_added scan line excluded ids now is e = ids_added scan line excluded ids now (id_of_group scan excluded (scan.group_of line)) Own (λ next. refl) is e
+pub own_added : (scan : IdScan) (line : List ℕ) (excluded : List (List ℕ)) (ids now : List ℕ) → Own line ∷ [] ≡ sayings line → now ≡ all_ids ids (id_of_group scan excluded (scan.group_of line))
+    → (later : List Saying) → outcome_after scan now later excluded ≡ outcome_after scan ids (sayings line ++ later) excluded
+own_added scan line excluded ids now is e = ids_added scan line excluded ids now (id_of_group scan excluded (scan.group_of line)) (Own line) (λ later. refl) is e
 
-pub found_added : (scan : IdScan) (line name : List ℕ) (fields : List (List ℕ)) (excluded : List (List ℕ)) (ids now : List ℕ) → Asks name fields ≡ says line → now ≡ all_ids ids (id_of_group scan excluded (scan.by_name name))
-    → (lines : List (List ℕ)) → outcome_after scan now lines excluded ≡ outcome_after scan ids (line ∷ lines) excluded
-found_added scan line name fields excluded ids now is e = ids_added scan line excluded ids now (id_of_group scan excluded (scan.by_name name)) (Asks name fields) (λ next. refl) is e
+pub found_added : (scan : IdScan) (line name : List ℕ) (fields : List (List ℕ)) (excluded : List (List ℕ)) (ids now : List ℕ) → Asks name fields ∷ [] ≡ sayings line → now ≡ all_ids ids (id_of_group scan excluded (scan.by_name name))
+    → (later : List Saying) → outcome_after scan now later excluded ≡ outcome_after scan ids (sayings line ++ later) excluded
+found_added scan line name fields excluded ids now is e = ids_added scan line excluded ids now (id_of_group scan excluded (scan.by_name name)) (Asks name fields) (λ later. refl) is e
 
-pub pairs_added : (scan : IdScan) (line : List ℕ) (fields : List (List ℕ)) (excluded : List (List ℕ)) (ids now : List ℕ) → AsksAll fields ≡ says line → now ≡ all_ids ids (ids_of_pairs excluded scan.pairs)
-    → (lines : List (List ℕ)) → outcome_after scan now lines excluded ≡ outcome_after scan ids (line ∷ lines) excluded
-pairs_added scan line fields excluded ids now is e = ids_added scan line excluded ids now (ids_of_pairs excluded scan.pairs) (AsksAll fields) (λ next. refl) is e
+pub pairs_added : (scan : IdScan) (line : List ℕ) (fields : List (List ℕ)) (excluded : List (List ℕ)) (ids now : List ℕ) → AsksAll fields ∷ [] ≡ sayings line → now ≡ all_ids ids (ids_of_pairs excluded scan.pairs)
+    → (later : List Saying) → outcome_after scan now later excluded ≡ outcome_after scan ids (sayings line ++ later) excluded
+pairs_added scan line fields excluded ids now is e = ids_added scan line excluded ids now (ids_of_pairs excluded scan.pairs) (AsksAll fields) (λ later. refl) is e
 
 -- a netgroup leaves nothing
-pub netgroup_reached : (scan : IdScan) (line : List ℕ) (excluded : List (List ℕ)) (ids : List ℕ) → Netgroup ≡ says line → (lines : List (List ℕ)) → Unavail ≡ outcome_after scan ids (line ∷ lines) excluded
-netgroup_reached scan line excluded ids is lines = ap (λ said. ids_or_unavail (option_map (all_ids ids) (gather_line scan excluded line said (gathered scan lines)))) is
+pub netgroup_reached : (scan : IdScan) (line : List ℕ) (excluded : List (List ℕ)) (ids : List ℕ) → Netgroup ∷ [] ≡ sayings line → (later : List Saying) → Unavail ≡ outcome_after scan ids (sayings line ++ later) excluded
+netgroup_reached scan line excluded ids is later = said_line scan line excluded ids (Netgroup ∷ []) is later
 
-pub nothing_added : (scan : IdScan) (line : List ℕ) (excluded : List (List ℕ)) (ids : List ℕ) → Nothing ≡ says line → (lines : List (List ℕ)) → outcome_after scan ids lines excluded ≡ outcome_after scan ids (line ∷ lines) excluded
-nothing_added scan line excluded ids is lines = ap (λ said. ids_or_unavail (option_map (all_ids ids) (gather_line scan excluded line said (gathered scan lines)))) is
+pub nothing_added : (scan : IdScan) (line : List ℕ) (excluded : List (List ℕ)) (ids : List ℕ) → [] ≡ sayings line → (later : List Saying) → outcome_after scan ids later excluded ≡ outcome_after scan ids (sayings line ++ later) excluded
+nothing_added scan line excluded ids is later = said_line scan line excluded ids [] is later
 
 -- ---- the whole file
 
-pub all_left : (o : Option (List ℕ)) → ids_or_unavail (option_map (all_ids []) o) ≡ found_or_unavail o
+all_left : (o : Option (List ℕ)) → ids_or_unavail (option_map (all_ids []) o) ≡ found_or_unavail o
 all_left None = refl
 all_left (Some ids) = ap found_ids (all_once ids)
+
+-- at first there is no id, and no name is excluded
+pub all_gathered : (scan : IdScan) (said : List Saying) (ids : List ℕ) (excluded : List (List ℕ)) → ids ≡ [] → excluded ≡ [] → outcome_after scan ids said excluded ≡ found_or_unavail (gathered scan said [])
+all_gathered scan said ids excluded none no_name = ap (λ those. outcome_after scan those said excluded) none ∙ ap (outcome_after scan [] said) no_name ∙ all_left (gathered scan said [])

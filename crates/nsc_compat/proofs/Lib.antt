@@ -3,7 +3,6 @@ pub mod Sayings
 pub mod Scans
 pub mod ByKind
 pub mod Ids
-pub mod Absent
 pub mod Passed
 pub mod Silent
 pub mod Asked

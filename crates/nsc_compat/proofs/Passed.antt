@@ -11,12 +11,12 @@ use Rattle.nsc_model.specs.declared.row.Looked.{Looked}
 use Rattle.nsc_base.proofs.Searched.{lack_before}
 use Rattle.nsc_base.proofs.Spans.{line_spans-parts}
 use Rattle.nsc_compat.specs.declared.reading.Signs.{Signs}
-use Rattle.nsc_compat.specs.Reading.{IsNextLine, MayPass, PassesTo, Reading, lines_left}
+use Rattle.nsc_compat.specs.Reading.{IsNextLine, MayPass, SkipsTo, Reading, lines_left}
 use Rattle.nsc_compat.specs.Signs.{AreSearched}
 
 -- the lines before a place at or before the first sign
 pub signs_passed : (text : List ℕ) (from start at : ℕ) (signs : Signs) → AreSearched text from signs → (at ≤ signs.plus) × (at ≤ signs.netgroup) × (at ≤ signs.named) → start ≤ at → IsLineStart text from start
-    → PassesTo (record { text = text; from = from; name = Some signs.name.now }) (lines_of (drop start text))
+    → SkipsTo (record { text = text; from = from; name = Some signs.name.now }) (lines_of (drop start text))
 signs_passed text from start at signs searched first early is =
     let name = signs.name.now in
     let plus = lack_before (43 ∷ []) text from start signs.plus is.before (omega (arith, first.0)) searched.plus is.ends in
@@ -29,19 +29,19 @@ signs_passed text from start at signs searched first early is =
           ∙ ap (λ (lines : List (List ℕ)). map (part text) is.before ++ lines) (line_spans-parts text start);
     }
 
-module _ (inside reading : Reading) (start : ℕ) (same : inside ≡ reading) (to : PassesTo reading (lines_of (drop start reading.text))) where
-  here : PassesTo reading (lines_of (drop start inside.text))
-  here = subst (λ (r : Reading). PassesTo reading (lines_of (drop start r.text))) (sym same) to
+module _ (inside reading : Reading) (start : ℕ) (same : inside ≡ reading) (to : SkipsTo reading (lines_of (drop start reading.text))) where
+  here : SkipsTo reading (lines_of (drop start inside.text))
+  here = subst (λ (r : Reading). SkipsTo reading (lines_of (drop start r.text))) (sym same) to
 
   -- no line is left
-  pub all_passed : start ≡ length inside.text → PassesTo reading []
-  all_passed last = subst (PassesTo reading) (ap (λ n. lines_of (drop n inside.text)) last ∙ ap lines_of (drop-length inside.text)) here
+  pub all_passed : start ≡ length inside.text → SkipsTo reading []
+  all_passed last = subst (SkipsTo reading) (ap (λ n. lines_of (drop n inside.text)) last ∙ ap lines_of (drop-length inside.text)) here
 
   pub next_is : (line : Line) → reading.from ≤ start → IsLine inside.text start line → IsNextLine reading line.span (record { text = inside.text; from = line.next; name = inside.name })
   next_is line low cut =
       let text = ap (λ (r : Reading). r.text) same in
       record {
-        passes = subst (PassesTo reading) (cut.cut ∙ ap (λ bytes. part bytes line.span ∷ lines_of (drop line.next inside.text)) text) here;
+        passes = subst (SkipsTo reading) (cut.cut ∙ ap (λ bytes. part bytes line.span ∷ lines_of (drop line.next inside.text)) text) here;
         ends = subst (λ (bytes : List ℕ). line.span.to ≤ length bytes) text cut.ends;
         onward = omega (arith, low, cut.onward);
         next_ends = subst (λ (bytes : List ℕ). line.next ≤ length bytes) text cut.next_ends;
@@ -54,7 +54,7 @@ passed_over comes name [] lines each may = refl
 passed_over comes name (line ∷ passed) lines each may = each line (passed ++ lines) (All-head (MayPass name) line passed may) ∙ passed_over comes name passed lines each (All-tail (MayPass name) line passed may)
 
 module _ (comes : List (List ℕ) → Looked) (reading : Reading) (name : Option (List ℕ)) (same : reading.name ≡ name) (each : (line : List ℕ) (others : List (List ℕ)) → MayPass name line → comes (line ∷ others) ≡ comes others) where
-  pub comes_to : (lines : List (List ℕ)) → PassesTo reading lines → comes lines ≡ comes (lines_left reading)
+  pub comes_to : (lines : List (List ℕ)) → SkipsTo reading lines → comes lines ≡ comes (lines_left reading)
   comes_to lines to = sym (ap comes to.are ∙ passed_over comes reading.name to.passed lines (λ line others may. each line others (subst (λ n. MayPass n line) same may)) to.may_pass)
 
   -- what the next line and those after it come to

@@ -1,8 +1,8 @@
 -- Scans go by which of the names that they may answer with are excluded, and not by how these are listed.
-use Rattle.std.proofs.Common.{◌≡◌, ℕ, Bool, true, false, not, ◌&&◌, ◌||◌, if◌then◌else◌, List, [], ◌∷◌, IfSome, Option, Some, None, refl, ◌∙◌, ap}
+use Rattle.std.proofs.Common.{◌≡◌, ℕ, Bool, true, false, not, ◌&&◌, ◌||◌, if◌then◌else◌, List, [], ◌∷◌, ◌++◌, IfSome, Option, Some, None, refl, ◌∙◌, ap}
 use Rattle.std.specs.Str.{bytes_eq}
 use Rattle.nsc_model.specs.declared.row.Looked.{Looked}
-use Rattle.nsc_model.specs.Compat.{Says, Own, Excludes, Asks, AsksAll, Netgroup, Nothing, Scan, answers_or, is_excluded, says, scan_line, scanned}
+use Rattle.nsc_model.specs.Compat.{Saying, Own, Excludes, Asks, AsksAll, Netgroup, Scan, answers_or, is_excluded, sayings, scan_saying, scanned}
 use Rattle.nsc_model.specs.Content.{Content}
 use Rattle.nsc_compat.specs.declared.asking.Asking.{Asking}
 use Rattle.nsc_compat.specs.Accounts.{Accounts, is_wanted, outcome_by, scan_of}
@@ -42,34 +42,33 @@ module _ {A : Type 0} (scan : Scan A) (P : List ℕ → Type 0) (among : Answers
   asked None is = tt
   asked (Some a) is = λ always. is
 
-  line_same : (line : List ℕ) (said : Says) (these those : List (List ℕ)) (next : List (List ℕ) → Looked) → ((a b : List (List ℕ)) → SameAmong P a b → next a ≡ next b) → SameAmong P these those
-      → scan_line scan these line said next ≡ scan_line scan those line said next
-  line_same line Own these those next each same = answers_same scan P scan.names these those same (scan.entry_of line) (named (scan.entry_of line)) (λ x. x) (next these) (next those) (each these those same)
-  line_same line (Excludes name) these those next each same = each (name ∷ these) (name ∷ those) (λ q is. ap (λ v. bytes_eq name q || v) (same q is))
-  line_same line (Asks name fields) these those next each same = answers_same scan P scan.names these those same (scan.by_name name) (named (scan.by_name name)) (scan.replaced fields) (next these) (next those) (each these those same)
-  line_same line (AsksAll fields) these those next each same = answers_same scan P (λ e. true) these those same scan.asked (asked scan.asked among.asked) (scan.replaced fields) (next these) (next those) (each these those same)
-  line_same line Netgroup these those next each same = refl
-  line_same line Nothing these those next each same = each these those same
+  saying_same : (saying : Saying) (these those : List (List ℕ)) (next : List (List ℕ) → Looked) → ((a b : List (List ℕ)) → SameAmong P a b → next a ≡ next b) → SameAmong P these those
+      → scan_saying scan these saying next ≡ scan_saying scan those saying next
+  saying_same (Own line) these those next each same = answers_same scan P scan.names these those same (scan.entry_of line) (named (scan.entry_of line)) (λ x. x) (next these) (next those) (each these those same)
+  saying_same (Excludes name) these those next each same = each (name ∷ these) (name ∷ those) (λ q is. ap (λ v. bytes_eq name q || v) (same q is))
+  saying_same (Asks name fields) these those next each same = answers_same scan P scan.names these those same (scan.by_name name) (named (scan.by_name name)) (scan.replaced fields) (next these) (next those) (each these those same)
+  saying_same (AsksAll fields) these those next each same = answers_same scan P (λ e. true) these those same scan.asked (asked scan.asked among.asked) (scan.replaced fields) (next these) (next those) (each these those same)
+  saying_same Netgroup these those next each same = refl
 
-  pub scanned_among : (lines : List (List ℕ)) (these those : List (List ℕ)) → SameAmong P these those → scanned scan lines these ≡ scanned scan lines those
+  pub scanned_among : (later : List Saying) (these those : List (List ℕ)) → SameAmong P these those → scanned scan later these ≡ scanned scan later those
   scanned_among [] these those same = refl
-  scanned_among (line ∷ lines) these those same = line_same line (says line) these those (scanned scan lines) (scanned_among lines) same
+  scanned_among (saying ∷ later) these those same = saying_same saying these those (scanned scan later) (scanned_among later) same
 
 any_name : {A : Type 0} (o : Option A) → IfSome o (λ a. Unit {0})
 any_name None = tt
 any_name (Some a) = tt
 
-scanned_same : {A : Type 0} (scan : Scan A) (lines : List (List ℕ)) (these those : List (List ℕ)) → SameNames these those → scanned scan lines these ≡ scanned scan lines those
-scanned_same scan lines these those same = scanned_among scan (λ name. Unit {0}) (record { named = λ a is. tt; asked = any_name scan.asked }) lines these those (λ name is. same name)
+scanned_same : {A : Type 0} (scan : Scan A) (later : List Saying) (these those : List (List ℕ)) → SameNames these those → scanned scan later these ≡ scanned scan later those
+scanned_same scan later these those same = scanned_among scan (λ name. Unit {0}) (record { named = λ a is. tt; asked = any_name scan.asked }) later these those (λ name is. same name)
 
 -- ---- line by line
 
 -- a line comes to what it says
-said_line : {A : Type 0} (scan : Scan A) (line : List ℕ) (said : Says) (excluded : List (List ℕ)) (lines : List (List ℕ)) → said ≡ says line → scan_line scan excluded line said (scanned scan lines) ≡ scanned scan (line ∷ lines) excluded
-said_line scan line said excluded lines is = ap (λ s. scan_line scan excluded line s (scanned scan lines)) is
+said_line : {A : Type 0} (scan : Scan A) (line : List ℕ) (said : List Saying) (excluded : List (List ℕ)) (later : List Saying) → said ≡ sayings line → scanned scan (said ++ later) excluded ≡ scanned scan (sayings line ++ later) excluded
+said_line scan line said excluded later is = ap (λ (s : List Saying). scanned scan (s ++ later) excluded) is
 
-pub name_excluded : {A : Type 0} (scan : Scan A) (line name : List ℕ) (excluded more : List (List ℕ)) → Excludes name ≡ says line → SameNames more (name ∷ excluded) → (lines : List (List ℕ)) → scanned scan lines more ≡ scanned scan (line ∷ lines) excluded
-name_excluded scan line name excluded more is same lines = scanned_same scan lines more (name ∷ excluded) same ∙ said_line scan line (Excludes name) excluded lines is
+pub name_excluded : {A : Type 0} (scan : Scan A) (line name : List ℕ) (excluded more : List (List ℕ)) → Excludes name ∷ [] ≡ sayings line → SameNames more (name ∷ excluded) → (later : List Saying) → scanned scan later more ≡ scanned scan (sayings line ++ later) excluded
+name_excluded scan line name excluded more is same later = scanned_same scan later more (name ∷ excluded) same ∙ said_line scan line (Excludes name ∷ []) excluded later is
 
 module _ {A : Type 0} (accounts : Accounts A) (content : Content) (asking : Asking) (line : List ℕ) (excluded : List (List ℕ)) where
   -- an entry that answers, or the lines after it
@@ -78,25 +77,25 @@ module _ {A : Type 0} (accounts : Accounts A) (content : Content) (asking : Aski
   entry_or names (Some a) replaced next =
       elim (names a && not (is_excluded excluded (accounts.name_of a))) as (λ v. looked_or (if v then Some (accounts.found (replaced a)) else None) next ≡ (if v then accounts.found (replaced a) else next)) [ true ↦ refl | false ↦ refl ]
 
-  pub own_answers : (outcome : Option Looked) → Own ≡ says line → outcome ≡ outcome_by accounts (is_wanted accounts asking.wanted) excluded (accounts.entry_of line) (λ a. a)
-      → (lines : List (List ℕ)) → looked_or outcome (scanned (scan_of accounts content asking) lines excluded) ≡ scanned (scan_of accounts content asking) (line ∷ lines) excluded
-  own_answers outcome is gives lines =
+  pub own_answers : (outcome : Option Looked) → Own line ∷ [] ≡ sayings line → outcome ≡ outcome_by accounts (is_wanted accounts asking.wanted) excluded (accounts.entry_of line) (λ a. a)
+      → (later : List Saying) → looked_or outcome (scanned (scan_of accounts content asking) later excluded) ≡ scanned (scan_of accounts content asking) (sayings line ++ later) excluded
+  own_answers outcome is gives later =
       let scan = scan_of accounts content asking in
-      let next = scanned scan lines excluded in
-      ap (λ o. looked_or o next) gives ∙ entry_or (is_wanted accounts asking.wanted) (accounts.entry_of line) (λ a. a) next ∙ said_line scan line Own excluded lines is
+      let next = scanned scan later excluded in
+      ap (λ o. looked_or o next) gives ∙ entry_or (is_wanted accounts asking.wanted) (accounts.entry_of line) (λ a. a) next ∙ said_line scan line (Own line ∷ []) excluded later is
 
-  pub named_answers : (outcome : Option Looked) (name : List ℕ) (fields : List (List ℕ)) (o : Option A) → Asks name fields ≡ says line → o ≡ (scan_of accounts content asking).by_name name
-      → outcome ≡ outcome_by accounts (is_wanted accounts asking.wanted) excluded o (accounts.replaced fields) → (lines : List (List ℕ)) → looked_or outcome (scanned (scan_of accounts content asking) lines excluded) ≡ scanned (scan_of accounts content asking) (line ∷ lines) excluded
-  named_answers outcome name fields o is found gives lines =
+  pub named_answers : (outcome : Option Looked) (name : List ℕ) (fields : List (List ℕ)) (o : Option A) → Asks name fields ∷ [] ≡ sayings line → o ≡ (scan_of accounts content asking).by_name name
+      → outcome ≡ outcome_by accounts (is_wanted accounts asking.wanted) excluded o (accounts.replaced fields) → (later : List Saying) → looked_or outcome (scanned (scan_of accounts content asking) later excluded) ≡ scanned (scan_of accounts content asking) (sayings line ++ later) excluded
+  named_answers outcome name fields o is found gives later =
       let scan = scan_of accounts content asking in
-      let next = scanned scan lines excluded in
+      let next = scanned scan later excluded in
       ap (λ p. looked_or p next) (gives ∙ ap (λ p. outcome_by accounts (is_wanted accounts asking.wanted) excluded p (accounts.replaced fields)) found)
-      ∙ entry_or (is_wanted accounts asking.wanted) (scan.by_name name) (accounts.replaced fields) next ∙ said_line scan line (Asks name fields) excluded lines is
+      ∙ entry_or (is_wanted accounts asking.wanted) (scan.by_name name) (accounts.replaced fields) next ∙ said_line scan line (Asks name fields ∷ []) excluded later is
 
-  pub asked_answers : (outcome : Option Looked) (fields : List (List ℕ)) (o : Option A) → AsksAll fields ≡ says line → o ≡ (scan_of accounts content asking).asked
-      → outcome ≡ outcome_by accounts (λ a. true) excluded o (accounts.replaced fields) → (lines : List (List ℕ)) → looked_or outcome (scanned (scan_of accounts content asking) lines excluded) ≡ scanned (scan_of accounts content asking) (line ∷ lines) excluded
-  asked_answers outcome fields o is found gives lines =
+  pub asked_answers : (outcome : Option Looked) (fields : List (List ℕ)) (o : Option A) → AsksAll fields ∷ [] ≡ sayings line → o ≡ (scan_of accounts content asking).asked
+      → outcome ≡ outcome_by accounts (λ a. true) excluded o (accounts.replaced fields) → (later : List Saying) → looked_or outcome (scanned (scan_of accounts content asking) later excluded) ≡ scanned (scan_of accounts content asking) (sayings line ++ later) excluded
+  asked_answers outcome fields o is found gives later =
       let scan = scan_of accounts content asking in
-      let next = scanned scan lines excluded in
+      let next = scanned scan later excluded in
       ap (λ p. looked_or p next) (gives ∙ ap (λ p. outcome_by accounts (λ a. true) excluded p (accounts.replaced fields)) found)
-      ∙ entry_or (λ a. true) scan.asked (accounts.replaced fields) next ∙ said_line scan line (AsksAll fields) excluded lines is
+      ∙ entry_or (λ a. true) scan.asked (accounts.replaced fields) next ∙ said_line scan line (AsksAll fields ∷ []) excluded later is

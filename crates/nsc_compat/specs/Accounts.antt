@@ -18,8 +18,8 @@ use Rattle.nsc_model.specs.Content.{Content}
 use Rattle.nsc_model.specs.Groups.{group_of_line}
 use Rattle.nsc_model.specs.Users.{user_of_line}
 use Rattle.nsc_compat.specs.declared.asking.Asking.{Asking}
-use Rattle.nsc_compat.specs.declared.asking.Wanted.{Wanted}
-use Rattle.nsc_compat.specs.declared.asking.Wanted.TheVariants.{Name, Id}
+use Rattle.nsc_compat.specs.declared.asking.Naming.{Naming}
+use Rattle.nsc_compat.specs.declared.asking.Naming.TheVariants.{Name, Id}
 
 -- the file of a database, the kind that asks for an entry by its name, the entry of a line, its name and id, the entry of an
 -- outcome, what the fields of a plus line make of an entry, and its outcome
@@ -62,25 +62,25 @@ group_accounts = record {
 }
 
 -- whether the entry of this name and id is the one that is wanted
-abbrev pub names_entry : Wanted → List ℕ → ℕ → Bool
+abbrev pub names_entry : Naming → List ℕ → ℕ → Bool
 names_entry (Name key) name id = bytes_eq name key.now
 names_entry (Id wanted) name id = is_id wanted id
 
-abbrev pub is_wanted : {A : Type 0} → Accounts A → Wanted → A → Bool
+abbrev pub is_wanted : {A : Type 0} → Accounts A → Naming → A → Bool
 is_wanted accounts wanted a = names_entry wanted (accounts.name_of a) (accounts.id_of a)
 
 -- the name of the entry that is wanted, where it is wanted by its name
-abbrev pub wanted_name : Wanted → Option (List ℕ)
+abbrev pub wanted_name : Naming → Option (List ℕ)
 wanted_name (Name key) = Some key.now
 wanted_name (Id wanted) = None
 
 -- the names that an entry has that is wanted: any, where it is not wanted by its name
-abbrev pub wanted_names : Wanted → List ℕ → Bool
+abbrev pub wanted_names : Naming → List ℕ → Bool
 wanted_names (Name key) name = bytes_eq name key.now
 wanted_names (Id wanted) name = true
 
 -- a request for an entry by its name is of that kind, and the name is its key
-abbrev pub IsAskedBy : {A : Type 0} → Accounts A → Kind → List ℕ → Wanted → Type 0
+abbrev pub IsAskedBy : {A : Type 0} → Accounts A → Kind → List ℕ → Naming → Type 0
 IsAskedBy accounts by key (Name name) = (by ≡ accounts.by_name) × (name.now ≡ key)
 IsAskedBy accounts by key (Id wanted) = Unit {0}
 

@@ -1,5 +1,5 @@
 -- The lines of a passwd or group file that matter to a request.
-use Rattle.std.specs.Prelude.{◌≡◌, ℕ, ◌≤◌, Bool, true, false, not, ◌||◌, All, List, [], filter, length, map, Option, Some, None}
+use Rattle.std.specs.Prelude.{◌≡◌, ℕ, ◌≤◌, Bool, true, false, not, ◌||◌, All, List, [], ◌∷◌, filter, length, map, Option, Some, None}
 use Rattle.std.specs.Option.{is_some}
 use Rattle.std.specs.Str.{bytes_eq}
 use Rattle.nsc_base.specs.declared.span.Span.{Span}
@@ -7,19 +7,18 @@ use Rattle.nsc_base.specs.Text.{is_filled, lines_of, part}
 use Rattle.nsc_model.specs.declared.kind.Kind.{Kind}
 use Rattle.nsc_model.specs.declared.kind.Kind.TheVariants as kind
 use Rattle.nsc_model.specs.Answers.{group_named, group_numbered, user_named, user_numbered}
-use Rattle.nsc_model.specs.Compat.{Says, Own, Excludes, Asks, AsksAll, Netgroup, Nothing, says}
+use Rattle.nsc_model.specs.Compat.{Saying, Own, Excludes, Asks, sayings}
 use Rattle.nsc_model.specs.Entries.{if_named}
 use Rattle.nsc_model.specs.Groups.{group_of_line, has_member}
 use Rattle.nsc_model.specs.Users.{user_of_line}
 
--- the name on which a line speaks by its sign, a plus or a minus: the empty one where it speaks of every name
-abbrev pub sign_name : Says → Option (List ℕ)
-sign_name Own = None
-sign_name (Excludes name) = Some name
-sign_name (Asks name fields) = Some name
-sign_name (AsksAll fields) = Some []
-sign_name Netgroup = Some []
-sign_name Nothing = None
+-- the name on which a line with these sayings speaks by its sign, a plus or a minus: the empty one where it speaks of every name
+abbrev pub sign_name : List Saying → Option (List ℕ)
+sign_name [] = None
+sign_name (Own line ∷ []) = None
+sign_name (Excludes name ∷ []) = Some name
+sign_name (Asks name fields ∷ []) = Some name
+sign_name _ = Some []
 
 -- whether it speaks of every name, or of one of these
 abbrev pub speaks_on : (List ℕ → Bool) → Option (List ℕ) → Bool
@@ -28,7 +27,7 @@ speaks_on these (Some name) = not (is_filled name) || these name
 
 -- whether a line may change what a request comes to: its entry is named, or it speaks by a sign on one of these names
 abbrev pub matters : {A : Type 0} → (List ℕ → Option A) → (A → Bool) → (List ℕ → Bool) → List ℕ → Bool
-matters entry_of names these line = is_some (if_named names (entry_of line)) || speaks_on these (sign_name (says line))
+matters entry_of names these line = is_some (if_named names (entry_of line)) || speaks_on these (sign_name (sayings line))
 
 -- by the kind of the request: for an entry by its name the signs before that name, and else all signs
 abbrev pub matters_to : Kind → List ℕ → List ℕ → Bool

@@ -25,14 +25,14 @@ MayPass None line = ⊥
 MayPass (Some name) line = IsSilentOn name line
 
 -- of the lines that are left some that need not be read come before these
-pub record PassesTo (reading : Reading) (lines : List (List ℕ)) : Type 0 where
+pub record SkipsTo (reading : Reading) (lines : List (List ℕ)) : Type 0 where
   pub passed : List (List ℕ)
   pub may_pass : All (MayPass reading.name) passed
   pub are : lines_left reading ≡ passed ++ lines
 
 -- the next line that is read, and what is left after it
 pub record IsNextLine (reading : Reading) (line : Span) (later : Reading) : Type 0 where
-  pub passes : PassesTo reading (part reading.text line ∷ lines_left later)
+  pub passes : SkipsTo reading (part reading.text line ∷ lines_left later)
   pub ends : line.to ≤ length reading.text
   pub onward : reading.from < later.from
   pub next_ends : later.from ≤ length reading.text

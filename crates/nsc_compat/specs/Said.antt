@@ -1,14 +1,15 @@
 -- What a line says, as the code has it.
+use Rattle.std.specs.Prelude.{ℕ, List, [], ◌∷◌}
 use Rattle.nsc_base.specs.Text.{fields_of}
 use Rattle.nsc_model.specs.Compat as compat
-use Rattle.nsc_model.specs.Compat.{Says}
-use Rattle.nsc_compat.specs.declared.said.Said.{Said}
-use Rattle.nsc_compat.specs.declared.said.Said.TheVariants.{Own, Excludes, Asks, AsksAll, Netgroup, Nothing}
+use Rattle.nsc_model.specs.Compat.{Saying}
+use Rattle.nsc_compat.specs.declared.said.LineSays.{LineSays}
+use Rattle.nsc_compat.specs.declared.said.LineSays.TheVariants.{Own, Excludes, Asks, AsksAll, Netgroup, Nothing}
 
-abbrev pub said_as : Said → Says
-said_as Own = compat.Own
-said_as (Excludes name) = compat.Excludes name.now
-said_as (Asks name all) = compat.Asks name.now (fields_of 58 all.now)
-said_as (AsksAll all) = compat.AsksAll (fields_of 58 all.now)
-said_as Netgroup = compat.Netgroup
-said_as Nothing = compat.Nothing
+abbrev pub sayings_as : List ℕ → LineSays → List Saying
+sayings_as line Own = compat.Own line ∷ []
+sayings_as line (Excludes name) = compat.Excludes name.now ∷ []
+sayings_as line (Asks name all) = compat.Asks name.now (fields_of 58 all.now) ∷ []
+sayings_as line (AsksAll all) = compat.AsksAll (fields_of 58 all.now) ∷ []
+sayings_as line Netgroup = compat.Netgroup ∷ []
+sayings_as line Nothing = []

@@ -10,7 +10,7 @@ ghost use Rattle.nsc_model.specs.Entries.{if_named};
 ghost use Rattle.nsc_model.specs.Kinds.{database_of};
 ghost use Rattle.nsc_compat.specs.Accounts.{Accounts, is_wanted, outcome_by};
 
-use crate::asking::Wanted;
+use crate::asking::Naming;
 use crate::excluded::Excluded;
 use nsc_base::{NoMemory, Span};
 use nsc_model::{FileId, Kind, Looked};
@@ -35,7 +35,7 @@ pub trait Account: Sized + Drop {
         alloc: Global,
         text: &[u8],
         line: Span,
-        wanted: &Wanted,
+        wanted: &Naming,
         excluded: &Excluded,
     ) -> Result<Option<Looked>, NoMemory>
         requires { line.to ≤ length text.now }

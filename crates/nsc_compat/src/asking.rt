@@ -6,7 +6,7 @@ use nsc_model::Kind;
 
 /// What a request names: an entry by its name, or by its id. No id names no entry.
 #[derive(Clone, Copy)]
-pub enum Wanted<'k> {
+pub enum Naming<'k> {
     /// The entry of this name.
     Name(&'k [u8]),
     /// The entry of this id.
@@ -21,15 +21,15 @@ pub struct Asking<'k> {
     /// The key of the request.
     pub key: &'k [u8],
     /// What the request names.
-    pub wanted: Wanted<'k>,
+    pub wanted: Naming<'k>,
 }
 
 /// Whether the request names the entry of this name and id.
-pub fn names_entry(wanted: &Wanted, name: &[u8], id: u32) -> bool
+pub fn names_entry(wanted: &Naming, name: &[u8], id: u32) -> bool
     ensures { result ≡ names_entry wanted.now name.now id }
 {
     match wanted {
-        Wanted::Name(key) => equal(name, *key),
-        Wanted::Id(wanted) => *wanted == Some(id),
+        Naming::Name(key) => equal(name, *key),
+        Naming::Id(wanted) => *wanted == Some(id),
     }
 }

@@ -1,4 +1,4 @@
-ghost use Rattle.std.specs.Prelude.{◌≡◌, ◌≤◌, ◌∷◌, ℕ, List, [], IfOk, length, true};
+ghost use Rattle.std.specs.Prelude.{◌≡◌, ◌≤◌, ◌∷◌, ℕ, List, [], IfOk, IfSome, length, true};
 ghost use Rattle.nsc_base.specs.Text.{fields_of, part};
 ghost use Rattle.nsc_model.specs.Compat.{scanned, scanned_file};
 ghost use Rattle.nsc_model.specs.Files.{file_of};
@@ -8,11 +8,11 @@ ghost use Rattle.nsc_compat.specs.Accounts.{IsAskedBy, is_wanted, outcome_by, sc
 ghost use Rattle.nsc_compat.specs.Matters.{AreLines, matters};
 
 use crate::account::Account;
-use crate::asking::{Asking, Wanted, names_entry};
+use crate::asking::{Asking, Naming, names_entry};
 use crate::excluded::Excluded;
 use crate::lines::{LineScan, scan_lines, scan_on};
 use crate::reading::Lines;
-use crate::said::{Said, line_says};
+use crate::said::{LineSays, line_says};
 use crate::sub::SubLookup;
 use nsc_base::{NoMemory, Span};
 use nsc_model::Looked;
@@ -20,14 +20,17 @@ use std::alloc::Global;
 use std::marker::PhantomData;
 
 /// The outcome of compat for a request for one entry: the lines of the database's file in turn, with the names that are
-/// excluded so far, up to the first one that answers. Unavailable where the file is absent. Fails only for want of memory.
+/// excluded so far, up to the first one that answers; of these lines, where they are known that matter to the request, and else of
+/// all. Unavailable where the file is absent. Fails only for want of memory.
 pub fn entry<E: Account, S: SubLookup>(
     alloc: Global,
     asking: Asking,
     sub: &S,
+    lines: Option<&[Span]>,
 ) -> Result<Looked, NoMemory>
     requires database { database_of asking.kind ≡ E.accounts.database }
     requires name { IsAskedBy E.accounts asking.kind asking.key.now asking.wanted }
+    requires lines { IfSome lines (λ lines. AreLines (text_of (file_of (S.content sub.now) E.accounts.file)) (matters E.accounts.entry_of (is_wanted E.accounts asking.wanted) (wanted_names asking.wanted)) lines.now) }
     ensures { IfOk result (λ looked. looked ≡ scanned_file (scan_of E.accounts (S.content sub.now) asking.entry) (file_of (S.content sub.now) E.accounts.file)) }
 {
     let Some(text) = sub.content().file(E::file()) else {
@@ -38,44 +41,20 @@ pub fn entry<E: Account, S: SubLookup>(
         asking,
         of: PhantomData,
     };
-    scan_lines(
-        alloc,
-        &scan,
-        Excluded::new(alloc),
-        lines_on(&asking.wanted, text),
-    )
-}
-
-/// The same by the lines of the file that matter to the request. Fails only for want of memory.
-pub fn entry_on<E: Account, S: SubLookup>(
-    alloc: Global,
-    asking: Asking,
-    sub: &S,
-    lines: &[Span],
-) -> Result<Looked, NoMemory>
-    requires database { database_of asking.kind ≡ E.accounts.database }
-    requires name { IsAskedBy E.accounts asking.kind asking.key.now asking.wanted }
-    requires lines { AreLines (text_of (file_of (S.content sub.now) E.accounts.file)) (matters E.accounts.entry_of (is_wanted E.accounts asking.wanted) (wanted_names asking.wanted)) lines.now }
-    ensures { IfOk result (λ looked. looked ≡ scanned_file (scan_of E.accounts (S.content sub.now) asking.entry) (file_of (S.content sub.now) E.accounts.file)) }
-{
-    let Some(text) = sub.content().file(E::file()) else {
-        return Ok(Looked::Unavail);
-    };
-    let scan: EntryScan<E, S> = EntryScan {
-        sub,
-        asking,
-        of: PhantomData,
-    };
-    scan_on(alloc, &scan, Excluded::new(alloc), text, lines)
+    let excluded = Excluded::new(alloc);
+    match lines {
+        Some(lines) => scan_on(alloc, &scan, excluded, text, lines),
+        None => scan_lines(alloc, &scan, excluded, lines_on(&asking.wanted, text)),
+    }
 }
 
 // The lines of a file that may say something of what a request names.
-fn lines_on<'t, 'k>(wanted: &Wanted<'k>, text: &'t [u8]) -> Lines<'t, 'k>
+fn lines_on<'t, 'k>(wanted: &Naming<'k>, text: &'t [u8]) -> Lines<'t, 'k>
     ensures { result ≡ record { text = text.now; from = 0; name = wanted_name wanted.now } }
 {
     match wanted {
-        Wanted::Name(name) => Lines::on_name(text, *name),
-        Wanted::Id(_) => Lines::every(text),
+        Naming::Name(name) => Lines::on_name(text, *name),
+        Naming::Id(_) => Lines::every(text),
     }
 }
 
@@ -91,7 +70,7 @@ struct EntryScan<'s, 'k, E: Account, S: SubLookup> {
 impl<'s, 'k, 't, E: Account, S: SubLookup> LineScan<'t> for EntryScan<'s, 'k, E, S> {
     type Seen = Excluded<'t>;
 
-    ghost comes = { λ s excluded lines. scanned (scan_of E.accounts (S.content s.sub.now) s.asking) lines excluded };
+    ghost comes = { λ s excluded later. scanned (scan_of E.accounts (S.content s.sub.now) s.asking) later excluded };
 
     fn take(
         &self,
@@ -101,22 +80,22 @@ impl<'s, 'k, 't, E: Account, S: SubLookup> LineScan<'t> for EntryScan<'s, 'k, E,
         excluded: &mut Excluded<'t>,
     ) -> Result<Option<Looked>, NoMemory> {
         match line_says(text, line) {
-            Said::Own => E::own(alloc, text, line, &self.asking.wanted, excluded),
-            Said::Excludes(name) => {
+            LineSays::Own => E::own(alloc, text, line, &self.asking.wanted, excluded),
+            LineSays::Excludes(name) => {
                 excluded.add(name)?;
                 Ok(None)
             }
-            Said::Asks { name, all } => {
+            LineSays::Asks { name, all } => {
                 let found = self.sub.look(alloc, E::by_name(), name)?;
                 let found = E::in_outcome(found);
                 named(alloc, &self.asking.wanted, found, all, excluded)
             }
-            Said::AsksAll { all } => {
+            LineSays::AsksAll { all } => {
                 let found = self.sub.look(alloc, self.asking.kind, self.asking.key)?;
                 asked(alloc, E::in_outcome(found), all, excluded)
             }
-            Said::Netgroup => Ok(Some(Looked::Unavail)),
-            Said::Nothing => Ok(None),
+            LineSays::Netgroup => Ok(Some(Looked::Unavail)),
+            LineSays::Nothing => Ok(None),
         }
     }
 
@@ -129,7 +108,7 @@ impl<'s, 'k, 't, E: Account, S: SubLookup> LineScan<'t> for EntryScan<'s, 'k, E,
 // names it.
 fn named<E: Account>(
     alloc: Global,
-    wanted: &Wanted,
+    wanted: &Naming,
     found: Option<E>,
     all: &[u8],
     excluded: &Excluded,

@@ -8,7 +8,7 @@ ghost use Rattle.nsc_accounts.proofs.Given.{group_gives, group_lacks};
 ghost use Rattle.nsc_compat.specs.Accounts.{group_accounts, is_wanted};
 
 use crate::account::Account;
-use crate::asking::Wanted;
+use crate::asking::Naming;
 use crate::excluded::Excluded;
 use nsc_accounts::{GroupAt, group_named, group_numbered, group_row};
 use nsc_base::{NoMemory, Span};
@@ -38,7 +38,7 @@ impl Account for Group {
         alloc: Global,
         text: &[u8],
         line: Span,
-        wanted: &Wanted,
+        wanted: &Naming,
         excluded: &Excluded,
     ) -> Result<Option<Looked>, NoMemory> {
         let Some(at) = wanted_group(text, line, wanted) else {
@@ -77,14 +77,14 @@ impl Account for Group {
 
 // The entry of a line of a group file that has the form and is the wanted one. Most other lines are given up before all
 // their fields are read.
-fn wanted_group(text: &[u8], line: Span, wanted: &Wanted) -> Option<GroupAt>
+fn wanted_group(text: &[u8], line: Span, wanted: &Naming) -> Option<GroupAt>
     requires { line.to ≤ length text.now }
     ensures entry { option_map (group_at text.now) result ≡ if_named (is_wanted group_accounts wanted.now) (group_of_line (part text.now line)) }
     ensures inside { IfSome result (GroupLiesIn line) }
 {
     match wanted {
-        Wanted::Name(name) => group_named(text, line, *name),
-        Wanted::Id(Some(gid)) => group_numbered(text, line, *gid),
-        Wanted::Id(None) => None,
+        Naming::Name(name) => group_named(text, line, *name),
+        Naming::Id(Some(gid)) => group_numbered(text, line, *gid),
+        Naming::Id(None) => None,
     }
 }

@@ -1,6 +1,7 @@
-ghost use Rattle.std.specs.Prelude.{◌≡◌, ◌≤◌, ◌∷◌, ℕ, List, [], All, IfOk, length, map};
+ghost use Rattle.std.specs.Prelude.{◌≡◌, ◌≤◌, ◌++◌, ℕ, List, [], All, IfOk, flat_map, length, map};
 ghost use Rattle.nsc_base.specs.Text.{part};
 ghost use Rattle.nsc_model.specs.declared.row.Looked.{Looked};
+ghost use Rattle.nsc_model.specs.Compat.{Saying, sayings};
 ghost use Rattle.nsc_compat.specs.Lines.{looked_or};
 ghost use Rattle.nsc_compat.specs.Reading.{MayPass, lines_left};
 
@@ -9,15 +10,15 @@ use nsc_base::{NoMemory, Span};
 use nsc_model::Looked;
 use std::alloc::Global;
 
-/// A scan of lines of a passwd or group file: what it has seen so far decides with the lines that are left.
+/// A scan of what lines of a passwd or group file say: what it has seen so far decides with the sayings that are left.
 pub trait LineScan<'t> {
     /// What it has seen.
     type Seen: Drop;
 
-    /// What the lines that are left come to.
-    ghost comes: { Self → Self.Seen → List (List ℕ) → Looked };
+    /// What the sayings that are left come to.
+    ghost comes: { Self → Self.Seen → List Saying → Looked };
 
-    /// The outcome of a line, where it answers; else the lines after it decide. Fails only for want of memory.
+    /// The outcome of what a line says, where it answers; else the lines after it decide. Fails only for want of memory.
     fn take(
         &self,
         alloc: Global,
@@ -26,7 +27,7 @@ pub trait LineScan<'t> {
         seen: &mut Self::Seen,
     ) -> Result<Option<Looked>, NoMemory>
         requires { line.to ≤ length text.now }
-        ensures { IfOk result (λ outcome. (lines : List (List ℕ)) → looked_or outcome (comes self.now seen.new lines) ≡ comes self.now seen.old (part text.now line ∷ lines)) };
+        ensures { IfOk result (λ outcome. (later : List Saying) → looked_or outcome (comes self.now seen.new later) ≡ comes self.now seen.old (sayings (part text.now line) ++ later)) };
 
     /// The outcome where no line is left.
     fn end(&self, seen: Self::Seen) -> Looked
@@ -41,8 +42,8 @@ pub fn scan_lines<'t, 'n, L: LineScan<'t>>(
     mut seen: L::Seen,
     mut lines: Lines<'t, 'n>,
 ) -> Result<Looked, NoMemory>
-    requires { (s : L.Seen) (line : List ℕ) (others : List (List ℕ)) → MayPass lines.name line → L.comes scan.now s (line ∷ others) ≡ L.comes scan.now s others }
-    ensures { IfOk result (λ looked. looked ≡ L.comes scan.now seen (lines_left lines.entry)) }
+    requires { (s : L.Seen) (line : List ℕ) (later : List Saying) → MayPass lines.name line → L.comes scan.now s (sayings line ++ later) ≡ L.comes scan.now s later }
+    ensures { IfOk result (λ looked. looked ≡ L.comes scan.now seen (flat_map sayings (lines_left lines.entry))) }
 {
     while let Some(line) = lines.next_line() {
         if let Some(outcome) = scan.take(alloc, lines.text(), line, &mut seen)? {
@@ -62,7 +63,7 @@ pub fn scan_on<'t, L: LineScan<'t>>(
     lines: &[Span],
 ) -> Result<Looked, NoMemory>
     requires { All (λ line. line.to ≤ length text.now) lines.now }
-    ensures { IfOk result (λ looked. looked ≡ L.comes scan.now seen (map (part text.now) lines.now)) }
+    ensures { IfOk result (λ looked. looked ≡ L.comes scan.now seen (flat_map sayings (map (part text.now) lines.now))) }
 {
     for line in lines {
         if let Some(outcome) = scan.take(alloc, text, *line, &mut seen)? {

@@ -1,4 +1,4 @@
-ghost use Rattle.std.specs.Prelude.{◌≡◌, ◌≤◌, ◌∷◌, ℕ, List, [], IfOk, OnOk, length, map, true};
+ghost use Rattle.std.specs.Prelude.{◌≡◌, ◌≤◌, ◌∷◌, ℕ, List, [], IfOk, IfSome, OnOk, length, map, true};
 ghost use Rattle.std.specs.Option.{option_map};
 ghost use Rattle.nsc_base.specs.Text.{part};
 ghost use Rattle.nsc_model.specs.Answers.{found_ids, gathered_file, group_in as group_found, id_scan};
@@ -15,7 +15,7 @@ use crate::account::Account;
 use crate::excluded::Excluded;
 use crate::lines::{LineScan, scan_lines, scan_on};
 use crate::reading::Lines;
-use crate::said::{Said, line_says};
+use crate::said::{LineSays, line_says};
 use crate::sub::SubLookup;
 use nsc_accounts::{NamedId, OnceIds, group_line, has_member};
 use nsc_base::{Ids, NoMemory, Span, equal};
@@ -23,28 +23,15 @@ use nsc_model::{FileId, Group, Kind, Looked, Row};
 use std::alloc::Global;
 
 /// The outcome of compat for the groups of a user: their ids in the order of the lines, each once, and not found where there
-/// is none. Unavailable where the group file is absent, or a netgroup is reached. Fails only for want of memory.
-pub fn ids_of_user<S: SubLookup>(alloc: Global, user: &[u8], sub: &S) -> Result<Looked, NoMemory>
-    ensures { IfOk result (λ looked. looked ≡ gathered_file (id_scan (S.content sub.now) user.now) (S.content sub.now).group) }
-{
-    let Some(text) = sub.content().file(FileId::Group) else {
-        return Ok(Looked::Unavail);
-    };
-    let seen = MembersSeen {
-        excluded: Excluded::new(alloc),
-        ids: OnceIds::new(alloc),
-    };
-    scan_lines(alloc, &MemberScan { sub, user }, seen, Lines::every(text))
-}
-
-/// The same by the lines of the group file that matter to the request. Fails only for want of memory.
-pub fn ids_of_user_on<S: SubLookup>(
+/// is none; by the lines that matter to the request, where they are known, and else by all. Unavailable where the group file is
+/// absent, or a netgroup is reached. Fails only for want of memory.
+pub fn ids_of_user<S: SubLookup>(
     alloc: Global,
     user: &[u8],
     sub: &S,
-    lines: &[Span],
+    lines: Option<&[Span]>,
 ) -> Result<Looked, NoMemory>
-    requires { AreLines (text_of (S.content sub.now).group) (matters group_of_line (is_member user.now) (λ name. true)) lines.now }
+    requires { IfSome lines (λ lines. AreLines (text_of (S.content sub.now).group) (matters group_of_line (is_member user.now) (λ name. true)) lines.now) }
     ensures { IfOk result (λ looked. looked ≡ gathered_file (id_scan (S.content sub.now) user.now) (S.content sub.now).group) }
 {
     let Some(text) = sub.content().file(FileId::Group) else {
@@ -54,7 +41,11 @@ pub fn ids_of_user_on<S: SubLookup>(
         excluded: Excluded::new(alloc),
         ids: OnceIds::new(alloc),
     };
-    scan_on(alloc, &MemberScan { sub, user }, seen, text, lines)
+    let scan = MemberScan { sub, user };
+    match lines {
+        Some(lines) => scan_on(alloc, &scan, seen, text, lines),
+        None => scan_lines(alloc, &scan, seen, Lines::every(text)),
+    }
 }
 
 // A scan for the groups of a user: who is asked, and the user's name.
@@ -74,7 +65,7 @@ struct MembersSeen<'t> {
 impl<'s, 'u, 't, S: SubLookup> LineScan<'t> for MemberScan<'s, 'u, S> {
     type Seen = MembersSeen<'t>;
 
-    ghost comes = { λ s seen lines. ids_or_unavail (option_map (all_ids seen.ids) (gathered (id_scan (S.content s.sub.now) s.user.now) lines seen.excluded)) };
+    ghost comes = { λ s seen later. ids_or_unavail (option_map (all_ids seen.ids) (gathered (id_scan (S.content s.sub.now) s.user.now) later seen.excluded)) };
 
     fn take(
         &self,
@@ -84,26 +75,26 @@ impl<'s, 'u, 't, S: SubLookup> LineScan<'t> for MemberScan<'s, 'u, S> {
         seen: &mut MembersSeen<'t>,
     ) -> Result<Option<Looked>, NoMemory> {
         match line_says(text, line) {
-            Said::Own => {
+            LineSays::Own => {
                 add_own(text, line, self.user, &seen.excluded, &mut seen.ids)?;
                 Ok(None)
             }
-            Said::Excludes(name) => {
+            LineSays::Excludes(name) => {
                 seen.excluded.add(name)?;
                 Ok(None)
             }
-            Said::Asks { name, .. } => {
+            LineSays::Asks { name, .. } => {
                 let found = self.sub.look(alloc, Kind::GrName, name)?;
                 add_found(found, self.user, &seen.excluded, &mut seen.ids)?;
                 Ok(None)
             }
-            Said::AsksAll { .. } => {
+            LineSays::AsksAll { .. } => {
                 let groups = self.sub.named_groups(alloc, self.user)?;
                 add_all(&groups, &seen.excluded, &mut seen.ids)?;
                 Ok(None)
             }
-            Said::Netgroup => Ok(Some(Looked::Unavail)),
-            Said::Nothing => Ok(None),
+            LineSays::Netgroup => Ok(Some(Looked::Unavail)),
+            LineSays::Nothing => Ok(None),
         }
     }
 

@@ -29,7 +29,7 @@ impl<'t, 'n> Model for Lines<'t, 'n> {
 impl<'t, 'n> Lines<'t, 'n> {
     ghost use Rattle.std.specs.Prelude.{◌≡◌, ◌≤◌, [], None, Some, MatchOption, drop, length};
     ghost use Rattle.nsc_base.specs.Text.{lines_of};
-    ghost use Rattle.nsc_compat.specs.Reading.{IsNextLine, PassesTo};
+    ghost use Rattle.nsc_compat.specs.Reading.{IsNextLine, SkipsTo};
 
     /// Every line of a text.
     pub fn every(text: &'t [u8]) -> Lines<'t, 'n>
@@ -64,7 +64,7 @@ impl<'t, 'n> Lines<'t, 'n> {
     pub fn next_line(&mut self) -> Option<Span>
         ensures text { self.new.text ≡ self.old.text }
         ensures name { self.new.name ≡ self.old.name }
-        ensures line { MatchOption result (PassesTo self.old []) (λ line. IsNextLine self.old line self.new) }
+        ensures line { MatchOption result (SkipsTo self.old []) (λ line. IsNextLine self.old line self.new) }
     {
         let start = self.next_start();
         let line = line_at(self.text, start)?;
@@ -77,7 +77,7 @@ impl<'t, 'n> Lines<'t, 'n> {
         ensures same { self.new ≡ self.old }
         ensures onward { self.old.from ≤ result }
         ensures inside { result ≤ length self.old.text }
-        ensures passes { PassesTo self.old (lines_of (drop result self.old.text)) }
+        ensures passes { SkipsTo self.old (lines_of (drop result self.old.text)) }
     {
         let Some(signs) = self.signs else {
             return self.from;

@@ -1,7 +1,7 @@
 ghost use Rattle.std.specs.Prelude.{◌≡◌, ◌≤◌, ◌<◌, ◌∷◌, ℕ, List, IfSome, Some, length};
 ghost use Rattle.std.specs.Option.{option_map};
 ghost use Rattle.nsc_base.specs.Text.{part};
-ghost use Rattle.nsc_model.specs.Compat.{first_field, says, says_by, says_minus, says_plus};
+ghost use Rattle.nsc_model.specs.Compat.{first_field, sayings, sayings_by, sayings_minus, sayings_plus};
 ghost use Rattle.nsc_compat.specs.Matters.{sign_name};
 
 use nsc_base::{Span, has_zero_byte};
@@ -10,7 +10,7 @@ use nsc_base::{Span, has_zero_byte};
 /// where the line speaks of every name. `None` where it has no sign, or none that counts. Takes no memory.
 pub fn sign_line(text: &[u8], line: Span) -> Option<Span>
     requires { line.to ≤ length text.now }
-    ensures name { option_map (part text.now) result ≡ sign_name (says (part text.now line)) }
+    ensures name { option_map (part text.now) result ≡ sign_name (sayings (part text.now line)) }
     ensures inside { IfSome result (λ name. name.to ≤ line.to) }
 {
     let name = black_sign(text, line.trim_front(text))?;
@@ -23,7 +23,7 @@ pub fn sign_line(text: &[u8], line: Span) -> Option<Span>
 // The same of a line that has no white space at its front, whether or not it has a zero byte.
 fn black_sign(text: &[u8], all: Span) -> Option<Span>
     requires { all.to ≤ length text.now }
-    ensures name { option_map (part text.now) result ≡ sign_name (says_by (part text.now all)) }
+    ensures name { (line : List ℕ) → option_map (part text.now) result ≡ sign_name (sayings_by line (part text.now all)) }
     ensures inside { IfSome result (λ name. name.to ≤ all.to) }
 {
     match all.of(text) {
@@ -46,7 +46,7 @@ fn after_sign(text: &[u8], all: Span) -> Span
 // The name of a plus line, where a netgroup stands for every name.
 fn plus_name(text: &[u8], name: Span) -> Span
     requires { name.to ≤ length text.now }
-    ensures name { (fields : List (List ℕ)) → Some (part text.now result) ≡ sign_name (says_plus fields (part text.now name)) }
+    ensures name { (fields : List (List ℕ)) → Some (part text.now result) ≡ sign_name (sayings_plus fields (part text.now name)) }
     ensures inside { result.to ≤ name.to }
 {
     match name.of(text) {
@@ -58,7 +58,7 @@ fn plus_name(text: &[u8], name: Span) -> Span
 // The name of a minus line. One without a name says nothing.
 fn minus_name(text: &[u8], name: Span) -> Option<Span>
     requires { name.to ≤ length text.now }
-    ensures name { option_map (part text.now) result ≡ sign_name (says_minus (part text.now name)) }
+    ensures name { option_map (part text.now) result ≡ sign_name (sayings_minus (part text.now name)) }
     ensures inside { IfSome result (λ sign. sign.to ≤ name.to) }
 {
     match name.of(text) {

@@ -10,7 +10,7 @@ ghost use Rattle.nsc_accounts.proofs.Given.{user_gives, user_lacks};
 ghost use Rattle.nsc_compat.specs.Accounts.{is_wanted, passwd_accounts};
 
 use crate::account::Account;
-use crate::asking::Wanted;
+use crate::asking::Naming;
 use crate::excluded::Excluded;
 use nsc_accounts::{PasswdAt, user_named, user_numbered, user_row};
 use nsc_base::{Bytes, NoMemory, Span, exact_fields};
@@ -40,7 +40,7 @@ impl Account for Passwd {
         alloc: Global,
         text: &[u8],
         line: Span,
-        wanted: &Wanted,
+        wanted: &Naming,
         excluded: &Excluded,
     ) -> Result<Option<Looked>, NoMemory> {
         let Some(at) = wanted_user(text, line, wanted) else {
@@ -81,15 +81,15 @@ impl Account for Passwd {
 
 // The entry of a line of a passwd file that has the form and is the wanted one. Most other lines are given up before all
 // their fields are read.
-fn wanted_user(text: &[u8], line: Span, wanted: &Wanted) -> Option<PasswdAt>
+fn wanted_user(text: &[u8], line: Span, wanted: &Naming) -> Option<PasswdAt>
     requires { line.to ≤ length text.now }
     ensures entry { option_map (user_at text.now) result ≡ if_named (is_wanted passwd_accounts wanted.now) (user_of_line (part text.now line)) }
     ensures inside { IfSome result (UserLiesIn line) }
 {
     match wanted {
-        Wanted::Name(name) => user_named(text, line, *name),
-        Wanted::Id(Some(uid)) => user_numbered(text, line, *uid),
-        Wanted::Id(None) => None,
+        Naming::Name(name) => user_named(text, line, *name),
+        Naming::Id(Some(uid)) => user_numbered(text, line, *uid),
+        Naming::Id(None) => None,
     }
 }
 

@@ -5,8 +5,8 @@ use Rattle.nsc_model.proofs.Crossing.{content-send, content-sync}
 use Rattle.nsc_answer.proofs.Crossing.{lists-send, lists-sync}
 use Rattle.nsc_answer.proofs.Crossing.{ready-send as listed-send, ready-sync as listed-sync}
 use Rattle.nsc_index.specs.contracts.chains.Chains as chains
-use Rattle.nsc_index.specs.contracts.prepared.Prepared as prepared
-use Rattle.nsc_index.specs.contracts.indexed.Ready as ready
+use Rattle.nsc_index.specs.contracts.indexed_content.IndexedContent as prepared
+use Rattle.nsc_index.specs.contracts.indexed.ReadyContent as ready
 
 chains-send : IsSend chains.the_row
 chains-send = search (sendable, crosses) depth 30

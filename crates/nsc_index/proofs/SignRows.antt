@@ -15,7 +15,7 @@ use Rattle.nsc_base.specs.declared.span.Span.{Span}
 use Rattle.nsc_base.specs.Found.{AllBetween}
 use Rattle.nsc_base.specs.Text.{is_filled, line_spans, part}
 use Rattle.nsc_base.proofs.LineStarts.{lines-between}
-use Rattle.nsc_model.specs.Compat.{says}
+use Rattle.nsc_model.specs.Compat.{sayings}
 use Rattle.nsc_model.specs.Entries.{if_named}
 use Rattle.nsc_compat.specs.Matters.{sign_name, speaks_on}
 use Rattle.nsc_index.specs.declared.names.NameAt.{NameAt}
@@ -134,21 +134,21 @@ module _ (text : List ℕ) (these : List ℕ → Bool) (n : ℕ) where
   abbrev pub at_place : List ℕ × ℕ → Bool
   at_place row = (row.1 == n) && (not (is_filled row.0) || these row.0)
 
-  sign_lines : (lines : List Span) → list_any at_place (flat_map (signs_of text) lines) ≡ list_any (λ line. (line.from == n) && speaks_on these (sign_name (says (part text line)))) lines
+  sign_lines : (lines : List Span) → list_any at_place (flat_map (signs_of text) lines) ≡ list_any (λ line. (line.from == n) && speaks_on these (sign_name (sayings (part text line)))) lines
   sign_lines [] = refl
   sign_lines (line ∷ lines) =
       list_any-append at_place (signs_of text line) (flat_map (signs_of text) lines)
-      ∙ ap (λ v. v || list_any at_place (flat_map (signs_of text) lines)) (one_line (sign_name (says (part text line))))
-      ∙ ap (λ v. ((line.from == n) && speaks_on these (sign_name (says (part text line)))) || v) (sign_lines lines) where
+      ∙ ap (λ v. v || list_any at_place (flat_map (signs_of text) lines)) (one_line (sign_name (sayings (part text line))))
+      ∙ ap (λ v. ((line.from == n) && speaks_on these (sign_name (sayings (part text line)))) || v) (sign_lines lines) where
         one_line : (o : Option (List ℕ)) → list_any at_place (option_to_list (option_map (λ name. (name, line.from)) o)) ≡ ((line.from == n) && speaks_on these o)
         one_line None = and_false (line.from == n)
         one_line (Some name) = or_false ((line.from == n) && (not (is_filled name) || these name))
 
-  pub signs_there : (index : List NameAt) → IsSignIndex text index → list_any at_place (map (named_line text) index) ≡ begins_one text (λ line. speaks_on these (sign_name (says line))) n
+  pub signs_there : (index : List NameAt) → IsSignIndex text index → list_any at_place (map (named_line text) index) ≡ begins_one text (λ line. speaks_on these (sign_name (sayings line))) n
   signs_there index is = is.same at_place ∙ sign_lines (line_spans text 0)
 
 -- all of them
-pub all_signs : (text : List ℕ) (index : List NameAt) → IsSignIndex text index → (old new : List ℕ) → new ≡ old ++ map (λ (at : NameAt). at.line) index → Adds text (λ line. speaks_on (λ other. true) (sign_name (says line))) old new
+pub all_signs : (text : List ℕ) (index : List NameAt) → IsSignIndex text index → (old new : List ℕ) → new ≡ old ++ map (λ (at : NameAt). at.line) index → Adds text (λ line. speaks_on (λ other. true) (sign_name (sayings line))) old new
 all_signs text index is old new new_is place =
     ap (λ (ps : List ℕ). has_place ps place) new_is ∙ list_any-append (λ p. p == place) old (map (λ (at : NameAt). at.line) index)
     ∙ ap (λ v. has_place old place || v) (each index ∙ signs_there text (λ other. true) place index is) where
@@ -162,7 +162,7 @@ all_signs text index is old new new_is place =
 
 -- those of a name, and those of every name
 pub named_signs : (text name : List ℕ) (index : List NameAt) → IsSignIndex text index → (old some new : List ℕ) (own every : List NameAt) → own ≡ filter (has_name Counts text name) index → every ≡ filter (has_name Counts text []) index
-    → some ≡ old ++ map (λ (at : NameAt). at.line) own → new ≡ some ++ map (λ (at : NameAt). at.line) every → Adds text (λ line. speaks_on (λ other. bytes_eq other name) (sign_name (says line))) old new
+    → some ≡ old ++ map (λ (at : NameAt). at.line) own → new ≡ some ++ map (λ (at : NameAt). at.line) every → Adds text (λ line. speaks_on (λ other. bytes_eq other name) (sign_name (sayings line))) old new
 named_signs text name index is old some new own every own_is every_is some_is new_is place =
     ap (λ (ps : List ℕ). has_place ps place) new_is ∙ list_any-append (λ p. p == place) some (map (λ (at : NameAt). at.line) every)
     ∙ ap (λ v. v || has_place (map (λ (at : NameAt). at.line) every) place) (ap (λ (ps : List ℕ). has_place ps place) some_is ∙ list_any-append (λ p. p == place) old (map (λ (at : NameAt). at.line) own))

@@ -1,9 +1,9 @@
 -- What is made ready for answers.
 use Rattle.nsc_model.specs.Content.{Content}
-use Rattle.nsc_index.specs.declared.indexed.Ready.{Ready}
-use Rattle.nsc_index.specs.declared.indexed.Ready.TheVariants.{Listed, Prepared}
+use Rattle.nsc_index.specs.declared.indexed.ReadyContent.{ReadyContent}
+use Rattle.nsc_index.specs.declared.indexed.ReadyContent.TheVariants.{Listed, Indexed}
 
 -- the content, whichever way it is looked through
-abbrev pub content_of : Ready → Content
+abbrev pub content_of : ReadyContent → Content
 content_of (Listed content) = content
-content_of (Prepared content) = content
+content_of (Indexed content) = content

@@ -9,5 +9,5 @@ pub mod Users
 pub mod Groups
 pub mod Hosts
 pub mod Services
-pub mod Prepared
+pub mod IndexedContent
 pub mod Indexed

@@ -8,7 +8,7 @@ use Rattle.std.specs.Cmp.Lexicographic.{slice_cmp}
 use Rattle.nsc_base.specs.declared.search.Case.TheVariants.{Counts}
 use Rattle.nsc_base.specs.declared.span.Span.{Span}
 use Rattle.nsc_base.specs.Text.{line_spans, part}
-use Rattle.nsc_model.specs.Compat.{says}
+use Rattle.nsc_model.specs.Compat.{sayings}
 use Rattle.nsc_compat.specs.Matters.{sign_name}
 use Rattle.nsc_index.specs.declared.names.NameAt.{NameAt}
 use Rattle.nsc_index.specs.Indexes.{rows_from}
@@ -16,7 +16,7 @@ use Rattle.nsc_index.specs.Names.{name_in, name_key}
 
 -- the name on which a line speaks, with the place of the line
 abbrev pub signs_of : List ℕ → Span → List (List ℕ × ℕ)
-signs_of text line = option_to_list (option_map (λ name. (name, line.from)) (sign_name (says (part text line))))
+signs_of text line = option_to_list (option_map (λ name. (name, line.from)) (sign_name (sayings (part text line))))
 
 -- a row as the name and the place of its line
 abbrev pub named_line : List ℕ → NameAt → List ℕ × ℕ

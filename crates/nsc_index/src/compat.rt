@@ -2,7 +2,7 @@
 
 ghost use Rattle.nsc_model.specs.Answers.{sub_answer};
 
-use crate::prepared::Prepared;
+use crate::indexed_content::IndexedContent;
 use nsc_accounts::NamedId;
 use nsc_base::NoMemory;
 use nsc_compat::SubLookup;
@@ -12,11 +12,11 @@ use std::alloc::Global;
 
 /// The services of the lists `passwd_compat` and `group_compat`: compat itself is unavailable there.
 #[derive(Drop)]
-pub(crate) struct SubServices<'a> {
-    pub prepared: &'a Prepared,
+pub(crate) struct IndexedSubServices<'a> {
+    pub prepared: &'a IndexedContent,
 }
 
-impl<'a> ServiceLook for SubServices<'a> {
+impl<'a> ServiceLook for IndexedSubServices<'a> {
     ghost outcome = { λ services. sub_answer services.prepared.now };
 
     fn look(
@@ -34,7 +34,7 @@ impl<'a> ServiceLook for SubServices<'a> {
     }
 }
 
-impl<'a> SubLookup for SubServices<'a> {
+impl<'a> SubLookup for IndexedSubServices<'a> {
     ghost content = { λ services. services.prepared.now };
 
     fn content(&self) -> &Content {
@@ -49,6 +49,6 @@ impl<'a> SubLookup for SubServices<'a> {
     fn named_groups(&self, alloc: Global, user: &[u8]) -> Result<Vec<NamedId>, NoMemory> {
         let steps = self.prepared.compat_list(Db::Group);
         let decided = decide(alloc, self, steps, Kind::InitGroups, user)?;
-        self.prepared.named_groups(alloc, decided.service, user)
+        self.prepared.groups_taken(alloc, decided.taker, user)
     }
 }

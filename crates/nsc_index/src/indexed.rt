@@ -4,8 +4,8 @@ ghost use Rattle.nsc_model.specs.Answers.{looked_up};
 ghost use Rattle.nsc_model.specs.Files.{FilesFit};
 ghost use Rattle.nsc_index.specs.Indexed.{content_of};
 
+use crate::indexed_content::IndexedContent;
 use crate::lookup::look_up;
-use crate::prepared::Prepared;
 use nsc_answer::{Listed, answer_with};
 use nsc_base::NoMemory;
 use nsc_model::{Answer, Answerer, Content, Kind, Looked};
@@ -14,21 +14,21 @@ use std::sync::Arc;
 
 /// A content that is ready for answers.
 #[derive(Debug, Drop)]
-pub enum Ready {
+pub enum ReadyContent {
     /// Its service lists are read: a lookup of an entry costs a search through the files.
     Listed(Listed),
     /// Its files have their indexes too: a lookup of an entry walks along a chain, or searches in the order of its key.
-    Prepared(Prepared),
+    Indexed(IndexedContent),
 }
 
-impl Ready {
+impl ReadyContent {
     // The content.
     fn content(&self) -> &Arc<Content>
         ensures { arc_value result.now ≡ content_of self.now }
     {
         match self {
-            Ready::Listed(listed) => listed.content(),
-            Ready::Prepared(prepared) => prepared.content(),
+            ReadyContent::Listed(listed) => listed.content(),
+            ReadyContent::Indexed(indexed) => indexed.content(),
         }
     }
 
@@ -39,8 +39,8 @@ impl Ready {
         ensures fits { FilesFit (content_of self.now) }
     {
         match self {
-            Ready::Listed(listed) => listed.look(alloc, kind, key),
-            Ready::Prepared(prepared) => look_up(alloc, prepared, kind, key),
+            ReadyContent::Listed(listed) => listed.look(alloc, kind, key),
+            ReadyContent::Indexed(indexed) => look_up(alloc, indexed, kind, key),
         }
     }
 }
@@ -51,33 +51,33 @@ impl Ready {
 pub struct Indexed;
 
 impl Answerer for Indexed {
-    type Ready = Ready;
+    type Ready = ReadyContent;
 
     ghost prepared_from = { content_of };
 
-    fn prepare(&self, alloc: Global, content: Arc<Content>) -> Result<Ready, NoMemory> {
-        Ok(Ready::Listed(Listed::of(alloc, content)?))
+    fn prepare(&self, alloc: Global, content: Arc<Content>) -> Result<ReadyContent, NoMemory> {
+        Ok(ReadyContent::Listed(Listed::of(alloc, content)?))
     }
 
-    fn content<'a>(&self, ready: &'a Ready) -> &'a Arc<Content> {
+    fn content<'a>(&self, ready: &'a ReadyContent) -> &'a Arc<Content> {
         ready.content()
     }
 
-    fn prepare_further(&self, alloc: Global, ready: &Ready) -> Option<Ready> {
+    fn prepare_further(&self, alloc: Global, ready: &ReadyContent) -> Option<ReadyContent> {
         match ready {
-            Ready::Listed(listed) => {
+            ReadyContent::Listed(listed) => {
                 let content = listed.content().clone().ok()?;
-                let prepared = Prepared::of(alloc, content).ok()?;
-                Some(Ready::Prepared(prepared))
+                let indexed = IndexedContent::of(alloc, content).ok()?;
+                Some(ReadyContent::Indexed(indexed))
             }
-            Ready::Prepared(_) => None,
+            ReadyContent::Indexed(_) => None,
         }
     }
 
     fn answer(
         &self,
         alloc: Global,
-        ready: &Ready,
+        ready: &ReadyContent,
         kind: Kind,
         key: &[u8],
     ) -> Result<Answer, NoMemory> {

@@ -2,8 +2,8 @@ ghost use Rattle.std.specs.Prelude.{◌≡◌, IfOk};
 ghost use Rattle.nsc_model.specs.Answers.{looked_up, service_answer};
 ghost use Rattle.nsc_model.specs.Files.{FilesFit};
 
-use crate::compat::SubServices;
-use crate::prepared::Prepared;
+use crate::compat::IndexedSubServices;
+use crate::indexed_content::IndexedContent;
 use nsc_base::NoMemory;
 use nsc_compat::compat_lookup_on;
 use nsc_model::{Db, Kind, Looked, SwitchService};
@@ -13,7 +13,7 @@ use std::alloc::Global;
 // The services of a database's own list, over a content whose files have indexes.
 #[derive(Drop)]
 struct IndexedServices<'a> {
-    prepared: &'a Prepared,
+    prepared: &'a IndexedContent,
 }
 
 impl<'a> ServiceLook for IndexedServices<'a> {
@@ -30,7 +30,7 @@ impl<'a> ServiceLook for IndexedServices<'a> {
             SwitchService::Files => self.prepared.in_files(alloc, kind, key),
             SwitchService::Extrausers => self.prepared.in_extrausers(alloc, kind, key),
             SwitchService::Compat => {
-                let sub = SubServices {
+                let sub = IndexedSubServices {
                     prepared: self.prepared,
                 };
                 let lines = self.prepared.compat_lines(alloc, kind, key)?;
@@ -45,7 +45,7 @@ impl<'a> ServiceLook for IndexedServices<'a> {
 /// is longer than a file may be. Fails only for want of memory.
 pub fn look_up(
     alloc: Global,
-    prepared: &Prepared,
+    prepared: &IndexedContent,
     kind: Kind,
     key: &[u8],
 ) -> Result<Looked, NoMemory>

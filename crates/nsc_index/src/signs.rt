@@ -2,7 +2,7 @@
 
 ghost use Rattle.std.specs.Prelude.{◌≡◌, ◌≤◌, ◌<◌, ◌^◌, ◌++◌, IfOk, IsFalse, None, OnOk, length, map};
 ghost use Rattle.std.specs.Str.{bytes_eq};
-ghost use Rattle.nsc_model.specs.Compat.{says};
+ghost use Rattle.nsc_model.specs.Compat.{sayings};
 ghost use Rattle.nsc_compat.specs.Matters.{sign_name, speaks_on};
 ghost use Rattle.nsc_index.specs.Indexes.{rows_from};
 ghost use Rattle.nsc_index.specs.Signs.{Adds, IsSignIndex, named_line, signs_of};
@@ -41,7 +41,7 @@ fn add_spoken(text: &[u8], line: Span, signs: &mut Vec<NameAt>) -> Result<(), No
 // Whether a line begins with a sign after the white space at its front: no other speaks by one.
 #[inline]
 fn has_sign(line: &[u8]) -> bool
-    ensures { IsFalse result → None ≡ sign_name (says line.now) }
+    ensures { IsFalse result → None ≡ sign_name (sayings line.now) }
 {
     match trim_front(line) {
         [b'+' | b'-', ..] => true,
@@ -66,7 +66,7 @@ pub fn add_signs_on(
     places: &mut Vec<u32>,
 ) -> Result<(), NoMemory>
     requires { IsSignIndex text.now signs.now }
-    ensures { OnOk result (Adds text.now (λ line. speaks_on (λ other. bytes_eq other name.now) (sign_name (says line))) places.old.items places.new.items) }
+    ensures { OnOk result (Adds text.now (λ line. speaks_on (λ other. bytes_eq other name.now) (sign_name (sayings line))) places.old.items places.new.items) }
 {
     add_named(places_of_name(text, Case::Counts, signs, name), places)?;
     // Those that speak on every name stand under the empty one.

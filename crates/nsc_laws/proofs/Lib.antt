@@ -23,7 +23,7 @@ pub mod ZeroRuns
 pub mod AddressTexts
 pub mod LiveFronts
 pub mod GivenLists
-pub mod Deciding
+pub mod Takers
 pub mod RunSteps
 pub mod RunRecords
 pub mod RunReplies
@@ -38,7 +38,6 @@ pub mod SentAccounts
 pub mod SentNets
 pub mod SentIds
 pub mod SentAnswers
-pub mod SentSays
 pub mod SentScans
 pub mod SentSwitches
 pub mod SentCompatEntries

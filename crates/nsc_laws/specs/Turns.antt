@@ -1,6 +1,7 @@
 -- Where a switch over services ends, nsswitch.conf(5).
 use Rattle.std.specs.Prelude.{◌≡◌, ◌≢◌, ◌⊎◌, List, [], ◌∷◌, ◌++◌, All}
 use Rattle.nsc_model.specs.declared.row.Looked.{Looked}
+use Rattle.nsc_model.specs.declared.row.Looked.TheVariants.{Unavail}
 use Rattle.nsc_model.specs.declared.switch.SwitchService.{SwitchService}
 use Rattle.nsc_model.specs.declared.switch.SwitchAction.{SwitchAction}
 use Rattle.nsc_model.specs.declared.switch.SwitchAction.TheVariants.{Continue}
@@ -15,14 +16,19 @@ action_of look step = action_at step (look step.service)
 abbrev pub GoesOn : (SwitchService → Looked) → SwitchStep → Type 0
 GoesOn look step = action_of look step ≡ Continue
 
+-- what the services come to whose rows a switch takes: unavailable where there is none
+abbrev pub taken : (SwitchService → Looked) → List SwitchService → Looked
+taken look [] = Unavail
+taken look (service ∷ services) = look service
+
 -- the switch goes on after each of some steps, and ends with the next one, whose action ends it or which is the last; the
--- outcome is that of its service
-pub record EndsAt (look : SwitchService → Looked) (steps : List SwitchStep) (service : SwitchService) : Type 0 where
+-- outcome is that of its service, whose rows alone it takes
+pub record EndsAt (look : SwitchService → Looked) (steps : List SwitchStep) (services : List SwitchService) : Type 0 where
   pub before : List SwitchStep
   pub step : SwitchStep
   pub unasked : List SwitchStep
   pub is : steps ≡ before ++ step ∷ unasked
   pub each_goes_on : All (GoesOn look) before
   pub ends_here : (action_of look step ≢ Continue) ⊎ (unasked ≡ [])
-  pub service_is : step.service ≡ service
-  pub outcome : switched look steps ≡ look service
+  pub services_are : step.service ∷ [] ≡ services
+  pub outcome : switched look steps ≡ look step.service

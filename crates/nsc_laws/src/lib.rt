@@ -25,4 +25,4 @@ pub use machines::{
 };
 pub use replays::replays_are_answered;
 pub use replies::bytes_spell_one_reply;
-pub use switches::{outcomes_are_decided, switches_end_at_deciding_services};
+pub use switches::{outcomes_are_taken, switches_end_at_their_takers};

@@ -5,3 +5,4 @@ pub mod Firsts
 pub mod Passed
 pub mod Beginnings
 pub mod Crossing
+pub mod Sayings

@@ -1,5 +1,5 @@
 -- What is answered over a content: the outcome of each service, the switch over a service list (nsswitch.conf(5)), and the reply's bytes.
-use Rattle.std.specs.Prelude.{ℕ, ◌==◌, Bool, true, false, not, if◌then◌else◌, List, [], ◌∷◌, map, filter, Option, Some, None}
+use Rattle.std.specs.Prelude.{ℕ, ◌==◌, Bool, true, false, not, if◌then◌else◌, List, [], ◌∷◌, map, filter, flat_map, Option, Some, None}
 use Rattle.std.specs.Str.{bytes_eq}
 use Rattle.nsc_model.specs.declared.kind.Kind.{Kind}
 use Rattle.nsc_model.specs.declared.kind.Kind.TheVariants as kind
@@ -32,7 +32,7 @@ use Rattle.nsc_model.specs.declared.switch.SwitchService.TheVariants as service
 use Rattle.nsc_model.specs.declared.switch.SwitchStep.{SwitchStep}
 use Rattle.nsc_model.specs.Services.{action_at, ends}
 use Rattle.nsc_model.specs.Switches.{compat_list, service_list}
-use Rattle.nsc_model.specs.Compat.{IdScan, Scan, gathered, replaced_user, scanned_file}
+use Rattle.nsc_model.specs.Compat.{IdScan, Scan, gathered, replaced_user, sayings, scanned_file}
 
 -- ---- ways to name an entry
 
@@ -192,11 +192,11 @@ group_scan files by key names = record {
   found = λ g. Found (row.Group g);
 }
 
--- the service whose outcome a switch takes
-abbrev pub deciding : (SwitchService → Looked) → List SwitchStep → SwitchService
-deciding look [] = service.Other
-deciding look (step ∷ []) = step.service
-deciding look (step ∷ next ∷ steps) = if ends (action_at step (look step.service)) then step.service else deciding look (next ∷ steps)
+-- the services whose rows a switch takes, in the order of the steps: the one at which it ends
+abbrev pub takers : (SwitchService → Looked) → List SwitchStep → List SwitchService
+takers look [] = []
+takers look (step ∷ []) = step.service ∷ []
+takers look (step ∷ next ∷ steps) = if ends (action_at step (look step.service)) then step.service ∷ [] else takers look (next ∷ steps)
 
 -- the names and ids of the groups of a file that have the user as a member, in its order, none dropped
 abbrev pub pairs_of : List ℕ → Option (List ℕ) → List (List ℕ × ℕ)
@@ -209,10 +209,10 @@ service_pairs files user service.Compat = []
 service_pairs files user service.Extrausers = pairs_of user files.extra_group
 service_pairs files user service.Other = []
 
--- those of the service whose outcome the compat list takes; where that found none, there are none
+-- those of each service whose rows the compat list takes; where none found a group, there are none
 abbrev pub named_groups : Content → List ℕ → List (List ℕ × ℕ)
 named_groups files user =
-    service_pairs files user (deciding (sub_answer files (record { kind = kind.InitGroups; key = user })) (compat_list files db.Group))
+    flat_map (service_pairs files user) (takers (sub_answer files (record { kind = kind.InitGroups; key = user })) (compat_list files db.Group))
 
 abbrev pub id_scan : Content → List ℕ → IdScan
 id_scan files user = record {
@@ -229,7 +229,7 @@ found_or_unavail (Some ids) = found_ids (each_once ids)
 
 abbrev pub gathered_file : IdScan → Option (List ℕ) → Looked
 gathered_file scan None = Unavail
-gathered_file scan (Some file) = found_or_unavail (gathered scan (lines_of file) [])
+gathered_file scan (Some file) = found_or_unavail (gathered scan (flat_map sayings (lines_of file)) [])
 
 -- the outcome of compat: users and groups have it
 abbrev pub compat_by : Kind → Content → List ℕ → Looked

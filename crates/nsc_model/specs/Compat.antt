@@ -1,5 +1,5 @@
 -- The service compat of nsswitch.conf(5): lines of passwd and group that exclude names, or ask further services for entries.
-use Rattle.std.specs.Prelude.{ℕ, Bool, true, false, not, ◌==◌, ◌&&◌, if◌then◌else◌, List, [], ◌∷◌, ◌++◌, map, filter, Option, Some, None}
+use Rattle.std.specs.Prelude.{ℕ, Bool, true, false, not, ◌==◌, ◌&&◌, if◌then◌else◌, List, [], ◌∷◌, ◌++◌, map, filter, flat_map, Option, Some, None}
 use Rattle.std.specs.List.{before_first, list_any}
 use Rattle.std.specs.Option.{option_map}
 use Rattle.std.specs.Str.{bytes_eq}
@@ -21,40 +21,39 @@ has_compat db.Services = false
 
 -- ---- lines
 
--- what a line says: its own entry, where it has the form of one; that a name is excluded; that the entry of a name is asked of
+-- what a line may say: its own entry, where it has the form of one; that a name is excluded; that the entry of a name is asked of
 -- further services, or that the request itself is; or a netgroup, whose names are not known. The fields are those of the line.
-pub data Says : Type 0 where
-  Own : Says
-  Excludes : (name : List ℕ) → Says
-  Asks : (name : List ℕ) (fields : List (List ℕ)) → Says
-  AsksAll : (fields : List (List ℕ)) → Says
-  Netgroup : Says
-  Nothing : Says
+pub data Saying : Type 0 where
+  Own : (line : List ℕ) → Saying
+  Excludes : (name : List ℕ) → Saying
+  Asks : (name : List ℕ) (fields : List (List ℕ)) → Saying
+  AsksAll : (fields : List (List ℕ)) → Saying
+  Netgroup : Saying
 
 -- after a minus: the name up to the first colon
-abbrev pub says_minus : List ℕ → Says
-says_minus [] = Nothing
-says_minus (b ∷ name) = if b == 64 then Netgroup else Excludes (b ∷ name)
+abbrev pub sayings_minus : List ℕ → List Saying
+sayings_minus [] = []
+sayings_minus (b ∷ name) = if b == 64 then Netgroup ∷ [] else Excludes (b ∷ name) ∷ []
 
 -- after a plus
-abbrev pub says_plus : List (List ℕ) → List ℕ → Says
-says_plus fields [] = AsksAll fields
-says_plus fields (b ∷ name) = if b == 64 then Netgroup else Asks (b ∷ name) fields
+abbrev pub sayings_plus : List (List ℕ) → List ℕ → List Saying
+sayings_plus fields [] = AsksAll fields ∷ []
+sayings_plus fields (b ∷ name) = if b == 64 then Netgroup ∷ [] else Asks (b ∷ name) fields ∷ []
 
 -- what stands before the first colon
 abbrev pub first_field : List ℕ → List ℕ
 first_field bytes = before_first (λ b. b == 58) bytes
 
--- by the first byte after the white space at the front: a plus, a minus, or that of an entry
-abbrev pub says_by : List ℕ → Says
-says_by [] = Nothing
-says_by (b ∷ bytes) =
-    if b == 43 then says_plus (fields_of 58 (b ∷ bytes)) (first_field bytes) else (
-    if b == 45 then says_minus (first_field bytes) else Own)
+-- of a line, by the first byte after the white space at the front: a plus, a minus, or that of an entry
+abbrev pub sayings_by : List ℕ → List ℕ → List Saying
+sayings_by line [] = []
+sayings_by line (b ∷ bytes) =
+    if b == 43 then sayings_plus (fields_of 58 (b ∷ bytes)) (first_field bytes) else (
+    if b == 45 then sayings_minus (first_field bytes) else Own line ∷ [])
 
--- a line with a zero byte says nothing
-abbrev pub says : List ℕ → Says
-says line = if has_zero line then Nothing else says_by (trimmed line)
+-- what a line says, in order; one with a zero byte says nothing
+abbrev pub sayings : List ℕ → List Saying
+sayings line = if has_zero line then [] else sayings_by line (trimmed line)
 
 -- ---- fields of a plus line
 
@@ -90,24 +89,23 @@ answers_or scan names excluded None replaced next = next
 answers_or scan names excluded (Some entry) replaced next =
     if names entry && not (is_excluded excluded (scan.name_of entry)) then scan.found (replaced entry) else next
 
--- what a line comes to, where `next` is what the lines after it come to with these names excluded
-abbrev pub scan_line : {A : Type 0} → Scan A → List (List ℕ) → List ℕ → Says → (List (List ℕ) → Looked) → Looked
-scan_line scan excluded line Own next = answers_or scan scan.names excluded (scan.entry_of line) (λ e. e) (next excluded)
-scan_line scan excluded line (Excludes name) next = next (name ∷ excluded)
-scan_line scan excluded line (Asks name fields) next = answers_or scan scan.names excluded (scan.by_name name) (scan.replaced fields) (next excluded)
-scan_line scan excluded line (AsksAll fields) next = answers_or scan (λ e. true) excluded scan.asked (scan.replaced fields) (next excluded)
-scan_line scan excluded line Netgroup next = Unavail
-scan_line scan excluded line Nothing next = next excluded
+-- what a saying comes to, where `next` is what those after it come to with these names excluded
+abbrev pub scan_saying : {A : Type 0} → Scan A → List (List ℕ) → Saying → (List (List ℕ) → Looked) → Looked
+scan_saying scan excluded (Own line) next = answers_or scan scan.names excluded (scan.entry_of line) (λ e. e) (next excluded)
+scan_saying scan excluded (Excludes name) next = next (name ∷ excluded)
+scan_saying scan excluded (Asks name fields) next = answers_or scan scan.names excluded (scan.by_name name) (scan.replaced fields) (next excluded)
+scan_saying scan excluded (AsksAll fields) next = answers_or scan (λ e. true) excluded scan.asked (scan.replaced fields) (next excluded)
+scan_saying scan excluded Netgroup next = Unavail
 
--- the lines from the first on, where these names are excluded so far: the first that answers decides
-abbrev pub scanned : {A : Type 0} → Scan A → List (List ℕ) → List (List ℕ) → Looked
+-- sayings from the first on, where these names are excluded so far: the first that answers decides
+abbrev pub scanned : {A : Type 0} → Scan A → List Saying → List (List ℕ) → Looked
 scanned scan [] excluded = NotFound
-scanned scan (line ∷ lines) excluded = scan_line scan excluded line (says line) (scanned scan lines)
+scanned scan (saying ∷ later) excluded = scan_saying scan excluded saying (scanned scan later)
 
--- over a file; an absent one is unavailable
+-- over a file, line by line; an absent one is unavailable
 abbrev pub scanned_file : {A : Type 0} → Scan A → Option (List ℕ) → Looked
 scanned_file scan None = Unavail
-scanned_file scan (Some file) = scanned scan (lines_of file) []
+scanned_file scan (Some file) = scanned scan (flat_map sayings (lines_of file)) []
 
 -- ---- the groups of a user
 
@@ -131,15 +129,14 @@ ids_of_pairs excluded pairs = map (λ p. p.1) (filter (λ p. not (is_excluded ex
 abbrev pub before_ids : List ℕ → Option (List ℕ) → Option (List ℕ)
 before_ids ids others = option_map (λ more. ids ++ more) others
 
--- the ids that a line adds to those of the lines after it; none where a netgroup is reached
-abbrev pub gather_line : IdScan → List (List ℕ) → List ℕ → Says → (List (List ℕ) → Option (List ℕ)) → Option (List ℕ)
-gather_line scan excluded line Own next = before_ids (id_of_group scan excluded (scan.group_of line)) (next excluded)
-gather_line scan excluded line (Excludes name) next = next (name ∷ excluded)
-gather_line scan excluded line (Asks name fields) next = before_ids (id_of_group scan excluded (scan.by_name name)) (next excluded)
-gather_line scan excluded line (AsksAll fields) next = before_ids (ids_of_pairs excluded scan.pairs) (next excluded)
-gather_line scan excluded line Netgroup next = None
-gather_line scan excluded line Nothing next = next excluded
+-- the ids that a saying adds to those of the sayings after it; none where a netgroup is reached
+abbrev pub gather_saying : IdScan → List (List ℕ) → Saying → (List (List ℕ) → Option (List ℕ)) → Option (List ℕ)
+gather_saying scan excluded (Own line) next = before_ids (id_of_group scan excluded (scan.group_of line)) (next excluded)
+gather_saying scan excluded (Excludes name) next = next (name ∷ excluded)
+gather_saying scan excluded (Asks name fields) next = before_ids (id_of_group scan excluded (scan.by_name name)) (next excluded)
+gather_saying scan excluded (AsksAll fields) next = before_ids (ids_of_pairs excluded scan.pairs) (next excluded)
+gather_saying scan excluded Netgroup next = None
 
-abbrev pub gathered : IdScan → List (List ℕ) → List (List ℕ) → Option (List ℕ)
+abbrev pub gathered : IdScan → List Saying → List (List ℕ) → Option (List ℕ)
 gathered scan [] excluded = Some []
-gathered scan (line ∷ lines) excluded = gather_line scan excluded line (says line) (gathered scan lines)
+gathered scan (saying ∷ later) excluded = gather_saying scan excluded saying (gathered scan later)

@@ -4,10 +4,9 @@ use Rattle.std.proofs.lemmas.List.{at_drop_all, at_drop_more}
 use Rattle.nsc_model.specs.declared.row.Looked.{Looked}
 use Rattle.nsc_model.specs.declared.row.Looked.TheVariants.{Unavail}
 use Rattle.nsc_model.specs.declared.switch.SwitchService.{SwitchService}
-use Rattle.nsc_model.specs.declared.switch.SwitchService.TheVariants.{Other}
 use Rattle.nsc_model.specs.declared.switch.SwitchStep.{SwitchStep}
 use Rattle.nsc_model.specs.Services.{action_at, ends}
-use Rattle.nsc_model.specs.Answers.{deciding, switched}
+use Rattle.nsc_model.specs.Answers.{switched, takers}
 
 -- steps up to the first at which the switch ends, with what stands for the last step that was asked
 abbrev pub picked : {X : Type 0} → (SwitchStep → Bool) → (SwitchStep → X) → X → List SwitchStep → X
@@ -31,14 +30,14 @@ pub switch_picks : (look : SwitchService → Looked) (steps : List SwitchStep) �
 switch_picks look [] = refl
 switch_picks look (step ∷ steps) = from_step look Unavail step steps
 
--- and so is the service that decides
-service_from : (look : SwitchService → Looked) (service : SwitchService) (step : SwitchStep) (steps : List SwitchStep) → picked (ends_at look) (λ s. s.service) service (step ∷ steps) ≡ deciding look (step ∷ steps)
-service_from look service step [] = same_either (ends_at look step) step.service
-service_from look service step (next ∷ steps) = ap (λ rest. if ends_at look step then step.service else rest) (service_from look step.service next steps)
+-- and so are the services whose rows it takes
+takers_from : (look : SwitchService → Looked) (so_far : List SwitchService) (step : SwitchStep) (steps : List SwitchStep) → picked (ends_at look) (λ s. s.service ∷ []) so_far (step ∷ steps) ≡ takers look (step ∷ steps)
+takers_from look so_far step [] = same_either (ends_at look step) (step.service ∷ [])
+takers_from look so_far step (next ∷ steps) = ap (λ rest. if ends_at look step then step.service ∷ [] else rest) (takers_from look (step.service ∷ []) next steps)
 
-pub deciding_picks : (look : SwitchService → Looked) (steps : List SwitchStep) → picked (ends_at look) (λ s. s.service) Other steps ≡ deciding look steps
-deciding_picks look [] = refl
-deciding_picks look (step ∷ steps) = service_from look Other step steps
+pub takers_picked : (look : SwitchService → Looked) (steps : List SwitchStep) → picked (ends_at look) (λ s. s.service ∷ []) [] steps ≡ takers look steps
+takers_picked look [] = refl
+takers_picked look (step ∷ steps) = takers_from look [] step steps
 
 -- where no step is left, what stands for the last is what is picked
 pub all_asked : {X : Type 0} (last : SwitchStep → Bool) (value : SwitchStep → X) (first now all : X) (steps : List SwitchStep) (n : ℕ) → length steps ≤ n → picked last value now (drop n steps) ≡ picked last value first steps → picked last value first steps ≡ all → now ≡ all

@@ -1,6 +1,7 @@
 //! The services that compat lines ask.
 
-ghost use Rattle.std.specs.Prelude.{◌≡◌, IfOk, map};
+ghost use Rattle.std.specs.Prelude.{◌≡◌, IfOk, flat_map, map};
+ghost use Rattle.std.specs.Option.{option_to_list};
 ghost use Rattle.nsc_model.specs.Answers.{service_pairs, sub_answer};
 ghost use Rattle.nsc_accounts.specs.NamedId.{pair_of};
 ghost use Rattle.nsc_switch.specs.Lists.{lists_of};
@@ -18,13 +19,13 @@ use std::alloc::Global;
 /// The services of the lists `passwd_compat` and `group_compat`, over a content whose lists were read before: compat
 /// itself is unavailable there.
 #[derive(Drop)]
-pub(crate) struct SubServices<'a> {
+pub(crate) struct PlainSubServices<'a> {
     pub content: &'a Content,
     pub lists: &'a Lists,
     pub ghost read: { lists.now ≡ lists_of content.now },
 }
 
-impl<'a> ServiceLook for SubServices<'a> {
+impl<'a> ServiceLook for PlainSubServices<'a> {
     ghost outcome = { λ services. sub_answer services.content.now };
 
     fn look(
@@ -42,7 +43,7 @@ impl<'a> ServiceLook for SubServices<'a> {
     }
 }
 
-impl<'a> SubLookup for SubServices<'a> {
+impl<'a> SubLookup for PlainSubServices<'a> {
     ghost content = { λ services. services.content.now };
 
     fn content(&self) -> &Content {
@@ -57,23 +58,23 @@ impl<'a> SubLookup for SubServices<'a> {
     fn named_groups(&self, alloc: Global, user: &[u8]) -> Result<Vec<NamedId>, NoMemory> {
         let steps = self.lists.compat_list(Db::Group);
         let decided = decide(alloc, self, steps, Kind::InitGroups, user)?;
-        groups_by(alloc, self.content, decided.service, user)
+        groups_taken(alloc, self.content, decided.taker, user)
     }
 }
 
-// The groups of a user in the file of a service.
-fn groups_by(
+// The groups of a user that a switch takes: those in the file of its taker.
+fn groups_taken(
     alloc: Global,
     content: &Content,
-    service: SwitchService,
+    taker: Option<SwitchService>,
     user: &[u8],
 ) -> Result<Vec<NamedId>, NoMemory>
-    ensures { IfOk result (λ groups. map pair_of groups.items ≡ service_pairs content.now user.now service) }
+    ensures { IfOk result (λ groups. map pair_of groups.items ≡ flat_map (service_pairs content.now user.now) (option_to_list taker)) }
 {
-    let file = match service {
-        SwitchService::Files => content.file(FileId::Group),
-        SwitchService::Extrausers => content.file(FileId::ExtraGroup),
-        SwitchService::Compat | SwitchService::Other => None,
+    let file = match taker {
+        Some(SwitchService::Files) => content.file(FileId::Group),
+        Some(SwitchService::Extrausers) => content.file(FileId::ExtraGroup),
+        Some(SwitchService::Compat | SwitchService::Other) | None => None,
     };
     match file {
         Some(text) => nsc_accounts::named_groups(alloc, text, user),

@@ -1,5 +1,6 @@
 ghost use Rattle.std.specs.Prelude.{◌≡◌, IfOk};
-ghost use Rattle.nsc_model.specs.Answers.{deciding, switched};
+ghost use Rattle.std.specs.Option.{option_to_list};
+ghost use Rattle.nsc_model.specs.Answers.{switched, takers};
 ghost use Rattle.nsc_model.specs.Services.{action_at, ends};
 
 use crate::services::ServiceLook;
@@ -7,18 +8,18 @@ use nsc_base::NoMemory;
 use nsc_model::{Kind, Looked, SwitchAction, SwitchService, SwitchStep};
 use std::alloc::Global;
 
-/// Where a switch ended: the service, and its outcome.
+/// Where a switch ended.
 #[derive(Drop)]
 pub struct Decided {
-    /// The service; where there is no step, one that is not built in.
-    pub service: SwitchService,
-    /// Its outcome.
+    /// The service whose rows it takes: the one at which it ended. `None` where there is no step.
+    pub taker: Option<SwitchService>,
+    /// The outcome.
     pub outcome: Looked,
 }
 
 /// The switch over these steps: it ends at the first one whose action at its outcome's status is not to continue, or else
 /// at the last. Over no step it is unavailable. Fails only for want of memory.
-#[tactic(auto, using(crate::proofs::Turns::switch_picks, crate::proofs::Turns::deciding_picks))]
+#[tactic(auto, using(crate::proofs::Turns::switch_picks, crate::proofs::Turns::takers_picked))]
 pub fn decide<V: ServiceLook>(
     alloc: Global,
     services: &V,
@@ -27,17 +28,17 @@ pub fn decide<V: ServiceLook>(
     key: &[u8],
 ) -> Result<Decided, NoMemory>
     ensures outcome { IfOk result (λ decided. decided.outcome ≡ switched (V.outcome services.now (record { kind = kind; key = key.now })) steps.now) }
-    ensures service { IfOk result (λ decided. decided.service ≡ deciding (V.outcome services.now (record { kind = kind; key = key.now })) steps.now) }
+    ensures takers { IfOk result (λ decided. option_to_list decided.taker ≡ takers (V.outcome services.now (record { kind = kind; key = key.now })) steps.now) }
 {
     let mut decided = Decided {
-        service: SwitchService::Other,
+        taker: None,
         outcome: Looked::Unavail,
     };
     for step in steps {
         let outcome = services.look(alloc, step.service, kind, key)?;
         let ends = is_end(action_of(step, &outcome));
         decided = Decided {
-            service: step.service,
+            taker: Some(step.service),
             outcome,
         };
         if ends {

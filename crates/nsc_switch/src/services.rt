@@ -5,7 +5,7 @@ ghost use Rattle.nsc_model.specs.declared.switch.SwitchService.{SwitchService};
 ghost use Rattle.nsc_model.specs.Answers.{service_answer};
 ghost use Rattle.nsc_switch.specs.Lists.{lists_of};
 
-use crate::compat::SubServices;
+use crate::compat::PlainSubServices;
 use crate::lists::Lists;
 use nsc_base::NoMemory;
 use nsc_compat::compat_lookup;
@@ -54,7 +54,7 @@ impl<'a> ServiceLook for PlainServices<'a> {
             SwitchService::Files => files_lookup(alloc, self.content, kind, key),
             SwitchService::Extrausers => extra_lookup(alloc, self.content, kind, key),
             SwitchService::Compat => {
-                let sub = SubServices {
+                let sub = PlainSubServices {
                     content: self.content,
                     lists: self.lists,
                 };

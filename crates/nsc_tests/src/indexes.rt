@@ -1,5 +1,5 @@
 use nsc_base::{Bytes, NoMemory};
-use nsc_index::{Indexed, Ready};
+use nsc_index::{Indexed, ReadyContent};
 use nsc_model::{Answerer, Content, FileId, Kind};
 use std::alloc::Global;
 use std::sync::Arc;
@@ -30,7 +30,7 @@ fn users(alloc: Global) -> Result<Content, NoMemory> {
 }
 
 // What is prepared of a content, without its indexes and with them.
-fn both_ways(alloc: Global, content: Content) -> Result<(Ready, Ready), Fail> {
+fn both_ways(alloc: Global, content: Content) -> Result<(ReadyContent, ReadyContent), Fail> {
     let first = Indexed.prepare(alloc, Arc::new(alloc, content)?)?;
     match Indexed.prepare_further(alloc, &first) {
         Some(further) => Ok((first, further)),
@@ -39,7 +39,7 @@ fn both_ways(alloc: Global, content: Content) -> Result<(Ready, Ready), Fail> {
 }
 
 // Whether the answer to a request is these bytes.
-fn is_answered(alloc: Global, ready: &Ready, kind: Kind, key: &[u8], want: &[u8]) -> bool {
+fn is_answered(alloc: Global, ready: &ReadyContent, kind: Kind, key: &[u8], want: &[u8]) -> bool {
     match Indexed.answer(alloc, ready, kind, key) {
         Ok(answer) => answer.bytes() == want,
         Err(_) => false,

@@ -1,12 +1,13 @@
-use Rattle.std.proofs.Common.{◌≡◌, ◌-◌, length}
+use Rattle.std.proofs.Common.{◌≡◌, ◌-◌, flat_map, length}
+use Rattle.nsc_model.specs.Compat.{sayings}
 use Rattle.nsc_compat.specs.Reading.{lines_left}
 use Rattle.nsc_compat.proofs.lines.scan_lines.Given as goal
 
--- the lines that are left come to what all of them do
+-- what the lines that are left say comes to what all of them say
 abbrev pub invariant-loop-line : goal.invariant-loop-line
 invariant-loop-line g l = record {
   name : l.lines.name ≡ l.fn.lines.name;
-  left : g.L.LineScan.comes l.scan l.seen (lines_left l.lines) ≡ g.L.LineScan.comes l.scan l.fn.seen (lines_left l.fn.lines);
+  left : g.L.LineScan.comes l.scan l.seen (flat_map sayings (lines_left l.lines)) ≡ g.L.LineScan.comes l.scan l.fn.seen (flat_map sayings (lines_left l.fn.lines));
 }
 
 abbrev pub decreases-loop-line : goal.decreases-loop-line

@@ -1,7 +1,8 @@
-use Rattle.std.proofs.Common.{◌≡◌, drop, map}
+use Rattle.std.proofs.Common.{◌≡◌, drop, flat_map, map}
 use Rattle.nsc_base.specs.Text.{part}
+use Rattle.nsc_model.specs.Compat.{sayings}
 use Rattle.nsc_compat.proofs.lines.scan_on.Given as goal
 
--- the lines that are left come to what all of them do
+-- what the lines that are left say comes to what all of them say
 abbrev pub invariant-loop-line : goal.invariant-loop-line
-invariant-loop-line g l = g.L.LineScan.comes l.scan l.seen (map (part l.text) (drop l.line-index l.lines)) ≡ g.L.LineScan.comes l.scan l.fn.seen (map (part l.text) l.lines)
+invariant-loop-line g l = g.L.LineScan.comes l.scan l.seen (flat_map sayings (map (part l.text) (drop l.line-index l.lines))) ≡ g.L.LineScan.comes l.scan l.fn.seen (flat_map sayings (map (part l.text) l.lines))

@@ -7,4 +7,4 @@ use Rattle.nsc_compat.proofs.signs.sign_line.Goals as goal
 pub returns-in_err-name-clause-name : goal.returns-in_err-name-clause-name
 returns-in_err-name-clause-name c =
     let text = c.args.text.now in
-    ap (option_map (part text)) c.from_residual.ensures ∙ no_sign (part text c.args.line) (part text c.trim_front.result) c.trim_front.ensures.bytes c.in_err-name.ensures.name
+    ap (option_map (part text)) c.from_residual.ensures ∙ no_sign (part text c.args.line) (part text c.trim_front.result) c.trim_front.ensures.bytes (c.in_err-name.ensures.name (part text c.args.line))

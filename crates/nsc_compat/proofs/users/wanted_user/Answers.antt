@@ -4,7 +4,7 @@ use Rattle.nsc_base.specs.Text.{part}
 use Rattle.nsc_model.specs.Entries.{if_named}
 use Rattle.nsc_model.specs.Users.{user_of_line}
 use Rattle.nsc_accounts.proofs.Named.{user_given}
-use Rattle.nsc_compat.specs.declared.asking.Wanted.TheVariants.{Id}
+use Rattle.nsc_compat.specs.declared.asking.Naming.TheVariants.{Id}
 use Rattle.nsc_compat.specs.Accounts.{is_wanted, passwd_accounts}
 use Rattle.nsc_compat.proofs.users.wanted_user.Goals as goal
 

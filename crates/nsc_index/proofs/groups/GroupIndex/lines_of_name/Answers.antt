@@ -3,7 +3,7 @@ use Rattle.std.specs.Option.{is_some}
 use Rattle.std.specs.Str.{bytes_eq}
 use Rattle.nsc_base.specs.declared.search.Case.TheVariants.{Counts}
 use Rattle.nsc_model.specs.Answers.{group_named}
-use Rattle.nsc_model.specs.Compat.{says}
+use Rattle.nsc_model.specs.Compat.{sayings}
 use Rattle.nsc_model.specs.Entries.{if_named}
 use Rattle.nsc_model.specs.Groups.{group_of_line}
 use Rattle.nsc_compat.specs.Matters.{sign_name, speaks_on}
@@ -19,4 +19,4 @@ returns c =
     let named = c.places_of_name-named.ensures ∙ ap (filter (has_name Counts text name)) c.deref.ensures.value in
     let own = named_lines text c.args.self.now c.requires name c.new-places.result.items c.add_named.new.places.items c.places_of_name-named.result.now named c.in_ok-add_named.ensures in
     c.in_ok-lines.ensures _
-    (added_to_none text (λ line. is_some (if_named (group_named name) (group_of_line line))) (λ line. speaks_on (λ other. bytes_eq other name) (sign_name (says line))) c.new-places.result.items c.add_named.new.places.items c.add_signs_on.new.places.items c.new-places.ensures.items own c.in_ok-add_signs_on.ensures)
+    (added_to_none text (λ line. is_some (if_named (group_named name) (group_of_line line))) (λ line. speaks_on (λ other. bytes_eq other name) (sign_name (sayings line))) c.new-places.result.items c.add_named.new.places.items c.add_signs_on.new.places.items c.new-places.ensures.items own c.in_ok-add_signs_on.ensures)

@@ -1,8 +1,8 @@
-ghost use Rattle.std.specs.Prelude.{◌≡◌, ◌≤◌, IfOk, length, map};
+ghost use Rattle.std.specs.Prelude.{◌≡◌, ◌≤◌, IfOk, flat_map, length, map};
 ghost use Rattle.std.specs.Arc.{arc_value};
 ghost use Rattle.nsc_model.specs.declared.switch.SwitchService.TheVariants.{Files, Extrausers};
 ghost use Rattle.nsc_model.specs.Answers.{service_answer};
-ghost use Rattle.std.specs.Option.{option_copied};
+ghost use Rattle.std.specs.Option.{option_copied, option_to_list};
 ghost use Rattle.nsc_accounts.specs.NamedId.{pair_of};
 ghost use Rattle.nsc_model.specs.Answers.{pairs_of};
 ghost use Rattle.nsc_index.specs.Groups.{IsGroupIndex};
@@ -32,7 +32,7 @@ const IPV6: u8 = 10;
 
 /// A content with its service lists and the indexes of its files, which were made once.
 #[derive(Debug, Drop)]
-pub struct Prepared {
+pub struct IndexedContent {
     content: Arc<Content>,
     lists: Lists,
     users: UserIndex,
@@ -43,20 +43,20 @@ pub struct Prepared {
     services: ServiceIndex,
 }
 
-impl Model for Prepared {
+impl Model for IndexedContent {
     ghost use Rattle.std.specs.Arc.{arc_value};
     ghost use Rattle.nsc_model.specs.Content.{Content};
 
     ghost Value = { Content };
 
-    ghost use Rattle.nsc_index.specs.Prepared.{IsPrepared};
+    ghost use Rattle.nsc_index.specs.IndexedContent.{IsIndexedContent};
 
     ghost view = { λ p. arc_value p.content };
 
-    ghost invariant = { IsPrepared };
+    ghost invariant = { IsIndexedContent };
 }
 
-impl Prepared {
+impl IndexedContent {
     ghost use Rattle.std.specs.Prelude.{◌≡◌, IfOk};
     ghost use Rattle.std.specs.Arc.{arc_value};
     ghost use Rattle.nsc_model.specs.declared.switch.SwitchService.TheVariants.{Files, Extrausers};
@@ -70,7 +70,7 @@ impl Prepared {
     ghost use Rattle.nsc_switch.specs.Lists.{compat_list_in, list_in, lists_of};
 
     /// A content, once its service lists are read and its files have their indexes. Fails only for want of memory.
-    pub(crate) fn of(alloc: Global, content: Arc<Content>) -> Result<Prepared, NoMemory>
+    pub(crate) fn of(alloc: Global, content: Arc<Content>) -> Result<IndexedContent, NoMemory>
         ensures { IfOk result (λ prepared. prepared ≡ arc_value content) }
     {
         let lists = Lists::of(alloc, &content)?;
@@ -80,7 +80,7 @@ impl Prepared {
         let extra_groups = GroupIndex::of(alloc, text_in(&content, FileId::ExtraGroup))?;
         let hosts = HostIndex::of(alloc, text_in(&content, FileId::Hosts))?;
         let services = ServiceIndex::of(alloc, text_in(&content, FileId::Services))?;
-        Ok(Prepared {
+        Ok(IndexedContent {
             content,
             lists,
             users,
@@ -193,21 +193,27 @@ impl Prepared {
         }
     }
 
-    /// The names and ids of the groups of a user in the file of a service, none dropped. Fails only for want of memory.
-    pub(crate) fn named_groups(
+    /// The names and ids of the groups of a user that a switch takes, none dropped: those in the file of its taker. Fails only for
+    /// want of memory.
+    pub(crate) fn groups_taken(
         &self,
         alloc: Global,
-        service: SwitchService,
+        taker: Option<SwitchService>,
         user: &[u8],
     ) -> Result<Vec<NamedId>, NoMemory>
-        ensures { IfOk result (λ groups. map pair_of groups.items ≡ service_pairs self.now user.now service) }
+        ensures { IfOk result (λ groups. map pair_of groups.items ≡ flat_map (service_pairs self.now user.now) (option_to_list taker)) }
     {
         let group = self.content.file(FileId::Group);
         let extra_group = self.content.file(FileId::ExtraGroup);
-        match service {
-            SwitchService::Files => groups_in(alloc, group, &self.groups, user),
-            SwitchService::Extrausers => groups_in(alloc, extra_group, &self.extra_groups, user),
-            SwitchService::Compat | SwitchService::Other => Ok(Vec::new(alloc)),
+        match taker {
+            Some(SwitchService::Files) => groups_in(alloc, group, &self.groups, user),
+            Some(SwitchService::Extrausers) => groups_in(
+                alloc,
+                extra_group,
+                &self.extra_groups,
+                user,
+            ),
+            Some(SwitchService::Compat | SwitchService::Other) | None => Ok(Vec::new(alloc)),
         }
     }
 }

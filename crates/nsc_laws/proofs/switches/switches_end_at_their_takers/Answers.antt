@@ -1,5 +1,5 @@
-use Rattle.nsc_laws.proofs.Deciding.{ends_at, lists_end_at, sub_lists_end_at}
-use Rattle.nsc_laws.proofs.switches.switches_end_at_deciding_services.Goals as goal
+use Rattle.nsc_laws.proofs.Takers.{ends_at, lists_end_at, sub_lists_end_at}
+use Rattle.nsc_laws.proofs.switches.switches_end_at_their_takers.Goals as goal
 
 pub returns-clause-any : goal.returns-clause-any
 returns-clause-any c = ends_at

@@ -5,7 +5,7 @@ use Rattle.nsc_model.specs.Content.{Content}
 use Rattle.nsc_model.specs.Kinds.{database_of}
 use Rattle.nsc_model.specs.Switches.{text_of}
 use Rattle.nsc_index.proofs.CompatLines.{group_by_id, group_by_name, groups_of_user, no_line, user_by_id, user_by_name}
-use Rattle.nsc_index.proofs.prepared.Prepared.compat_lines.Goals as goal
+use Rattle.nsc_index.proofs.indexed_content.IndexedContent.compat_lines.Goals as goal
 
 pub returns-in-PwName : goal.returns-in-PwName
 returns-in-PwName c =
