@@ -216,8 +216,8 @@ gaining core r = record core { history = r ∷ core.history }
 gains : (core : Core) (r : Record) → Sound core → Legal (r ∷ core.history) → Sound (gaining core r)
 gains core r s l = record { legal = l; told = λ a. told_more r core.history (core.callers a) (s.told a) }
 
-load_legal : (h : List Record) (c : Caller) (timeout : ℕ) (e : Entry) → Legal h → Told h c → Inserts h c timeout e → Legal (Load e ∷ h)
-load_legal h c timeout e l t i = (l, i.number_is, i.none_live, (i.content, i.held, i.answer_is), t.polled_since (invalidations h) e.version i.noted_is i.version_is refl)
+load_legal : (h : List Record) (c : Caller) (request : Request) (timeout : ℕ) (e : Entry) → Legal h → Told h c → Inserts h c request timeout e → Legal (Load e ∷ h)
+load_legal h c request timeout e l t i = (l, i.number_is, i.none_live, (i.content, i.held, i.answer_is), t.polled_since (invalidations h) e.version i.noted_is i.version_is refl)
 
 -- ---- an invalidation
 
@@ -244,9 +244,9 @@ kept db (Look a (Some e)) old new s m = subst Sound (sym m.2) (becomes old a (ta
 kept db (Note a) old new s m = subst Sound (sym m) (becomes old a (noting (old.callers a) (invalidations old.history)) s (notes old.history (old.callers a) (s.told a)))
 kept db (Fetch a) old new s m = subst Sound (sym m.1) (becomes old a (fetching (old.callers a) (part_of db old.sources)) s (fetches old.history (old.callers a) (part_of db old.sources) (s.told a)))
 kept db (PollStep a) old new s m = subst Sound (sym m.5) (poll_sound old a m.0 m.1 m.2 s m.4)
-kept db (Insert a timeout) old new s (inl m) =
-    subst Sound (sym m.2) (gains old (Load m.0) s (load_legal old.history (old.callers a) timeout m.0 s.legal (s.told a) m.1))
-kept db (Insert a timeout) old new s (inr m) = subst Sound (sym m.1) s
+kept db (Insert a request timeout) old new s (inl m) =
+    subst Sound (sym m.2) (gains old (Load m.0) s (load_legal old.history (old.callers a) request timeout m.0 s.legal (s.told a) m.1))
+kept db (Insert a request timeout) old new s (inr m) = subst Sound (sym m.1) s
 kept db (Finish number cause) old new s m = subst Sound (sym m.4) (gains old (End number cause) s (s.legal, m.0, m.1, m.2, m.3))
 kept db Empty old new s m = subst Sound (sym m.2) (empty_sound old m.0 s m.1)
 kept db Compact old new s m = subst Sound (sym m) s

@@ -105,9 +105,9 @@ kept db (Look a (Some e)) old new f m = subst (Founded db) (sym m.2) (becomes db
 kept db (Note a) old new f m = subst (Founded db) (sym m) (becomes db old a (noting (old.callers a) (invalidations old.history)) f (notes db old.history (old.callers a)))
 kept db (Fetch a) old new f m = subst (Founded db) (sym m.1) (becomes db old a (fetching (old.callers a) (part_of db old.sources)) f (fetches db old.history (old.callers a) old.sources (f.knows a)))
 kept db (PollStep a) old new f m = subst (Founded db) (sym m.5) (poll_founded db old a m.0 m.1 m.2 f m.3 m.4)
-kept db (Insert a timeout) old new f (inl m) =
+kept db (Insert a request timeout) old new f (inl m) =
     subst (Founded db) (sym m.2) (founded_more db old (Load m.0) f (f.sourced, (f.knows a).polled m.0.version m.1.version_is))
-kept db (Insert a timeout) old new f (inr m) = subst (Founded db) (sym m.1) f
+kept db (Insert a request timeout) old new f (inr m) = subst (Founded db) (sym m.1) f
 kept db (Finish number cause) old new f m = subst (Founded db) (sym m.4) (founded_more db old (End number cause) f f.sourced)
 kept db Empty old new f m =
     let mid = record old { history = ended_all m.0 old.history } in

@@ -50,7 +50,7 @@ pub data Move : Type 0 where
   Note : (caller : ℕ) → Move
   Fetch : (caller : ℕ) → Move
   PollStep : (caller : ℕ) → Move
-  Insert : (caller : ℕ) → (timeout : ℕ) → Move
+  Insert : (caller : ℕ) → (request : Request) → (timeout : ℕ) → Move
   Finish : (number : ℕ) → (cause : Ending) → Move
   Empty : Move
   Compact : Move
@@ -70,11 +70,16 @@ abbrev pub IsPoll : List Record → Content → Record → ℕ → Type 0
 IsPoll history content poll n =
     ((newest history ≡ Some content) × (n + 1 ≡ changes history) × (poll ≡ Poll n)) ⊎ ((newest history ≢ Some content) × (n ≡ changes history) × (poll ≡ Change n content))
 
--- the entry that a caller inserts: of its request, over its version, where it noted the present number of invalidations
--- and no entry of the request is live
-pub record Inserts (history : List Record) (caller : Caller) (timeout : ℕ) (e : Entry) : Type 0 where
+-- the requests of which a caller may insert an entry: its own
+abbrev pub MayInsert : Caller → Request → Type 0
+MayInsert caller request = caller.request ≡ Some request
+
+-- the entry of a request that a caller inserts: of one that it may insert, over its version, where it noted the present number
+-- of invalidations and no entry of the request is live
+pub record Inserts (history : List Record) (caller : Caller) (request : Request) (timeout : ℕ) (e : Entry) : Type 0 where
   pub content : Content
-  pub request_is : caller.request ≡ Some e.request
+  pub allowed : MayInsert caller request
+  pub request_is : e.request ≡ request
   pub version_is : caller.version ≡ Some e.version
   pub noted_is : caller.noted ≡ Some (invalidations history)
   pub none_live : NoneLiveOf history e.request
@@ -107,8 +112,9 @@ Moves db (Fetch a) old new = ((epoch : ℕ) × ((old.callers a).noted ≡ Some e
 Moves db (PollStep a) old new =
     (content : Content) × (poll : Record) × (n : ℕ) × ((old.callers a).fetched ≡ Some content) × IsPoll old.history content poll n
     × (new ≡ record old { history = poll ∷ old.history; callers = with_caller old.callers a (record (old.callers a) { version = Some n; asked = Some n }) })
-Moves db (Insert a timeout) old new =
-    ((e : Entry) × Inserts old.history (old.callers a) timeout e × Gains old (Load e ∷ []) new) ⊎ (((e : Entry) → Inserts old.history (old.callers a) timeout e → ⊥) × (new ≡ old))
+Moves db (Insert a request timeout) old new =
+    ((e : Entry) × Inserts old.history (old.callers a) request timeout e × Gains old (Load e ∷ []) new)
+    ⊎ (((e : Entry) → Inserts old.history (old.callers a) request timeout e → ⊥) × (new ≡ old))
 Moves db (Finish number cause) old new = (e : Entry) × IsLive old.history e × (e.number ≡ number) × Allows cause e × Gains old (End number cause ∷ []) new
 Moves db Empty old new = (entries : List Entry) × AreLive old.history entries × (new ≡ record old { history = Invalid (invalidations old.history + 1) ∷ ended_all entries old.history })
 Moves db Compact old new = new ≡ old

@@ -20,9 +20,7 @@ pub use callers::{
 };
 pub use histories::{prefixes_are_legal, replied_entries_were_live};
 pub use lists::{texts_give_lists, texts_spell_lists};
-pub use machines::{
-    lone_insertions_are_refused_alike, machine_events_are_moves, runs_are_answered,
-};
+pub use machines::{machine_events_are_moves, runs_are_answered};
 pub use replays::replays_are_answered;
 pub use replies::bytes_spell_one_reply;
 pub use switches::{outcomes_are_decided, switches_end_at_deciding_services};

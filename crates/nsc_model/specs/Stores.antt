@@ -14,8 +14,8 @@ use Rattle.nsc_model.specs.declared.kind.Db.{Db}
 use Rattle.nsc_model.specs.declared.kind.FileId.{FileId}
 use Rattle.nsc_model.specs.declared.store.LookupFault.{LookupFault}
 use Rattle.nsc_model.specs.declared.store.LookupFault.TheVariants as fault
-use Rattle.nsc_model.specs.declared.store.InvalidateFault.{InvalidateFault}
-use Rattle.nsc_model.specs.declared.store.InvalidateFault.TheVariants as invalidate_fault
+use Rattle.nsc_model.specs.declared.fault.CacheFault.{CacheFault}
+use Rattle.nsc_model.specs.declared.fault.CacheFault.TheVariants as cache_fault
 use Rattle.nsc_model.specs.declared.store.Stats.{Stats}
 use Rattle.nsc_model.specs.declared.store.Why.{Why}
 use Rattle.nsc_model.specs.declared.store.Why.TheVariants as why
@@ -166,9 +166,9 @@ abbrev pub IsEndedYet : List Record → Type 0 → Type 0
 IsEndedYet after ended = (invalidations after ≡ last_count) ⊎ ended
 
 -- why an invalidation gave up
-abbrev pub IsInvalidateFault : InvalidateFault → List Record → Type 0
-IsInvalidateFault invalidate_fault.NoMemory after = Unit {0}
-IsInvalidateFault (invalidate_fault.Spent count) after = IsUnmoved after count × IsEndedYet after (NoneLive after)
+abbrev pub IsInvalidateFault : CacheFault → List Record → Type 0
+IsInvalidateFault cache_fault.NoMemory after = Unit {0}
+IsInvalidateFault (cache_fault.Spent count) after = IsUnmoved after count × IsEndedYet after (NoneLive after)
 
 -- the counts are those of this history, and the words those of its live entries
 pub record IsCounted (arena : ℕ) (after : List Record) (stats : Stats) : Type 0 where

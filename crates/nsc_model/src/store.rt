@@ -14,6 +14,7 @@ ghost use Rattle.nsc_model.specs.Machine.{room_of};
 ghost use Rattle.nsc_model.specs.Reads.{HasNotFallen, IsCalm, IsMade, IsOfHeld, NoFileFault, NoneFell};
 ghost use Rattle.nsc_model.specs.Stores.{IsCounted, IsEmptied, IsFault, IsGiven, IsInvalidateFault, IsMissedAt, IsTicked, IsTickFault, reply_of};
 
+use crate::fault::CacheFault;
 use crate::kind::{FileId, Kind};
 use nsc_base::{Bytes, NoMemory};
 use std::alloc::Global;
@@ -144,21 +145,6 @@ pub enum LookupFault {
     },
 }
 
-/// Why an invalidation gave up.
-#[derive(Clone, Copy, Debug, PartialEq, Eq, Error)]
-pub enum InvalidateFault {
-    /// Memory was wanting.
-    #[error("out of memory")]
-    NoMemory,
-    /// A count that the call needs stands at its end: that of the invalidations, and nothing changed; or that of the
-    /// compactions, and every entry is ended, but the words of the ended ones are not free.
-    #[error("a count stands at {count}")]
-    Spent {
-        /// The count, 2^62.
-        count: u64,
-    },
-}
-
 impl From<NoMemory> for LookupFault {
     ghost use Rattle.std.specs.Prelude.{◌≡◌};
     ghost use Rattle.nsc_model.specs.declared.store.LookupFault.TheVariants.{NoMemory as Memory};
@@ -277,7 +263,7 @@ pub trait Store {
         ensures counts { HasNotFallen (faults pass.old) (faults pass.new) × NoneFell (file_faults pass.old) (file_faults pass.new) };
 
     /// Ends every live entry as invalidated, and gives the new number of invalidations.
-    fn invalidate<R: Wait>(&self, rt: &R, pass: &mut Self::Pass) -> Result<u64, InvalidateFault>
+    fn invalidate<R: Wait>(&self, rt: &R, pass: &mut Self::Pass) -> Result<u64, CacheFault>
         requires { is_pass self.now pass.old }
         ensures pass { is_pass self.now pass.new }
         ensures before { IsPrefix (seen pass.old) (seen pass.new) }
