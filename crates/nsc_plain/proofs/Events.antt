@@ -2,6 +2,7 @@
 use Rattle.std.proofs.Common.{◌≡◌, ◌≢◌, ℕ, ◌<◌, ◌==◌, inl, inr, Bool, true, false, cond, List, [], ◌∷◌, length, find, map, Option, Some, None, Result, Ok, Err, refl, ap, sym, ◌∙◌, subst, arith}
 use Rattle.std.proofs.lemmas.Bool.{eq-eqb}
 use Rattle.std.proofs.lemmas.Bool.Decides.{eqb_tells}
+use Rattle.std.proofs.lemmas.Simd.{map-map}
 use Rattle.nsc_model.specs.declared.fault.CacheFault.{CacheFault}
 use Rattle.nsc_model.specs.declared.fault.CacheFault.TheVariants.{NoMemory, Spent}
 use Rattle.nsc_model.specs.declared.answer.Request.{Request}
@@ -10,11 +11,11 @@ use Rattle.nsc_model.specs.Kinds.{is_request}
 use Rattle.nsc_model.specs.Content.{Content}
 use Rattle.nsc_model.specs.declared.conf.DbConf.{DbConf}
 use Rattle.nsc_model.specs.Answers.{answer_of}
-use Rattle.nsc_model.specs.Machine.{Kept, Cache, Passed, Stopped, Turn, Refusal, TooLarge, Discarded, Present, Spent as Uncounted, Full, last_count, after_adds, ◌>>=◌, own_refusal, room_of, tried, tried_by, new_entry, polled, cached, kept_answer, loaded, hit_or_load, lookup, compacted, compacted_after, emptied, invalidated, ends_of, due_cause, stopped, unchanged, is_due, due_of, others_of, reloaded_of, reloaded, next_reloads, pruned, checked, tick, ticked_after}
+use Rattle.nsc_model.specs.Machine.{Kept, Cache, Passed, Stopped, Turn, Refusal, TooLarge, Discarded, Present, Spent as Uncounted, Full, last_count, after_adds, ◌>>=◌, Candidate, refusal, room_of, tried_by, tried, tried_all, candidates_of, candidate_again, new_entry, polled, cached, kept_answer, loaded, hit_or_load, lookup, compacted, compacted_after, emptied, invalidated, ends_of, due_cause, stopped, unchanged, is_due, due_of, others_of, reloaded_of, reloaded, pruned, checked, tick, ticked_after}
 use Rattle.nsc_model.specs.Events.{TurnsTo, PassesTo, StopsAt}
 use Rattle.nsc_model.specs.Faults.{StopsBy, FaultsBy, GivesUpBy}
 use Rattle.nsc_plain.specs.PlainCache.{HitsBy}
-use Rattle.nsc_plain.specs.Insertion.{anew}
+use Rattle.nsc_plain.specs.Insertion.{Insertion, answered, anew}
 use Rattle.nsc_plain.specs.Table.{put, put_all}
 use Rattle.nsc_plain.proofs.Ends.{none_left}
 
@@ -79,7 +80,7 @@ invalidation_faults cache after (Spent n) ne h =
 pub keeps : (settings : DbConf) (now : ℕ) (request : Request) (cache after : Cache) → settings.enabled ≡ true
     → put settings now cache.newest_version (record { request = request; answer = answer_of cache.sources request; reloads = 0 }) cache ≡ after → (kept_answer settings now request cache).cache ≡ after
 keeps settings now request cache after on h =
-    let at : kept_answer settings now request cache ≡ tried settings now request 0 cache = at_true _ _ on in
+    let at : kept_answer settings now request cache ≡ tried_all settings now (candidates_of request) cache = at_true _ _ on in
     ap (λ (p : Passed). p.cache) at ∙ h
 
 -- where the database is cached, an entry is searched for among those that live
@@ -148,14 +149,21 @@ tried_sources (Some (Present number)) k cache = (refl, refl)
 tried_sources (Some (Uncounted count)) k cache = (refl, refl)
 tried_sources (Some (Full need free)) k cache = (refl, refl)
 
+put_is_tried : (settings : DbConf) (now : ℕ) (all : List Candidate) (cache : Cache)
+    → put_all settings now cache.newest_version (map (answered cache.sources) all) cache ≡ (tried_all settings now all cache).cache
+put_is_tried settings now [] cache = refl
+put_is_tried settings now (one ∷ others) cache =
+    let first = (tried settings now one cache).cache in
+    let k = new_entry settings now one cache in
+    let same = tried_sources (refusal (room_of settings) cache.epoch k.entry cache) k cache in
+    subst (λ (files : Content). put_all settings now cache.newest_version (map (answered files) others) first ≡ (tried_all settings now others first).cache) same.0
+    (subst (λ (version : ℕ). put_all settings now version (map (answered first.sources) others) first ≡ (tried_all settings now others first).cache) same.1 (put_is_tried settings now others first))
+
 pub put_is_reloaded : (settings : DbConf) (now : ℕ) (entries : List Kept) (cache : Cache)
     → put_all settings now cache.newest_version (map (anew cache.sources) entries) cache ≡ (reloaded settings now entries cache).cache
-put_is_reloaded settings now [] cache = refl
-put_is_reloaded settings now (k ∷ entries) cache =
-    let first = (tried settings now k.entry.request (next_reloads k.reloads) cache).cache in
-    let same = tried_sources (own_refusal (room_of settings) (new_entry settings now k.entry.request (next_reloads k.reloads) cache).entry cache) (new_entry settings now k.entry.request (next_reloads k.reloads) cache) cache in
-    subst (λ (files : Content). put_all settings now cache.newest_version (map (anew files) entries) first ≡ (reloaded settings now entries first).cache) same.0
-    (subst (λ (version : ℕ). put_all settings now version (map (anew first.sources) entries) first ≡ (reloaded settings now entries first).cache) same.1 (put_is_reloaded settings now entries first))
+put_is_reloaded settings now entries cache =
+    subst (λ (all : List Insertion). put_all settings now cache.newest_version all cache ≡ (reloaded settings now entries cache).cache) (map-map (answered cache.sources) candidate_again entries)
+    (put_is_tried settings now (map candidate_again entries) cache)
 
 -- ---- ticks
 

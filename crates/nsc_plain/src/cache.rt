@@ -195,6 +195,7 @@ impl PlainCache {
         ensures reply { IfOk result (λ reply. (answer_of self.old.cache.sources (record { kind = kind; key = key.now })).bytes ≡ reply) }
         ensures stays { OnErr result (self.new.cache ≡ self.old.cache) }
     {
+        files.begin(alloc, answers);
         let answer = files.answer(alloc, answers, kind, key)?;
         let reply = Bytes::copy(alloc, answer.bytes())?;
         self.keep(alloc, kind, key, answer, now)?;

@@ -111,6 +111,7 @@ fn answer_again<A: Answerer>(
     ensures again { IfOk result (λ again. again ≡ anew files.old.files kept.now) }
 {
     let request = kept.entry().request();
+    files.begin(alloc, answers);
     let answer = files.answer(alloc, answers, request.kind, request.key.as_slice())?;
     let key = Bytes::copy(alloc, request.key.as_slice())?;
     let kind = request.kind;
