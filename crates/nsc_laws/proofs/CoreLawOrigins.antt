@@ -10,7 +10,7 @@ use Rattle.nsc_model.specs.Content.{Content}
 use Rattle.nsc_model.specs.Files.{part_of}
 use Rattle.nsc_model.specs.Entry.{Entry}
 use Rattle.nsc_model.specs.History.{changes, invalidations}
-use Rattle.nsc_laws.specs.Core.{Caller, Core, new_caller, opening, with_caller, Move, Files, Begin, Look, Note, Fetch, PollStep, Insert, Finish, Empty, Compact, Reply, IsPoll, ended_all, Moves, Runs}
+use Rattle.nsc_laws.specs.Core.{Caller, Core, new_caller, opening, with_caller, Move, Files, Begin, Look, Note, Fetch, PollStep, Insert, Finish, Empty, Compact, Reply, IsPoll, ended_all, IsMove, AreMoves}
 use Rattle.nsc_laws.specs.Origins.{IsRead, HasPoll, IsSourced}
 use Rattle.nsc_laws.proofs.CoreLaw.{changed, begun, taking, noting, fetching, polling, after_poll}
 use Rattle.nsc_laws.proofs.CoreLawRecords.{changes_rise}
@@ -97,7 +97,7 @@ poll_founded db core a content poll n f fetched is =
 
 -- ---- moves and runs
 
-kept : (db : Db) (move : Move) (old new : Core) → Founded db old → Moves db move old new → Founded db new
+kept : (db : Db) (move : Move) (old new : Core) → Founded db old → IsMove db move old new → Founded db new
 kept db (Files content) old new f m = subst (Founded db) (sym m) (record { begun_with = f.begun_with; sourced = f.sourced; knows = f.knows })
 kept db (Begin a request seen) old new f m = subst (Founded db) (sym m.2) (becomes db old a (begun (old.callers a) request seen) f (same_known db old.history (old.callers a) (begun (old.callers a) request seen) refl refl (f.knows a)))
 kept db (Look a None) old new f m = subst (Founded db) (sym m) (becomes db old a (record (old.callers a) { taken = None }) f (same_known db old.history (old.callers a) (record (old.callers a) { taken = None }) refl refl (f.knows a)))
@@ -116,7 +116,7 @@ kept db Empty old new f m =
 kept db Compact old new f m = subst (Founded db) (sym m) f
 kept db (Reply a bytes) old new f m = subst (Founded db) (sym m.1) f
 
-run_kept : (db : Db) (moves : List Move) (old new : Core) → Founded db old → Runs db moves old new → Founded db new
+run_kept : (db : Db) (moves : List Move) (old new : Core) → Founded db old → AreMoves db moves old new → Founded db new
 run_kept db [] old new f r = subst (Founded db) (sym r) f
 run_kept db (move ∷ moves) old new f r = run_kept db moves r.0 new (kept db move old r.0 f r.1) r.2
 
@@ -126,5 +126,5 @@ new_knows db h = record { polled = λ n is. absurd (none-some n is); read = λ c
 opening_founded : (db : Db) (sources : Content) → Founded db (opening db sources)
 opening_founded db sources = record { begun_with = omega arith; sourced = (tt, (sources, refl)); knows = λ a. new_knows db (Change 0 (part_of db sources) ∷ []) }
 
-pub sourced_law : (db : Db) (sources : Content) (moves : List Move) (new : Core) → Runs db moves (opening db sources) new → IsSourced db new.history
+pub sourced_law : (db : Db) (sources : Content) (moves : List Move) (new : Core) → AreMoves db moves (opening db sources) new → IsSourced db new.history
 sourced_law db sources moves new r = (run_kept db moves (opening db sources) new (opening_founded db sources) r).sourced

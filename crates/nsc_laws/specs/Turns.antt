@@ -12,8 +12,8 @@ use Rattle.nsc_model.specs.Answers.{switched}
 abbrev pub action_of : (SwitchService → Looked) → SwitchStep → SwitchAction
 action_of look step = action_at step (look step.service)
 
-abbrev pub GoesOn : (SwitchService → Looked) → SwitchStep → Type 0
-GoesOn look step = action_of look step ≡ Continue
+abbrev pub IsContinued : (SwitchService → Looked) → SwitchStep → Type 0
+IsContinued look step = action_of look step ≡ Continue
 
 -- the switch goes on after each of some steps, and ends with the next one, whose action ends it or which is the last; the
 -- outcome is that of its service
@@ -22,7 +22,7 @@ pub record EndsAt (look : SwitchService → Looked) (steps : List SwitchStep) (s
   pub step : SwitchStep
   pub unasked : List SwitchStep
   pub is : steps ≡ before ++ step ∷ unasked
-  pub each_goes_on : All (GoesOn look) before
+  pub each_goes_on : All (IsContinued look) before
   pub ends_here : (action_of look step ≢ Continue) ⊎ (unasked ≡ [])
   pub service_is : step.service ≡ service
   pub outcome : switched look steps ≡ look service
