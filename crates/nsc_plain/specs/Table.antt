@@ -35,7 +35,7 @@ abbrev pub StayApart : List Kept → List Insertion → Type 0
 StayApart entries all = (request : Request) → entries_for request entries + insertions_for request all ≤ 1
 
 -- what a table keeps: the words of its entries are used, its count of insertions has an end, and no request has two entries
-pub record IsKept (entries : List Kept) (used inserted : ℕ) : Type 0 where
+pub record IsTable (entries : List Kept) (used inserted : ℕ) : Type 0 where
   pub words : all_words entries ≤ used
   pub counted : inserted ≤ last_count
   pub apart : AreApart entries

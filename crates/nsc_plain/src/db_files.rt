@@ -11,31 +11,31 @@ use std::sync::Arc;
 /// The files that a database reads, as they are: whether its cache is known to have polled them, and what was prepared
 /// from them, once an answer was asked for, and for many answers, once a second lookup or reload asks for some.
 #[derive(Drop)]
-pub struct Prepared<A: Answerer> {
+pub struct DbFiles<A: Answerer> {
     content: Arc<Content>,
     is_polled: bool,
     ready: Option<A::Ready>,
     is_for_many: bool,
 }
 
-impl<A: Answerer> Model for Prepared<A> {
+impl<A: Answerer> Model for DbFiles<A> {
     ghost use Rattle.std.specs.Prelude.{◌≡◌, IfSome};
     ghost use Rattle.std.specs.Arc.{arc_value};
-    ghost use Rattle.nsc_plain.specs.Prepared.{Prepared};
+    ghost use Rattle.nsc_plain.specs.DbFiles.{DbFiles};
 
-    ghost Value = { Prepared };
+    ghost Value = { DbFiles };
 
     ghost view = { λ p. record { files = arc_value p.content; is_polled = p.is_polled } };
 
     ghost invariant = { λ p. IfSome p.ready (λ ready. A.prepared_from ready ≡ arc_value p.content) };
 }
 
-impl<A: Answerer> Prepared<A> {
+impl<A: Answerer> DbFiles<A> {
     /// These files, which no cache is known to have polled.
-    pub fn new(content: Arc<Content>) -> Prepared<A>
+    pub fn new(content: Arc<Content>) -> DbFiles<A>
         ensures { result ≡ record { files = arc_value content; is_polled = false } }
     {
-        Prepared {
+        DbFiles {
             content,
             is_polled: false,
             ready: None,
