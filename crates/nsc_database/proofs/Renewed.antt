@@ -7,7 +7,7 @@ use Rattle.nsc_model.specs.declared.kind.Db.{Db}
 use Rattle.nsc_model.specs.Content.{Content}
 use Rattle.nsc_model.specs.declared.record.Record.{Record}
 use Rattle.nsc_model.specs.History.{HasEnd, IsPrefix, Legal, PolledSince, version_in}
-use Rattle.nsc_model.specs.Machine.{all_words, last_count, life_of, next_reloads}
+use Rattle.nsc_model.specs.Machine.{all_words, last_count, life_of, next_count}
 use Rattle.nsc_model.specs.Reloads.{replaced}
 use Rattle.nsc_model.specs.Stores.{LoadsAgain}
 use Rattle.nsc_laws.specs.Calls.{Tells}
@@ -155,13 +155,13 @@ reloads_one h d l said w0 w w' same r renewed ended anew i =
     let asked : replaced w.seen l.request ≡ replaced w.seen d.request = ap (replaced w.seen) anew.1 in
     rests_through w0 w w' r (rests_inserted said l w w' i (omega arith))
 
-next_low : (n : ℕ) → next_reloads n ≤ n + 1
+next_low : (n : ℕ) → next_count n ≤ n + 1
 next_low n = min-le_left (n + 1) last_count
 
 pub anew_all : (settings : DbConf) (now : ℕ) (h : List Record) (polled : Polled) (due : List Due) → version_in h polled.stamp.version ≡ Some polled.content → PolledSince h polled.stamp.version polled.stamp.epoch → AreAnew h due (map (anew_of settings polled now) due)
 anew_all settings now h polled [] version since = tt
 anew_all settings now h polled (d ∷ due) version since = (by_drop d.dropped refl, anew_all settings now h polled due version since) where
-  by_drop : (b : Bool) → d.dropped ≡ b → IsAnew h d (cond b None (Some (record { request = d.request; answer = answer_of polled.content d.request; stamp = polled.stamp; timeout = now + life_of settings (answer_of polled.content d.request); reloads = next_reloads d.reloads })))
+  by_drop : (b : Bool) → d.dropped ≡ b → IsAnew h d (cond b None (Some (record { request = d.request; answer = answer_of polled.content d.request; stamp = polled.stamp; timeout = now + life_of settings (answer_of polled.content d.request); reloads = next_count d.reloads })))
   by_drop true is = is
   by_drop false is = (is, refl, next_low d.reloads, record { files = polled.content; version = version; answer = refl; polled = since })
 
@@ -169,7 +169,7 @@ pub stamps_all : (settings : DbConf) (now : ℕ) (polled : Polled) (due : List D
 stamps_all settings now polled [] = tt
 stamps_all settings now polled (d ∷ due) = by_drop d.dropped (stamps_all settings now polled due) where
   by_drop : (b : Bool) → HaveStamp polled.stamp.epoch (map (anew_of settings polled now) due)
-      → HaveStamp polled.stamp.epoch (cond b None (Some (record { request = d.request; answer = answer_of polled.content d.request; stamp = polled.stamp; timeout = now + life_of settings (answer_of polled.content d.request); reloads = next_reloads d.reloads })) ∷ map (anew_of settings polled now) due)
+      → HaveStamp polled.stamp.epoch (cond b None (Some (record { request = d.request; answer = answer_of polled.content d.request; stamp = polled.stamp; timeout = now + life_of settings (answer_of polled.content d.request); reloads = next_count d.reloads })) ∷ map (anew_of settings polled now) due)
   by_drop true rest = rest
   by_drop false rest = (refl, rest)
 

@@ -11,7 +11,7 @@ use Rattle.nsc_model.specs.declared.store.LookupFault.TheVariants as fault
 use Rattle.nsc_model.specs.Entry.{Entry}
 use Rattle.nsc_model.specs.History.{HasEnd, HasLoad, IsPrefix, Legal, NoneLive, invalidations, load_of}
 use Rattle.nsc_model.specs.Answers.{answer_of}
-use Rattle.nsc_model.specs.Machine.{all_words, life_of, next_reloads}
+use Rattle.nsc_model.specs.Machine.{all_words, life_of, next_count}
 use Rattle.nsc_model.specs.Reloads.{replaced}
 use Rattle.nsc_model.specs.Stores.{IsLoadedAgain, IsUnmoved, MayBeUnmoved}
 use Rattle.nsc_sourcebook.specs.Book.{Polled}
@@ -112,7 +112,7 @@ pub record AwaitsLoads (marked : List Due) (anew : List (Option Loaded)) (w : Wr
 -- what is to be loaded again over what was polled: nothing for an entry that is dropped
 abbrev pub anew_of : DbConf → Polled → ℕ → Due → Option Loaded
 anew_of settings polled now d =
-    if d.dropped then None else Some (record { request = d.request; answer = answer_of polled.content d.request; stamp = polled.stamp; timeout = now + life_of settings (answer_of polled.content d.request); reloads = next_reloads d.reloads })
+    if d.dropped then None else Some (record { request = d.request; answer = answer_of polled.content d.request; stamp = polled.stamp; timeout = now + life_of settings (answer_of polled.content d.request); reloads = next_count d.reloads })
 
 -- those of them that were ended
 abbrev pub ended_of : List Due → List Due

@@ -14,7 +14,7 @@ use Rattle.nsc_model.specs.Entry.{Entry}
 use Rattle.nsc_model.specs.Answers.{answer_of}
 use Rattle.nsc_model.specs.History.{changes, invalidations, newest, version_in, HasLoad, HasEnd, IsLive, WasPolled, Legal, IsPrefix, FromEntry, FromPoll, LooksAt}
 use Rattle.nsc_laws.specs.Origins.{IsOfCallers, IsAnswer}
-use Rattle.nsc_laws.specs.Core.{Caller, Core, new_caller, opening, with_caller, Move, Files, Begin, Look, Note, Fetch, PollStep, Insert, Finish, Empty, Compact, Reply, IsPoll, Inserts, Replies, ended_all, Moves, Runs, RepliesAnswer}
+use Rattle.nsc_laws.specs.Core.{Caller, Core, new_caller, opening, with_caller, Move, Files, Begin, Look, Note, Fetch, PollStep, Insert, Finish, Empty, Compact, Reply, IsPoll, IsInsertion, Replies, ended_all, IsMove, AreMoves, RepliesAnswer}
 use Rattle.nsc_model.specs.Live.{AreLive}
 use Rattle.nsc_laws.proofs.CoreLawRecords.{prefix_more, prefix_length, not_ended_before, load_more, invalidations_rise, changes_rise, poll_more, version_held, all_ended, none_left, same_invalidations}
 
@@ -216,8 +216,8 @@ gaining core r = record core { history = r ∷ core.history }
 gains : (core : Core) (r : Record) → Sound core → Legal (r ∷ core.history) → Sound (gaining core r)
 gains core r s l = record { legal = l; told = λ a. told_more r core.history (core.callers a) (s.told a) }
 
-load_legal : (h : List Record) (c : Caller) (timeout : ℕ) (e : Entry) → Legal h → Told h c → Inserts h c timeout e → Legal (Load e ∷ h)
-load_legal h c timeout e l t i = (l, i.number_is, i.none_live, (i.content, i.held, i.answer_is), t.polled_since (invalidations h) e.version i.noted_is i.version_is refl)
+load_legal : (h : List Record) (c : Caller) (request : Request) (timeout : ℕ) (e : Entry) → Legal h → Told h c → IsInsertion h c request timeout e → Legal (Load e ∷ h)
+load_legal h c request timeout e l t i = (l, i.number_is, i.none_live, (i.content, i.held, i.answer_is), t.polled_since (invalidations h) e.version i.noted_is i.version_is refl)
 
 -- ---- an invalidation
 
@@ -235,7 +235,7 @@ empty_sound core entries s are =
 
 -- ---- moves and runs
 
-kept : (db : Db) (move : Move) (old new : Core) → Sound old → Moves db move old new → Sound new
+kept : (db : Db) (move : Move) (old new : Core) → Sound old → IsMove db move old new → Sound new
 kept db (Files content) old new s m = subst Sound (sym m) (record { legal = s.legal; told = s.told })
 kept db (Begin a request seen) old new s m =
     subst Sound (sym m.2) (becomes old a (begun (old.callers a) request seen) s (begins old.history (old.callers a) request seen m.1 (s.told a)))
@@ -244,15 +244,15 @@ kept db (Look a (Some e)) old new s m = subst Sound (sym m.2) (becomes old a (ta
 kept db (Note a) old new s m = subst Sound (sym m) (becomes old a (noting (old.callers a) (invalidations old.history)) s (notes old.history (old.callers a) (s.told a)))
 kept db (Fetch a) old new s m = subst Sound (sym m.1) (becomes old a (fetching (old.callers a) (part_of db old.sources)) s (fetches old.history (old.callers a) (part_of db old.sources) (s.told a)))
 kept db (PollStep a) old new s m = subst Sound (sym m.5) (poll_sound old a m.0 m.1 m.2 s m.4)
-kept db (Insert a timeout) old new s (inl m) =
-    subst Sound (sym m.2) (gains old (Load m.0) s (load_legal old.history (old.callers a) timeout m.0 s.legal (s.told a) m.1))
-kept db (Insert a timeout) old new s (inr m) = subst Sound (sym m.1) s
+kept db (Insert a request timeout) old new s (inl m) =
+    subst Sound (sym m.2) (gains old (Load m.0) s (load_legal old.history (old.callers a) request timeout m.0 s.legal (s.told a) m.1))
+kept db (Insert a request timeout) old new s (inr m) = subst Sound (sym m.1) s
 kept db (Finish number cause) old new s m = subst Sound (sym m.4) (gains old (End number cause) s (s.legal, m.0, m.1, m.2, m.3))
 kept db Empty old new s m = subst Sound (sym m.2) (empty_sound old m.0 s m.1)
 kept db Compact old new s m = subst Sound (sym m) s
 kept db (Reply a bytes) old new s m = subst Sound (sym m.1) s
 
-run_kept : (db : Db) (moves : List Move) (old new : Core) → Sound old → Runs db moves old new → Sound new
+run_kept : (db : Db) (moves : List Move) (old new : Core) → Sound old → AreMoves db moves old new → Sound new
 run_kept db [] old new s r = subst Sound (sym r) s
 run_kept db (move ∷ moves) old new s r = run_kept db moves r.0 new (kept db move old r.0 s r.1) r.2
 
@@ -312,21 +312,21 @@ replies_answer core s a bytes reply =
 
 -- ---- the law
 
-pub legal_law : (db : Db) (sources : Content) (moves : List Move) (new : Core) → Runs db moves (opening db sources) new → Legal new.history
+pub legal_law : (db : Db) (sources : Content) (moves : List Move) (new : Core) → AreMoves db moves (opening db sources) new → Legal new.history
 legal_law db sources moves new r = (run_kept db moves (opening db sources) new (opening_sound db sources) r).legal
 
-pub replies_law : (db : Db) (sources : Content) (moves : List Move) (new : Core) → Runs db moves (opening db sources) new → (a : ℕ) (bytes : List ℕ) (reply : Replies new a bytes) → IsAnswer (new.callers a).seen new.history reply.request bytes
+pub replies_law : (db : Db) (sources : Content) (moves : List Move) (new : Core) → AreMoves db moves (opening db sources) new → (a : ℕ) (bytes : List ℕ) (reply : Replies new a bytes) → IsAnswer (new.callers a).seen new.history reply.request bytes
 replies_law db sources moves new r = replies_answer new (run_kept db moves (opening db sources) new (opening_sound db sources) r)
 
-pub answered_law : (db : Db) (sources : Content) (moves : List Move) (new : Core) → Runs db moves (opening db sources) new → RepliesAnswer new
+pub answered_law : (db : Db) (sources : Content) (moves : List Move) (new : Core) → AreMoves db moves (opening db sources) new → RepliesAnswer new
 answered_law db sources moves new r a bytes reply = (replies_law db sources moves new r a bytes reply).answered
 
-pub polled_law : (db : Db) (sources : Content) (moves : List Move) (new : Core) → Runs db moves (opening db sources) new → (a n : ℕ) → (new.callers a).asked ≡ Some n → (content : Content) × (version_in new.history n ≡ Some content)
+pub polled_law : (db : Db) (sources : Content) (moves : List Move) (new : Core) → AreMoves db moves (opening db sources) new → (a n : ℕ) → (new.callers a).asked ≡ Some n → (content : Content) × (version_in new.history n ≡ Some content)
 polled_law db sources moves new r a n is =
     let s = run_kept db moves (opening db sources) new (opening_sound db sources) r in
     version_held new.history n s.legal ((s.told a).asked_before n is)
 
-pub version_law : (db : Db) (sources : Content) (moves : List Move) (new : Core) → Runs db moves (opening db sources) new → (a n : ℕ) → (new.callers a).version ≡ Some n → (content : Content) × (version_in new.history n ≡ Some content)
+pub version_law : (db : Db) (sources : Content) (moves : List Move) (new : Core) → AreMoves db moves (opening db sources) new → (a n : ℕ) → (new.callers a).version ≡ Some n → (content : Content) × (version_in new.history n ≡ Some content)
 version_law db sources moves new r a n is =
     let s = run_kept db moves (opening db sources) new (opening_sound db sources) r in
     version_held new.history n s.legal ((s.told a).version_before n is)

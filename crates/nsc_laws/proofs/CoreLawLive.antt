@@ -9,7 +9,7 @@ use Rattle.nsc_model.specs.declared.record.Record.TheVariants.{Change, Poll, Loa
 use Rattle.nsc_model.specs.Content.{Content}
 use Rattle.nsc_model.specs.Entry.{Entry}
 use Rattle.nsc_model.specs.History.{loads, invalidations, IsLive, Legal}
-use Rattle.nsc_laws.specs.Core.{Core, opening, ended_all, Move, Empty, Moves, Runs}
+use Rattle.nsc_laws.specs.Core.{Core, opening, ended_all, Move, Empty, IsMove, AreMoves}
 use Rattle.nsc_model.specs.Live.{Among, Rise, AreLive}
 use Rattle.nsc_laws.proofs.Prefixes.{load_below, end_below}
 use Rattle.nsc_laws.proofs.CoreLawRecords.{rise_tail, first_least}
@@ -158,5 +158,5 @@ lives (Invalid n ∷ h) l = after_invalid n h (lives h l.0)
 abbrev emptied : Core → List Entry → Core
 emptied core entries = record core { history = Invalid (invalidations core.history + 1) ∷ ended_all entries core.history }
 
-pub emptied_law : (db : Db) (sources : Content) (moves : List Move) (new : Core) → Runs db moves (opening db sources) new → (empty : Core) × Moves db Empty new empty
+pub emptied_law : (db : Db) (sources : Content) (moves : List Move) (new : Core) → AreMoves db moves (opening db sources) new → (empty : Core) × IsMove db Empty new empty
 emptied_law db sources moves new r = let s = lives new.history (legal_law db sources moves new r) in (emptied new s.entries, (s.entries, s.are, refl))

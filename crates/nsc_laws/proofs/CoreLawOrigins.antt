@@ -10,7 +10,7 @@ use Rattle.nsc_model.specs.Content.{Content}
 use Rattle.nsc_model.specs.Files.{part_of}
 use Rattle.nsc_model.specs.Entry.{Entry}
 use Rattle.nsc_model.specs.History.{changes, invalidations}
-use Rattle.nsc_laws.specs.Core.{Caller, Core, new_caller, opening, with_caller, Move, Files, Begin, Look, Note, Fetch, PollStep, Insert, Finish, Empty, Compact, Reply, IsPoll, ended_all, Moves, Runs}
+use Rattle.nsc_laws.specs.Core.{Caller, Core, new_caller, opening, with_caller, Move, Files, Begin, Look, Note, Fetch, PollStep, Insert, Finish, Empty, Compact, Reply, IsPoll, ended_all, IsMove, AreMoves}
 use Rattle.nsc_laws.specs.Origins.{IsRead, HasPoll, IsSourced}
 use Rattle.nsc_laws.proofs.CoreLaw.{changed, begun, taking, noting, fetching, polling, after_poll}
 use Rattle.nsc_laws.proofs.CoreLawRecords.{changes_rise}
@@ -97,7 +97,7 @@ poll_founded db core a content poll n f fetched is =
 
 -- ---- moves and runs
 
-kept : (db : Db) (move : Move) (old new : Core) → Founded db old → Moves db move old new → Founded db new
+kept : (db : Db) (move : Move) (old new : Core) → Founded db old → IsMove db move old new → Founded db new
 kept db (Files content) old new f m = subst (Founded db) (sym m) (record { begun_with = f.begun_with; sourced = f.sourced; knows = f.knows })
 kept db (Begin a request seen) old new f m = subst (Founded db) (sym m.2) (becomes db old a (begun (old.callers a) request seen) f (same_known db old.history (old.callers a) (begun (old.callers a) request seen) refl refl (f.knows a)))
 kept db (Look a None) old new f m = subst (Founded db) (sym m) (becomes db old a (record (old.callers a) { taken = None }) f (same_known db old.history (old.callers a) (record (old.callers a) { taken = None }) refl refl (f.knows a)))
@@ -105,9 +105,9 @@ kept db (Look a (Some e)) old new f m = subst (Founded db) (sym m.2) (becomes db
 kept db (Note a) old new f m = subst (Founded db) (sym m) (becomes db old a (noting (old.callers a) (invalidations old.history)) f (notes db old.history (old.callers a)))
 kept db (Fetch a) old new f m = subst (Founded db) (sym m.1) (becomes db old a (fetching (old.callers a) (part_of db old.sources)) f (fetches db old.history (old.callers a) old.sources (f.knows a)))
 kept db (PollStep a) old new f m = subst (Founded db) (sym m.5) (poll_founded db old a m.0 m.1 m.2 f m.3 m.4)
-kept db (Insert a timeout) old new f (inl m) =
+kept db (Insert a request timeout) old new f (inl m) =
     subst (Founded db) (sym m.2) (founded_more db old (Load m.0) f (f.sourced, (f.knows a).polled m.0.version m.1.version_is))
-kept db (Insert a timeout) old new f (inr m) = subst (Founded db) (sym m.1) f
+kept db (Insert a request timeout) old new f (inr m) = subst (Founded db) (sym m.1) f
 kept db (Finish number cause) old new f m = subst (Founded db) (sym m.4) (founded_more db old (End number cause) f f.sourced)
 kept db Empty old new f m =
     let mid = record old { history = ended_all m.0 old.history } in
@@ -116,7 +116,7 @@ kept db Empty old new f m =
 kept db Compact old new f m = subst (Founded db) (sym m) f
 kept db (Reply a bytes) old new f m = subst (Founded db) (sym m.1) f
 
-run_kept : (db : Db) (moves : List Move) (old new : Core) → Founded db old → Runs db moves old new → Founded db new
+run_kept : (db : Db) (moves : List Move) (old new : Core) → Founded db old → AreMoves db moves old new → Founded db new
 run_kept db [] old new f r = subst (Founded db) (sym r) f
 run_kept db (move ∷ moves) old new f r = run_kept db moves r.0 new (kept db move old r.0 f r.1) r.2
 
@@ -126,5 +126,5 @@ new_knows db h = record { polled = λ n is. absurd (none-some n is); read = λ c
 opening_founded : (db : Db) (sources : Content) → Founded db (opening db sources)
 opening_founded db sources = record { begun_with = omega arith; sourced = (tt, (sources, refl)); knows = λ a. new_knows db (Change 0 (part_of db sources) ∷ []) }
 
-pub sourced_law : (db : Db) (sources : Content) (moves : List Move) (new : Core) → Runs db moves (opening db sources) new → IsSourced db new.history
+pub sourced_law : (db : Db) (sources : Content) (moves : List Move) (new : Core) → AreMoves db moves (opening db sources) new → IsSourced db new.history
 sourced_law db sources moves new r = (run_kept db moves (opening db sources) new (opening_founded db sources) r).sourced

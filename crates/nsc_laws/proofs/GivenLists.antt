@@ -8,7 +8,7 @@ use Rattle.nsc_model.specs.declared.switch.DbName.{DbName}
 use Rattle.nsc_model.specs.declared.switch.DbName.TheVariants as list
 use Rattle.nsc_model.specs.declared.switch.SwitchStep.{SwitchStep}
 use Rattle.nsc_model.specs.Switches.{Group, Item, Service, compat_list, compat_name, default_list, first_line, list_name, list_of, list_or, service_list, spelled_list, steps_after, steps_of, text_of}
-use Rattle.nsc_laws.specs.ServiceLists.{Gives, LineGives}
+use Rattle.nsc_laws.specs.ServiceLists.{GivesList, LineGives}
 use Rattle.nsc_laws.proofs.Grammar.{written_is_read}
 use Rattle.nsc_laws.proofs.GrammarItems.{read_is_written}
 
@@ -22,7 +22,7 @@ from_line : (name : DbName) (line : Option (List ℕ)) → LineGives name line (
 from_line name None = refl
 from_line name (Some line) = line_gives name line (spelled_list line) refl
 
-pub list_given : (text : List ℕ) (name : DbName) → Gives text name (list_of text name)
+pub list_given : (text : List ℕ) (name : DbName) → GivesList text name (list_of text name)
 list_given text name = from_line name (first_line name text)
 
 -- ---- and no other
@@ -37,7 +37,7 @@ by_line : (name : DbName) (line : Option (List ℕ)) (steps : List SwitchStep) �
 by_line name None steps given = sym given
 by_line name (Some line) steps given = other_line name line steps (spelled_list line) refl given
 
-pub given_is_list : (text : List ℕ) (name : DbName) (steps : List SwitchStep) → Gives text name steps → list_of text name ≡ steps
+pub given_is_list : (text : List ℕ) (name : DbName) (steps : List SwitchStep) → GivesList text name steps → list_of text name ≡ steps
 given_is_list text name steps given = by_line name (first_line name text) steps given
 
 -- ---- a list has a service

@@ -1,5 +1,4 @@
 pub mod Requests
-pub mod LoneInsertions
 pub mod Spellings
 pub mod GroupSpellings
 pub mod HostSpellings

@@ -1,7 +1,6 @@
 -- The law of the machine: its events are moves of the core, made by one caller.
-use Rattle.std.proofs.Common.{◌≡◌, ◌≢◌, ℕ, Bool, true, false, cond, ltb, List, [], ◌∷◌, ◌++◌, refl, sym, ap, subst, ◌∙◌, inl, inr}
-use Rattle.std.specs.Prelude.{◌⊎◌, not, find, Option, Some, None, Result, Ok, Err}
-use Rattle.std.proofs.lemmas.Bool.{false≢true}
+use Rattle.std.proofs.Common.{◌≡◌, ℕ, Bool, true, false, cond, List, [], ◌∷◌, ◌++◌, refl, sym, ap, subst, ◌∙◌, inl, inr}
+use Rattle.std.specs.Prelude.{◌⊎◌, find, map, Option, Some, None, Result, Ok, Err}
 use Rattle.std.proofs.lemmas.List.{append-nil}
 use Rattle.std.proofs.lemmas.Option.{none-some, same_Some}
 use Rattle.nsc_model.specs.declared.kind.Db.{Db}
@@ -14,17 +13,17 @@ use Rattle.nsc_model.specs.Files.{part_of}
 use Rattle.nsc_model.specs.Entry.{Entry}
 use Rattle.nsc_model.specs.declared.conf.DbConf.{DbConf}
 use Rattle.nsc_model.specs.Answers.{answer_of}
-use Rattle.nsc_model.specs.History.{version_in, IsLive, Legal, Answered}
+use Rattle.nsc_model.specs.History.{version_in, IsLive, Answered}
 use Rattle.nsc_laws.specs.Core.{Caller, Core, opening, Files, Look, Replies}
-use Rattle.nsc_model.specs.Live.{Among, AreLive}
-use Rattle.nsc_model.specs.Machine.{Kept, Cache, new_cache, Passed, Stopped, unchanged, ◌>>=◌, polled, tried, kept_answer, cached, used_now, loaded, hit_or_load, lookup, invalidated, compacted_after, ends_of, is_dropped, due_cause, next_reloads, reloaded, due_of, others_of, reloaded_of, pruned, is_outdated, checked, tick}
+use Rattle.nsc_model.specs.Live.{Among}
+use Rattle.nsc_model.specs.Machine.{Kept, Cache, new_cache, Passed, Stopped, unchanged, ◌>>=◌, polled, Candidate, tried, tried_all, candidates_of, kept_answer, cached, used_now, loaded, hit_or_load, lookup, invalidated, compacted_after, ends_of, due_cause, candidate_again, reloaded, due_of, others_of, reloaded_of, pruned, is_outdated, checked, tick}
 use Rattle.nsc_laws.specs.Calls.{entries_of, Drives, IsTurned, PassesBy, TurnsBy}
-use Rattle.nsc_laws.proofs.Requests.{same_request, request_same}
+use Rattle.nsc_laws.proofs.Requests.{same_request}
 use Rattle.nsc_laws.proofs.CoreLaw.{changed, begun, taking, answered_law}
-use Rattle.nsc_laws.proofs.MachineLawLists.{filter_from, rise_filter, found, missed, used_entries, one_live, Apart, live_apart}
-use Rattle.nsc_laws.proofs.MachineLawEnds.{ends_after, invalidations_ends, polled_ends, finishes, finishes_own, ended, ends_run, due_allowed, due_is, other_is, due_live, due_rise, pruned_tells}
-use Rattle.nsc_laws.proofs.MachineLawSteps.{Step, no_step, one_step, then_step, silent_step, runs_append, Stands, Looked, retold, gains_on, caller_on, begin_step, begin_stands, Went, Nothing, Comes, comes_after, comes_then, stays, moved, passes, driven}
-use Rattle.nsc_laws.proofs.MachineLawParts.{Polled, poll_comes, Tried, tries, compacts, invalid_comes}
+use Rattle.nsc_laws.proofs.MachineLawLists.{found, used_entries}
+use Rattle.nsc_laws.proofs.MachineLawEnds.{ends_after, invalidations_ends, polled_ends, finishes, finishes_own, ended, ends_run, due_allowed, due_live, due_rise, pruned_tells}
+use Rattle.nsc_laws.proofs.MachineLawSteps.{Step, one_step, then_step, silent_step, runs_append, Stands, Looked, retold, gains_on, caller_on, begin_step, begin_stands, Went, Nothing, Comes, comes_after, comes_then, stays, moved, passes, driven}
+use Rattle.nsc_laws.proofs.MachineLawParts.{Polled, poll_comes, Tried, tries, tries_all, compacts, invalid_comes}
 
 abbrev given : ℕ → Option ℕ
 given n = Some n
@@ -34,53 +33,26 @@ asking r = Some r
 
 -- ---- reloads
 
--- the entries that are still to be reloaded have requests of their own, and none of them is live
-record Free (live rest : List Entry) : Type 0 where
-  differ : (e f : Entry) → Among live e → Among rest f → e.request ≢ f.request
-  apart : Apart rest
-
-reloads : (db : Db) (a : ℕ) (event : List Record) (settings : DbConf) (now : ℕ) (rest : List Kept) (core : Core) (c : Caller) (cache : Cache) → Stands a event core c cache → Looked core.history c cache → Free (entries_of cache.entries) (entries_of rest)
-    → Went db a event core Nothing (reloaded settings now rest cache).adds (reloaded settings now rest cache).cache
-reloads db a event settings now [] core c cache s l free = stays db a event core c Nothing cache s tt
-reloads db a event settings now (k ∷ rest) core c cache s l free =
-    let request = k.entry.request in
-    let c1 = begun c (Some request) event in
+-- each in a call of its own
+reloads : (db : Db) (a : ℕ) (event : List Record) (settings : DbConf) (now : ℕ) (all : List Candidate) (core : Core) (c : Caller) (cache : Cache) → Stands a event core c cache → Looked core.history c cache
+    → Went db a event core Nothing (tried_all settings now all cache).adds (tried_all settings now all cache).cache
+reloads db a event settings now [] core c cache s l = stays db a event core c Nothing cache s tt
+reloads db a event settings now (one ∷ others) core c cache s l =
+    let c1 = begun c (Some one.request) event in
     let core1 = changed core a c1 in
-    let first = tried settings now request (next_reloads k.reloads) cache in
-    let t = tries db a event core1 c1 settings now request (next_reloads k.reloads) cache (begin_stands a event core c cache request s)
-    (record { version_is = l.version_is; noted_is = l.noted_is; was = l.was }) refl (λ e among. free.differ e k.entry among (inl refl)) in
-    let w = reloads db a event settings now rest t.new c1 first.cache t.stands t.looked (record {
-      differ = λ e f x y. elim (t.among e x) [ inl old ↦ free.differ e f old (inr y) | inr same ↦ λ both. free.apart.0 f y (sym both ∙ same) ];
-      apart = free.apart.1;
-    }) in
+    let first = tried settings now one cache in
+    let t = tries db a event core1 c1 settings now one cache (begin_stands a event core c cache one.request s) (record { version_is = l.version_is; noted_is = l.noted_is; was = l.was }) refl in
+    let w = reloads db a event settings now others t.new c1 first.cache t.stands t.looked in
     record {
       new = w.new;
       caller = w.caller;
-      step = silent_step db a event core core1 w.new ((reloaded settings now rest first.cache).adds ++ first.adds) (begin_step db a event core c cache request s)
-          (then_step db a event core1 t.new w.new first.adds (reloaded settings now rest first.cache).adds t.step w.step);
+      step = silent_step db a event core core1 w.new ((tried_all settings now others first.cache).adds ++ first.adds) (begin_step db a event core c cache one.request s)
+          (then_step db a event core1 t.new w.new first.adds (tried_all settings now others first.cache).adds t.step w.step);
       stands = w.stands;
       holds = tt;
     }
 
 -- ---- a tick
-
--- what is known between the ends of a tick and its reloads
-record Ready (rest : List Kept) (h : List Record) (c : Caller) (cache : Cache) : Type 0 where
-  looked : Looked h c cache
-  free : Free (entries_of cache.entries) (entries_of rest)
-
-free_rest : (options : Option ℕ) (now : ℕ) (h : List Record) (ks : List Kept) → Legal h → AreLive h (entries_of ks) → Free (entries_of (others_of now ks)) (entries_of (reloaded_of options (due_of now ks)))
-free_rest options now h ks l are = record {
-  differ = λ e f x y same. (
-      let other = other_is now ks e x in
-      let due = due_is now ks f (reload_is f y) in
-      let one : e ≡ f = one_live h e f l (are.live e other.0) (are.live f due.0) same in
-      let both : true ≡ false = sym due.1 ∙ (sym (ap (λ (g : Entry). ltb g.timeout now) one) ∙ other.1) in
-      absurd cc);
-  apart = live_apart h (entries_of (reloaded_of options (due_of now ks))) l (λ f y. due_live now ks h are f (reload_is f y)) (rise_filter (λ k. not (is_dropped options k)) (due_of now ks) (due_rise now ks h are));
-} where
-  reload_is : (f : Entry) → Among (entries_of (reloaded_of options (due_of now ks))) f → Among (entries_of (due_of now ks)) f
-  reload_is f y = (filter_from (λ k. not (is_dropped options k)) (due_of now ks) f y).0
 
 prune_comes : (db : Db) (a : ℕ) (event : List Record) (settings : DbConf) (options : Option ℕ) (now : ℕ) (core : Core) (c : Caller) (cache : Cache) → Stands a event core c cache → Looked core.history c cache → Comes db a event core Nothing (pruned settings options now cache)
 prune_comes db a event settings options now core c cache s l =
@@ -98,16 +70,11 @@ prune_comes db a event settings options now core c cache s l =
       sources_stay = refl;
     } in
     let s1 = gains_on a event core (ends_of cause due h) (ends_of cause due []) c cache after (sym (ends_after cause due [] h)) (pruned_tells options now h cache s.tells) s in
-    let looked : Looked core1.history c cache = record {
-      version_is = l.version_is;
-      noted_is = l.noted_is ∙ ap (λ (n : ℕ). given n) (sym (invalidations_ends cause due h));
-      was = polled_ends cause due h cache.newest_version l.was;
-    } in
-    let free = free_rest options now h cache.entries s.tells.legal s.tells.entries_are in
     comes_after db a event core core1 Nothing (ends_of cause due []) (compacted_after due after >>= λ x. Ok (reloaded settings now rest x)) step
-    (comes_then db a event core1 (Ready rest) Nothing (compacted_after due after) (λ x. Ok (reloaded settings now rest x))
-    (compacts db a event core1 c (Ready rest) due after s1 (λ cycle used. record { looked = record { version_is = looked.version_is; noted_is = looked.noted_is; was = looked.was }; free = free }))
-    (λ mid d x sources t ready. reloads db a event settings now rest mid d x t ready.looked ready.free))
+    (comes_then db a event core1 Looked Nothing (compacted_after due after) (λ x. Ok (reloaded settings now rest x))
+    (compacts db a event core1 c Looked due after s1
+    (λ cycle used. record { version_is = l.version_is; noted_is = l.noted_is ∙ ap (λ (n : ℕ). given n) (sym (invalidations_ends cause due h)); was = polled_ends cause due h cache.newest_version l.was }))
+    (λ mid d x sources t looked. reloads db a event settings now (map candidate_again rest) mid d x t looked))
 
 check_comes : (db : Db) (a : ℕ) (event : List Record) (settings : DbConf) (options : Option ℕ) (now ticked : ℕ) (core : Core) (c : Caller) (cache : Cache) → Stands a event core c cache → Looked core.history c cache → Comes db a event core Nothing (checked settings options now ticked cache)
 check_comes db a event settings options now ticked core c cache s l = by_test (is_outdated settings cache.newest_version ticked) where
@@ -174,19 +141,17 @@ hits db a old request cache k s among same =
     }
 
 keeps : (db : Db) (a : ℕ) (event : List Record) (core : Core) (c : Caller) (settings : DbConf) (now : ℕ) (request : Request) (cache : Cache) → Stands a event core c cache → Looked core.history c cache → c.request ≡ Some request
-    → (settings.enabled ≡ true → (e : Entry) → Among (entries_of cache.entries) e → e.request ≢ request)
-    → Tried db a event core c request cache (kept_answer settings now request cache).adds (kept_answer settings now request cache).cache
-keeps db a event core c settings now request cache s l is others = by_test settings.enabled refl where
-  by_test : (b : Bool) → settings.enabled ≡ b → Tried db a event core c request cache (cond b (tried settings now request 0 cache) (unchanged cache)).adds (cond b (tried settings now request 0 cache) (unchanged cache)).cache
-  by_test true e = tries db a event core c settings now request 0 cache s l is (others e)
-  by_test false e = record { new = core; step = no_step db a event core; stands = s; looked = l; held = s.tells.held; among = λ x y. inl y }
+    → Tried db a event core c cache (kept_answer settings now request cache).adds (kept_answer settings now request cache).cache
+keeps db a event core c settings now request cache s l is = by_test settings.enabled where
+  by_test : (b : Bool) → Tried db a event core c cache (cond b (tried_all settings now (candidates_of request) cache) (unchanged cache)).adds (cond b (tried_all settings now (candidates_of request) cache) (unchanged cache)).cache
+  by_test true = tries_all db a event core c settings now (candidates_of request) cache s l (is, tt)
+  by_test false = tries_all db a event core c settings now [] cache s l tt
 
 abbrev asks : Core → ℕ → Request → Core
 asks old a request = changed old a (begun (old.callers a) (Some request) old.history)
 
-misses : (db : Db) (a : ℕ) (old : Core) (settings : DbConf) (now : ℕ) (request : Request) (cache : Cache) → Drives db a old cache → (settings.enabled ≡ true → (e : Entry) → Among (entries_of cache.entries) e → e.request ≢ request)
-    → TurnsBy db a old request (loaded settings now request (polled (part_of db old.sources) cache))
-misses db a old settings now request cache d others = by_poll (polled (part_of db old.sources) cache) looks where
+misses : (db : Db) (a : ℕ) (old : Core) (settings : DbConf) (now : ℕ) (request : Request) (cache : Cache) → Drives db a old cache → TurnsBy db a old request (loaded settings now request (polled (part_of db old.sources) cache))
+misses db a old settings now request cache d = by_poll (polled (part_of db old.sources) cache) looks where
   begins : Step db a old.history old [] (asks old a request)
   begins = begin_step db a old.history old (old.callers a) cache request (driven db a old cache d)
 
@@ -196,9 +161,7 @@ misses db a old settings now request cache d others = by_poll (polled (part_of d
   by_poll : (r : Result Passed Stopped) → Comes db a old.history (asks old a request) (Polled (Some request) old.history None cache.entries) r → TurnsBy db a old request (loaded settings now request r)
   by_poll (Ok poll) w =
       let after = kept_answer settings now request poll.cache in
-      let others_there : settings.enabled ≡ true → (e : Entry) → Among (entries_of poll.cache.entries) e → e.request ≢ request =
-      λ enabled e x. others enabled e (subst (λ (ks : List Kept). Among (entries_of ks) e) w.holds.entries_stay x) in
-      let t = keeps db a old.history w.new w.caller settings now request poll.cache w.stands w.holds.looked w.holds.request_is others_there in
+      let t = keeps db a old.history w.new w.caller settings now request poll.cache w.stands w.holds.looked w.holds.request_is in
       let both = then_step db a old.history (asks old a request) w.new t.new poll.adds after.adds w.step t.step in
       let g : Gets db a old request (after.adds ++ poll.adds) (answer_of poll.cache.sources request).bytes after.cache = record {
         new = t.new;
@@ -208,7 +171,13 @@ misses db a old settings now request cache d others = by_poll (polled (part_of d
         request_is = w.holds.request_is;
         seen_is = w.holds.seen_is;
         live = λ e is. absurd (none-some e (sym w.holds.taken_is ∙ is));
-        source = inr (poll.cache.newest_version, poll.cache.sources, ap (λ (x : Caller). x.asked) t.stands.caller_is ∙ w.holds.asked_is, t.held, refl);
+        source = inr (
+          after.cache.newest_version,
+          after.cache.sources,
+          ap (λ (x : Caller). x.asked) t.stands.caller_is ∙ (w.holds.asked_is ∙ ap (λ (n : ℕ). given n) (sym t.same_version)),
+          t.stands.tells.held,
+          ap (λ (files : Content). (answer_of files request).bytes) t.same_sources,
+        );
       } in
       (g.new, gets_turned db a old cache request (after.adds ++ poll.adds) (answer_of poll.cache.sources request).bytes after.cache d g)
   by_poll (Err stop) w =
@@ -255,10 +224,7 @@ lookup_turns db a settings now request old cache d = by_found (cached settings r
       let at = found (λ x. is_request request x.entry.request) cache.entries k (found_in settings.enabled (find (λ x. is_request request x.entry.request) cache.entries) k e) in
       let g = hits db a old request cache k (driven db a old cache d) at.0 (same_request request k.entry.request at.1) in
       (g.new, gets_turned db a old cache request [] k.entry.answer.bytes (record cache { entries = used_now request cache.entries }) d g)
-  by_found None e =
-      misses db a old settings now request cache d
-      (λ enabled f x same. false≢true (sym (missed (λ y. is_request request y.request) cache.entries f (subst (λ (b : Bool). cond b (find (λ y. is_request request y.entry.request) cache.entries) None ≡ None) enabled e) x)
-      ∙ subst (λ (y : Request). is_request request y ≡ true) (sym same) (request_same request)))
+  by_found None e = misses db a old settings now request cache d
 
 pub tick_passes : (db : Db) (a : ℕ) (settings : DbConf) (options : Option ℕ) (now ticked : ℕ) (old : Core) (cache : Cache) → Drives db a old cache → PassesBy db a old (tick settings options now (part_of db old.sources) ticked cache)
 tick_passes db a settings options now ticked old cache d = passes db a old cache Nothing (tick settings options now (part_of db old.sources) ticked cache) d (tick_comes db a old.history settings options now ticked old (old.callers a) cache (driven db a old cache d))

@@ -10,7 +10,7 @@ use Rattle.nsc_model.specs.declared.record.Record.{Record}
 use Rattle.nsc_model.specs.declared.record.Record.TheVariants.{End}
 use Rattle.nsc_model.specs.Entry.{Entry}
 use Rattle.nsc_model.specs.History.{changes, loads, invalidations, newest, version_in, HasLoad, HasEnd, IsLive, WasPolled, Allows, Legal}
-use Rattle.nsc_laws.specs.Core.{Core, ended_all, Move, Finish, Runs}
+use Rattle.nsc_laws.specs.Core.{Core, ended_all, Move, Finish, AreMoves}
 use Rattle.nsc_model.specs.Live.{Among, Rise, AreLive}
 use Rattle.nsc_model.specs.Machine.{Kept, Cache, ends_of, by_invalidation, is_dropped, due_cause, due_of, others_of}
 use Rattle.nsc_laws.specs.Calls.{entries_of, Tells, IsOwn}
@@ -105,7 +105,7 @@ lives_on h e f cause low live = record {
   not_ended = λ gone. elim gone [ inl same ↦ (let n : e.number ≡ f.number = same in omega arith) | inr before ↦ live.not_ended before ];
 }
 
-pub ends_run : (db : Db) (cause : Kept → Ending) (ks : List Kept) (core : Core) → ((e : Entry) → Among (entries_of ks) e → IsLive core.history e) → Allowed cause ks → Rise (entries_of ks) → Runs db (finishes cause ks) core (ended core cause ks)
+pub ends_run : (db : Db) (cause : Kept → Ending) (ks : List Kept) (core : Core) → ((e : Entry) → Among (entries_of ks) e → IsLive core.history e) → Allowed cause ks → Rise (entries_of ks) → AreMoves db (finishes cause ks) core (ended core cause ks)
 unfolding finishes
 ends_run db cause [] core live allowed r = refl
 ends_run db cause (k ∷ ks) core live allowed r =

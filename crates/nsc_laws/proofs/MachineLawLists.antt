@@ -1,5 +1,5 @@
 -- Lists of kept entries: what a filter keeps of them, and the requests of live entries.
-use Rattle.std.proofs.Common.{◌≡◌, ◌≢◌, ◌<◌, Bool, true, false, cond, List, [], ◌∷◌, refl, sym, ap, subst, ◌∙◌, arith, inl, inr}
+use Rattle.std.proofs.Common.{◌≡◌, ◌<◌, Bool, true, false, cond, List, [], ◌∷◌, refl, sym, ap, subst, ◌∙◌, arith, inl, inr}
 use Rattle.std.specs.Prelude.{filter, find, Option, Some, None}
 use Rattle.nsc_model.specs.declared.answer.Request.{Request}
 use Rattle.nsc_model.specs.declared.record.Record.{Record}
@@ -105,21 +105,3 @@ one_live_of (Invalid k ∷ h) e f l a lives b stays r = one_live_of h e f l.0 a 
 
 pub one_live : (h : List Record) (e f : Entry) → Legal h → IsLive h e → IsLive h f → e.request ≡ f.request → e ≡ f
 one_live h e f l a b r = one_live_of h e f l a.inserted a.not_ended b.inserted b.not_ended r
-
--- ---- lists of requests that differ
-
--- the entries have different requests, each from each
-abbrev pub Apart : List Entry → Type 0
-Apart [] = Unit {0}
-Apart (e ∷ es) = ((f : Entry) → Among es f → f.request ≢ e.request) × Apart es
-
--- live entries in rising number are apart
-pub live_apart : (h : List Record) (es : List Entry) → Legal h → ((e : Entry) → Among es e → IsLive h e) → Rise es → Apart es
-live_apart h [] l live r = tt
-live_apart h (e ∷ es) l live r = (differ, live_apart h es l (λ f a. live f (inr a)) (rise_tail e es r)) where
-  differ : (f : Entry) → Among es f → f.request ≢ e.request
-  differ f a same =
-      let one : f ≡ e = one_live h f e l (live f (inr a)) (live e (inl refl)) same in
-      let number : f.number ≡ e.number = ap (λ (y : Entry). y.number) one in
-      let low : e.number < f.number = first_least e es f r a in
-      omega arith

@@ -1,6 +1,6 @@
 -- The parts of an event as moves of the core: a poll, an insertion, an invalidation, and the pruning of a tick.
 use Rattle.std.proofs.Common.{◌≡◌, ◌≢◌, ℕ, ◌+◌, ◌<◌, Bool, true, false, cond, eqb, ltb, List, [], ◌∷◌, ◌++◌, refl, sym, ap, subst, ◌∙◌, arith, inl, inr, rules}
-use Rattle.std.specs.Prelude.{◌⊎◌, min, Option, Some, None, Ok, Err}
+use Rattle.std.specs.Prelude.{◌⊎◌, length, min, nat_lt, Option, Some, None, Ok, Err}
 use Rattle.std.proofs.lemmas.Bool.{false≢true}
 use Rattle.nsc_model.specs.declared.kind.Db.{Db}
 use Rattle.nsc_model.specs.declared.answer.Request.{Request}
@@ -8,21 +8,24 @@ use Rattle.nsc_model.specs.declared.record.Record.{Record}
 use Rattle.nsc_model.specs.declared.record.Record.TheVariants.{Change, Poll, Load, Invalid}
 use Rattle.nsc_model.specs.Content.{Content}
 use Rattle.nsc_model.specs.Files.{part_of, same_files}
-use Rattle.nsc_model.specs.Entry.{Entry}
+use Rattle.nsc_model.specs.Kinds.{is_request}
+use Rattle.nsc_model.specs.Entry.{Entry, kept_limit}
 use Rattle.nsc_model.specs.declared.conf.DbConf.{DbConf}
-use Rattle.nsc_model.specs.History.{loads, invalidations, newest, version_in, HasEnd, IsLive, NoneLiveOf, IsTrueAnswer, WasPolled, Legal}
-use Rattle.nsc_laws.specs.Core.{Caller, Core, Insert, Empty, IsPoll, ended_all}
+use Rattle.nsc_model.specs.History.{loads, invalidations, newest, HasEnd, IsLive, NoneLiveOf, IsTrueAnswer, WasPolled, Legal}
+use Rattle.nsc_laws.specs.Core.{Caller, Core, Insert, Empty, IsPoll, MayInsert, ended_all}
 use Rattle.nsc_model.specs.Live.{Among, AreLive}
-use Rattle.nsc_model.specs.Machine.{last_count, Kept, Cache, unchanged, stopped, after_adds, polled, new_entry, Refusal, TooLarge, Discarded, Present, Spent, Full, own_refusal, room_of, tried_by, tried, entry_words, all_words, compacted_after, emptied, by_invalidation, invalidated}
+use Rattle.nsc_model.specs.Machine.{last_count, Kept, Cache, unchanged, stopped, after_adds, polled, live_entry, Candidate, new_entry, Refusal, TooLarge, Discarded, Present, Spent, Full, or_later, present_cause, overtaken, refusal, room_of, tried_by, tried, tried_all, entry_words, all_words, compacted_after, emptied, by_invalidation, invalidated}
 use Rattle.nsc_laws.specs.Calls.{entries_of, Tells}
 use Rattle.nsc_model.proofs.Contents.{one_content}
 use Rattle.nsc_model.proofs.Contents.{content_same}
+use Rattle.nsc_laws.proofs.Requests.{request_same}
 use Rattle.nsc_laws.proofs.Prefixes.{load_below}
 use Rattle.nsc_laws.proofs.CoreLawRecords.{ended_or_not, same_invalidations, none_left, all_ended}
 use Rattle.nsc_laws.proofs.CoreLawLive.{among_more, among_first, among_last, rise_last, new_live}
 use Rattle.nsc_laws.proofs.CoreLaw.{changed, noting, fetching, polling, change_legal}
+use Rattle.nsc_laws.proofs.MachineLawLists.{missed}
 use Rattle.nsc_laws.proofs.MachineLawEnds.{ends_after, ended_same, changes_ends, loads_ends, newest_ends, version_ends}
-use Rattle.nsc_laws.proofs.MachineLawSteps.{Step, no_step, one_step, silent_step, Stands, Looked, retold, gains_on, note_step, note_stands, fetch_step, fetch_stands, polled_core, poll_step, poll_stands, Went, Nothing, Comes, comes_after, stays}
+use Rattle.nsc_laws.proofs.MachineLawSteps.{Step, no_step, one_step, then_step, silent_step, Stands, Looked, retold, gains_on, note_step, note_stands, fetch_step, fetch_stands, polled_core, poll_step, poll_stands, Went, Nothing, Comes, comes_after, stays}
 
 -- ---- a poll
 
@@ -138,16 +141,16 @@ poll_comes db a event core c cache s = by_test (same_files (part_of db core.sour
   by_test true same = poll_went db a event core c cache cache (Poll cache.newest_version) refl s (confirmed core.history (part_of db core.sources) cache s.tells same)
   by_test false other = by_count (eqb cache.newest_version last_count) other
 
--- ---- an insertion
+-- ---- insertions
 
--- an insertion was tried
-pub record Tried (db : Db) (a : ℕ) (event : List Record) (old : Core) (c : Caller) (request : Request) (before : Cache) (adds : List Record) (after : Cache) : Type 0 where
+-- insertions were tried
+pub record Tried (db : Db) (a : ℕ) (event : List Record) (old : Core) (c : Caller) (before : Cache) (adds : List Record) (after : Cache) : Type 0 where
   pub new : Core
   pub step : Step db a event old adds new
   pub stands : Stands a event new c after
   pub looked : Looked new.history c after
-  pub held : version_in new.history before.newest_version ≡ Some before.sources
-  pub among : (e : Entry) → Among (entries_of after.entries) e → Among (entries_of before.entries) e ⊎ (e.request ≡ request)
+  pub same_version : after.newest_version ≡ before.newest_version
+  pub same_sources : after.sources ≡ before.sources
 
 pub none_of : (h : List Record) (es : List Entry) (request : Request) → AreLive h es → ((e : Entry) → Among es e → e.request ≢ request) → NoneLiveOf h request
 none_of h es request are others e loaded same = by_end (ended_or_not h e.number) where
@@ -189,36 +192,53 @@ kept_tells h cache k t is none true_answer was =
       entries_are = subst (AreLive (Load k.entry ∷ h)) (sym (entries_last cache.entries k)) (load_live h (entries_of cache.entries) k.entry t.legal number t.entries_are);
     }
 
-load_tells : (settings : DbConf) (now : ℕ) (request : Request) (reloads : ℕ) (h : List Record) (cache : Cache) → Tells h cache → WasPolled h cache.newest_version → NoneLiveOf h request
-    → Tells (Load (new_entry settings now request reloads cache).entry ∷ h) (inserted_by (new_entry settings now request reloads cache) cache)
-load_tells settings now request reloads h cache t was none = kept_tells h cache (new_entry settings now request reloads cache) t refl none (cache.sources, t.held, refl) was
+-- the request of an insertion that nothing refuses is not live
+no_cause : (b : Bool) (cause : Refusal) (o : Option Refusal) → cond b (Some cause) o ≡ None → o ≡ None
+no_cause true cause o e = absurd cc
+no_cause false cause o e = e
 
-refused : (db : Db) (a : ℕ) (event : List Record) (core : Core) (c : Caller) (request : Request) (cache : Cache) (failed : ℕ) → Stands a event core c cache → Looked core.history c cache → Tried db a event core c request cache [] (record cache { add_failed = failed })
-refused db a event core c request cache failed s l = record {
+no_earlier : (o later : Option Refusal) → or_later o later ≡ None → o ≡ None
+no_earlier None later e = refl
+no_earlier (Some cause) later e = absurd cc
+
+no_present : (o : Option Kept) → present_cause o ≡ None → o ≡ None
+no_present None e = refl
+no_present (Some k) e = absurd cc
+
+not_refused : (room noted : ℕ) (e : Entry) (cache : Cache) → refusal room noted e cache ≡ None → live_entry e.request cache.entries ≡ None
+not_refused room noted e cache none = no_present _ (no_cause (nat_lt noted cache.epoch) _ _ (no_earlier (overtaken noted e.request cache) _ (no_cause (nat_lt kept_limit (length e.answer.bytes)) _ _ none)))
+
+pub asked_none : (h : List Record) (cache : Cache) (request : Request) → Tells h cache → live_entry request cache.entries ≡ None → NoneLiveOf h request
+asked_none h cache request t none =
+    none_of h (entries_of cache.entries) request t.entries_are
+    (λ e a same. false≢true (sym (missed (λ (x : Entry). is_request request x.request) cache.entries e none a) ∙ subst (λ (x : Request). is_request request x ≡ true) (sym same) (request_same request)))
+
+refused : (db : Db) (a : ℕ) (event : List Record) (core : Core) (c : Caller) (cache : Cache) (failed : ℕ) → Stands a event core c cache → Looked core.history c cache → Tried db a event core c cache [] (record cache { add_failed = failed })
+refused db a event core c cache failed s l = record {
   new = core;
   step = no_step db a event core;
   stands = retold a event core c cache cache.entries cache.used cache.cycle failed refl s;
   looked = record { version_is = l.version_is; noted_is = l.noted_is; was = l.was };
-  held = s.tells.held;
-  among = λ e a. inl a;
+  same_version = refl;
+  same_sources = refl;
 }
 
-inserts : (db : Db) (a : ℕ) (event : List Record) (core : Core) (c : Caller) (settings : DbConf) (now : ℕ) (request : Request) (reloads : ℕ) (cache : Cache) → Stands a event core c cache → Looked core.history c cache → c.request ≡ Some request
-    → ((e : Entry) → Among (entries_of cache.entries) e → e.request ≢ request)
-    → Tried db a event core c request cache (Load (new_entry settings now request reloads cache).entry ∷ []) (inserted_by (new_entry settings now request reloads cache) cache)
-inserts db a event core c settings now request reloads cache s l is others =
+inserts : (db : Db) (a : ℕ) (event : List Record) (core : Core) (c : Caller) (settings : DbConf) (now : ℕ) (one : Candidate) (cache : Cache) → Stands a event core c cache → Looked core.history c cache → MayInsert c one.request
+    → live_entry one.request cache.entries ≡ None → Tried db a event core c cache (Load (new_entry settings now one cache).entry ∷ []) (inserted_by (new_entry settings now one cache) cache)
+inserts db a event core c settings now one cache s l may absent =
     let h = core.history in
-    let k = new_entry settings now request reloads cache in
-    let none = none_of h (entries_of cache.entries) request s.tells.entries_are others in
-    let t = load_tells settings now request reloads h cache s.tells l.was none in
+    let k = new_entry settings now one cache in
+    let none = asked_none h cache one.request s.tells absent in
+    let t = kept_tells h cache k s.tells refl none (cache.sources, s.tells.held, refl) l.was in
     record {
       new = record core { history = Load k.entry ∷ h };
-      step = one_step db a event (Insert a k.entry.timeout) core (Load k.entry ∷ []) (record core { history = Load k.entry ∷ h }) refl
+      step = one_step db a event (Insert a one.request k.entry.timeout) core (Load k.entry ∷ []) (record core { history = Load k.entry ∷ h }) refl
           (inl (
             k.entry,
             record {
               content = cache.sources;
-              request_is = ap (λ (x : Caller). x.request) s.caller_is ∙ is;
+              allowed = ap (λ (x : Caller). x.request) s.caller_is ∙ may;
+              request_is = refl;
               version_is = ap (λ (x : Caller). x.version) s.caller_is ∙ l.version_is;
               noted_is = ap (λ (x : Caller). x.noted) s.caller_is ∙ l.noted_is;
               none_live = none;
@@ -231,24 +251,42 @@ inserts db a event core c settings now request reloads cache s l is others =
           )) refl refl;
       stands = gains_on a event core (Load k.entry ∷ h) (Load k.entry ∷ []) c cache (inserted_by k cache) refl t s;
       looked = record { version_is = l.version_is; noted_is = l.noted_is; was = l.was };
-      held = s.tells.held;
-      among = λ e x. elim (among_more (entries_of cache.entries) k.entry e (subst (λ (es : List Entry). Among es e) (entries_last cache.entries k) x)) [
-        | inl old ↦ inl old
-        | inr same ↦ inr (sym (ap (λ (y : Entry). y.request) same))
-      ];
+      same_version = refl;
+      same_sources = refl;
     }
 
-pub tries : (db : Db) (a : ℕ) (event : List Record) (core : Core) (c : Caller) (settings : DbConf) (now : ℕ) (request : Request) (reloads : ℕ) (cache : Cache) → Stands a event core c cache → Looked core.history c cache → c.request ≡ Some request
-    → ((e : Entry) → Among (entries_of cache.entries) e → e.request ≢ request)
-    → Tried db a event core c request cache (tried settings now request reloads cache).adds (tried settings now request reloads cache).cache
-tries db a event core c settings now request reloads cache s l is others = by_cause (own_refusal (room_of settings) (new_entry settings now request reloads cache).entry cache) where
-  by_cause : (o : Option Refusal) → Tried db a event core c request cache (tried_by o (new_entry settings now request reloads cache) cache).adds (tried_by o (new_entry settings now request reloads cache) cache).cache
-  by_cause None = inserts db a event core c settings now request reloads cache s l is others
-  by_cause (Some (TooLarge size)) = refused db a event core c request cache cache.add_failed s l
-  by_cause (Some (Discarded loaded epoch)) = refused db a event core c request cache cache.add_failed s l
-  by_cause (Some (Present number)) = refused db a event core c request cache cache.add_failed s l
-  by_cause (Some (Spent count)) = refused db a event core c request cache cache.add_failed s l
-  by_cause (Some (Full need free)) = refused db a event core c request cache (min (cache.add_failed + 1) last_count) s l
+pub tries : (db : Db) (a : ℕ) (event : List Record) (core : Core) (c : Caller) (settings : DbConf) (now : ℕ) (one : Candidate) (cache : Cache) → Stands a event core c cache → Looked core.history c cache → MayInsert c one.request
+    → Tried db a event core c cache (tried settings now one cache).adds (tried settings now one cache).cache
+tries db a event core c settings now one cache s l may = by_cause (refusal (room_of settings) cache.epoch (new_entry settings now one cache).entry cache) refl where
+  by_cause : (o : Option Refusal) → refusal (room_of settings) cache.epoch (new_entry settings now one cache).entry cache ≡ o
+      → Tried db a event core c cache (tried_by o (new_entry settings now one cache) cache).adds (tried_by o (new_entry settings now one cache) cache).cache
+  by_cause None e = inserts db a event core c settings now one cache s l may (not_refused (room_of settings) cache.epoch (new_entry settings now one cache).entry cache e)
+  by_cause (Some (TooLarge size)) e = refused db a event core c cache cache.add_failed s l
+  by_cause (Some (Discarded loaded epoch)) e = refused db a event core c cache cache.add_failed s l
+  by_cause (Some (Present number)) e = refused db a event core c cache cache.add_failed s l
+  by_cause (Some (Spent count)) e = refused db a event core c cache cache.add_failed s l
+  by_cause (Some (Full need free)) e = refused db a event core c cache (min (cache.add_failed + 1) last_count) s l
+
+-- one after the other, in one call
+abbrev pub MayInsertAll : Caller → List Candidate → Type 0
+MayInsertAll c [] = Unit {0}
+MayInsertAll c (one ∷ others) = MayInsert c one.request × MayInsertAll c others
+
+pub tries_all : (db : Db) (a : ℕ) (event : List Record) (core : Core) (c : Caller) (settings : DbConf) (now : ℕ) (all : List Candidate) (cache : Cache) → Stands a event core c cache → Looked core.history c cache → MayInsertAll c all
+    → Tried db a event core c cache (tried_all settings now all cache).adds (tried_all settings now all cache).cache
+tries_all db a event core c settings now [] cache s l may = record { new = core; step = no_step db a event core; stands = s; looked = l; same_version = refl; same_sources = refl }
+tries_all db a event core c settings now (one ∷ others) cache s l may =
+    let first = tried settings now one cache in
+    let t = tries db a event core c settings now one cache s l may.0 in
+    let rest = tries_all db a event t.new c settings now others first.cache t.stands t.looked may.1 in
+    record {
+      new = rest.new;
+      step = then_step db a event core t.new rest.new first.adds (tried_all settings now others first.cache).adds t.step rest.step;
+      stands = rest.stands;
+      looked = rest.looked;
+      same_version = rest.same_version ∙ t.same_version;
+      same_sources = rest.same_sources ∙ t.same_sources;
+    }
 
 -- ---- a compaction and an invalidation
 

@@ -23,7 +23,7 @@ use Rattle.nsc_model.specs.Frames.{Frame, Finish, Spent, cut_at}
 use Rattle.nsc_model.specs.Replay.{State, first_state, cache_of, with_cache, Went, framed, looked_at, look_frame, unanswered, request_frame, silent, then_on, tick_in, with_ticked, ticked_in, ticks, turn_of, Replayed, play_on, play, replay}
 use Rattle.nsc_laws.specs.Core.{Caller, Core, opening}
 use Rattle.nsc_laws.specs.Calls.{IsBy, IsMoved, IsTurned, PassesBy, TurnsBy}
-use Rattle.nsc_laws.specs.Replies.{AllDrive, IsGiven, IsReplied, each_of, with_at, none_add, adds_alone, adds_of, look_adds_of, asked_adds, unless_stopped, tick_adds, frame_adds, reached_moment, AllMove, left_on, left_looked, left_tick, left_ticked, left_ticks, left_look, left_asked, left_by, stopped_in, IsPlayed, IsStopped, PlayedThen, EachReplied, WritesInTurn}
+use Rattle.nsc_laws.specs.Replies.{AllDrive, IsCoreReply, IsFramedReply, each_of, with_at, none_add, adds_alone, adds_of, look_adds_of, asked_adds, unless_stopped, tick_adds, frame_adds, reached_moment, AllMove, left_on, left_looked, left_tick, left_ticked, left_ticks, left_look, left_asked, left_by, stopped_in, IsPlayed, IsStopped, PlayedThen, EachReplied, WritesInTurn}
 use Rattle.nsc_laws.proofs.CoreLaw.{noting}
 use Rattle.nsc_laws.proofs.MachineLaw.{lookup_turns, tick_passes, invalidation_passes}
 use Rattle.nsc_laws.proofs.MachineLawSteps.{at_own}
@@ -118,14 +118,14 @@ all_ticked settings s cores d = passwd_ticked settings cores s cores (tick_in se
 
 -- what a connection asked
 abbrev AskedTo : (Db → Core) → (Db → List Record) → State → State → Asked → Result Went Finish → Type 0
-AskedTo old adds s left asked (Ok went) = (new : Db → Core) × AllMove old adds went.state new × IsReplied old new went.writes asked × (went.state.files ≡ s.files) × (went.state.moment ≡ s.moment)
+AskedTo old adds s left asked (Ok went) = (new : Db → Core) × AllMove old adds went.state new × IsFramedReply old new went.writes asked × (went.state.files ≡ s.files) × (went.state.moment ≡ s.moment)
 AskedTo old adds s left asked (Err finish) = (new : Db → Core) × AllMove old adds left new × IsCount finish
 
 abbrev request : Kind → List ℕ → Request
 request kind key = record { kind = kind; key = key }
 
 -- a reply is given where its lookup is made, and still where the caller noted the invalidations anew
-given_on : (db : Db) (old new : Core) (request : Request) (adds : List Record) (reply : List ℕ) (after : Cache) → IsTurned db 0 old request adds reply after new → IsGiven old (settled new) request reply
+given_on : (db : Db) (old new : Core) (request : Request) (adds : List Record) (reply : List ℕ) (after : Cache) → IsTurned db 0 old request adds reply after new → IsCoreReply old (settled new) request reply
 given_on db old new request adds reply after t =
     let is = at_own new.callers 0 (noting (new.callers 0) (invalidations new.history)) in
     record {
@@ -143,10 +143,10 @@ given_on db old new request adds reply after t =
     }
 
 given_in : (kind : Kind) (key : List ℕ) (cores : Db → Core) (new : Core) (adds : List Record) (reply : List ℕ) (after : Cache) → IsTurned (database_of kind) 0 (cores (database_of kind)) (request kind key) adds reply after new
-    → IsGiven (cores (database_of kind)) (with_at cores (database_of kind) (settled new) (database_of kind)) (request kind key) reply
+    → IsCoreReply (cores (database_of kind)) (with_at cores (database_of kind) (settled new) (database_of kind)) (request kind key) reply
 given_in kind key cores new adds reply after t =
     let db = database_of kind in
-    subst (λ (core : Core). IsGiven (cores db) core (request kind key) reply) (sym (with_at_own cores db (settled new))) (given_on db (cores db) new (request kind key) adds reply after t)
+    subst (λ (core : Core). IsCoreReply (cores db) core (request kind key) reply) (sym (with_at_own cores db (settled new))) (given_on db (cores db) new (request kind key) adds reply after t)
 
 kind_asked : (s : State) (cores : Db → Core) (kind : Kind) (key : List ℕ) (r : Result Turn Stopped) → AllDrive s cores → TurnsBy (database_of kind) 0 (cores (database_of kind)) (request kind key) r
     → AskedTo cores (adds_alone (database_of kind) (look_adds_of r)) s (left_looked s (database_of kind) r) (Look (request kind key)) (looked_at s (database_of kind) r)
@@ -168,7 +168,7 @@ look_asked settings s cores kind key d =
     (subst (λ (f : Content). TurnsBy db 0 (cores db) (request kind key) (lookup (settings_of settings db) s.moment (part_of db f) (request kind key) (cache_of s db))) (d.sources_are db)
     (lookup_turns db 0 (settings_of settings db) s.moment (request kind key) (cores db) (cache_of s db) (d.drives db)))
 
-no_look : (s : State) (cores : Db → Core) (asked : Asked) → IsReplied cores cores (framed []) asked → AllDrive s cores → AskedTo cores none_add s s asked (unanswered s)
+no_look : (s : State) (cores : Db → Core) (asked : Asked) → IsFramedReply cores cores (framed []) asked → AllDrive s cores → AskedTo cores none_add s s asked (unanswered s)
 no_look s cores asked is d = (cores, all_stay s cores d, is, refl, refl)
 
 any_asked : (settings : Conf) (s : State) (cores : Db → Core) (asked : Asked) → AllDrive s cores → AskedTo cores (asked_adds settings s asked) s (left_asked settings s asked) asked (request_frame settings s asked)

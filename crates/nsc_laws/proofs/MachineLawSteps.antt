@@ -8,7 +8,7 @@ use Rattle.nsc_model.specs.declared.record.Record.{Record}
 use Rattle.nsc_model.specs.Content.{Content}
 use Rattle.nsc_model.specs.Files.{part_of}
 use Rattle.nsc_model.specs.History.{invalidations, WasPolled, IsPrefix}
-use Rattle.nsc_laws.specs.Core.{Caller, Core, with_caller, Move, Files, Begin, Look, Note, Fetch, PollStep, Insert, Finish, Empty, Compact, Reply, IsPoll, Moves, Runs}
+use Rattle.nsc_laws.specs.Core.{Caller, Core, with_caller, Move, Files, Begin, Look, Note, Fetch, PollStep, Insert, Finish, Empty, Compact, Reply, IsPoll, IsMove, AreMoves}
 use Rattle.nsc_model.specs.Machine.{Kept, Cache, Passed, Stopped, after_adds, ◌>>=◌}
 use Rattle.nsc_laws.specs.Calls.{entries_of, Tells, IsOwn, IsBy, Drives, IsMoved, PassesBy}
 use Rattle.nsc_laws.proofs.CoreLaw.{changed, begun, noting, fetching, polling}
@@ -19,12 +19,12 @@ use Rattle.nsc_laws.proofs.CoreLaw.{changed, begun, noting, fetching, polling}
 pub record Step (db : Db) (a : ℕ) (event : List Record) (old : Core) (adds : List Record) (new : Core) : Type 0 where
   pub moves : List Move
   pub own : All (IsOwn a event) moves
-  pub runs : Runs db moves old new
+  pub runs : AreMoves db moves old new
   pub history_is : new.history ≡ adds ++ old.history
   pub sources_stay : new.sources ≡ old.sources
 
-pub runs_append : (db : Db) (xs ys : List Move) (a b c : Core) → Runs db xs a b → Runs db ys b c → Runs db (xs ++ ys) a c
-runs_append db [] ys a b c r s = subst (λ (x : Core). Runs db ys x c) r s
+pub runs_append : (db : Db) (xs ys : List Move) (a b c : Core) → AreMoves db xs a b → AreMoves db ys b c → AreMoves db (xs ++ ys) a c
+runs_append db [] ys a b c r s = subst (λ (x : Core). AreMoves db ys x c) r s
 runs_append db (x ∷ xs) ys a b c r s = (r.0, r.1, runs_append db xs ys r.0 b c r.2 s)
 
 -- such moves are of this caller, and leave the files as they are
@@ -35,7 +35,7 @@ own_by a event (Look caller found) own = own
 own_by a event (Note caller) own = own
 own_by a event (Fetch caller) own = own
 own_by a event (PollStep caller) own = own
-own_by a event (Insert caller timeout) own = own
+own_by a event (Insert caller request timeout) own = own
 own_by a event (Finish number cause) own = tt
 own_by a event Empty own = tt
 own_by a event Compact own = tt
@@ -44,7 +44,7 @@ own_by a event (Reply caller bytes) own = own
 pub no_step : (db : Db) (a : ℕ) (event : List Record) (core : Core) → Step db a event core [] core
 no_step db a event core = record { moves = []; own = All-nil (IsOwn a event); runs = refl; history_is = refl; sources_stay = refl }
 
-pub one_step : (db : Db) (a : ℕ) (event : List Record) (move : Move) (old : Core) (adds : List Record) (new : Core) → IsOwn a event move → Moves db move old new → new.history ≡ adds ++ old.history → new.sources ≡ old.sources → Step db a event old adds new
+pub one_step : (db : Db) (a : ℕ) (event : List Record) (move : Move) (old : Core) (adds : List Record) (new : Core) → IsOwn a event move → IsMove db move old new → new.history ≡ adds ++ old.history → new.sources ≡ old.sources → Step db a event old adds new
 one_step db a event move old adds new own moves h s = record {
   moves = move ∷ [];
   own = All-cons (IsOwn a event) move [] own (All-nil (IsOwn a event));

@@ -9,8 +9,8 @@ use Rattle.nsc_model.specs.declared.record.Record.{Record}
 use Rattle.nsc_model.specs.declared.record.Record.TheVariants.{Load, End, Invalid}
 use Rattle.nsc_model.specs.Entry.{Entry}
 use Rattle.nsc_model.specs.History.{changes, invalidations, HasLoad, Legal, IsPrefix, LooksAt, FromEntry, FromPoll}
-use Rattle.nsc_laws.specs.Core.{Core, opening, ended_all, Move, Files, Begin, Look, Note, Fetch, PollStep, Insert, Finish, Empty, Compact, Reply, Moves, Runs}
-use Rattle.nsc_laws.specs.Origins.{IsOfCallers, IsAnswer, IsReply}
+use Rattle.nsc_laws.specs.Core.{Core, opening, ended_all, Move, Files, Begin, Look, Note, Fetch, PollStep, Insert, Finish, Empty, Compact, Reply, IsMove, AreMoves}
+use Rattle.nsc_laws.specs.Origins.{IsOfCallers, IsAnswer, IsRunReply}
 use Rattle.nsc_laws.proofs.Prefixes.{prefix_legal}
 use Rattle.nsc_laws.proofs.CoreLaw.{legal_law, replies_law}
 use Rattle.nsc_laws.proofs.CoreLawRecords.{prefix_more, load_more}
@@ -23,7 +23,7 @@ ended_on : (entries : List Entry) (h : List Record) → IsPrefix h (ended_all en
 ended_on [] h = same_prefix h
 ended_on (e ∷ entries) h = both_prefix h (End e.number Invalidated ∷ h) (ended_all entries (End e.number Invalidated ∷ h)) (End e.number Invalidated ∷ [], refl) (ended_on entries (End e.number Invalidated ∷ h))
 
-move_goes_on : (db : Db) (move : Move) (old new : Core) → Moves db move old new → IsPrefix old.history new.history
+move_goes_on : (db : Db) (move : Move) (old new : Core) → IsMove db move old new → IsPrefix old.history new.history
 move_goes_on db (Files content) old new m = ([], ap (λ (c : Core). c.history) m)
 move_goes_on db (Begin a request seen) old new m = ([], ap (λ (c : Core). c.history) m.2)
 move_goes_on db (Look a None) old new m = ([], ap (λ (c : Core). c.history) m)
@@ -31,8 +31,8 @@ move_goes_on db (Look a (Some e)) old new m = ([], ap (λ (c : Core). c.history)
 move_goes_on db (Note a) old new m = ([], ap (λ (c : Core). c.history) m)
 move_goes_on db (Fetch a) old new m = ([], ap (λ (c : Core). c.history) m.1)
 move_goes_on db (PollStep a) old new m = (m.1 ∷ [], ap (λ (c : Core). c.history) m.5)
-move_goes_on db (Insert a timeout) old new (inl m) = (Load m.0 ∷ [], ap (λ (c : Core). c.history) m.2)
-move_goes_on db (Insert a timeout) old new (inr m) = ([], ap (λ (c : Core). c.history) m.1)
+move_goes_on db (Insert a request timeout) old new (inl m) = (Load m.0 ∷ [], ap (λ (c : Core). c.history) m.2)
+move_goes_on db (Insert a request timeout) old new (inr m) = ([], ap (λ (c : Core). c.history) m.1)
 move_goes_on db (Finish number cause) old new m = (End number cause ∷ [], ap (λ (c : Core). c.history) m.4)
 move_goes_on db Empty old new m =
     let is = ap (λ (c : Core). c.history) m.2 in
@@ -40,7 +40,7 @@ move_goes_on db Empty old new m =
 move_goes_on db Compact old new m = ([], ap (λ (c : Core). c.history) m)
 move_goes_on db (Reply a bytes) old new m = ([], ap (λ (c : Core). c.history) m.1)
 
-run_goes_on : (db : Db) (moves : List Move) (old new : Core) → Runs db moves old new → IsPrefix old.history new.history
+run_goes_on : (db : Db) (moves : List Move) (old new : Core) → AreMoves db moves old new → IsPrefix old.history new.history
 run_goes_on db [] old new r = ([], ap (λ (c : Core). c.history) r)
 run_goes_on db (move ∷ moves) old new r = both_prefix old.history r.0.history new.history (move_goes_on db move old r.0 r.1) (run_goes_on db moves r.0 new r.2)
 
@@ -96,7 +96,7 @@ some_history : (h : List Record) → Legal h → h ≢ []
 some_history [] l none = absurd l
 some_history (r ∷ h) l none = absurd cc
 
-pub reply_answered : (db : Db) (seen history : List Record) (request : Request) (bytes : List ℕ) → IsReply db seen history request bytes → IsAnswer seen history request bytes
+pub reply_answered : (db : Db) (seen history : List Record) (request : Request) (bytes : List ℕ) → IsRunReply db seen history request bytes → IsAnswer seen history request bytes
 reply_answered db seen history request bytes r =
     let h = r.core.history in
     let asked : r.replies.request ≡ request = same_Some r.replies.request request (sym r.replies.request_is ∙ r.requested) in

@@ -12,7 +12,7 @@ use Rattle.nsc_model.specs.Content.{Content}
 use Rattle.nsc_model.specs.Files.{part_of}
 use Rattle.nsc_model.specs.Entry.{Entry}
 use Rattle.nsc_model.specs.History.{changes, invalidations, newest, Legal, IsPrefix, LooksAt}
-use Rattle.nsc_laws.specs.Core.{Caller, Core, opening, Move, Begin, Insert, Finish, Empty, Inserts, Runs}
+use Rattle.nsc_laws.specs.Core.{Caller, Core, opening, Move, Begin, Insert, Finish, Empty, IsInsertion, AreMoves}
 use Rattle.nsc_model.specs.Live.{AreLive}
 use Rattle.nsc_laws.specs.Origins.{IsSourced, IsRun}
 use Rattle.nsc_laws.proofs.Prefixes.{more_after, prefix_legal}
@@ -25,7 +25,7 @@ use Rattle.nsc_laws.proofs.RunSteps.{Holder, WasAsked, Ready, other_callers, beg
 pub record Reaches (db : Db) (old : Core) (history : List Record) : Type 0 where
   pub moves : List Move
   pub new : Core
-  pub runs : Runs db moves old new
+  pub runs : AreMoves db moves old new
   pub ready : Ready new
   pub history_is : new.history ≡ history
 
@@ -115,9 +115,10 @@ load_step db core e ready l s =
     let a = h.caller in
     let c1 = begins core a (Some e.request) core.history in
     let is = at_own core.callers a (begun (core.callers a) (Some e.request) core.history) in
-    let inserts : Inserts core.history (c1.callers a) e.timeout e = record {
+    let inserts : IsInsertion core.history (c1.callers a) e.request e.timeout e = record {
       content = l.3.0;
-      request_is = ap (λ (c : Caller). c.request) is;
+      request_is = refl;
+      allowed = ap (λ (c : Caller). c.request) is;
       version_is = ap (λ (c : Caller). c.version) is ∙ h.version_is;
       noted_is = ap (λ (c : Caller). c.noted) is ∙ h.noted_is;
       none_live = l.2;
@@ -127,7 +128,7 @@ load_step db core e ready l s =
       timeout_is = refl;
     } in
     record {
-      moves = Begin a (Some e.request) core.history ∷ Insert a e.timeout ∷ [];
+      moves = Begin a (Some e.request) core.history ∷ Insert a e.request e.timeout ∷ [];
       new = loads_in core a e;
       runs = (c1, (h.seen_before, same_prefix core.history, refl), (loads_in core a e, inl (e, inserts, refl), refl));
       ready = record {

@@ -12,7 +12,7 @@ use Rattle.nsc_model.specs.Answers.{answer_of}
 use Rattle.nsc_model.specs.History.{changes, version_in, HasLoad, IsLive, Legal, IsPrefix, LooksAt, FromEntry, FromPoll, Answered}
 use Rattle.nsc_laws.specs.Core.{Caller, Core, new_caller, opening, Begin, Look}
 use Rattle.nsc_laws.specs.Moments.{WasLive}
-use Rattle.nsc_laws.specs.Origins.{IsSourced, IsOfCallers, IsAnswer, IsReply}
+use Rattle.nsc_laws.specs.Origins.{IsSourced, IsOfCallers, IsAnswer, IsRunReply}
 use Rattle.nsc_laws.proofs.Prefixes.{more_after, prefix_legal}
 use Rattle.nsc_laws.proofs.CoreLaw.{changed, begun, taking}
 use Rattle.nsc_laws.proofs.CoreLawRecords.{changes_rise}
@@ -68,7 +68,7 @@ sourced_in : (db : Db) (history : List Record) (more h : List Record) → histor
 sourced_in db history more h is s = subst (λ (x : List Record). IsSourced db x) is s
 
 by_moment : (db : Db) (seen history : List Record) (request : Request) (bytes : List ℕ) (moment : List Record) (n : ℕ) (content : Content) → Legal history → IsSourced db history → IsPrefix seen history → IsPrefix moment history
-    → length seen < length moment → 1 < length moment → LooksAt moment n → version_in history n ≡ Some content → (answer_of content request).bytes ≡ bytes → IsReply db seen history request bytes
+    → length seen < length moment → 1 < length moment → LooksAt moment n → version_in history n ≡ Some content → (answer_of content request).bytes ≡ bytes → IsRunReply db seen history request bytes
 by_moment db seen history request bytes [] n content l s p q later second at holds said = absurd at
 by_moment db seen history request bytes (r ∷ h) n content l s p q later second at holds said =
     let some : h ≢ [] = λ none. (let size : length h ≡ 0 = ap (λ (x : List Record). length x) none in omega arith) in
@@ -103,7 +103,7 @@ by_moment db seen history request bytes (r ∷ h) n content l s p q later second
       history_is = on.history_is ∙ (ap (λ (y : List Record). q.0 ++ y) front ∙ sym q.1);
     }
 
-reply_from_poll : (db : Db) (seen history : List Record) (request : Request) (bytes : List ℕ) → Legal history → IsSourced db history → IsPrefix seen history → (from : FromPoll seen history request bytes) → 1 < length from.moment → IsReply db seen history request bytes
+reply_from_poll : (db : Db) (seen history : List Record) (request : Request) (bytes : List ℕ) → Legal history → IsSourced db history → IsPrefix seen history → (from : FromPoll seen history request bytes) → 1 < length from.moment → IsRunReply db seen history request bytes
 reply_from_poll db seen history request bytes l s p from second =
     by_moment db seen history request bytes from.moment from.version_is from.files_are l s p from.is_moment from.later second from.looks from.holds from.said
 
@@ -139,7 +139,7 @@ spares_ready core a s = record {
 abbrev asking : Request → Option Request
 asking r = Some r
 
-by_front : (db : Db) (seen history : List Record) (request : Request) (bytes : List ℕ) (e : Entry) → Legal history → IsSourced db history → WasLive seen history e → e.request ≡ request → e.answer.bytes ≡ bytes → IsReply db seen history request bytes
+by_front : (db : Db) (seen history : List Record) (request : Request) (bytes : List ℕ) (e : Entry) → Legal history → IsSourced db history → WasLive seen history e → e.request ≡ request → e.answer.bytes ≡ bytes → IsRunReply db seen history request bytes
 by_front db seen history request bytes e l s live asks said =
     let front = live.front in
     let q = live.in_history in
@@ -174,15 +174,15 @@ by_front db seen history request bytes e l s live asks said =
       history_is = on.history_is ∙ (ap (λ (y : List Record). q.0 ++ y) (sym is) ∙ sym q.1);
     }
 
-reply_from_entry : (db : Db) (seen history : List Record) (request : Request) (bytes : List ℕ) → Legal history → IsSourced db history → IsPrefix seen history → FromEntry seen history request bytes → IsReply db seen history request bytes
+reply_from_entry : (db : Db) (seen history : List Record) (request : Request) (bytes : List ℕ) → Legal history → IsSourced db history → IsPrefix seen history → FromEntry seen history request bytes → IsRunReply db seen history request bytes
 reply_from_entry db seen history request bytes l s p from =
     by_front db seen history request bytes from.entry_is l s (reply_was_live seen history request bytes l p from) from.answers from.said
 
 -- ---- any answer
 
-pub answer_replied : (db : Db) (seen history : List Record) (request : Request) (bytes : List ℕ) → Legal history → IsSourced db history → IsAnswer seen history request bytes → IsReply db seen history request bytes
+pub answer_replied : (db : Db) (seen history : List Record) (request : Request) (bytes : List ℕ) → Legal history → IsSourced db history → IsAnswer seen history request bytes → IsRunReply db seen history request bytes
 answer_replied db seen history request bytes l s answer = by_source answer.answered.source answer.of_callers where
-  by_source : (source : FromEntry seen history request bytes ⊎ FromPoll seen history request bytes) → IsOfCallers source → IsReply db seen history request bytes
+  by_source : (source : FromEntry seen history request bytes ⊎ FromPoll seen history request bytes) → IsOfCallers source → IsRunReply db seen history request bytes
   by_source (inl from) own = reply_from_entry db seen history request bytes l s answer.answered.seen_before from
   by_source (inr from) own = reply_from_poll db seen history request bytes l s answer.answered.seen_before from own
 

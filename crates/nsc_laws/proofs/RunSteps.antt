@@ -9,7 +9,7 @@ use Rattle.nsc_model.specs.declared.record.Record.{Record}
 use Rattle.nsc_model.specs.Content.{Content}
 use Rattle.nsc_model.specs.Files.{part_of}
 use Rattle.nsc_model.specs.History.{invalidations, WasPolled, IsPrefix}
-use Rattle.nsc_laws.specs.Core.{Caller, Core, new_caller, with_caller, Move, Files, Begin, Note, Fetch, PollStep, IsPoll, Runs}
+use Rattle.nsc_laws.specs.Core.{Caller, Core, new_caller, with_caller, Move, Files, Begin, Note, Fetch, PollStep, IsPoll, AreMoves}
 use Rattle.nsc_laws.specs.Origins.{HasPoll}
 use Rattle.nsc_laws.proofs.CoreLaw.{changed, begun, noting, fetching, polling, after_poll}
 use Rattle.nsc_laws.proofs.CoreLawRecords.{prefix_more}
@@ -63,7 +63,7 @@ abbrev looking : Content → ℕ → Option Request → List Record → List Mov
 looking sources a request seen = Files sources ∷ Begin a request seen ∷ Note a ∷ Fetch a ∷ PollStep a ∷ []
 
 look_runs : (db : Db) (core : Core) (sources : Content) (a : ℕ) (request : Option Request) (seen : List Record) (r : Record) (n : ℕ) → IsPrefix (core.callers a).seen seen → IsPrefix seen core.history → IsPoll core.history (part_of db sources) r n
-    → Runs db (looking sources a request seen) core (looks_in db core sources a request seen r n)
+    → AreMoves db (looking sources a request seen) core (looks_in db core sources a request seen r n)
 look_runs db core sources a request seen r n p q poll =
     let c1 = over core sources in
     let c2 = begins c1 a request seen in
@@ -144,7 +144,7 @@ looks_ready db core sources request seen r n ready newest q = record {
 pub record Looks (db : Db) (old : Core) (request : Option Request) (seen : List Record) (r : Record) (n : ℕ) : Type 0 where
   pub moves : List Move
   pub new : Core
-  pub runs : Runs db moves old new
+  pub runs : AreMoves db moves old new
   pub ready : Ready new
   pub history_is : new.history ≡ r ∷ old.history
   pub caller : ℕ

@@ -12,7 +12,7 @@ use Rattle.nsc_model.specs.Services.{ends}
 use Rattle.nsc_model.specs.declared.kind.Db.{Db}
 use Rattle.nsc_model.specs.Switches.{compat_list, service_list}
 use Rattle.nsc_model.specs.Answers.{service_answer, sub_answer, switched, takers}
-use Rattle.nsc_laws.specs.Turns.{action_of, GoesOn, EndsAt, taken}
+use Rattle.nsc_laws.specs.Turns.{action_of, IsContinued, EndsAt, taken}
 use Rattle.nsc_laws.proofs.GivenLists.{some_asked, some_listed}
 
 pub outcome_taken : (look : SwitchService → Looked) (steps : List SwitchStep) → switched look steps ≡ taken look (takers look steps)
@@ -36,16 +36,16 @@ other_action Merge is same = cc
 
 pub ends_at : (look : SwitchService → Looked) (steps : List SwitchStep) → steps ≢ [] → EndsAt look steps (takers look steps)
 ends_at look [] some = absurd (some refl)
-ends_at look (step ∷ []) some = record { before = []; step = step; unasked = []; is = refl; each_goes_on = All-nil (GoesOn look); ends_here = inr refl; services_are = refl; outcome = refl }
+ends_at look (step ∷ []) some = record { before = []; step = step; unasked = []; is = refl; each_goes_on = All-nil (IsContinued look); ends_here = inr refl; services_are = refl; outcome = refl }
 ends_at look (step ∷ next ∷ steps) some = by_test (ends (action_of look step)) refl (ends_at look (next ∷ steps) (λ none. cc)) where
   by_test : (b : Bool) → ends (action_of look step) ≡ b → EndsAt look (next ∷ steps) (takers look (next ∷ steps)) → EndsAt look (step ∷ next ∷ steps) (cond b (step.service ∷ []) (takers look (next ∷ steps)))
-  by_test true is later = record { before = []; step = step; unasked = next ∷ steps; is = refl; each_goes_on = All-nil (GoesOn look); ends_here = inl (other_action (action_of look step) is); services_are = refl; outcome = ap (λ b. cond b (look step.service) (switched look (next ∷ steps))) is }
+  by_test true is later = record { before = []; step = step; unasked = next ∷ steps; is = refl; each_goes_on = All-nil (IsContinued look); ends_here = inl (other_action (action_of look step) is); services_are = refl; outcome = ap (λ b. cond b (look step.service) (switched look (next ∷ steps))) is }
   by_test false is later = record {
     before = step ∷ later.before;
     step = later.step;
     unasked = later.unasked;
     is = ap (λ (all : List SwitchStep). step ∷ all) later.is;
-    each_goes_on = All-cons (GoesOn look) step later.before (continues (action_of look step) is) later.each_goes_on;
+    each_goes_on = All-cons (IsContinued look) step later.before (continues (action_of look step) is) later.each_goes_on;
     ends_here = later.ends_here;
     services_are = later.services_are;
     outcome = ap (λ b. cond b (look step.service) (switched look (next ∷ steps))) is ∙ later.outcome;

@@ -8,7 +8,7 @@ use Rattle.nsc_model.specs.Files.{part_of}
 use Rattle.nsc_model.specs.Entry.{Entry}
 use Rattle.nsc_model.specs.declared.conf.DbConf.{DbConf}
 use Rattle.nsc_model.specs.History.{changes, loads, invalidations, newest, version_in, IsLive, Legal, IsPrefix, Answered}
-use Rattle.nsc_laws.specs.Core.{Core, Move, Files, Begin, Look, Note, Fetch, PollStep, Insert, Finish, Empty, Compact, Reply, Runs, Replies, opening}
+use Rattle.nsc_laws.specs.Core.{Core, Move, Files, Begin, Look, Note, Fetch, PollStep, Insert, Finish, Empty, Compact, Reply, AreMoves, Replies, opening}
 use Rattle.nsc_model.specs.Live.{AreLive}
 use Rattle.nsc_model.specs.Machine.{Kept, Cache, Passed, Stopped, Turn, lookup, tick, ticked_by, invalidated}
 
@@ -34,7 +34,7 @@ IsOwn a history (Look caller found) = caller ≡ a
 IsOwn a history (Note caller) = caller ≡ a
 IsOwn a history (Fetch caller) = caller ≡ a
 IsOwn a history (PollStep caller) = caller ≡ a
-IsOwn a history (Insert caller timeout) = caller ≡ a
+IsOwn a history (Insert caller request timeout) = caller ≡ a
 IsOwn a history (Finish number cause) = Unit {0}
 IsOwn a history Empty = Unit {0}
 IsOwn a history Compact = Unit {0}
@@ -48,7 +48,7 @@ IsBy a (Look caller found) = caller ≡ a
 IsBy a (Note caller) = caller ≡ a
 IsBy a (Fetch caller) = caller ≡ a
 IsBy a (PollStep caller) = caller ≡ a
-IsBy a (Insert caller timeout) = caller ≡ a
+IsBy a (Insert caller request timeout) = caller ≡ a
 IsBy a (Finish number cause) = Unit {0}
 IsBy a Empty = Unit {0}
 IsBy a Compact = Unit {0}
@@ -58,14 +58,14 @@ IsBy a (Reply caller bytes) = caller ≡ a
 pub record MovesOver (db : Db) (a : ℕ) (sources : Content) (old new : Core) : Type 0 where
   pub moves : List Move
   pub own : All (IsBy a) moves
-  pub runs : Runs db moves (record old { sources = sources }) new
+  pub runs : AreMoves db moves (record old { sources = sources }) new
 
 -- a core that a run from an opening reaches, with a caller that has seen some front of its history, and the cache that tells
 -- the whole of it
 pub record Drives (db : Db) (a : ℕ) (core : Core) (cache : Cache) : Type 0 where
   pub first : Content
   pub moves : List Move
-  pub runs : Runs db moves (opening db first) core
+  pub runs : AreMoves db moves (opening db first) core
   pub seen_before : IsPrefix (core.callers a).seen core.history
   pub tells : Tells core.history cache
 
@@ -74,7 +74,7 @@ pub record Drives (db : Db) (a : ℕ) (core : Core) (cache : Cache) : Type 0 whe
 pub record IsMoved (db : Db) (a : ℕ) (old : Core) (adds : List Record) (after : Cache) (new : Core) : Type 0 where
   pub moves : List Move
   pub own : All (IsOwn a old.history) moves
-  pub runs : Runs db moves old new
+  pub runs : AreMoves db moves old new
   pub history_is : new.history ≡ adds ++ old.history
   pub sources_stay : new.sources ≡ old.sources
   pub drives : Drives db a new after

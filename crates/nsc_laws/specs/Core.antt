@@ -50,7 +50,7 @@ pub data Move : Type 0 where
   Note : (caller : ℕ) → Move
   Fetch : (caller : ℕ) → Move
   PollStep : (caller : ℕ) → Move
-  Insert : (caller : ℕ) → (timeout : ℕ) → Move
+  Insert : (caller : ℕ) → (request : Request) → (timeout : ℕ) → Move
   Finish : (number : ℕ) → (cause : Ending) → Move
   Empty : Move
   Compact : Move
@@ -70,11 +70,16 @@ abbrev pub IsPoll : List Record → Content → Record → ℕ → Type 0
 IsPoll history content poll n =
     ((newest history ≡ Some content) × (n + 1 ≡ changes history) × (poll ≡ Poll n)) ⊎ ((newest history ≢ Some content) × (n ≡ changes history) × (poll ≡ Change n content))
 
--- the entry that a caller inserts: of its request, over its version, where it noted the present number of invalidations
--- and no entry of the request is live
-pub record Inserts (history : List Record) (caller : Caller) (timeout : ℕ) (e : Entry) : Type 0 where
+-- the requests of which a caller may insert an entry: its own
+abbrev pub MayInsert : Caller → Request → Type 0
+MayInsert caller request = caller.request ≡ Some request
+
+-- the entry of a request that a caller inserts: of one that it may insert, over its version, where it noted the present number
+-- of invalidations and no entry of the request is live
+pub record IsInsertion (history : List Record) (caller : Caller) (request : Request) (timeout : ℕ) (e : Entry) : Type 0 where
   pub content : Content
-  pub request_is : caller.request ≡ Some e.request
+  pub allowed : MayInsert caller request
+  pub request_is : e.request ≡ request
   pub version_is : caller.version ≡ Some e.version
   pub noted_is : caller.noted ≡ Some (invalidations history)
   pub none_live : NoneLiveOf history e.request
@@ -96,28 +101,29 @@ pub record Replies (core : Core) (a : ℕ) (bytes : List ℕ) : Type 0 where
       ⊎ ((n : ℕ) × (content : Content) × ((core.callers a).asked ≡ Some n) × (version_in core.history n ≡ Some content) × ((answer_of content request).bytes ≡ bytes))
 
 -- one move of the core of a database
-abbrev pub Moves : Db → Move → Core → Core → Type 0
-Moves db (Files content) old new = new ≡ record old { sources = content }
-Moves db (Begin a request seen) old new =
+abbrev pub IsMove : Db → Move → Core → Core → Type 0
+IsMove db (Files content) old new = new ≡ record old { sources = content }
+IsMove db (Begin a request seen) old new =
     IsPrefix (old.callers a).seen seen × IsPrefix seen old.history × Becomes old a (record (old.callers a) { request = request; seen = seen; taken = None; asked = None }) new
-Moves db (Look a None) old new = Becomes old a (record (old.callers a) { taken = None }) new
-Moves db (Look a (Some e)) old new = IsLive old.history e × ((old.callers a).request ≡ Some e.request) × Becomes old a (record (old.callers a) { taken = Some e }) new
-Moves db (Note a) old new = Becomes old a (record (old.callers a) { noted = Some (invalidations old.history); fetched = None; version = None }) new
-Moves db (Fetch a) old new = ((epoch : ℕ) × ((old.callers a).noted ≡ Some epoch)) × Becomes old a (record (old.callers a) { fetched = Some (part_of db old.sources) }) new
-Moves db (PollStep a) old new =
+IsMove db (Look a None) old new = Becomes old a (record (old.callers a) { taken = None }) new
+IsMove db (Look a (Some e)) old new = IsLive old.history e × ((old.callers a).request ≡ Some e.request) × Becomes old a (record (old.callers a) { taken = Some e }) new
+IsMove db (Note a) old new = Becomes old a (record (old.callers a) { noted = Some (invalidations old.history); fetched = None; version = None }) new
+IsMove db (Fetch a) old new = ((epoch : ℕ) × ((old.callers a).noted ≡ Some epoch)) × Becomes old a (record (old.callers a) { fetched = Some (part_of db old.sources) }) new
+IsMove db (PollStep a) old new =
     (content : Content) × (poll : Record) × (n : ℕ) × ((old.callers a).fetched ≡ Some content) × IsPoll old.history content poll n
     × (new ≡ record old { history = poll ∷ old.history; callers = with_caller old.callers a (record (old.callers a) { version = Some n; asked = Some n }) })
-Moves db (Insert a timeout) old new =
-    ((e : Entry) × Inserts old.history (old.callers a) timeout e × Gains old (Load e ∷ []) new) ⊎ (((e : Entry) → Inserts old.history (old.callers a) timeout e → ⊥) × (new ≡ old))
-Moves db (Finish number cause) old new = (e : Entry) × IsLive old.history e × (e.number ≡ number) × Allows cause e × Gains old (End number cause ∷ []) new
-Moves db Empty old new = (entries : List Entry) × AreLive old.history entries × (new ≡ record old { history = Invalid (invalidations old.history + 1) ∷ ended_all entries old.history })
-Moves db Compact old new = new ≡ old
-Moves db (Reply a bytes) old new = Replies old a bytes × (new ≡ old)
+IsMove db (Insert a request timeout) old new =
+    ((e : Entry) × IsInsertion old.history (old.callers a) request timeout e × Gains old (Load e ∷ []) new)
+    ⊎ (((e : Entry) → IsInsertion old.history (old.callers a) request timeout e → ⊥) × (new ≡ old))
+IsMove db (Finish number cause) old new = (e : Entry) × IsLive old.history e × (e.number ≡ number) × Allows cause e × Gains old (End number cause ∷ []) new
+IsMove db Empty old new = (entries : List Entry) × AreLive old.history entries × (new ≡ record old { history = Invalid (invalidations old.history + 1) ∷ ended_all entries old.history })
+IsMove db Compact old new = new ≡ old
+IsMove db (Reply a bytes) old new = Replies old a bytes × (new ≡ old)
 
 -- moves, one after another
-abbrev pub Runs : Db → List Move → Core → Core → Type 0
-Runs db [] old new = new ≡ old
-Runs db (move ∷ moves) old new = (mid : Core) × Moves db move old mid × Runs db moves mid new
+abbrev pub AreMoves : Db → List Move → Core → Core → Type 0
+AreMoves db [] old new = new ≡ old
+AreMoves db (move ∷ moves) old new = (mid : Core) × IsMove db move old mid × AreMoves db moves mid new
 
 -- a reply that a core may give is an answer to its request, between what the caller had seen at the start of its call and
 -- the history at the reply

@@ -8,7 +8,7 @@ use Rattle.nsc_model.specs.declared.record.Record.TheVariants.{Change, Poll, Loa
 use Rattle.nsc_model.specs.Content.{Content}
 use Rattle.nsc_model.specs.Files.{part_of}
 use Rattle.nsc_model.specs.History.{Answered, FromEntry, FromPoll}
-use Rattle.nsc_laws.specs.Core.{Core, Move, Runs, Replies, opening}
+use Rattle.nsc_laws.specs.Core.{Core, Move, AreMoves, Replies, opening}
 
 -- what the database reads of some files
 abbrev pub IsRead : Db → Content → Type 0
@@ -48,20 +48,20 @@ pub record IsRun (db : Db) (history : List Record) : Type 0 where
   pub first : Content
   pub moves : List Move
   pub core : Core
-  pub runs : Runs db moves (opening db first) core
+  pub runs : AreMoves db moves (opening db first) core
   pub history_is : core.history ≡ history
 
 -- in some run that makes this history a caller asks, has seen so much at the start of its call, and may get this reply
-pub record IsReply (db : Db) (seen history : List Record) (request : Request) (bytes : List ℕ) : Type 0 where
+pub record IsRunReply (db : Db) (seen history : List Record) (request : Request) (bytes : List ℕ) : Type 0 where
   pub first : Content
   pub moves : List Move
   pub core : Core
-  pub runs : Runs db moves (opening db first) core
+  pub runs : AreMoves db moves (opening db first) core
   pub caller : ℕ
   pub requested : (core.callers caller).request ≡ Some request
   pub seen_is : (core.callers caller).seen ≡ seen
   pub replies : Replies core caller bytes
   pub later : List Move
   pub new : Core
-  pub runs_on : Runs db later core new
+  pub runs_on : AreMoves db later core new
   pub history_is : new.history ≡ history

@@ -30,7 +30,7 @@ pub record AllDrive (s : State) (cores : Db → Core) : Type 0 where
 
 -- the caller may get this reply to this request, and it is an answer to it for a caller that had seen the whole history
 -- before it; an entry that the reply comes from is live at that moment
-pub record IsGiven (old new : Core) (request : Request) (reply : List ℕ) : Type 0 where
+pub record IsCoreReply (old new : Core) (request : Request) (reply : List ℕ) : Type 0 where
   pub requested : (new.callers 0).request ≡ Some request
   pub replies : Replies new 0 reply
   pub live : (e : Entry) → (new.callers 0).taken ≡ Some e → IsLive new.history e
@@ -38,20 +38,20 @@ pub record IsGiven (old new : Core) (request : Request) (reply : List ℕ) : Typ
 
 -- what is written for a lookup is a reply after its length, given by the core of the request's database; for any other
 -- input an empty reply is written
-abbrev pub IsReplied : (Db → Core) → (Db → Core) → List ℕ → Asked → Type 0
-IsReplied old new writes (Look request) = (reply : List ℕ) × (writes ≡ framed reply) × IsGiven (old (database_of request.kind)) (new (database_of request.kind)) request reply
-IsReplied old new writes Shutdown = writes ≡ framed []
-IsReplied old new writes Stat = writes ≡ framed []
-IsReplied old new writes (Invalidate name) = writes ≡ framed []
-IsReplied old new writes Descriptor = writes ≡ framed []
-IsReplied old new writes Netgroup = writes ≡ framed []
-IsReplied old new writes (Short have) = writes ≡ framed []
-IsReplied old new writes (BadVersion version) = writes ≡ framed []
-IsReplied old new writes (BadType type) = writes ≡ framed []
-IsReplied old new writes (BadLength length) = writes ≡ framed []
+abbrev pub IsFramedReply : (Db → Core) → (Db → Core) → List ℕ → Asked → Type 0
+IsFramedReply old new writes (Look request) = (reply : List ℕ) × (writes ≡ framed reply) × IsCoreReply (old (database_of request.kind)) (new (database_of request.kind)) request reply
+IsFramedReply old new writes Shutdown = writes ≡ framed []
+IsFramedReply old new writes Stat = writes ≡ framed []
+IsFramedReply old new writes (Invalidate name) = writes ≡ framed []
+IsFramedReply old new writes Descriptor = writes ≡ framed []
+IsFramedReply old new writes Netgroup = writes ≡ framed []
+IsFramedReply old new writes (Short have) = writes ≡ framed []
+IsFramedReply old new writes (BadVersion version) = writes ≡ framed []
+IsFramedReply old new writes (BadType type) = writes ≡ framed []
+IsFramedReply old new writes (BadLength length) = writes ≡ framed []
 
 abbrev pub RepliesTo : (Db → Core) → (Db → Core) → List ℕ → Frame → Type 0
-RepliesTo old new writes (frame.Request input) = IsReplied old new writes (request_of input)
+RepliesTo old new writes (frame.Request input) = IsFramedReply old new writes (request_of input)
 RepliesTo old new writes (frame.SetFile file held) = writes ≡ []
 RepliesTo old new writes (frame.Time moment) = writes ≡ []
 RepliesTo old new writes (frame.Invalidate db) = writes ≡ []

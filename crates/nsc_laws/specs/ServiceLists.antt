@@ -14,5 +14,5 @@ LineGives name None steps = steps ≡ default_list name
 LineGives name (Some line) steps = WritesSteps line steps ⊎ (WritesNone line × (steps ≡ default_list name))
 
 -- the text gives the list of this name
-abbrev pub Gives : List ℕ → DbName → List SwitchStep → Type 0
-Gives text name steps = LineGives name (first_line name text) steps
+abbrev pub GivesList : List ℕ → DbName → List SwitchStep → Type 0
+GivesList text name steps = LineGives name (first_line name text) steps

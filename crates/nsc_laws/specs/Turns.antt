@@ -13,8 +13,8 @@ use Rattle.nsc_model.specs.Answers.{switched}
 abbrev pub action_of : (SwitchService → Looked) → SwitchStep → SwitchAction
 action_of look step = action_at step (look step.service)
 
-abbrev pub GoesOn : (SwitchService → Looked) → SwitchStep → Type 0
-GoesOn look step = action_of look step ≡ Continue
+abbrev pub IsContinued : (SwitchService → Looked) → SwitchStep → Type 0
+IsContinued look step = action_of look step ≡ Continue
 
 -- what the services come to whose rows a switch takes: unavailable where there is none
 abbrev pub taken : (SwitchService → Looked) → List SwitchService → Looked
@@ -28,7 +28,7 @@ pub record EndsAt (look : SwitchService → Looked) (steps : List SwitchStep) (s
   pub step : SwitchStep
   pub unasked : List SwitchStep
   pub is : steps ≡ before ++ step ∷ unasked
-  pub each_goes_on : All (GoesOn look) before
+  pub each_goes_on : All (IsContinued look) before
   pub ends_here : (action_of look step ≢ Continue) ⊎ (unasked ≡ [])
   pub services_are : step.service ∷ [] ≡ services
   pub outcome : switched look steps ≡ look step.service

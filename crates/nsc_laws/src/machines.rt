@@ -1,14 +1,13 @@
 //! The machine that a cache is, and the core of its database.
 
-ghost use Rattle.std.specs.Prelude.{◌≡◌, ℕ, List, [], ◌∷◌, Option, None};
+ghost use Rattle.std.specs.Prelude.{ℕ, List, [], ◌∷◌, Option};
 ghost use Rattle.nsc_model.specs.declared.answer.Request.{Request};
 ghost use Rattle.nsc_model.specs.declared.kind.Db.{Db};
 ghost use Rattle.nsc_model.specs.declared.record.Record.TheVariants.{Change};
 ghost use Rattle.nsc_model.specs.Content.{Content};
 ghost use Rattle.nsc_model.specs.Files.{part_of};
-ghost use Rattle.nsc_model.specs.Entry.{Entry};
 ghost use Rattle.nsc_model.specs.declared.conf.DbConf.{DbConf};
-ghost use Rattle.nsc_model.specs.Machine.{Cache, new_cache, live_entry, refusal, own_refusal, lookup, tick, invalidated};
+ghost use Rattle.nsc_model.specs.Machine.{Cache, new_cache, lookup, tick, invalidated};
 ghost use Rattle.nsc_laws.specs.Core.{Core, opening};
 ghost use Rattle.nsc_laws.specs.Calls.{Drives, TurnsBy, PassesBy, Event, EachAnswered};
 
@@ -30,10 +29,4 @@ pub fn machine_events_are_moves()
 pub fn runs_are_answered()
     ensures { (db : Db) (settings : DbConf) (reloads : Option ℕ) (files : Content) (events : List Event) →
         EachAnswered db settings reloads events 0 (new_cache (part_of db files)) (Change 0 (part_of db files) ∷ []) }
-{}
-
-/// No other caller overtakes an insertion that notes the present epoch and whose request has no live entry: it is refused as
-/// with one caller.
-pub fn lone_insertions_are_refused_alike()
-    ensures { (room : ℕ) (e : Entry) (cache : Cache) → live_entry e.request cache.entries ≡ None → refusal room cache.epoch e cache ≡ own_refusal room e cache }
 {}

@@ -8,9 +8,9 @@ TurnsTo (Ok turn) cache reply = (turn.cache ≡ cache) × (turn.reply ≡ reply)
 TurnsTo (Err stop) cache reply = ⊥
 
 -- an event gives this cache
-abbrev pub PassesTo : Result Passed Stopped → Cache → Type 0
-PassesTo (Ok passed) cache = passed.cache ≡ cache
-PassesTo (Err stop) cache = ⊥
+abbrev pub ComesTo : Result Passed Stopped → Cache → Type 0
+ComesTo (Ok passed) cache = passed.cache ≡ cache
+ComesTo (Err stop) cache = ⊥
 
 -- an event stops with this cache at this count
 abbrev pub StopsAt : {A : Type 0} → Result A Stopped → Cache → ℕ → Type 0

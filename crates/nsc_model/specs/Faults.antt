@@ -4,11 +4,11 @@ use Rattle.nsc_model.specs.declared.fault.CacheFault.{CacheFault}
 use Rattle.nsc_model.specs.declared.fault.CacheFault.TheVariants.{NoMemory, Spent}
 use Rattle.nsc_model.specs.Content.{Content}
 use Rattle.nsc_model.specs.Machine.{Cache, Stopped, polled}
-use Rattle.nsc_model.specs.Events.{PassesTo, StopsAt}
+use Rattle.nsc_model.specs.Events.{ComesTo, StopsAt}
 
 -- the cache is as before, or a poll was made and nothing else
 abbrev pub IsPolledAtMost : Content → Cache → Cache → Type 0
-IsPolledAtMost files before after = (after ≡ before) ⊎ PassesTo (polled files before) after
+IsPolledAtMost files before after = (after ≡ before) ⊎ ComesTo (polled files before) after
 
 -- an event gave up: memory was wanting, and at most a poll was made; or the machine stops there
 abbrev pub FaultsBy : {A : Type 0} → Result A Stopped → Content → Cache → Cache → CacheFault → Type 0

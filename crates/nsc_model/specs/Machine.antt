@@ -1,6 +1,6 @@
 -- The machine that the cache of a database is: its events, each with the records that it adds to the history. One caller
--- drives it, so its insertions are refused by three causes alone: none comes after an invalidation that it did not note, and
--- none finds its request live. The parts of the events stand apart, over what each of them needs, also for many callers.
+-- drives it, and each of its insertions notes the present epoch. The parts of the events stand apart, over what each of them
+-- needs, also for many callers.
 use Rattle.std.specs.Prelude.{ℕ, ◌+◌, ◌-◌, ◌*◌, ◌^◌, ◌==◌, nat_lt, nat_le, min, Bool, false, not, ◌&&◌, ◌||◌, if◌then◌else◌, List, [], ◌∷◌, ◌++◌, length, map, filter, find, sum_by, Option, Some, None, Result, Ok, Err}
 use Rattle.nsc_base.specs.Nodes.{node_words}
 use Rattle.nsc_model.specs.declared.answer.Request.{Request}
@@ -110,10 +110,15 @@ abbrev pub made_entry : DbConf → ℕ → ℕ → ℕ → Request → Answer �
 made_entry settings now number version request answer =
     record { number = number; request = request; version = version; answer = answer; timeout = now + life_of settings answer }
 
--- the entry of a request that is to be inserted: the answer over the newest version, until its time is over
-abbrev pub new_entry : DbConf → ℕ → Request → ℕ → Cache → Kept
-new_entry settings now request reloads cache =
-    record { entry = made_entry settings now cache.inserted cache.newest_version request (answer_of cache.sources request); reloads = reloads }
+-- a candidate for an insertion: a request, and how often its entry was reloaded since it was last used
+pub record Candidate : Type 0 where
+  pub request : Request
+  pub reloads : ℕ
+
+-- its entry: the answer over the newest version, until its time is over
+abbrev pub new_entry : DbConf → ℕ → Candidate → Cache → Kept
+new_entry settings now one cache =
+    record { entry = made_entry settings now cache.inserted cache.newest_version one.request (answer_of cache.sources one.request); reloads = one.reloads }
 
 -- the live entry that answers a request
 abbrev pub live_entry : Request → List Kept → Option Kept
@@ -140,20 +145,12 @@ present_cause (Some k) = Some (Present k.entry.number)
 abbrev pub overtaken : ℕ → Request → Cache → Option Refusal
 overtaken noted request cache = if nat_lt noted cache.epoch then Some (Discarded noted cache.epoch) else present_cause (live_entry request cache.entries)
 
--- the first cause that holds, where the room has so many words and other callers overtook the insertion by this cause, or by none
-abbrev pub refusal_or : ℕ → Option Refusal → Entry → Cache → Option Refusal
-refusal_or room others e cache =
-    if nat_lt kept_limit (length e.answer.bytes) then Some (TooLarge (length e.answer.bytes)) else or_later others (
-    if cache.inserted == last_count then Some (Spent last_count) else (
-    if nat_lt (room - cache.used) (entry_words e) then Some (Full (entry_words e) (room - cache.used)) else None))
-
 -- the first cause that refuses the insertion of an entry, by the words of the room and the epoch that was noted
 abbrev pub refusal : ℕ → ℕ → Entry → Cache → Option Refusal
-refusal room noted e cache = refusal_or room (overtaken noted e.request cache) e cache
-
--- the same with one caller, which notes the present epoch and inserts no request that is live
-abbrev pub own_refusal : ℕ → Entry → Cache → Option Refusal
-own_refusal room e cache = refusal_or room None e cache
+refusal room noted e cache =
+    if nat_lt kept_limit (length e.answer.bytes) then Some (TooLarge (length e.answer.bytes)) else or_later (overtaken noted e.request cache) (
+    if cache.inserted == last_count then Some (Spent last_count) else (
+    if nat_lt (room - cache.used) (entry_words e) then Some (Full (entry_words e) (room - cache.used)) else None))
 
 -- a refused insertion leaves the cache as it was, but that a full one is counted; that count stays at its end
 abbrev pub tried_by : Option Refusal → Kept → Cache → Passed
@@ -164,9 +161,17 @@ tried_by (Some (Present number)) k cache = unchanged cache
 tried_by (Some (Spent count)) k cache = unchanged cache
 tried_by (Some (Full need free)) k cache = unchanged (record cache { add_failed = next_count cache.add_failed })
 
--- an insertion is tried
-abbrev pub tried : DbConf → ℕ → Request → ℕ → Cache → Passed
-tried settings now request reloads cache = let k = new_entry settings now request reloads cache in tried_by (own_refusal (room_of settings) k.entry cache) k cache
+-- an insertion is tried, which notes the present epoch
+abbrev pub tried : DbConf → ℕ → Candidate → Cache → Passed
+tried settings now one cache = let k = new_entry settings now one cache in tried_by (refusal (room_of settings) cache.epoch k.entry cache) k cache
+
+-- insertions are tried, one after the other
+abbrev pub tried_all : DbConf → ℕ → List Candidate → Cache → Passed
+tried_all settings now [] cache = unchanged cache
+tried_all settings now (one ∷ others) cache =
+    let first = tried settings now one cache in
+    let rest = tried_all settings now others first.cache in
+    record { cache = rest.cache; adds = rest.adds ++ first.adds }
 
 -- ---- lookups
 
@@ -181,9 +186,13 @@ used_by request k = if is_request request k.entry.request then record k { reload
 abbrev pub used_now : Request → List Kept → List Kept
 used_now request entries = map (used_by request) entries
 
--- after a poll an insertion is tried, where the database is cached
+-- what a lookup inserts: an entry of its request, which was not reloaded yet
+abbrev pub candidates_of : Request → List Candidate
+candidates_of request = record { request = request; reloads = 0 } ∷ []
+
+-- after a poll its insertions are tried, where the database is cached
 abbrev pub kept_answer : DbConf → ℕ → Request → Cache → Passed
-kept_answer settings now request cache = if settings.enabled then tried settings now request 0 cache else unchanged cache
+kept_answer settings now request cache = if settings.enabled then tried_all settings now (candidates_of request) cache else unchanged cache
 
 -- a poll, and then the answer over the newest version
 abbrev pub loaded : DbConf → ℕ → Request → Result Passed Stopped → Result Turn Stopped
@@ -250,16 +259,13 @@ is_dropped reloads k = k.entry.answer.not_found || reached reloads k.reloads
 abbrev pub due_cause : Option ℕ → ℕ → Kept → Ending
 due_cause reloads now k = if is_dropped reloads k then Expired now else Replaced
 
-abbrev pub next_reloads : ℕ → ℕ
-next_reloads count = next_count count
+-- what is inserted where an entry is reloaded
+abbrev pub candidate_again : Kept → Candidate
+candidate_again k = record { request = k.entry.request; reloads = next_count k.reloads }
 
--- entries are reloaded, one after the other; one whose insertion is refused is gone
+-- entries are reloaded; one whose insertion is refused is gone
 abbrev pub reloaded : DbConf → ℕ → List Kept → Cache → Passed
-reloaded settings now [] cache = unchanged cache
-reloaded settings now (k ∷ entries) cache =
-    let first = tried settings now k.entry.request (next_reloads k.reloads) cache in
-    let rest = reloaded settings now entries first.cache in
-    record { cache = rest.cache; adds = rest.adds ++ first.adds }
+reloaded settings now entries cache = tried_all settings now (map candidate_again entries) cache
 
 -- those of the entries whose time is over, and the others
 abbrev pub due_of : ℕ → List Kept → List Kept

@@ -14,8 +14,8 @@ use Rattle.nsc_model.specs.declared.kind.Db.{Db}
 use Rattle.nsc_model.specs.declared.kind.FileId.{FileId}
 use Rattle.nsc_model.specs.declared.store.LookupFault.{LookupFault}
 use Rattle.nsc_model.specs.declared.store.LookupFault.TheVariants as fault
-use Rattle.nsc_model.specs.declared.store.InvalidateFault.{InvalidateFault}
-use Rattle.nsc_model.specs.declared.store.InvalidateFault.TheVariants as invalidate_fault
+use Rattle.nsc_model.specs.declared.fault.CacheFault.{CacheFault}
+use Rattle.nsc_model.specs.declared.fault.CacheFault.TheVariants as cache_fault
 use Rattle.nsc_model.specs.declared.store.Stats.{Stats}
 use Rattle.nsc_model.specs.declared.store.Why.{Why}
 use Rattle.nsc_model.specs.declared.store.Why.TheVariants as why
@@ -184,9 +184,9 @@ pub record IsUnmoved (after : List Record) (count : ℕ) (ended : Type 0) : Type
   pub cause : (invalidations after ≡ count) ⊎ (MayBeUnmoved after × ended)
 
 -- why an invalidation gave up
-abbrev pub IsInvalidateFault : InvalidateFault → List Record → Type 0
-IsInvalidateFault invalidate_fault.NoMemory after = Unit {0}
-IsInvalidateFault (invalidate_fault.Spent count) after = IsUnmoved after count (NoneLive after)
+abbrev pub IsInvalidateFault : CacheFault → List Record → Type 0
+IsInvalidateFault cache_fault.NoMemory after = Unit {0}
+IsInvalidateFault (cache_fault.Spent count) after = IsUnmoved after count (NoneLive after)
 
 -- the counts are those of this history, and the words those of its live entries
 pub record IsCounted (arena : ℕ) (after : List Record) (stats : Stats) : Type 0 where

@@ -3,15 +3,19 @@ ghost use Rattle.nsc_model.specs.declared.fault.CacheFault.TheVariants.{NoMemory
 
 use nsc_base::NoMemory;
 use std::alloc::{AllocError, AllocFailed};
+use thiserror::Error;
 
-/// Why a call of a cache gave up.
-#[derive(Clone, Copy, Debug, PartialEq, Eq)]
+/// Why a call of a cache, or an invalidation of a database, gave up.
+#[derive(Clone, Copy, Debug, PartialEq, Eq, Error)]
 pub enum CacheFault {
     /// Memory was wanting.
+    #[error("out of memory")]
     NoMemory,
-    /// A count that the call needed stands at its end.
+    /// A count that the call needs stands at its end: that of the versions, or of the invalidations, and nothing changed; or that
+    /// of the compactions, and the entries are ended that the call ends, but their words are not free.
+    #[error("a count stands at {count}")]
     Spent {
-        /// The count.
+        /// The count, 2^62.
         count: u64,
     },
 }

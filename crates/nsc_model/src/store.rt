@@ -12,6 +12,7 @@ ghost use Rattle.nsc_model.specs.Machine.{room_of};
 ghost use Rattle.nsc_model.specs.Reads.{FaultsStay};
 ghost use Rattle.nsc_model.specs.Stores.{Continues, GivesAnswer, GivesUp, IsCounted, IsEmptied, IsInvalidateFault, IsOfFiles, IsTicked, IsTickFault};
 
+use crate::fault::CacheFault;
 use crate::kind::{FileId, Kind};
 use nsc_base::{Bytes, NoMemory};
 use std::alloc::Global;
@@ -142,21 +143,6 @@ pub enum LookupFault {
     },
 }
 
-/// Why an invalidation gave up.
-#[derive(Clone, Copy, Debug, PartialEq, Eq, Error)]
-pub enum InvalidateFault {
-    /// Memory was wanting.
-    #[error("out of memory")]
-    NoMemory,
-    /// A count that the call needs stands at its end: that of the invalidations, and nothing changed; or that of the
-    /// compactions, and every entry is ended, but the words of the ended ones are not free.
-    #[error("a count stands at {count}")]
-    Spent {
-        /// The count, 2^62.
-        count: u64,
-    },
-}
-
 impl From<NoMemory> for LookupFault {
     ghost use Rattle.std.specs.Prelude.{◌≡◌};
     ghost use Rattle.nsc_model.specs.declared.store.LookupFault.TheVariants.{NoMemory as Memory};
@@ -261,7 +247,7 @@ pub trait Store {
         ensures no_fault { OnOk result (FaultsStay (faults pass.old) (faults pass.new) (file_faults pass.old) (file_faults pass.new)) };
 
     /// Ends every live entry as invalidated, and gives the new number of invalidations.
-    fn invalidate<R: Wait>(&self, rt: &R, pass: &mut Self::Pass) -> Result<u64, InvalidateFault>
+    fn invalidate<R: Wait>(&self, rt: &R, pass: &mut Self::Pass) -> Result<u64, CacheFault>
         requires { is_pass self.now pass.old }
         ensures pass { is_pass self.now pass.new }
         ensures seen { Continues (seen pass.old) (seen pass.new) }

@@ -17,7 +17,7 @@ use Rattle.nsc_model.specs.Content.{Content}
 use Rattle.nsc_model.specs.Machine.{Kept, last_count, entry_words, used_now, is_due, is_dropped, due_of, others_of, reloaded_of}
 use Rattle.nsc_model.proofs.Contents.{both_true, same_bytes}
 use Rattle.nsc_plain.specs.Insertion.{Insertion, anew}
-use Rattle.nsc_plain.specs.Table.{entries_for, insertions_for, AreApart, StayApart, IsKept}
+use Rattle.nsc_plain.specs.Table.{entries_for, insertions_for, AreApart, StayApart, IsTable}
 
 -- ---- tests of requests
 
@@ -129,7 +129,7 @@ apart_used entries i d lt apart = λ request.
     omega arith
 
 -- the table keeps what it keeps
-pub hit_keeps : (entries : List Kept) (i : ℕ) (d : Kept) (used inserted : ℕ) → i < length entries → IsKept entries used inserted → IsKept (set entries i (restarted (get_or entries i d))) used inserted
+pub hit_keeps : (entries : List Kept) (i : ℕ) (d : Kept) (used inserted : ℕ) → i < length entries → IsTable entries used inserted → IsTable (set entries i (restarted (get_or entries i d))) used inserted
 hit_keeps entries i d used inserted lt kept =
     let same = sum_by-set (λ (k : Kept). entry_words k.entry) entries i (restarted (get_or entries i d)) d lt in
     let words = kept.words in
@@ -149,7 +149,7 @@ apart_more entries k apart none = λ request.
     (apart request) in
     omega arith
 
-pub insert_keeps : (entries : List Kept) (k : Kept) (used inserted : ℕ) → IsKept entries used inserted → inserted ≢ last_count → find (asks k.entry.request) entries ≡ None → IsKept (entries ++ k ∷ []) (used + entry_words k.entry) (inserted + 1)
+pub insert_keeps : (entries : List Kept) (k : Kept) (used inserted : ℕ) → IsTable entries used inserted → inserted ≢ last_count → find (asks k.entry.request) entries ≡ None → IsTable (entries ++ k ∷ []) (used + entry_words k.entry) (inserted + 1)
 insert_keeps entries k used inserted kept some none =
     let more = sum_by_push (λ (e : Kept). entry_words e.entry) entries k in
     let words = kept.words in

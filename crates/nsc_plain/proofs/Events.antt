@@ -2,6 +2,7 @@
 use Rattle.std.proofs.Common.{◌≡◌, ◌≢◌, ℕ, ◌<◌, ◌==◌, inl, inr, Bool, true, false, cond, List, [], ◌∷◌, length, find, map, Option, Some, None, Result, Ok, Err, refl, ap, sym, ◌∙◌, subst, arith}
 use Rattle.std.proofs.lemmas.Bool.{eq-eqb}
 use Rattle.std.proofs.lemmas.Bool.Decides.{eqb_tells}
+use Rattle.std.proofs.lemmas.Simd.{map-map}
 use Rattle.nsc_model.specs.declared.fault.CacheFault.{CacheFault}
 use Rattle.nsc_model.specs.declared.fault.CacheFault.TheVariants.{NoMemory, Spent}
 use Rattle.nsc_model.specs.declared.answer.Request.{Request}
@@ -10,11 +11,11 @@ use Rattle.nsc_model.specs.Kinds.{is_request}
 use Rattle.nsc_model.specs.Content.{Content}
 use Rattle.nsc_model.specs.declared.conf.DbConf.{DbConf}
 use Rattle.nsc_model.specs.Answers.{answer_of}
-use Rattle.nsc_model.specs.Machine.{Kept, Cache, Passed, Stopped, Turn, Refusal, TooLarge, Discarded, Present, Spent as Uncounted, Full, last_count, after_adds, ◌>>=◌, own_refusal, room_of, tried, tried_by, new_entry, polled, cached, kept_answer, loaded, hit_or_load, lookup, compacted, compacted_after, emptied, invalidated, ends_of, due_cause, stopped, unchanged, is_due, due_of, others_of, reloaded_of, reloaded, next_reloads, pruned, checked, tick, ticked_after}
-use Rattle.nsc_model.specs.Events.{TurnsTo, PassesTo, StopsAt}
+use Rattle.nsc_model.specs.Machine.{Kept, Cache, Passed, Stopped, Turn, Refusal, TooLarge, Discarded, Present, Spent as Uncounted, Full, last_count, after_adds, ◌>>=◌, Candidate, refusal, room_of, tried_by, tried, tried_all, candidates_of, candidate_again, new_entry, polled, cached, kept_answer, loaded, hit_or_load, lookup, compacted, compacted_after, emptied, invalidated, ends_of, due_cause, stopped, unchanged, is_due, due_of, others_of, reloaded_of, reloaded, pruned, checked, tick, ticked_after}
+use Rattle.nsc_model.specs.Events.{TurnsTo, ComesTo, StopsAt}
 use Rattle.nsc_model.specs.Faults.{StopsBy, FaultsBy, GivesUpBy}
 use Rattle.nsc_plain.specs.PlainCache.{HitsBy}
-use Rattle.nsc_plain.specs.Insertion.{anew}
+use Rattle.nsc_plain.specs.Insertion.{Insertion, answered, anew}
 use Rattle.nsc_plain.specs.Table.{put, put_all}
 use Rattle.nsc_plain.proofs.Ends.{none_left}
 
@@ -33,7 +34,7 @@ bare files version epoch = record { sources = files; newest_version = version; e
 
 -- ---- one part after another
 
-pub passes_after : (adds : List Record) (r : Result Passed Stopped) (after : Cache) → PassesTo r after → PassesTo (after_adds adds r) after
+pub passes_after : (adds : List Record) (r : Result Passed Stopped) (after : Cache) → ComesTo r after → ComesTo (after_adds adds r) after
 passes_after adds (Ok passed) after h = h
 passes_after adds (Err stop) after h = absurd h
 
@@ -41,15 +42,15 @@ pub stops_after : (adds : List Record) (r : Result Passed Stopped) (after : Cach
 stops_after adds (Ok passed) after n h = absurd h
 stops_after adds (Err stop) after n h = h
 
-pub passes_then : (r : Result Passed Stopped) (next : Cache → Result Passed Stopped) (mid after : Cache) → PassesTo r mid → PassesTo (next mid) after → PassesTo (r >>= next) after
-passes_then (Ok passed) next mid after h k = passes_after passed.adds (next passed.cache) after (subst (λ (c : Cache). PassesTo (next c) after) (sym h) k)
+pub passes_then : (r : Result Passed Stopped) (next : Cache → Result Passed Stopped) (mid after : Cache) → ComesTo r mid → ComesTo (next mid) after → ComesTo (r >>= next) after
+passes_then (Ok passed) next mid after h k = passes_after passed.adds (next passed.cache) after (subst (λ (c : Cache). ComesTo (next c) after) (sym h) k)
 passes_then (Err stop) next mid after h k = absurd h
 
 pub stops_first : (r : Result Passed Stopped) (next : Cache → Result Passed Stopped) (after : Cache) (n : ℕ) → StopsAt r after n → StopsAt (r >>= next) after n
 stops_first (Ok passed) next after n h = absurd h
 stops_first (Err stop) next after n h = h
 
-pub stops_then : (r : Result Passed Stopped) (next : Cache → Result Passed Stopped) (mid after : Cache) (n : ℕ) → PassesTo r mid → StopsAt (next mid) after n → StopsAt (r >>= next) after n
+pub stops_then : (r : Result Passed Stopped) (next : Cache → Result Passed Stopped) (mid after : Cache) (n : ℕ) → ComesTo r mid → StopsAt (next mid) after n → StopsAt (r >>= next) after n
 stops_then (Ok passed) next mid after n h k = stops_after passed.adds (next passed.cache) after n (subst (λ (c : Cache). StopsAt (next c) after n) (sym h) k)
 stops_then (Err stop) next mid after n h k = absurd h
 
@@ -65,9 +66,9 @@ invalidation_stops cache e =
     let at : invalidated cache ≡ Err (stopped cache) = at_true _ _ (eq-eqb cache.epoch last_count e) in
     subst (λ (r : Result Passed Stopped). StopsAt r cache last_count) (sym at) (refl, refl)
 
-pub invalidation_passes : (cache after : Cache) → cache.epoch ≢ last_count → PassesTo (compacted_after cache.entries (emptied cache).cache) after → PassesTo (invalidated cache) after
+pub invalidation_passes : (cache after : Cache) → cache.epoch ≢ last_count → ComesTo (compacted_after cache.entries (emptied cache).cache) after → ComesTo (invalidated cache) after
 invalidation_passes cache after ne h =
-    subst (λ (r : Result Passed Stopped). PassesTo r after) (sym (goes_on cache (other_number cache.epoch last_count ne))) (passes_after (emptied cache).adds (compacted_after cache.entries (emptied cache).cache) after h)
+    subst (λ (r : Result Passed Stopped). ComesTo r after) (sym (goes_on cache (other_number cache.epoch last_count ne))) (passes_after (emptied cache).adds (compacted_after cache.entries (emptied cache).cache) after h)
 
 pub invalidation_faults : (cache after : Cache) (fault : CacheFault) → cache.epoch ≢ last_count → StopsBy (compacted_after cache.entries (emptied cache).cache) after fault → StopsBy (invalidated cache) after fault
 invalidation_faults cache after NoMemory ne h = absurd h
@@ -79,7 +80,7 @@ invalidation_faults cache after (Spent n) ne h =
 pub keeps : (settings : DbConf) (now : ℕ) (request : Request) (cache after : Cache) → settings.enabled ≡ true
     → put settings now cache.newest_version (record { request = request; answer = answer_of cache.sources request; reloads = 0 }) cache ≡ after → (kept_answer settings now request cache).cache ≡ after
 keeps settings now request cache after on h =
-    let at : kept_answer settings now request cache ≡ tried settings now request 0 cache = at_true _ _ on in
+    let at : kept_answer settings now request cache ≡ tried_all settings now (candidates_of request) cache = at_true _ _ on in
     ap (λ (p : Passed). p.cache) at ∙ h
 
 -- where the database is cached, an entry is searched for among those that live
@@ -116,13 +117,13 @@ looks_on : (settings : DbConf) (now : ℕ) (files : Content) (request : Request)
 unfolding lookup
 looks_on settings now files request before none = ap (λ (o : Option Kept). hit_or_load o settings now files request before) none
 
-load_turns : (settings : DbConf) (now : ℕ) (request : Request) (r : Result Passed Stopped) (mid after : Cache) (reply : List ℕ) → PassesTo r mid
+load_turns : (settings : DbConf) (now : ℕ) (request : Request) (r : Result Passed Stopped) (mid after : Cache) (reply : List ℕ) → ComesTo r mid
     → (kept_answer settings now request mid).cache ≡ after → (answer_of mid.sources request).bytes ≡ reply → TurnsTo (loaded settings now request r) after reply
 load_turns settings now request (Ok poll) mid after reply p k a =
     (subst (λ (c : Cache). (kept_answer settings now request c).cache ≡ after) (sym p) k, subst (λ (c : Cache). (answer_of c.sources request).bytes ≡ reply) (sym p) a)
 load_turns settings now request (Err stop) mid after reply p k a = absurd p
 
-pub loads : (settings : DbConf) (now : ℕ) (files : Content) (request : Request) (before mid after : Cache) (reply : List ℕ) → cached settings request before ≡ None → PassesTo (polled files before) mid
+pub loads : (settings : DbConf) (now : ℕ) (files : Content) (request : Request) (before mid after : Cache) (reply : List ℕ) → cached settings request before ≡ None → ComesTo (polled files before) mid
     → (kept_answer settings now request mid).cache ≡ after → (answer_of mid.sources request).bytes ≡ reply → TurnsTo (lookup settings now files request before) after reply
 loads settings now files request before mid after reply none p k a =
     subst (λ (r : Result Turn Stopped). TurnsTo r after reply) (sym (looks_on settings now files request before none)) (load_turns settings now request (polled files before) mid after reply p k a)
@@ -148,14 +149,21 @@ tried_sources (Some (Present number)) k cache = (refl, refl)
 tried_sources (Some (Uncounted count)) k cache = (refl, refl)
 tried_sources (Some (Full need free)) k cache = (refl, refl)
 
+put_is_tried : (settings : DbConf) (now : ℕ) (all : List Candidate) (cache : Cache)
+    → put_all settings now cache.newest_version (map (answered cache.sources) all) cache ≡ (tried_all settings now all cache).cache
+put_is_tried settings now [] cache = refl
+put_is_tried settings now (one ∷ others) cache =
+    let first = (tried settings now one cache).cache in
+    let k = new_entry settings now one cache in
+    let same = tried_sources (refusal (room_of settings) cache.epoch k.entry cache) k cache in
+    subst (λ (files : Content). put_all settings now cache.newest_version (map (answered files) others) first ≡ (tried_all settings now others first).cache) same.0
+    (subst (λ (version : ℕ). put_all settings now version (map (answered first.sources) others) first ≡ (tried_all settings now others first).cache) same.1 (put_is_tried settings now others first))
+
 pub put_is_reloaded : (settings : DbConf) (now : ℕ) (entries : List Kept) (cache : Cache)
     → put_all settings now cache.newest_version (map (anew cache.sources) entries) cache ≡ (reloaded settings now entries cache).cache
-put_is_reloaded settings now [] cache = refl
-put_is_reloaded settings now (k ∷ entries) cache =
-    let first = (tried settings now k.entry.request (next_reloads k.reloads) cache).cache in
-    let same = tried_sources (own_refusal (room_of settings) (new_entry settings now k.entry.request (next_reloads k.reloads) cache).entry cache) (new_entry settings now k.entry.request (next_reloads k.reloads) cache) cache in
-    subst (λ (files : Content). put_all settings now cache.newest_version (map (anew files) entries) first ≡ (reloaded settings now entries first).cache) same.0
-    (subst (λ (version : ℕ). put_all settings now version (map (anew first.sources) entries) first ≡ (reloaded settings now entries first).cache) same.1 (put_is_reloaded settings now entries first))
+put_is_reloaded settings now entries cache =
+    subst (λ (all : List Insertion). put_all settings now cache.newest_version all cache ≡ (reloaded settings now entries cache).cache) (map-map (answered cache.sources) candidate_again entries)
+    (put_is_tried settings now (map candidate_again entries) cache)
 
 -- ---- ticks
 
@@ -168,17 +176,17 @@ compacted_some [] cache h = absurd (omega arith)
 compacted_some (k ∷ due) cache h = refl
 
 -- where none is due, nothing changes
-pub prunes_nothing : (settings : DbConf) (reloads : Option ℕ) (now : ℕ) (cache : Cache) → due_of now cache.entries ≡ [] → PassesTo (pruned settings reloads now cache) cache
+pub prunes_nothing : (settings : DbConf) (reloads : Option ℕ) (now : ℕ) (cache : Cache) → due_of now cache.entries ≡ [] → ComesTo (pruned settings reloads now cache) cache
 prunes_nothing settings reloads now cache none =
-    subst (λ (due : List Kept). PassesTo (after_adds (ends_of (due_cause reloads now) due []) (compacted_after due (left now cache) >>= λ after. Ok (reloaded settings now (reloaded_of reloads due) after))) cache) (sym none)
+    subst (λ (due : List Kept). ComesTo (after_adds (ends_of (due_cause reloads now) due []) (compacted_after due (left now cache) >>= λ after. Ok (reloaded settings now (reloaded_of reloads due) after))) cache) (sym none)
     (ap (λ (ks : List Kept). record cache { entries = ks }) (none_left (is_due now) cache.entries none))
 
-pub prunes : (settings : DbConf) (reloads : Option ℕ) (now : ℕ) (cache mid after : Cache) → 0 < length (due_of now cache.entries) → PassesTo (compacted (left now cache)) mid
-    → (reloaded settings now (reloaded_of reloads (due_of now cache.entries)) mid).cache ≡ after → PassesTo (pruned settings reloads now cache) after
+pub prunes : (settings : DbConf) (reloads : Option ℕ) (now : ℕ) (cache mid after : Cache) → 0 < length (due_of now cache.entries) → ComesTo (compacted (left now cache)) mid
+    → (reloaded settings now (reloaded_of reloads (due_of now cache.entries)) mid).cache ≡ after → ComesTo (pruned settings reloads now cache) after
 prunes settings reloads now cache mid after some h k =
     let due = due_of now cache.entries in
     let next : Cache → Result Passed Stopped = λ c. Ok (reloaded settings now (reloaded_of reloads due) c) in
-    let first : PassesTo (compacted_after due (left now cache)) mid = subst (λ (r : Result Passed Stopped). PassesTo r mid) (sym (compacted_some due (left now cache) some)) h in
+    let first : ComesTo (compacted_after due (left now cache)) mid = subst (λ (r : Result Passed Stopped). ComesTo r mid) (sym (compacted_some due (left now cache) some)) h in
     passes_after (ends_of (due_cause reloads now) due []) (compacted_after due (left now cache) >>= next) after (passes_then (compacted_after due (left now cache)) next mid after first k)
 
 pub prune_faults : (settings : DbConf) (reloads : Option ℕ) (now : ℕ) (cache before after : Cache) (fault : CacheFault) → 0 < length (due_of now cache.entries)
@@ -190,21 +198,21 @@ prune_faults settings reloads now cache before after (Spent n) some h =
     let first : StopsAt (compacted_after due (left now cache)) after n = subst (λ (r : Result Passed Stopped). StopsAt r after n) (sym (compacted_some due (left now cache) some)) h in
     stops_after (ends_of (due_cause reloads now) due []) (compacted_after due (left now cache) >>= next) after n (stops_first (compacted_after due (left now cache)) next after n first)
 
-pub tick_rests : (settings : DbConf) (reloads : Option ℕ) (now : ℕ) (files : Content) (ticked : ℕ) (cache : Cache) → settings.enabled ≡ false → PassesTo (tick settings reloads now files ticked cache) cache
+pub tick_rests : (settings : DbConf) (reloads : Option ℕ) (now : ℕ) (files : Content) (ticked : ℕ) (cache : Cache) → settings.enabled ≡ false → ComesTo (tick settings reloads now files ticked cache) cache
 unfolding tick
 tick_rests settings reloads now files ticked cache off =
     let at : tick settings reloads now files ticked cache ≡ Ok (unchanged cache) = at_false _ _ off in
-    subst (λ (r : Result Passed Stopped). PassesTo r cache) (sym at) refl
+    subst (λ (r : Result Passed Stopped). ComesTo r cache) (sym at) refl
 
 tick_runs : (settings : DbConf) (reloads : Option ℕ) (now : ℕ) (files : Content) (ticked : ℕ) (cache : Cache) → settings.enabled ≡ true
     → tick settings reloads now files ticked cache ≡ (polled files cache >>= checked settings reloads now ticked)
 unfolding tick
 tick_runs settings reloads now files ticked cache on = at_true _ _ on
 
-pub tick_passes : (settings : DbConf) (reloads : Option ℕ) (now : ℕ) (files : Content) (ticked : ℕ) (before mid after : Cache) → settings.enabled ≡ true → PassesTo (polled files before) mid
-    → PassesTo (checked settings reloads now ticked mid) after → PassesTo (tick settings reloads now files ticked before) after
+pub tick_passes : (settings : DbConf) (reloads : Option ℕ) (now : ℕ) (files : Content) (ticked : ℕ) (before mid after : Cache) → settings.enabled ≡ true → ComesTo (polled files before) mid
+    → ComesTo (checked settings reloads now ticked mid) after → ComesTo (tick settings reloads now files ticked before) after
 tick_passes settings reloads now files ticked before mid after on h k =
-    subst (λ (r : Result Passed Stopped). PassesTo r after) (sym (tick_runs settings reloads now files ticked before on)) (passes_then (polled files before) (checked settings reloads now ticked) mid after h k)
+    subst (λ (r : Result Passed Stopped). ComesTo r after) (sym (tick_runs settings reloads now files ticked before on)) (passes_then (polled files before) (checked settings reloads now ticked) mid after h k)
 
 -- the poll of a tick gave up
 pub tick_unpolled : (settings : DbConf) (reloads : Option ℕ) (now : ℕ) (files : Content) (ticked : ℕ) (before after : Cache) (fault : CacheFault) → settings.enabled ≡ true
@@ -214,13 +222,13 @@ tick_unpolled settings reloads now files ticked before after (Spent n) on h =
     subst (λ (r : Result Passed Stopped). StopsAt r after n) (sym (tick_runs settings reloads now files ticked before on)) (stops_first (polled files before) (checked settings reloads now ticked) after n h)
 
 -- what came after its poll gave up
-pub tick_faults : (settings : DbConf) (reloads : Option ℕ) (now : ℕ) (files : Content) (ticked : ℕ) (before mid after : Cache) (fault : CacheFault) → settings.enabled ≡ true → PassesTo (polled files before) mid
+pub tick_faults : (settings : DbConf) (reloads : Option ℕ) (now : ℕ) (files : Content) (ticked : ℕ) (before mid after : Cache) (fault : CacheFault) → settings.enabled ≡ true → ComesTo (polled files before) mid
     → GivesUpBy (checked settings reloads now ticked mid) mid after fault → FaultsBy (tick settings reloads now files ticked before) files before after fault
-tick_faults settings reloads now files ticked before mid after NoMemory on h k = inr (subst (λ (c : Cache). PassesTo (polled files before) c) (sym k) h)
+tick_faults settings reloads now files ticked before mid after NoMemory on h k = inr (subst (λ (c : Cache). ComesTo (polled files before) c) (sym k) h)
 tick_faults settings reloads now files ticked before mid after (Spent n) on h k =
     subst (λ (r : Result Passed Stopped). StopsAt r after n) (sym (tick_runs settings reloads now files ticked before on)) (stops_then (polled files before) (checked settings reloads now ticked) mid after n h k)
 
 -- what a tick keeps goes by the cache after its poll
-pub kept_after : (settings : DbConf) (ticked : ℕ) (r : Result Passed Stopped) (mid : Cache) → PassesTo r mid → ticked_after settings ticked (Ok (unchanged mid)) ≡ ticked_after settings ticked r
+pub kept_after : (settings : DbConf) (ticked : ℕ) (r : Result Passed Stopped) (mid : Cache) → ComesTo r mid → ticked_after settings ticked (Ok (unchanged mid)) ≡ ticked_after settings ticked r
 kept_after settings ticked (Ok poll) mid h = ap (λ (c : Cache). ticked_after settings ticked (Ok (unchanged c))) (sym h)
 kept_after settings ticked (Err stop) mid h = absurd h

@@ -4,7 +4,7 @@ use Rattle.nsc_model.specs.declared.answer.Request.{Request}
 use Rattle.nsc_model.specs.Content.{Content}
 use Rattle.nsc_model.specs.Answer.{Answer}
 use Rattle.nsc_model.specs.Answers.{answer_of}
-use Rattle.nsc_model.specs.Machine.{Kept, next_reloads}
+use Rattle.nsc_model.specs.Machine.{Kept, Candidate, candidate_again}
 
 -- a request with its answer, that is to be inserted with this count of reloads
 pub record Insertion : Type 0 where
@@ -12,6 +12,10 @@ pub record Insertion : Type 0 where
   pub answer : Answer
   pub reloads : ℕ
 
--- what is to be inserted where an entry is reloaded over these files
+-- what is to be inserted for a candidate over these files
+abbrev pub answered : Content → Candidate → Insertion
+answered files one = record { request = one.request; answer = answer_of files one.request; reloads = one.reloads }
+
+-- where an entry is reloaded
 abbrev pub anew : Content → Kept → Insertion
-anew files k = record { request = k.entry.request; answer = answer_of files k.entry.request; reloads = next_reloads k.reloads }
+anew files k = answered files (candidate_again k)

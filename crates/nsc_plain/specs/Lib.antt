@@ -1,4 +1,4 @@
 pub mod Insertion
-pub mod Prepared
+pub mod DbFiles
 pub mod Table
 pub mod PlainCache

@@ -3,7 +3,7 @@ use Rattle.std.specs.Prelude.{ℕ, ◌+◌, ◌≤◌, List, [], ◌∷◌, coun
 use Rattle.nsc_model.specs.declared.answer.Request.{Request}
 use Rattle.nsc_model.specs.Kinds.{is_request}
 use Rattle.nsc_model.specs.declared.conf.DbConf.{DbConf}
-use Rattle.nsc_model.specs.Machine.{Kept, Cache, all_words, last_count, made_entry, own_refusal, room_of, tried_by}
+use Rattle.nsc_model.specs.Machine.{Kept, Cache, all_words, last_count, made_entry, refusal, room_of, tried_by}
 use Rattle.nsc_plain.specs.Insertion.{Insertion}
 
 -- the live entries, the counts that their insertions and ends change, and for how many entries there is memory
@@ -35,7 +35,7 @@ abbrev pub StayApart : List Kept → List Insertion → Type 0
 StayApart entries all = (request : Request) → entries_for request entries + insertions_for request all ≤ 1
 
 -- what a table keeps: the words of its entries are used, its count of insertions has an end, and no request has two entries
-pub record IsKept (entries : List Kept) (used inserted : ℕ) : Type 0 where
+pub record IsTable (entries : List Kept) (used inserted : ℕ) : Type 0 where
   pub words : all_words entries ≤ used
   pub counted : inserted ≤ last_count
   pub apart : AreApart entries
@@ -47,7 +47,7 @@ inserted_entry settings now version answered cache =
 
 -- the cache once its insertion was tried
 abbrev pub put : DbConf → ℕ → ℕ → Insertion → Cache → Cache
-put settings now version answered cache = let k = inserted_entry settings now version answered cache in (tried_by (own_refusal (room_of settings) k.entry cache) k cache).cache
+put settings now version answered cache = let k = inserted_entry settings now version answered cache in (tried_by (refusal (room_of settings) cache.epoch k.entry cache) k cache).cache
 
 -- the cache once all were tried, one after the other
 abbrev pub put_all : DbConf → ℕ → ℕ → List Insertion → Cache → Cache

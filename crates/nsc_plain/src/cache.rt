@@ -6,12 +6,12 @@ ghost use Rattle.nsc_model.specs.Entry.{key_limit};
 ghost use Rattle.nsc_model.specs.Answer.{reply_limit};
 ghost use Rattle.nsc_model.specs.Answers.{answer_of};
 ghost use Rattle.nsc_model.specs.Machine.{new_cache, cached, polled, kept_answer, lookup, pruned, is_outdated, checked, tick, ticked_after, ticked_by, invalidated, unchanged};
-ghost use Rattle.nsc_model.specs.Events.{TurnsTo, PassesTo};
+ghost use Rattle.nsc_model.specs.Events.{TurnsTo, ComesTo};
 ghost use Rattle.nsc_model.specs.Faults.{FaultsBy, StopsBy, GivesUpBy};
 ghost use Rattle.nsc_plain.specs.PlainCache.{HitsBy, ticked_at};
 
+use crate::db_files::DbFiles;
 use crate::insertion::{Insertion, answer_due};
-use crate::prepared::Prepared;
 use crate::table::Table;
 use nsc_base::{Bytes, NoMemory};
 use nsc_model::{Answer, Answerer, CacheFault, Content, DbConf, Kind, LAST_COUNT, Request};
@@ -92,7 +92,7 @@ impl PlainCache {
         ensures turn { IfOk result (λ reply. TurnsTo (lookup self.old.settings now (arc_value content.now) (record { kind = kind; key = key.now }) self.old.cache) self.new.cache reply) }
         ensures fault { IfErr result (FaultsBy (lookup self.old.settings now (arc_value content.now) (record { kind = kind; key = key.now }) self.old.cache) (arc_value content.now) self.old.cache self.new.cache) }
     {
-        let mut files = Prepared::new(content.clone()?);
+        let mut files = DbFiles::new(content.clone()?);
         self.lookup_prepared(alloc, &mut files, answers, kind, key, now)
     }
 
@@ -101,7 +101,7 @@ impl PlainCache {
     pub fn lookup_prepared<A: Answerer>(
         &mut self,
         alloc: Global,
-        files: &mut Prepared<A>,
+        files: &mut DbFiles<A>,
         answers: &A,
         kind: Kind,
         key: &[u8],
@@ -143,7 +143,7 @@ impl PlainCache {
 
     // Makes the files the newest version, or confirms it where they are the same; where the cache is known to have polled
     // them, nothing is compared.
-    fn poll<A: Answerer>(&mut self, files: &mut Prepared<A>) -> Result<(), CacheFault>
+    fn poll<A: Answerer>(&mut self, files: &mut DbFiles<A>) -> Result<(), CacheFault>
         requires polled { OnTrue files.old.is_polled (self.old.cache.sources ≡ files.old.files) }
         ensures settings { self.new.settings ≡ self.old.settings }
         ensures limit { self.new.reloads ≡ self.old.reloads }
@@ -152,7 +152,7 @@ impl PlainCache {
         ensures polled { OnTrue files.new.is_polled (self.new.cache.sources ≡ files.new.files) }
         ensures sources { OnOk result (self.new.cache.sources ≡ files.new.files) }
         ensures entries { self.new.cache.entries ≡ self.old.cache.entries }
-        ensures turn { OnOk result (PassesTo (polled files.old.files self.old.cache) self.new.cache) }
+        ensures turn { OnOk result (ComesTo (polled files.old.files self.old.cache) self.new.cache) }
         ensures fault { IfErr result (GivesUpBy (polled files.old.files self.old.cache) self.old.cache self.new.cache) }
     {
         if files.is_polled() {
@@ -175,7 +175,7 @@ impl PlainCache {
     fn load<A: Answerer>(
         &mut self,
         alloc: Global,
-        files: &mut Prepared<A>,
+        files: &mut DbFiles<A>,
         answers: &A,
         kind: Kind,
         key: &[u8],
@@ -195,6 +195,7 @@ impl PlainCache {
         ensures reply { IfOk result (λ reply. (answer_of self.old.cache.sources (record { kind = kind; key = key.now })).bytes ≡ reply) }
         ensures stays { OnErr result (self.new.cache ≡ self.old.cache) }
     {
+        files.begin(alloc, answers);
         let answer = files.answer(alloc, answers, kind, key)?;
         let reply = Bytes::copy(alloc, answer.bytes())?;
         self.keep(alloc, kind, key, answer, now)?;
@@ -250,10 +251,10 @@ impl PlainCache {
         ensures limit { self.new.reloads ≡ self.old.reloads }
         ensures ticked { OnOk result (self.new.ticked ≡ ticked_by self.old.settings self.old.ticked self.new.cache) }
         ensures kept { IfErr result (λ fault. self.new.ticked ≡ ticked_at fault self.old.ticked (ticked_after self.old.settings self.old.ticked (polled (arc_value content.now) self.old.cache))) }
-        ensures turn { OnOk result (PassesTo (tick self.old.settings self.old.reloads now (arc_value content.now) self.old.ticked self.old.cache) self.new.cache) }
+        ensures turn { OnOk result (ComesTo (tick self.old.settings self.old.reloads now (arc_value content.now) self.old.ticked self.old.cache) self.new.cache) }
         ensures fault { IfErr result (FaultsBy (tick self.old.settings self.old.reloads now (arc_value content.now) self.old.ticked self.old.cache) (arc_value content.now) self.old.cache self.new.cache) }
     {
-        let mut files = Prepared::new(content.clone()?);
+        let mut files = DbFiles::new(content.clone()?);
         self.tick_prepared(alloc, &mut files, answers, now)
     }
 
@@ -261,7 +262,7 @@ impl PlainCache {
     pub fn tick_prepared<A: Answerer>(
         &mut self,
         alloc: Global,
-        files: &mut Prepared<A>,
+        files: &mut DbFiles<A>,
         answers: &A,
         now: u64,
     ) -> Result<(), CacheFault>
@@ -273,7 +274,7 @@ impl PlainCache {
         ensures kept { IfErr result (λ fault. self.new.ticked ≡ ticked_at fault self.old.ticked (ticked_after self.old.settings self.old.ticked (polled files.old.files self.old.cache))) }
         ensures files { files.new.files ≡ files.old.files }
         ensures polled { OnTrue files.new.is_polled (self.new.cache.sources ≡ files.new.files) }
-        ensures turn { OnOk result (PassesTo (tick self.old.settings self.old.reloads now files.old.files self.old.ticked self.old.cache) self.new.cache) }
+        ensures turn { OnOk result (ComesTo (tick self.old.settings self.old.reloads now files.old.files self.old.ticked self.old.cache) self.new.cache) }
         ensures fault { IfErr result (FaultsBy (tick self.old.settings self.old.reloads now files.old.files self.old.ticked self.old.cache) files.old.files self.old.cache self.new.cache) }
     {
         if !self.conf.enabled {
@@ -298,7 +299,7 @@ impl PlainCache {
     fn check<A: Answerer>(
         &mut self,
         alloc: Global,
-        files: &mut Prepared<A>,
+        files: &mut DbFiles<A>,
         answers: &A,
         now: u64,
     ) -> Result<(), CacheFault>
@@ -309,7 +310,7 @@ impl PlainCache {
         ensures ticked { self.new.ticked ≡ self.old.ticked }
         ensures sources { self.new.cache.sources ≡ self.old.cache.sources }
         ensures files { files.new ≡ files.old }
-        ensures turn { OnOk result (PassesTo (checked self.old.settings self.old.reloads now self.old.ticked self.old.cache) self.new.cache) }
+        ensures turn { OnOk result (ComesTo (checked self.old.settings self.old.reloads now self.old.ticked self.old.cache) self.new.cache) }
         ensures fault { IfErr result (GivesUpBy (checked self.old.settings self.old.reloads now self.old.ticked self.old.cache) self.old.cache self.new.cache) }
     {
         if !self.is_outdated() {
@@ -341,7 +342,7 @@ impl PlainCache {
     fn prune<A: Answerer>(
         &mut self,
         alloc: Global,
-        files: &mut Prepared<A>,
+        files: &mut DbFiles<A>,
         answers: &A,
         now: u64,
     ) -> Result<(), CacheFault>
@@ -352,7 +353,7 @@ impl PlainCache {
         ensures ticked { self.new.ticked ≡ self.old.ticked }
         ensures sources { self.new.cache.sources ≡ self.old.cache.sources }
         ensures files { files.new ≡ files.old }
-        ensures turn { OnOk result (PassesTo (pruned self.old.settings self.old.reloads now self.old.cache) self.new.cache) }
+        ensures turn { OnOk result (ComesTo (pruned self.old.settings self.old.reloads now self.old.cache) self.new.cache) }
         ensures fault { IfErr result (GivesUpBy (pruned self.old.settings self.old.reloads now self.old.cache) self.old.cache self.new.cache) }
     {
         let entries = self.table.entries();
@@ -373,7 +374,7 @@ impl PlainCache {
         ensures limit { self.new.reloads ≡ self.old.reloads }
         ensures ticked { self.new.ticked ≡ self.old.ticked }
         ensures sources { self.new.cache.sources ≡ self.old.cache.sources }
-        ensures turn { OnOk result (PassesTo (invalidated self.old.cache) self.new.cache) }
+        ensures turn { OnOk result (ComesTo (invalidated self.old.cache) self.new.cache) }
         ensures fault { IfErr result (StopsBy (invalidated self.old.cache) self.new.cache) }
     {
         if self.epoch == LAST_COUNT {

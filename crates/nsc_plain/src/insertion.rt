@@ -4,8 +4,8 @@ ghost use Rattle.nsc_model.specs.Entry.{key_limit, kept_limit};
 ghost use Rattle.nsc_model.specs.Machine.{made_entry, due_of, reloaded_of};
 ghost use Rattle.nsc_plain.specs.Insertion.{anew};
 
+use crate::db_files::DbFiles;
 use crate::kept::Kept;
-use crate::prepared::Prepared;
 use nsc_base::{Bytes, NoMemory};
 use nsc_model::{Answer, Answerer, DbConf, Entry, Request};
 use nsc_words::node_words;
@@ -77,7 +77,7 @@ impl Insertion {
 /// time of no entry is over.
 pub fn answer_due<A: Answerer>(
     alloc: Global,
-    files: &mut Prepared<A>,
+    files: &mut DbFiles<A>,
     answers: &A,
     entries: &[Kept],
     limit: Option<u32>,
@@ -103,7 +103,7 @@ pub fn answer_due<A: Answerer>(
 // What is to be inserted where this entry is reloaded.
 fn answer_again<A: Answerer>(
     alloc: Global,
-    files: &mut Prepared<A>,
+    files: &mut DbFiles<A>,
     answers: &A,
     kept: &Kept,
 ) -> Result<Insertion, NoMemory>
@@ -111,6 +111,7 @@ fn answer_again<A: Answerer>(
     ensures again { IfOk result (λ again. again ≡ anew files.old.files kept.now) }
 {
     let request = kept.entry().request();
+    files.begin(alloc, answers);
     let answer = files.answer(alloc, answers, request.kind, request.key.as_slice())?;
     let key = Bytes::copy(alloc, request.key.as_slice())?;
     let kind = request.kind;

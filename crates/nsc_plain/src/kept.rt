@@ -1,6 +1,6 @@
 ghost use Rattle.std.specs.Prelude.{◌≡◌};
 ghost use Rattle.nsc_model.specs.Kinds.{is_request};
-ghost use Rattle.nsc_model.specs.Machine.{entry_words, is_due, is_dropped, next_reloads};
+ghost use Rattle.nsc_model.specs.Machine.{entry_words, is_due, is_dropped, next_count};
 
 use nsc_model::{Entry, Kind, has_reached, next_count};
 use nsc_words::node_words;
@@ -84,7 +84,7 @@ impl Kept {
 
     /// The count of one more reload; it stays at its end.
     pub fn next_reloads(&self) -> u64
-        ensures { result ≡ next_reloads self.now.reloads }
+        ensures { result ≡ next_count self.now.reloads }
     {
         next_count(self.reloads)
     }

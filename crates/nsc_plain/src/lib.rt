@@ -2,13 +2,13 @@
 #![tactic(auto)]
 
 mod cache;
+mod db_files;
 mod entries;
 mod insertion;
 mod kept;
-mod prepared;
 mod table;
 
 pub use cache::PlainCache;
+pub use db_files::DbFiles;
 pub use entries::{find_entry, words_of};
 pub use kept::Kept;
-pub use prepared::Prepared;

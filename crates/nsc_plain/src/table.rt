@@ -3,7 +3,7 @@ ghost use Rattle.nsc_model.specs.declared.answer.Request.{Request};
 ghost use Rattle.nsc_model.specs.Kinds.{is_request};
 ghost use Rattle.nsc_model.specs.Answer.{reply_limit};
 ghost use Rattle.nsc_model.specs.Machine.{Cache, due_of, others_of, compacted, compacted_after};
-ghost use Rattle.nsc_model.specs.Events.{PassesTo};
+ghost use Rattle.nsc_model.specs.Events.{ComesTo};
 ghost use Rattle.nsc_model.specs.Faults.{StopsBy};
 ghost use Rattle.nsc_plain.specs.PlainCache.{HitsBy};
 ghost use Rattle.nsc_plain.specs.Table.{StayApart, insertions_for, entries_for, over, put, put_all};
@@ -28,13 +28,13 @@ pub struct Table {
 
 impl Model for Table {
     ghost use Rattle.std.specs.Vec.{vec_capacity};
-    ghost use Rattle.nsc_plain.specs.Table.{IsKept, Table};
+    ghost use Rattle.nsc_plain.specs.Table.{IsTable, Table};
 
     ghost Value = { Table };
 
     ghost view = { λ t. record { entries = t.entries.items; used = t.used; inserted = t.inserted; cycle = t.cycle; add_failed = t.add_failed; capacity = vec_capacity t.entries } };
 
-    ghost invariant = { λ t. IsKept t.entries.items t.used t.inserted };
+    ghost invariant = { λ t. IsTable t.entries.items t.used t.inserted };
 }
 
 impl Table {
@@ -124,7 +124,7 @@ impl Table {
 
     // A compaction: the words of ended entries are free again.
     fn compact(&mut self) -> Result<(), CacheFault>
-        ensures turn { OnOk result ((cache : Cache) → PassesTo (compacted (over cache self.old)) (over cache self.new)) }
+        ensures turn { OnOk result ((cache : Cache) → ComesTo (compacted (over cache self.old)) (over cache self.new)) }
         ensures fault { IfErr result (λ fault. (cache : Cache) → StopsBy (compacted (over cache self.old)) (over cache self.new) fault) }
         ensures entries { self.new.entries ≡ self.old.entries }
         ensures capacity { self.new.capacity ≡ self.old.capacity }
@@ -139,7 +139,7 @@ impl Table {
 
     /// The entries whose time is over leave, and then the table is compacted. Their memory stays.
     pub fn end_due(&mut self, now: u64) -> Result<(), CacheFault>
-        ensures turn { OnOk result ((cache : Cache) → PassesTo (compacted (over cache (record self.old { entries = others_of now self.old.entries }))) (over cache self.new)) }
+        ensures turn { OnOk result ((cache : Cache) → ComesTo (compacted (over cache (record self.old { entries = others_of now self.old.entries }))) (over cache self.new)) }
         ensures fault { IfErr result (λ fault. (cache : Cache) → StopsBy (compacted (over cache (record self.old { entries = others_of now self.old.entries }))) (over cache self.new) fault) }
         ensures memory { length self.new.entries + length (due_of now self.old.entries) ≤ self.new.capacity }
         ensures entries { self.new.entries ≡ others_of now self.old.entries }
@@ -151,7 +151,7 @@ impl Table {
 
     /// Every entry leaves, and where there was any, the table is compacted.
     pub fn end_all(&mut self) -> Result<(), CacheFault>
-        ensures turn { OnOk result ((cache : Cache) → PassesTo (compacted_after self.old.entries (over cache (record self.old { entries = [] }))) (over cache self.new)) }
+        ensures turn { OnOk result ((cache : Cache) → ComesTo (compacted_after self.old.entries (over cache (record self.old { entries = [] }))) (over cache self.new)) }
         ensures fault { IfErr result (λ fault. (cache : Cache) → StopsBy (compacted_after self.old.entries (over cache (record self.old { entries = [] }))) (over cache self.new) fault) }
     {
         if self.entries.is_empty() {

@@ -40,6 +40,6 @@ CountsFault before after (halts.LongFile size) = after ≡ before
 CountsFault before after halts.ReadFault = Rose before after
 CountsFault before after halts.NoMemory = after ≡ before
 
-abbrev pub Counts : {X : Type 0} → ℕ → ℕ → Result X Halt → Type 0
-Counts before after (Ok x) = after ≡ before
-Counts before after (Err halt) = CountsFault before after halt
+abbrev pub CountsHalt : {X : Type 0} → ℕ → ℕ → Result X Halt → Type 0
+CountsHalt before after (Ok x) = after ≡ before
+CountsHalt before after (Err halt) = CountsFault before after halt

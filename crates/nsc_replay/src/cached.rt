@@ -4,13 +4,13 @@ ghost use Rattle.nsc_model.specs.Files.{no_files};
 ghost use Rattle.nsc_model.specs.Entry.{key_limit};
 ghost use Rattle.nsc_model.specs.Answer.{reply_limit};
 ghost use Rattle.nsc_model.specs.Machine.{new_cache, lookup, tick, polled, ticked_after, ticked_by, invalidated};
-ghost use Rattle.nsc_model.specs.Events.{PassesTo, TurnsTo};
+ghost use Rattle.nsc_model.specs.Events.{ComesTo, TurnsTo};
 ghost use Rattle.nsc_plain.specs.PlainCache.{ticked_at};
 ghost use Rattle.nsc_model.specs.Faults.{FaultsBy, StopsBy};
 
 use nsc_base::{Bytes, NoMemory};
 use nsc_model::{Answerer, CacheFault, Content, DbConf, Kind};
-use nsc_plain::{PlainCache, Prepared};
+use nsc_plain::{DbFiles, PlainCache};
 use std::alloc::Global;
 use std::marker::Model;
 use std::sync::Arc;
@@ -18,7 +18,7 @@ use std::sync::Arc;
 /// A database of a replay: the files that it reads, with what was prepared from them, and its cache.
 #[derive(Drop)]
 pub struct Cached<A: Answerer> {
-    files: Prepared<A>,
+    files: DbFiles<A>,
     cache: PlainCache,
 }
 
@@ -42,7 +42,7 @@ impl<A: Answerer> Cached<A> {
         ensures { IfOk result (λ cached. cached ≡ record { files = no_files; cache = record { settings = conf; reloads = reloads; cache = new_cache no_files; ticked = 0 } }) }
     {
         Ok(Cached {
-            files: Prepared::new(Arc::new(alloc, Content::none())?),
+            files: DbFiles::new(Arc::new(alloc, Content::none())?),
             cache: PlainCache::new(alloc, conf, reloads)?,
         })
     }
@@ -52,7 +52,7 @@ impl<A: Answerer> Cached<A> {
         ensures { self.new ≡ record self.old { files = unwrap_or (option_map (λ c. arc_value c) content) self.old.files } }
     {
         if let Some(content) = content {
-            self.files = Prepared::new(content);
+            self.files = DbFiles::new(content);
         }
     }
 
@@ -87,7 +87,7 @@ impl<A: Answerer> Cached<A> {
         ensures limit { self.new.cache.reloads ≡ self.old.cache.reloads }
         ensures ticked { OnOk result (self.new.cache.ticked ≡ ticked_by self.old.cache.settings self.old.cache.ticked self.new.cache.cache) }
         ensures kept { IfErr result (λ fault. self.new.cache.ticked ≡ ticked_at fault self.old.cache.ticked (ticked_after self.old.cache.settings self.old.cache.ticked (polled self.old.files self.old.cache.cache))) }
-        ensures turn { OnOk result (PassesTo (tick self.old.cache.settings self.old.cache.reloads now self.old.files self.old.cache.ticked self.old.cache.cache) self.new.cache.cache) }
+        ensures turn { OnOk result (ComesTo (tick self.old.cache.settings self.old.cache.reloads now self.old.files self.old.cache.ticked self.old.cache.cache) self.new.cache.cache) }
         ensures fault { IfErr result (FaultsBy (tick self.old.cache.settings self.old.cache.reloads now self.old.files self.old.cache.ticked self.old.cache.cache) self.old.files self.old.cache.cache self.new.cache.cache) }
     {
         self.cache
@@ -100,7 +100,7 @@ impl<A: Answerer> Cached<A> {
         ensures settings { self.new.cache.settings ≡ self.old.cache.settings }
         ensures limit { self.new.cache.reloads ≡ self.old.cache.reloads }
         ensures ticked { self.new.cache.ticked ≡ self.old.cache.ticked }
-        ensures turn { OnOk result (PassesTo (invalidated self.old.cache.cache) self.new.cache.cache) }
+        ensures turn { OnOk result (ComesTo (invalidated self.old.cache.cache) self.new.cache.cache) }
         ensures fault { IfErr result (StopsBy (invalidated self.old.cache.cache) self.new.cache.cache) }
     {
         self.cache.invalidate()

@@ -2,7 +2,7 @@ ghost use Rattle.std.specs.Prelude.{◌≡◌, ◌≤◌, length, IfOk};
 ghost use Rattle.nsc_model.specs.Kinds.{file_numbered};
 ghost use Rattle.nsc_model.specs.Files.{file_limit, FileFits};
 ghost use Rattle.nsc_model.specs.Frames.{request_at, set_file, bytes_at, chunk, invalidate_at, known_db, file_at, held_at, input_at, input_limit, presence_at, number_at, present_at};
-ghost use Rattle.nsc_replay.specs.Reading.{Counts, Reads};
+ghost use Rattle.nsc_replay.specs.Reading.{CountsHalt, Reads};
 
 use crate::frame::INPUT_LIMIT;
 use crate::halt::Halt;
@@ -14,7 +14,7 @@ use std::alloc::Global;
 // Fills the piece with the next bytes.
 fn fill_piece<R: Source>(input: &mut R, piece: &mut [u8]) -> Result<(), Halt>
     ensures reads { Reads (λ _. piece.new) (chunk (length piece.old)) (R.left input.old) (R.left input.new) result }
-    ensures counts { Counts (R.faults input.old) (R.faults input.new) result }
+    ensures counts { CountsHalt (R.faults input.old) (R.faults input.new) result }
 {
     if fill(input, piece)? < piece.len() {
         return Err(Halt::Ended);
@@ -25,7 +25,7 @@ fn fill_piece<R: Source>(input: &mut R, piece: &mut [u8]) -> Result<(), Halt>
 /// The next byte.
 pub fn byte<R: Source>(input: &mut R) -> Result<u8, Halt>
     ensures reads { Reads (λ n. n) (number_at 1) (R.left input.old) (R.left input.new) result }
-    ensures counts { Counts (R.faults input.old) (R.faults input.new) result }
+    ensures counts { CountsHalt (R.faults input.old) (R.faults input.new) result }
 {
     let mut bytes = [0; 1];
     fill_piece(input, &mut bytes)?;
@@ -35,7 +35,7 @@ pub fn byte<R: Source>(input: &mut R) -> Result<u8, Halt>
 // The next number of four bytes.
 fn word<R: Source>(input: &mut R) -> Result<u32, Halt>
     ensures reads { Reads (λ n. n) (number_at 4) (R.left input.old) (R.left input.new) result }
-    ensures counts { Counts (R.faults input.old) (R.faults input.new) result }
+    ensures counts { CountsHalt (R.faults input.old) (R.faults input.new) result }
 {
     let mut bytes = [0; 4];
     fill_piece(input, &mut bytes)?;
@@ -45,7 +45,7 @@ fn word<R: Source>(input: &mut R) -> Result<u32, Halt>
 /// The next number of eight bytes.
 pub fn long<R: Source>(input: &mut R) -> Result<u64, Halt>
     ensures reads { Reads (λ n. n) (number_at 8) (R.left input.old) (R.left input.new) result }
-    ensures counts { Counts (R.faults input.old) (R.faults input.new) result }
+    ensures counts { CountsHalt (R.faults input.old) (R.faults input.new) result }
 {
     let mut bytes = [0; 8];
     fill_piece(input, &mut bytes)?;
@@ -59,7 +59,7 @@ pub fn request<'a, R: Source>(
 ) -> Result<&'a [u8], Halt>
     ensures reads { Reads (λ bytes. bytes.now) request_at (R.left input.old) (R.left input.new) result }
     ensures fits { IfOk result (λ bytes. length bytes.now ≤ input_limit) }
-    ensures counts { Counts (R.faults input.old) (R.faults input.new) result }
+    ensures counts { CountsHalt (R.faults input.old) (R.faults input.new) result }
 {
     let size = word(input)?;
     input_of(input, room, size)
@@ -73,7 +73,7 @@ fn input_of<'a, R: Source>(
 ) -> Result<&'a [u8], Halt>
     ensures reads { Reads (λ bytes. bytes.now) (input_at size) (R.left input.old) (R.left input.new) result }
     ensures fits { IfOk result (λ bytes. length bytes.now ≤ input_limit) }
-    ensures counts { Counts (R.faults input.old) (R.faults input.new) result }
+    ensures counts { CountsHalt (R.faults input.old) (R.faults input.new) result }
 {
     let size = size as usize;
     if size > INPUT_LIMIT {
@@ -88,7 +88,7 @@ fn input_of<'a, R: Source>(
 fn present<R: Source>(alloc: Global, input: &mut R) -> Result<Bytes, Halt>
     ensures reads { Reads (λ bytes. bytes) present_at (R.left input.old) (R.left input.new) result }
     ensures fits { IfOk result (λ bytes. length bytes ≤ file_limit) }
-    ensures counts { Counts (R.faults input.old) (R.faults input.new) result }
+    ensures counts { CountsHalt (R.faults input.old) (R.faults input.new) result }
 {
     let size = word(input)?;
     held(alloc, input, size)
@@ -98,7 +98,7 @@ fn present<R: Source>(alloc: Global, input: &mut R) -> Result<Bytes, Halt>
 fn held<R: Source>(alloc: Global, input: &mut R, size: u32) -> Result<Bytes, Halt>
     ensures reads { Reads (λ bytes. bytes) (held_at size) (R.left input.old) (R.left input.new) result }
     ensures fits { IfOk result (λ bytes. length bytes ≤ file_limit) }
-    ensures counts { Counts (R.faults input.old) (R.faults input.new) result }
+    ensures counts { CountsHalt (R.faults input.old) (R.faults input.new) result }
 {
     let size = size as usize;
     if size > Content::LIMIT {
@@ -118,7 +118,7 @@ fn held<R: Source>(alloc: Global, input: &mut R, size: u32) -> Result<Bytes, Hal
 fn by_presence<R: Source>(alloc: Global, input: &mut R, presence: u8) -> Result<Option<Bytes>, Halt>
     ensures reads { Reads (λ bytes. bytes) (presence_at presence) (R.left input.old) (R.left input.new) result }
     ensures fits { IfOk result FileFits }
-    ensures counts { Counts (R.faults input.old) (R.faults input.new) result }
+    ensures counts { CountsHalt (R.faults input.old) (R.faults input.new) result }
 {
     match presence {
         0 => Ok(None),
@@ -131,7 +131,7 @@ fn by_presence<R: Source>(alloc: Global, input: &mut R, presence: u8) -> Result<
 fn becomes<R: Source>(alloc: Global, input: &mut R) -> Result<Option<Bytes>, Halt>
     ensures reads { Reads (λ bytes. bytes) bytes_at (R.left input.old) (R.left input.new) result }
     ensures fits { IfOk result FileFits }
-    ensures counts { Counts (R.faults input.old) (R.faults input.new) result }
+    ensures counts { CountsHalt (R.faults input.old) (R.faults input.new) result }
 {
     let presence = byte(input)?;
     by_presence(alloc, input, presence)
@@ -145,7 +145,7 @@ fn numbered_file<R: Source>(
 ) -> Result<(FileId, Option<Bytes>), Halt>
     ensures reads { Reads (λ p. p) (set_file (file_numbered number)) (R.left input.old) (R.left input.new) result }
     ensures fits { IfOk result (λ p. FileFits p.1) }
-    ensures counts { Counts (R.faults input.old) (R.faults input.new) result }
+    ensures counts { CountsHalt (R.faults input.old) (R.faults input.new) result }
 {
     match FileId::numbered(number) {
         Some(file) => Ok((file, becomes(alloc, input)?)),
@@ -157,7 +157,7 @@ fn numbered_file<R: Source>(
 pub fn file<R: Source>(alloc: Global, input: &mut R) -> Result<(FileId, Option<Bytes>), Halt>
     ensures reads { Reads (λ p. p) file_at (R.left input.old) (R.left input.new) result }
     ensures fits { IfOk result (λ p. FileFits p.1) }
-    ensures counts { Counts (R.faults input.old) (R.faults input.new) result }
+    ensures counts { CountsHalt (R.faults input.old) (R.faults input.new) result }
 {
     let number = byte(input)?;
     numbered_file(alloc, input, number)
@@ -166,7 +166,7 @@ pub fn file<R: Source>(alloc: Global, input: &mut R) -> Result<(FileId, Option<B
 /// A database, by its number.
 pub fn database<R: Source>(input: &mut R) -> Result<Db, Halt>
     ensures reads { Reads (λ db. db) invalidate_at (R.left input.old) (R.left input.new) result }
-    ensures counts { Counts (R.faults input.old) (R.faults input.new) result }
+    ensures counts { CountsHalt (R.faults input.old) (R.faults input.new) result }
 {
     let number = byte(input)?;
     match Db::numbered(number) {

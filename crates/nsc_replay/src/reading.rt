@@ -1,7 +1,7 @@
 ghost use Rattle.std.specs.Prelude.{IfOk};
 ghost use Rattle.nsc_model.specs.Frames.{frame_after, frame_at};
 ghost use Rattle.nsc_replay.specs.Frame.{FrameFits, said};
-ghost use Rattle.nsc_replay.specs.Reading.{Counts, Reads};
+ghost use Rattle.nsc_replay.specs.Reading.{CountsHalt, Reads};
 
 use crate::frame::{Frame, INPUT_LIMIT};
 use crate::halt::Halt;
@@ -17,7 +17,7 @@ pub fn read_frame<'a, R: Source>(
 ) -> Result<Frame<'a>, Halt>
     ensures reads { Reads said frame_at (R.left input.old) (R.left input.new) result }
     ensures fits { IfOk result FrameFits }
-    ensures counts { Counts (R.faults input.old) (R.faults input.new) result }
+    ensures counts { CountsHalt (R.faults input.old) (R.faults input.new) result }
 {
     let first = byte(input)?;
     after_first(alloc, input, room, first)
@@ -32,7 +32,7 @@ fn after_first<'a, R: Source>(
 ) -> Result<Frame<'a>, Halt>
     ensures reads { Reads said (frame_after first) (R.left input.old) (R.left input.new) result }
     ensures fits { IfOk result FrameFits }
-    ensures counts { Counts (R.faults input.old) (R.faults input.new) result }
+    ensures counts { CountsHalt (R.faults input.old) (R.faults input.new) result }
 {
     match first {
         b'Q' => {

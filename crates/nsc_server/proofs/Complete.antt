@@ -7,8 +7,8 @@ use Rattle.nsc_model.specs.declared.conf.DbConf.{DbConf}
 use Rattle.nsc_model.specs.declared.databases.Databases.{Databases}
 use Rattle.nsc_model.specs.declared.store.LookupFault.{LookupFault}
 use Rattle.nsc_model.specs.declared.store.LookupFault.TheVariants as fault
-use Rattle.nsc_model.specs.declared.store.InvalidateFault.{InvalidateFault}
-use Rattle.nsc_model.specs.declared.store.InvalidateFault.TheVariants as invalidate_fault
+use Rattle.nsc_model.specs.declared.fault.CacheFault.{CacheFault as InvalidateFault}
+use Rattle.nsc_model.specs.declared.fault.CacheFault.TheVariants as invalidate_fault
 use Rattle.nsc_model.specs.Databases.{database_in}
 use Rattle.nsc_model.specs.Kinds.{database_of, db_named}
 use Rattle.nsc_model.specs.Stores.{IsFault, IsInvalidateFault}

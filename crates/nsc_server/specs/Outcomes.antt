@@ -7,8 +7,8 @@ use Rattle.nsc_model.specs.declared.answer.Request.{Request}
 use Rattle.nsc_model.specs.declared.databases.Databases.{Databases}
 use Rattle.nsc_model.specs.declared.store.LookupFault.{LookupFault}
 use Rattle.nsc_model.specs.declared.store.LookupFault.TheVariants as fault
-use Rattle.nsc_model.specs.declared.store.InvalidateFault.{InvalidateFault}
-use Rattle.nsc_model.specs.declared.store.InvalidateFault.TheVariants as invalidate_fault
+use Rattle.nsc_model.specs.declared.fault.CacheFault.{CacheFault as InvalidateFault}
+use Rattle.nsc_model.specs.declared.fault.CacheFault.TheVariants as invalidate_fault
 use Rattle.nsc_model.specs.declared.store.Given.{Given}
 use Rattle.nsc_model.specs.declared.store.Stats.{Stats}
 use Rattle.nsc_model.specs.Databases.{database_in}

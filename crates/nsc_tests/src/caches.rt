@@ -1,7 +1,7 @@
 use super::answers::{NO_USER, ROOT, users};
 use nsc_answer::Plain;
 use nsc_model::{Conf, Content, Kind};
-use nsc_plain::{PlainCache, Prepared};
+use nsc_plain::{DbFiles, PlainCache};
 use std::sync::Arc;
 use std::test::Fail;
 
@@ -33,7 +33,7 @@ fn lookups_and_invalidations(rt: HostRuntime) -> Result<(), Fail> {
 fn ticks(rt: HostRuntime) -> Result<(), Fail> {
     let alloc = rt.alloc();
     let none = Arc::new(alloc, Content::none())?;
-    let mut users = Prepared::new(users(alloc)?);
+    let mut users = DbFiles::new(users(alloc)?);
     let mut cache = PlainCache::new(alloc, Conf::defaults().passwd, None)?;
     let reply = cache
         .lookup(alloc, &none, &Plain, Kind::PwName, b"root", 0)

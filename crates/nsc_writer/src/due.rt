@@ -3,7 +3,7 @@ ghost use Rattle.std.specs.Prelude.{◌≡◌, ◌≤◌, ◌||◌, false, All, 
 ghost use Rattle.nsc_model.specs.Entry.{key_limit};
 ghost use Rattle.nsc_model.specs.Live.{Rise};
 ghost use Rattle.nsc_shelf.specs.Shelf.{IsTold, entry_from};
-ghost use Rattle.nsc_model.specs.Machine.{Kept, due_of, next_reloads, reached};
+ghost use Rattle.nsc_model.specs.Machine.{Kept, due_of, next_count, reached};
 ghost use Rattle.nsc_laws.specs.Calls.{entries_of};
 ghost use Rattle.nsc_writer.specs.Due.{IsOver, due_cause_of, due_from, marked_by, pruned_by};
 
@@ -62,7 +62,7 @@ impl Due {
 
     /// How often it is reloaded since its last use, once it is reloaded; the count stays at its end.
     pub fn next_reloads(&self) -> u64
-        ensures { result ≡ next_reloads self.now.reloads }
+        ensures { result ≡ next_count self.now.reloads }
     {
         next_count(self.reloads)
     }

@@ -2,7 +2,7 @@ use Rattle.std.proofs.Common.{◌≡◌, true, false, sym, ◌∙◌, subst}
 use Rattle.std.proofs.lemmas.Result.{err_from_is_err_and}
 use Rattle.nsc_model.specs.declared.fault.CacheFault.TheVariants.{Spent}
 use Rattle.nsc_model.specs.Machine.{polled, tick}
-use Rattle.nsc_model.specs.Events.{PassesTo, StopsAt}
+use Rattle.nsc_model.specs.Events.{ComesTo, StopsAt}
 use Rattle.nsc_plain.specs.PlainCache.{PlainCache}
 use Rattle.nsc_plain.proofs.Events.{kept_after, tick_rests, tick_passes, tick_unpolled, tick_faults}
 use Rattle.nsc_plain.proofs.cache.PlainCache.tick_prepared.Goals as goal
@@ -23,7 +23,7 @@ pub returns-in-Ok-clause-turn : goal.returns-in-Ok-clause-turn
 returns-in-Ok-clause-turn g c =
     let on = subst (λ (s : PlainCache). s.settings.enabled ≡ true) c.self.view_is c.if-not-self.false in
     let turn = rw (c.in_ok-poll.ensures.settings, c.in_ok-poll.ensures.limit, c.in_ok-poll.ensures.ticked) at c.in-Ok.ensures.turn in
-    subst (λ (s : PlainCache). PassesTo (tick c.args.self.now.settings c.args.self.now.reloads c.args.now c.args.files.now.files c.args.self.now.ticked c.args.self.now.cache) s.cache) (sym c.self-2.view_is)
+    subst (λ (s : PlainCache). ComesTo (tick c.args.self.now.settings c.args.self.now.reloads c.args.now c.args.files.now.files c.args.self.now.ticked c.args.self.now.cache) s.cache) (sym c.self-2.view_is)
     (tick_passes c.args.self.now.settings c.args.self.now.reloads c.args.now c.args.files.now.files c.args.self.now.ticked c.args.self.now.cache c.poll.new.self.cache c.check.new.self.cache on c.in_ok-poll.ensures.turn turn)
 
 pub returns-in-Err-Spent-clause-kept : goal.returns-in-Err-Spent-clause-kept

@@ -1,6 +1,6 @@
 use Rattle.std.proofs.Common.{List, sym, subst, arith}
 use Rattle.nsc_model.specs.Machine.{Kept}
-use Rattle.nsc_plain.specs.Table.{IsKept}
+use Rattle.nsc_plain.specs.Table.{IsTable}
 use Rattle.nsc_plain.proofs.Apart.{apart_due, apart_others}
 use Rattle.nsc_plain.proofs.Ends.{others_words, all_length}
 use Rattle.nsc_plain.proofs.table.Table.end_due.Goals as goal
@@ -9,7 +9,7 @@ pub invariant_of-self : goal.invariant_of-self
 invariant_of-self c =
     let words = others_words c.args.now c.self.inside.entries.items in
     let kept = c.self.invariant.words in
-    subst (λ (ks : List Kept). IsKept ks c.self.inside.used c.self.inside.inserted) (sym c.drop_due.ensures.items)
+    subst (λ (ks : List Kept). IsTable ks c.self.inside.used c.self.inside.inserted) (sym c.drop_due.ensures.items)
     (record { words = omega arith; counted = c.self.invariant.counted; apart = apart_others c.args.now c.self.inside.entries.items c.self.invariant.apart })
 
 pub returns-clause-apart : goal.returns-clause-apart

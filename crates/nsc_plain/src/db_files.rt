@@ -9,33 +9,33 @@ use std::marker::Model;
 use std::sync::Arc;
 
 /// The files that a database reads, as they are: whether its cache is known to have polled them, and what was prepared
-/// from them, once an answer was asked for, and for many answers, once a second one was.
+/// from them, once an answer was asked for, and for many answers, once a second lookup or reload asks for some.
 #[derive(Drop)]
-pub struct Prepared<A: Answerer> {
+pub struct DbFiles<A: Answerer> {
     content: Arc<Content>,
     is_polled: bool,
     ready: Option<A::Ready>,
     is_for_many: bool,
 }
 
-impl<A: Answerer> Model for Prepared<A> {
+impl<A: Answerer> Model for DbFiles<A> {
     ghost use Rattle.std.specs.Prelude.{◌≡◌, IfSome};
     ghost use Rattle.std.specs.Arc.{arc_value};
-    ghost use Rattle.nsc_plain.specs.Prepared.{Prepared};
+    ghost use Rattle.nsc_plain.specs.DbFiles.{DbFiles};
 
-    ghost Value = { Prepared };
+    ghost Value = { DbFiles };
 
     ghost view = { λ p. record { files = arc_value p.content; is_polled = p.is_polled } };
 
     ghost invariant = { λ p. IfSome p.ready (λ ready. A.prepared_from ready ≡ arc_value p.content) };
 }
 
-impl<A: Answerer> Prepared<A> {
+impl<A: Answerer> DbFiles<A> {
     /// These files, which no cache is known to have polled.
-    pub fn new(content: Arc<Content>) -> Prepared<A>
+    pub fn new(content: Arc<Content>) -> DbFiles<A>
         ensures { result ≡ record { files = arc_value content; is_polled = false } }
     {
-        Prepared {
+        DbFiles {
             content,
             is_polled: false,
             ready: None,
@@ -64,8 +64,24 @@ impl<A: Answerer> Prepared<A> {
         self.is_polled = true;
     }
 
-    /// The answer to the request of this kind and key over these files. What is prepared for the second answer serves the
-    /// later ones. Fails only for want of memory.
+    /// Answers are to be made over these files, for a lookup or for an entry that is reloaded. Where some were made for another one,
+    /// these and the later ones are made from what is prepared for many, if there is memory for it.
+    pub(crate) fn begin(&mut self, alloc: Global, answers: &A)
+        ensures { self.new ≡ self.old }
+    {
+        if self.is_for_many {
+            return;
+        }
+        let Some(ready) = &self.ready else {
+            return;
+        };
+        self.is_for_many = true;
+        if let Some(further) = answers.prepare_further(alloc, ready) {
+            self.ready = Some(further);
+        }
+    }
+
+    /// The answer to the request of this kind and key over these files. Fails only for want of memory.
     pub(crate) fn answer(
         &mut self,
         alloc: Global,
@@ -76,25 +92,12 @@ impl<A: Answerer> Prepared<A> {
         ensures stays { self.new ≡ self.old }
         ensures answer { IfOk result (λ answer. answer ≡ answer_of self.old.files (record { kind = kind; key = key.now })) }
     {
-        let ready = self.make_ready(alloc, answers)?;
+        let ready = match self.ready.take() {
+            Some(ready) => ready,
+            None => answers.prepare(alloc, self.content.clone()?)?,
+        };
         let answer = answers.answer(alloc, &ready, kind, key);
         self.ready = Some(ready);
         answer
-    }
-
-    // What the next answer is made from.
-    fn make_ready(&mut self, alloc: Global, answers: &A) -> Result<A::Ready, NoMemory>
-        ensures stays { self.new ≡ self.old }
-        ensures ready { IfOk result (λ ready. A.prepared_from ready ≡ self.old.files) }
-    {
-        let Some(ready) = self.ready.take() else {
-            self.is_for_many = false;
-            return Ok(answers.prepare(alloc, self.content.clone()?)?);
-        };
-        if self.is_for_many {
-            return Ok(ready);
-        }
-        self.is_for_many = true;
-        Ok(answers.prepare_further(alloc, &ready).unwrap_or(ready))
     }
 }
