@@ -1,30 +1,20 @@
 -- What came of a command.
 use Rattle.std.specs.Prelude.{◌≡◌, ◌⊎◌, ℕ, ◌<◌, ◌≤◌, List, length, Option}
 use Rattle.nsc_outside.specs.Stream.{Moves, IsDrained, Grows, GrowsByFront}
+use Rattle.nsc_outside.specs.StreamAt.{StreamAt, stream_in, stream_out}
 use Rattle.nsc_model.specs.Reads.{Rose}
 use Rattle.nsc_outside.specs.declared.stream.Source as source
 use Rattle.nsc_outside.specs.declared.stream.Sink as sink
 use Rattle.nsc_model.specs.Wire.{field}
+use Rattle.nsc_model.specs.declared.exit.Exit.{Exit}
+use Rattle.nsc_model.specs.declared.exit.Exit.TheVariants as exits
 use Rattle.nsc_control.specs.declared.ask.AdminAsk.{AdminAsk}
 use Rattle.nsc_control.specs.declared.ask.AdminAsk.TheVariants as ask
-use Rattle.nsc_control.specs.declared.commands.Commanded.{Commanded}
-use Rattle.nsc_control.specs.declared.commands.Commanded.TheVariants as commanded
 use Rattle.nsc_control.specs.Asks.{request_for}
 
 -- the longest reply, in bytes
 abbrev pub reply_limit : ℕ
 reply_limit = 65536
-
--- at one moment: what a stream has left or took, where it tells that, and the count of its faults
-pub record StreamAt : Type 0 where
-  pub bytes : Option (List ℕ)
-  pub faults : ℕ
-
-abbrev pub stream_in : {R : Type 0} → source.Ghosts R → R → StreamAt
-stream_in g input = record { bytes = g.left input; faults = g.faults input }
-
-abbrev pub stream_out : {K : Type 0} → sink.Ghosts K → K → StreamAt
-stream_out g output = record { bytes = g.taken output; faults = g.faults output }
 
 -- the three streams of a command: both ways of the connection, and the output
 pub record Streams : Type 0 where
@@ -82,36 +72,35 @@ abbrev pub SendsNoMore : AdminAsk → Streams → Streams → Type 0
 SendsNoMore asked before after = GrowsByFront before.conn_out.bytes after.conn_out.bytes (request_for asked)
 
 -- what came of a command
-abbrev pub Commands : AdminAsk → Streams → Streams → Commanded → Type 0
-Commands asked before after commanded.Done = IsDone asked before after
-Commands asked before after commanded.WriteFault = IsCutShort asked before after
-Commands asked before after commanded.NetFault = (after.output ≡ before.output) × (Rose before.conn_in.faults after.conn_in.faults ⊎ Rose before.conn_out.faults after.conn_out.faults) × SendsNoMore asked before after
-Commands asked before after commanded.BadReply = (after.output ≡ before.output) × (IsTooMuch asked before after ⊎ IsBad asked before after)
-Commands asked before after commanded.NoMemory = (after.output ≡ before.output) × (after.conn_in ≡ before.conn_in) × SendsNoMore asked before after
+abbrev pub Commands : AdminAsk → Streams → Streams → Exit → Type 0
+Commands asked before after exits.Ok = IsDone asked before after
+Commands asked before after exits.WriteFault = IsCutShort asked before after
+Commands asked before after exits.NetFault = (after.output ≡ before.output) × (Rose before.conn_in.faults after.conn_in.faults ⊎ Rose before.conn_out.faults after.conn_out.faults) × SendsNoMore asked before after
+Commands asked before after exits.BadReply = (after.output ≡ before.output) × (IsTooMuch asked before after ⊎ IsBad asked before after)
+Commands asked before after exits.NoMemory = (after.output ≡ before.output) × (after.conn_in ≡ before.conn_in) × SendsNoMore asked before after
+Commands asked before after _ = ⊥
 
 -- ---- the parts
 
 -- a reply was not read
-abbrev pub IsUnread : StreamAt → StreamAt → Commanded → Type 0
-IsUnread before after commanded.Done = ⊥
-IsUnread before after commanded.WriteFault = ⊥
-IsUnread before after commanded.NetFault = Rose before.faults after.faults
-IsUnread before after commanded.BadReply = IsLong before after
-IsUnread before after commanded.NoMemory = after ≡ before
+abbrev pub IsUnread : StreamAt → StreamAt → Exit → Type 0
+IsUnread before after exits.NetFault = Rose before.faults after.faults
+IsUnread before after exits.BadReply = IsLong before after
+IsUnread before after exits.NoMemory = after ≡ before
+IsUnread before after _ = ⊥
 
 -- a reply says that what was asked is done, or it is bad
-abbrev pub Says : List ℕ → Commanded → Type 0
-Says reply commanded.Done = reply ≡ field 0
-Says reply commanded.BadReply = reply ≡ field 0 → ⊥
+abbrev pub Says : List ℕ → Exit → Type 0
+Says reply exits.Ok = reply ≡ field 0
+Says reply exits.BadReply = reply ≡ field 0 → ⊥
 Says reply _ = ⊥
 
 -- what came of a reply that was read
-abbrev pub Ends : AdminAsk → List ℕ → StreamAt → StreamAt → Commanded → Type 0
-Ends asked reply before after commanded.Done = IsGood asked reply × PutsOut asked before after reply
-Ends asked reply before after commanded.WriteFault = (asked ≡ ask.Stat) × GrowsByFront before.bytes after.bytes reply × Rose before.faults after.faults
-Ends asked reply before after commanded.NetFault = ⊥
-Ends asked reply before after commanded.BadReply = (after ≡ before) × (IsGood asked reply → ⊥)
-Ends asked reply before after commanded.NoMemory = ⊥
+abbrev pub Ends : AdminAsk → List ℕ → StreamAt → StreamAt → Exit → Type 0
+Ends asked reply before after exits.Ok = IsGood asked reply × PutsOut asked before after reply
+Ends asked reply before after exits.WriteFault = (asked ≡ ask.Stat) × GrowsByFront before.bytes after.bytes reply × Rose before.faults after.faults
+Ends asked reply before after exits.BadReply = (after ≡ before) × (IsGood asked reply → ⊥)
+Ends asked reply before after _ = ⊥
 
 abbrev pub streams : {R K T : Type 0} → source.Ghosts R → sink.Ghosts K → sink.Ghosts T → R → K → T → Streams
 streams r k t conn_in conn_out output = record { conn_in = stream_in r conn_in; conn_out = stream_out k conn_out; output = stream_out t output }

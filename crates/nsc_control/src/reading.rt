@@ -1,9 +1,11 @@
 ghost use Rattle.std.specs.Prelude.{◌≡◌, ◌≤◌, length, IfErr, IfOk, OnOk};
 ghost use Rattle.nsc_outside.specs.Stream.{IsDrained, Moves};
-ghost use Rattle.nsc_control.specs.Commands.{IsUnread, stream_in};
+ghost use Rattle.nsc_outside.specs.StreamAt.{stream_in};
+ghost use Rattle.nsc_model.specs.Exits.{IsExitOf, Asking};
+ghost use Rattle.nsc_control.specs.Commands.{IsUnread};
 
-use crate::commands::Commanded;
 use nsc_base::{Bytes, NoMemory};
+use nsc_model::Exit;
 use nsc_outside::{Source, fill};
 use std::alloc::Global;
 
@@ -11,20 +13,21 @@ use std::alloc::Global;
 const REPLY_LIMIT: usize = 65_536;
 
 // Reads a connection to its end: all that it had. `BadReply` where more than 65,536 bytes came, which is one byte more.
-pub(crate) fn read_reply<R: Source>(alloc: Global, conn_in: &mut R) -> Result<Bytes, Commanded>
+pub(crate) fn read_reply<R: Source>(alloc: Global, conn_in: &mut R) -> Result<Bytes, Exit>
     ensures came { IfOk result (λ reply. Moves (R.left conn_in.old) (R.left conn_in.new) reply) }
     ensures all { OnOk result (IsDrained (R.left conn_in.new)) }
     ensures limit { IfOk result (λ reply. length reply ≤ 65536) }
+    ensures exits { IfErr result (IsExitOf Asking) }
     ensures unread { IfErr result (IsUnread (stream_in R.Source conn_in.old) (stream_in R.Source conn_in.new)) }
 {
     let Ok(mut bytes) = room(alloc) else {
-        return Err(Commanded::NoMemory);
+        return Err(Exit::NoMemory);
     };
     let Ok(count) = fill(conn_in, bytes.as_mut_slice()) else {
-        return Err(Commanded::NetFault);
+        return Err(Exit::NetFault);
     };
     if count > REPLY_LIMIT {
-        return Err(Commanded::BadReply);
+        return Err(Exit::BadReply);
     }
     bytes.truncate(count);
     Ok(Bytes::from_vec(bytes))

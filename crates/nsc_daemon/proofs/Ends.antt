@@ -3,6 +3,8 @@ use Rattle.std.proofs.Common.{◌≡◌, ◌∙◌, ℕ, List, [], ◌∷◌, �
 use Rattle.nsc_outside.specs.Stream.{Moves}
 use Rattle.nsc_model.specs.Reads.{Rose}
 use Rattle.nsc_model.specs.Content.{Content}
+use Rattle.nsc_model.specs.declared.exit.Exit.{Exit}
+use Rattle.nsc_model.specs.declared.exit.Exit.TheVariants as exits
 use Rattle.nsc_model.specs.Wire.{Asked, Shutdown, request_of}
 use Rattle.nsc_server.specs.Requests.{closing_of}
 use Rattle.nsc_server.proofs.Reading.{shutdown_stays}
@@ -11,9 +13,7 @@ use Rattle.nsc_sockets.specs.declared.listener.Accepted.{Accepted}
 use Rattle.nsc_sockets.specs.declared.listener.Accepted.TheVariants as accepted
 use Rattle.nsc_sockets.specs.declared.role.Role.{Role}
 use Rattle.nsc_sockets.specs.declared.role.Role.TheVariants as role
-use Rattle.nsc_daemon.specs.declared.ended.Ended.{Ended}
-use Rattle.nsc_daemon.specs.declared.ended.Ended.TheVariants as ended
-use Rattle.nsc_daemon.specs.Ends.{AsksEnd, EndsBy, EndsSo, GoesOn, IsReady, IsToldEnd, Outside, StopsSo, TellsEnd, TellsLength}
+use Rattle.nsc_daemon.specs.Ends.{AsksEnd, DaemonAt, EndsBy, EndsSo, GoesOn, IsReady, IsToldEnd, StopsSo, TellsEnd, TellsLength}
 
 pub told_end : (on : Role) (left left' : Option (List ℕ)) (front : List ℕ) → Moves left left' front → closing_of on (request_of front) ≡ None → request_of front ≡ Shutdown → TellsEnd on left
 told_end on left left' front moved free asked = record { admin = by_role on (subst (λ (a : Asked). closing_of on a ≡ None) asked free); asked = by_left left moved } where
@@ -67,22 +67,15 @@ ends_by left (Some given) before after (accepted.Conn on input output) g gives t
 ends_by left (Some given) before after accepted.Quiet g gives told = absurd told
 
 -- the daemon ends as the thread that accepts did, once it was ready
-pub ready_so : (by : Ended) (before after : Outside) → IsReady before after → after.source_faults ≡ before.source_faults → StopsSo by before.given after.given before.net_faults after.net_faults → EndsSo by before after
-ready_so ended.ShutDown before after r s stops = (r, stops.0, stops.1, s)
-ready_so ended.NetFault before after r s stops = (stops, inr r)
-ready_so ended.WriteFault before after r s stops = absurd stops
-ready_so ended.SourceFault before after r s stops = absurd stops
-ready_so (ended.TooLong size) before after r s stops = absurd stops
-ready_so ended.NoMemory before after r s stops = absurd stops
+pub ready_so : (by : Exit) (before after : DaemonAt) → IsReady before after → after.source_faults ≡ before.source_faults → StopsSo by before.given after.given before.net_faults after.net_faults → EndsSo by before after
+ready_so exits.Ok before after r s stops = (r, stops.0, stops.1, s)
+ready_so exits.NetFault before after r s stops = (stops, inr r)
+ready_so _ before after r s stops = absurd stops
 
 -- an end to which no count of the files' faults rises is not that of a file that is too long
-pub calm_so : (by : Ended) (held : Option Content) (before after : Outside) → before.source_faults ≡ 0 → after.source_faults ≡ 0 → EndsSo by before after → TellsLength by held
-calm_so ended.ShutDown held before after b a ends = tt
-calm_so ended.WriteFault held before after b a ends = tt
-calm_so ended.SourceFault held before after b a ends = tt
-calm_so (ended.TooLong size) held before after b a ends = absurd (unrisen ends.0) where
+pub calm_so : (by : Exit) (held : Option Content) (before after : DaemonAt) → before.source_faults ≡ 0 → after.source_faults ≡ 0 → EndsSo by before after → TellsLength by held
+calm_so (exits.TooLong size) held before after b a ends = absurd (unrisen ends.0) where
   unrisen : Rose before.source_faults after.source_faults → ⊥
   unrisen (inl more) = omega arith
   unrisen (inr full) = omega arith
-calm_so ended.NetFault held before after b a ends = tt
-calm_so ended.NoMemory held before after b a ends = tt
+calm_so _ held before after b a ends = tt

@@ -1,13 +1,13 @@
 // The thread that accepts connections, serves those of the admin socket, and ticks.
 ghost use Rattle.std.specs.Prelude.{◌≡◌, ◌<◌, ◌^◌, IfSome};
 ghost use Rattle.std.specs.Bool.{OnFalse, OnTrue};
+ghost use Rattle.nsc_model.specs.Exits.{IsExitOf, Serving};
 ghost use Rattle.nsc_server.specs.Requests.{TakesRequests};
 ghost use Rattle.nsc_daemon.specs.Ends.{IsToldEnd, StopsSo, TellsEnd};
 ghost use Rattle.nsc_daemon.specs.Workers.{TicksSo};
 
-use crate::ended::Ended;
 use crate::queue::{Waiting, Waitings};
-use nsc_model::{Databases, Store};
+use nsc_model::{Databases, Exit, Store};
 use nsc_outside::{Sink, Source};
 use nsc_server::{Room, Served, serve_one};
 use nsc_sockets::{Accepted, Clock, Listener, Role};
@@ -29,16 +29,17 @@ pub fn accept_all<RT: AllocGlobal + Wait + time::Clock, S: Store + Drop, C: Cloc
     desk: &mut Desk<S, N::In, N::Out>,
     clock: &mut C,
     net: &mut N,
-) -> Ended
-    ensures { StopsSo result (N.given net.old) (N.given net.new) (N.faults net.old) (N.faults net.new) }
+) -> Exit
+    ensures exits { IsExitOf Serving result }
+    ensures stops { StopsSo result (N.given net.old) (N.given net.new) (N.faults net.old) (N.faults net.new) }
 {
     for _ in rt.forever() {
         let Ok(accepted) = net.accept() else {
-            return Ended::NetFault;
+            return Exit::NetFault;
         };
         let now = clock.now();
         if desk.turn(rt, accepted, now) {
-            return Ended::ShutDown;
+            return Exit::Ok;
         }
     }
     unreachable!()

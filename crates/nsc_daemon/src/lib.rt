@@ -2,13 +2,11 @@
 #![tactic(auto)]
 
 mod desk;
-mod ended;
 mod opening;
 mod queue;
 mod service;
 mod terms;
 mod worker;
 
-pub use ended::Ended;
 pub use service::daemon;
 pub use terms::Terms;

@@ -1,21 +1,22 @@
 ghost use Rattle.std.specs.Prelude.{◌≡◌, ℕ, IfErr, OnOk};
 ghost use Rattle.std.specs.Arc.{arc_value};
+ghost use Rattle.nsc_outside.specs.StreamAt.{stream_out};
+ghost use Rattle.nsc_model.specs.Exits.{IsExitOf, Serving};
 ghost use Rattle.nsc_model.specs.Reads.{Rose};
 ghost use Rattle.nsc_model.specs.Settings.{settings_of};
 ghost use Rattle.nsc_model.specs.Sizes.{SizesFit};
 ghost use Rattle.nsc_model.specs.declared.kind.Db.TheVariants as db_is;
 ghost use Rattle.nsc_server.specs.Passes.{AreNamed, ArePasses};
-ghost use Rattle.nsc_daemon.specs.Ends.{EndsSo, NotBound, StopsSo, TellsLength};
+ghost use Rattle.nsc_daemon.specs.Ends.{EndsSo, NotBound, StopsSo, TellsLength, daemon_at};
 
 use crate::desk::{Desk, accept_all};
-use crate::ended::Ended;
 use crate::opening::Openings;
 use crate::queue::Waitings;
 use crate::terms::Terms;
 use crate::worker::Worker;
 use nsc_database::Room as InRoom;
 use nsc_jobs::JobList;
-use nsc_model::{Databases, Store};
+use nsc_model::{Databases, Exit, Store};
 use nsc_outside::{FileSet, Sink, Source, write_all};
 use nsc_server::Room;
 use nsc_sockets::{Clock, Listener, Role};
@@ -28,7 +29,7 @@ use std::{thread, time};
 /// Runs the daemon: opens the four databases over these files, binds `socket` and `admin` in the folder, tells the output that it is
 /// ready, and serves connections and ticks until one on the admin socket tells it to end.
 ///
-/// At `ShutDown` the line was written, and the newest connection that the listener gave asked for the end. `SourceFault` and
+/// At `Ok` the line was written, and the newest connection that the listener gave asked for the end. `SourceFault` and
 /// `TooLong` come only where a file failed at the start, and the length of one that is too long is as the files are told; `NetFault`
 /// comes only where a call on the listener failed, and `WriteFault` where one on the output did, which may have taken a front of the
 /// line. At `NoMemory` nothing was written.
@@ -38,17 +39,18 @@ pub fn daemon<
     F: FileSet + Send + Drop + 'static,
     C: Clock,
     N: Listener,
->(rt: &RT, terms: &Terms<'_>, output: &mut K, files: &mut F, clock: &mut C, net: &mut N) -> Ended
+>(rt: &RT, terms: &Terms<'_>, output: &mut K, files: &mut F, clock: &mut C, net: &mut N) -> Exit
 where
     N::In: 'static,
     N::Out: 'static,
     requires { SizesFit terms.now.conf.now }
-    ensures ends { EndsSo result (record { taken = K.taken output.old; output_faults = K.faults output.old; source_faults = F.faults files.old; given = N.given net.old; net_faults = N.faults net.old }) (record { taken = K.taken output.new; output_faults = K.faults output.new; source_faults = F.faults files.new; given = N.given net.new; net_faults = N.faults net.new }) }
+    ensures exits { IsExitOf Serving result }
+    ensures ends { EndsSo result (daemon_at K.Sink F.FileSet N.Listener output.old files.old net.old) (daemon_at K.Sink F.FileSet N.Listener output.new files.new net.new) }
     ensures length { TellsLength result (F.held files.old) }
 {
     match Openings::open(rt.alloc(), files, terms.conf) {
         Ok(openings) => in_room::<Brand, RT, K, F, C, N>(rt, terms, openings, output, clock, net),
-        Err(ended) => ended,
+        Err(exit) => exit,
     }
 }
 
@@ -67,7 +69,7 @@ fn in_room<
     output: &mut K,
     clock: &mut C,
     net: &mut N,
-) -> Ended
+) -> Exit
 where
     N::In: 'static,
     N::Out: 'static,
@@ -77,11 +79,12 @@ where
     requires group { (openings.group.settings ≡ settings_of B.conf db_is.Group) × (openings.group.reloads ≡ B.conf.reloads) × (F.held openings.group.files ≡ B.held) }
     requires hosts { (openings.hosts.settings ≡ settings_of B.conf db_is.Hosts) × (openings.hosts.reloads ≡ B.conf.reloads) × (F.held openings.hosts.files ≡ B.held) }
     requires services { (openings.services.settings ≡ settings_of B.conf db_is.Services) × (openings.services.reloads ≡ B.conf.reloads) × (F.held openings.services.files ≡ B.held) }
-    ensures { (faults : ℕ) → EndsSo result (record { taken = K.taken output.old; output_faults = K.faults output.old; source_faults = faults; given = N.given net.old; net_faults = N.faults net.old }) (record { taken = K.taken output.new; output_faults = K.faults output.new; source_faults = faults; given = N.given net.new; net_faults = N.faults net.new }) }
+    ensures exits { IsExitOf Serving result }
+    ensures ends { (faults : ℕ) → EndsSo result (record { output = stream_out K.Sink output.old; source_faults = faults; given = N.given net.old; net_faults = N.faults net.old }) (record { output = stream_out K.Sink output.new; source_faults = faults; given = N.given net.new; net_faults = N.faults net.new }) }
 {
     match openings.enter::<B>() {
         Ok((stores, passes)) => serve(rt, terms, stores, passes, output, clock, net),
-        Err(_) => Ended::NoMemory,
+        Err(_) => Exit::NoMemory,
     }
 }
 
@@ -100,23 +103,24 @@ fn serve<
     output: &mut K,
     clock: &mut C,
     net: &mut N,
-) -> Ended
+) -> Exit
 where
     S::Pass: Send + 'static,
     N::In: 'static,
     N::Out: 'static,
     requires named { AreNamed S.Store stores }
     requires passes { ArePasses S.Store stores passes }
-    ensures { (faults : ℕ) → EndsSo result (record { taken = K.taken output.old; output_faults = K.faults output.old; source_faults = faults; given = N.given net.old; net_faults = N.faults net.old }) (record { taken = K.taken output.new; output_faults = K.faults output.new; source_faults = faults; given = N.given net.new; net_faults = N.faults net.new }) }
+    ensures exits { IsExitOf Serving result }
+    ensures ends { (faults : ℕ) → EndsSo result (record { output = stream_out K.Sink output.old; source_faults = faults; given = N.given net.old; net_faults = N.faults net.old }) (record { output = stream_out K.Sink output.new; source_faults = faults; given = N.given net.new; net_faults = N.faults net.new }) }
 {
     let alloc = rt.alloc();
     let room = match Room::new(alloc) {
         Ok(room) => room,
-        Err(_) => return Ended::NoMemory,
+        Err(_) => return Exit::NoMemory,
     };
     let stores = match Arc::new(alloc, stores) {
         Ok(stores) => stores,
-        Err(_) => return Ended::NoMemory,
+        Err(_) => return Exit::NoMemory,
     };
     let processors = match thread::available_parallelism(rt) {
         Ok(number) => number.get(),
@@ -124,15 +128,15 @@ where
     };
     let list = match Arc::new(alloc, JobList::new(alloc, processors)) {
         Ok(list) => list,
-        Err(_) => return Ended::NoMemory,
+        Err(_) => return Exit::NoMemory,
     };
     match bind(alloc, terms.run_dir, net) {
         Ok(()) => {}
-        Err(ended) => return ended,
+        Err(exit) => return exit,
     }
     match write_all(output, b"nscd: ready\n") {
         Ok(()) => {}
-        Err(_) => return Ended::WriteFault,
+        Err(_) => return Exit::WriteFault,
     }
     let ticked = clock.now();
     let mut desk = Desk {
@@ -146,18 +150,19 @@ where
 }
 
 // Binds the two sockets.
-fn bind<N: Listener>(alloc: Global, run_dir: &str, net: &mut N) -> Result<(), Ended>
+fn bind<N: Listener>(alloc: Global, run_dir: &str, net: &mut N) -> Result<(), Exit>
     ensures given { N.given net.new ≡ N.given net.old }
     ensures calm { OnOk result (N.faults net.new ≡ N.faults net.old) }
-    ensures fault { IfErr result (λ ended. NotBound ended (N.faults net.old) (N.faults net.new)) }
+    ensures exits { IfErr result (IsExitOf Serving) }
+    ensures fault { IfErr result (λ exit. NotBound exit (N.faults net.old) (N.faults net.new)) }
 {
     let plain = format!(in alloc; "{run_dir}/socket")?;
     let admin = format!(in alloc; "{run_dir}/admin")?;
     if net.bind(Role::Plain, plain.as_str()).is_err() {
-        return Err(Ended::NetFault);
+        return Err(Exit::NetFault);
     }
     if net.bind(Role::Admin, admin.as_str()).is_err() {
-        return Err(Ended::NetFault);
+        return Err(Exit::NetFault);
     }
     Ok(())
 }
@@ -175,12 +180,13 @@ fn run<
     list: &Waitings<N::In, N::Out>,
     clock: &mut C,
     net: &mut N,
-) -> Ended
+) -> Exit
 where
     S::Pass: Send + 'static,
     N::In: 'static,
     N::Out: 'static,
-    ensures { StopsSo result (N.given net.old) (N.given net.new) (N.faults net.old) (N.faults net.new) }
+    ensures exits { IsExitOf Serving result }
+    ensures stops { StopsSo result (N.given net.old) (N.given net.new) (N.faults net.old) (N.faults net.new) }
 {
     let threads = started(rt, workers, desk, list);
     if !threads.is_empty() {
@@ -188,12 +194,12 @@ where
             desk.waitings = Some(shared);
         }
     }
-    let ended = accept_all(rt, desk, clock, net);
+    let exit = accept_all(rt, desk, clock, net);
     list.close(rt);
     for thread in threads {
         thread.join(rt);
     }
-    ended
+    exit
 }
 
 // Starts as many workers as it can, up to this number.

@@ -1,18 +1,18 @@
 // What is done, form by form.
 ghost use Rattle.std.specs.Prelude.{◌≡◌, IfErr, IfOk, None, option_map};
-ghost use Rattle.nsc_replay.specs.Streams.{streams};
-ghost use Rattle.nsc_control.specs.Commands.{stream_out};
-ghost use Rattle.nsc_run.specs.Commands.{Counted, Course, IsSet, NotSet, config_told, worker_count};
-ghost use Rattle.nsc_run.specs.Runs.{Asks, Serves, daemon_at};
+ghost use Rattle.nsc_outside.specs.StreamAt.{stream_out};
+ghost use Rattle.nsc_replay.specs.Streams.{Counted, streams};
+ghost use Rattle.nsc_daemon.specs.Ends.{daemon_at};
+ghost use Rattle.nsc_run.specs.Commands.{Course, IsSet, NotSet, config_told, worker_count};
+ghost use Rattle.nsc_run.specs.Runs.{Asks, Serves};
 ghost use Rattle.nsc_run.specs.Shown.{conf_path_for};
 
 use crate::command::replay;
 use crate::config::{conf_at, conf_path};
-use crate::exit::Exit;
 use crate::form::Service;
 use nsc_control::{AdminAsk, command};
 use nsc_daemon::{Terms, daemon};
-use nsc_model::Conf;
+use nsc_model::{Conf, Exit};
 use nsc_outside::{FileSet, Sink, Source};
 use nsc_sockets::{Clock, Listener};
 use std::alloc::Global;
@@ -53,7 +53,7 @@ pub fn ask<K: Sink, N: Listener>(
     };
     match net.connect(path.as_str()) {
         Ok((mut input, mut to_daemon)) => {
-            Exit::from(command(alloc, asked, &mut input, &mut to_daemon, output))
+            command(alloc, asked, &mut input, &mut to_daemon, output)
         }
         Err(_) => Exit::NetFault,
     }
@@ -79,7 +79,7 @@ where
                 workers: worker_count(service.workers, &conf),
                 run_dir: service.run_dir,
             };
-            Exit::from(daemon(rt, &terms, output, files, clock, net))
+            daemon(rt, &terms, output, files, clock, net)
         }
         Err(exit) => exit,
     }

@@ -5,11 +5,11 @@ ghost use Rattle.nsc_run.specs.Forms.{command_app, errand_app, flag, form_of, is
 ghost use Rattle.nsc_run.specs.Shown.{CanRun, shown};
 ghost use Rattle.nsc_run.specs.Exits.{error_exit};
 
-use crate::exit::Exit;
 use crate::form::{Form, Options};
 use clap::builder::ValueParser;
 use clap::error::ErrorKind;
 use clap::{Arg, ArgAction, ArgMatches, Command, Error};
+use nsc_model::Exit;
 use std::alloc::{AllocError, Global};
 
 /// Reads the command words. Words that have no form are `Usage`.

@@ -1,6 +1,7 @@
 -- What came of one connection.
 use Rattle.std.specs.Prelude.{◌≡◌, ◌≢◌, ℕ, List, [], ◌∷◌, ◌⊎◌, Option, Some, None, IfSome}
 use Rattle.nsc_outside.specs.Stream.{Moves, IsDrained, Grows, GrowsByFront}
+use Rattle.nsc_outside.specs.StreamAt.{StreamAt, stream_out}
 use Rattle.nsc_model.specs.declared.kind.Db.{Db}
 use Rattle.nsc_model.specs.declared.conf.DbConf.{DbConf}
 use Rattle.nsc_model.specs.declared.answer.Request.{Request}
@@ -23,7 +24,6 @@ use Rattle.nsc_server.specs.declared.served.Served.{Served}
 use Rattle.nsc_server.specs.declared.served.Served.TheVariants as served
 use Rattle.nsc_server.specs.Requests.{IsNeeded, closing_of}
 use Rattle.nsc_server.specs.Passes.{PassAt, OthersThan, passes_at}
-use Rattle.nsc_outside.specs.declared.stream.Source as source
 use Rattle.nsc_outside.specs.declared.stream.Sink as sink
 use Rattle.nsc_model.specs.declared.store.Store as store
 use Rattle.nsc_server.specs.Stats.{stats_text}
@@ -121,21 +121,10 @@ OthersStay _ before after = after ≡ before
 
 -- ---- the whole
 
--- at one moment: what a stream has left or took, where it tells that, and the count of its faults
-pub record StreamAt : Type 0 where
-  pub bytes : Option (List ℕ)
-  pub faults : ℕ
-
 -- what an answer changes: the output, and the passes
 pub record Side : Type 0 where
   pub output : StreamAt
   pub passes : Databases PassAt
-
-abbrev pub stream_in : {R : Type 0} → source.Ghosts R → R → StreamAt
-stream_in g input = record { bytes = g.left input; faults = g.faults input }
-
-abbrev pub stream_out : {K : Type 0} → sink.Ghosts K → K → StreamAt
-stream_out g output = record { bytes = g.taken output; faults = g.faults output }
 
 abbrev pub side : {S P K : Type 0} → store.Ghosts S P → sink.Ghosts K → Databases P → K → Side
 side stores sinks passes output = record { output = stream_out sinks output; passes = passes_at stores passes }

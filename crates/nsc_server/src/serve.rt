@@ -1,4 +1,5 @@
 ghost use Rattle.std.specs.Prelude.{◌≡◌, ◌^◌, ◌<◌, ◌≤◌, length, IfErr, IfOk};
+ghost use Rattle.nsc_outside.specs.StreamAt.{stream_in, stream_out};
 ghost use Rattle.nsc_model.specs.Databases.{database_in};
 ghost use Rattle.nsc_model.specs.Entry.{key_limit};
 ghost use Rattle.nsc_model.specs.Kinds.{database_of, db_named};
@@ -6,7 +7,7 @@ ghost use Rattle.nsc_model.specs.Wire.{Invalidate};
 ghost use Rattle.nsc_wire.specs.Request.{KeyFits, KeyIsIn, asked_by};
 ghost use Rattle.nsc_server.specs.Admitted.{wire_of};
 ghost use Rattle.nsc_server.specs.Made.{bytes_of};
-ghost use Rattle.nsc_server.specs.Outcomes.{Answers, IsInvalidateRefusal, IsInvalidateReply, IsLookFault, IsLookReply, IsRefusal, IsReply, IsStatReply, OthersStay, Serves, WritesReply, side, stream_in, stream_out};
+ghost use Rattle.nsc_server.specs.Outcomes.{Answers, IsInvalidateRefusal, IsInvalidateReply, IsLookFault, IsLookReply, IsRefusal, IsReply, IsStatReply, OthersStay, Serves, WritesReply, side};
 ghost use Rattle.nsc_server.specs.Passes.{AreNamed, ArePasses, OthersThan, SawMore, passes_at, settings_of};
 ghost use Rattle.nsc_server.specs.Requests.{TakesRequests};
 

@@ -12,4 +12,4 @@ mod users;
 mod workers;
 
 pub use fixed_files::{FixedFiles, OfContent};
-pub use run::{Worked, workload};
+pub use run::workload;

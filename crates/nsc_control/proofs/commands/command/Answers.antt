@@ -1,11 +1,12 @@
 use Rattle.std.proofs.Common.{List, ℕ, ◌∙◌, subst}
 use Rattle.nsc_outside.specs.Stream.{Grows}
-use Rattle.nsc_control.specs.Commands.{Ends, stream_out, streams}
+use Rattle.nsc_outside.specs.StreamAt.{stream_out}
+use Rattle.nsc_control.specs.Commands.{Ends, streams}
 use Rattle.nsc_control.proofs.Finishing.{finished}
 use Rattle.nsc_control.proofs.commands.command.Goals as goal
 
-pub returns-in-Ok-read_reply : goal.returns-in-Ok-read_reply
-returns-in-Ok-read_reply g c =
+pub returns-in-Ok-read_reply-clause-commands : goal.returns-in-Ok-read_reply-clause-commands
+returns-in-Ok-read_reply-clause-commands g c =
     finished c.args.ask (streams g.R.Source g.K.Sink g.T.Sink c.args.conn_in.now c.args.conn_out.now c.args.output.now)
     (streams g.R.Source g.K.Sink g.T.Sink c.read_reply.new.conn_in c.write_all.new.output c.finish.new.output) c.finish.result c.in-Ok-read_reply.reply
     record {
@@ -14,4 +15,4 @@ returns-in-Ok-read_reply g c =
       all = c.in-Ok-read_reply.ensures.all;
       limit = c.in-Ok-read_reply.ensures.limit;
     }
-    (subst (λ (bytes : List ℕ). Ends c.args.ask bytes (stream_out g.T.Sink c.args.output.now) (stream_out g.T.Sink c.finish.new.output) c.finish.result) c.as_slice-in-Ok-read_reply.ensures c.finish.ensures)
+    (subst (λ (bytes : List ℕ). Ends c.args.ask bytes (stream_out g.T.Sink c.args.output.now) (stream_out g.T.Sink c.finish.new.output) c.finish.result) c.as_slice-in-Ok-read_reply.ensures c.finish.ensures.ends)

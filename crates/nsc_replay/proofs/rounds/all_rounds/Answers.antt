@@ -1,6 +1,6 @@
 use Rattle.std.proofs.Common.{◌∙◌, subst}
 use Rattle.nsc_model.specs.declared.conf.Conf.{Conf}
-use Rattle.nsc_replay.specs.declared.ended.Ended.TheVariants as ended
+use Rattle.nsc_model.specs.declared.exit.Exit.TheVariants as exits
 use Rattle.nsc_replay.specs.Streams.{streams_at}
 use Rattle.nsc_replay.specs.Runs.{Run}
 use Rattle.nsc_replay.proofs.OneRound.{late}
@@ -25,4 +25,4 @@ loop-place-preserved g c =
 pub returns-clause-run : goal.returns-clause-run
 returns-clause-run g c =
     let now = streams_at g.R.Source g.K.Sink c.loop-place.input c.loop-place.output in
-    c.loop-place.invariant.chain now (ended.BadFrame c.loop-place.place) (late c.loop-place.machine.settings c.loop-place.machine.state c.loop-place.place now c.loop-place-test.false)
+    c.loop-place.invariant.chain now (exits.BadFrame c.loop-place.place) (late c.loop-place.machine.settings c.loop-place.machine.state c.loop-place.place now c.loop-place-test.false)

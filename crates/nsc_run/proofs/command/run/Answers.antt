@@ -19,7 +19,7 @@ returns-in-Ok-Ask-clause-complete g c =
     let after = outside g.R.Source g.K.Sink g.F.FileSet g.N.Listener c.args.input.now c.ask.new.output c.args.files.now c.ask.new.net in
     run_tells g.N.In.Source g.N.Out.Sink before after c.ask.result (form_of (texts c.args.words.now))
     (subst (λ (form : Option Form). Runs g.N.In.Source g.N.Out.Sink form before after c.ask.result) (sym (c.in-Ok-Ask.ensures.ok ∙ ap (λ form. Some (shown form)) c.in-Ok-Ask.field-0-is))
-    (c.ask.ensures.asks, record { left_stays = refl; calm = refl }, record { held_stays = refl; conf_stays = refl; calm = refl }))
+    (c.ask.ensures.asks, refl, record { held_stays = refl; conf_stays = refl; calm = refl }))
 
 pub returns-in-Ok-Daemon-clause-complete : goal.returns-in-Ok-Daemon-clause-complete
 returns-in-Ok-Daemon-clause-complete g c =
@@ -27,7 +27,7 @@ returns-in-Ok-Daemon-clause-complete g c =
     let after = outside g.R.Source g.K.Sink g.F.FileSet g.N.Listener c.args.input.now c.serve.new.output c.serve.new.files c.serve.new.net in
     run_tells g.N.In.Source g.N.Out.Sink before after c.serve.result (form_of (texts c.args.words.now))
     (subst (λ (form : Option Form). Runs g.N.In.Source g.N.Out.Sink form before after c.serve.result) (sym (c.in-Ok-Daemon.ensures.ok ∙ ap (λ form. Some (shown form)) c.in-Ok-Daemon.field-0-is))
-    (c.serve.ensures, record { left_stays = refl; calm = refl }))
+    (c.serve.ensures, refl))
 
 pub returns-in-Err-clause-runs : goal.returns-in-Err-clause-runs
 returns-in-Err-clause-runs g c =

@@ -3,7 +3,7 @@ use Rattle.clap.specs.Faults.{fault_of, is_simple_and_free}
 use Rattle.clap.specs.Kinds.{HasKind}
 use Rattle.clap.specs.Simple.{App, HasMatchesOf}
 use Rattle.clap.specs.Values.{kind_of}
-use Rattle.nsc_run.specs.declared.exit.Exit.{Exit}
+use Rattle.nsc_model.specs.declared.exit.Exit.{Exit}
 use Rattle.nsc_run.specs.Commands.{IsRefusal}
 use Rattle.nsc_run.specs.Forms.{command_app, is_command, texts}
 use Rattle.nsc_run.proofs.Refusals.{refused_by, simple, simple_and_free}

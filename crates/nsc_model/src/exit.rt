@@ -1,14 +1,34 @@
 ghost use Rattle.std.specs.Prelude.{◌≡◌};
-ghost use Rattle.nsc_run.specs.declared.exit.Exit.TheVariants.{NoMemory as Memory};
+ghost use Rattle.nsc_model.specs.declared.exit.Exit.TheVariants.{BadConf, NoMemory as Memory};
 
+use crate::fault::CacheFault;
 use nsc_base::{Bytes, NoMemory};
-use nsc_control::Commanded;
-use nsc_daemonconf::ConfFault;
-use nsc_outside::ReadCause;
-use nsc_replay::Ended;
-use nsc_workload::Worked;
 use std::alloc::{AllocError, Global};
 use std::fmt;
+use thiserror::Error;
+
+/// Why a text is no nscd.conf(5). Each fault has the number of its line, from 1.
+#[derive(Clone, Copy, Debug, PartialEq, Eq, Error)]
+pub enum ConfFault {
+    /// The line has a number of words, or a service, that its attribute does not have.
+    #[error("configuration line {line}: bad line")]
+    BadLine {
+        /// The number of the line.
+        line: u64,
+    },
+    /// The value is none of the attribute's.
+    #[error("configuration line {line}: bad value")]
+    BadValue {
+        /// The number of the line.
+        line: u64,
+    },
+    /// The first word is no attribute.
+    #[error("configuration line {line}: unknown attribute")]
+    UnknownAttribute {
+        /// The number of the line.
+        line: u64,
+    },
+}
 
 /// How the program ends.
 #[derive(Clone, Copy, Debug, PartialEq, Eq)]
@@ -53,7 +73,7 @@ pub enum Exit {
 
 impl Exit {
     ghost use Rattle.std.specs.Prelude.{◌≡◌, IfOk};
-    ghost use Rattle.nsc_run.specs.Exits.{line_of, status_of};
+    ghost use Rattle.nsc_model.specs.Exits.{line_of, status_of};
 
     /// The status with which the program ends: 0 where the command was done.
     pub fn status(&self) -> u8
@@ -91,7 +111,7 @@ impl Exit {
 // What is told on standard error, without a newline: nothing where the command was done.
 impl fmt::Display for Exit {
     ghost use Rattle.std.specs.Prelude.{Some};
-    ghost use Rattle.nsc_run.specs.Exits.{text_of};
+    ghost use Rattle.nsc_model.specs.Exits.{text_of};
 
     ghost output = { λ exit. Some (text_of exit) };
 
@@ -137,23 +157,7 @@ impl From<NoMemory> for Exit {
     }
 }
 
-impl From<ReadCause> for Exit {
-    ghost use Rattle.nsc_run.specs.Exits.{cause_exit};
-
-    ghost from_gives = { λ cause exit. exit ≡ cause_exit cause };
-
-    fn from(cause: ReadCause) -> Exit {
-        match cause {
-            ReadCause::NoMemory => Exit::NoMemory,
-            ReadCause::Failed => Exit::SourceFault,
-            ReadCause::TooLong { length } => Exit::TooLong { length },
-        }
-    }
-}
-
 impl From<ConfFault> for Exit {
-    ghost use Rattle.nsc_run.specs.declared.exit.Exit.TheVariants.{BadConf};
-
     ghost from_gives = { λ fault exit. exit ≡ BadConf fault };
 
     fn from(fault: ConfFault) -> Exit {
@@ -161,67 +165,15 @@ impl From<ConfFault> for Exit {
     }
 }
 
-impl From<Ended> for Exit {
-    ghost use Rattle.nsc_run.specs.Exits.{exit_of};
+impl From<CacheFault> for Exit {
+    ghost use Rattle.nsc_model.specs.Exits.{exit_by};
 
-    ghost from_gives = { λ ended exit. exit ≡ exit_of ended };
+    ghost from_gives = { λ fault exit. exit ≡ exit_by fault };
 
-    fn from(ended: Ended) -> Exit {
-        match ended {
-            Ended::Done => Exit::Ok,
-            Ended::ReadFault => Exit::ReadFault,
-            Ended::WriteFault => Exit::WriteFault,
-            Ended::BadFrame { offset } => Exit::BadFrame { offset },
-            Ended::TooLong { length } => Exit::TooLong { length },
-            Ended::Spent { count } => Exit::Spent { count },
-            Ended::NoMemory => Exit::NoMemory,
-        }
-    }
-}
-
-impl From<Commanded> for Exit {
-    ghost use Rattle.nsc_run.specs.Exits.{command_exit};
-
-    ghost from_gives = { λ commanded exit. exit ≡ command_exit commanded };
-
-    fn from(commanded: Commanded) -> Exit {
-        match commanded {
-            Commanded::Done => Exit::Ok,
-            Commanded::WriteFault => Exit::WriteFault,
-            Commanded::NetFault => Exit::NetFault,
-            Commanded::BadReply => Exit::BadReply,
-            Commanded::NoMemory => Exit::NoMemory,
-        }
-    }
-}
-
-impl From<Worked> for Exit {
-    ghost use Rattle.nsc_run.specs.Exits.{workload_exit};
-
-    ghost from_gives = { λ worked exit. exit ≡ workload_exit worked };
-
-    fn from(worked: Worked) -> Exit {
-        match worked {
-            Worked::Done => Exit::Ok,
-            Worked::WriteFault => Exit::WriteFault,
-            Worked::NoMemory => Exit::NoMemory,
-        }
-    }
-}
-
-impl From<nsc_daemon::Ended> for Exit {
-    ghost use Rattle.nsc_run.specs.Exits.{daemon_exit};
-
-    ghost from_gives = { λ ended exit. exit ≡ daemon_exit ended };
-
-    fn from(ended: nsc_daemon::Ended) -> Exit {
-        match ended {
-            nsc_daemon::Ended::ShutDown => Exit::Ok,
-            nsc_daemon::Ended::WriteFault => Exit::WriteFault,
-            nsc_daemon::Ended::SourceFault => Exit::SourceFault,
-            nsc_daemon::Ended::TooLong { length } => Exit::TooLong { length },
-            nsc_daemon::Ended::NetFault => Exit::NetFault,
-            nsc_daemon::Ended::NoMemory => Exit::NoMemory,
+    fn from(fault: CacheFault) -> Exit {
+        match fault {
+            CacheFault::NoMemory => Exit::NoMemory,
+            CacheFault::Spent { count } => Exit::Spent { count },
         }
     }
 }
