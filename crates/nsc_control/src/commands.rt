@@ -1,6 +1,6 @@
 ghost use Rattle.nsc_outside.specs.StreamAt.{stream_out};
 ghost use Rattle.nsc_model.specs.Exits.{IsExitOf, Asking};
-ghost use Rattle.nsc_control.specs.Commands.{Commands, Ends, Says, streams};
+ghost use Rattle.nsc_control.specs.Commands.{Commands, Finishes, Judges, command_at};
 
 use crate::ask::AdminAsk;
 use crate::reading::read_reply;
@@ -27,7 +27,7 @@ pub fn command<R: Source, K: Sink, T: Sink>(
     output: &mut T,
 ) -> Exit
     ensures exits { IsExitOf Asking result }
-    ensures commands { Commands ask (streams R.Source K.Sink T.Sink conn_in.old conn_out.old output.old) (streams R.Source K.Sink T.Sink conn_in.new conn_out.new output.new) result }
+    ensures commands { Commands ask (command_at R.Source K.Sink T.Sink conn_in.old conn_out.old output.old) (command_at R.Source K.Sink T.Sink conn_in.new conn_out.new output.new) result }
 {
     let Ok(request) = ask.request(alloc) else {
         return Exit::NoMemory;
@@ -44,7 +44,7 @@ pub fn command<R: Source, K: Sink, T: Sink>(
 // Takes a whole reply.
 fn finish<T: Sink>(ask: AdminAsk, reply: &[u8], output: &mut T) -> Exit
     ensures exits { IsExitOf Asking result }
-    ensures ends { Ends ask reply.now (stream_out T.Sink output.old) (stream_out T.Sink output.new) result }
+    ensures ends { Finishes ask reply.now (stream_out T.Sink output.old) (stream_out T.Sink output.new) result }
 {
     match ask {
         AdminAsk::Stat => match write_all(output, reply) {
@@ -58,7 +58,7 @@ fn finish<T: Sink>(ask: AdminAsk, reply: &[u8], output: &mut T) -> Exit
 // What a reply says that tells nothing else.
 fn judged(reply: &[u8]) -> Exit
     ensures exits { IsExitOf Asking result }
-    ensures says { Says reply.now result }
+    ensures says { Judges reply.now result }
 {
     if equal(reply, &DONE) {
         Exit::Ok

@@ -10,7 +10,7 @@ use nsc_outside::{Source, fill};
 use std::alloc::Global;
 
 // The longest reply, in bytes.
-const REPLY_LIMIT: usize = 65_536;
+const ADMIN_REPLY_LIMIT: usize = 65_536;
 
 // Reads a connection to its end: all that it had. `BadReply` where more than 65,536 bytes came, which is one byte more.
 pub(crate) fn read_reply<R: Source>(alloc: Global, conn_in: &mut R) -> Result<Bytes, Exit>
@@ -26,7 +26,7 @@ pub(crate) fn read_reply<R: Source>(alloc: Global, conn_in: &mut R) -> Result<By
     let Ok(count) = fill(conn_in, bytes.as_mut_slice()) else {
         return Err(Exit::NetFault);
     };
-    if count > REPLY_LIMIT {
+    if count > ADMIN_REPLY_LIMIT {
         return Err(Exit::BadReply);
     }
     bytes.truncate(count);
@@ -37,7 +37,7 @@ pub(crate) fn read_reply<R: Source>(alloc: Global, conn_in: &mut R) -> Result<By
 fn room(alloc: Global) -> Result<Vec<u8>, NoMemory>
     ensures { IfOk result (λ bytes. length bytes.items ≡ 65537) }
 {
-    let mut bytes = Vec::with_capacity(alloc, REPLY_LIMIT + 1)?;
-    bytes.resize(REPLY_LIMIT + 1, 0)?;
+    let mut bytes = Vec::with_capacity(alloc, ADMIN_REPLY_LIMIT + 1)?;
+    bytes.resize(ADMIN_REPLY_LIMIT + 1, 0)?;
     Ok(bytes)
 }

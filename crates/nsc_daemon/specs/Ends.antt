@@ -47,9 +47,9 @@ IsToldEnd left (accepted.Conn on input output) = TellsEnd on (left input)
 IsToldEnd left accepted.Quiet = ⊥
 
 -- a listener gave connections after these, where it tells which
-abbrev pub GoesOn : Option (List Connection) → Option (List Connection) → Type 0
-GoesOn None after = after ≡ None
-GoesOn (Some given) after = (more : List Connection) × (after ≡ Some (more ++ given))
+abbrev pub GivesMore : Option (List Connection) → Option (List Connection) → Type 0
+GivesMore None after = after ≡ None
+GivesMore (Some given) after = (more : List Connection) × (after ≡ Some (more ++ given))
 
 -- the newest of them tells the daemon to end
 pub record IsLast (given : List Connection) (after : Option (List Connection)) : Type 0 where
@@ -59,12 +59,12 @@ pub record IsLast (given : List Connection) (after : Option (List Connection)) :
   pub admin : last.role ≡ role.Admin
   pub asked : AsksEnd last.bytes
 
-abbrev pub EndsBy : Option (List Connection) → Option (List Connection) → Type 0
-EndsBy before after = IfSome before (λ given. IsLast given after)
+abbrev pub LastTellsEnd : Option (List Connection) → Option (List Connection) → Type 0
+LastTellsEnd before after = IfSome before (λ given. IsLast given after)
 
 -- how the thread that accepts ends: it was told to, or the listener failed
 abbrev pub StopsSo : Exit → Option (List Connection) → Option (List Connection) → ℕ → ℕ → Type 0
-StopsSo exits.Ok given given' faults faults' = EndsBy given given' × (faults' ≡ faults)
+StopsSo exits.Ok given given' faults faults' = LastTellsEnd given given' × (faults' ≡ faults)
 StopsSo exits.NetFault given given' faults faults' = Rose faults faults'
 StopsSo _ given given' faults faults' = ⊥
 
@@ -92,7 +92,7 @@ pub record IsReady (before after : DaemonAt) : Type 0 where
 
 -- a daemon ends by this exit
 abbrev pub EndsSo : Exit → DaemonAt → DaemonAt → Type 0
-EndsSo exits.Ok before after = IsReady before after × EndsBy before.given after.given × (after.net_faults ≡ before.net_faults) × (after.source_faults ≡ before.source_faults)
+EndsSo exits.Ok before after = IsReady before after × LastTellsEnd before.given after.given × (after.net_faults ≡ before.net_faults) × (after.source_faults ≡ before.source_faults)
 EndsSo exits.WriteFault before after = Rose before.output.faults after.output.faults × GrowsByFront before.output.bytes after.output.bytes ready_line
 EndsSo exits.SourceFault before after = Rose before.source_faults after.source_faults × IsSilent before after
 EndsSo (exits.TooLong size) before after = Rose before.source_faults after.source_faults × IsSilent before after × (file_limit < size)
@@ -101,19 +101,12 @@ EndsSo exits.NoMemory before after = IsSilent before after
 EndsSo _ before after = ⊥
 
 -- where a file was too long, the length is that of one of these files, where they are told, and past the limit
-abbrev pub TellsLength : Exit → Option Content → Type 0
-TellsLength (exits.TooLong size) held = (file : FileId) × IsPastLimit (told_of held file) size
-TellsLength _ held = Unit {0}
+abbrev pub TellsHeldLength : Exit → Option Content → Type 0
+TellsHeldLength (exits.TooLong size) held = (file : FileId) × IsPastLimit (told_of held file) size
+TellsHeldLength _ held = Unit {0}
 
 -- why the databases were not opened: memory was wanting, or a file failed or was too long, as its set counts it
-abbrev pub IsOpeningFault : Exit → ℕ → ℕ → Type 0
-IsOpeningFault exits.NoMemory faults faults' = Unit {0}
-IsOpeningFault exits.SourceFault faults faults' = Rose faults faults'
-IsOpeningFault (exits.TooLong size) faults faults' = Rose faults faults'
-IsOpeningFault _ faults faults' = ⊥
-
--- the sockets were not bound
-abbrev pub NotBound : Exit → ℕ → ℕ → Type 0
-NotBound exits.NoMemory faults faults' = Unit {0}
-NotBound exits.NetFault faults faults' = Rose faults faults'
-NotBound _ faults faults' = ⊥
+abbrev pub IsOpeningFault : PollFault → ℕ → ℕ → Type 0
+IsOpeningFault poll.NoMemory faults faults' = Unit {0}
+IsOpeningFault (poll.SourceFault file) faults faults' = Rose faults faults'
+IsOpeningFault (poll.TooLong file size) faults faults' = Rose faults faults'

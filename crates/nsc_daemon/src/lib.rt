@@ -1,9 +1,9 @@
 //! The daemon: its databases, its sockets, the thread that accepts and its workers.
 #![tactic(auto)]
 
-mod desk;
+mod acceptor;
+mod intake;
 mod opening;
-mod queue;
 mod service;
 mod terms;
 mod worker;

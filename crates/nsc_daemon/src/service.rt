@@ -1,4 +1,4 @@
-ghost use Rattle.std.specs.Prelude.{◌≡◌, ℕ, IfErr, OnOk};
+ghost use Rattle.std.specs.Prelude.{◌≡◌, ℕ, OnErr, OnOk};
 ghost use Rattle.std.specs.Arc.{arc_value};
 ghost use Rattle.nsc_outside.specs.StreamAt.{stream_out};
 ghost use Rattle.nsc_model.specs.Exits.{IsExitOf, Serving};
@@ -7,18 +7,19 @@ ghost use Rattle.nsc_model.specs.Settings.{settings_of};
 ghost use Rattle.nsc_model.specs.Sizes.{SizesFit};
 ghost use Rattle.nsc_model.specs.declared.kind.Db.TheVariants as db_is;
 ghost use Rattle.nsc_server.specs.Passes.{AreNamed, ArePasses};
-ghost use Rattle.nsc_daemon.specs.Ends.{EndsSo, NotBound, StopsSo, TellsLength, daemon_at};
+ghost use Rattle.nsc_daemon.specs.Ends.{EndsSo, StopsSo, TellsHeldLength, daemon_at};
 
-use crate::desk::{Desk, accept_all};
-use crate::opening::Openings;
-use crate::queue::Waitings;
+use crate::acceptor::{Acceptor, accept_all};
+use crate::intake::Waitings;
+use crate::opening::{Openings, opening_exit};
 use crate::terms::Terms;
 use crate::worker::Worker;
-use nsc_database::Room as InRoom;
+use nsc_base::NoMemory;
+use nsc_database::Room;
 use nsc_jobs::JobList;
 use nsc_model::{Databases, Exit, Store};
-use nsc_outside::{FileSet, Sink, Source, write_all};
-use nsc_server::Room;
+use nsc_outside::{Failed, FileSet, Sink, Source, write_all};
+use nsc_server::RequestBuffer;
 use nsc_sockets::{Clock, Listener, Role};
 use std::alloc::Global;
 use std::marker::Brand;
@@ -46,17 +47,17 @@ where
     requires { SizesFit terms.now.conf.now }
     ensures exits { IsExitOf Serving result }
     ensures ends { EndsSo result (daemon_at K.Sink F.FileSet N.Listener output.old files.old net.old) (daemon_at K.Sink F.FileSet N.Listener output.new files.new net.new) }
-    ensures length { TellsLength result (F.held files.old) }
+    ensures length { TellsHeldLength result (F.held files.old) }
 {
     match Openings::open(rt.alloc(), files, terms.conf) {
         Ok(openings) => in_room::<Brand, RT, K, F, C, N>(rt, terms, openings, output, clock, net),
-        Err(exit) => exit,
+        Err(fault) => opening_exit(fault),
     }
 }
 
 // Runs the daemon over its opened databases in a room.
 fn in_room<
-    B: InRoom + Send + Sync + 'static,
+    B: Room + Send + Sync + 'static,
     RT: AllocGlobal + Threads + Wait + time::Clock + Clone + Drop + Send + Sync + 'static,
     K: Sink,
     F: FileSet + Send + Drop + 'static,
@@ -114,8 +115,8 @@ where
     ensures ends { (faults : ℕ) → EndsSo result (record { output = stream_out K.Sink output.old; source_faults = faults; given = N.given net.old; net_faults = N.faults net.old }) (record { output = stream_out K.Sink output.new; source_faults = faults; given = N.given net.new; net_faults = N.faults net.new }) }
 {
     let alloc = rt.alloc();
-    let room = match Room::new(alloc) {
-        Ok(room) => room,
+    let buffer = match RequestBuffer::new(alloc) {
+        Ok(buffer) => buffer,
         Err(_) => return Exit::NoMemory,
     };
     let stores = match Arc::new(alloc, stores) {
@@ -130,41 +131,44 @@ where
         Ok(list) => list,
         Err(_) => return Exit::NoMemory,
     };
-    match bind(alloc, terms.run_dir, net) {
+    let (plain, admin) = match socket_paths(alloc, terms.run_dir) {
+        Ok(paths) => paths,
+        Err(_) => return Exit::NoMemory,
+    };
+    match bind(net, plain.as_str(), admin.as_str()) {
         Ok(()) => {}
-        Err(exit) => return exit,
+        Err(_) => return Exit::NetFault,
     }
     match write_all(output, b"nscd: ready\n") {
         Ok(()) => {}
         Err(_) => return Exit::WriteFault,
     }
     let ticked = clock.now();
-    let mut desk = Desk {
+    let mut acceptor = Acceptor {
         stores,
         passes,
-        room,
+        buffer,
         ticked,
         waitings: None,
     };
-    run(rt, terms.workers, &mut desk, &list, clock, net)
+    run(rt, terms.workers, &mut acceptor, &list, clock, net)
+}
+
+// The paths of the two sockets: that of every user, and that of the administrator.
+fn socket_paths(alloc: Global, run_dir: &str) -> Result<(String, String), NoMemory> {
+    let plain = format!(in alloc; "{run_dir}/socket")?;
+    let admin = format!(in alloc; "{run_dir}/admin")?;
+    Ok((plain, admin))
 }
 
 // Binds the two sockets.
-fn bind<N: Listener>(alloc: Global, run_dir: &str, net: &mut N) -> Result<(), Exit>
+fn bind<N: Listener>(net: &mut N, plain: &str, admin: &str) -> Result<(), Failed>
     ensures given { N.given net.new ≡ N.given net.old }
     ensures calm { OnOk result (N.faults net.new ≡ N.faults net.old) }
-    ensures exits { IfErr result (IsExitOf Serving) }
-    ensures fault { IfErr result (λ exit. NotBound exit (N.faults net.old) (N.faults net.new)) }
+    ensures failed { OnErr result (Rose (N.faults net.old) (N.faults net.new)) }
 {
-    let plain = format!(in alloc; "{run_dir}/socket")?;
-    let admin = format!(in alloc; "{run_dir}/admin")?;
-    if net.bind(Role::Plain, plain.as_str()).is_err() {
-        return Err(Exit::NetFault);
-    }
-    if net.bind(Role::Admin, admin.as_str()).is_err() {
-        return Err(Exit::NetFault);
-    }
-    Ok(())
+    net.bind(Role::Plain, plain)?;
+    net.bind(Role::Admin, admin)
 }
 
 // Starts the workers, accepts, and joins them.
@@ -176,7 +180,7 @@ fn run<
 >(
     rt: &RT,
     workers: u32,
-    desk: &mut Desk<S, N::In, N::Out>,
+    acceptor: &mut Acceptor<S, N::In, N::Out>,
     list: &Waitings<N::In, N::Out>,
     clock: &mut C,
     net: &mut N,
@@ -188,13 +192,13 @@ where
     ensures exits { IsExitOf Serving result }
     ensures stops { StopsSo result (N.given net.old) (N.given net.new) (N.faults net.old) (N.faults net.new) }
 {
-    let threads = started(rt, workers, desk, list);
+    let threads = started(rt, workers, acceptor, list);
     if !threads.is_empty() {
         if let Ok(shared) = Arc::try_clone(list) {
-            desk.waitings = Some(shared);
+            acceptor.waitings = Some(shared);
         }
     }
-    let exit = accept_all(rt, desk, clock, net);
+    let exit = accept_all(rt, acceptor, clock, net);
     list.close(rt);
     for thread in threads {
         thread.join(rt);
@@ -208,7 +212,12 @@ fn started<
     S: Store + Drop + Send + Sync + 'static,
     R: Source + Send + Drop + 'static,
     K: Sink + Send + Drop + 'static,
->(rt: &RT, workers: u32, desk: &Desk<S, R, K>, list: &Waitings<R, K>) -> Vec<JoinHandle<u64>>
+>(
+    rt: &RT,
+    workers: u32,
+    acceptor: &Acceptor<S, R, K>,
+    list: &Waitings<R, K>,
+) -> Vec<JoinHandle<u64>>
 where
     S::Pass: Send + 'static,
 {
@@ -217,7 +226,7 @@ where
         return threads;
     }
     for _ in 0..workers {
-        let Ok(worker) = Worker::new(rt, &desk.stores, list) else {
+        let Ok(worker) = Worker::new(rt, &acceptor.stores, list) else {
             continue;
         };
         let Ok(theirs) = rt.clone() else {

@@ -9,9 +9,9 @@ use Rattle.nsc_model.specs.Replay.{State, Replayed, after_output, replay_from}
 use Rattle.nsc_model.specs.declared.exit.Exit.{Exit}
 use Rattle.nsc_model.specs.declared.exit.Exit.TheVariants as exits
 use Rattle.nsc_replay.specs.Streams.{StreamsAt}
-use Rattle.nsc_replay.specs.Runs.{FinishesBy, EndsBy, Run, GoesOn}
+use Rattle.nsc_replay.specs.Runs.{EndsBy, FinishesBy, ReplayRun, RoundGoesOn}
 
-module _ (settings : Conf) (s next : State) (place next_place : ℕ) (before mid after : StreamsAt) (a : GoesOn settings s place next next_place (record { before = before; after = mid })) where
+module _ (settings : Conf) (s next : State) (place next_place : ℕ) (before mid after : StreamsAt) (a : RoundGoesOn settings s place next next_place (record { before = before; after = mid })) where
   -- what the replay of two parts is, by the replay of the second
   joined : (xs : List ℕ) (r : Replayed) → replay_from settings next next_place xs ≡ r → replay_from settings s place (a.front ++ xs) ≡ after_output a.out r
   joined xs r e = a.goes xs ∙ ap (after_output a.out) e
@@ -52,7 +52,7 @@ module _ (settings : Conf) (s next : State) (place next_place : ℕ) (before mid
   ends_later _ front out f = absurd f
 
   -- a round that goes on, and a run from there, are a run
-  pub chained : (by : Exit) → Run settings next next_place (record { before = mid; after = after }) by → Run settings s place (record { before = before; after = after }) by
+  pub chained : (by : Exit) → ReplayRun settings next next_place (record { before = mid; after = after }) by → ReplayRun settings s place (record { before = before; after = after }) by
   chained by b = record {
     front = a.front ++ b.front;
     out = a.out ++ b.out;

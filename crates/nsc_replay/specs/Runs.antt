@@ -38,14 +38,14 @@ EndsBy exits.NoMemory settings s place left front out = (out ≡ (replay_from se
 EndsBy _ settings s place left front out = ⊥
 
 -- the run: what was read, what was written, and how that ended
-pub record Run (settings : Conf) (s : State) (place : ℕ) (streams : Streams) (exit : Exit) : Type 0 where
+pub record ReplayRun (settings : Conf) (s : State) (place : ℕ) (streams : Streams) (exit : Exit) : Type 0 where
   pub front : List ℕ
   pub out : List ℕ
   pub transfers : Transfers streams front out
   pub ends : EndsBy exit settings s place streams.after.input.bytes front out
 
 -- one round: the frame at the front is done, and the replay goes on in this state at this place
-pub record GoesOn (settings : Conf) (s : State) (place : ℕ) (next : State) (next_place : ℕ) (streams : Streams) : Type 0 where
+pub record RoundGoesOn (settings : Conf) (s : State) (place : ℕ) (next : State) (next_place : ℕ) (streams : Streams) : Type 0 where
   pub front : List ℕ
   pub out : List ℕ
   pub transfers : Transfers streams front out

@@ -6,7 +6,7 @@ use Rattle.nsc_model.specs.Reads.{Rose}
 use Rattle.nsc_outside.specs.declared.stream.Source as source
 use Rattle.nsc_outside.specs.declared.stream.Sink as sink
 use Rattle.nsc_model.specs.declared.exit.Exit.{Exit}
-use Rattle.nsc_replay.specs.declared.ended.Ended.TheVariants.{ReadFault, WriteFault}
+use Rattle.nsc_model.specs.declared.exit.Exit.TheVariants.{ReadFault, WriteFault}
 
 pub record StreamsAt : Type 0 where
   pub input : StreamAt

@@ -4,9 +4,9 @@ ghost use Rattle.nsc_model.specs.Frames.{place_limit};
 ghost use Rattle.nsc_model.specs.Replay.{first_state, turn_of};
 ghost use Rattle.nsc_model.specs.Sizes.{SizesFit};
 ghost use Rattle.nsc_replay.specs.Frame.{FrameFits, said};
-ghost use Rattle.nsc_replay.specs.Turns.{CountsOutput, DoesNot, IsDone};
+ghost use Rattle.nsc_replay.specs.Turns.{CountsOutput, DoesNot, FrameIsDone};
 ghost use Rattle.nsc_replay.specs.Streams.{Calm, Counted, streams};
-ghost use Rattle.nsc_replay.specs.Runs.{GoesOn, Run};
+ghost use Rattle.nsc_replay.specs.Runs.{ReplayRun, RoundGoesOn};
 
 use crate::frame::{Frame, INPUT_LIMIT};
 use crate::machine::Machine;
@@ -32,7 +32,7 @@ pub fn replay<A: Answerer, R: Source, K: Sink>(
     ensures exits { IsExitOf Replaying result }
 
     // What was read and written, by the exit.
-    ensures run { Run conf.now first_state 0 (streams R.Source K.Sink input.old input.new output.old output.new) result }
+    ensures run { ReplayRun conf.now first_state 0 (streams R.Source K.Sink input.old input.new output.old output.new) result }
 
     // A fault of a stream is told only where one came.
     ensures counts { Counted result (streams R.Source K.Sink input.old input.new output.old output.new) }
@@ -52,7 +52,7 @@ fn all_rounds<A: Answerer, R: Source, K: Sink>(
     output: &mut K,
     machine: &mut Machine<A>,
 ) -> Exit
-    ensures run { Run machine.old.settings machine.old.state 0 (streams R.Source K.Sink input.old input.new output.old output.new) result }
+    ensures run { ReplayRun machine.old.settings machine.old.state 0 (streams R.Source K.Sink input.old input.new output.old output.new) result }
     ensures counts { Counted result (streams R.Source K.Sink input.old input.new output.old output.new) }
 {
     let mut room = [0; INPUT_LIMIT];
@@ -78,10 +78,10 @@ fn round<A: Answerer, R: Source, K: Sink>(
 ) -> Result<u64, Exit>
     requires { place < place_limit }
     ensures settings { machine.new.settings ≡ machine.old.settings }
-    ensures goes { IfOk result (λ next. GoesOn machine.old.settings machine.old.state place machine.new.state next (streams R.Source K.Sink input.old input.new output.old output.new)) }
+    ensures goes { IfOk result (λ next. RoundGoesOn machine.old.settings machine.old.state place machine.new.state next (streams R.Source K.Sink input.old input.new output.old output.new)) }
     ensures onward { IfOk result (λ next. place < next) }
     ensures calm { OnOk result (Calm (streams R.Source K.Sink input.old input.new output.old output.new)) }
-    ensures ends { IfErr result (Run machine.old.settings machine.old.state place (streams R.Source K.Sink input.old input.new output.old output.new)) }
+    ensures ends { IfErr result (ReplayRun machine.old.settings machine.old.state place (streams R.Source K.Sink input.old input.new output.old output.new)) }
     ensures counts { IfErr result (λ exit. Counted exit (streams R.Source K.Sink input.old input.new output.old output.new)) }
 {
     let frame = match read_frame(alloc, input, room) {
@@ -106,7 +106,7 @@ fn serve<A: Answerer, K: Sink>(
 ) -> Result<(), Exit>
     requires { FrameFits frame }
     ensures settings { machine.new.settings ≡ machine.old.settings }
-    ensures done { OnOk result (IsDone (turn_of machine.old.settings machine.old.state (said frame.entry)) machine.new.state (K.taken output.old) (K.taken output.new)) }
+    ensures done { OnOk result (FrameIsDone (turn_of machine.old.settings machine.old.state (said frame.entry)) machine.new.state (K.taken output.old) (K.taken output.new)) }
     ensures calm { OnOk result (K.faults output.new ≡ K.faults output.old) }
     ensures ends { IfErr result (DoesNot (turn_of machine.old.settings machine.old.state (said frame.entry)) (K.taken output.old) (K.taken output.new)) }
     ensures counts { IfErr result (λ exit. CountsOutput exit (K.faults output.old) (K.faults output.new)) }

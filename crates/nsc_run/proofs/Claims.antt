@@ -11,16 +11,16 @@ use Rattle.nsc_model.specs.Content.{Content}
 use Rattle.nsc_model.specs.declared.exit.ConfFault.{ConfFault}
 use Rattle.nsc_model.specs.declared.exit.Exit.{Exit}
 use Rattle.nsc_model.specs.declared.exit.Exit.TheVariants as exits
-use Rattle.nsc_replay.specs.Runs.{Run}
+use Rattle.nsc_replay.specs.Runs.{ReplayRun}
 use Rattle.nsc_replay.specs.Streams.{Counted, Streams}
 use Rattle.nsc_control.specs.declared.ask.AdminAsk.{AdminAsk}
 use Rattle.nsc_control.specs.Commands.{Commands}
-use Rattle.nsc_daemon.specs.Ends.{DaemonAt, EndsBy, EndsSo, IsReady}
+use Rattle.nsc_daemon.specs.Ends.{DaemonAt, EndsSo, IsReady, LastTellsEnd}
 use Rattle.nsc_workload.specs.Runs.{PutsText}
 use Rattle.nsc_workload.specs.Workload.{workload_of}
-use Rattle.nsc_run.specs.Commands.{ConfGives, Course, IsRefused, NoFault, NotSet, TellsAll, settings_by}
+use Rattle.nsc_run.specs.Commands.{ConfGives, Course, NotSet, RefusesForm, StreamsCalm, TellsAll, settings_by}
 use Rattle.nsc_run.specs.Forms.{Form, Replay, Ask, Workload, Daemon}
-use Rattle.nsc_run.specs.Runs.{Asks, IsAnswered, IsAsked, IsDone, IsWorked, NeverFail, Outside, Runs, Serves, Tells, TellsServed}
+use Rattle.nsc_run.specs.Runs.{Asks, DaemonCourse, IsAsked, IsDone, NeverFail, Outside, RunsByForm, TellsAnswered, TellsByForm, TellsServed, TellsWorked}
 use Rattle.nsc_run.proofs.Courses.{done_by}
 use Rattle.nsc_run.proofs.Ends.{tells}
 
@@ -50,7 +50,7 @@ unset_tells told a b P bad memory (exits.TooLong size) n calm = absurd (calm n.1
 unset_tells told a b P bad memory exits.NoMemory n calm = always_told told (λ r. P r exits.NoMemory) memory
 unset_tells told a b P bad memory _ n calm = absurd n
 
-replay_tells : (told : Option (Option (List ℕ))) (a b : ℕ) (s : Streams) (exit : Exit) → Course told a b s exit → Counted exit s → (Rose a b → ⊥) → NoFault s → IfSome told (λ text. TellsAll s.before.input.bytes (settings_by text) exit)
+replay_tells : (told : Option (Option (List ℕ))) (a b : ℕ) (s : Streams) (exit : Exit) → Course told a b s exit → Counted exit s → (Rose a b → ⊥) → StreamsCalm s → IfSome told (λ text. TellsAll s.before.input.bytes (settings_by text) exit)
 replay_tells told a b s exit (inl ran) counts calm still =
     gives_told told (Ok ran.settings) (λ r. TellsAll s.before.input.bytes r exit) ran.is_set.of_config (tells ran.settings s exit ran.run counts still)
 replay_tells told a b s exit (inr stopped) counts calm still =
@@ -68,7 +68,7 @@ module _ {I O : Type 0} (i : source.Ghosts I) (o : sink.Ghosts O) where
   ask_done asked peer a b n m exit (inr (inl h)) e = absurd (let x : exits.NoMemory ≡ exits.Ok = sym h.0 ∙ e in cc)
   ask_done asked peer a b n m exit (inr (inr h)) e = absurd (let x : exits.NetFault ≡ exits.Ok = sym h.0 ∙ e in cc)
 
-  asked_tells : (asked : AdminAsk) (peer : Option (List ℕ)) (a b : StreamAt) (exit : Exit) → IsAsked i o asked peer a b exit → NeverFail i o → (Rose a.faults b.faults → ⊥) → IsAnswered exit
+  asked_tells : (asked : AdminAsk) (peer : Option (List ℕ)) (a b : StreamAt) (exit : Exit) → IsAsked i o asked peer a b exit → NeverFail i o → (Rose a.faults b.faults → ⊥) → TellsAnswered exit
   asked_tells asked peer a b exits.Ok h never calm = inl refl
   asked_tells asked peer a b exits.WriteFault h never calm = absurd (calm h.commands.failed)
   asked_tells asked peer a b exits.NetFault h never calm = absurd (elim h.commands.1 [
@@ -79,7 +79,7 @@ module _ {I O : Type 0} (i : source.Ghosts I) (o : sink.Ghosts O) where
   asked_tells asked peer a b exits.NoMemory h never calm = inr (inl refl)
   asked_tells asked peer a b _ h never calm = absurd h.commands
 
-  ask_tells : (asked : AdminAsk) (peer : Option (List ℕ)) (a b : StreamAt) (n m : ℕ) (exit : Exit) → Asks i o asked peer a b n m exit → NeverFail i o → (Rose n m → ⊥) → (Rose a.faults b.faults → ⊥) → IsAnswered exit
+  ask_tells : (asked : AdminAsk) (peer : Option (List ℕ)) (a b : StreamAt) (n m : ℕ) (exit : Exit) → Asks i o asked peer a b n m exit → NeverFail i o → (Rose n m → ⊥) → (Rose a.faults b.faults → ⊥) → TellsAnswered exit
   ask_tells asked peer a b n m exit (inl h) never net calm = asked_tells asked peer a b exit h.0 never calm
   ask_tells asked peer a b n m exit (inr (inl h)) never net calm = inr (inl h.0)
   ask_tells asked peer a b n m exit (inr (inr h)) never net calm = absurd (net h.2)
@@ -89,7 +89,7 @@ module _ {I O : Type 0} (i : source.Ghosts I) (o : sink.Ghosts O) where
 work_done : (text : List ℕ) (a b : StreamAt) (exit : Exit) → PutsText exit text a b → exit ≡ exits.Ok → Grows a.bytes b.bytes text
 work_done text a b exit h e = (subst (λ (x : Exit). PutsText x text a b) e h).0
 
-work_tells : (text : List ℕ) (a b : StreamAt) (exit : Exit) → PutsText exit text a b → (Rose a.faults b.faults → ⊥) → IsWorked exit
+work_tells : (text : List ℕ) (a b : StreamAt) (exit : Exit) → PutsText exit text a b → (Rose a.faults b.faults → ⊥) → TellsWorked exit
 work_tells text a b exits.Ok h calm = inl refl
 work_tells text a b exits.WriteFault h calm = absurd (calm h.1)
 work_tells text a b exits.NoMemory h calm = inr refl
@@ -97,7 +97,7 @@ work_tells text a b _ h calm = absurd h
 
 -- ---- the daemon
 
-served_done : (told : Option (Option (List ℕ))) (etc : Option (List ℕ)) (held : Option Content) (a b : DaemonAt) (exit : Exit) → Serves told etc held a b exit → exit ≡ exits.Ok → IsReady a b × EndsBy a.given b.given
+served_done : (told : Option (Option (List ℕ))) (etc : Option (List ℕ)) (held : Option Content) (a b : DaemonAt) (exit : Exit) → DaemonCourse told etc held a b exit → exit ≡ exits.Ok → IsReady a b × LastTellsEnd a.given b.given
 served_done told etc held a b exit (inl h) e =
     let ends = subst (λ (by : Exit). EndsSo by a b) e h.ends in
     (ends.0, ends.1)
@@ -117,7 +117,7 @@ no_memory_serves : (r : Result Conf ConfFault) → TellsServed r exits.NoMemory
 no_memory_serves (Ok settings) = inr refl
 no_memory_serves (Err fault) = inr refl
 
-served_tells : (told : Option (Option (List ℕ))) (etc : Option (List ℕ)) (held : Option Content) (a b : DaemonAt) (exit : Exit) → Serves told etc held a b exit
+served_tells : (told : Option (Option (List ℕ))) (etc : Option (List ℕ)) (held : Option Content) (a b : DaemonAt) (exit : Exit) → DaemonCourse told etc held a b exit
     → (Rose a.source_faults b.source_faults → ⊥) → (Rose a.net_faults b.net_faults → ⊥) → (Rose a.output.faults b.output.faults → ⊥) → IfSome told (λ text. TellsServed (settings_by text) exit)
 served_tells told etc held a b exit (inl h) sources net output =
     gives_told told (Ok h.settings) (λ r. TellsServed r exit) h.of_config (end_tells h.settings exit a b h.ends sources net output)
@@ -127,7 +127,7 @@ served_tells told etc held a b exit (inr h) sources net output =
 -- ---- a run
 
 module _ {I O : Type 0} (i : source.Ghosts I) (o : sink.Ghosts O) (a b : Outside) (exit : Exit) where
-  pub run_done : (form : Option Form) → Runs i o form a b exit → exit ≡ exits.Ok → IsDone i o form a b
+  pub run_done : (form : Option Form) → RunsByForm i o form a b exit → exit ≡ exits.Ok → IsDone i o form a b
   run_done None h e = absurd (elim h.0 [
     | inl x ↦ let never : exits.Usage ≡ exits.Ok = sym x ∙ e in cc
     | inr x ↦ let never : exits.NoMemory ≡ exits.Ok = sym x ∙ e in cc
@@ -137,7 +137,7 @@ module _ {I O : Type 0} (i : source.Ghosts I) (o : sink.Ghosts O) (a b : Outside
   run_done (Some (Workload number workers)) h e = work_done (workload_of number) _ _ exit h.0 e
   run_done (Some (Daemon service)) h e = served_done _ _ _ _ _ exit h.0 e
 
-  pub run_tells : (form : Option Form) → Runs i o form a b exit → Tells i o form a b exit
+  pub run_tells : (form : Option Form) → RunsByForm i o form a b exit → TellsByForm i o form a b exit
   run_tells None h = h.0
   run_tells (Some (Replay config)) h = replay_tells _ _ _ _ exit h.0 h.1
   run_tells (Some (Ask asked folder)) h = ask_tells i o asked a.peer _ _ _ _ exit h.0
@@ -145,9 +145,9 @@ module _ {I O : Type 0} (i : source.Ghosts I) (o : sink.Ghosts O) (a b : Outside
   run_tells (Some (Daemon service)) h = served_tells _ _ _ _ _ exit h.0
 
   -- Usage comes of no form
-  unused : (form : Form) → Runs i o (Some form) a b exit → exit ≡ exits.Usage → ⊥
+  unused : (form : Form) → RunsByForm i o (Some form) a b exit → exit ≡ exits.Usage → ⊥
   unused (Replay config) h e = elim h.0 [
-    | inl ran ↦ (subst (Run _ _ _ _) e ran.run).ends
+    | inl ran ↦ (subst (ReplayRun _ _ _ _) e ran.run).ends
     | inr stopped ↦ subst (NotSet _ _ _) e stopped.0
   ]
   unused (Ask asked folder) h e = elim h.0 [
@@ -163,13 +163,13 @@ module _ {I O : Type 0} (i : source.Ghosts I) (o : sink.Ghosts O) (a b : Outside
     | inr x ↦ subst (NotSet _ _ _) e x.0
   ]
 
-  pub run_usage : (form : Option Form) → Runs i o form a b exit → exit ≡ exits.Usage → form ≡ None
+  pub run_usage : (form : Option Form) → RunsByForm i o form a b exit → exit ≡ exits.Usage → form ≡ None
   run_usage None h e = refl
   run_usage (Some form) h e = absurd (unused form h e)
 
 module _ {I O : Type 0} (i : source.Ghosts I) (o : sink.Ghosts O) (a : Outside) where
   -- memory was wanting for the words
-  unread : (form : Option Form) → Runs i o form a a exits.NoMemory
+  unread : (form : Option Form) → RunsByForm i o form a a exits.NoMemory
   unread None = (inr refl, refl)
   unread (Some (Replay config)) = (inr (refl, refl), record { input_stays = refl; output_stays = refl }, record { given_stays = refl; peer_stays = refl; calm = refl })
   unread (Some (Ask asked folder)) = (inr (inl (refl, refl, refl)), refl, record { held_stays = refl; conf_stays = refl; calm = refl })
@@ -177,6 +177,6 @@ module _ {I O : Type 0} (i : source.Ghosts I) (o : sink.Ghosts O) (a : Outside) 
   unread (Some (Daemon service)) = (inr (refl, refl), refl)
 
   -- the words were refused
-  pub refused : (form : Option Form) (exit : Exit) → IsRefused form exit → Runs i o form a a exit
-  refused form exit (inl memory) = subst (λ (e : Exit). Runs i o form a a e) (sym memory) (unread form)
-  refused form exit (inr usage) = subst (λ (f : Option Form). Runs i o f a a exit) (sym usage.1) (inl usage.0, refl)
+  pub refused : (form : Option Form) (exit : Exit) → RefusesForm form exit → RunsByForm i o form a a exit
+  refused form exit (inl memory) = subst (λ (e : Exit). RunsByForm i o form a a e) (sym memory) (unread form)
+  refused form exit (inr usage) = subst (λ (f : Option Form). RunsByForm i o f a a exit) (sym usage.1) (inl usage.0, refl)

@@ -9,15 +9,15 @@ use Rattle.nsc_model.specs.Replay.{Replayed, first_state, replay}
 use Rattle.nsc_model.specs.declared.exit.Exit.{Exit}
 use Rattle.nsc_model.specs.declared.exit.Exit.TheVariants as exits
 use Rattle.nsc_replay.specs.Streams.{Counted, Streams}
-use Rattle.nsc_replay.specs.Runs.{FinishesBy, Run}
-use Rattle.nsc_run.specs.Commands.{IsReplayed, NoFault, exit_at, TellsEnd}
+use Rattle.nsc_replay.specs.Runs.{FinishesBy, ReplayRun}
+use Rattle.nsc_run.specs.Commands.{IsReplayed, StreamsCalm, TellsFinish, exit_at}
 
 module _ (settings : Conf) (s : Streams) (bytes : List ℕ) (told : s.before.input.bytes ≡ Some bytes) where
   -- the whole input is the bytes that were read and those that are left
   moved_from : (front : List ℕ) → Moves s.before.input.bytes s.after.input.bytes front → Moves (Some bytes) s.after.input.bytes front
   moved_from front m = subst (λ (left : Option (List ℕ)). Moves left s.after.input.bytes front) told m
 
-  replayed_at : Run settings first_state 0 s exits.Ok → IsReplayed settings bytes s
+  replayed_at : ReplayRun settings first_state 0 s exits.Ok → IsReplayed settings bytes s
   replayed_at r =
       let moved = moved_from r.front r.transfers.moved in
       let rest = moved.0 in
@@ -31,7 +31,7 @@ module _ (settings : Conf) (s : Streams) (bytes : List ℕ) (told : s.before.inp
       }
 
   -- how the replay of the whole input ends
-  finish_tells : (finish : Finish) (front out : List ℕ) → Moves s.before.input.bytes s.after.input.bytes front → FinishesBy finish settings first_state 0 s.after.input.bytes front out → TellsEnd (replay settings bytes).finish (exit_at finish)
+  finish_tells : (finish : Finish) (front out : List ℕ) → Moves s.before.input.bytes s.after.input.bytes front → FinishesBy finish settings first_state 0 s.after.input.bytes front out → TellsFinish (replay settings bytes).finish (exit_at finish)
   finish_tells finish front out m f =
       let moved = moved_from front m in
       let rest = moved.0 in
@@ -43,7 +43,7 @@ module _ (settings : Conf) (s : Streams) (bytes : List ℕ) (told : s.before.inp
       ] in
       inl (ap exit_at (sym end))
 
-  tells_at : (exit : Exit) → Run settings first_state 0 s exit → Counted exit s → NoFault s → TellsEnd (replay settings bytes).finish exit
+  tells_at : (exit : Exit) → ReplayRun settings first_state 0 s exit → Counted exit s → StreamsCalm s → TellsFinish (replay settings bytes).finish exit
   tells_at exits.Ok r counts calm = inl (ap exit_at (sym (replayed_at r).done))
   tells_at exits.ReadFault r counts calm = absurd (calm.input counts.input_rose)
   tells_at exits.WriteFault r counts calm = absurd (calm.output counts.output_rose)
@@ -53,18 +53,18 @@ module _ (settings : Conf) (s : Streams) (bytes : List ℕ) (told : s.before.inp
   tells_at exits.NoMemory r counts calm = inr refl
   tells_at _ r counts calm = absurd r.ends
 
-tells_from : (settings : Conf) (s : Streams) (left : Option (List ℕ)) → s.before.input.bytes ≡ left → (exit : Exit) → Run settings first_state 0 s exit → Counted exit s → NoFault s
-    → IfSome left (λ bytes. TellsEnd (replay settings bytes).finish exit)
+tells_from : (settings : Conf) (s : Streams) (left : Option (List ℕ)) → s.before.input.bytes ≡ left → (exit : Exit) → ReplayRun settings first_state 0 s exit → Counted exit s → StreamsCalm s
+    → IfSome left (λ bytes. TellsFinish (replay settings bytes).finish exit)
 tells_from settings s None told exit r counts calm = tt
 tells_from settings s (Some bytes) told exit r counts calm = tells_at settings s bytes told exit r counts calm
 
-pub tells : (settings : Conf) (s : Streams) (exit : Exit) → Run settings first_state 0 s exit → Counted exit s → NoFault s → IfSome s.before.input.bytes (λ bytes. TellsEnd (replay settings bytes).finish exit)
+pub tells : (settings : Conf) (s : Streams) (exit : Exit) → ReplayRun settings first_state 0 s exit → Counted exit s → StreamsCalm s → IfSome s.before.input.bytes (λ bytes. TellsFinish (replay settings bytes).finish exit)
 tells settings s exit r counts calm = tells_from settings s s.before.input.bytes refl exit r counts calm
 
-replayed_from : (settings : Conf) (s : Streams) (left : Option (List ℕ)) → s.before.input.bytes ≡ left → Run settings first_state 0 s exits.Ok → IfSome left (λ bytes. IsReplayed settings bytes s)
+replayed_from : (settings : Conf) (s : Streams) (left : Option (List ℕ)) → s.before.input.bytes ≡ left → ReplayRun settings first_state 0 s exits.Ok → IfSome left (λ bytes. IsReplayed settings bytes s)
 replayed_from settings s None told r = tt
 replayed_from settings s (Some bytes) told r = replayed_at settings s bytes told r
 
 -- the run of an exit that is Ok
-pub ok_run : (settings : Conf) (s : Streams) (exit : Exit) → Run settings first_state 0 s exit → exit ≡ exits.Ok → IfSome s.before.input.bytes (λ bytes. IsReplayed settings bytes s)
-ok_run settings s exit r e = replayed_from settings s s.before.input.bytes refl (subst (Run settings first_state 0 s) e r)
+pub ok_run : (settings : Conf) (s : Streams) (exit : Exit) → ReplayRun settings first_state 0 s exit → exit ≡ exits.Ok → IfSome s.before.input.bytes (λ bytes. IsReplayed settings bytes s)
+ok_run settings s exit r e = replayed_from settings s s.before.input.bytes refl (subst (ReplayRun settings first_state 0 s) e r)

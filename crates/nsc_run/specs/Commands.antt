@@ -13,15 +13,15 @@ use Rattle.nsc_model.specs.Settings.{default_settings}
 use Rattle.nsc_daemonconf.specs.Lines.{conf_of}
 use Rattle.nsc_model.specs.Sizes.{SizesFit}
 use Rattle.nsc_replay.specs.Streams.{Streams}
-use Rattle.nsc_replay.specs.Runs.{Run}
+use Rattle.nsc_replay.specs.Runs.{ReplayRun}
 
 -- why words are refused, by the exit: memory was wanting, or they are not what they should be
-abbrev pub IsRefusal : Bool → Exit → Type 0
-IsRefusal good exit = (exit ≡ exits.NoMemory) ⊎ ((exit ≡ exits.Usage) × (good ≡ false))
+abbrev pub RefusesWords : Bool → Exit → Type 0
+RefusesWords good exit = (exit ≡ exits.NoMemory) ⊎ ((exit ≡ exits.Usage) × (good ≡ false))
 
 -- the same of what was made of them
-abbrev pub IsRefused : {A : Type 0} → Option A → Exit → Type 0
-IsRefused made exit = (exit ≡ exits.NoMemory) ⊎ ((exit ≡ exits.Usage) × (made ≡ None))
+abbrev pub RefusesForm : {A : Type 0} → Option A → Exit → Type 0
+RefusesForm made exit = (exit ≡ exits.NoMemory) ⊎ ((exit ≡ exits.Usage) × (made ≡ None))
 
 -- ---- the configuration
 
@@ -83,11 +83,11 @@ exit_at (Bad place) = exits.BadFrame place
 exit_at (Long size) = exits.TooLong size
 exit_at (Spent count) = exits.Spent count
 
-abbrev pub TellsEnd : Finish → Exit → Type 0
-TellsEnd finish exit = (exit ≡ exit_at finish) ⊎ (exit ≡ exits.NoMemory)
+abbrev pub TellsFinish : Finish → Exit → Type 0
+TellsFinish finish exit = (exit ≡ exit_at finish) ⊎ (exit ≡ exits.NoMemory)
 
 -- no count of faults of the streams rose
-pub record NoFault (streams : Streams) : Type 0 where
+pub record StreamsCalm (streams : Streams) : Type 0 where
   pub input : Rose streams.before.input.faults streams.after.input.faults → ⊥
   pub output : Rose streams.before.output.faults streams.after.output.faults → ⊥
 
@@ -99,7 +99,7 @@ TellsFault fault exit = (exit ≡ exits.BadConf fault) ⊎ (exit ≡ exits.NoMem
 pub record Ran (told : Option (Option (List ℕ))) (faults_before faults_after : ℕ) (streams : Streams) (exit : Exit) : Type 0 where
   pub settings : Conf
   pub is_set : IsSet told faults_before faults_after settings
-  pub run : Run settings first_state 0 streams exit
+  pub run : ReplayRun settings first_state 0 streams exit
 
 -- the replay ran, or no settings were read, and then it did not begin: nothing was read and nothing written
 abbrev pub Course : Option (Option (List ℕ)) → ℕ → ℕ → Streams → Exit → Type 0
@@ -115,5 +115,5 @@ pub record IsReplayedBy (told : Option (Option (List ℕ))) (streams : Streams) 
 
 -- the exit tells how the replay of the source ends with these settings, or why a line is refused
 abbrev pub TellsAll : Option (List ℕ) → Result Conf ConfFault → Exit → Type 0
-TellsAll before (Ok settings) exit = IfSome before (λ bytes. TellsEnd (replay settings bytes).finish exit)
+TellsAll before (Ok settings) exit = IfSome before (λ bytes. TellsFinish (replay settings bytes).finish exit)
 TellsAll before (Err fault) exit = TellsFault fault exit

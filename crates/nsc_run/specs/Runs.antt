@@ -16,11 +16,11 @@ use Rattle.nsc_model.specs.declared.exit.Exit.TheVariants as exits
 use Rattle.nsc_replay.specs.Streams.{Counted, Streams, StreamsAt, streams_at}
 use Rattle.nsc_control.specs.Commands.{Commands}
 use Rattle.nsc_control.specs.declared.ask.AdminAsk.{AdminAsk}
-use Rattle.nsc_daemon.specs.Ends.{DaemonAt, EndsBy, EndsSo, IsReady, TellsLength}
+use Rattle.nsc_daemon.specs.Ends.{DaemonAt, EndsSo, IsReady, LastTellsEnd, TellsHeldLength}
 use Rattle.nsc_workload.specs.Runs.{PutsText}
 use Rattle.nsc_workload.specs.Workload.{workload_of}
-use Rattle.nsc_run.specs.Forms.{Form, Replay, Ask, Workload, Daemon, Service}
-use Rattle.nsc_run.specs.Commands.{ConfGives, Course, IsReplayedBy, NoFault, NotSet, TellsAll, TellsFault, conf_path, config_told, settings_by}
+use Rattle.nsc_run.specs.Forms.{Ask, Daemon, DaemonOptions, Form, Replay, Workload}
+use Rattle.nsc_run.specs.Commands.{ConfGives, Course, IsReplayedBy, NotSet, StreamsCalm, TellsAll, TellsFault, conf_path, config_told, settings_by}
 
 -- What the outside tells at one moment: of the input and the output, of the files, and of the listener.
 pub record Outside : Type 0 where
@@ -102,29 +102,29 @@ pub record NeverFail {I O : Type 0} (i : source.Ghosts I) (o : sink.Ghosts O) : 
   pub outputs : (x : O) → o.faults x ≡ 0
 
 -- an answer came, good or bad, unless memory was wanting
-abbrev pub IsAnswered : Exit → Type 0
-IsAnswered exit = (exit ≡ exits.Ok) ⊎ (exit ≡ exits.NoMemory) ⊎ (exit ≡ exits.BadReply)
+abbrev pub TellsAnswered : Exit → Type 0
+TellsAnswered exit = (exit ≡ exits.Ok) ⊎ (exit ≡ exits.NoMemory) ⊎ (exit ≡ exits.BadReply)
 
 -- ---- a workload
 
 -- it was run, unless memory was wanting
-abbrev pub IsWorked : Exit → Type 0
-IsWorked exit = (exit ≡ exits.Ok) ⊎ (exit ≡ exits.NoMemory)
+abbrev pub TellsWorked : Exit → Type 0
+TellsWorked exit = (exit ≡ exits.Ok) ⊎ (exit ≡ exits.NoMemory)
 
 -- ---- the daemon
 
 -- settings were read, and a daemon ended so under them; where no folder is named, a length that is told is that of one of the files that
 -- were held, where these are told
-pub record Served (told : Option (Option (List ℕ))) (etc : Option (List ℕ)) (held : Option Content) (before after : DaemonAt) (exit : Exit) : Type 0 where
+pub record DaemonRan (told : Option (Option (List ℕ))) (etc : Option (List ℕ)) (held : Option Content) (before after : DaemonAt) (exit : Exit) : Type 0 where
   pub settings : Conf
   pub of_config : ConfGives told (Ok settings)
   pub ends : EndsSo exit before after
-  pub length : etc ≡ None → TellsLength exit held
+  pub length : etc ≡ None → TellsHeldLength exit held
 
 -- a daemon ended, or no settings were read and it did not begin
-abbrev pub Serves : Option (Option (List ℕ)) → Option (List ℕ) → Option Content → DaemonAt → DaemonAt → Exit → Type 0
-Serves told etc held before after exit =
-    Served told etc held before after exit
+abbrev pub DaemonCourse : Option (Option (List ℕ)) → Option (List ℕ) → Option Content → DaemonAt → DaemonAt → Exit → Type 0
+DaemonCourse told etc held before after exit =
+    DaemonRan told etc held before after exit
     ⊎ (NotSet told before.source_faults after.source_faults exit × (after ≡ record before { source_faults = after.source_faults }))
 
 -- the daemon was told to end, or why a line is refused, unless memory was wanting
@@ -138,23 +138,23 @@ TellsServed (Err fault) exit = TellsFault fault exit
 abbrev pub replay_told : Outside → Option (List ℕ) → Option (Option (List ℕ))
 replay_told before config = config_told before.conf_held config
 
-abbrev pub daemon_told : Outside → Service → Option (Option (List ℕ))
+abbrev pub daemon_told : Outside → DaemonOptions → Option (Option (List ℕ))
 daemon_told before service = before.conf_held (conf_path service.etc service.config)
 
 -- What came of a run. Where the words have no form nothing was done.
-abbrev pub Runs : {I O : Type 0} → source.Ghosts I → sink.Ghosts O → Option Form → Outside → Outside → Exit → Type 0
-Runs i o None before after exit = ((exit ≡ exits.Usage) ⊎ (exit ≡ exits.NoMemory)) × (after ≡ before)
-Runs i o (Some (Replay config)) before after exit =
+abbrev pub RunsByForm : {I O : Type 0} → source.Ghosts I → sink.Ghosts O → Option Form → Outside → Outside → Exit → Type 0
+RunsByForm i o None before after exit = ((exit ≡ exits.Usage) ⊎ (exit ≡ exits.NoMemory)) × (after ≡ before)
+RunsByForm i o (Some (Replay config)) before after exit =
     Course (replay_told before config) before.source_faults after.source_faults (streams_of before after) exit
     × Counted exit (streams_of before after) × NetStays before after
-Runs i o (Some (Ask asked folder)) before after exit =
+RunsByForm i o (Some (Ask asked folder)) before after exit =
     Asks i o asked before.peer before.streams.output after.streams.output before.net_faults after.net_faults exit
     × InputStays before after × FilesStay before after
-Runs i o (Some (Workload number workers)) before after exit =
+RunsByForm i o (Some (Workload number workers)) before after exit =
     PutsText exit (workload_of number) before.streams.output after.streams.output
     × InputStays before after × FilesStay before after × NetStays before after
-Runs i o (Some (Daemon service)) before after exit =
-    Serves (daemon_told before service) service.etc before.held (daemon_outside before) (daemon_outside after) exit × InputStays before after
+RunsByForm i o (Some (Daemon service)) before after exit =
+    DaemonCourse (daemon_told before service) service.etc before.held (daemon_outside before) (daemon_outside after) exit × InputStays before after
 
 -- The command was done: the input was read to the end of its first E, and the output is that of the replay; or a daemon did what
 -- was asked; or the lines of the workload were written; or the daemon was ready, and was told to end.
@@ -163,17 +163,17 @@ IsDone i o None before after = ⊥
 IsDone i o (Some (Replay config)) before after = IsReplayedBy (replay_told before config) (streams_of before after)
 IsDone i o (Some (Ask asked folder)) before after = IsAsked i o asked before.peer before.streams.output after.streams.output exits.Ok
 IsDone i o (Some (Workload number workers)) before after = Grows before.streams.output.bytes after.streams.output.bytes (workload_of number)
-IsDone i o (Some (Daemon service)) before after = IsReady (daemon_outside before) (daemon_outside after) × EndsBy before.given after.given
+IsDone i o (Some (Daemon service)) before after = IsReady (daemon_outside before) (daemon_outside after) × LastTellsEnd before.given after.given
 
 -- What the exit tells where no fault came.
-abbrev pub Tells : {I O : Type 0} → source.Ghosts I → sink.Ghosts O → Option Form → Outside → Outside → Exit → Type 0
-Tells i o None before after exit = (exit ≡ exits.Usage) ⊎ (exit ≡ exits.NoMemory)
-Tells i o (Some (Replay config)) before after exit =
-    SourcesCalm before after → NoFault (streams_of before after)
+abbrev pub TellsByForm : {I O : Type 0} → source.Ghosts I → sink.Ghosts O → Option Form → Outside → Outside → Exit → Type 0
+TellsByForm i o None before after exit = (exit ≡ exits.Usage) ⊎ (exit ≡ exits.NoMemory)
+TellsByForm i o (Some (Replay config)) before after exit =
+    SourcesCalm before after → StreamsCalm (streams_of before after)
     → IfSome (replay_told before config) (λ text. TellsAll before.streams.input.bytes (settings_by text) exit)
-Tells i o (Some (Ask asked folder)) before after exit =
-    NeverFail i o → NetCalm before after → OutputCalm before after → IsAnswered exit
-Tells i o (Some (Workload number workers)) before after exit = OutputCalm before after → IsWorked exit
-Tells i o (Some (Daemon service)) before after exit =
+TellsByForm i o (Some (Ask asked folder)) before after exit =
+    NeverFail i o → NetCalm before after → OutputCalm before after → TellsAnswered exit
+TellsByForm i o (Some (Workload number workers)) before after exit = OutputCalm before after → TellsWorked exit
+TellsByForm i o (Some (Daemon service)) before after exit =
     SourcesCalm before after → NetCalm before after → OutputCalm before after
     → IfSome (daemon_told before service) (λ text. TellsServed (settings_by text) exit)

@@ -1,11 +1,11 @@
 ghost use Rattle.std.specs.Prelude.{◌≡◌, IfSome, None};
 ghost use Rattle.nsc_model.specs.Replay.{first_state, replay};
 ghost use Rattle.nsc_model.specs.Sizes.{SizesFit};
-ghost use Rattle.nsc_replay.specs.Runs.{Run};
+ghost use Rattle.nsc_replay.specs.Runs.{ReplayRun};
 ghost use Rattle.nsc_replay.specs.Streams.{Counted, streams};
-ghost use Rattle.nsc_run.specs.Commands.{IsReplayed, NoFault, TellsEnd};
+ghost use Rattle.nsc_run.specs.Commands.{IsReplayed, StreamsCalm, TellsFinish};
 ghost use Rattle.nsc_run.specs.Forms.{form_of, texts};
-ghost use Rattle.nsc_run.specs.Runs.{IsDone, Runs, Tells, outside};
+ghost use Rattle.nsc_run.specs.Runs.{IsDone, RunsByForm, TellsByForm, outside};
 
 use crate::actions::{ask, replay_under, serve};
 use crate::form::Form;
@@ -39,13 +39,13 @@ pub fn replay<RT: AllocGlobal, R: Source, K: Sink>(
     ensures ok { result ≡ Exit.Ok → IfSome (R.left input.old) (λ bytes. IsReplayed conf.now bytes (streams R.Source K.Sink input.old input.new output.old output.new)) }
 
     // What was read and written, by the exit.
-    ensures run { Run conf.now first_state 0 (streams R.Source K.Sink input.old input.new output.old output.new) result }
+    ensures run { ReplayRun conf.now first_state 0 (streams R.Source K.Sink input.old input.new output.old output.new) result }
 
     // A fault of a stream is told only where one came.
     ensures counts { Counted result (streams R.Source K.Sink input.old input.new output.old output.new) }
 
     // Where no fault came, the exit tells how the replay of the input ends, unless memory was wanting.
-    ensures complete { NoFault (streams R.Source K.Sink input.old input.new output.old output.new) → IfSome (R.left input.old) (λ bytes. TellsEnd (replay conf.now bytes).finish result) }
+    ensures complete { StreamsCalm (streams R.Source K.Sink input.old input.new output.old output.new) → IfSome (R.left input.old) (λ bytes. TellsFinish (replay conf.now bytes).finish result) }
 {
     nsc_replay::replay(rt.alloc(), conf, &Indexed, input, output)
 }
@@ -89,13 +89,13 @@ where
     ensures usage { result ≡ Exit.Usage → form_of (texts words.now) ≡ None }
 
     // What was read and written, and which counts of faults rose, by the form and the exit.
-    ensures runs { Runs N.In.Source N.Out.Sink (form_of (texts words.now)) (outside R.Source K.Sink F.FileSet N.Listener input.old output.old files.old net.old) (outside R.Source K.Sink F.FileSet N.Listener input.new output.new files.new net.new) result }
+    ensures runs { RunsByForm N.In.Source N.Out.Sink (form_of (texts words.now)) (outside R.Source K.Sink F.FileSet N.Listener input.old output.old files.old net.old) (outside R.Source K.Sink F.FileSet N.Listener input.new output.new files.new net.new) result }
 
     // At Ok the command was done.
     ensures ok { result ≡ Exit.Ok → IsDone N.In.Source N.Out.Sink (form_of (texts words.now)) (outside R.Source K.Sink F.FileSet N.Listener input.old output.old files.old net.old) (outside R.Source K.Sink F.FileSet N.Listener input.new output.new files.new net.new) }
 
     // Where no fault came, the exit tells what is known of it, unless memory was wanting.
-    ensures complete { Tells N.In.Source N.Out.Sink (form_of (texts words.now)) (outside R.Source K.Sink F.FileSet N.Listener input.old output.old files.old net.old) (outside R.Source K.Sink F.FileSet N.Listener input.new output.new files.new net.new) result }
+    ensures complete { TellsByForm N.In.Source N.Out.Sink (form_of (texts words.now)) (outside R.Source K.Sink F.FileSet N.Listener input.old output.old files.old net.old) (outside R.Source K.Sink F.FileSet N.Listener input.new output.new files.new net.new) result }
 {
     match read_words(rt.alloc(), words) {
         Ok(Form::Replay { config }) => replay_under(rt, config, input, output, files),

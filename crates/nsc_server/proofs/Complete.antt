@@ -20,7 +20,7 @@ use Rattle.nsc_server.specs.declared.served.Served.TheVariants as served
 use Rattle.nsc_server.specs.declared.served.Closing.{Closing}
 use Rattle.nsc_server.specs.Passes.{PassAt}
 use Rattle.nsc_server.specs.Requests.{GetsShort, IsNeeded, closing_of}
-use Rattle.nsc_server.specs.Outcomes.{Answers, Completes, CountsInput, Ends, IsRefusal, IsInvalidateRefusal, NoInvalidateFault, NoLookFault, NoStoreFault, OthersStay, Serves, Side, replied_to, served_by, served_after}
+use Rattle.nsc_server.specs.Outcomes.{Answers, Completes, CountsInput, Ends, IsInvalidateRefusal, IsRefusal, NoInvalidateFault, NoLookFault, NoStoreFault, OthersStay, Serves, Side, replied_to, served_after, served_by}
 
 look_lacked : (f : LookupFault) (before after : PassAt) → IsFault f after.seen before.faults after.faults before.file_faults after.file_faults
     → NoLookFault before after → served_by f ≡ served.NoMemory

@@ -150,7 +150,7 @@ pub record IsCutShort (settings : Databases DbConf) (moment : ℕ) (asked : Aske
   pub failed : Rose before.output.faults after.output.faults
 
 -- nothing was written, since there is no reply
-pub record IsRefused (settings : Databases DbConf) (asked : Asked) (before after : Side) (by : Served) : Type 0 where
+pub record HasNoReply (settings : Databases DbConf) (asked : Asked) (before after : Side) (by : Served) : Type 0 where
   pub silent : after.output ≡ before.output
   pub refusal : IsRefusal settings asked before.passes after.passes by
 
@@ -167,10 +167,10 @@ Answers settings moment asked before after served.WriteFault = IsCutShort settin
 Answers settings moment asked before after (served.Closed why) = ⊥
 Answers settings moment asked before after (served.Ended have) = ⊥
 Answers settings moment asked before after served.ReadFault = ⊥
-Answers settings moment asked before after (served.SourceFault file) = IsRefused settings asked before after (served.SourceFault file)
-Answers settings moment asked before after (served.TooLong file size) = IsRefused settings asked before after (served.TooLong file size)
-Answers settings moment asked before after (served.Spent count) = IsRefused settings asked before after (served.Spent count)
-Answers settings moment asked before after served.NoMemory = IsRefused settings asked before after served.NoMemory
+Answers settings moment asked before after (served.SourceFault file) = HasNoReply settings asked before after (served.SourceFault file)
+Answers settings moment asked before after (served.TooLong file size) = HasNoReply settings asked before after (served.TooLong file size)
+Answers settings moment asked before after (served.Spent count) = HasNoReply settings asked before after (served.Spent count)
+Answers settings moment asked before after served.NoMemory = HasNoReply settings asked before after served.NoMemory
 
 -- what came of a connection on which this was asked: it is refused, or not whole, or answered
 abbrev pub Ends : Databases DbConf → ℕ → Role → Asked → Option (List ℕ) → Side → Side → Served → Type 0

@@ -2,8 +2,8 @@
 #![tactic(auto)]
 
 mod asked;
+mod assignment;
 mod fixed_files;
-mod job;
 mod lines;
 mod lookups;
 mod room;

@@ -19,7 +19,7 @@ const SECONDS: u64 = 30;
 
 /// A workload that is to be done: its number, how many workers do it, and the database of users that they ask.
 #[derive(Drop)]
-pub(crate) struct Job<'d, C: OfContent, B: Room> {
+pub(crate) struct Assignment<'d, C: OfContent, B: Room> {
     pub(crate) database: &'d Database<FixedFiles<C>, Indexed, B>,
     pub(crate) number: u32,
     pub(crate) workers: u32,
@@ -29,10 +29,10 @@ pub(crate) struct Job<'d, C: OfContent, B: Room> {
     pub(crate) ghost users: { database.now.db ≡ db.Passwd },
 }
 
-impl<C: OfContent, B: Room> Work for Job<'_, C, B> {
-    ghost number = { λ job. job.number };
+impl<C: OfContent, B: Room> Work for Assignment<'_, C, B> {
+    ghost number = { λ assignment. assignment.number };
 
-    ghost workers = { λ job. job.workers };
+    ghost workers = { λ assignment. assignment.workers };
 
     fn count(&self) -> u32 {
         self.workers

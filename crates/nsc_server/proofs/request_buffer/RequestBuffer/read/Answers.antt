@@ -2,7 +2,7 @@ use Rattle.std.proofs.Common.{subst}
 use Rattle.std.proofs.lemmas.Result.{err_from_is_err_and}
 use Rattle.nsc_wire.specs.Request.{Wants}
 use Rattle.nsc_server.proofs.Reading.{both_drained, both_moved, both_needed, first_limit, gets_cut, gets_few}
-use Rattle.nsc_server.proofs.room.Room.read.Goals as goal
+use Rattle.nsc_server.proofs.request_buffer.RequestBuffer.read.Goals as goal
 
 pub returns-in_err-read_on-clause-short : goal.returns-in_err-read_on-clause-short
 returns-in_err-read_on-clause-short g c =

@@ -1,6 +1,6 @@
 use Rattle.std.proofs.Common.{refl}
 use Rattle.nsc_server.proofs.Reading.{gets_on}
-use Rattle.nsc_server.proofs.room.Room.read_on.Goals as goal
+use Rattle.nsc_server.proofs.request_buffer.RequestBuffer.read_on.Goals as goal
 
 pub returns-clause-more : goal.returns-clause-more
 returns-clause-more g c =

@@ -4,12 +4,12 @@ use Rattle.nsc_model.specs.Content.{Content}
 use Rattle.nsc_model.specs.Reads.{IsOfHeld}
 use Rattle.nsc_model.specs.Stores.{reply_of}
 use Rattle.nsc_workload.proofs.Told.{held_reply}
-use Rattle.nsc_workload.proofs.job.Job.reply.Goals as goal
+use Rattle.nsc_workload.proofs.assignment.Assignment.reply.Goals as goal
 
 pub returns-in-Ok-clause-reply : goal.returns-in-Ok-clause-reply
 returns-in-Ok-clause-reply g c =
-    let job = c.args.self.now in
+    let assignment = c.args.self.now in
     let asked = c.in_ok-asked.asked in
     let request : Request = record { kind = asked.kind; key = c.as_slice-key.result.now } in
-    let told = subst (λ (held : Option Content). IsOfHeld held job.database.now.db request (reply_of c.in-Ok.given)) job.held c.in-Ok.ensures.held in
-    c.bytes_of.ensures ∙ held_reply job.number c.args.place job.database.now.db request (reply_of c.in-Ok.given) job.users (ap (λ key. record asked { key = key }) c.as_slice-key.ensures ∙ c.in_ok-asked.ensures.request) told
+    let told = subst (λ (held : Option Content). IsOfHeld held assignment.database.now.db request (reply_of c.in-Ok.given)) assignment.held c.in-Ok.ensures.held in
+    c.bytes_of.ensures ∙ held_reply assignment.number c.args.place assignment.database.now.db request (reply_of c.in-Ok.given) assignment.users (ap (λ key. record asked { key = key }) c.as_slice-key.ensures ∙ c.in_ok-asked.ensures.request) told

@@ -1,7 +1,7 @@
 use Rattle.std.proofs.Common.{ℕ, refl, subst, ◌∙◌}
 use Rattle.nsc_model.specs.Reads.{Rose}
 use Rattle.nsc_daemon.proofs.Ends.{ends_by, goes_given, goes_same}
-use Rattle.nsc_daemon.proofs.desk.accept_all.Goals as goal
+use Rattle.nsc_daemon.proofs.acceptor.accept_all.Goals as goal
 
 pub loop-init : goal.loop-init
 loop-init g c = (goes_same (g.N.Listener.given c.args.net.now), refl)

@@ -1,5 +1,5 @@
 use Rattle.nsc_daemon.proofs.Ends.{told_end}
-use Rattle.nsc_daemon.proofs.desk.Desk.serve.Goals as goal
+use Rattle.nsc_daemon.proofs.acceptor.Acceptor.serve.Goals as goal
 
 pub returns-in-ShutDown-clause-told : goal.returns-in-ShutDown-clause-told
 returns-in-ShutDown-clause-told g c =

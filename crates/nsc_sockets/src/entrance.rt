@@ -1,5 +1,5 @@
 use crate::door::Door;
-use crate::guest::{Guest, Ready};
+use crate::guest::{Guest, ReadyGuest};
 use crate::listener::Accepted;
 use crate::pace::Pace;
 use crate::peer::Peer;
@@ -44,7 +44,7 @@ struct Stirred {
 
 /// The doors of a process, and the connections that came in and wait to be given out.
 #[derive(Drop)]
-pub(crate) struct Desk {
+pub(crate) struct Entrance {
     alloc: Global,
     poll: Poll,
     events: Events,
@@ -58,11 +58,11 @@ pub(crate) struct Desk {
     is_wakeful: bool,
 }
 
-impl Desk {
-    /// A desk without doors. With fewer than three processors it sleeps whenever there is nothing to do, so as not to keep
+impl Entrance {
+    /// An entrance without doors. With fewer than three processors it sleeps whenever there is nothing to do, so as not to keep
     /// those from running that it waits for.
-    pub(crate) fn new(alloc: Global, net: &impl Net, processors: usize) -> io::Result<Desk> {
-        Ok(Desk {
+    pub(crate) fn new(alloc: Global, net: &impl Net, processors: usize) -> io::Result<Entrance> {
+        Ok(Entrance {
             alloc,
             poll: Poll::new(net)?,
             events: Events::with_capacity(alloc, EVENTS)?,
@@ -125,7 +125,7 @@ impl Desk {
     }
 
     // Those that stirred come first, then those that stand, then those at the doors.
-    fn next_ready<C: Clock>(&mut self, clock: &C, now: Duration) -> Option<Ready> {
+    fn next_ready<C: Clock>(&mut self, clock: &C, now: Duration) -> Option<ReadyGuest> {
         if let Some(ready) = self.next_stirred() {
             return Some(ready);
         }
@@ -141,7 +141,7 @@ impl Desk {
         None
     }
 
-    fn next_stirred(&mut self) -> Option<Ready> {
+    fn next_stirred(&mut self) -> Option<ReadyGuest> {
         for _ in 0..self.stirred.len() {
             let Stirred { seat, has_ended } = self.stirred.pop_front()?;
             if let Some(ready) = self.room.stir(seat, has_ended) {
@@ -158,7 +158,7 @@ impl Desk {
         now: Duration,
         at: usize,
         may_stand: bool,
-    ) -> Option<Ready> {
+    ) -> Option<ReadyGuest> {
         let door = self.doors.get_mut(at)?;
         if !door.is_open() {
             return None;

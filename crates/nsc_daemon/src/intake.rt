@@ -24,7 +24,7 @@ pub type Waitings<R, K> = Arc<JobList<Waiting<R, K>>, Global>;
 
 /// One worker's way to the connections that wait.
 #[derive(Drop)]
-pub struct Queue<R: Drop, K: Drop> {
+pub struct Intake<R: Drop, K: Drop> {
     pub list: Waitings<R, K>,
     /// How many it took, a number that stays at 2^62.
     pub taken: u64,
@@ -32,7 +32,7 @@ pub struct Queue<R: Drop, K: Drop> {
     pub is_over: bool,
 }
 
-impl<R: Source + Drop, K: Sink + Drop> Jobs for Queue<R, K> {
+impl<R: Source + Drop, K: Sink + Drop> Jobs for Intake<R, K> {
     type In = R;
 
     type Out = K;

@@ -6,10 +6,10 @@ ghost use Rattle.nsc_server.specs.Requests.{TakesRequests};
 ghost use Rattle.nsc_daemon.specs.Ends.{IsToldEnd, StopsSo, TellsEnd};
 ghost use Rattle.nsc_daemon.specs.Workers.{TicksSo};
 
-use crate::queue::{Waiting, Waitings};
+use crate::intake::{Waiting, Waitings};
 use nsc_model::{Databases, Exit, Store};
 use nsc_outside::{Sink, Source};
-use nsc_server::{Room, Served, serve_one};
+use nsc_server::{RequestBuffer, Served, serve_one};
 use nsc_sockets::{Accepted, Clock, Listener, Role};
 use std::alloc::Global;
 use std::marker::Model;
@@ -26,7 +26,7 @@ const REST: u64 = 10;
 /// Accepts connections until one tells the daemon to end, or the listener fails.
 pub fn accept_all<RT: AllocGlobal + Wait + time::Clock, S: Store + Drop, C: Clock, N: Listener>(
     rt: &RT,
-    desk: &mut Desk<S, N::In, N::Out>,
+    acceptor: &mut Acceptor<S, N::In, N::Out>,
     clock: &mut C,
     net: &mut N,
 ) -> Exit
@@ -38,7 +38,7 @@ pub fn accept_all<RT: AllocGlobal + Wait + time::Clock, S: Store + Drop, C: Cloc
             return Exit::NetFault;
         };
         let now = clock.now();
-        if desk.turn(rt, accepted, now) {
+        if acceptor.turn(rt, accepted, now) {
             return Exit::Ok;
         }
     }
@@ -48,27 +48,27 @@ pub fn accept_all<RT: AllocGlobal + Wait + time::Clock, S: Store + Drop, C: Cloc
 /// What the thread that accepts has: its passes and its buffer, the moment of the last tick, in seconds, or of the start, and the
 /// connections that wait for workers, where there are workers.
 #[derive(Drop)]
-pub struct Desk<S: Store + Drop, R: Source + Drop, K: Sink + Drop> {
+pub struct Acceptor<S: Store + Drop, R: Source + Drop, K: Sink + Drop> {
     pub stores: Arc<Databases<S>, Global>,
     pub passes: Databases<S::Pass>,
-    pub room: Room,
+    pub buffer: RequestBuffer,
     pub ticked: u64,
     pub waitings: Option<Waitings<R, K>>,
 }
 
-impl<S: Store + Drop, R: Source + Drop, K: Sink + Drop> Model for Desk<S, R, K> {
+impl<S: Store + Drop, R: Source + Drop, K: Sink + Drop> Model for Acceptor<S, R, K> {
     ghost use Rattle.std.specs.Arc.{arc_value};
     ghost use Rattle.nsc_server.specs.Passes.{AreNamed, ArePasses};
-    ghost use Rattle.nsc_daemon.specs.Workers.{Desk};
+    ghost use Rattle.nsc_daemon.specs.Workers.{Acceptor};
 
-    ghost Value = { Desk };
+    ghost Value = { Acceptor };
 
     ghost view = { λ d. record { ticked = d.ticked } };
 
     ghost invariant = { λ d. AreNamed S.Store (arc_value d.stores) × ArePasses S.Store (arc_value d.stores) d.passes };
 }
 
-impl<S: Store + Drop, R: Source + Drop, K: Sink + Drop> Desk<S, R, K> {
+impl<S: Store + Drop, R: Source + Drop, K: Sink + Drop> Acceptor<S, R, K> {
     /// Does what one accepted connection wants, and a tick where one is due. Whether it was told to end.
     pub fn turn<RT: AllocGlobal + Wait + time::Clock>(
         &mut self,
@@ -89,7 +89,7 @@ impl<S: Store + Drop, R: Source + Drop, K: Sink + Drop> Desk<S, R, K> {
                 input,
                 output,
             } => {
-                if self.is_told_to_end(rt, role, input, output, now) {
+                if self.dispatch(rt, role, input, output, now) {
                     return true;
                 }
             }
@@ -100,7 +100,7 @@ impl<S: Store + Drop, R: Source + Drop, K: Sink + Drop> Desk<S, R, K> {
 
     // Gives a connection to the workers, or serves it where it came on the admin socket or there are none. Whether it told the
     // daemon to end.
-    fn is_told_to_end<RT: AllocGlobal + Wait + time::Clock>(
+    fn dispatch<RT: AllocGlobal + Wait + time::Clock>(
         &mut self,
         rt: &RT,
         role: Role,
@@ -145,7 +145,7 @@ impl<S: Store + Drop, R: Source + Drop, K: Sink + Drop> Desk<S, R, K> {
             rt,
             &self.stores,
             &mut self.passes,
-            &mut self.room,
+            &mut self.buffer,
             &mut input,
             &mut output,
             role,

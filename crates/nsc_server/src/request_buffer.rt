@@ -13,12 +13,12 @@ use std::marker::Model;
 
 /// A worker's buffer for requests, seen in contracts as the bytes that it holds of one.
 #[derive(Debug, Drop)]
-pub struct Room {
+pub struct RequestBuffer {
     bytes: Vec<u8>,
     have: usize,
 }
 
-impl Model for Room {
+impl Model for RequestBuffer {
     ghost use Rattle.std.specs.Prelude.{◌≡◌, ◌≤◌, List, ℕ, take, vec_len};
 
     ghost Value = { List ℕ };
@@ -28,14 +28,14 @@ impl Model for Room {
     ghost invariant = { λ r. (vec_len r.bytes ≡ 1036) × (r.have ≤ 1036) };
 }
 
-impl Room {
+impl RequestBuffer {
     /// A buffer that holds nothing. Its memory is taken here, and no request needs more. Fails only for want of memory.
-    pub fn new(alloc: Global) -> Result<Room, NoMemory>
-        ensures { IfOk result (λ room. room ≡ []) }
+    pub fn new(alloc: Global) -> Result<RequestBuffer, NoMemory>
+        ensures { IfOk result (λ buffer. buffer ≡ []) }
     {
         let mut bytes = Vec::with_capacity(alloc, LONGEST)?;
         bytes.resize(LONGEST, 0)?;
-        Ok(Room { bytes, have: 0 })
+        Ok(RequestBuffer { bytes, have: 0 })
     }
 
     // The bytes that it holds.
