@@ -1,33 +1,23 @@
 -- What came of a command.
 use Rattle.std.specs.Prelude.{◌≡◌, ◌⊎◌, ℕ, ◌<◌, ◌≤◌, List, length, Option}
 use Rattle.nsc_outside.specs.Stream.{Moves, IsDrained, Grows, GrowsByFront}
+use Rattle.nsc_outside.specs.StreamAt.{StreamAt, stream_in, stream_out}
 use Rattle.nsc_model.specs.Reads.{Rose}
 use Rattle.nsc_outside.specs.declared.stream.Source as source
 use Rattle.nsc_outside.specs.declared.stream.Sink as sink
 use Rattle.nsc_model.specs.Wire.{field}
+use Rattle.nsc_model.specs.declared.exit.Exit.{Exit}
+use Rattle.nsc_model.specs.declared.exit.Exit.TheVariants as exits
 use Rattle.nsc_control.specs.declared.ask.AdminAsk.{AdminAsk}
 use Rattle.nsc_control.specs.declared.ask.AdminAsk.TheVariants as ask
-use Rattle.nsc_control.specs.declared.commands.Commanded.{Commanded}
-use Rattle.nsc_control.specs.declared.commands.Commanded.TheVariants as commanded
 use Rattle.nsc_control.specs.Asks.{request_for}
 
 -- the longest reply, in bytes
-abbrev pub reply_limit : ℕ
-reply_limit = 65536
+abbrev pub admin_reply_limit : ℕ
+admin_reply_limit = 65536
 
--- at one moment: what a stream has left or took, where it tells that, and the count of its faults
-pub record StreamAt : Type 0 where
-  pub bytes : Option (List ℕ)
-  pub faults : ℕ
-
-abbrev pub stream_in : {R : Type 0} → source.Ghosts R → R → StreamAt
-stream_in g input = record { bytes = g.left input; faults = g.faults input }
-
-abbrev pub stream_out : {K : Type 0} → sink.Ghosts K → K → StreamAt
-stream_out g output = record { bytes = g.taken output; faults = g.faults output }
-
--- the three streams of a command: both ways of the connection, and the output
-pub record Streams : Type 0 where
+-- the three command_at of a command: both ways of the connection, and the output
+pub record CommandAt : Type 0 where
   pub conn_in : StreamAt
   pub conn_out : StreamAt
   pub output : StreamAt
@@ -45,21 +35,21 @@ PutsOut (ask.Invalidate which) before after reply = after ≡ before
 PutsOut ask.Shutdown before after reply = after ≡ before
 
 -- the request went out, and these bytes came: all that the connection had, and no more than a reply may have
-pub record Exchanged (asked : AdminAsk) (before after : Streams) (reply : List ℕ) : Type 0 where
+pub record Exchanged (asked : AdminAsk) (before after : CommandAt) (reply : List ℕ) : Type 0 where
   pub sent : Grows before.conn_out.bytes after.conn_out.bytes (request_for asked)
   pub came : Moves before.conn_in.bytes after.conn_in.bytes reply
   pub all : IsDrained after.conn_in.bytes
-  pub limit : length reply ≤ reply_limit
+  pub limit : length reply ≤ admin_reply_limit
 
 -- what was done at the connection and at the output
-pub record IsDone (asked : AdminAsk) (before after : Streams) : Type 0 where
+pub record IsCarriedOut (asked : AdminAsk) (before after : CommandAt) : Type 0 where
   pub reply : List ℕ
   pub exchanged : Exchanged asked before after reply
   pub good : IsGood asked reply
   pub told : PutsOut asked before.output after.output reply
 
 -- the output failed, and took a front of the counts
-pub record IsCutShort (asked : AdminAsk) (before after : Streams) : Type 0 where
+pub record AreCountsCut (asked : AdminAsk) (before after : CommandAt) : Type 0 where
   pub reply : List ℕ
   pub exchanged : Exchanged asked before after reply
   pub is_stat : asked ≡ ask.Stat
@@ -67,51 +57,50 @@ pub record IsCutShort (asked : AdminAsk) (before after : Streams) : Type 0 where
   pub failed : Rose before.output.faults after.output.faults
 
 -- the reply is longer than one may be, or it is not good
-abbrev pub IsLong : StreamAt → StreamAt → Type 0
-IsLong before after = (front : List ℕ) × Moves before.bytes after.bytes front × (reply_limit < length front)
+abbrev pub IsReplyTooLong : StreamAt → StreamAt → Type 0
+IsReplyTooLong before after = (front : List ℕ) × Moves before.bytes after.bytes front × (admin_reply_limit < length front)
 
-pub record IsTooMuch (asked : AdminAsk) (before after : Streams) : Type 0 where
+pub record IsTooMuch (asked : AdminAsk) (before after : CommandAt) : Type 0 where
   pub sent : Grows before.conn_out.bytes after.conn_out.bytes (request_for asked)
-  pub long : IsLong before.conn_in after.conn_in
+  pub long : IsReplyTooLong before.conn_in after.conn_in
 
-abbrev pub IsBad : AdminAsk → Streams → Streams → Type 0
+abbrev pub IsBad : AdminAsk → CommandAt → CommandAt → Type 0
 IsBad asked before after = (reply : List ℕ) × Exchanged asked before after reply × (IsGood asked reply → ⊥)
 
 -- nothing but the request was sent, or a front of it
-abbrev pub SendsNoMore : AdminAsk → Streams → Streams → Type 0
+abbrev pub SendsNoMore : AdminAsk → CommandAt → CommandAt → Type 0
 SendsNoMore asked before after = GrowsByFront before.conn_out.bytes after.conn_out.bytes (request_for asked)
 
 -- what came of a command
-abbrev pub Commands : AdminAsk → Streams → Streams → Commanded → Type 0
-Commands asked before after commanded.Done = IsDone asked before after
-Commands asked before after commanded.WriteFault = IsCutShort asked before after
-Commands asked before after commanded.NetFault = (after.output ≡ before.output) × (Rose before.conn_in.faults after.conn_in.faults ⊎ Rose before.conn_out.faults after.conn_out.faults) × SendsNoMore asked before after
-Commands asked before after commanded.BadReply = (after.output ≡ before.output) × (IsTooMuch asked before after ⊎ IsBad asked before after)
-Commands asked before after commanded.NoMemory = (after.output ≡ before.output) × (after.conn_in ≡ before.conn_in) × SendsNoMore asked before after
+abbrev pub Commands : AdminAsk → CommandAt → CommandAt → Exit → Type 0
+Commands asked before after exits.Ok = IsCarriedOut asked before after
+Commands asked before after exits.WriteFault = AreCountsCut asked before after
+Commands asked before after exits.NetFault = (after.output ≡ before.output) × (Rose before.conn_in.faults after.conn_in.faults ⊎ Rose before.conn_out.faults after.conn_out.faults) × SendsNoMore asked before after
+Commands asked before after exits.BadReply = (after.output ≡ before.output) × (IsTooMuch asked before after ⊎ IsBad asked before after)
+Commands asked before after exits.NoMemory = (after.output ≡ before.output) × (after.conn_in ≡ before.conn_in) × SendsNoMore asked before after
+Commands asked before after _ = ⊥
 
 -- ---- the parts
 
 -- a reply was not read
-abbrev pub IsUnread : StreamAt → StreamAt → Commanded → Type 0
-IsUnread before after commanded.Done = ⊥
-IsUnread before after commanded.WriteFault = ⊥
-IsUnread before after commanded.NetFault = Rose before.faults after.faults
-IsUnread before after commanded.BadReply = IsLong before after
-IsUnread before after commanded.NoMemory = after ≡ before
+abbrev pub IsUnread : StreamAt → StreamAt → Exit → Type 0
+IsUnread before after exits.NetFault = Rose before.faults after.faults
+IsUnread before after exits.BadReply = IsReplyTooLong before after
+IsUnread before after exits.NoMemory = after ≡ before
+IsUnread before after _ = ⊥
 
 -- a reply says that what was asked is done, or it is bad
-abbrev pub Says : List ℕ → Commanded → Type 0
-Says reply commanded.Done = reply ≡ field 0
-Says reply commanded.BadReply = reply ≡ field 0 → ⊥
-Says reply _ = ⊥
+abbrev pub Judges : List ℕ → Exit → Type 0
+Judges reply exits.Ok = reply ≡ field 0
+Judges reply exits.BadReply = reply ≡ field 0 → ⊥
+Judges reply _ = ⊥
 
 -- what came of a reply that was read
-abbrev pub Ends : AdminAsk → List ℕ → StreamAt → StreamAt → Commanded → Type 0
-Ends asked reply before after commanded.Done = IsGood asked reply × PutsOut asked before after reply
-Ends asked reply before after commanded.WriteFault = (asked ≡ ask.Stat) × GrowsByFront before.bytes after.bytes reply × Rose before.faults after.faults
-Ends asked reply before after commanded.NetFault = ⊥
-Ends asked reply before after commanded.BadReply = (after ≡ before) × (IsGood asked reply → ⊥)
-Ends asked reply before after commanded.NoMemory = ⊥
+abbrev pub Finishes : AdminAsk → List ℕ → StreamAt → StreamAt → Exit → Type 0
+Finishes asked reply before after exits.Ok = IsGood asked reply × PutsOut asked before after reply
+Finishes asked reply before after exits.WriteFault = (asked ≡ ask.Stat) × GrowsByFront before.bytes after.bytes reply × Rose before.faults after.faults
+Finishes asked reply before after exits.BadReply = (after ≡ before) × (IsGood asked reply → ⊥)
+Finishes asked reply before after _ = ⊥
 
-abbrev pub streams : {R K T : Type 0} → source.Ghosts R → sink.Ghosts K → sink.Ghosts T → R → K → T → Streams
-streams r k t conn_in conn_out output = record { conn_in = stream_in r conn_in; conn_out = stream_out k conn_out; output = stream_out t output }
+abbrev pub command_at : {R K T : Type 0} → source.Ghosts R → sink.Ghosts K → sink.Ghosts T → R → K → T → CommandAt
+command_at r k t conn_in conn_out output = record { conn_in = stream_in r conn_in; conn_out = stream_out k conn_out; output = stream_out t output }

@@ -6,4 +6,4 @@ mod commands;
 mod reading;
 
 pub use ask::AdminAsk;
-pub use commands::{Commanded, command};
+pub use commands::command;

@@ -1,30 +1,33 @@
 ghost use Rattle.std.specs.Prelude.{◌≡◌, ◌≤◌, length, IfErr, IfOk, OnOk};
 ghost use Rattle.nsc_outside.specs.Stream.{IsDrained, Moves};
-ghost use Rattle.nsc_control.specs.Commands.{IsUnread, stream_in};
+ghost use Rattle.nsc_outside.specs.StreamAt.{stream_in};
+ghost use Rattle.nsc_model.specs.Exits.{IsExitOf, Asking};
+ghost use Rattle.nsc_control.specs.Commands.{IsUnread};
 
-use crate::commands::Commanded;
 use nsc_base::{Bytes, NoMemory};
+use nsc_model::Exit;
 use nsc_outside::{Source, fill};
 use std::alloc::Global;
 
 // The longest reply, in bytes.
-const REPLY_LIMIT: usize = 65_536;
+const ADMIN_REPLY_LIMIT: usize = 65_536;
 
 // Reads a connection to its end: all that it had. `BadReply` where more than 65,536 bytes came, which is one byte more.
-pub(crate) fn read_reply<R: Source>(alloc: Global, conn_in: &mut R) -> Result<Bytes, Commanded>
+pub(crate) fn read_reply<R: Source>(alloc: Global, conn_in: &mut R) -> Result<Bytes, Exit>
     ensures came { IfOk result (λ reply. Moves (R.left conn_in.old) (R.left conn_in.new) reply) }
     ensures all { OnOk result (IsDrained (R.left conn_in.new)) }
     ensures limit { IfOk result (λ reply. length reply ≤ 65536) }
+    ensures exits { IfErr result (IsExitOf Asking) }
     ensures unread { IfErr result (IsUnread (stream_in R.Source conn_in.old) (stream_in R.Source conn_in.new)) }
 {
     let Ok(mut bytes) = room(alloc) else {
-        return Err(Commanded::NoMemory);
+        return Err(Exit::NoMemory);
     };
     let Ok(count) = fill(conn_in, bytes.as_mut_slice()) else {
-        return Err(Commanded::NetFault);
+        return Err(Exit::NetFault);
     };
-    if count > REPLY_LIMIT {
-        return Err(Commanded::BadReply);
+    if count > ADMIN_REPLY_LIMIT {
+        return Err(Exit::BadReply);
     }
     bytes.truncate(count);
     Ok(Bytes::from_vec(bytes))
@@ -34,7 +37,7 @@ pub(crate) fn read_reply<R: Source>(alloc: Global, conn_in: &mut R) -> Result<By
 fn room(alloc: Global) -> Result<Vec<u8>, NoMemory>
     ensures { IfOk result (λ bytes. length bytes.items ≡ 65537) }
 {
-    let mut bytes = Vec::with_capacity(alloc, REPLY_LIMIT + 1)?;
-    bytes.resize(REPLY_LIMIT + 1, 0)?;
+    let mut bytes = Vec::with_capacity(alloc, ADMIN_REPLY_LIMIT + 1)?;
+    bytes.resize(ADMIN_REPLY_LIMIT + 1, 0)?;
     Ok(bytes)
 }

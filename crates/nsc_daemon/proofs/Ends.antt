@@ -3,7 +3,13 @@ use Rattle.std.proofs.Common.{◌≡◌, ◌∙◌, ℕ, List, [], ◌∷◌, �
 use Rattle.nsc_outside.specs.Stream.{Moves}
 use Rattle.nsc_model.specs.Reads.{Rose}
 use Rattle.nsc_model.specs.Content.{Content}
+use Rattle.nsc_model.specs.declared.exit.Exit.{Exit}
+use Rattle.nsc_model.specs.declared.exit.Exit.TheVariants as exits
 use Rattle.nsc_model.specs.Wire.{Asked, Shutdown, request_of}
+use Rattle.nsc_model.specs.declared.kind.FileId.{FileId}
+use Rattle.nsc_sourcebook.specs.Reads.{FaultRose, TellsLength}
+use Rattle.nsc_sourcebook.specs.declared.fault.PollFault.{PollFault}
+use Rattle.nsc_sourcebook.specs.declared.fault.PollFault.TheVariants as poll
 use Rattle.nsc_server.specs.Requests.{closing_of}
 use Rattle.nsc_server.proofs.Reading.{shutdown_stays}
 use Rattle.nsc_sockets.specs.Connections.{Connection, Gives}
@@ -11,9 +17,7 @@ use Rattle.nsc_sockets.specs.declared.listener.Accepted.{Accepted}
 use Rattle.nsc_sockets.specs.declared.listener.Accepted.TheVariants as accepted
 use Rattle.nsc_sockets.specs.declared.role.Role.{Role}
 use Rattle.nsc_sockets.specs.declared.role.Role.TheVariants as role
-use Rattle.nsc_daemon.specs.declared.ended.Ended.{Ended}
-use Rattle.nsc_daemon.specs.declared.ended.Ended.TheVariants as ended
-use Rattle.nsc_daemon.specs.Ends.{AsksEnd, EndsBy, EndsSo, GoesOn, IsReady, IsToldEnd, Outside, StopsSo, TellsEnd, TellsLength}
+use Rattle.nsc_daemon.specs.Ends.{AsksEnd, DaemonAt, EndsSo, GivesMore, IsOpeningFault, IsReady, IsToldEnd, LastTellsEnd, StopsSo, TellsEnd, TellsHeldLength, opening_exit}
 
 pub told_end : (on : Role) (left left' : Option (List ℕ)) (front : List ℕ) → Moves left left' front → closing_of on (request_of front) ≡ None → request_of front ≡ Shutdown → TellsEnd on left
 told_end on left left' front moved free asked = record { admin = by_role on (subst (λ (a : Asked). closing_of on a ≡ None) asked free); asked = by_left left moved } where
@@ -27,19 +31,19 @@ told_end on left left' front moved free asked = record { admin = by_role on (sub
   by_left (Some bytes) m = ap request_of m.2 ∙ shutdown_stays front m.0 asked
 
 -- the listener gave nothing more
-pub goes_same : (given : Option (List Connection)) → GoesOn given given
+pub goes_same : (given : Option (List Connection)) → GivesMore given given
 goes_same None = refl
 goes_same (Some given) = ([], refl)
 
 -- it gave what was accepted
-pub goes_given : {R K : Type 0} (left : R → Option (List ℕ)) (first before after : Option (List Connection)) (got : Accepted R K) → GoesOn first before → Gives left before after got → GoesOn first after
+pub goes_given : {R K : Type 0} (left : R → Option (List ℕ)) (first before after : Option (List Connection)) (got : Accepted R K) → GivesMore first before → Gives left before after got → GivesMore first after
 goes_given left None before after (accepted.Conn on input output) g gives = gives_none before g gives where
   gives_none : (b : Option (List Connection)) → b ≡ None → Gives left b after (accepted.Conn on input output) → after ≡ None
   gives_none None e given = given
   gives_none (Some old) e given = absurd cc
 goes_given left None before after accepted.Quiet g gives = gives ∙ g
 goes_given left (Some given) before after (accepted.Conn on input output) g gives = gives_one before g.1 gives where
-  gives_one : (b : Option (List Connection)) → b ≡ Some (g.0 ++ given) → Gives left b after (accepted.Conn on input output) → GoesOn (Some given) after
+  gives_one : (b : Option (List Connection)) → b ≡ Some (g.0 ++ given) → Gives left b after (accepted.Conn on input output) → GivesMore (Some given) after
   gives_one None e got = absurd cc
   gives_one (Some old) e got = (record { role = on; bytes = got.0 } ∷ g.0, got.2 ∙ ap (λ (l : List Connection). Some (record { role = on; bytes = got.0 } ∷ l)) (some_is old (g.0 ++ given) e)) where
     some_is : (a b : List Connection) → Some a ≡ Some b → a ≡ b
@@ -47,10 +51,10 @@ goes_given left (Some given) before after (accepted.Conn on input output) g give
 goes_given left (Some given) before after accepted.Quiet g gives = (g.0, gives ∙ g.1)
 
 -- what was accepted told the daemon to end
-pub ends_by : {R K : Type 0} (left : R → Option (List ℕ)) (first before after : Option (List Connection)) (got : Accepted R K) → GoesOn first before → Gives left before after got → IsToldEnd left got → EndsBy first after
+pub ends_by : {R K : Type 0} (left : R → Option (List ℕ)) (first before after : Option (List Connection)) (got : Accepted R K) → GivesMore first before → Gives left before after got → IsToldEnd left got → LastTellsEnd first after
 ends_by left None before after got g gives told = tt
 ends_by left (Some given) before after (accepted.Conn on input output) g gives told = by_before before g.1 gives where
-  by_before : (b : Option (List Connection)) → b ≡ Some (g.0 ++ given) → Gives left b after (accepted.Conn on input output) → EndsBy (Some given) after
+  by_before : (b : Option (List Connection)) → b ≡ Some (g.0 ++ given) → Gives left b after (accepted.Conn on input output) → LastTellsEnd (Some given) after
   by_before None e got = absurd cc
   by_before (Some old) e got = record {
     last = record { role = on; bytes = got.0 };
@@ -66,23 +70,34 @@ ends_by left (Some given) before after (accepted.Conn on input output) g gives t
     asks l is a = subst (λ (x : Option (List ℕ)). IfSome x AsksEnd) is a
 ends_by left (Some given) before after accepted.Quiet g gives told = absurd told
 
+-- the files of a database could not be read at the start
+pub at_opening : (fault : PollFault) (faults faults' : ℕ) (each each' : FileId → ℕ) → FaultRose fault faults faults' each each' → IsOpeningFault fault faults faults'
+at_opening poll.NoMemory faults faults' each each' rose = tt
+at_opening (poll.SourceFault file) faults faults' each each' rose = rose.0
+at_opening (poll.TooLong file size) faults faults' each each' rose = rose.0
+
+-- then the daemon ends so, and nothing was written
+pub unopened : (fault : PollFault) (held : Option Content) (before after : DaemonAt) → after.output ≡ before.output → IsOpeningFault fault before.source_faults after.source_faults → TellsLength fault held
+    → EndsSo (opening_exit fault) before after
+unopened poll.NoMemory held before after silent rose told = silent
+unopened (poll.SourceFault file) held before after silent rose told = (rose, silent)
+unopened (poll.TooLong file size) held before after silent rose told = (rose, silent, told.past)
+
+pub length_held : (fault : PollFault) (held : Option Content) → TellsLength fault held → TellsHeldLength (opening_exit fault) held
+length_held poll.NoMemory held told = tt
+length_held (poll.SourceFault file) held told = tt
+length_held (poll.TooLong file size) held told = (file, told)
+
 -- the daemon ends as the thread that accepts did, once it was ready
-pub ready_so : (by : Ended) (before after : Outside) → IsReady before after → after.source_faults ≡ before.source_faults → StopsSo by before.given after.given before.net_faults after.net_faults → EndsSo by before after
-ready_so ended.ShutDown before after r s stops = (r, stops.0, stops.1, s)
-ready_so ended.NetFault before after r s stops = (stops, inr r)
-ready_so ended.WriteFault before after r s stops = absurd stops
-ready_so ended.SourceFault before after r s stops = absurd stops
-ready_so (ended.TooLong size) before after r s stops = absurd stops
-ready_so ended.NoMemory before after r s stops = absurd stops
+pub ready_so : (by : Exit) (before after : DaemonAt) → IsReady before after → after.source_faults ≡ before.source_faults → StopsSo by before.given after.given before.net_faults after.net_faults → EndsSo by before after
+ready_so exits.Ok before after r s stops = (r, stops.0, stops.1, s)
+ready_so exits.NetFault before after r s stops = (stops, inr r)
+ready_so _ before after r s stops = absurd stops
 
 -- an end to which no count of the files' faults rises is not that of a file that is too long
-pub calm_so : (by : Ended) (held : Option Content) (before after : Outside) → before.source_faults ≡ 0 → after.source_faults ≡ 0 → EndsSo by before after → TellsLength by held
-calm_so ended.ShutDown held before after b a ends = tt
-calm_so ended.WriteFault held before after b a ends = tt
-calm_so ended.SourceFault held before after b a ends = tt
-calm_so (ended.TooLong size) held before after b a ends = absurd (unrisen ends.0) where
+pub calm_so : (by : Exit) (held : Option Content) (before after : DaemonAt) → before.source_faults ≡ 0 → after.source_faults ≡ 0 → EndsSo by before after → TellsHeldLength by held
+calm_so (exits.TooLong size) held before after b a ends = absurd (unrisen ends.0) where
   unrisen : Rose before.source_faults after.source_faults → ⊥
   unrisen (inl more) = omega arith
   unrisen (inr full) = omega arith
-calm_so ended.NetFault held before after b a ends = tt
-calm_so ended.NoMemory held before after b a ends = tt
+calm_so _ held before after b a ends = tt

@@ -5,7 +5,7 @@ use Rattle.std.specs.Prelude.{◌≡◌, ℕ, ◌+◌, ◌<◌, ◌≤◌}
 pub record Worker : Type 0 where
 
 -- of the thread that accepts, the moment of its last tick
-pub record Desk : Type 0 where
+pub record Acceptor : Type 0 where
   pub ticked : ℕ
 
 -- the moment of the last tick after a turn: this one, where fifteen seconds have passed since the one before, and else that

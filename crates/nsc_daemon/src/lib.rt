@@ -1,14 +1,12 @@
 //! The daemon: its databases, its sockets, the thread that accepts and its workers.
 #![tactic(auto)]
 
-mod desk;
-mod ended;
+mod acceptor;
+mod intake;
 mod opening;
-mod queue;
 mod service;
 mod terms;
 mod worker;
 
-pub use ended::Ended;
 pub use service::daemon;
 pub use terms::Terms;

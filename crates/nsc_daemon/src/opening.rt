@@ -1,16 +1,18 @@
 // The four databases, opened and not yet shared.
 ghost use Rattle.std.specs.Prelude.{◌≡◌, ◌≤◌, IfErr, IfOk, OnOk};
+ghost use Rattle.nsc_model.specs.Exits.{IsExitOf, Serving};
 ghost use Rattle.nsc_model.specs.Sizes.{SizeFits, SizesFit};
 ghost use Rattle.nsc_model.specs.Settings.{settings_of};
 ghost use Rattle.nsc_model.specs.declared.kind.Db.TheVariants as db_is;
-ghost use Rattle.nsc_daemon.specs.Ends.{IsOpeningFault, TellsLength};
+ghost use Rattle.nsc_sourcebook.specs.Reads.{TellsLength};
+ghost use Rattle.nsc_daemon.specs.Ends.{IsOpeningFault, opening_exit};
 
-use crate::ended::Ended;
 use nsc_base::NoMemory;
 use nsc_database::{Database, DbPass, Opened, Room};
 use nsc_index::Indexed;
-use nsc_model::{Conf, Databases, Db};
+use nsc_model::{Conf, Databases, Db, Exit};
 use nsc_outside::FileSet;
+use nsc_sourcebook::PollFault;
 use std::alloc::Global;
 
 /// The databases, each with its first pass.
@@ -28,32 +30,41 @@ fn opened<F: FileSet + Drop>(
     files: &mut F,
     db: Db,
     conf: &Conf,
-) -> Result<Opened<F, Indexed>, Ended>
+) -> Result<Opened<F, Indexed>, PollFault>
     requires { SizeFits (settings_of conf.now db) }
     ensures db { IfOk result (λ o. (o.db ≡ db) × (o.settings ≡ settings_of conf.now db) × (o.reloads ≡ conf.now.reloads)) }
     ensures held { IfOk result (λ o. F.held o.files ≡ F.held files.old) }
     ensures stays { OnOk result (F.held files.new ≡ F.held files.old) }
     ensures calm { OnOk result (F.faults files.new ≡ F.faults files.old) }
-    ensures fault { IfErr result (λ ended. IsOpeningFault ended (F.faults files.old) (F.faults files.new)) }
-    ensures length { IfErr result (λ ended. TellsLength ended (F.held files.old)) }
+    ensures fault { IfErr result (λ fault. IsOpeningFault fault (F.faults files.old) (F.faults files.new)) }
+    ensures length { IfErr result (λ fault. TellsLength fault (F.held files.old)) }
 {
-    match Opened::open(alloc, files, Indexed, db, conf) {
-        Ok(opened) => Ok(opened),
-        Err(fault) => Err(Ended::from(fault)),
+    Opened::open(alloc, files, Indexed, db, conf)
+}
+
+/// The exit where the files of a database could not be read.
+pub fn opening_exit(fault: PollFault) -> Exit
+    ensures exits { IsExitOf Serving result }
+    ensures told { result ≡ opening_exit fault }
+{
+    match fault {
+        PollFault::NoMemory => Exit::NoMemory,
+        PollFault::SourceFault { .. } => Exit::SourceFault,
+        PollFault::TooLong { length, .. } => Exit::TooLong { length },
     }
 }
 
 impl<F: FileSet + Drop> Openings<F> {
     /// Opens the four databases over what their files hold.
-    pub fn open(alloc: Global, files: &mut F, conf: &Conf) -> Result<Openings<F>, Ended>
+    pub fn open(alloc: Global, files: &mut F, conf: &Conf) -> Result<Openings<F>, PollFault>
         requires { SizesFit conf.now }
         ensures passwd { IfOk result (λ o. (o.passwd.db ≡ db_is.Passwd) × (o.passwd.settings ≡ settings_of conf.now db_is.Passwd) × (o.passwd.reloads ≡ conf.now.reloads) × (F.held o.passwd.files ≡ F.held files.old)) }
         ensures group { IfOk result (λ o. (o.group.db ≡ db_is.Group) × (o.group.settings ≡ settings_of conf.now db_is.Group) × (o.group.reloads ≡ conf.now.reloads) × (F.held o.group.files ≡ F.held files.old)) }
         ensures hosts { IfOk result (λ o. (o.hosts.db ≡ db_is.Hosts) × (o.hosts.settings ≡ settings_of conf.now db_is.Hosts) × (o.hosts.reloads ≡ conf.now.reloads) × (F.held o.hosts.files ≡ F.held files.old)) }
         ensures services { IfOk result (λ o. (o.services.db ≡ db_is.Services) × (o.services.settings ≡ settings_of conf.now db_is.Services) × (o.services.reloads ≡ conf.now.reloads) × (F.held o.services.files ≡ F.held files.old)) }
         ensures calm { OnOk result (F.faults files.new ≡ F.faults files.old) }
-        ensures fault { IfErr result (λ ended. IsOpeningFault ended (F.faults files.old) (F.faults files.new)) }
-        ensures length { IfErr result (λ ended. TellsLength ended (F.held files.old)) }
+        ensures fault { IfErr result (λ fault. IsOpeningFault fault (F.faults files.old) (F.faults files.new)) }
+        ensures length { IfErr result (λ fault. TellsLength fault (F.held files.old)) }
     {
         let passwd = opened(alloc, files, Db::Passwd, conf)?;
         let group = opened(alloc, files, Db::Group, conf)?;

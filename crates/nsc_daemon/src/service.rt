@@ -1,23 +1,25 @@
-ghost use Rattle.std.specs.Prelude.{◌≡◌, ℕ, IfErr, OnOk};
+ghost use Rattle.std.specs.Prelude.{◌≡◌, ℕ, OnErr, OnOk};
 ghost use Rattle.std.specs.Arc.{arc_value};
+ghost use Rattle.nsc_outside.specs.StreamAt.{stream_out};
+ghost use Rattle.nsc_model.specs.Exits.{IsExitOf, Serving};
 ghost use Rattle.nsc_model.specs.Reads.{Rose};
 ghost use Rattle.nsc_model.specs.Settings.{settings_of};
 ghost use Rattle.nsc_model.specs.Sizes.{SizesFit};
 ghost use Rattle.nsc_model.specs.declared.kind.Db.TheVariants as db_is;
 ghost use Rattle.nsc_server.specs.Passes.{AreNamed, ArePasses};
-ghost use Rattle.nsc_daemon.specs.Ends.{EndsSo, NotBound, StopsSo, TellsLength};
+ghost use Rattle.nsc_daemon.specs.Ends.{EndsSo, StopsSo, TellsHeldLength, daemon_at};
 
-use crate::desk::{Desk, accept_all};
-use crate::ended::Ended;
-use crate::opening::Openings;
-use crate::queue::Waitings;
+use crate::acceptor::{Acceptor, accept_all};
+use crate::intake::Waitings;
+use crate::opening::{Openings, opening_exit};
 use crate::terms::Terms;
 use crate::worker::Worker;
-use nsc_database::Room as InRoom;
+use nsc_base::NoMemory;
+use nsc_database::Room;
 use nsc_jobs::JobList;
-use nsc_model::{Databases, Store};
-use nsc_outside::{FileSet, Sink, Source, write_all};
-use nsc_server::Room;
+use nsc_model::{Databases, Exit, Store};
+use nsc_outside::{Failed, FileSet, Sink, Source, write_all};
+use nsc_server::RequestBuffer;
 use nsc_sockets::{Clock, Listener, Role};
 use std::alloc::Global;
 use std::marker::Brand;
@@ -28,7 +30,7 @@ use std::{thread, time};
 /// Runs the daemon: opens the four databases over these files, binds `socket` and `admin` in the folder, tells the output that it is
 /// ready, and serves connections and ticks until one on the admin socket tells it to end.
 ///
-/// At `ShutDown` the line was written, and the newest connection that the listener gave asked for the end. `SourceFault` and
+/// At `Ok` the line was written, and the newest connection that the listener gave asked for the end. `SourceFault` and
 /// `TooLong` come only where a file failed at the start, and the length of one that is too long is as the files are told; `NetFault`
 /// comes only where a call on the listener failed, and `WriteFault` where one on the output did, which may have taken a front of the
 /// line. At `NoMemory` nothing was written.
@@ -38,23 +40,24 @@ pub fn daemon<
     F: FileSet + Send + Drop + 'static,
     C: Clock,
     N: Listener,
->(rt: &RT, terms: &Terms<'_>, output: &mut K, files: &mut F, clock: &mut C, net: &mut N) -> Ended
+>(rt: &RT, terms: &Terms<'_>, output: &mut K, files: &mut F, clock: &mut C, net: &mut N) -> Exit
 where
     N::In: 'static,
     N::Out: 'static,
     requires { SizesFit terms.now.conf.now }
-    ensures ends { EndsSo result (record { taken = K.taken output.old; output_faults = K.faults output.old; source_faults = F.faults files.old; given = N.given net.old; net_faults = N.faults net.old }) (record { taken = K.taken output.new; output_faults = K.faults output.new; source_faults = F.faults files.new; given = N.given net.new; net_faults = N.faults net.new }) }
-    ensures length { TellsLength result (F.held files.old) }
+    ensures exits { IsExitOf Serving result }
+    ensures ends { EndsSo result (daemon_at K.Sink F.FileSet N.Listener output.old files.old net.old) (daemon_at K.Sink F.FileSet N.Listener output.new files.new net.new) }
+    ensures length { TellsHeldLength result (F.held files.old) }
 {
     match Openings::open(rt.alloc(), files, terms.conf) {
         Ok(openings) => in_room::<Brand, RT, K, F, C, N>(rt, terms, openings, output, clock, net),
-        Err(ended) => ended,
+        Err(fault) => opening_exit(fault),
     }
 }
 
 // Runs the daemon over its opened databases in a room.
 fn in_room<
-    B: InRoom + Send + Sync + 'static,
+    B: Room + Send + Sync + 'static,
     RT: AllocGlobal + Threads + Wait + time::Clock + Clone + Drop + Send + Sync + 'static,
     K: Sink,
     F: FileSet + Send + Drop + 'static,
@@ -67,7 +70,7 @@ fn in_room<
     output: &mut K,
     clock: &mut C,
     net: &mut N,
-) -> Ended
+) -> Exit
 where
     N::In: 'static,
     N::Out: 'static,
@@ -77,11 +80,12 @@ where
     requires group { (openings.group.settings ≡ settings_of B.conf db_is.Group) × (openings.group.reloads ≡ B.conf.reloads) × (F.held openings.group.files ≡ B.held) }
     requires hosts { (openings.hosts.settings ≡ settings_of B.conf db_is.Hosts) × (openings.hosts.reloads ≡ B.conf.reloads) × (F.held openings.hosts.files ≡ B.held) }
     requires services { (openings.services.settings ≡ settings_of B.conf db_is.Services) × (openings.services.reloads ≡ B.conf.reloads) × (F.held openings.services.files ≡ B.held) }
-    ensures { (faults : ℕ) → EndsSo result (record { taken = K.taken output.old; output_faults = K.faults output.old; source_faults = faults; given = N.given net.old; net_faults = N.faults net.old }) (record { taken = K.taken output.new; output_faults = K.faults output.new; source_faults = faults; given = N.given net.new; net_faults = N.faults net.new }) }
+    ensures exits { IsExitOf Serving result }
+    ensures ends { (faults : ℕ) → EndsSo result (record { output = stream_out K.Sink output.old; source_faults = faults; given = N.given net.old; net_faults = N.faults net.old }) (record { output = stream_out K.Sink output.new; source_faults = faults; given = N.given net.new; net_faults = N.faults net.new }) }
 {
     match openings.enter::<B>() {
         Ok((stores, passes)) => serve(rt, terms, stores, passes, output, clock, net),
-        Err(_) => Ended::NoMemory,
+        Err(_) => Exit::NoMemory,
     }
 }
 
@@ -100,23 +104,24 @@ fn serve<
     output: &mut K,
     clock: &mut C,
     net: &mut N,
-) -> Ended
+) -> Exit
 where
     S::Pass: Send + 'static,
     N::In: 'static,
     N::Out: 'static,
     requires named { AreNamed S.Store stores }
     requires passes { ArePasses S.Store stores passes }
-    ensures { (faults : ℕ) → EndsSo result (record { taken = K.taken output.old; output_faults = K.faults output.old; source_faults = faults; given = N.given net.old; net_faults = N.faults net.old }) (record { taken = K.taken output.new; output_faults = K.faults output.new; source_faults = faults; given = N.given net.new; net_faults = N.faults net.new }) }
+    ensures exits { IsExitOf Serving result }
+    ensures ends { (faults : ℕ) → EndsSo result (record { output = stream_out K.Sink output.old; source_faults = faults; given = N.given net.old; net_faults = N.faults net.old }) (record { output = stream_out K.Sink output.new; source_faults = faults; given = N.given net.new; net_faults = N.faults net.new }) }
 {
     let alloc = rt.alloc();
-    let room = match Room::new(alloc) {
-        Ok(room) => room,
-        Err(_) => return Ended::NoMemory,
+    let buffer = match RequestBuffer::new(alloc) {
+        Ok(buffer) => buffer,
+        Err(_) => return Exit::NoMemory,
     };
     let stores = match Arc::new(alloc, stores) {
         Ok(stores) => stores,
-        Err(_) => return Ended::NoMemory,
+        Err(_) => return Exit::NoMemory,
     };
     let processors = match thread::available_parallelism(rt) {
         Ok(number) => number.get(),
@@ -124,42 +129,46 @@ where
     };
     let list = match Arc::new(alloc, JobList::new(alloc, processors)) {
         Ok(list) => list,
-        Err(_) => return Ended::NoMemory,
+        Err(_) => return Exit::NoMemory,
     };
-    match bind(alloc, terms.run_dir, net) {
+    let (plain, admin) = match socket_paths(alloc, terms.run_dir) {
+        Ok(paths) => paths,
+        Err(_) => return Exit::NoMemory,
+    };
+    match bind(net, plain.as_str(), admin.as_str()) {
         Ok(()) => {}
-        Err(ended) => return ended,
+        Err(_) => return Exit::NetFault,
     }
     match write_all(output, b"nscd: ready\n") {
         Ok(()) => {}
-        Err(_) => return Ended::WriteFault,
+        Err(_) => return Exit::WriteFault,
     }
     let ticked = clock.now();
-    let mut desk = Desk {
+    let mut acceptor = Acceptor {
         stores,
         passes,
-        room,
+        buffer,
         ticked,
         waitings: None,
     };
-    run(rt, terms.workers, &mut desk, &list, clock, net)
+    run(rt, terms.workers, &mut acceptor, &list, clock, net)
+}
+
+// The paths of the two sockets: that of every user, and that of the administrator.
+fn socket_paths(alloc: Global, run_dir: &str) -> Result<(String, String), NoMemory> {
+    let plain = format!(in alloc; "{run_dir}/socket")?;
+    let admin = format!(in alloc; "{run_dir}/admin")?;
+    Ok((plain, admin))
 }
 
 // Binds the two sockets.
-fn bind<N: Listener>(alloc: Global, run_dir: &str, net: &mut N) -> Result<(), Ended>
+fn bind<N: Listener>(net: &mut N, plain: &str, admin: &str) -> Result<(), Failed>
     ensures given { N.given net.new ≡ N.given net.old }
     ensures calm { OnOk result (N.faults net.new ≡ N.faults net.old) }
-    ensures fault { IfErr result (λ ended. NotBound ended (N.faults net.old) (N.faults net.new)) }
+    ensures failed { OnErr result (Rose (N.faults net.old) (N.faults net.new)) }
 {
-    let plain = format!(in alloc; "{run_dir}/socket")?;
-    let admin = format!(in alloc; "{run_dir}/admin")?;
-    if net.bind(Role::Plain, plain.as_str()).is_err() {
-        return Err(Ended::NetFault);
-    }
-    if net.bind(Role::Admin, admin.as_str()).is_err() {
-        return Err(Ended::NetFault);
-    }
-    Ok(())
+    net.bind(Role::Plain, plain)?;
+    net.bind(Role::Admin, admin)
 }
 
 // Starts the workers, accepts, and joins them.
@@ -171,29 +180,30 @@ fn run<
 >(
     rt: &RT,
     workers: u32,
-    desk: &mut Desk<S, N::In, N::Out>,
+    acceptor: &mut Acceptor<S, N::In, N::Out>,
     list: &Waitings<N::In, N::Out>,
     clock: &mut C,
     net: &mut N,
-) -> Ended
+) -> Exit
 where
     S::Pass: Send + 'static,
     N::In: 'static,
     N::Out: 'static,
-    ensures { StopsSo result (N.given net.old) (N.given net.new) (N.faults net.old) (N.faults net.new) }
+    ensures exits { IsExitOf Serving result }
+    ensures stops { StopsSo result (N.given net.old) (N.given net.new) (N.faults net.old) (N.faults net.new) }
 {
-    let threads = started(rt, workers, desk, list);
+    let threads = started(rt, workers, acceptor, list);
     if !threads.is_empty() {
         if let Ok(shared) = Arc::try_clone(list) {
-            desk.waitings = Some(shared);
+            acceptor.waitings = Some(shared);
         }
     }
-    let ended = accept_all(rt, desk, clock, net);
+    let exit = accept_all(rt, acceptor, clock, net);
     list.close(rt);
     for thread in threads {
         thread.join(rt);
     }
-    ended
+    exit
 }
 
 // Starts as many workers as it can, up to this number.
@@ -202,7 +212,12 @@ fn started<
     S: Store + Drop + Send + Sync + 'static,
     R: Source + Send + Drop + 'static,
     K: Sink + Send + Drop + 'static,
->(rt: &RT, workers: u32, desk: &Desk<S, R, K>, list: &Waitings<R, K>) -> Vec<JoinHandle<u64>>
+>(
+    rt: &RT,
+    workers: u32,
+    acceptor: &Acceptor<S, R, K>,
+    list: &Waitings<R, K>,
+) -> Vec<JoinHandle<u64>>
 where
     S::Pass: Send + 'static,
 {
@@ -211,7 +226,7 @@ where
         return threads;
     }
     for _ in 0..workers {
-        let Ok(worker) = Worker::new(rt, &desk.stores, list) else {
+        let Ok(worker) = Worker::new(rt, &acceptor.stores, list) else {
             continue;
         };
         let Ok(theirs) = rt.clone() else {

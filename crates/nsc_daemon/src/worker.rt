@@ -2,11 +2,11 @@ ghost use Rattle.std.specs.Prelude.{IfOk};
 ghost use Rattle.std.specs.Arc.{arc_value};
 ghost use Rattle.nsc_server.specs.Passes.{AreNamed, ArePasses};
 
-use crate::queue::{Queue, Waitings};
+use crate::intake::{Intake, Waitings};
 use nsc_base::NoMemory;
 use nsc_model::{Databases, Store};
 use nsc_outside::{Sink, Source};
-use nsc_server::{Room, work};
+use nsc_server::{RequestBuffer, work};
 use std::alloc::Global;
 use std::marker::Model;
 use std::sync::{Arc, Wait};
@@ -17,8 +17,8 @@ use std::time::Clock;
 pub struct Worker<S: Store + Drop, R: Source + Drop, K: Sink + Drop> {
     pub stores: Arc<Databases<S>, Global>,
     pub passes: Databases<S::Pass>,
-    pub room: Room,
-    pub queue: Queue<R, K>,
+    pub buffer: RequestBuffer,
+    pub intake: Intake<R, K>,
 }
 
 impl<S: Store + Drop, R: Source + Drop, K: Sink + Drop> Model for Worker<S, R, K> {
@@ -43,14 +43,14 @@ impl<S: Store + Drop, R: Source + Drop, K: Sink + Drop> Worker<S, R, K> {
         requires { AreNamed S.Store (arc_value stores.now) }
     {
         let passes = attach_all(rt, stores)?;
-        let room = Room::new(rt.alloc())?;
+        let buffer = RequestBuffer::new(rt.alloc())?;
         let list = Arc::try_clone(list)?;
         let stores = Arc::try_clone(stores)?;
         Ok(Worker {
             stores,
             passes,
-            room,
-            queue: Queue {
+            buffer,
+            intake: Intake {
                 list,
                 taken: 0,
                 is_over: false,
@@ -63,10 +63,10 @@ impl<S: Store + Drop, R: Source + Drop, K: Sink + Drop> Worker<S, R, K> {
         let Worker {
             stores,
             mut passes,
-            mut room,
-            mut queue,
+            mut buffer,
+            mut intake,
         } = self;
-        work(rt, &mut queue, &stores, &mut passes, &mut room)
+        work(rt, &mut intake, &stores, &mut passes, &mut buffer)
     }
 }
 

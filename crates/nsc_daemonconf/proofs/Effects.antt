@@ -2,7 +2,7 @@
 use Rattle.std.proofs.Common.{◌≡◌, ℕ, List, [], ◌∷◌, Option, Some, None, refl, sym, ◌∙◌, ap}
 use Rattle.std.specs.Option.{ok_or, option_map}
 use Rattle.nsc_model.specs.declared.conf.Conf.{Conf}
-use Rattle.nsc_daemonconf.specs.declared.lines.ConfFault.TheVariants.{BadValue}
+use Rattle.nsc_model.specs.declared.exit.ConfFault.TheVariants.{BadValue}
 use Rattle.nsc_daemonconf.specs.declared.attributes.Attribute.TheVariants.{OfDaemon}
 use Rattle.nsc_daemonconf.specs.declared.attributes.DaemonAttribute.{DaemonAttribute}
 use Rattle.nsc_daemonconf.specs.Lines.{after_line, attribute_does, daemon_sets, or_fault}

@@ -19,8 +19,8 @@ use Rattle.nsc_daemonconf.specs.declared.attributes.DaemonAttribute.{DaemonAttri
 use Rattle.nsc_daemonconf.specs.declared.attributes.DaemonAttribute.TheVariants as daemon
 use Rattle.nsc_daemonconf.specs.declared.attributes.ServiceName.{ServiceName}
 use Rattle.nsc_daemonconf.specs.declared.attributes.ServiceName.TheVariants.{Database, Netgroup}
-use Rattle.nsc_daemonconf.specs.declared.lines.ConfFault.{ConfFault}
-use Rattle.nsc_daemonconf.specs.declared.lines.ConfFault.TheVariants.{UnknownAttribute, BadLine, BadValue}
+use Rattle.nsc_model.specs.declared.exit.ConfFault.{ConfFault}
+use Rattle.nsc_model.specs.declared.exit.ConfFault.TheVariants.{UnknownAttribute, BadLine, BadValue}
 
 -- ---- values
 

@@ -6,4 +6,4 @@ mod lines;
 mod values;
 mod words;
 
-pub use lines::{ConfFault, read_conf};
+pub use lines::read_conf;

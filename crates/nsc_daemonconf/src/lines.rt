@@ -6,31 +6,7 @@ ghost use Rattle.nsc_model.specs.Sizes.{SizeFits, SizesFit};
 use crate::attributes::{Attribute, DaemonAttribute, DbAttribute, ServiceName};
 use crate::words::{only_word, two_words};
 use nsc_base::{Span, line_at, next_word};
-use nsc_model::{Conf, Db, DbConf};
-use thiserror::Error;
-
-/// Why a text is no nscd.conf(5). Each fault has the number of its line, from 1.
-#[derive(Clone, Copy, Debug, PartialEq, Eq, Error)]
-pub enum ConfFault {
-    /// The line has a number of words, or a service, that its attribute does not have.
-    #[error("configuration line {line}: bad line")]
-    BadLine {
-        /// The number of the line.
-        line: u64,
-    },
-    /// The value is none of the attribute's.
-    #[error("configuration line {line}: bad value")]
-    BadValue {
-        /// The number of the line.
-        line: u64,
-    },
-    /// The first word is no attribute.
-    #[error("configuration line {line}: unknown attribute")]
-    UnknownAttribute {
-        /// The number of the line.
-        line: u64,
-    },
-}
+use nsc_model::{Conf, ConfFault, Db, DbConf};
 
 /// The settings of a text of nscd.conf(5): those that hold by default, with what each line in its order says, so that a
 /// later line replaces an earlier one. Blanks and tabs part words, a `#` begins a remark, and a line with no word says

@@ -20,12 +20,12 @@ HasNoJob before after = (before.jobs.items ≡ []) × (after.jobs.items ≡ [])
 
 -- A worker takes the first job. Where there is none, it leaves a closed list; it looks for a job where it may, jobs are near each
 -- other, and no other looks; and else it sleeps. The list counts the workers that look, and those that sleep up to the greatest number.
-abbrev pub GoesOn : {T : Type 0} → Next T → (may_look : Bool) → Queue T → Queue T → Type 0
-GoesOn (next.Job job) may_look before after = (before.jobs.items ≡ job ∷ after.jobs.items) × (after ≡ record before { jobs = after.jobs })
-GoesOn next.Leave may_look before after = HasNoJob before after × (before.is_closed ≡ true) × (after ≡ record before { jobs = after.jobs })
-GoesOn next.Look may_look before after =
+abbrev pub DoesNext : {T : Type 0} → Next T → (may_look : Bool) → Queue T → Queue T → Type 0
+DoesNext (next.Job job) may_look before after = (before.jobs.items ≡ job ∷ after.jobs.items) × (after ≡ record before { jobs = after.jobs })
+DoesNext next.Leave may_look before after = HasNoJob before after × (before.is_closed ≡ true) × (after ≡ record before { jobs = after.jobs })
+DoesNext next.Look may_look before after =
     HasNoJob before after × (before.is_closed ≡ false) × (may_look ≡ true) × (before.is_near ≡ true) × (before.looking ≡ 0)
     × (after ≡ record before { jobs = after.jobs; looking = 1 })
-GoesOn next.Sleep may_look before after =
+DoesNext next.Sleep may_look before after =
     HasNoJob before after × (before.is_closed ≡ false) × ((may_look ≡ false) ⊎ (before.is_near ≡ false) ⊎ (0 < before.looking))
     × (after ≡ record before { jobs = after.jobs; sleeping = min (before.sleeping + 1) 18446744073709551615 })

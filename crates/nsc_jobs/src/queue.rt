@@ -1,6 +1,6 @@
 ghost use Rattle.std.specs.Prelude.{◌≡◌, ◌<◌, ◌++◌, ◌∷◌, [], ◌↔◌, ◌-◌, IsTrue, length, false, true, if◌then◌else◌, OnOk, OnErr};
 ghost use Rattle.std.specs.Duration.{as_nanos};
-ghost use Rattle.nsc_jobs.specs.Jobs.{GoesOn, HasNoWorker, IsWorkerWanted};
+ghost use Rattle.nsc_jobs.specs.Jobs.{DoesNext, HasNoWorker, IsWorkerWanted};
 
 use nsc_base::NoMemory;
 use nsc_yields::Yields;
@@ -93,7 +93,7 @@ impl<T: Drop> Queue<T> {
     /// What a worker does next, and notes that it does so. It takes the job at the front. Where there is none it leaves a closed
     /// list, and looks for a job only where it may, jobs are near each other, and no other worker looks.
     pub(crate) fn next(&mut self, may_look: bool) -> Next<T>
-        ensures { GoesOn result may_look self.old self.new }
+        ensures { DoesNext result may_look self.old self.new }
     {
         match self.jobs.pop_front() {
             Some(job) => Next::Job(job),

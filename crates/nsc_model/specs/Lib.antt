@@ -29,3 +29,4 @@ pub mod Replay
 pub mod Fronts
 pub mod Reads
 pub mod Stores
+pub mod Exits

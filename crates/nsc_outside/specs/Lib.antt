@@ -1,4 +1,5 @@
 pub mod Stream
+pub mod StreamAt
 pub mod StdStream
 pub mod Plan
 pub mod MemSource

@@ -1,5 +1,4 @@
 pub mod Frame
-pub mod Ended
 pub mod Cached
 pub mod Parts
 pub mod Machine

@@ -4,6 +4,8 @@ use Rattle.nsc_outside.specs.Stream.{Moves, IsDrained}
 use Rattle.nsc_model.specs.Reads.{Rose}
 use Rattle.nsc_model.specs.Frames as frames
 use Rattle.nsc_model.specs.Fronts.{Finds, Refuses, IsPartial}
+use Rattle.nsc_model.specs.declared.exit.Exit.{Exit}
+use Rattle.nsc_model.specs.declared.exit.Exit.TheVariants.{BadFrame, NoMemory, ReadFault, TooLong}
 use Rattle.nsc_replay.specs.declared.halt.Halt.{Halt}
 use Rattle.nsc_replay.specs.declared.halt.Halt.TheVariants as halts
 
@@ -43,3 +45,11 @@ CountsFault before after halts.NoMemory = after ≡ before
 abbrev pub CountsHalt : {X : Type 0} → ℕ → ℕ → Result X Halt → Type 0
 CountsHalt before after (Ok x) = after ≡ before
 CountsHalt before after (Err halt) = CountsFault before after halt
+
+-- the exit where no frame was read at this place of the input
+abbrev pub halt_exit : ℕ → Halt → Exit
+halt_exit place halts.Ended = BadFrame place
+halt_exit place halts.NoFrame = BadFrame place
+halt_exit place (halts.LongFile size) = TooLong size
+halt_exit place halts.ReadFault = ReadFault
+halt_exit place halts.NoMemory = NoMemory

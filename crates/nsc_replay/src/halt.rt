@@ -1,8 +1,8 @@
 ghost use Rattle.std.specs.Prelude.{◌≡◌};
 ghost use Rattle.nsc_replay.specs.declared.halt.Halt.TheVariants.{ReadFault, NoMemory as Memory};
 
-use crate::ended::Ended;
 use nsc_base::NoMemory;
+use nsc_model::Exit;
 use nsc_outside::Failed;
 use std::alloc::{AllocError, AllocFailed};
 
@@ -26,17 +26,17 @@ pub enum Halt {
 
 impl Halt {
     ghost use Rattle.std.specs.Prelude.{◌≡◌};
-    ghost use Rattle.nsc_replay.specs.Ended.{ended_at};
+    ghost use Rattle.nsc_replay.specs.Reading.{halt_exit};
 
-    /// How a replay ends where no frame was read at this place of the input.
-    pub fn at(self, place: u64) -> Ended
-        ensures { result ≡ ended_at place self }
+    /// The exit where no frame was read at this place of the input.
+    pub fn at(self, place: u64) -> Exit
+        ensures { result ≡ halt_exit place self }
     {
         match self {
-            Halt::Ended | Halt::NoFrame => Ended::BadFrame { offset: place },
-            Halt::LongFile { length } => Ended::TooLong { length },
-            Halt::ReadFault => Ended::ReadFault,
-            Halt::NoMemory => Ended::NoMemory,
+            Halt::Ended | Halt::NoFrame => Exit::BadFrame { offset: place },
+            Halt::LongFile { length } => Exit::TooLong { length },
+            Halt::ReadFault => Exit::ReadFault,
+            Halt::NoMemory => Exit::NoMemory,
         }
     }
 }

@@ -2,7 +2,6 @@
 #![tactic(auto)]
 
 mod cached;
-mod ended;
 mod frame;
 mod halt;
 mod machine;
@@ -12,5 +11,4 @@ mod reply;
 mod rounds;
 mod sources;
 
-pub use ended::Ended;
 pub use rounds::replay;

@@ -10,7 +10,7 @@ ghost use Rattle.nsc_replay.specs.Turns.{GoesTo, TurnFaults};
 
 use crate::cached::Cached;
 use crate::frame::Frame;
-use crate::sources::{Shared, Sources};
+use crate::sources::{SharedFile, Sources};
 use nsc_base::{Bytes, NoMemory};
 use nsc_model::{Answerer, CacheFault, Conf, Databases, Db, FileId, Kind};
 use nsc_wire::{Wire, read_request};
@@ -144,7 +144,7 @@ impl<A: Answerer> Machine<A> {
         ensures settings { self.new.settings ≡ self.old.settings }
         ensures set { OnOk result (self.new.state ≡ record self.old.state { files = with_file self.old.state.files file bytes }) }
     {
-        let held = Shared::new(alloc, bytes)?;
+        let held = SharedFile::new(alloc, bytes)?;
         let passwd = self.sources.part_with(alloc, Db::Passwd, file, &held)?;
         let group = self.sources.part_with(alloc, Db::Group, file, &held)?;
         let hosts = self.sources.part_with(alloc, Db::Hosts, file, &held)?;

@@ -12,11 +12,11 @@ use std::sync::Arc;
 
 /// The bytes of a file, which contents share; `None` where the file is absent.
 #[derive(Drop)]
-pub struct Shared {
+pub struct SharedFile {
     bytes: Option<Arc<Bytes>>,
 }
 
-impl Model for Shared {
+impl Model for SharedFile {
     ghost use Rattle.std.specs.Prelude.{Option, List, ℕ};
     ghost use Rattle.std.specs.Arc.{arc_value};
     ghost use Rattle.std.specs.Option.{option_map};
@@ -26,16 +26,16 @@ impl Model for Shared {
     ghost view = { λ file. option_map (λ b. arc_value b) file.bytes };
 }
 
-impl Shared {
+impl SharedFile {
     /// An absent file, or one of these bytes, which are not copied. Fails only for want of memory.
-    pub fn new(alloc: Global, bytes: Option<Bytes>) -> Result<Shared, NoMemory>
+    pub fn new(alloc: Global, bytes: Option<Bytes>) -> Result<SharedFile, NoMemory>
         ensures { IfOk result (λ file. file ≡ bytes) }
     {
         let bytes = match bytes {
             Some(bytes) => Some(Arc::new(alloc, bytes)?),
             None => None,
         };
-        Ok(Shared { bytes })
+        Ok(SharedFile { bytes })
     }
 
     // Another handle on the bytes.
@@ -52,7 +52,7 @@ impl Shared {
 /// All files as they are, whose bytes the contents of the databases share.
 #[derive(Drop)]
 pub struct Sources {
-    files: [Shared; FileId::ALL.len()],
+    files: [SharedFile; FileId::ALL.len()],
 }
 
 impl Model for Sources {
@@ -67,7 +67,7 @@ impl Model for Sources {
 }
 
 // An absent file.
-const ABSENT: Shared = Shared { bytes: None };
+const ABSENT: SharedFile = SharedFile { bytes: None };
 
 impl Sources {
     /// Every file is absent.
@@ -80,7 +80,7 @@ impl Sources {
     }
 
     /// A file becomes this. The other files stay.
-    pub fn set(&mut self, file: FileId, held: Shared)
+    pub fn set(&mut self, file: FileId, held: SharedFile)
         requires { FileFits held }
         ensures { self.new ≡ with_file self.old file held }
     {
@@ -94,7 +94,7 @@ impl Sources {
         alloc: Global,
         db: Db,
         file: FileId,
-        held: &Shared,
+        held: &SharedFile,
     ) -> Result<Option<Arc<Content>>, NoMemory>
         requires { FileFits held.now }
         ensures { IfOk result (λ part. unwrap_or (option_map (λ c. arc_value c) part) (part_of db self.now) ≡ part_of db (with_file self.now file held.now)) }

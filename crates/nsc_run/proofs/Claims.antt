@@ -2,47 +2,29 @@
 use Rattle.std.proofs.Common.{◌≡◌, ◌∙◌, ℕ, List, Option, Some, None, Result, Ok, Err, refl, sym, ap, subst, inl, inr, arith}
 use Rattle.std.specs.Prelude.{IfSome}
 use Rattle.nsc_outside.specs.Stream.{Grows}
+use Rattle.nsc_outside.specs.StreamAt.{StreamAt}
 use Rattle.nsc_model.specs.Reads.{Rose}
 use Rattle.nsc_outside.specs.declared.stream.Source as source
 use Rattle.nsc_outside.specs.declared.stream.Sink as sink
 use Rattle.nsc_model.specs.declared.conf.Conf.{Conf}
 use Rattle.nsc_model.specs.Content.{Content}
-use Rattle.nsc_daemonconf.specs.declared.lines.ConfFault.{ConfFault}
-use Rattle.nsc_replay.specs.declared.ended.Ended.{Ended}
-use Rattle.nsc_replay.specs.declared.ended.Ended.TheVariants as ended
-use Rattle.nsc_replay.specs.Streams as streams
-use Rattle.nsc_replay.specs.Streams.{Streams}
+use Rattle.nsc_model.specs.declared.exit.ConfFault.{ConfFault}
+use Rattle.nsc_model.specs.declared.exit.Exit.{Exit}
+use Rattle.nsc_model.specs.declared.exit.Exit.TheVariants as exits
+use Rattle.nsc_replay.specs.Runs.{ReplayRun}
+use Rattle.nsc_replay.specs.Streams.{Counted, Streams}
 use Rattle.nsc_control.specs.declared.ask.AdminAsk.{AdminAsk}
-use Rattle.nsc_control.specs.declared.commands.Commanded.{Commanded}
-use Rattle.nsc_control.specs.declared.commands.Commanded.TheVariants as commanded
-use Rattle.nsc_control.specs.Commands as control
-use Rattle.nsc_daemon.specs.Ends as daemon
-use Rattle.nsc_daemon.specs.declared.ended.Ended as daemon_end
-use Rattle.nsc_daemon.specs.declared.ended.Ended.TheVariants as daemon_ended
-use Rattle.nsc_workload.specs.declared.run.Worked.{Worked}
-use Rattle.nsc_workload.specs.declared.run.Worked.TheVariants as worked
-use Rattle.nsc_workload.specs.Runs.{IsCounted, IsWritten}
+use Rattle.nsc_control.specs.Commands.{Commands}
+use Rattle.nsc_daemon.specs.Ends.{DaemonAt, EndsSo, IsReady, LastTellsEnd}
+use Rattle.nsc_workload.specs.Runs.{PutsText}
 use Rattle.nsc_workload.specs.Workload.{workload_of}
-use Rattle.nsc_run.specs.declared.exit.Exit.{Exit}
-use Rattle.nsc_run.specs.declared.exit.Exit.TheVariants as exits
-use Rattle.nsc_run.specs.Exits.{exit_of, command_exit, daemon_exit, workload_exit}
-use Rattle.nsc_run.specs.Commands.{ConfGives, Counted, Course, IsRefused, NoFault, NotSet, TellsAll, settings_by}
+use Rattle.nsc_run.specs.Commands.{ConfGives, Course, NotSet, RefusesForm, StreamsCalm, TellsAll, settings_by}
 use Rattle.nsc_run.specs.Forms.{Form, Replay, Ask, Workload, Daemon}
-use Rattle.nsc_run.specs.Runs.{Asks, IsAnswered, IsAsked, IsDone, IsWorked, NeverFail, Outside, Runs, Serves, Tells, TellsServed, Works}
+use Rattle.nsc_run.specs.Runs.{Asks, DaemonCourse, IsAsked, IsDone, NeverFail, Outside, RunsByForm, TellsAnswered, TellsByForm, TellsServed, TellsWorked}
 use Rattle.nsc_run.proofs.Courses.{done_by}
 use Rattle.nsc_run.proofs.Ends.{tells}
 
 -- ---- the replay
-
--- the counts of the faults, by how the replay ended
-uncounted : (by : Ended) (s : Streams) → Counted (exit_of by) s → streams.Counted by s
-uncounted ended.Done s h = h
-uncounted ended.ReadFault s h = h
-uncounted ended.WriteFault s h = h
-uncounted (ended.BadFrame offset) s h = h
-uncounted (ended.TooLong size) s h = h
-uncounted (ended.Spent count) s h = h
-uncounted ended.NoMemory s h = h
 
 no_memory_tells : (left : Option (List ℕ)) (r : Result Conf ConfFault) → TellsAll left r exits.NoMemory
 no_memory_tells None (Ok settings) = tt
@@ -66,181 +48,135 @@ unset_tells told a b P bad memory (exits.BadConf fault) n calm = gives_told told
 unset_tells told a b P bad memory exits.SourceFault n calm = absurd (calm n)
 unset_tells told a b P bad memory (exits.TooLong size) n calm = absurd (calm n.1)
 unset_tells told a b P bad memory exits.NoMemory n calm = always_told told (λ r. P r exits.NoMemory) memory
-unset_tells told a b P bad memory exits.Ok n calm = absurd n
-unset_tells told a b P bad memory exits.Usage n calm = absurd n
-unset_tells told a b P bad memory exits.ReadFault n calm = absurd n
-unset_tells told a b P bad memory exits.WriteFault n calm = absurd n
-unset_tells told a b P bad memory (exits.BadFrame offset) n calm = absurd n
-unset_tells told a b P bad memory exits.NetFault n calm = absurd n
-unset_tells told a b P bad memory (exits.Spent count) n calm = absurd n
-unset_tells told a b P bad memory exits.BadReply n calm = absurd n
+unset_tells told a b P bad memory _ n calm = absurd n
 
-replay_tells : (told : Option (Option (List ℕ))) (a b : ℕ) (s : Streams) (exit : Exit) → Course told a b s exit → Counted exit s → (Rose a b → ⊥) → NoFault s → IfSome told (λ text. TellsAll s.before.left (settings_by text) exit)
+replay_tells : (told : Option (Option (List ℕ))) (a b : ℕ) (s : Streams) (exit : Exit) → Course told a b s exit → Counted exit s → (Rose a b → ⊥) → StreamsCalm s → IfSome told (λ text. TellsAll s.before.input.bytes (settings_by text) exit)
 replay_tells told a b s exit (inl ran) counts calm still =
-    gives_told told (Ok ran.settings) (λ r. TellsAll s.before.left r exit) ran.is_set.of_config
-    (subst (λ (e : Exit). TellsAll s.before.left (Ok ran.settings) e) (sym ran.run.told)
-    (tells ran.settings s ran.run.ended ran.run.run (uncounted ran.run.ended s (subst (λ (e : Exit). Counted e s) ran.run.told counts)) still))
+    gives_told told (Ok ran.settings) (λ r. TellsAll s.before.input.bytes r exit) ran.is_set.of_config (tells ran.settings s exit ran.run counts still)
 replay_tells told a b s exit (inr stopped) counts calm still =
-    unset_tells told a b (λ r e. TellsAll s.before.left r e) (λ fault. inl refl) (no_memory_tells s.before.left) exit stopped.0 calm
+    unset_tells told a b (λ r e. TellsAll s.before.input.bytes r e) (λ fault. inl refl) (no_memory_tells s.before.input.bytes) exit stopped.0 calm
 
 -- ---- a question to a daemon
-
-module _ {I O : Type 0} (i : source.Ghosts I) (o : sink.Ghosts O) where
-  asked_done : (asked : AdminAsk) (peer : Option (List ℕ)) (a b : control.StreamAt) (came : Commanded) → exits.Ok ≡ command_exit came → IsAsked i o asked peer a b came → IsAsked i o asked peer a b commanded.Done
-  asked_done asked peer a b commanded.Done e h = h
-  asked_done asked peer a b commanded.WriteFault e h = absurd cc
-  asked_done asked peer a b commanded.NetFault e h = absurd cc
-  asked_done asked peer a b commanded.BadReply e h = absurd cc
-  asked_done asked peer a b commanded.NoMemory e h = absurd cc
-
-  ask_done : (asked : AdminAsk) (peer : Option (List ℕ)) (a b : control.StreamAt) (n m : ℕ) (exit : Exit) → Asks i o asked peer a b n m exit → exit ≡ exits.Ok → IsAsked i o asked peer a b commanded.Done
-  ask_done asked peer a b n m exit (inl h) e = asked_done asked peer a b h.0 (sym e ∙ h.1) h.2
-  ask_done asked peer a b n m exit (inr (inl h)) e = absurd (let x : exits.NoMemory ≡ exits.Ok = sym h.0 ∙ e in cc)
-  ask_done asked peer a b n m exit (inr (inr h)) e = absurd (let x : exits.NetFault ≡ exits.Ok = sym h.0 ∙ e in cc)
 
 none_rose : {A : Type 0} (n m : ℕ) → n ≡ 0 → m ≡ 0 → Rose n m → A
 none_rose n m e f (inl h) = absurd (omega arith)
 none_rose n m e f (inr h) = absurd (omega arith)
 
 module _ {I O : Type 0} (i : source.Ghosts I) (o : sink.Ghosts O) where
-  asked_tells : (asked : AdminAsk) (peer : Option (List ℕ)) (a b : control.StreamAt) (came : Commanded) → IsAsked i o asked peer a b came → NeverFail i o → (Rose a.faults b.faults → ⊥) → IsAnswered (command_exit came)
-  asked_tells asked peer a b commanded.Done h never calm = inl refl
-  asked_tells asked peer a b commanded.WriteFault h never calm = absurd (calm h.commands.failed)
-  asked_tells asked peer a b commanded.NetFault h never calm = absurd (elim h.commands.1 [
+  ask_done : (asked : AdminAsk) (peer : Option (List ℕ)) (a b : StreamAt) (n m : ℕ) (exit : Exit) → Asks i o asked peer a b n m exit → exit ≡ exits.Ok → IsAsked i o asked peer a b exits.Ok
+  ask_done asked peer a b n m exit (inl h) e = subst (IsAsked i o asked peer a b) e h.0
+  ask_done asked peer a b n m exit (inr (inl h)) e = absurd (let x : exits.NoMemory ≡ exits.Ok = sym h.0 ∙ e in cc)
+  ask_done asked peer a b n m exit (inr (inr h)) e = absurd (let x : exits.NetFault ≡ exits.Ok = sym h.0 ∙ e in cc)
+
+  asked_tells : (asked : AdminAsk) (peer : Option (List ℕ)) (a b : StreamAt) (exit : Exit) → IsAsked i o asked peer a b exit → NeverFail i o → (Rose a.faults b.faults → ⊥) → TellsAnswered exit
+  asked_tells asked peer a b exits.Ok h never calm = inl refl
+  asked_tells asked peer a b exits.WriteFault h never calm = absurd (calm h.commands.failed)
+  asked_tells asked peer a b exits.NetFault h never calm = absurd (elim h.commands.1 [
     | inl rose ↦ none_rose _ _ (never.inputs h.conn_in) (never.inputs h.conn_in') rose
     | inr rose ↦ none_rose _ _ (never.outputs h.conn_out) (never.outputs h.conn_out') rose
   ])
-  asked_tells asked peer a b commanded.BadReply h never calm = inr (inr refl)
-  asked_tells asked peer a b commanded.NoMemory h never calm = inr (inl refl)
+  asked_tells asked peer a b exits.BadReply h never calm = inr (inr refl)
+  asked_tells asked peer a b exits.NoMemory h never calm = inr (inl refl)
+  asked_tells asked peer a b _ h never calm = absurd h.commands
 
-  ask_tells : (asked : AdminAsk) (peer : Option (List ℕ)) (a b : control.StreamAt) (n m : ℕ) (exit : Exit) → Asks i o asked peer a b n m exit → NeverFail i o → (Rose n m → ⊥) → (Rose a.faults b.faults → ⊥) → IsAnswered exit
-  ask_tells asked peer a b n m exit (inl h) never net calm = subst IsAnswered (sym h.1) (asked_tells asked peer a b h.0 h.2 never calm)
+  ask_tells : (asked : AdminAsk) (peer : Option (List ℕ)) (a b : StreamAt) (n m : ℕ) (exit : Exit) → Asks i o asked peer a b n m exit → NeverFail i o → (Rose n m → ⊥) → (Rose a.faults b.faults → ⊥) → TellsAnswered exit
+  ask_tells asked peer a b n m exit (inl h) never net calm = asked_tells asked peer a b exit h.0 never calm
   ask_tells asked peer a b n m exit (inr (inl h)) never net calm = inr (inl h.0)
   ask_tells asked peer a b n m exit (inr (inr h)) never net calm = absurd (net h.2)
 
 -- ---- a workload
 
-written_done : (by : Worked) (text : List ℕ) (a b : Option (List ℕ)) → exits.Ok ≡ workload_exit by → IsWritten by text a b → Grows a b text
-written_done worked.Done text a b e h = h
-written_done worked.WriteFault text a b e h = absurd cc
-written_done worked.NoMemory text a b e h = absurd cc
+work_done : (text : List ℕ) (a b : StreamAt) (exit : Exit) → PutsText exit text a b → exit ≡ exits.Ok → Grows a.bytes b.bytes text
+work_done text a b exit h e = (subst (λ (x : Exit). PutsText x text a b) e h).0
 
-work_done : (n : ℕ) (a b : control.StreamAt) (exit : Exit) → Works n a b exit → exit ≡ exits.Ok → Grows a.bytes b.bytes (workload_of n)
-work_done n a b exit h e = written_done h.ended (workload_of n) a.bytes b.bytes (sym e ∙ h.exit_is) h.written
-
-counted_tells : (by : Worked) (n m : ℕ) → IsCounted by n m → (Rose n m → ⊥) → IsWorked (workload_exit by)
-counted_tells worked.Done n m h calm = inl refl
-counted_tells worked.WriteFault n m h calm = absurd (calm h)
-counted_tells worked.NoMemory n m h calm = inr refl
-
-work_tells : (n : ℕ) (a b : control.StreamAt) (exit : Exit) → Works n a b exit → (Rose a.faults b.faults → ⊥) → IsWorked exit
-work_tells n a b exit h calm = subst IsWorked (sym h.exit_is) (counted_tells h.ended a.faults b.faults h.counted calm)
+work_tells : (text : List ℕ) (a b : StreamAt) (exit : Exit) → PutsText exit text a b → (Rose a.faults b.faults → ⊥) → TellsWorked exit
+work_tells text a b exits.Ok h calm = inl refl
+work_tells text a b exits.WriteFault h calm = absurd (calm h.1)
+work_tells text a b exits.NoMemory h calm = inr refl
+work_tells text a b _ h calm = absurd h
 
 -- ---- the daemon
 
--- nothing at Ok but the end that was asked for
-ended_done : (by : daemon_end.Ended) → exits.Ok ≡ daemon_exit by → by ≡ daemon_ended.ShutDown
-ended_done daemon_ended.ShutDown e = refl
-ended_done _ e = absurd cc
-
-served_done : (told : Option (Option (List ℕ))) (etc : Option (List ℕ)) (held : Option Content) (a b : daemon.Outside) (exit : Exit) → Serves told etc held a b exit → exit ≡ exits.Ok → daemon.IsReady a b × daemon.EndsBy a.given b.given
+served_done : (told : Option (Option (List ℕ))) (etc : Option (List ℕ)) (held : Option Content) (a b : DaemonAt) (exit : Exit) → DaemonCourse told etc held a b exit → exit ≡ exits.Ok → IsReady a b × LastTellsEnd a.given b.given
 served_done told etc held a b exit (inl h) e =
-    let ends = subst (λ (by : daemon_end.Ended). daemon.EndsSo by a b) (ended_done h.ended (sym e ∙ h.exit_is)) h.ends in
+    let ends = subst (λ (by : Exit). EndsSo by a b) e h.ends in
     (ends.0, ends.1)
 served_done told etc held a b exit (inr h) e = absurd (subst (NotSet told a.source_faults b.source_faults) e h.0)
 
-end_tells : (settings : Conf) (by : daemon_end.Ended) (a b : daemon.Outside) → daemon.EndsSo by a b
-    → (Rose a.source_faults b.source_faults → ⊥) → (Rose a.net_faults b.net_faults → ⊥) → (Rose a.output_faults b.output_faults → ⊥) → TellsServed (Ok settings) (daemon_exit by)
-end_tells settings daemon_ended.ShutDown a b h sources net output = inl refl
-end_tells settings daemon_ended.WriteFault a b h sources net output = absurd (output h.0)
-end_tells settings daemon_ended.SourceFault a b h sources net output = absurd (sources h.0)
-end_tells settings (daemon_ended.TooLong size) a b h sources net output = absurd (sources h.0)
-end_tells settings daemon_ended.NetFault a b h sources net output = absurd (net h.0)
-end_tells settings daemon_ended.NoMemory a b h sources net output = inr refl
+end_tells : (settings : Conf) (exit : Exit) (a b : DaemonAt) → EndsSo exit a b
+    → (Rose a.source_faults b.source_faults → ⊥) → (Rose a.net_faults b.net_faults → ⊥) → (Rose a.output.faults b.output.faults → ⊥) → TellsServed (Ok settings) exit
+end_tells settings exits.Ok a b h sources net output = inl refl
+end_tells settings exits.WriteFault a b h sources net output = absurd (output h.0)
+end_tells settings exits.SourceFault a b h sources net output = absurd (sources h.0)
+end_tells settings (exits.TooLong size) a b h sources net output = absurd (sources h.0)
+end_tells settings exits.NetFault a b h sources net output = absurd (net h.0)
+end_tells settings exits.NoMemory a b h sources net output = inr refl
+end_tells settings _ a b h sources net output = absurd h
 
 no_memory_serves : (r : Result Conf ConfFault) → TellsServed r exits.NoMemory
 no_memory_serves (Ok settings) = inr refl
 no_memory_serves (Err fault) = inr refl
 
-served_tells : (told : Option (Option (List ℕ))) (etc : Option (List ℕ)) (held : Option Content) (a b : daemon.Outside) (exit : Exit) → Serves told etc held a b exit
-    → (Rose a.source_faults b.source_faults → ⊥) → (Rose a.net_faults b.net_faults → ⊥) → (Rose a.output_faults b.output_faults → ⊥) → IfSome told (λ text. TellsServed (settings_by text) exit)
+served_tells : (told : Option (Option (List ℕ))) (etc : Option (List ℕ)) (held : Option Content) (a b : DaemonAt) (exit : Exit) → DaemonCourse told etc held a b exit
+    → (Rose a.source_faults b.source_faults → ⊥) → (Rose a.net_faults b.net_faults → ⊥) → (Rose a.output.faults b.output.faults → ⊥) → IfSome told (λ text. TellsServed (settings_by text) exit)
 served_tells told etc held a b exit (inl h) sources net output =
-    gives_told told (Ok h.settings) (λ r. TellsServed r exit) h.of_config
-    (subst (λ (e : Exit). TellsServed (Ok h.settings) e) (sym h.exit_is) (end_tells h.settings h.ended a b h.ends sources net output))
+    gives_told told (Ok h.settings) (λ r. TellsServed r exit) h.of_config (end_tells h.settings exit a b h.ends sources net output)
 served_tells told etc held a b exit (inr h) sources net output =
     unset_tells told a.source_faults b.source_faults TellsServed (λ fault. inl refl) no_memory_serves exit h.0 sources
 
 -- ---- a run
 
--- no form ends with Usage
-no_replay : (by : Ended) → exit_of by ≡ exits.Usage → ⊥
-no_replay ended.Done e = cc
-no_replay _ e = cc
-
-no_question : (came : Commanded) → command_exit came ≡ exits.Usage → ⊥
-no_question commanded.Done e = cc
-no_question _ e = cc
-
-no_workload : (by : Worked) → workload_exit by ≡ exits.Usage → ⊥
-no_workload worked.Done e = cc
-no_workload _ e = cc
-
-no_daemon : (by : daemon_end.Ended) → daemon_exit by ≡ exits.Usage → ⊥
-no_daemon daemon_ended.ShutDown e = cc
-no_daemon _ e = cc
-
 module _ {I O : Type 0} (i : source.Ghosts I) (o : sink.Ghosts O) (a b : Outside) (exit : Exit) where
-  pub run_done : (form : Option Form) → Runs i o form a b exit → exit ≡ exits.Ok → IsDone i o form a b
+  pub run_done : (form : Option Form) → RunsByForm i o form a b exit → exit ≡ exits.Ok → IsDone i o form a b
   run_done None h e = absurd (elim h.0 [
     | inl x ↦ let never : exits.Usage ≡ exits.Ok = sym x ∙ e in cc
     | inr x ↦ let never : exits.NoMemory ≡ exits.Ok = sym x ∙ e in cc
   ])
   run_done (Some (Replay config)) h e = done_by _ _ _ _ exit h.0 e
   run_done (Some (Ask asked folder)) h e = ask_done i o asked a.peer _ _ _ _ exit h.0 e
-  run_done (Some (Workload number workers)) h e = work_done number _ _ exit h.0 e
+  run_done (Some (Workload number workers)) h e = work_done (workload_of number) _ _ exit h.0 e
   run_done (Some (Daemon service)) h e = served_done _ _ _ _ _ exit h.0 e
 
-  pub run_tells : (form : Option Form) → Runs i o form a b exit → Tells i o form a b exit
+  pub run_tells : (form : Option Form) → RunsByForm i o form a b exit → TellsByForm i o form a b exit
   run_tells None h = h.0
   run_tells (Some (Replay config)) h = replay_tells _ _ _ _ exit h.0 h.1
   run_tells (Some (Ask asked folder)) h = ask_tells i o asked a.peer _ _ _ _ exit h.0
-  run_tells (Some (Workload number workers)) h = work_tells number _ _ exit h.0
+  run_tells (Some (Workload number workers)) h = work_tells (workload_of number) _ _ exit h.0
   run_tells (Some (Daemon service)) h = served_tells _ _ _ _ _ exit h.0
 
   -- Usage comes of no form
-  unused : (form : Form) → Runs i o (Some form) a b exit → exit ≡ exits.Usage → ⊥
+  unused : (form : Form) → RunsByForm i o (Some form) a b exit → exit ≡ exits.Usage → ⊥
   unused (Replay config) h e = elim h.0 [
-    | inl ran ↦ let never : exit_of ran.run.ended ≡ exits.Usage = sym ran.run.told ∙ e in no_replay ran.run.ended never
+    | inl ran ↦ (subst (ReplayRun _ _ _ _) e ran.run).ends
     | inr stopped ↦ subst (NotSet _ _ _) e stopped.0
   ]
   unused (Ask asked folder) h e = elim h.0 [
-    | inl x ↦ no_question x.0 (sym x.1 ∙ e)
+    | inl x ↦ subst (Commands _ _ _) e x.0.commands
     | inr rest ↦ elim rest [
       | inl x ↦ let never : exits.NoMemory ≡ exits.Usage = sym x.0 ∙ e in cc
       | inr x ↦ let never : exits.NetFault ≡ exits.Usage = sym x.0 ∙ e in cc
     ]
   ]
-  unused (Workload number workers) h e = let never : workload_exit h.0.ended ≡ exits.Usage = sym h.0.exit_is ∙ e in no_workload h.0.ended never
+  unused (Workload number workers) h e = subst (λ (by : Exit). PutsText by _ _ _) e h.0
   unused (Daemon service) h e = elim h.0 [
-    | inl x ↦ no_daemon x.ended (sym x.exit_is ∙ e)
+    | inl x ↦ subst (λ (by : Exit). EndsSo by _ _) e x.ends
     | inr x ↦ subst (NotSet _ _ _) e x.0
   ]
 
-  pub run_usage : (form : Option Form) → Runs i o form a b exit → exit ≡ exits.Usage → form ≡ None
+  pub run_usage : (form : Option Form) → RunsByForm i o form a b exit → exit ≡ exits.Usage → form ≡ None
   run_usage None h e = refl
   run_usage (Some form) h e = absurd (unused form h e)
 
 module _ {I O : Type 0} (i : source.Ghosts I) (o : sink.Ghosts O) (a : Outside) where
   -- memory was wanting for the words
-  unread : (form : Option Form) → Runs i o form a a exits.NoMemory
+  unread : (form : Option Form) → RunsByForm i o form a a exits.NoMemory
   unread None = (inr refl, refl)
-  unread (Some (Replay config)) = (inr (refl, record { left_stays = refl; taken_stays = refl }), record { input_stays = refl; output_stays = refl }, record { given_stays = refl; peer_stays = refl; calm = refl })
-  unread (Some (Ask asked folder)) = (inr (inl (refl, refl, refl)), record { left_stays = refl; calm = refl }, record { held_stays = refl; conf_stays = refl; calm = refl })
-  unread (Some (Workload number workers)) =
-      (record { ended = worked.NoMemory; exit_is = refl; written = refl; counted = refl }, record { left_stays = refl; calm = refl }, record { held_stays = refl; conf_stays = refl; calm = refl }, record { given_stays = refl; peer_stays = refl; calm = refl })
-  unread (Some (Daemon service)) = (inr (refl, refl), record { left_stays = refl; calm = refl })
+  unread (Some (Replay config)) = (inr (refl, refl), record { input_stays = refl; output_stays = refl }, record { given_stays = refl; peer_stays = refl; calm = refl })
+  unread (Some (Ask asked folder)) = (inr (inl (refl, refl, refl)), refl, record { held_stays = refl; conf_stays = refl; calm = refl })
+  unread (Some (Workload number workers)) = (refl, refl, record { held_stays = refl; conf_stays = refl; calm = refl }, record { given_stays = refl; peer_stays = refl; calm = refl })
+  unread (Some (Daemon service)) = (inr (refl, refl), refl)
 
   -- the words were refused
-  pub refused : (form : Option Form) (exit : Exit) → IsRefused form exit → Runs i o form a a exit
-  refused form exit (inl memory) = subst (λ (e : Exit). Runs i o form a a e) (sym memory) (unread form)
-  refused form exit (inr usage) = subst (λ (f : Option Form). Runs i o f a a exit) (sym usage.1) (inl usage.0, refl)
+  pub refused : (form : Option Form) (exit : Exit) → RefusesForm form exit → RunsByForm i o form a a exit
+  refused form exit (inl memory) = subst (λ (e : Exit). RunsByForm i o form a a e) (sym memory) (unread form)
+  refused form exit (inr usage) = subst (λ (f : Option Form). RunsByForm i o f a a exit) (sym usage.1) (inl usage.0, refl)

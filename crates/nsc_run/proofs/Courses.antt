@@ -1,8 +1,8 @@
 -- What the course of a run says of its exit.
 use Rattle.std.proofs.Common.{◌≡◌, ℕ, List, Option, inl, inr, subst}
 use Rattle.nsc_replay.specs.Streams.{Streams}
-use Rattle.nsc_run.specs.declared.exit.Exit.{Exit}
-use Rattle.nsc_run.specs.declared.exit.Exit.TheVariants as exits
+use Rattle.nsc_model.specs.declared.exit.Exit.{Exit}
+use Rattle.nsc_model.specs.declared.exit.Exit.TheVariants as exits
 use Rattle.nsc_run.specs.Commands.{Course, IsReplayedBy, NotSet}
 use Rattle.nsc_run.proofs.Ends.{ok_run}
 

@@ -6,36 +6,18 @@ use Rattle.nsc_outside.specs.Stream.{Moves, IsDrained, Grows}
 use Rattle.nsc_model.specs.Frames.{Finish, Done, Bad, Long, Spent}
 use Rattle.nsc_model.specs.declared.conf.Conf.{Conf}
 use Rattle.nsc_model.specs.Replay.{Replayed, first_state, replay}
-use Rattle.nsc_replay.specs.declared.ended.Ended.{Ended}
-use Rattle.nsc_replay.specs.declared.ended.Ended.TheVariants as ended
-use Rattle.nsc_replay.specs.Streams as streams
-use Rattle.nsc_replay.specs.Streams.{Streams}
-use Rattle.nsc_replay.specs.Runs.{FinishesBy, Run}
-use Rattle.nsc_run.specs.declared.exit.Exit.{Exit}
-use Rattle.nsc_run.specs.declared.exit.Exit.TheVariants as exits
-use Rattle.nsc_run.specs.Exits.{exit_of}
-use Rattle.nsc_run.specs.Commands.{IsReplayed, Replays, Counted, NoFault, exit_at, TellsEnd}
+use Rattle.nsc_model.specs.declared.exit.Exit.{Exit}
+use Rattle.nsc_model.specs.declared.exit.Exit.TheVariants as exits
+use Rattle.nsc_replay.specs.Streams.{Counted, Streams}
+use Rattle.nsc_replay.specs.Runs.{FinishesBy, ReplayRun}
+use Rattle.nsc_run.specs.Commands.{IsReplayed, StreamsCalm, TellsFinish, exit_at}
 
--- the counts of the faults, by the exit
-pub counted : (by : Ended) (s : Streams) → streams.Counted by s → Counted (exit_of by) s
-counted ended.Done s h = h
-counted ended.ReadFault s h = h
-counted ended.WriteFault s h = h
-counted (ended.BadFrame offset) s h = h
-counted (ended.TooLong size) s h = h
-counted (ended.Spent count) s h = h
-counted ended.NoMemory s h = h
-
-is_done : (by : Ended) → exits.Ok ≡ exit_of by → by ≡ ended.Done
-is_done ended.Done e = refl
-is_done _ e = absurd cc
-
-module _ (settings : Conf) (s : Streams) (bytes : List ℕ) (told : s.before.left ≡ Some bytes) where
+module _ (settings : Conf) (s : Streams) (bytes : List ℕ) (told : s.before.input.bytes ≡ Some bytes) where
   -- the whole input is the bytes that were read and those that are left
-  moved_from : (front : List ℕ) → Moves s.before.left s.after.left front → Moves (Some bytes) s.after.left front
-  moved_from front m = subst (λ (left : Option (List ℕ)). Moves left s.after.left front) told m
+  moved_from : (front : List ℕ) → Moves s.before.input.bytes s.after.input.bytes front → Moves (Some bytes) s.after.input.bytes front
+  moved_from front m = subst (λ (left : Option (List ℕ)). Moves left s.after.input.bytes front) told m
 
-  replayed_at : Run settings first_state 0 s ended.Done → IsReplayed settings bytes s
+  replayed_at : ReplayRun settings first_state 0 s exits.Ok → IsReplayed settings bytes s
   replayed_at r =
       let moved = moved_from r.front r.transfers.moved in
       let rest = moved.0 in
@@ -45,11 +27,11 @@ module _ (settings : Conf) (s : Streams) (bytes : List ℕ) (told : s.before.lef
         place = length r.front;
         done = ap (λ (x : Replayed). x.finish) end ∙ (let zero : 0 + length r.front ≡ length r.front = omega arith in ap Done zero);
         left_is = moved.1 ∙ ap (λ (xs : List ℕ). Some xs) (sym (ap (λ (xs : List ℕ). drop (length r.front) xs) (sym same) ∙ drop_at r.front rest (length r.front) refl));
-        grown = subst (Grows s.before.taken s.after.taken) (sym (ap (λ (x : Replayed). x.output) end)) r.transfers.grown;
+        grown = subst (Grows s.before.output.bytes s.after.output.bytes) (sym (ap (λ (x : Replayed). x.output) end)) r.transfers.grown;
       }
 
   -- how the replay of the whole input ends
-  finish_tells : (finish : Finish) (front out : List ℕ) → Moves s.before.left s.after.left front → FinishesBy finish settings first_state 0 s.after.left front out → TellsEnd (replay settings bytes).finish (exit_at finish)
+  finish_tells : (finish : Finish) (front out : List ℕ) → Moves s.before.input.bytes s.after.input.bytes front → FinishesBy finish settings first_state 0 s.after.input.bytes front out → TellsFinish (replay settings bytes).finish (exit_at finish)
   finish_tells finish front out m f =
       let moved = moved_from front m in
       let rest = moved.0 in
@@ -61,27 +43,28 @@ module _ (settings : Conf) (s : Streams) (bytes : List ℕ) (told : s.before.lef
       ] in
       inl (ap exit_at (sym end))
 
-  tells_at : (by : Ended) → Run settings first_state 0 s by → streams.Counted by s → NoFault s → TellsEnd (replay settings bytes).finish (exit_of by)
-  tells_at ended.Done r counts calm = inl (ap exit_at (sym (replayed_at r).done))
-  tells_at ended.ReadFault r counts calm = absurd (calm.input counts.input_rose)
-  tells_at ended.WriteFault r counts calm = absurd (calm.output counts.output_rose)
-  tells_at (ended.BadFrame offset) r counts calm = finish_tells (Bad offset) r.front r.out r.transfers.moved r.ends
-  tells_at (ended.TooLong size) r counts calm = finish_tells (Long size) r.front r.out r.transfers.moved r.ends
-  tells_at (ended.Spent count) r counts calm = finish_tells (Spent count) r.front r.out r.transfers.moved r.ends
-  tells_at ended.NoMemory r counts calm = inr refl
+  tells_at : (exit : Exit) → ReplayRun settings first_state 0 s exit → Counted exit s → StreamsCalm s → TellsFinish (replay settings bytes).finish exit
+  tells_at exits.Ok r counts calm = inl (ap exit_at (sym (replayed_at r).done))
+  tells_at exits.ReadFault r counts calm = absurd (calm.input counts.input_rose)
+  tells_at exits.WriteFault r counts calm = absurd (calm.output counts.output_rose)
+  tells_at (exits.BadFrame offset) r counts calm = finish_tells (Bad offset) r.front r.out r.transfers.moved r.ends
+  tells_at (exits.TooLong size) r counts calm = finish_tells (Long size) r.front r.out r.transfers.moved r.ends
+  tells_at (exits.Spent count) r counts calm = finish_tells (Spent count) r.front r.out r.transfers.moved r.ends
+  tells_at exits.NoMemory r counts calm = inr refl
+  tells_at _ r counts calm = absurd r.ends
 
-tells_from : (settings : Conf) (s : Streams) (left : Option (List ℕ)) → s.before.left ≡ left → (by : Ended) → Run settings first_state 0 s by → streams.Counted by s → NoFault s
-    → IfSome left (λ bytes. TellsEnd (replay settings bytes).finish (exit_of by))
-tells_from settings s None told by r counts calm = tt
-tells_from settings s (Some bytes) told by r counts calm = tells_at settings s bytes told by r counts calm
+tells_from : (settings : Conf) (s : Streams) (left : Option (List ℕ)) → s.before.input.bytes ≡ left → (exit : Exit) → ReplayRun settings first_state 0 s exit → Counted exit s → StreamsCalm s
+    → IfSome left (λ bytes. TellsFinish (replay settings bytes).finish exit)
+tells_from settings s None told exit r counts calm = tt
+tells_from settings s (Some bytes) told exit r counts calm = tells_at settings s bytes told exit r counts calm
 
-pub tells : (settings : Conf) (s : Streams) (by : Ended) → Run settings first_state 0 s by → streams.Counted by s → NoFault s → IfSome s.before.left (λ bytes. TellsEnd (replay settings bytes).finish (exit_of by))
-tells settings s by r counts calm = tells_from settings s s.before.left refl by r counts calm
+pub tells : (settings : Conf) (s : Streams) (exit : Exit) → ReplayRun settings first_state 0 s exit → Counted exit s → StreamsCalm s → IfSome s.before.input.bytes (λ bytes. TellsFinish (replay settings bytes).finish exit)
+tells settings s exit r counts calm = tells_from settings s s.before.input.bytes refl exit r counts calm
 
-replayed_from : (settings : Conf) (s : Streams) (left : Option (List ℕ)) → s.before.left ≡ left → Run settings first_state 0 s ended.Done → IfSome left (λ bytes. IsReplayed settings bytes s)
+replayed_from : (settings : Conf) (s : Streams) (left : Option (List ℕ)) → s.before.input.bytes ≡ left → ReplayRun settings first_state 0 s exits.Ok → IfSome left (λ bytes. IsReplayed settings bytes s)
 replayed_from settings s None told r = tt
 replayed_from settings s (Some bytes) told r = replayed_at settings s bytes told r
 
 -- the run of an exit that is Ok
-pub ok_run : (settings : Conf) (s : Streams) (exit : Exit) → Replays settings s exit → exit ≡ exits.Ok → IfSome s.before.left (λ bytes. IsReplayed settings bytes s)
-ok_run settings s exit r e = replayed_from settings s s.before.left refl (subst (Run settings first_state 0 s) (is_done r.ended (sym e ∙ r.told)) r.run)
+pub ok_run : (settings : Conf) (s : Streams) (exit : Exit) → ReplayRun settings first_state 0 s exit → exit ≡ exits.Ok → IfSome s.before.input.bytes (λ bytes. IsReplayed settings bytes s)
+ok_run settings s exit r e = replayed_from settings s s.before.input.bytes refl (subst (ReplayRun settings first_state 0 s) e r)

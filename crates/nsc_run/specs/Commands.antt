@@ -6,24 +6,22 @@ use Rattle.nsc_outside.specs.FileSets.{IsPastLimit}
 use Rattle.nsc_model.specs.Frames.{Finish, Done, Bad, Long, Spent}
 use Rattle.nsc_model.specs.declared.conf.Conf.{Conf}
 use Rattle.nsc_model.specs.Replay.{first_state, replay}
-use Rattle.nsc_daemonconf.specs.declared.lines.ConfFault.{ConfFault}
+use Rattle.nsc_model.specs.declared.exit.ConfFault.{ConfFault}
+use Rattle.nsc_model.specs.declared.exit.Exit.{Exit}
+use Rattle.nsc_model.specs.declared.exit.Exit.TheVariants as exits
 use Rattle.nsc_model.specs.Settings.{default_settings}
 use Rattle.nsc_daemonconf.specs.Lines.{conf_of}
 use Rattle.nsc_model.specs.Sizes.{SizesFit}
-use Rattle.nsc_replay.specs.declared.ended.Ended.{Ended}
-use Rattle.nsc_replay.specs.Streams.{Streams, Calm, InputFailed, OutputFailed}
-use Rattle.nsc_replay.specs.Runs.{Run}
-use Rattle.nsc_run.specs.declared.exit.Exit.{Exit}
-use Rattle.nsc_run.specs.declared.exit.Exit.TheVariants as exits
-use Rattle.nsc_run.specs.Exits.{exit_of}
+use Rattle.nsc_replay.specs.Streams.{Streams}
+use Rattle.nsc_replay.specs.Runs.{ReplayRun}
 
 -- why words are refused, by the exit: memory was wanting, or they are not what they should be
-abbrev pub IsRefusal : Bool → Exit → Type 0
-IsRefusal good exit = (exit ≡ exits.NoMemory) ⊎ ((exit ≡ exits.Usage) × (good ≡ false))
+abbrev pub RefusesWords : Bool → Exit → Type 0
+RefusesWords good exit = (exit ≡ exits.NoMemory) ⊎ ((exit ≡ exits.Usage) × (good ≡ false))
 
 -- the same of what was made of them
-abbrev pub IsRefused : {A : Type 0} → Option A → Exit → Type 0
-IsRefused made exit = (exit ≡ exits.NoMemory) ⊎ ((exit ≡ exits.Usage) × (made ≡ None))
+abbrev pub RefusesForm : {A : Type 0} → Option A → Exit → Type 0
+RefusesForm made exit = (exit ≡ exits.NoMemory) ⊎ ((exit ≡ exits.Usage) × (made ≡ None))
 
 -- ---- the configuration
 
@@ -70,19 +68,13 @@ NotSet told before after _ = ⊥
 
 -- ---- the whole run
 
--- The replay ran, and the exit tells how it ended.
-pub record Replays (settings : Conf) (streams : Streams) (exit : Exit) : Type 0 where
-  pub ended : Ended
-  pub told : exit ≡ exit_of ended
-  pub run : Run settings first_state 0 streams ended
-
 -- The replay of what the source had is done: the source stands right after its first E, and the sink took exactly the
 -- output.
 pub record IsReplayed (settings : Conf) (bytes : List ℕ) (streams : Streams) : Type 0 where
   pub place : ℕ
   pub done : (replay settings bytes).finish ≡ Done place
-  pub left_is : streams.after.left ≡ Some (drop place bytes)
-  pub grown : Grows streams.before.taken streams.after.taken (replay settings bytes).output
+  pub left_is : streams.after.input.bytes ≡ Some (drop place bytes)
+  pub grown : Grows streams.before.output.bytes streams.after.output.bytes (replay settings bytes).output
 
 -- the exit that tells how a replay ends, unless memory was wanting
 abbrev pub exit_at : Finish → Exit
@@ -91,48 +83,37 @@ exit_at (Bad place) = exits.BadFrame place
 exit_at (Long size) = exits.TooLong size
 exit_at (Spent count) = exits.Spent count
 
-abbrev pub TellsEnd : Finish → Exit → Type 0
-TellsEnd finish exit = (exit ≡ exit_at finish) ⊎ (exit ≡ exits.NoMemory)
+abbrev pub TellsFinish : Finish → Exit → Type 0
+TellsFinish finish exit = (exit ≡ exit_at finish) ⊎ (exit ≡ exits.NoMemory)
 
 -- no count of faults of the streams rose
-pub record NoFault (streams : Streams) : Type 0 where
-  pub input : Rose streams.before.input_faults streams.after.input_faults → ⊥
-  pub output : Rose streams.before.output_faults streams.after.output_faults → ⊥
-
--- the counts of faults of the streams, by the exit: one rose where its stream failed, and else both stay
-abbrev pub Counted : Exit → Streams → Type 0
-Counted exits.ReadFault streams = InputFailed streams
-Counted exits.WriteFault streams = OutputFailed streams
-Counted _ streams = Calm streams
+pub record StreamsCalm (streams : Streams) : Type 0 where
+  pub input : Rose streams.before.input.faults streams.after.input.faults → ⊥
+  pub output : Rose streams.before.output.faults streams.after.output.faults → ⊥
 
 -- the exit tells why a line is refused, unless memory was wanting
 abbrev pub TellsFault : ConfFault → Exit → Type 0
 TellsFault fault exit = (exit ≡ exits.BadConf fault) ⊎ (exit ≡ exits.NoMemory)
 
--- Nothing was read and nothing written.
-pub record Untouched (streams : Streams) : Type 0 where
-  pub left_stays : streams.after.left ≡ streams.before.left
-  pub taken_stays : streams.after.taken ≡ streams.before.taken
-
 -- the replay began, with settings that were read
 pub record Ran (told : Option (Option (List ℕ))) (faults_before faults_after : ℕ) (streams : Streams) (exit : Exit) : Type 0 where
   pub settings : Conf
   pub is_set : IsSet told faults_before faults_after settings
-  pub run : Replays settings streams exit
+  pub run : ReplayRun settings first_state 0 streams exit
 
--- the replay ran, or no settings were read, and it did not begin
+-- the replay ran, or no settings were read, and then it did not begin: nothing was read and nothing written
 abbrev pub Course : Option (Option (List ℕ)) → ℕ → ℕ → Streams → Exit → Type 0
 Course told faults_before faults_after streams exit =
     Ran told faults_before faults_after streams exit
-    ⊎ (NotSet told faults_before faults_after exit × Untouched streams)
+    ⊎ (NotSet told faults_before faults_after exit × (streams.after ≡ streams.before))
 
 -- the replay of what the source had is done, with settings that were read
 pub record IsReplayedBy (told : Option (Option (List ℕ))) (streams : Streams) : Type 0 where
   pub settings : Conf
   pub of_config : ConfGives told (Ok settings)
-  pub replayed : IfSome streams.before.left (λ bytes. IsReplayed settings bytes streams)
+  pub replayed : IfSome streams.before.input.bytes (λ bytes. IsReplayed settings bytes streams)
 
 -- the exit tells how the replay of the source ends with these settings, or why a line is refused
 abbrev pub TellsAll : Option (List ℕ) → Result Conf ConfFault → Exit → Type 0
-TellsAll before (Ok settings) exit = IfSome before (λ bytes. TellsEnd (replay settings bytes).finish exit)
+TellsAll before (Ok settings) exit = IfSome before (λ bytes. TellsFinish (replay settings bytes).finish exit)
 TellsAll before (Err fault) exit = TellsFault fault exit

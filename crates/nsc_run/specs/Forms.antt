@@ -92,7 +92,7 @@ options_of rows = record {
 
 -- how a daemon is to run: under which configuration file, with how many workers, over the files of which folder, where these are
 -- said, and with its sockets in which folder
-pub record Service : Type 0 where
+pub record DaemonOptions : Type 0 where
   pub config : Option Text
   pub workers : Option ℕ
   pub etc : Option Text
@@ -104,7 +104,7 @@ pub data Form : Type 0 where
   Replay : Option Text → Form
   Ask : AdminAsk → Text → Form
   Workload : ℕ → ℕ → Form
-  Daemon : Service → Form
+  Daemon : DaemonOptions → Form
 
 -- the folder of the sockets
 abbrev pub run_dir_of : Option Text → Text

@@ -1,6 +1,7 @@
 -- What the program claims of a run, by the form of its words.
 use Rattle.std.specs.Prelude.{◌≡◌, ℕ, ◌⊎◌, List, Option, Some, None, IfSome, Result, Ok, Err}
 use Rattle.nsc_outside.specs.Stream.{Grows}
+use Rattle.nsc_outside.specs.StreamAt.{StreamAt, stream_in, stream_out}
 use Rattle.nsc_model.specs.Reads.{Rose}
 use Rattle.nsc_outside.specs.declared.stream.Source as source
 use Rattle.nsc_outside.specs.declared.stream.Sink as sink
@@ -9,22 +10,17 @@ use Rattle.nsc_sockets.specs.Connections.{Connection, IsPeer}
 use Rattle.nsc_sockets.specs.declared.listener.Listener as listener
 use Rattle.nsc_model.specs.declared.conf.Conf.{Conf}
 use Rattle.nsc_model.specs.Content.{Content}
-use Rattle.nsc_daemonconf.specs.declared.lines.ConfFault.{ConfFault}
-use Rattle.nsc_replay.specs.Streams.{Streams, StreamsAt, streams_at}
-use Rattle.nsc_control.specs.Commands as control
+use Rattle.nsc_model.specs.declared.exit.ConfFault.{ConfFault}
+use Rattle.nsc_model.specs.declared.exit.Exit.{Exit}
+use Rattle.nsc_model.specs.declared.exit.Exit.TheVariants as exits
+use Rattle.nsc_replay.specs.Streams.{Counted, Streams, StreamsAt, streams_at}
+use Rattle.nsc_control.specs.Commands.{Commands}
 use Rattle.nsc_control.specs.declared.ask.AdminAsk.{AdminAsk}
-use Rattle.nsc_control.specs.declared.commands.Commanded.{Commanded}
-use Rattle.nsc_control.specs.declared.commands.Commanded.TheVariants as commanded
-use Rattle.nsc_daemon.specs.Ends as daemon
-use Rattle.nsc_daemon.specs.declared.ended.Ended as daemon_end
-use Rattle.nsc_workload.specs.declared.run.Worked.{Worked}
-use Rattle.nsc_workload.specs.Runs.{IsCounted, IsWritten}
+use Rattle.nsc_daemon.specs.Ends.{DaemonAt, EndsSo, IsReady, LastTellsEnd, TellsHeldLength}
+use Rattle.nsc_workload.specs.Runs.{PutsText}
 use Rattle.nsc_workload.specs.Workload.{workload_of}
-use Rattle.nsc_run.specs.declared.exit.Exit.{Exit}
-use Rattle.nsc_run.specs.declared.exit.Exit.TheVariants as exits
-use Rattle.nsc_run.specs.Exits.{command_exit, daemon_exit, workload_exit}
-use Rattle.nsc_run.specs.Forms.{Form, Replay, Ask, Workload, Daemon, Service}
-use Rattle.nsc_run.specs.Commands.{ConfGives, Counted, Course, IsReplayedBy, NoFault, NotSet, TellsAll, TellsFault, conf_path, config_told, settings_by}
+use Rattle.nsc_run.specs.Forms.{Ask, Daemon, DaemonOptions, Form, Replay, Workload}
+use Rattle.nsc_run.specs.Commands.{ConfGives, Course, IsReplayedBy, NotSet, StreamsCalm, TellsAll, TellsFault, conf_path, config_told, settings_by}
 
 -- What the outside tells at one moment: of the input and the output, of the files, and of the listener.
 pub record Outside : Type 0 where
@@ -48,22 +44,15 @@ outside r k f n input output set net = record {
 }
 
 -- what a daemon is told of it
-abbrev pub daemon_at : {K F N I O : Type 0} → sink.Ghosts K → files.Ghosts F → listener.Ghosts N I O → K → F → N → daemon.Outside
-daemon_at k f n output set net = record { taken = k.taken output; output_faults = k.faults output; source_faults = f.faults set; given = n.given net; net_faults = n.faults net }
-
-abbrev pub daemon_outside : Outside → daemon.Outside
-daemon_outside o = record { taken = o.streams.taken; output_faults = o.streams.output_faults; source_faults = o.source_faults; given = o.given; net_faults = o.net_faults }
+abbrev pub daemon_outside : Outside → DaemonAt
+daemon_outside o = record { output = o.streams.output; source_faults = o.source_faults; given = o.given; net_faults = o.net_faults }
 
 abbrev pub streams_of : Outside → Outside → Streams
 streams_of before after = record { before = before.streams; after = after.streams }
 
-abbrev pub output_of : Outside → control.StreamAt
-output_of o = record { bytes = o.streams.taken; faults = o.streams.output_faults }
-
 -- nothing was read of the input
-pub record InputStays (before after : Outside) : Type 0 where
-  pub left_stays : after.streams.left ≡ before.streams.left
-  pub calm : after.streams.input_faults ≡ before.streams.input_faults
+abbrev pub InputStays : Outside → Outside → Type 0
+InputStays before after = after.streams.input ≡ before.streams.input
 
 -- the listener and the files tell what they told
 pub record NetStays (before after : Outside) : Type 0 where
@@ -81,7 +70,7 @@ abbrev pub SourcesCalm : Outside → Outside → Type 0
 SourcesCalm before after = Rose before.source_faults after.source_faults → ⊥
 
 abbrev pub OutputCalm : Outside → Outside → Type 0
-OutputCalm before after = Rose before.streams.output_faults after.streams.output_faults → ⊥
+OutputCalm before after = Rose before.streams.output.faults after.streams.output.faults → ⊥
 
 abbrev pub NetCalm : Outside → Outside → Type 0
 NetCalm before after = Rose before.net_faults after.net_faults → ⊥
@@ -89,21 +78,21 @@ NetCalm before after = Rose before.net_faults after.net_faults → ⊥
 -- ---- a question to a daemon
 
 -- over a connection that was made, to the peer that was told, where one was told, this came of the question
-pub record IsAsked {I O : Type 0} (i : source.Ghosts I) (o : sink.Ghosts O) (asked : AdminAsk) (peer : Option (List ℕ)) (before after : control.StreamAt) (came : Commanded) : Type 0 where
+pub record IsAsked {I O : Type 0} (i : source.Ghosts I) (o : sink.Ghosts O) (asked : AdminAsk) (peer : Option (List ℕ)) (before after : StreamAt) (exit : Exit) : Type 0 where
   pub conn_in : I
   pub conn_in' : I
   pub conn_out : O
   pub conn_out' : O
   pub reached : IsPeer peer (i.left conn_in)
-  pub commands : control.Commands asked
-      (record { conn_in = control.stream_in i conn_in; conn_out = control.stream_out o conn_out; output = before })
-      (record { conn_in = control.stream_in i conn_in'; conn_out = control.stream_out o conn_out'; output = after })
-      came
+  pub commands : Commands asked
+      (record { conn_in = stream_in i conn_in; conn_out = stream_out o conn_out; output = before })
+      (record { conn_in = stream_in i conn_in'; conn_out = stream_out o conn_out'; output = after })
+      exit
 
 -- what came of it: it was asked, or memory was wanting for a path, or there was no connection
-abbrev pub Asks : {I O : Type 0} → source.Ghosts I → sink.Ghosts O → AdminAsk → Option (List ℕ) → control.StreamAt → control.StreamAt → ℕ → ℕ → Exit → Type 0
+abbrev pub Asks : {I O : Type 0} → source.Ghosts I → sink.Ghosts O → AdminAsk → Option (List ℕ) → StreamAt → StreamAt → ℕ → ℕ → Exit → Type 0
 Asks i o asked peer before after faults faults' exit =
-    ((came : Commanded) × (exit ≡ command_exit came) × IsAsked i o asked peer before after came × (faults' ≡ faults))
+    (IsAsked i o asked peer before after exit × (faults' ≡ faults))
     ⊎ ((exit ≡ exits.NoMemory) × (after ≡ before) × (faults' ≡ faults))
     ⊎ ((exit ≡ exits.NetFault) × (after ≡ before) × Rose faults faults')
 
@@ -113,38 +102,29 @@ pub record NeverFail {I O : Type 0} (i : source.Ghosts I) (o : sink.Ghosts O) : 
   pub outputs : (x : O) → o.faults x ≡ 0
 
 -- an answer came, good or bad, unless memory was wanting
-abbrev pub IsAnswered : Exit → Type 0
-IsAnswered exit = (exit ≡ exits.Ok) ⊎ (exit ≡ exits.NoMemory) ⊎ (exit ≡ exits.BadReply)
+abbrev pub TellsAnswered : Exit → Type 0
+TellsAnswered exit = (exit ≡ exits.Ok) ⊎ (exit ≡ exits.NoMemory) ⊎ (exit ≡ exits.BadReply)
 
 -- ---- a workload
 
--- the workload of a number ended so, and this was written
-pub record Works (number : ℕ) (before after : control.StreamAt) (exit : Exit) : Type 0 where
-  pub ended : Worked
-  pub exit_is : exit ≡ workload_exit ended
-  pub written : IsWritten ended (workload_of number) before.bytes after.bytes
-  pub counted : IsCounted ended before.faults after.faults
-
 -- it was run, unless memory was wanting
-abbrev pub IsWorked : Exit → Type 0
-IsWorked exit = (exit ≡ exits.Ok) ⊎ (exit ≡ exits.NoMemory)
+abbrev pub TellsWorked : Exit → Type 0
+TellsWorked exit = (exit ≡ exits.Ok) ⊎ (exit ≡ exits.NoMemory)
 
 -- ---- the daemon
 
 -- settings were read, and a daemon ended so under them; where no folder is named, a length that is told is that of one of the files that
 -- were held, where these are told
-pub record Served (told : Option (Option (List ℕ))) (etc : Option (List ℕ)) (held : Option Content) (before after : daemon.Outside) (exit : Exit) : Type 0 where
+pub record DaemonRan (told : Option (Option (List ℕ))) (etc : Option (List ℕ)) (held : Option Content) (before after : DaemonAt) (exit : Exit) : Type 0 where
   pub settings : Conf
   pub of_config : ConfGives told (Ok settings)
-  pub ended : daemon_end.Ended
-  pub exit_is : exit ≡ daemon_exit ended
-  pub ends : daemon.EndsSo ended before after
-  pub length : etc ≡ None → daemon.TellsLength ended held
+  pub ends : EndsSo exit before after
+  pub length : etc ≡ None → TellsHeldLength exit held
 
 -- a daemon ended, or no settings were read and it did not begin
-abbrev pub Serves : Option (Option (List ℕ)) → Option (List ℕ) → Option Content → daemon.Outside → daemon.Outside → Exit → Type 0
-Serves told etc held before after exit =
-    Served told etc held before after exit
+abbrev pub DaemonCourse : Option (Option (List ℕ)) → Option (List ℕ) → Option Content → DaemonAt → DaemonAt → Exit → Type 0
+DaemonCourse told etc held before after exit =
+    DaemonRan told etc held before after exit
     ⊎ (NotSet told before.source_faults after.source_faults exit × (after ≡ record before { source_faults = after.source_faults }))
 
 -- the daemon was told to end, or why a line is refused, unless memory was wanting
@@ -158,42 +138,42 @@ TellsServed (Err fault) exit = TellsFault fault exit
 abbrev pub replay_told : Outside → Option (List ℕ) → Option (Option (List ℕ))
 replay_told before config = config_told before.conf_held config
 
-abbrev pub daemon_told : Outside → Service → Option (Option (List ℕ))
+abbrev pub daemon_told : Outside → DaemonOptions → Option (Option (List ℕ))
 daemon_told before service = before.conf_held (conf_path service.etc service.config)
 
 -- What came of a run. Where the words have no form nothing was done.
-abbrev pub Runs : {I O : Type 0} → source.Ghosts I → sink.Ghosts O → Option Form → Outside → Outside → Exit → Type 0
-Runs i o None before after exit = ((exit ≡ exits.Usage) ⊎ (exit ≡ exits.NoMemory)) × (after ≡ before)
-Runs i o (Some (Replay config)) before after exit =
+abbrev pub RunsByForm : {I O : Type 0} → source.Ghosts I → sink.Ghosts O → Option Form → Outside → Outside → Exit → Type 0
+RunsByForm i o None before after exit = ((exit ≡ exits.Usage) ⊎ (exit ≡ exits.NoMemory)) × (after ≡ before)
+RunsByForm i o (Some (Replay config)) before after exit =
     Course (replay_told before config) before.source_faults after.source_faults (streams_of before after) exit
     × Counted exit (streams_of before after) × NetStays before after
-Runs i o (Some (Ask asked folder)) before after exit =
-    Asks i o asked before.peer (output_of before) (output_of after) before.net_faults after.net_faults exit
+RunsByForm i o (Some (Ask asked folder)) before after exit =
+    Asks i o asked before.peer before.streams.output after.streams.output before.net_faults after.net_faults exit
     × InputStays before after × FilesStay before after
-Runs i o (Some (Workload number workers)) before after exit =
-    Works number (output_of before) (output_of after) exit
+RunsByForm i o (Some (Workload number workers)) before after exit =
+    PutsText exit (workload_of number) before.streams.output after.streams.output
     × InputStays before after × FilesStay before after × NetStays before after
-Runs i o (Some (Daemon service)) before after exit =
-    Serves (daemon_told before service) service.etc before.held (daemon_outside before) (daemon_outside after) exit × InputStays before after
+RunsByForm i o (Some (Daemon service)) before after exit =
+    DaemonCourse (daemon_told before service) service.etc before.held (daemon_outside before) (daemon_outside after) exit × InputStays before after
 
 -- The command was done: the input was read to the end of its first E, and the output is that of the replay; or a daemon did what
 -- was asked; or the lines of the workload were written; or the daemon was ready, and was told to end.
 abbrev pub IsDone : {I O : Type 0} → source.Ghosts I → sink.Ghosts O → Option Form → Outside → Outside → Type 0
 IsDone i o None before after = ⊥
 IsDone i o (Some (Replay config)) before after = IsReplayedBy (replay_told before config) (streams_of before after)
-IsDone i o (Some (Ask asked folder)) before after = IsAsked i o asked before.peer (output_of before) (output_of after) commanded.Done
-IsDone i o (Some (Workload number workers)) before after = Grows before.streams.taken after.streams.taken (workload_of number)
-IsDone i o (Some (Daemon service)) before after = daemon.IsReady (daemon_outside before) (daemon_outside after) × daemon.EndsBy before.given after.given
+IsDone i o (Some (Ask asked folder)) before after = IsAsked i o asked before.peer before.streams.output after.streams.output exits.Ok
+IsDone i o (Some (Workload number workers)) before after = Grows before.streams.output.bytes after.streams.output.bytes (workload_of number)
+IsDone i o (Some (Daemon service)) before after = IsReady (daemon_outside before) (daemon_outside after) × LastTellsEnd before.given after.given
 
 -- What the exit tells where no fault came.
-abbrev pub Tells : {I O : Type 0} → source.Ghosts I → sink.Ghosts O → Option Form → Outside → Outside → Exit → Type 0
-Tells i o None before after exit = (exit ≡ exits.Usage) ⊎ (exit ≡ exits.NoMemory)
-Tells i o (Some (Replay config)) before after exit =
-    SourcesCalm before after → NoFault (streams_of before after)
-    → IfSome (replay_told before config) (λ text. TellsAll before.streams.left (settings_by text) exit)
-Tells i o (Some (Ask asked folder)) before after exit =
-    NeverFail i o → NetCalm before after → OutputCalm before after → IsAnswered exit
-Tells i o (Some (Workload number workers)) before after exit = OutputCalm before after → IsWorked exit
-Tells i o (Some (Daemon service)) before after exit =
+abbrev pub TellsByForm : {I O : Type 0} → source.Ghosts I → sink.Ghosts O → Option Form → Outside → Outside → Exit → Type 0
+TellsByForm i o None before after exit = (exit ≡ exits.Usage) ⊎ (exit ≡ exits.NoMemory)
+TellsByForm i o (Some (Replay config)) before after exit =
+    SourcesCalm before after → StreamsCalm (streams_of before after)
+    → IfSome (replay_told before config) (λ text. TellsAll before.streams.input.bytes (settings_by text) exit)
+TellsByForm i o (Some (Ask asked folder)) before after exit =
+    NeverFail i o → NetCalm before after → OutputCalm before after → TellsAnswered exit
+TellsByForm i o (Some (Workload number workers)) before after exit = OutputCalm before after → TellsWorked exit
+TellsByForm i o (Some (Daemon service)) before after exit =
     SourcesCalm before after → NetCalm before after → OutputCalm before after
     → IfSome (daemon_told before service) (λ text. TellsServed (settings_by text) exit)

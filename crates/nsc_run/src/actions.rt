@@ -1,18 +1,18 @@
 // What is done, form by form.
 ghost use Rattle.std.specs.Prelude.{◌≡◌, IfErr, IfOk, None, option_map};
-ghost use Rattle.nsc_replay.specs.Streams.{streams};
-ghost use Rattle.nsc_control.specs.Commands.{stream_out};
-ghost use Rattle.nsc_run.specs.Commands.{Counted, Course, IsSet, NotSet, config_told, worker_count};
-ghost use Rattle.nsc_run.specs.Runs.{Asks, Serves, daemon_at};
+ghost use Rattle.nsc_outside.specs.StreamAt.{stream_out};
+ghost use Rattle.nsc_replay.specs.Streams.{Counted, streams};
+ghost use Rattle.nsc_daemon.specs.Ends.{daemon_at};
+ghost use Rattle.nsc_run.specs.Commands.{Course, IsSet, NotSet, config_told, worker_count};
+ghost use Rattle.nsc_run.specs.Runs.{Asks, DaemonCourse};
 ghost use Rattle.nsc_run.specs.Shown.{conf_path_for};
 
 use crate::command::replay;
 use crate::config::{conf_at, conf_path};
-use crate::exit::Exit;
-use crate::form::Service;
+use crate::form::DaemonOptions;
 use nsc_control::{AdminAsk, command};
 use nsc_daemon::{Terms, daemon};
-use nsc_model::Conf;
+use nsc_model::{Conf, Exit};
 use nsc_outside::{FileSet, Sink, Source};
 use nsc_sockets::{Clock, Listener};
 use std::alloc::Global;
@@ -53,7 +53,7 @@ pub fn ask<K: Sink, N: Listener>(
     };
     match net.connect(path.as_str()) {
         Ok((mut input, mut to_daemon)) => {
-            Exit::from(command(alloc, asked, &mut input, &mut to_daemon, output))
+            command(alloc, asked, &mut input, &mut to_daemon, output)
         }
         Err(_) => Exit::NetFault,
     }
@@ -66,11 +66,18 @@ pub fn serve<
     F: FileSet + Send + Drop + 'static,
     C: Clock,
     N: Listener,
->(rt: &RT, service: &Service<'_>, output: &mut K, files: &mut F, clock: &mut C, net: &mut N) -> Exit
+>(
+    rt: &RT,
+    service: &DaemonOptions<'_>,
+    output: &mut K,
+    files: &mut F,
+    clock: &mut C,
+    net: &mut N,
+) -> Exit
 where
     N::In: 'static,
     N::Out: 'static,
-    ensures { Serves (F.conf_held files.old (conf_path_for service.now)) (option_map (λ p. p.now) service.now.etc) (F.held files.old) (daemon_at K.Sink F.FileSet N.Listener output.old files.old net.old) (daemon_at K.Sink F.FileSet N.Listener output.new files.new net.new) result }
+    ensures { DaemonCourse (F.conf_held files.old (conf_path_for service.now)) (option_map (λ p. p.now) service.now.etc) (F.held files.old) (daemon_at K.Sink F.FileSet N.Listener output.old files.old net.old) (daemon_at K.Sink F.FileSet N.Listener output.new files.new net.new) result }
 {
     match settings(rt.alloc(), service, files) {
         Ok(conf) => {
@@ -79,14 +86,18 @@ where
                 workers: worker_count(service.workers, &conf),
                 run_dir: service.run_dir,
             };
-            Exit::from(daemon(rt, &terms, output, files, clock, net))
+            daemon(rt, &terms, output, files, clock, net)
         }
         Err(exit) => exit,
     }
 }
 
 // The settings of a daemon, with its files from now on in the folder that it is told.
-fn settings<F: FileSet>(alloc: Global, service: &Service<'_>, files: &mut F) -> Result<Conf, Exit>
+fn settings<F: FileSet>(
+    alloc: Global,
+    service: &DaemonOptions<'_>,
+    files: &mut F,
+) -> Result<Conf, Exit>
     ensures held { option_map (λ p. p.now) service.now.etc ≡ None → F.held files.new ≡ F.held files.old }
     ensures ok { IfOk result (λ conf. IsSet (F.conf_held files.old (conf_path_for service.now)) (F.faults files.old) (F.faults files.new) conf) }
     ensures err { IfErr result (λ exit. NotSet (F.conf_held files.old (conf_path_for service.now)) (F.faults files.old) (F.faults files.new) exit) }

@@ -1,17 +1,17 @@
 ghost use Rattle.std.specs.Prelude.{◌≡◌, IfSome, None};
-ghost use Rattle.nsc_model.specs.Replay.{replay};
+ghost use Rattle.nsc_model.specs.Replay.{first_state, replay};
 ghost use Rattle.nsc_model.specs.Sizes.{SizesFit};
-ghost use Rattle.nsc_replay.specs.Streams.{streams};
-ghost use Rattle.nsc_run.specs.Commands.{Counted, IsReplayed, NoFault, Replays, TellsEnd};
+ghost use Rattle.nsc_replay.specs.Runs.{ReplayRun};
+ghost use Rattle.nsc_replay.specs.Streams.{Counted, streams};
+ghost use Rattle.nsc_run.specs.Commands.{IsReplayed, StreamsCalm, TellsFinish};
 ghost use Rattle.nsc_run.specs.Forms.{form_of, texts};
-ghost use Rattle.nsc_run.specs.Runs.{IsDone, Runs, Tells, outside};
+ghost use Rattle.nsc_run.specs.Runs.{IsDone, RunsByForm, TellsByForm, outside};
 
 use crate::actions::{ask, replay_under, serve};
-use crate::exit::Exit;
 use crate::form::Form;
 use crate::words::read_words;
 use nsc_index::Indexed;
-use nsc_model::Conf;
+use nsc_model::{Conf, Exit};
 use nsc_outside::{FileSet, Sink, Source};
 use nsc_sockets::{Clock, Listener};
 use nsc_workload::workload;
@@ -39,15 +39,15 @@ pub fn replay<RT: AllocGlobal, R: Source, K: Sink>(
     ensures ok { result ≡ Exit.Ok → IfSome (R.left input.old) (λ bytes. IsReplayed conf.now bytes (streams R.Source K.Sink input.old input.new output.old output.new)) }
 
     // What was read and written, by the exit.
-    ensures run { Replays conf.now (streams R.Source K.Sink input.old input.new output.old output.new) result }
+    ensures run { ReplayRun conf.now first_state 0 (streams R.Source K.Sink input.old input.new output.old output.new) result }
 
     // A fault of a stream is told only where one came.
     ensures counts { Counted result (streams R.Source K.Sink input.old input.new output.old output.new) }
 
     // Where no fault came, the exit tells how the replay of the input ends, unless memory was wanting.
-    ensures complete { NoFault (streams R.Source K.Sink input.old input.new output.old output.new) → IfSome (R.left input.old) (λ bytes. TellsEnd (replay conf.now bytes).finish result) }
+    ensures complete { StreamsCalm (streams R.Source K.Sink input.old input.new output.old output.new) → IfSome (R.left input.old) (λ bytes. TellsFinish (replay conf.now bytes).finish result) }
 {
-    Exit::from(nsc_replay::replay(rt.alloc(), conf, &Indexed, input, output))
+    nsc_replay::replay(rt.alloc(), conf, &Indexed, input, output)
 }
 
 /// Runs the command of these words, which leave out the program's own name. Words that have no form are `Usage`, and then
@@ -89,13 +89,13 @@ where
     ensures usage { result ≡ Exit.Usage → form_of (texts words.now) ≡ None }
 
     // What was read and written, and which counts of faults rose, by the form and the exit.
-    ensures runs { Runs N.In.Source N.Out.Sink (form_of (texts words.now)) (outside R.Source K.Sink F.FileSet N.Listener input.old output.old files.old net.old) (outside R.Source K.Sink F.FileSet N.Listener input.new output.new files.new net.new) result }
+    ensures runs { RunsByForm N.In.Source N.Out.Sink (form_of (texts words.now)) (outside R.Source K.Sink F.FileSet N.Listener input.old output.old files.old net.old) (outside R.Source K.Sink F.FileSet N.Listener input.new output.new files.new net.new) result }
 
     // At Ok the command was done.
     ensures ok { result ≡ Exit.Ok → IsDone N.In.Source N.Out.Sink (form_of (texts words.now)) (outside R.Source K.Sink F.FileSet N.Listener input.old output.old files.old net.old) (outside R.Source K.Sink F.FileSet N.Listener input.new output.new files.new net.new) }
 
     // Where no fault came, the exit tells what is known of it, unless memory was wanting.
-    ensures complete { Tells N.In.Source N.Out.Sink (form_of (texts words.now)) (outside R.Source K.Sink F.FileSet N.Listener input.old output.old files.old net.old) (outside R.Source K.Sink F.FileSet N.Listener input.new output.new files.new net.new) result }
+    ensures complete { TellsByForm N.In.Source N.Out.Sink (form_of (texts words.now)) (outside R.Source K.Sink F.FileSet N.Listener input.old output.old files.old net.old) (outside R.Source K.Sink F.FileSet N.Listener input.new output.new files.new net.new) result }
 {
     match read_words(rt.alloc(), words) {
         Ok(Form::Replay { config }) => replay_under(rt, config, input, output, files),
@@ -105,9 +105,7 @@ where
                 run_dir,
             },
         ) => ask(rt.alloc(), asked, run_dir, output, net),
-        Ok(Form::Workload { number, workers }) => {
-            Exit::from(workload(rt, number, workers, output))
-        }
+        Ok(Form::Workload { number, workers }) => workload(rt, number, workers, output),
         Ok(Form::Daemon { service }) => serve(rt, &service, output, files, clock, net),
         Err(exit) => exit,
     }

@@ -1,12 +1,12 @@
 ghost use Rattle.std.specs.Prelude.{◌≡◌, IfOk, IfErr, option_map};
 ghost use Rattle.std.specs.String.{string_bytes};
 ghost use Rattle.nsc_run.specs.Commands.{IsSet, NotSet, conf_path, config_told};
+ghost use Rattle.nsc_run.specs.Exits.{cause_exit};
 
-use crate::exit::Exit;
 use nsc_base::NoMemory;
 use nsc_daemonconf::read_conf;
-use nsc_model::Conf;
-use nsc_outside::FileSet;
+use nsc_model::{Conf, Exit};
+use nsc_outside::{FileSet, ReadCause};
 use std::alloc::Global;
 
 /// The settings of the configuration file at a path, and the defaults where it is absent or no path is given.
@@ -21,10 +21,22 @@ pub fn conf_at<F: FileSet>(alloc: Global, path: Option<&str>, files: &mut F) -> 
     let Some(path) = path else {
         return Ok(Conf::defaults());
     };
-    let Some(text) = files.read_conf(alloc, path)? else {
-        return Ok(Conf::defaults());
-    };
-    Ok(read_conf(text.as_slice())?)
+    match files.read_conf(alloc, path) {
+        Ok(None) => Ok(Conf::defaults()),
+        Ok(Some(text)) => Ok(read_conf(text.as_slice())?),
+        Err(cause) => Err(cause_exit(cause)),
+    }
+}
+
+// The exit where a file could not be read.
+fn cause_exit(cause: ReadCause) -> Exit
+    ensures { result ≡ cause_exit cause }
+{
+    match cause {
+        ReadCause::NoMemory => Exit::NoMemory,
+        ReadCause::Failed => Exit::SourceFault,
+        ReadCause::TooLong { length } => Exit::TooLong { length },
+    }
 }
 
 /// The path of a daemon's configuration file: the one that is named, or else that of the nscd.conf beside nsswitch.conf. Fails

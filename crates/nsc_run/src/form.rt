@@ -17,7 +17,7 @@ const WORKLOAD_WORKERS: u32 = 4;
 
 /// How a daemon is to run.
 #[derive(Clone, Copy, Debug)]
-pub struct Service<'a> {
+pub struct DaemonOptions<'a> {
     /// The path of the configuration file, where one is named.
     pub config: Option<&'a str>,
     /// How many threads serve connections, 1 to 64, where that is said.
@@ -53,7 +53,7 @@ pub enum Form<'a> {
     /// To be the daemon.
     Daemon {
         /// How.
-        service: Service<'a>,
+        service: DaemonOptions<'a>,
     },
 }
 
@@ -185,7 +185,7 @@ impl<'a> Options<'a> {
         ensures runs { IfSome result CanRun }
     {
         Some(Form::Daemon {
-            service: Service {
+            service: DaemonOptions {
                 config: self.config,
                 workers: self.workers()?,
                 etc: self.etc,

@@ -4,9 +4,8 @@
 mod actions;
 mod command;
 mod config;
-mod exit;
 mod form;
 mod words;
 
 pub use command::{replay, run};
-pub use exit::Exit;
+pub use nsc_model::Exit;

@@ -1,22 +1,22 @@
 ghost use Rattle.std.specs.Prelude.{◌≡◌, ◌⊎◌, IfOk, IfErr, Some, None, true, false};
 ghost use Rattle.clap.specs.Words.{app_of, found_of, kind_of, matches_of, rows_of, rule_of};
-ghost use Rattle.nsc_run.specs.Commands.{IsRefusal, IsRefused};
+ghost use Rattle.nsc_run.specs.Commands.{RefusesForm, RefusesWords};
 ghost use Rattle.nsc_run.specs.Forms.{command_app, errand_app, flag, form_of, is_command, lettered, texts, valued};
 ghost use Rattle.nsc_run.specs.Shown.{CanRun, shown};
 ghost use Rattle.nsc_run.specs.Exits.{error_exit};
 
-use crate::exit::Exit;
 use crate::form::{Form, Options};
 use clap::builder::ValueParser;
 use clap::error::ErrorKind;
 use clap::{Arg, ArgAction, ArgMatches, Command, Error};
+use nsc_model::Exit;
 use std::alloc::{AllocError, Global};
 
 /// Reads the command words. Words that have no form are `Usage`.
 pub fn read_words<'a>(alloc: Global, words: &'a [String]) -> Result<Form<'a>, Exit>
     ensures ok { IfOk result (λ form. form_of (texts words.entry.now) ≡ Some (shown form)) }
     ensures runs { IfOk result CanRun }
-    ensures err { IfErr result (λ exit. IsRefused (form_of (texts words.entry.now)) exit) }
+    ensures err { IfErr result (λ exit. RefusesForm (form_of (texts words.entry.now)) exit) }
 {
     match Options::of(&parsed(alloc, words)?).form() {
         Some(form) => Ok(form),
@@ -28,7 +28,7 @@ pub fn read_words<'a>(alloc: Global, words: &'a [String]) -> Result<Form<'a>, Ex
 fn parsed<'a>(alloc: Global, words: &'a [String]) -> Result<ArgMatches<'a>, Exit>
     ensures command { IfOk result (λ m. is_command (texts words.entry.now) ≡ true) }
     ensures matches { IfOk result (λ m. rows_of (found_of m) ≡ matches_of command_app (texts words.entry.now)) }
-    ensures err { IfErr result (λ exit. IsRefusal (is_command (texts words.entry.now)) exit) }
+    ensures err { IfErr result (λ exit. RefusesWords (is_command (texts words.entry.now)) exit) }
 {
     match command(alloc)?.try_get_matches_from(words) {
         Ok(matches) => Ok(matches),

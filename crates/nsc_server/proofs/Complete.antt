@@ -1,6 +1,7 @@
 -- A connection on which nothing failed is answered.
 use Rattle.std.proofs.Common.{◌≡◌, inl, inr, ℕ, List, length, Option, Some, None, IfSome, refl, sym, ◌∙◌, ap, subst}
 use Rattle.nsc_outside.specs.Stream.{Moves}
+use Rattle.nsc_outside.specs.StreamAt.{StreamAt}
 use Rattle.nsc_model.specs.Reads.{Rose}
 use Rattle.nsc_model.specs.declared.kind.Db.{Db}
 use Rattle.nsc_model.specs.declared.conf.DbConf.{DbConf}
@@ -19,7 +20,7 @@ use Rattle.nsc_server.specs.declared.served.Served.TheVariants as served
 use Rattle.nsc_server.specs.declared.served.Closing.{Closing}
 use Rattle.nsc_server.specs.Passes.{PassAt}
 use Rattle.nsc_server.specs.Requests.{GetsShort, IsNeeded, closing_of}
-use Rattle.nsc_server.specs.Outcomes.{Answers, Completes, CountsInput, Ends, IsRefusal, IsInvalidateRefusal, NoInvalidateFault, NoLookFault, NoStoreFault, OthersStay, Serves, Side, StreamAt, replied_to, served_by, served_after}
+use Rattle.nsc_server.specs.Outcomes.{Answers, Completes, CountsInput, Ends, IsInvalidateRefusal, IsRefusal, NoInvalidateFault, NoLookFault, NoStoreFault, OthersStay, Serves, Side, replied_to, served_after, served_by}
 
 look_lacked : (f : LookupFault) (before after : PassAt) → IsFault f after.seen before.faults after.faults before.file_faults after.file_faults
     → NoLookFault before after → served_by f ≡ served.NoMemory

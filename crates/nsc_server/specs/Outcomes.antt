@@ -1,6 +1,7 @@
 -- What came of one connection.
 use Rattle.std.specs.Prelude.{◌≡◌, ◌≢◌, ℕ, List, [], ◌∷◌, ◌⊎◌, Option, Some, None, IfSome}
 use Rattle.nsc_outside.specs.Stream.{Moves, IsDrained, Grows, GrowsByFront}
+use Rattle.nsc_outside.specs.StreamAt.{StreamAt, stream_out}
 use Rattle.nsc_model.specs.declared.kind.Db.{Db}
 use Rattle.nsc_model.specs.declared.conf.DbConf.{DbConf}
 use Rattle.nsc_model.specs.declared.answer.Request.{Request}
@@ -23,7 +24,6 @@ use Rattle.nsc_server.specs.declared.served.Served.{Served}
 use Rattle.nsc_server.specs.declared.served.Served.TheVariants as served
 use Rattle.nsc_server.specs.Requests.{IsNeeded, closing_of}
 use Rattle.nsc_server.specs.Passes.{PassAt, OthersThan, passes_at}
-use Rattle.nsc_outside.specs.declared.stream.Source as source
 use Rattle.nsc_outside.specs.declared.stream.Sink as sink
 use Rattle.nsc_model.specs.declared.store.Store as store
 use Rattle.nsc_server.specs.Stats.{stats_text}
@@ -118,21 +118,10 @@ OthersStay _ before after = after ≡ before
 
 -- ---- the whole
 
--- at one moment: what a stream has left or took, where it tells that, and the count of its faults
-pub record StreamAt : Type 0 where
-  pub bytes : Option (List ℕ)
-  pub faults : ℕ
-
 -- what an answer changes: the output, and the passes
 pub record Side : Type 0 where
   pub output : StreamAt
   pub passes : Databases PassAt
-
-abbrev pub stream_in : {R : Type 0} → source.Ghosts R → R → StreamAt
-stream_in g input = record { bytes = g.left input; faults = g.faults input }
-
-abbrev pub stream_out : {K : Type 0} → sink.Ghosts K → K → StreamAt
-stream_out g output = record { bytes = g.taken output; faults = g.faults output }
 
 abbrev pub side : {S P K : Type 0} → store.Ghosts S P → sink.Ghosts K → Databases P → K → Side
 side stores sinks passes output = record { output = stream_out sinks output; passes = passes_at stores passes }
@@ -158,7 +147,7 @@ pub record IsCutShort (settings : Databases DbConf) (moment : ℕ) (asked : Aske
   pub failed : Rose before.output.faults after.output.faults
 
 -- nothing was written, since there is no reply
-pub record IsRefused (settings : Databases DbConf) (asked : Asked) (before after : Side) (by : Served) : Type 0 where
+pub record HasNoReply (settings : Databases DbConf) (asked : Asked) (before after : Side) (by : Served) : Type 0 where
   pub silent : after.output ≡ before.output
   pub refusal : IsRefusal settings asked before.passes after.passes by
 
@@ -175,10 +164,10 @@ Answers settings moment asked before after served.WriteFault = IsCutShort settin
 Answers settings moment asked before after (served.Closed why) = ⊥
 Answers settings moment asked before after (served.Ended have) = ⊥
 Answers settings moment asked before after served.ReadFault = ⊥
-Answers settings moment asked before after (served.SourceFault file) = IsRefused settings asked before after (served.SourceFault file)
-Answers settings moment asked before after (served.TooLong file size) = IsRefused settings asked before after (served.TooLong file size)
-Answers settings moment asked before after (served.Spent count) = IsRefused settings asked before after (served.Spent count)
-Answers settings moment asked before after served.NoMemory = IsRefused settings asked before after served.NoMemory
+Answers settings moment asked before after (served.SourceFault file) = HasNoReply settings asked before after (served.SourceFault file)
+Answers settings moment asked before after (served.TooLong file size) = HasNoReply settings asked before after (served.TooLong file size)
+Answers settings moment asked before after (served.Spent count) = HasNoReply settings asked before after (served.Spent count)
+Answers settings moment asked before after served.NoMemory = HasNoReply settings asked before after served.NoMemory
 
 -- what came of a connection on which this was asked: it is refused, or not whole, or answered
 abbrev pub Ends : Databases DbConf → ℕ → Role → Asked → Option (List ℕ) → Side → Side → Served → Type 0

@@ -2,7 +2,7 @@ ghost use Rattle.std.specs.Prelude.{◌≡◌, ◌^◌, ◌≤◌, IfNone, IfSom
 ghost use Rattle.nsc_server.specs.Jobs.{IsServable, given_after};
 ghost use Rattle.nsc_server.specs.Passes.{AreNamed, ArePasses, SawMore, passes_at};
 
-use crate::room::Room;
+use crate::request_buffer::RequestBuffer;
 use crate::serve::serve_one;
 use nsc_model::{Databases, Store, next_count};
 use nsc_outside::{Sink, Source};
@@ -52,7 +52,7 @@ pub fn work<RT: AllocGlobal + Wait + Clock, J: Jobs, S: Store>(
     jobs: &mut J,
     stores: &Databases<S>,
     passes: &mut Databases<S::Pass>,
-    room: &mut Room,
+    buffer: &mut RequestBuffer,
 ) -> u64
     requires named { AreNamed S.Store stores.now }
     requires passes { ArePasses S.Store stores.now passes.old }
@@ -71,7 +71,7 @@ pub fn work<RT: AllocGlobal + Wait + Clock, J: Jobs, S: Store>(
             rt,
             stores,
             passes,
-            room,
+            buffer,
             &mut job.input,
             &mut job.output,
             job.role,

@@ -5,13 +5,13 @@ mod admitted;
 mod counts;
 mod jobs;
 mod made;
-mod room;
+mod request_buffer;
 mod serve;
 mod served;
 mod statistics;
 
 pub use jobs::{Job, Jobs, work};
-pub use room::Room;
+pub use request_buffer::RequestBuffer;
 pub use serve::serve_one;
 pub use served::{Closing, Served};
 pub use statistics::stat_text;

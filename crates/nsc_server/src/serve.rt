@@ -1,4 +1,5 @@
 ghost use Rattle.std.specs.Prelude.{◌≡◌, ◌^◌, ◌<◌, ◌≤◌, length, IfErr, IfOk};
+ghost use Rattle.nsc_outside.specs.StreamAt.{stream_in, stream_out};
 ghost use Rattle.nsc_model.specs.Databases.{database_in};
 ghost use Rattle.nsc_model.specs.Entry.{key_limit};
 ghost use Rattle.nsc_model.specs.Kinds.{database_of, db_named};
@@ -6,14 +7,14 @@ ghost use Rattle.nsc_model.specs.Wire.{Invalidate};
 ghost use Rattle.nsc_wire.specs.Request.{KeyFits, KeyIsIn, asked_by};
 ghost use Rattle.nsc_server.specs.Admitted.{wire_of};
 ghost use Rattle.nsc_server.specs.Made.{bytes_of};
-ghost use Rattle.nsc_server.specs.Outcomes.{Answers, IsInvalidateRefusal, IsInvalidateReply, IsLookFault, IsLookReply, IsRefusal, IsReply, IsStatReply, OthersStay, Serves, WritesReply, side, stream_in, stream_out};
+ghost use Rattle.nsc_server.specs.Outcomes.{Answers, IsInvalidateRefusal, IsInvalidateReply, IsLookFault, IsLookReply, IsRefusal, IsReply, IsStatReply, OthersStay, Serves, WritesReply, side};
 ghost use Rattle.nsc_server.specs.Passes.{AreNamed, ArePasses, OthersThan, SawMore, passes_at, settings_of};
 ghost use Rattle.nsc_server.specs.Requests.{TakesRequests};
 
 use crate::admitted::{Admitted, admit};
 use crate::counts::all_stats;
 use crate::made::{Made, empty, look_up, reply_bytes};
-use crate::room::Room;
+use crate::request_buffer::RequestBuffer;
 use crate::served::Served;
 use crate::statistics::stat_text;
 use nsc_model::{Databases, Db, Kind, Store};
@@ -28,7 +29,7 @@ pub fn serve_one<RT: AllocGlobal + Wait, S: Store, R: Source, K: Sink>(
     rt: &RT,
     stores: &Databases<S>,
     passes: &mut Databases<S::Pass>,
-    room: &mut Room,
+    buffer: &mut RequestBuffer,
     conn_in: &mut R,
     conn_out: &mut K,
     role: Role,
@@ -42,12 +43,12 @@ pub fn serve_one<RT: AllocGlobal + Wait, S: Store, R: Source, K: Sink>(
     ensures before { SawMore (passes_at S.Store passes.old) (passes_at S.Store passes.new) }
     ensures served { Serves (settings_of S.Store stores.now) now role (stream_in R.Source conn_in.old) (stream_in R.Source conn_in.new) (side S.Store K.Sink passes.old conn_out.old) (side S.Store K.Sink passes.new conn_out.new) result }
 {
-    let wire = match room.read(conn_in) {
+    let wire = match buffer.read(conn_in) {
         Ok(wire) => wire,
         Err(_) => return Served::ReadFault,
     };
     match admit(wire, role) {
-        Ok(admitted) => answer(rt, stores, passes, room.bytes(), &admitted, conn_out, now),
+        Ok(admitted) => answer(rt, stores, passes, buffer.bytes(), &admitted, conn_out, now),
         Err(refused) => refused,
     }
 }

@@ -29,7 +29,7 @@ pub record MemListener : Type 0 where
   pub faults : ℕ
 
 -- a wait went on, for one more time, since its flag was not found set
-pub record GoesOn (before : Wait) (found : Option Arrival) (after : Option Wait) : Type 0 where
+pub record WaitGoesOn (before : Wait) (found : Option Arrival) (after : Option Wait) : Type 0 where
   pub unset : before.until.is_set ≡ false
   pub later : Wait
   pub turn : before.turns ≡ later.turns + 1
@@ -39,16 +39,16 @@ pub record GoesOn (before : Wait) (found : Option Arrival) (after : Option Wait)
 
 -- what was found where these are to come, and what is to come after it. A wait that is over is passed; when its flag was set
 -- is known to no one
-abbrev pub Finds : List Arrival → Option Arrival → Option Wait → List Arrival → Type 0
-Finds [] found wait left = (found ≡ None) × (wait ≡ None) × (left ≡ [])
-Finds (arrival.Conn role input output ∷ rest) found wait left = (found ≡ Some (arrival.Conn role input output)) × (wait ≡ None) × (left ≡ rest)
-Finds (arrival.Quiet ∷ rest) found wait left = (found ≡ Some arrival.Quiet) × (wait ≡ None) × (left ≡ rest)
-Finds (arrival.QuietUntil flag ∷ rest) found wait left = (GoesOn (begun flag) found wait × (left ≡ rest)) ⊎ Finds rest found wait left
+abbrev pub FindsArrival : List Arrival → Option Arrival → Option Wait → List Arrival → Type 0
+FindsArrival [] found wait left = (found ≡ None) × (wait ≡ None) × (left ≡ [])
+FindsArrival (arrival.Conn role input output ∷ rest) found wait left = (found ≡ Some (arrival.Conn role input output)) × (wait ≡ None) × (left ≡ rest)
+FindsArrival (arrival.Quiet ∷ rest) found wait left = (found ≡ Some arrival.Quiet) × (wait ≡ None) × (left ≡ rest)
+FindsArrival (arrival.QuietUntil flag ∷ rest) found wait left = (WaitGoesOn (begun flag) found wait × (left ≡ rest)) ⊎ FindsArrival rest found wait left
 
 -- the same where a wait may have begun
 abbrev pub FindsNext : Option Wait → List Arrival → Option Arrival → Option Wait → List Arrival → Type 0
-FindsNext None arrivals found after left = Finds arrivals found after left
-FindsNext (Some wait) arrivals found after left = (GoesOn wait found after × (left ≡ arrivals)) ⊎ Finds arrivals found after left
+FindsNext None arrivals found after left = FindsArrival arrivals found after left
+FindsNext (Some wait) arrivals found after left = (WaitGoesOn wait found after × (left ≡ arrivals)) ⊎ FindsArrival arrivals found after left
 
 -- what a listener answers that found this
 abbrev pub answer_to : Option Arrival → Result (Accepted (List ℕ) SharedSink) Failed

@@ -22,7 +22,7 @@ pub(crate) struct Guest {
 
 /// What a look at a guest found.
 #[derive(Drop)]
-pub(crate) enum Look {
+pub(crate) enum Glance {
     /// What becomes of the connection is settled, and these bytes were seen of what its peer sends.
     Settled(Vec<u8>),
     /// More has to come first.
@@ -33,7 +33,7 @@ pub(crate) enum Look {
 
 /// A guest whose look was settled, with the bytes that were seen.
 #[derive(Drop)]
-pub(crate) struct Ready {
+pub(crate) struct ReadyGuest {
     guest: Guest,
     ahead: Vec<u8>,
 }
@@ -53,21 +53,21 @@ impl Guest {
     }
 
     /// Looks, without waiting, whether this connection can be given out. Where its peer sends no more it can be, whatever came.
-    pub(crate) fn look(&mut self, alloc: Global, has_ended: bool) -> Look {
+    pub(crate) fn look(&mut self, alloc: Global, has_ended: bool) -> Glance {
         self.looks = self.looks.saturating_add(1);
         let mut room = [0u8; LONGEST];
         let count = match self.peer.peek(&mut room) {
             Ok(count) => count,
-            Err(error) if may_pass(&error) => return Look::Pending,
-            Err(_) => return Look::Lost,
+            Err(error) if may_pass(&error) => return Glance::Pending,
+            Err(_) => return Glance::Lost,
         };
         let seen = &room[..count];
         if !(has_ended || seen.is_empty() || self.is_settled_by(seen)) {
-            return Look::Pending;
+            return Glance::Pending;
         }
         match Bytes::copy(alloc, seen) {
-            Ok(ahead) => Look::Settled(ahead.into_vec()),
-            Err(NoMemory) => Look::Lost,
+            Ok(ahead) => Glance::Settled(ahead.into_vec()),
+            Err(NoMemory) => Glance::Lost,
         }
     }
 
@@ -90,8 +90,8 @@ impl Guest {
     }
 
     /// The same guest, with what was seen of its bytes.
-    pub(crate) fn ready(self, ahead: Vec<u8>) -> Ready {
-        Ready { guest: self, ahead }
+    pub(crate) fn ready(self, ahead: Vec<u8>) -> ReadyGuest {
+        ReadyGuest { guest: self, ahead }
     }
 }
 
@@ -101,14 +101,14 @@ impl AsRawFd for Guest {
     }
 }
 
-impl Ready {
+impl ReadyGuest {
     /// The two ends of the connection. Where there is no memory for them it is closed.
     pub(crate) fn into_ends(
         self,
         alloc: Global,
         waiting: &Arc<AtomicU64>,
     ) -> Result<Accepted<UnixInput, UnixOutput>, NoMemory> {
-        let Ready { guest, ahead } = self;
+        let ReadyGuest { guest, ahead } = self;
         let Guest { role, peer, .. } = guest;
         let patience = match role {
             Role::Plain | Role::Admin => Duration::ZERO,

@@ -19,12 +19,12 @@ use std::snapshot::Snapshot;
 
 // A connection that was given, for contracts alone.
 #[derive(Drop)]
-struct Given {
+struct GivenConnection {
     role: Role,
     input: Snapshot<Bytes>,
 }
 
-impl Model for Given {
+impl Model for GivenConnection {
     ghost use Rattle.nsc_sockets.specs.Connections.{Connection};
 
     ghost Value = { Connection };
@@ -32,11 +32,11 @@ impl Model for Given {
     ghost view = { λ g. record { role = g.role; bytes = g.input.value } };
 }
 
-impl Given {
-    fn of(role: Role, input: &Bytes) -> Given
+impl GivenConnection {
+    fn of(role: Role, input: &Bytes) -> GivenConnection
         ensures { result ≡ record { role = role; bytes = input.now } }
     {
-        Given {
+        GivenConnection {
             role,
             input: Snapshot::of(input),
         }
@@ -44,14 +44,14 @@ impl Given {
 }
 
 // Keeps that a connection was given, if it is one. The room for it was taken when the listener was made.
-fn note(given: &mut Vec<Given>, arrival: &Arrival)
+fn note(given: &mut Vec<GivenConnection>, arrival: &Arrival)
     requires { vec_len given.old < vec_capacity given.old }
     ensures items { reverse given.new.items ≡ given_after (Some arrival.now) (reverse given.old.items) }
     ensures len { vec_len given.new ≤ vec_len given.old + 1 }
     ensures capacity { vec_capacity given.old ≤ vec_capacity given.new }
 {
     if let Arrival::Conn { role, input, .. } = arrival {
-        given.push(Given::of(*role, input)).unwrap();
+        given.push(GivenConnection::of(*role, input)).unwrap();
     }
 }
 
@@ -103,7 +103,7 @@ impl Wait {
 pub struct MemListener {
     wait: Option<Wait>,
     arrivals: VecDeque<Arrival>,
-    given: Vec<Given>,
+    given: Vec<GivenConnection>,
     peers: VecDeque<Peer>,
     faults: u64,
 }

@@ -2,7 +2,7 @@ ghost use Rattle.std.specs.Prelude.{◌≡◌, None, OnOk, OnErr, IfOk};
 ghost use Rattle.nsc_model.specs.Reads.{Rose};
 
 use crate::binding::bind_at;
-use crate::desk::Desk;
+use crate::entrance::Entrance;
 use crate::listener::{Accepted, Listener};
 use crate::peer::Peer;
 use crate::role::Role;
@@ -32,7 +32,7 @@ pub struct UnixListener<R: Files + Net + Clock + Drop> {
     system: R,
     alloc: Global,
     processors: usize,
-    desk: Option<Desk>,
+    entrance: Option<Entrance>,
     faults: u64,
 }
 
@@ -54,7 +54,7 @@ impl<R: Files + Net + Clock + Drop> UnixListener<R> {
             system,
             alloc,
             processors,
-            desk: None,
+            entrance: None,
             faults: 0,
         }
     }
@@ -66,26 +66,26 @@ impl<R: Files + Net + Clock + Drop> UnixListener<R> {
         self.faults
     }
 
-    // Opens a socket, with the desk for it where this is the first one.
+    // Opens a socket, with the entrance for it where this is the first one.
     fn open(&mut self, role: Role, path: &str) -> io::Result<()>
         ensures faults { self.new.faults ≡ self.old.faults }
     {
-        if self.desk.is_none() {
-            self.desk = Some(Desk::new(self.alloc, &self.system, self.processors)?);
+        if self.entrance.is_none() {
+            self.entrance = Some(Entrance::new(self.alloc, &self.system, self.processors)?);
         }
-        let Some(desk) = &mut self.desk else {
+        let Some(entrance) = &mut self.entrance else {
             return Ok(());
         };
         let socket = bind_at(&self.system, self.alloc, role, path)?;
-        desk.add_door(role, socket)
+        entrance.add_door(role, socket)
     }
 
     // The next connection. Without a socket there is none to wait for.
     fn next(&mut self) -> io::Result<Accepted<UnixInput, UnixOutput>>
         ensures faults { self.new.faults ≡ self.old.faults }
     {
-        match &mut self.desk {
-            Some(desk) => desk.accept(&self.system),
+        match &mut self.entrance {
+            Some(entrance) => entrance.accept(&self.system),
             None => Err(io::Error::from(io::ErrorKind::NotConnected)),
         }
     }

@@ -1,4 +1,4 @@
-use crate::guest::{Guest, Look, Ready};
+use crate::guest::{Glance, Guest, ReadyGuest};
 use mio::unix::SourceFd;
 use mio::{Interest, Registry, Token};
 use slab::Slab;
@@ -58,40 +58,44 @@ impl WaitingRoom {
         registry: &Registry,
         mut guest: Guest,
         may_stand: bool,
-    ) -> Option<Ready> {
+    ) -> Option<ReadyGuest> {
         match guest.look(self.alloc, false) {
-            Look::Settled(ahead) => return Some(guest.ready(ahead)),
-            Look::Pending if may_stand && self.standing.len() < STANDING => {
+            Glance::Settled(ahead) => return Some(guest.ready(ahead)),
+            Glance::Pending if may_stand && self.standing.len() < STANDING => {
                 let _ = self.standing.push_back(guest);
             }
-            Look::Pending => self.seat(registry, guest),
-            Look::Lost => {}
+            Glance::Pending => self.seat(registry, guest),
+            Glance::Lost => {}
         }
         None
     }
 
     /// Looks once at those that stand, up to the first that can be given out. Who was looked at often enough sits down.
-    pub(crate) fn next_standing(&mut self, registry: &Registry, may_stand: bool) -> Option<Ready> {
+    pub(crate) fn next_standing(
+        &mut self,
+        registry: &Registry,
+        may_stand: bool,
+    ) -> Option<ReadyGuest> {
         for _ in 0..self.standing.len() {
             let mut guest = self.standing.pop_front()?;
             match guest.look(self.alloc, false) {
-                Look::Settled(ahead) => return Some(guest.ready(ahead)),
-                Look::Pending if may_stand && guest.looks() < LOOKS => {
+                Glance::Settled(ahead) => return Some(guest.ready(ahead)),
+                Glance::Pending if may_stand && guest.looks() < LOOKS => {
                     let _ = self.standing.push_back(guest);
                 }
-                Look::Pending => self.seat(registry, guest),
-                Look::Lost => {}
+                Glance::Pending => self.seat(registry, guest),
+                Glance::Lost => {}
             }
         }
         None
     }
 
     /// Looks at the one in this seat, of which the system told that bytes came, or that no more will.
-    pub(crate) fn stir(&mut self, seat: usize, has_ended: bool) -> Option<Ready> {
+    pub(crate) fn stir(&mut self, seat: usize, has_ended: bool) -> Option<ReadyGuest> {
         match self.seats.get_mut(seat)?.look(self.alloc, has_ended) {
-            Look::Settled(ahead) => Some(self.seats.try_remove(seat)?.ready(ahead)),
-            Look::Pending => None,
-            Look::Lost => {
+            Glance::Settled(ahead) => Some(self.seats.try_remove(seat)?.ready(ahead)),
+            Glance::Pending => None,
+            Glance::Lost => {
                 drop(self.seats.try_remove(seat));
                 None
             }

@@ -1,5 +1,5 @@
-use nsc_daemonconf::{ConfFault, read_conf};
-use nsc_model::{Conf, Db, DbName, SwitchAction, SwitchService, SwitchStep};
+use nsc_daemonconf::read_conf;
+use nsc_model::{Conf, ConfFault, Db, DbName, SwitchAction, SwitchService, SwitchStep};
 use nsc_switchconf::service_list;
 use std::test::Fail;
 

@@ -2,9 +2,10 @@
 use Rattle.std.specs.Prelude.{◌≡◌, ℕ, ◌<◌, ◌+◌, ◌*◌, ◌-◌, ◌/◌, ◌==◌, Bool, List, map, Option, Some, None}
 use Rattle.std.specs.List.{slice_index_or}
 use Rattle.nsc_outside.specs.Stream.{Grows, GrowsByFront}
+use Rattle.nsc_outside.specs.StreamAt.{StreamAt}
 use Rattle.nsc_model.specs.Reads.{Rose}
-use Rattle.nsc_workload.specs.declared.run.Worked.{Worked}
-use Rattle.nsc_workload.specs.declared.run.Worked.TheVariants as worked
+use Rattle.nsc_model.specs.declared.exit.Exit.{Exit}
+use Rattle.nsc_model.specs.declared.exit.Exit.TheVariants as exits
 use Rattle.nsc_workload.specs.Workload.{answers_from, request_count}
 
 -- the replies to as many requests in order, from one on
@@ -27,13 +28,9 @@ AreShares n workers shares = (worker : ℕ) (d : Option (List (List ℕ))) → w
 abbrev pub has_row : List ℕ → Bool
 has_row reply = slice_index_or reply 4 0 == 1
 
--- what was written of a text, by how it ended: all of it, a front of it, or nothing
-abbrev pub IsWritten : Worked → List ℕ → Option (List ℕ) → Option (List ℕ) → Type 0
-IsWritten worked.Done text before after = Grows before after text
-IsWritten worked.WriteFault text before after = GrowsByFront before after text
-IsWritten worked.NoMemory text before after = after ≡ before
-
--- the count of the output's faults rose exactly where it ended so
-abbrev pub IsCounted : Worked → ℕ → ℕ → Type 0
-IsCounted worked.WriteFault before after = Rose before after
-IsCounted _ before after = after ≡ before
+-- what the output took of a text, by the exit: all of it, a front of it as it failed, or nothing
+abbrev pub PutsText : Exit → List ℕ → StreamAt → StreamAt → Type 0
+PutsText exits.Ok text before after = Grows before.bytes after.bytes text × (after.faults ≡ before.faults)
+PutsText exits.WriteFault text before after = GrowsByFront before.bytes after.bytes text × Rose before.faults after.faults
+PutsText exits.NoMemory text before after = after ≡ before
+PutsText _ text before after = ⊥

@@ -2,8 +2,8 @@
 #![tactic(auto)]
 
 mod asked;
+mod assignment;
 mod fixed_files;
-mod job;
 mod lines;
 mod lookups;
 mod room;
@@ -12,4 +12,4 @@ mod users;
 mod workers;
 
 pub use fixed_files::{FixedFiles, OfContent};
-pub use run::{Worked, workload};
+pub use run::workload;

@@ -4,15 +4,15 @@ ghost use Rattle.nsc_workload.specs.Runs.{replies_from};
 ghost use Rattle.nsc_workload.specs.Workload.{answer_at, request_count};
 
 use crate::asked::request;
+use crate::assignment::Assignment;
 use crate::fixed_files::{FixedFiles, OfContent};
-use crate::job::Job;
 use nsc_base::{Bytes, NoMemory, Texts};
 use nsc_database::{DbPass, Room};
 use nsc_model::{Given, Store};
 use std::alloc::Global;
 use std::sync::Wait;
 
-impl<C: OfContent, B: Room> Job<'_, C, B> {
+impl<C: OfContent, B: Room> Assignment<'_, C, B> {
     /// The replies to as many requests in order, from one on, by a pass of their own. Fails only for want of memory.
     #[tactic(auto, using(crate::proofs::Joined::next))]
     pub(crate) fn replies<R: Wait>(

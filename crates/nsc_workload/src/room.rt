@@ -3,8 +3,8 @@ ghost use Rattle.nsc_model.specs.declared.kind.Db.TheVariants as db;
 ghost use Rattle.nsc_model.specs.Settings.{settings_of};
 ghost use Rattle.nsc_workload.specs.Workload.{files_of, workload_of};
 
+use crate::assignment::Assignment;
 use crate::fixed_files::{FixedFiles, OfContent};
-use crate::job::Job;
 use crate::lines::lines;
 use crate::workers::all_replies;
 use nsc_base::NoMemory;
@@ -69,12 +69,12 @@ fn lines_in<B: Room + Send, C: OfContent + Send, R: Threads + Wait + Sync>(
 {
     match opened.enter::<B>() {
         Ok((database, _)) => {
-            let job = Job {
+            let assignment = Assignment {
                 database: &database,
                 number,
                 workers,
             };
-            let replies = all_replies(rt, alloc, &job)?;
+            let replies = all_replies(rt, alloc, &assignment)?;
             lines(alloc, replies.as_slice())
         }
         Err(_) => Err(NoMemory),

@@ -1,55 +1,48 @@
 ghost use Rattle.std.specs.Prelude.{◌≡◌, ◌≤◌, ◌<◌, IfOk};
-ghost use Rattle.nsc_workload.specs.Runs.{IsCounted, IsWritten};
+ghost use Rattle.nsc_outside.specs.StreamAt.{stream_out};
+ghost use Rattle.nsc_model.specs.Exits.{IsExitOf, Working};
+ghost use Rattle.nsc_workload.specs.Runs.{PutsText};
 ghost use Rattle.nsc_workload.specs.Workload.{workload_of};
 
 use crate::room::lines_over;
 use crate::users::content;
 use nsc_base::NoMemory;
+use nsc_model::Exit;
 use nsc_outside::{Sink, write_all};
 use std::alloc::Global;
 use std::marker::Brand;
 use std::sync::Wait;
 use std::thread::Threads;
 
-/// How a workload ended.
-#[derive(Clone, Copy, Debug, PartialEq, Eq)]
-pub enum Worked {
-    /// Its lines were written.
-    Done,
-    /// The output failed, after a front of them.
-    WriteFault,
-    /// Memory was wanting, and nothing was written.
-    NoMemory,
-}
-
 /// Runs the workload of a number, 1 to 1,000, by 1 to 64 workers, and writes how many requests were found, how many were not,
 /// and the SHA-256 of all replies in the order of the requests. The workers look the requests up in one database in threads,
-/// and another thread ticks meanwhile; what is written is the same however many there are.
+/// and another thread ticks meanwhile; what is written is the same however many there are. At `WriteFault` the output took a front
+/// of that, and at `NoMemory` nothing.
 pub fn workload<RT: AllocGlobal + Threads + Wait + Sync, K: Sink>(
     rt: &RT,
     number: u32,
     workers: u32,
     output: &mut K,
-) -> Worked
+) -> Exit
     requires number { (0 < number) × (number ≤ 1000) }
     requires workers { (0 < workers) × (workers ≤ 64) }
-    ensures written { IsWritten result (workload_of number) (K.taken output.old) (K.taken output.new) }
-    ensures counted { IsCounted result (K.faults output.old) (K.faults output.new) }
+    ensures exits { IsExitOf Working result }
+    ensures written { PutsText result (workload_of number) (stream_out K.Sink output.old) (stream_out K.Sink output.new) }
 {
     match lines(rt, rt.alloc(), number, workers) {
-        Err(_) => Worked::NoMemory,
+        Err(_) => Exit::NoMemory,
         Ok(text) => write(output, text.as_slice()),
     }
 }
 
 // Writes a text.
-fn write<K: Sink>(output: &mut K, text: &[u8]) -> Worked
-    ensures written { IsWritten result text.now (K.taken output.old) (K.taken output.new) }
-    ensures counted { IsCounted result (K.faults output.old) (K.faults output.new) }
+fn write<K: Sink>(output: &mut K, text: &[u8]) -> Exit
+    ensures exits { IsExitOf Working result }
+    ensures written { PutsText result text.now (stream_out K.Sink output.old) (stream_out K.Sink output.new) }
 {
     match write_all(output, text) {
-        Ok(()) => Worked::Done,
-        Err(_) => Worked::WriteFault,
+        Ok(()) => Exit::Ok,
+        Err(_) => Exit::WriteFault,
     }
 }
 

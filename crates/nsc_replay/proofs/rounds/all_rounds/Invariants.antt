@@ -1,8 +1,8 @@
 use Rattle.std.proofs.Common.{◌≡◌, ◌-◌}
 use Rattle.nsc_model.specs.Frames.{place_limit}
-use Rattle.nsc_replay.specs.declared.ended.Ended.{Ended}
+use Rattle.nsc_model.specs.declared.exit.Exit.{Exit}
 use Rattle.nsc_replay.specs.Streams.{StreamsAt, Calm, streams_at}
-use Rattle.nsc_replay.specs.Runs.{Run}
+use Rattle.nsc_replay.specs.Runs.{ReplayRun}
 use Rattle.nsc_replay.proofs.rounds.all_rounds.Given as goal
 
 -- whatever the rest comes to, the whole comes to it
@@ -12,7 +12,7 @@ invariant-loop-place g l =
     let now = streams_at g.R.Source g.K.Sink l.input l.output in
     record {
       settings_stay : l.machine.settings ≡ l.fn.machine.settings;
-      chain : (after : StreamsAt) (ended : Ended) → Run l.machine.settings l.machine.state l.place record { before = now; after = after } ended → Run l.fn.machine.settings l.fn.machine.state 0 record { before = begun; after = after } ended;
+      chain : (after : StreamsAt) (exit : Exit) → ReplayRun l.machine.settings l.machine.state l.place record { before = now; after = after } exit → ReplayRun l.fn.machine.settings l.fn.machine.state 0 record { before = begun; after = after } exit;
       calm : Calm record { before = begun; after = now };
     }
 

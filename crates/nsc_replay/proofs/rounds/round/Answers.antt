@@ -2,9 +2,9 @@ use Rattle.std.proofs.Common.{subst, sym, ap, ◌+◌, refl}
 use Rattle.std.proofs.lemmas.Result.{err_from_is_err_and}
 use Rattle.nsc_model.specs.Frames as frames
 use Rattle.nsc_model.specs.Frames.{frame_at}
-use Rattle.nsc_replay.specs.declared.ended.Ended.{Ended}
+use Rattle.nsc_model.specs.declared.exit.Exit.{Exit}
 use Rattle.nsc_replay.specs.Streams.{streams}
-use Rattle.nsc_replay.specs.Runs.{Run}
+use Rattle.nsc_replay.specs.Runs.{ReplayRun}
 use Rattle.nsc_replay.specs.Reading.{Gets}
 use Rattle.nsc_replay.specs.Frame.{said}
 use Rattle.nsc_replay.proofs.OneRound.{goes_on, does_not, stops, halts_run}
@@ -14,12 +14,12 @@ pub returns-then-is_end-clause-ends : goal.returns-then-is_end-clause-ends
 returns-then-is_end-clause-ends g c =
     let both = streams g.R.Source g.K.Sink c.args.input.now c.read_frame.new.input c.args.output.now c.args.output.now in
     stops c.args.machine.now.settings c.args.machine.now.state c.args.place both refl c.requires
-    (subst (λ (f : frames.Frame). Gets frame_at both.before.left both.after.left f) c.if-is_end.ensures.end c.in-Ok.ensures.reads)
+    (subst (λ (f : frames.Frame). Gets frame_at both.before.input.bytes both.after.input.bytes f) c.if-is_end.ensures.end c.in-Ok.ensures.reads)
 
 pub returns-in-Err-clause-ends : goal.returns-in-Err-clause-ends
 returns-in-Err-clause-ends g c =
     let both = streams g.R.Source g.K.Sink c.args.input.now c.read_frame.new.input c.args.output.now c.args.output.now in
-    subst (λ (by : Ended). Run c.args.machine.now.settings c.args.machine.now.state c.args.place both by) (sym c.at.ensures)
+    subst (λ (by : Exit). ReplayRun c.args.machine.now.settings c.args.machine.now.state c.args.place both by) (sym c.at.ensures)
     (halts_run c.args.machine.now.settings c.args.machine.now.state c.args.place both refl c.in-Err.halt c.requires c.in-Err.ensures.reads)
 
 pub returns-in_err-serve-clause-ends : goal.returns-in_err-serve-clause-ends

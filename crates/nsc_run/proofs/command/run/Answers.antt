@@ -1,7 +1,7 @@
 use Rattle.std.proofs.Common.{◌∙◌, Option, Some, ap, refl, subst, sym}
 use Rattle.nsc_run.specs.Forms.{Form, form_of, texts}
 use Rattle.nsc_run.specs.Shown.{shown}
-use Rattle.nsc_run.specs.Runs.{Runs, outside}
+use Rattle.nsc_run.specs.Runs.{RunsByForm, outside}
 use Rattle.nsc_run.proofs.Claims.{refused, run_done, run_tells}
 use Rattle.nsc_run.proofs.command.run.Goals as goal
 
@@ -10,7 +10,7 @@ returns-in-Ok-Replay-clause-ok g c =
     let before = outside g.R.Source g.K.Sink g.F.FileSet g.N.Listener c.args.input.now c.args.output.now c.args.files.now c.args.net.now in
     let after = outside g.R.Source g.K.Sink g.F.FileSet g.N.Listener c.replay_under.new.input c.replay_under.new.output c.replay_under.new.files c.args.net.now in
     run_done g.N.In.Source g.N.Out.Sink before after c.replay_under.result (form_of (texts c.args.words.now))
-    (subst (λ (form : Option Form). Runs g.N.In.Source g.N.Out.Sink form before after c.replay_under.result) (sym (c.in-Ok-Replay.ensures.ok ∙ ap (λ form. Some (shown form)) c.in-Ok-Replay.field-0-is))
+    (subst (λ (form : Option Form). RunsByForm g.N.In.Source g.N.Out.Sink form before after c.replay_under.result) (sym (c.in-Ok-Replay.ensures.ok ∙ ap (λ form. Some (shown form)) c.in-Ok-Replay.field-0-is))
     (c.replay_under.ensures.run, c.replay_under.ensures.counts, record { given_stays = refl; peer_stays = refl; calm = refl }))
 
 pub returns-in-Ok-Ask-clause-complete : goal.returns-in-Ok-Ask-clause-complete
@@ -18,16 +18,16 @@ returns-in-Ok-Ask-clause-complete g c =
     let before = outside g.R.Source g.K.Sink g.F.FileSet g.N.Listener c.args.input.now c.args.output.now c.args.files.now c.args.net.now in
     let after = outside g.R.Source g.K.Sink g.F.FileSet g.N.Listener c.args.input.now c.ask.new.output c.args.files.now c.ask.new.net in
     run_tells g.N.In.Source g.N.Out.Sink before after c.ask.result (form_of (texts c.args.words.now))
-    (subst (λ (form : Option Form). Runs g.N.In.Source g.N.Out.Sink form before after c.ask.result) (sym (c.in-Ok-Ask.ensures.ok ∙ ap (λ form. Some (shown form)) c.in-Ok-Ask.field-0-is))
-    (c.ask.ensures.asks, record { left_stays = refl; calm = refl }, record { held_stays = refl; conf_stays = refl; calm = refl }))
+    (subst (λ (form : Option Form). RunsByForm g.N.In.Source g.N.Out.Sink form before after c.ask.result) (sym (c.in-Ok-Ask.ensures.ok ∙ ap (λ form. Some (shown form)) c.in-Ok-Ask.field-0-is))
+    (c.ask.ensures.asks, refl, record { held_stays = refl; conf_stays = refl; calm = refl }))
 
 pub returns-in-Ok-Daemon-clause-complete : goal.returns-in-Ok-Daemon-clause-complete
 returns-in-Ok-Daemon-clause-complete g c =
     let before = outside g.R.Source g.K.Sink g.F.FileSet g.N.Listener c.args.input.now c.args.output.now c.args.files.now c.args.net.now in
     let after = outside g.R.Source g.K.Sink g.F.FileSet g.N.Listener c.args.input.now c.serve.new.output c.serve.new.files c.serve.new.net in
     run_tells g.N.In.Source g.N.Out.Sink before after c.serve.result (form_of (texts c.args.words.now))
-    (subst (λ (form : Option Form). Runs g.N.In.Source g.N.Out.Sink form before after c.serve.result) (sym (c.in-Ok-Daemon.ensures.ok ∙ ap (λ form. Some (shown form)) c.in-Ok-Daemon.field-0-is))
-    (c.serve.ensures, record { left_stays = refl; calm = refl }))
+    (subst (λ (form : Option Form). RunsByForm g.N.In.Source g.N.Out.Sink form before after c.serve.result) (sym (c.in-Ok-Daemon.ensures.ok ∙ ap (λ form. Some (shown form)) c.in-Ok-Daemon.field-0-is))
+    (c.serve.ensures, refl))
 
 pub returns-in-Err-clause-runs : goal.returns-in-Err-clause-runs
 returns-in-Err-clause-runs g c =

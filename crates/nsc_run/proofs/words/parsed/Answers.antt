@@ -3,8 +3,8 @@ use Rattle.clap.specs.Faults.{fault_of, is_simple_and_free}
 use Rattle.clap.specs.Kinds.{HasKind}
 use Rattle.clap.specs.Simple.{App, HasMatchesOf}
 use Rattle.clap.specs.Values.{kind_of}
-use Rattle.nsc_run.specs.declared.exit.Exit.{Exit}
-use Rattle.nsc_run.specs.Commands.{IsRefusal}
+use Rattle.nsc_model.specs.declared.exit.Exit.{Exit}
+use Rattle.nsc_run.specs.Commands.{RefusesWords}
 use Rattle.nsc_run.specs.Forms.{command_app, is_command, texts}
 use Rattle.nsc_run.proofs.Refusals.{refused_by, simple, simple_and_free}
 use Rattle.nsc_run.proofs.words.parsed.Goals as goal
@@ -17,4 +17,4 @@ pub returns-in-Err-clause-err : goal.returns-in-Err-clause-err
 returns-in-Err-clause-err c =
     let words = texts c.args.words.now in
     let kinds = subst (λ (app : App). is_simple_and_free app ≡ true → HasKind (fault_of app words) c.in-Err.error) c.in_ok-command.ensures c.in-Err.ensures.kinds simple_and_free in
-    subst (λ (exit : Exit). IsRefusal (is_command words) exit) (sym c.refusal.ensures) (refused_by (fault_of command_app words) (kind_of c.in-Err.error) kinds)
+    subst (λ (exit : Exit). RefusesWords (is_command words) exit) (sym c.refusal.ensures) (refused_by (fault_of command_app words) (kind_of c.in-Err.error) kinds)

@@ -1,8 +1,9 @@
 use Rattle.std.proofs.Common.{◌≡◌, None, ap, ◌∙◌}
+use Rattle.nsc_outside.specs.StreamAt.{stream_in}
 use Rattle.nsc_model.specs.Wire.{request_of}
 use Rattle.nsc_wire.specs.Request.{asked_by}
 use Rattle.nsc_server.specs.Admitted.{wire_of}
-use Rattle.nsc_server.specs.Outcomes.{side, stream_in}
+use Rattle.nsc_server.specs.Outcomes.{side}
 use Rattle.nsc_server.specs.Passes.{settings_of}
 use Rattle.nsc_server.specs.Requests.{closing_of}
 use Rattle.nsc_server.proofs.Complete.{serves_failed, serves_admitted}

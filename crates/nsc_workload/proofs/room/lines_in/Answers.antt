@@ -2,12 +2,12 @@ use denote.Param.Send.{sendable}
 use Rattle.std.proofs.Common.{◌∙◌}
 use Rattle.std.proofs.Crossing.{crosses}
 use Rattle.std.proofs.lemmas.Result.{IfOk-weaker}
-use Rattle.nsc_workload.proofs.Crossing.{job-sync}
+use Rattle.nsc_workload.proofs.Crossing.{assignment-sync}
 use Rattle.nsc_workload.proofs.Told.{told}
 use Rattle.nsc_workload.proofs.room.lines_in.Goals as goal
 
 pub all_replies-requires-sync-W : goal.all_replies-requires-sync-W
-all_replies-requires-sync-W g c κs within = search (sendable, crosses, job-sync, c.type_bounds) depth 40
+all_replies-requires-sync-W g c κs within = search (sendable, crosses, assignment-sync, c.type_bounds) depth 40
 
 pub returns-in-Ok : goal.returns-in-Ok
 returns-in-Ok g c = IfOk-weaker c.lines.result _ _ (λ text is. is ∙ told c.args.number c.as_slice.result.now (c.as_slice.ensures.value ∙ c.in_ok-replies-in-Ok.ensures)) c.lines.ensures

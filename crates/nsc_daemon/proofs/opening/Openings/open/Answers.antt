@@ -1,6 +1,7 @@
 use Rattle.std.proofs.Common.{◌≡◌, ℕ, Option, rules, subst, ◌∙◌}
 use Rattle.nsc_model.specs.Content.{Content}
-use Rattle.nsc_daemon.specs.Ends.{IsOpeningFault, TellsLength}
+use Rattle.nsc_sourcebook.specs.Reads.{TellsLength}
+use Rattle.nsc_daemon.specs.Ends.{IsOpeningFault}
 use Rattle.nsc_daemon.proofs.opening.Openings.open.Goals as goal
 
 pub returns-in_err-hosts-clause-fault : goal.returns-in_err-hosts-clause-fault

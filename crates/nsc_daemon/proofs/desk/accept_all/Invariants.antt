@@ -1,7 +1,0 @@
-use Rattle.std.proofs.Common.{◌≡◌}
-use Rattle.nsc_daemon.specs.Ends.{GoesOn}
-use Rattle.nsc_daemon.proofs.desk.accept_all.Given as goal
-
--- the listener gave connections, and no call of it failed
-abbrev pub invariant-loop : goal.invariant-loop
-invariant-loop g l = GoesOn (g.N.Listener.given l.initial.net) (g.N.Listener.given l.net) × (g.N.Listener.faults l.net ≡ g.N.Listener.faults l.initial.net)

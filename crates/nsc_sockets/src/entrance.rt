@@ -1,0 +1,248 @@
+use crate::door::Door;
+use crate::guest::{Guest, ReadyGuest};
+use crate::listener::Accepted;
+use crate::pace::Pace;
+use crate::peer::Peer;
+use crate::role::Role;
+use crate::unix_input::UnixInput;
+use crate::unix_output::UnixOutput;
+use crate::waiting_room::WaitingRoom;
+use mio::{Events, Poll, Token};
+use nsc_yields::Yields;
+use std::alloc::Global;
+use std::collections::VecDeque;
+use std::net::Net;
+use std::os::unix::net::UnixListener;
+use std::sync::Arc;
+use std::sync::atomic::AtomicU64;
+use std::time::{Clock, Duration};
+use std::{io, thread};
+
+// The tokens of doors begin here; those below are seats of the waiting room.
+const DOORS: usize = 1 << 20;
+
+// So much the system may tell at a time.
+const EVENTS: usize = 64;
+
+// How long a call waits for a connection, in seconds, and the most turns that it takes for it.
+const LONGEST: u64 = 1;
+
+const TURNS: u32 = 1_000_000;
+
+// While connections are near each other, so many turns pass without sleep.
+const WAKEFUL: u32 = 50;
+
+// How long a call pauses, in milliseconds, where it could not take a connection and there is none to close.
+const PAUSE: u64 = 1;
+
+// Who sits in the waiting room and is ready for a look.
+#[derive(Clone, Copy, Debug)]
+struct Stirred {
+    seat: usize,
+    has_ended: bool,
+}
+
+/// The doors of a process, and the connections that came in and wait to be given out.
+#[derive(Drop)]
+pub(crate) struct Entrance {
+    alloc: Global,
+    poll: Poll,
+    events: Events,
+    doors: Vec<Door>,
+    room: WaitingRoom,
+    stirred: VecDeque<Stirred>,
+    // How many outputs wait for a peer that does not read.
+    waiting: Arc<AtomicU64>,
+    pace: Pace,
+    yields: Yields,
+    is_wakeful: bool,
+}
+
+impl Entrance {
+    /// An entrance without doors. With fewer than three processors it sleeps whenever there is nothing to do, so as not to keep
+    /// those from running that it waits for.
+    pub(crate) fn new(alloc: Global, net: &impl Net, processors: usize) -> io::Result<Entrance> {
+        Ok(Entrance {
+            alloc,
+            poll: Poll::new(net)?,
+            events: Events::with_capacity(alloc, EVENTS)?,
+            doors: Vec::new(alloc),
+            room: WaitingRoom::new(alloc)?,
+            stirred: VecDeque::with_capacity(alloc, EVENTS)?,
+            waiting: Arc::new(alloc, AtomicU64::new(0))?,
+            pace: Pace::new(),
+            yields: Yields::new(),
+            is_wakeful: processors >= 3,
+        })
+    }
+
+    /// Takes connections of this role from this socket too, which makes no call wait.
+    pub(crate) fn add_door(&mut self, role: Role, socket: UnixListener) -> io::Result<()> {
+        let token = door_token(self.doors.len());
+        let door = Door::new(self.poll.registry(), token, role, socket)?;
+        self.doors.push(door)?;
+        Ok(())
+    }
+
+    /// The next connection that can be given out, or `Quiet` after a second without one.
+    pub(crate) fn accept<C: Clock>(
+        &mut self,
+        clock: &C,
+    ) -> io::Result<Accepted<UnixInput, UnixOutput>> {
+        let begun = clock.monotonic()?;
+        let mut now = begun;
+        for turn in 0..TURNS {
+            if let Some(accepted) = self.next(clock, now) {
+                return Ok(accepted);
+            }
+            let waited = now.saturating_sub(begun);
+            let Some(left) = Duration::from_secs(LONGEST).checked_sub(waited) else {
+                break;
+            };
+            let has_yielded = self.rest(turn, now, left)?;
+            let later = clock.monotonic()?;
+            if has_yielded {
+                self.yields.note(now, later);
+            }
+            now = later;
+        }
+        Ok(Accepted::Quiet)
+    }
+
+    // A connection that can be given out at once, if there is one.
+    fn next<C: Clock>(
+        &mut self,
+        clock: &C,
+        now: Duration,
+    ) -> Option<Accepted<UnixInput, UnixOutput>> {
+        if self.pace.begin_round(now) {
+            self.room.sweep(now);
+        }
+        let ready = self.next_ready(clock, now)?;
+        let accepted = ready.into_ends(self.alloc, &self.waiting).ok()?;
+        self.pace.note_given(now);
+        Some(accepted)
+    }
+
+    // Those that stirred come first, then those that stand, then those at the doors.
+    fn next_ready<C: Clock>(&mut self, clock: &C, now: Duration) -> Option<ReadyGuest> {
+        if let Some(ready) = self.next_stirred() {
+            return Some(ready);
+        }
+        let may_stand = self.yields.may_yield(now);
+        if let Some(ready) = self.room.next_standing(self.poll.registry(), may_stand) {
+            return Some(ready);
+        }
+        for at in 0..self.doors.len() {
+            if let Some(ready) = self.next_at(clock, now, at, may_stand) {
+                return Some(ready);
+            }
+        }
+        None
+    }
+
+    fn next_stirred(&mut self) -> Option<ReadyGuest> {
+        for _ in 0..self.stirred.len() {
+            let Stirred { seat, has_ended } = self.stirred.pop_front()?;
+            if let Some(ready) = self.room.stir(seat, has_ended) {
+                return Some(ready);
+            }
+        }
+        None
+    }
+
+    // Takes a connection at an open door. Where none can be taken, some that wait are closed to make room.
+    fn next_at<C: Clock>(
+        &mut self,
+        clock: &C,
+        now: Duration,
+        at: usize,
+        may_stand: bool,
+    ) -> Option<ReadyGuest> {
+        let door = self.doors.get_mut(at)?;
+        if !door.is_open() {
+            return None;
+        }
+        let role = door.role();
+        let outcome = door.take();
+        match outcome {
+            Ok(socket) => {
+                let peer = Peer::new(socket).ok()?;
+                let guest = Guest::new(role, peer, now);
+                self.room.receive(self.poll.registry(), guest, may_stand)
+            }
+            Err(error) if error.kind() == io::ErrorKind::WouldBlock => None,
+            Err(_) => {
+                if !self.room.clear() {
+                    thread::sleep(clock, Duration::from_millis(PAUSE));
+                }
+                None
+            }
+        }
+    }
+
+    // Waits until the system tells of something, at most for as long as is left. It does not sleep while there is work, nor at
+    // first while connections are near each other, unless the processors are busy. Whether it yielded.
+    fn rest(&mut self, turn: u32, now: Duration, left: Duration) -> io::Result<bool> {
+        let is_unknown = self.doors.iter().any(|door| door.is_unknown());
+        let may_yield = self.yields.may_yield(now);
+        let looks_on = may_yield && self.is_wakeful && self.pace.is_near() && turn < WAKEFUL;
+        let is_awake = looks_on || self.has_work();
+        let limit = if is_awake { Duration::ZERO } else { left };
+        self.poll.poll(&mut self.events, Some(limit))?;
+        let has_news = !self.events.is_empty();
+        self.note_events();
+        let yields = may_yield && is_awake && !has_news && !is_unknown;
+        if is_unknown {
+            self.ask_doors()?;
+        }
+        if yields {
+            thread::yield_now();
+        }
+        Ok(yields)
+    }
+
+    // Whether there is somebody to look at of whom the system is not going to tell again.
+    fn has_work(&self) -> bool {
+        !self.stirred.is_empty()
+            || self.room.has_standing()
+            || self.doors.iter().any(|door| !door.is_quiet())
+    }
+
+    // Notes whom the system told of.
+    fn note_events(&mut self) {
+        for event in self.events.iter() {
+            let Token(number) = event.token();
+            match number.checked_sub(DOORS) {
+                Some(at) => {
+                    if let Some(door) = self.doors.get_mut(at) {
+                        door.open();
+                    }
+                }
+                None => {
+                    let _ = self.stirred.push_back(Stirred {
+                        seat: number,
+                        has_ended: event.is_read_closed(),
+                    });
+                }
+            }
+        }
+    }
+
+    // The doors of which it is still not known whether connections wait there are asked, so that the next wait tells.
+    fn ask_doors(&mut self) -> io::Result<()> {
+        for at in 0..self.doors.len() {
+            if let Some(door) = self.doors.get_mut(at) {
+                if door.is_unknown() {
+                    door.ask(self.poll.registry(), door_token(at))?;
+                }
+            }
+        }
+        Ok(())
+    }
+}
+
+// The token of a door; there are few.
+fn door_token(at: usize) -> Token {
+    Token(DOORS.saturating_add(at))
+}
