@@ -69,7 +69,8 @@ pub fn find<W: Words>(
 }
 
 /// Notes the place of a node of this hash, where its row has a hint that tells none. A hint stays until all are forgotten: were it to give
-/// way, those that are asked in turn would drive each other out.
+/// way, those that are asked in turn would drive each other out. That of a node that ended stays too, since a slide soon follows, and
+/// forgets all.
 pub fn note(map: Layout, hints: &mut [u32], hash: u32, place: usize)
     requires layout { IsLayout map }
     requires some { 4 ≤ length hints.old }

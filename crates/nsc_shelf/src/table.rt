@@ -7,8 +7,8 @@ use nsc_words::HEAD_WORDS;
 use std::alloc::Global;
 use std::marker::Model;
 
-/// The words of a table in memory of one owner. Those at its head stand in an array too, so that one who may not load a word is told them
-/// all the same.
+/// The words of a table in memory of one owner. Those at its head stand in an array too, so that who has the table only to look at is told
+/// them, and no word of the table is loaded for it.
 #[derive(Drop)]
 pub struct Table {
     words: VecWords,
@@ -37,7 +37,7 @@ impl Table {
         })
     }
 
-    /// The word at a place in the head, which no load gives.
+    /// The word at a place in the head, from the array.
     pub fn head(&self, at: usize) -> u64
         requires { at < 16 }
         ensures { result ≡ slice_index self.now at }
