@@ -7,3 +7,4 @@ mod values;
 mod words;
 
 pub use lines::read_conf;
+pub use nsc_model::ConfFault;

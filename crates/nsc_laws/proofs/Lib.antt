@@ -43,3 +43,4 @@ pub mod SentCompatEntries
 pub mod SentCompatIds
 pub mod Spelled
 pub mod SpelledHistories
+pub mod LoneInsertions

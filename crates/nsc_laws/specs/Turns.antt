@@ -16,7 +16,7 @@ action_of look step = action_at step (look step.service)
 abbrev pub IsContinued : (SwitchService → Looked) → SwitchStep → Type 0
 IsContinued look step = action_of look step ≡ Continue
 
--- what the services come to whose rows a switch takes: unavailable where there is none
+-- the outcome of a switch that takes the rows of these services: that of the first, and unavailable where there is none
 abbrev pub taken : (SwitchService → Looked) → List SwitchService → Looked
 taken look [] = Unavail
 taken look (service ∷ services) = look service

@@ -1,13 +1,13 @@
 //! The machine that a cache is, and the core of its database.
 
-ghost use Rattle.std.specs.Prelude.{ℕ, List, [], ◌∷◌, Option};
+ghost use Rattle.std.specs.Prelude.{◌≡◌, ℕ, List, [], ◌∷◌, Option, None};
 ghost use Rattle.nsc_model.specs.declared.answer.Request.{Request};
 ghost use Rattle.nsc_model.specs.declared.kind.Db.{Db};
 ghost use Rattle.nsc_model.specs.declared.record.Record.TheVariants.{Change};
 ghost use Rattle.nsc_model.specs.Content.{Content};
 ghost use Rattle.nsc_model.specs.Files.{part_of};
 ghost use Rattle.nsc_model.specs.declared.conf.DbConf.{DbConf};
-ghost use Rattle.nsc_model.specs.Machine.{Cache, new_cache, lookup, tick, invalidated};
+ghost use Rattle.nsc_model.specs.Machine.{Cache, new_cache, live_entry, overtaken, lookup, tick, invalidated};
 ghost use Rattle.nsc_laws.specs.Core.{Core, opening};
 ghost use Rattle.nsc_laws.specs.Calls.{Drives, TurnsBy, PassesBy, Event, EachAnswered};
 
@@ -29,4 +29,10 @@ pub fn machine_events_are_moves()
 pub fn runs_are_answered()
     ensures { (db : Db) (settings : DbConf) (reloads : Option ℕ) (files : Content) (events : List Event) →
         EachAnswered db settings reloads events 0 (new_cache (part_of db files)) (Change 0 (part_of db files) ∷ []) }
+{}
+
+/// An insertion that notes the present epoch, and whose request has no live entry, is overtaken by none: no invalidation came
+/// since, and no other insertion of the request.
+pub fn lone_insertions_are_not_overtaken()
+    ensures { (request : Request) (cache : Cache) → live_entry request cache.entries ≡ None → overtaken cache.epoch request cache ≡ None }
 {}

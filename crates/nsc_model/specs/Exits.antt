@@ -59,7 +59,7 @@ pub data Task : Type 0 where
   Asking : Task
   Working : Task
 
--- a task may end so
+-- a task may end so, once its words and its settings were read
 abbrev pub IsExitOf : Task → Exit → Type 0
 IsExitOf task exits.Ok = Unit {0}
 IsExitOf task exits.WriteFault = Unit {0}

@@ -1,6 +1,7 @@
 -- The machine that the cache of a database is: its events, each with the records that it adds to the history. One caller
--- drives it, and each of its insertions notes the present epoch. The parts of the events stand apart, over what each of them
--- needs, also for many callers.
+-- drives it, and each of its insertions notes the present epoch; so none comes after an invalidation that it did not note, and,
+-- since live entries have different requests, none finds its request live. The parts of the events stand apart, over what each of
+-- them needs, also for many callers.
 use Rattle.std.specs.Prelude.{ℕ, ◌+◌, ◌-◌, ◌*◌, ◌^◌, ◌==◌, nat_lt, nat_le, min, Bool, false, not, ◌&&◌, ◌||◌, if◌then◌else◌, List, [], ◌∷◌, ◌++◌, length, map, filter, find, sum_by, Option, Some, None, Result, Ok, Err}
 use Rattle.nsc_base.specs.Nodes.{node_words}
 use Rattle.nsc_model.specs.declared.answer.Request.{Request}
@@ -141,7 +142,7 @@ abbrev pub present_cause : Option Kept → Option Refusal
 present_cause None = None
 present_cause (Some k) = Some (Present k.entry.number)
 
--- how other callers overtook an insertion of this request that noted this epoch, if they did
+-- how an insertion of this request that noted this epoch was overtaken, if it was: by an invalidation, or by another insertion
 abbrev pub overtaken : ℕ → Request → Cache → Option Refusal
 overtaken noted request cache = if nat_lt noted cache.epoch then Some (Discarded noted cache.epoch) else present_cause (live_entry request cache.entries)
 
@@ -190,7 +191,7 @@ used_now request entries = map (used_by request) entries
 abbrev pub candidates_of : Request → List Candidate
 candidates_of request = record { request = request; reloads = 0 } ∷ []
 
--- after a poll its insertions are tried, where the database is cached
+-- after the poll of a lookup its insertions are tried, where the database is cached
 abbrev pub kept_answer : DbConf → ℕ → Request → Cache → Passed
 kept_answer settings now request cache = if settings.enabled then tried_all settings now (candidates_of request) cache else unchanged cache
 

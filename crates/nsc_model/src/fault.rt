@@ -11,8 +11,8 @@ pub enum CacheFault {
     /// Memory was wanting.
     #[error("out of memory")]
     NoMemory,
-    /// A count that the call needs stands at its end: that of the versions, or of the invalidations, and nothing changed; or that
-    /// of the compactions, and the entries are ended that the call ends, but their words are not free.
+    /// A count that the call needs stands at its end: that of the versions, and nothing changed; that of the invalidations, and a
+    /// poll was made at most; or that of the compactions, and the entries are ended that the call ends, but their words are not free.
     #[error("a count stands at {count}")]
     Spent {
         /// The count, 2^62.

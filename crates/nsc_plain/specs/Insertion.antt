@@ -16,6 +16,6 @@ pub record Insertion : Type 0 where
 abbrev pub answered : Content → Candidate → Insertion
 answered files one = record { request = one.request; answer = answer_of files one.request; reloads = one.reloads }
 
--- where an entry is reloaded
+-- what is to be inserted where an entry is reloaded, over these files
 abbrev pub anew : Content → Kept → Insertion
 anew files k = answered files (candidate_again k)
