@@ -15,7 +15,6 @@ use Rattle.nsc_model.specs.Reloads.{Reloaded}
 use Rattle.nsc_model.specs.Reads.{FaultsStay, IsLookedUp}
 use Rattle.nsc_model.specs.Stores.{EndsStale, IsTickFault, IsTicked, LoadsAgain}
 use Rattle.nsc_model.specs.Machine.{room_of}
-use Rattle.nsc_model.specs.Content.{Content}
 use Rattle.nsc_laws.proofs.CoreLawRecords.{ended_or_not}
 use Rattle.nsc_laws.proofs.Prefixes.{more_after, prefix_legal}
 use Rattle.nsc_writer.specs.Due.{Due}

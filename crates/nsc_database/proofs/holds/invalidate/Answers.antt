@@ -1,4 +1,4 @@
-use Rattle.std.proofs.Common.{length, arith, sym, subst, ap, inl, inr, ◌∙◌, List}
+use Rattle.std.proofs.Common.{length, arith, sym, subst, ap, inl, ◌∙◌, List}
 use Rattle.std.proofs.lemmas.Bool.{eqb-false, eqb-true}
 use Rattle.nsc_model.specs.declared.record.Record.{Record}
 use Rattle.nsc_model.specs.History.{NoneLive, invalidations}

@@ -1,11 +1,9 @@
-use Rattle.std.proofs.Common.{◌∙◌, List, [], ap, inl, refl, rules, sym, subst}
+use Rattle.std.proofs.Common.{◌∙◌, ℕ, List, [], ap, inl, refl, rules, sym, subst}
 use Rattle.std.proofs.lemmas.Bool.{OnFalse_from, false≢true}
 use Rattle.nsc_model.specs.declared.answer.Request.{Request}
 use Rattle.nsc_model.specs.declared.kind.Db.{Db}
-use Rattle.nsc_model.specs.declared.store.Given.TheVariants as given
-use Rattle.nsc_model.specs.History.{Answered}
 use Rattle.nsc_model.specs.Machine.{room_of}
-use Rattle.nsc_model.specs.Stores.{GivesAnswer, IsHit, reply_of}
+use Rattle.nsc_model.specs.Stores.{IsHit, reply_of}
 use Rattle.nsc_writer.specs.Loaded.{Loaded}
 use Rattle.nsc_writer.specs.Writer.{IsAnswered}
 use Rattle.nsc_database.specs.Lookups.{IsTried}
