@@ -27,7 +27,7 @@ pub trait SubLookup {
         ensures { IfOk result (λ looked. looked ≡ sub_looked (content self.now) (database_of kind) kind key.now) };
 
     /// The names and ids of all groups that have the user as a member, in the order of the file, none dropped: those of
-    /// the service whose outcome the list takes, and so none where that is not SUCCESS. Fails only for want of memory.
+    /// each service whose rows the list takes, and so none where the outcome is not SUCCESS. Fails only for want of memory.
     fn named_groups(&self, alloc: Global, user: &[u8]) -> Result<Vec<NamedId>, NoMemory>
         ensures { IfOk result (λ groups. map pair_of groups.items ≡ named_groups (content self.now) user.now) };
 }
