@@ -1,5 +1,5 @@
 -- What came of a command.
-use Rattle.std.specs.Prelude.{◌≡◌, ◌⊎◌, ℕ, ◌<◌, ◌≤◌, List, length, Option}
+use Rattle.std.specs.Prelude.{◌≡◌, ◌⊎◌, ℕ, ◌<◌, ◌≤◌, List, length}
 use Rattle.nsc_outside.specs.Stream.{Moves, IsDrained, Grows, GrowsByFront}
 use Rattle.nsc_outside.specs.StreamAt.{StreamAt, stream_in, stream_out}
 use Rattle.nsc_model.specs.Reads.{Rose}

@@ -11,10 +11,8 @@ use Rattle.nsc_model.specs.Content.{Content}
 use Rattle.nsc_model.specs.declared.exit.ConfFault.{ConfFault}
 use Rattle.nsc_model.specs.declared.exit.Exit.{Exit}
 use Rattle.nsc_model.specs.declared.exit.Exit.TheVariants as exits
-use Rattle.nsc_replay.specs.Runs.{ReplayRun}
 use Rattle.nsc_replay.specs.Streams.{Counted, Streams}
 use Rattle.nsc_control.specs.declared.ask.AdminAsk.{AdminAsk}
-use Rattle.nsc_control.specs.Commands.{Commands}
 use Rattle.nsc_daemon.specs.Ends.{DaemonAt, EndsSo, IsReady, LastTellsEnd}
 use Rattle.nsc_workload.specs.Runs.{PutsText}
 use Rattle.nsc_workload.specs.Workload.{workload_of}
@@ -143,29 +141,6 @@ module _ {I O : Type 0} (i : source.Ghosts I) (o : sink.Ghosts O) (a b : Outside
   run_tells (Some (Ask asked folder)) h = ask_tells i o asked a.peer _ _ _ _ exit h.0
   run_tells (Some (Workload number workers)) h = work_tells (workload_of number) _ _ exit h.0
   run_tells (Some (Daemon service)) h = served_tells _ _ _ _ _ exit h.0
-
-  -- Usage comes of no form
-  unused : (form : Form) → RunsByForm i o (Some form) a b exit → exit ≡ exits.Usage → ⊥
-  unused (Replay config) h e = elim h.0 [
-    | inl ran ↦ (subst (ReplayRun _ _ _ _) e ran.run).ends
-    | inr stopped ↦ subst (NotSet _ _ _) e stopped.0
-  ]
-  unused (Ask asked folder) h e = elim h.0 [
-    | inl x ↦ subst (Commands _ _ _) e x.0.commands
-    | inr rest ↦ elim rest [
-      | inl x ↦ let never : exits.NoMemory ≡ exits.Usage = sym x.0 ∙ e in cc
-      | inr x ↦ let never : exits.NetFault ≡ exits.Usage = sym x.0 ∙ e in cc
-    ]
-  ]
-  unused (Workload number workers) h e = subst (λ (by : Exit). PutsText by _ _ _) e h.0
-  unused (Daemon service) h e = elim h.0 [
-    | inl x ↦ subst (λ (by : Exit). EndsSo by _ _) e x.ends
-    | inr x ↦ subst (NotSet _ _ _) e x.0
-  ]
-
-  pub run_usage : (form : Option Form) → RunsByForm i o form a b exit → exit ≡ exits.Usage → form ≡ None
-  run_usage None h e = refl
-  run_usage (Some form) h e = absurd (unused form h e)
 
 module _ {I O : Type 0} (i : source.Ghosts I) (o : sink.Ghosts O) (a : Outside) where
   -- memory was wanting for the words

@@ -3,16 +3,11 @@ use Rattle.std.proofs.Common.{◌++◌, List, ◌∙◌, ap, sym, append_assoc}
 use Rattle.nsc_model.specs.declared.record.Record.{Record}
 use Rattle.nsc_model.specs.declared.databases.Databases.{Databases}
 use Rattle.nsc_model.specs.History.{IsPrefix}
-use Rattle.nsc_model.proofs.Beginnings.{prefix_all}
 use Rattle.nsc_server.specs.Passes.{PassAt, SawMore}
 
 -- what is a beginning of a beginning is one of the whole
 prefix_on : (a b c : List Record) → IsPrefix a b → IsPrefix b c → IsPrefix a c
 prefix_on a b c first second = (second.0 ++ first.0, second.1 ∙ ap (λ h. second.0 ++ h) first.1 ∙ sym (append_assoc second.0 first.0 a))
-
--- nothing more was seen
-pub saw_same : (p : Databases PassAt) → SawMore p p
-saw_same p = record { passwd_saw = prefix_all p.passwd.seen; group_saw = prefix_all p.group.seen; hosts_saw = prefix_all p.hosts.seen; services_saw = prefix_all p.services.seen }
 
 -- more was seen, and then more again
 pub saw_on : (a b c : Databases PassAt) → SawMore a b → SawMore b c → SawMore a c
