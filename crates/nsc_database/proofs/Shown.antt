@@ -25,7 +25,7 @@ use Rattle.nsc_writer.specs.declared.loaded.Inserted.TheVariants as inserted
 use Rattle.nsc_writer.specs.declared.loaded.Stamp.{Stamp}
 use Rattle.nsc_shelf.specs.declared.entry.Hit.{Hit}
 use Rattle.nsc_writer.specs.Loaded.{Loaded, kept_of}
-use Rattle.nsc_shelf.specs.Shelf.{Gives, number_of}
+use Rattle.nsc_shelf.specs.Shelf.{GivesHit, number_of}
 use Rattle.nsc_writer.specs.Writer.{Writer, Inserts, IsAnswered, IsNewest, IsRefused, Polls, emptied_by}
 use Rattle.nsc_sourcebook.specs.Book.{Fetched, Polled, PollsBook, SourceBook}
 use Rattle.nsc_sourcebook.proofs.Newest.{newest_held}
@@ -44,17 +44,17 @@ live_found h cache request k t is =
     let f = found (λ (x : Kept). is_request request x.entry.request) cache.entries k is in
     (t.entries_are.live k.entry f.0, sym (same_request request k.entry.request f.1))
 
-pub looked_hit : (h : List Record) (cache : Cache) (request : Request) (hit : Hit) (reply : List ℕ) → Tells h cache → Gives (live_entry request cache.entries) (Some hit) reply → IsHit h request reply hit.number
+pub looked_hit : (h : List Record) (cache : Cache) (request : Request) (hit : Hit) (reply : List ℕ) → Tells h cache → GivesHit (live_entry request cache.entries) (Some hit) reply → IsHit h request reply hit.number
 looked_hit h cache request hit reply t gives = by_entry (live_entry request cache.entries) refl gives where
-  by_entry : (o : Option Kept) → live_entry request cache.entries ≡ o → Gives o (Some hit) reply → IsHit h request reply hit.number
+  by_entry : (o : Option Kept) → live_entry request cache.entries ≡ o → GivesHit o (Some hit) reply → IsHit h request reply hit.number
   by_entry None is g = absurd cc
   by_entry (Some k) is g =
       let f = live_found h cache request k t is in
       record { entry = k.entry; live = f.0; numbered = sym (ap (λ (x : Hit). x.number) (hit_is hit _ g.0)); answers = f.1; said = sym g.1 }
 
-pub looked_none : (h : List Record) (cache : Cache) (request : Request) (reply : List ℕ) → Tells h cache → Gives (live_entry request cache.entries) None reply → NoneLiveOf h request
+pub looked_none : (h : List Record) (cache : Cache) (request : Request) (reply : List ℕ) → Tells h cache → GivesHit (live_entry request cache.entries) None reply → NoneLiveOf h request
 looked_none h cache request reply t gives = by_entry (live_entry request cache.entries) refl gives where
-  by_entry : (o : Option Kept) → live_entry request cache.entries ≡ o → Gives o None reply → NoneLiveOf h request
+  by_entry : (o : Option Kept) → live_entry request cache.entries ≡ o → GivesHit o None reply → NoneLiveOf h request
   by_entry None is g = asked_none h cache request t is
   by_entry (Some k) is g = absurd cc
 

@@ -24,7 +24,7 @@ use Rattle.nsc_sourcebook.specs.Book.{Polled}
 use Rattle.nsc_database.specs.declared.pass.DbPass.{DbPass}
 use Rattle.nsc_database.specs.declared.room.Room as room
 use Rattle.nsc_database.specs.Frames.{Goes, Held}
-use Rattle.nsc_database.specs.Holds.{IsPolled, WasPolled}
+use Rattle.nsc_database.specs.Holds.{IsPolled, IsPolledVersion}
 use Rattle.nsc_database.specs.Ticks.{AreListed, AreOver, IsHoldFault}
 use Rattle.nsc_database.proofs.Shown.{invalidations_on, prefix_length}
 use Rattle.nsc_database.proofs.Rests.{version_within}
@@ -178,7 +178,7 @@ hold_fault (fault.TooLong file size) settings now seen after m n m' n' ended to 
 pub noted_low : (seen noted mid after : List Record) (epoch : ℕ) (polled : Polled) → Ticking seen noted mid after epoch polled → epoch ≤ invalidations after
 noted_low seen noted mid after epoch polled t = let same = t.epoch_is in let rise = invalidations_on noted after (prefix_through noted mid after t.to_mid t.to_after) in omega arith
 
-pub was_polled : (seen noted mid after : List Record) (epoch : ℕ) (polled : Polled) → Ticking seen noted mid after epoch polled → WasPolled after epoch polled
+pub was_polled : (seen noted mid after : List Record) (epoch : ℕ) (polled : Polled) → Ticking seen noted mid after epoch polled → IsPolledVersion after epoch polled
 was_polled seen noted mid after epoch polled t = record {
   epoch_is = t.is_polled.epoch_is;
   version = version_on mid after polled.stamp.version polled.content t.legal_after t.legal_mid t.to_after t.is_polled.version;

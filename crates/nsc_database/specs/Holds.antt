@@ -19,7 +19,7 @@ IsLooked (looked.Hit hit) after request reply = IsHit after request reply hit.nu
 IsLooked (looked.Missed epoch) after request reply = (epoch ≡ invalidations after) × NoneLiveOf after request
 
 -- this content is a version, polled after so many invalidations
-pub record WasPolled (seen : List Record) (epoch : ℕ) (polled : Polled) : Type 0 where
+pub record IsPolledVersion (seen : List Record) (epoch : ℕ) (polled : Polled) : Type 0 where
   pub epoch_is : polled.stamp.epoch ≡ epoch
   pub version : version_in seen polled.stamp.version ≡ Some polled.content
   pub since : PolledSince seen polled.stamp.version polled.stamp.epoch

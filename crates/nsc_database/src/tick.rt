@@ -6,7 +6,7 @@ ghost use Rattle.nsc_model.specs.Machine.{room_of};
 ghost use Rattle.nsc_model.specs.Stores.{IsTickFault, IsTicked, LoadsAgain};
 ghost use Rattle.nsc_sourcebook.specs.Reads.{NoneFailed};
 ghost use Rattle.nsc_database.specs.Frames.{Goes, Held};
-ghost use Rattle.nsc_database.specs.Holds.{WasPolled};
+ghost use Rattle.nsc_database.specs.Holds.{IsPolledVersion};
 ghost use Rattle.nsc_database.specs.Ticks.{AreOver, IsChecked, IsDue, IsHoldFault, anew_of};
 
 use crate::base::Base;
@@ -99,7 +99,7 @@ impl<D: OfDb, F: FileSet + Drop, A: Answerer + Drop, B: Room> Base<D, F, A, B> {
         requires moment { now < 2 ^ 62 }
         requires noted { epoch ≤ invalidations pass.old.pass.seen }
         requires due { All (IsDue self.now.reloads now pass.old.pass.seen) due.items }
-        requires polled { WasPolled pass.old.pass.seen epoch polled.now }
+        requires polled { IsPolledVersion pass.old.pass.seen epoch polled.now }
         ensures frame { Held pass.old pass.new }
         ensures over { OnOk result (AreOver epoch pass.new.pass.seen due.items) }
         ensures reloaded { OnOk result (Reloaded self.now.reloads pass.new.pass.seen) }

@@ -17,7 +17,7 @@ use Rattle.nsc_model.specs.Content.{Content}
 use Rattle.nsc_model.specs.Machine.{Kept, last_count, entry_words, used_now, is_due, is_dropped, due_of, others_of, reloaded_of}
 use Rattle.nsc_model.proofs.Contents.{both_true, same_bytes}
 use Rattle.nsc_plain.specs.Insertion.{Insertion, anew}
-use Rattle.nsc_plain.specs.Table.{entries_for, insertions_for, AreApart, StayApart, IsTable}
+use Rattle.nsc_plain.specs.EntryList.{entries_for, insertions_for, AreApart, StayApart, IsTable}
 
 -- ---- tests of requests
 

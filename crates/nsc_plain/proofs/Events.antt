@@ -16,7 +16,7 @@ use Rattle.nsc_model.specs.Events.{TurnsTo, ComesTo, StopsAt}
 use Rattle.nsc_model.specs.Faults.{StopsBy, FaultsBy, GivesUpBy}
 use Rattle.nsc_plain.specs.PlainCache.{HitsBy}
 use Rattle.nsc_plain.specs.Insertion.{Insertion, answered, anew}
-use Rattle.nsc_plain.specs.Table.{put, put_all}
+use Rattle.nsc_plain.specs.EntryList.{put, put_all}
 use Rattle.nsc_plain.proofs.Ends.{none_left}
 
 at_true : {A : Type 0} (x y : A) {b : Bool} → b ≡ true → cond b x y ≡ x

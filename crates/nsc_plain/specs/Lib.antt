@@ -1,4 +1,4 @@
 pub mod Insertion
 pub mod DbFiles
-pub mod Table
+pub mod EntryList
 pub mod PlainCache

@@ -12,7 +12,7 @@ ghost use Rattle.nsc_plain.specs.PlainCache.{HitsBy, ticked_at};
 
 use crate::db_files::DbFiles;
 use crate::insertion::{Insertion, answer_due};
-use crate::table::Table;
+use crate::table::EntryList;
 use nsc_base::{Bytes, NoMemory};
 use nsc_model::{Answer, Answerer, CacheFault, Content, DbConf, Kind, LAST_COUNT, Request};
 use std::alloc::Global;
@@ -26,7 +26,7 @@ pub struct PlainCache {
     reloads: Option<u32>,
     content: Arc<Content>,
     newest_version: u64,
-    table: Table,
+    table: EntryList,
     epoch: u64,
     ticked: u64,
 }
@@ -62,7 +62,7 @@ impl PlainCache {
             reloads,
             content: Arc::new(alloc, Content::none())?,
             newest_version: 0,
-            table: Table::new(alloc),
+            table: EntryList::new(alloc),
             epoch: 0,
             ticked: 0,
         })

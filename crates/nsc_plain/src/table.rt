@@ -6,7 +6,7 @@ ghost use Rattle.nsc_model.specs.Machine.{Cache, due_of, others_of, compacted, c
 ghost use Rattle.nsc_model.specs.Events.{ComesTo};
 ghost use Rattle.nsc_model.specs.Faults.{StopsBy};
 ghost use Rattle.nsc_plain.specs.PlainCache.{HitsBy};
-ghost use Rattle.nsc_plain.specs.Table.{StayApart, insertions_for, entries_for, over, put, put_all};
+ghost use Rattle.nsc_plain.specs.EntryList.{StayApart, insertions_for, entries_for, over, put, put_all};
 
 use crate::entries::{drop_due, find_entry, words_of};
 use crate::insertion::Insertion;
@@ -18,7 +18,7 @@ use std::marker::Model;
 
 /// The live entries of a cache from the oldest on, with their counts; it knows of no content.
 #[derive(Drop)]
-pub struct Table {
+pub struct EntryList {
     entries: Vec<Kept>,
     used: usize,
     inserted: u64,
@@ -26,23 +26,23 @@ pub struct Table {
     add_failed: u64,
 }
 
-impl Model for Table {
+impl Model for EntryList {
     ghost use Rattle.std.specs.Vec.{vec_capacity};
-    ghost use Rattle.nsc_plain.specs.Table.{IsTable, Table};
+    ghost use Rattle.nsc_plain.specs.EntryList.{IsTable, EntryList};
 
-    ghost Value = { Table };
+    ghost Value = { EntryList };
 
     ghost view = { λ t. record { entries = t.entries.items; used = t.used; inserted = t.inserted; cycle = t.cycle; add_failed = t.add_failed; capacity = vec_capacity t.entries } };
 
     ghost invariant = { λ t. IsTable t.entries.items t.used t.inserted };
 }
 
-impl Table {
+impl EntryList {
     /// No entry, and no memory for one.
-    pub fn new(alloc: Global) -> Table
+    pub fn new(alloc: Global) -> EntryList
         ensures { result ≡ record { entries = []; used = 0; inserted = 0; cycle = 0; add_failed = 0; capacity = 0 } }
     {
-        Table {
+        EntryList {
             entries: Vec::new(alloc),
             used: 0,
             inserted: 0,

@@ -2,5 +2,5 @@
 use Rattle.std.specs.Prelude.{◌≡◌, ℕ, ◌<◌, List, slice_index}
 
 -- each is that of the table
-abbrev pub AreHeads : List ℕ → List ℕ → Type 0
-AreHeads heads words = (i : ℕ) → i < 16 → slice_index heads i ≡ slice_index words i
+abbrev pub AreHeadWords : List ℕ → List ℕ → Type 0
+AreHeadWords heads words = (i : ℕ) → i < 16 → slice_index heads i ≡ slice_index words i

@@ -174,9 +174,9 @@ abbrev pub others_than : ℕ → List Kept → List Kept
 others_than number entries = filter (λ k. not (is_numbered number k)) entries
 
 -- what a lookup is told of a live entry, if there is one, and the reply that it is given
-abbrev pub Gives : Option Kept → Option Hit → List ℕ → Type 0
-Gives None hit reply = hit ≡ None
-Gives (Some k) hit reply = (hit ≡ Some (record { number = k.entry.number; version = k.entry.version; not_found = k.entry.answer.not_found })) × (reply ≡ k.entry.answer.bytes)
+abbrev pub GivesHit : Option Kept → Option Hit → List ℕ → Type 0
+GivesHit None hit reply = hit ≡ None
+GivesHit (Some k) hit reply = (hit ≡ Some (record { number = k.entry.number; version = k.entry.version; not_found = k.entry.answer.not_found })) × (reply ≡ k.entry.answer.bytes)
 
 abbrev pub number_of : Option Kept → Option ℕ
 number_of None = None

@@ -4,7 +4,7 @@ ghost use Rattle.nsc_base.specs.Nodes.{node_words};
 ghost use Rattle.nsc_model.specs.Entry.{key_limit, kept_limit};
 ghost use Rattle.nsc_model.specs.Machine.{last_count, live_entry, used_now};
 ghost use Rattle.nsc_rule.specs.Entries.{kind_of};
-ghost use Rattle.nsc_shelf.specs.Shelf.{Gives, IsTold, entry_from, fresh_entry, has_number, key_or, no_head, number_of, others_than, reply_or};
+ghost use Rattle.nsc_shelf.specs.Shelf.{GivesHit, IsTold, entry_from, fresh_entry, has_number, key_or, no_head, number_of, others_than, reply_or};
 
 use crate::entry::{EntryAt, Hit};
 use crate::finding::{Found, Mark, find_from};
@@ -105,7 +105,7 @@ impl Shelf {
     pub fn hit(&mut self, kind: Kind, key: &[u8], reply: &mut Buf) -> Option<Hit>
         requires limit { kept_limit ≤ reply.old.limit }
         requires still { self.old.slide ≡ None }
-        ensures gives { Gives (live_entry (record { kind = kind; key = key.now }) self.old.entries) result reply.new.content }
+        ensures gives { GivesHit (live_entry (record { kind = kind; key = key.now }) self.old.entries) result reply.new.content }
         ensures stays { IfNone result (self.new ≡ self.old) }
         ensures used { IfSome result (λ _. self.new ≡ record self.old { entries = used_now (record { kind = kind; key = key.now }) self.old.entries }) }
         ensures limit { reply.new.limit ≡ reply.old.limit }

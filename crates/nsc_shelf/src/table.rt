@@ -17,13 +17,13 @@ pub struct Table {
 
 impl Model for Table {
     ghost use Rattle.std.specs.Prelude.{List, ℕ};
-    ghost use Rattle.nsc_shelf.specs.Heads.{AreHeads};
+    ghost use Rattle.nsc_shelf.specs.Heads.{AreHeadWords};
 
     ghost Value = { List ℕ };
 
     ghost view = { λ t. t.words };
 
-    ghost invariant = { λ t. AreHeads t.heads t.words };
+    ghost invariant = { λ t. AreHeadWords t.heads t.words };
 }
 
 impl Table {

@@ -121,7 +121,7 @@ IsRefused (inserted.Spent count) loaded w = (count ≡ last_count) × (w.cache.i
 IsRefused (inserted.Full need free) loaded w = (need ≡ entry_words (kept_of loaded w.cache.inserted).entry) × (free + w.cache.used ≡ w.layout.arena) × (free < need)
 
 -- nothing refuses an insertion
-pub record MayInsert (w : Writer) (loaded : Loaded) : Type 0 where
+pub record IsAdmitted (w : Writer) (loaded : Loaded) : Type 0 where
   pub short : length loaded.answer.bytes ≤ kept_limit
   pub noted : w.cache.epoch ≤ loaded.stamp.epoch
   pub new : live_entry loaded.request w.cache.entries ≡ None

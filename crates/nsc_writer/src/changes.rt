@@ -10,7 +10,7 @@ ghost use Rattle.nsc_model.specs.Live.{AreLive};
 ghost use Rattle.nsc_laws.specs.Calls.{entries_of};
 ghost use Rattle.nsc_shelf.specs.Shelf.{has_number};
 ghost use Rattle.nsc_writer.specs.Loaded.{kept_of};
-ghost use Rattle.nsc_writer.specs.Writer.{Inserts, IsAnswered, MayInsert, IsNewest, IsRefused, Polls, SaysRefused, ending_of, emptied_by, is_full, refusal_of, with_entry, without_entry};
+ghost use Rattle.nsc_writer.specs.Writer.{Inserts, IsAnswered, IsAdmitted, IsNewest, IsRefused, Polls, SaysRefused, ending_of, emptied_by, is_full, refusal_of, with_entry, without_entry};
 
 use crate::loaded::{Inserted, Loaded, Stamp};
 use crate::writer::{Cause, Writer};
@@ -65,7 +65,7 @@ impl Writer {
         requires { self.old.slide ≡ None }
         ensures said { SaysRefused (refusal_of self.old loaded.now) result }
         ensures why { IfSome result (λ said. IsRefused said loaded.now self.old) }
-        ensures free { IfNone result (MayInsert self.old loaded.now) }
+        ensures free { IfNone result (IsAdmitted self.old loaded.now) }
         ensures same { self.new ≡ self.old }
     {
         let length = loaded.answer().bytes().len();
@@ -133,7 +133,7 @@ impl Writer {
     // Inserts the entry of this number, which nothing refuses.
     fn put(&mut self, loaded: &Loaded, number: u64)
         requires answered { IsAnswered self.old.seen loaded.now }
-        requires free { MayInsert self.old loaded.now }
+        requires free { IsAdmitted self.old loaded.now }
         requires number { number ≡ self.old.cache.inserted }
         requires still { self.old.slide ≡ None }
         ensures { self.new ≡ with_entry (kept_of loaded.now self.old.cache.inserted) self.old }

@@ -7,7 +7,7 @@ ghost use Rattle.nsc_model.specs.Machine.{last_count, live_entry, new_cache, use
 ghost use Rattle.nsc_laws.specs.Calls.{Tells};
 ghost use Rattle.nsc_writer.specs.Uses.{counted};
 ghost use Rattle.nsc_words.specs.Layout.{IsLayout};
-ghost use Rattle.nsc_shelf.specs.Shelf.{Gives, entry_from};
+ghost use Rattle.nsc_shelf.specs.Shelf.{GivesHit, entry_from};
 ghost use Rattle.nsc_writer.specs.Writer.{IsListed, most_words};
 
 use nsc_base::{Buf, NoMemory};
@@ -135,7 +135,7 @@ impl Writer {
     pub fn search(&mut self, kind: Kind, key: &[u8], reply: &mut Buf) -> Option<Hit>
         requires limit { kept_limit ≤ reply.old.limit }
         requires still { self.old.slide ≡ None }
-        ensures gives { Gives (live_entry (record { kind = kind; key = key.now }) self.old.cache.entries) result reply.new.content }
+        ensures gives { GivesHit (live_entry (record { kind = kind; key = key.now }) self.old.cache.entries) result reply.new.content }
         ensures stays { IfNone result (self.new ≡ self.old) }
         ensures used { IfSome result (λ hit. self.new ≡ record self.old { cache = record self.old.cache { entries = used_now (record { kind = kind; key = key.now }) self.old.cache.entries }; hits = counted hit.not_found self.old.hits }) }
         ensures limit { reply.new.limit ≡ reply.old.limit }

@@ -1,7 +1,7 @@
 use Rattle.std.specs.Arc.{arc_value}
 use Rattle.std.proofs.lemmas.Result.{IfOk-weaker}
 use Rattle.nsc_model.specs.declared.answer.Request.{Request}
-use Rattle.nsc_plain.specs.Table.{over}
+use Rattle.nsc_plain.specs.EntryList.{over}
 use Rattle.nsc_plain.proofs.Events.{bare, searched}
 use Rattle.nsc_plain.proofs.cache.PlainCache.hit.Goals as goal
 

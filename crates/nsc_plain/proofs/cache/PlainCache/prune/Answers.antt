@@ -4,7 +4,7 @@ use Rattle.std.proofs.lemmas.Result.{err_from_is_err_and}
 use Rattle.nsc_model.specs.Machine.{due_of, reloaded_of, reloaded}
 use Rattle.nsc_plain.specs.PlainCache.{PlainCache}
 use Rattle.nsc_plain.specs.Insertion.{Insertion}
-use Rattle.nsc_plain.specs.Table.{over, put_all}
+use Rattle.nsc_plain.specs.EntryList.{over, put_all}
 use Rattle.nsc_plain.proofs.Events.{bare, put_is_reloaded, prunes, prunes_nothing, prune_faults}
 use Rattle.nsc_plain.proofs.Apart.{reloads_stay_apart}
 use Rattle.nsc_plain.proofs.Ends.{anew_length}

@@ -12,7 +12,7 @@ use Rattle.nsc_model.specs.Machine.{Kept, live_entry, used_now}
 use Rattle.nsc_rule.specs.Entries.{entries_in, kept_in}
 use Rattle.nsc_shelf.specs.declared.entry.Hit.{Hit}
 use Rattle.nsc_shelf.specs.Hints.{AreHints, IsAlone}
-use Rattle.nsc_shelf.specs.Shelf.{Gives, IsShelf, Shelf}
+use Rattle.nsc_shelf.specs.Shelf.{GivesHit, IsShelf, Shelf}
 use Rattle.nsc_shelf.proofs.Hinted.{Answering, alone_in, answering, hints_by, hints_changed_at, unanswered}
 use Rattle.nsc_shelf.proofs.States.{Altered, reused}
 use Rattle.nsc_shelf.proofs.Still.{still, still_held, still_seen, still_view}
@@ -82,7 +82,7 @@ returns-in_default-clause-gives c =
     let is = still c.self.view_is c.requires.still c.self.invariant in
     let r : Request = record { kind = c.args.kind; key = c.args.key.now } in
     let none = sym (unanswered s.words s.map s.live s.mark c.args.kind c.args.key.now c.number.result is c.number.ensures c.in_default.ensures.newest) ∙ ap (λ (v : Shelf). live_entry r v.entries) (still_view s.slide s.words s.map c.self.view_is c.requires.still) in
-    subst (λ (o : Option Kept). Gives o None c.clear.new.self.content) none refl
+    subst (λ (o : Option Kept). GivesHit o None c.clear.new.self.content) none refl
 
 pub invariant_of-self : goal.invariant_of-self
 invariant_of-self c =
@@ -109,8 +109,8 @@ returns-clause-gives c =
     let is = read (goal.at.returns-clause-gives c).After-head_at-head n in
     let said : Option Hit = Some (record { number = c.head_at-head.result.number; version = c.head_at-head.result.version; not_found = c.head_at-head.result.not_found }) in
     let live = sym n.live ∙ ap (λ (v : Shelf). live_entry (record { kind = c.args.kind; key = c.args.key.now }) v.entries) (still_view s.slide s.words s.map c.self.view_is c.requires.still) in
-    let gives : Gives (Some (kept_in n.node)) said c.read_reply.new.reply.content = ((λ i. Some (record { number = (is.1 i).number; version = (is.1 i).version; not_found = (is.1 i).not_found })), ap (λ (b : Buf). b.content) (told (goal.at.returns-clause-gives c).After-read_reply n.node is)) in
-    subst (λ (o : Option Kept). Gives o said c.read_reply.new.reply.content) live gives
+    let gives : GivesHit (Some (kept_in n.node)) said c.read_reply.new.reply.content = ((λ i. Some (record { number = (is.1 i).number; version = (is.1 i).version; not_found = (is.1 i).not_found })), ap (λ (b : Buf). b.content) (told (goal.at.returns-clause-gives c).After-read_reply n.node is)) in
+    subst (λ (o : Option Kept). GivesHit o said c.read_reply.new.reply.content) live gives
 
 pub returns-clause-used : goal.returns-clause-used
 returns-clause-used c =

@@ -8,7 +8,7 @@ use Rattle.nsc_model.specs.History.{Legal}
 use Rattle.nsc_model.specs.Machine.{entry_words}
 use Rattle.nsc_shelf.specs.Shelf.{Shelf, fresh_entry}
 use Rattle.nsc_writer.specs.Loaded.{Loaded, kept_of}
-use Rattle.nsc_writer.specs.Writer.{IsAnswered, MayInsert, Writer, cache_of}
+use Rattle.nsc_writer.specs.Writer.{IsAnswered, IsAdmitted, Writer, cache_of}
 use Rattle.nsc_writer.proofs.Told.{loaded_tells, told_as}
 use Rattle.nsc_writer.proofs.writer.Writer.put.Goals as goal
 
@@ -18,7 +18,7 @@ insert-requires-clause-legal c =
     let h = w.pen.seen in
     let l : Loaded = c.args.loaded.now in
     let cache = cache_of (arc_value w.content) w.pen.version w.pen.epoch w.shelf in
-    let free = subst (λ (v : Writer). MayInsert v l) (sym c.self.view_is) c.requires.free in
+    let free = subst (λ (v : Writer). IsAdmitted v l) (sym c.self.view_is) c.requires.free in
     let answered = subst (λ (v : Writer). IsAnswered v.seen l) (sym c.self.view_is) c.requires.answered in
     let number : c.args.number ≡ w.shelf.inserted = subst (λ (v : Writer). c.args.number ≡ v.cache.inserted) (sym c.self.view_is) c.requires.number in
     let told = loaded_tells h cache l c.self.invariant.1 free.noted free.new answered in
@@ -32,7 +32,7 @@ invariant_of-self c =
     let h = w.pen.seen in
     let l : Loaded = c.args.loaded.now in
     let cache = cache_of (arc_value w.content) w.pen.version w.pen.epoch w.shelf in
-    let free = subst (λ (v : Writer). MayInsert v l) (sym c.self.view_is) c.requires.free in
+    let free = subst (λ (v : Writer). IsAdmitted v l) (sym c.self.view_is) c.requires.free in
     let answered = subst (λ (v : Writer). IsAnswered v.seen l) (sym c.self.view_is) c.requires.answered in
     let number : c.args.number ≡ w.shelf.inserted = subst (λ (v : Writer). c.args.number ≡ v.cache.inserted) (sym c.self.view_is) c.requires.number in
     let told = loaded_tells h cache l c.self.invariant.1 free.noted free.new answered in

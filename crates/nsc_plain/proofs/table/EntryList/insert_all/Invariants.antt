@@ -1,8 +1,8 @@
 use Rattle.std.proofs.Common.{◌≡◌, ◌≤◌, ◌+◌, length}
 use Rattle.std.specs.Vec.Iter.{into_iter_items, into_iter_len}
 use Rattle.nsc_model.specs.Machine.{Cache}
-use Rattle.nsc_plain.specs.Table.{StayApart, over, put_all}
-use Rattle.nsc_plain.proofs.table.Table.insert_all.Given as goal
+use Rattle.nsc_plain.specs.EntryList.{StayApart, over, put_all}
+use Rattle.nsc_plain.proofs.table.EntryList.insert_all.Given as goal
 
 abbrev pub invariant-loop-one : goal.invariant-loop-one
 invariant-loop-one l = record {

@@ -7,7 +7,7 @@ use Rattle.nsc_model.specs.Machine.{Kept, Cache, all_words, last_count, made_ent
 use Rattle.nsc_plain.specs.Insertion.{Insertion}
 
 -- the live entries, the counts that their insertions and ends change, and for how many entries there is memory
-pub record Table : Type 0 where
+pub record EntryList : Type 0 where
   pub entries : List Kept
   pub used : ℕ
   pub inserted : ℕ
@@ -16,7 +16,7 @@ pub record Table : Type 0 where
   pub capacity : ℕ
 
 -- the cache that is this one but for its entries and their counts
-abbrev pub over : Cache → Table → Cache
+abbrev pub over : Cache → EntryList → Cache
 over cache table = record cache { entries = table.entries; used = table.used; inserted = table.inserted; cycle = table.cycle; add_failed = table.add_failed }
 
 -- how many of these entries answer a request, and how many of these answered requests are that one

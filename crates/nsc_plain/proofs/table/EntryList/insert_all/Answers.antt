@@ -1,9 +1,9 @@
 use Rattle.std.proofs.Common.{◌≡◌, ◌∷◌, List, rules, sym, subst}
 use Rattle.std.specs.Vec.Iter.{into_iter_items}
 use Rattle.nsc_plain.specs.Insertion.{Insertion}
-use Rattle.nsc_plain.specs.Table.{StayApart}
+use Rattle.nsc_plain.specs.EntryList.{StayApart}
 use Rattle.nsc_plain.proofs.Apart.{first_is_new, others_stay_apart}
-use Rattle.nsc_plain.proofs.table.Table.insert_all.Goals as goal
+use Rattle.nsc_plain.proofs.table.EntryList.insert_all.Goals as goal
 
 pub loop-one-init : goal.loop-one-init
 loop-one-init c =

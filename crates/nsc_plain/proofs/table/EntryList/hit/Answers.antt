@@ -6,15 +6,15 @@ use Rattle.nsc_model.specs.Entry.{Entry}
 use Rattle.nsc_model.specs.Answer.{Answer}
 use Rattle.nsc_model.specs.Machine.{Kept}
 use Rattle.nsc_plain.specs.PlainCache.{HitsBy}
-use Rattle.nsc_plain.specs.Table.{Table, over}
+use Rattle.nsc_plain.specs.EntryList.{EntryList, over}
 use Rattle.nsc_plain.proofs.Apart.{asks, restarted, found_at, found_none, hit_keeps, used_at}
-use Rattle.nsc_plain.proofs.table.Table.hit.Goals as goal
+use Rattle.nsc_plain.proofs.table.EntryList.hit.Goals as goal
 
 pub returns-in_default-clause-hit : goal.returns-in_default-clause-hit
 returns-in_default-clause-hit c = λ cache.
     let request : Request = record { kind = c.args.kind; key = c.args.key.now } in
     let none = found_none (asks request) c.self.inside.entries.items (rw c.deref.ensures.value at (sym c.in_default.ensures)) in
-    let none_here = subst (λ (t : Table). find (asks request) t.entries ≡ None) c.self.view_is none in
+    let none_here = subst (λ (t : EntryList). find (asks request) t.entries ≡ None) c.self.view_is none in
     subst (λ (o : Option Kept). HitsBy o request (over cache c.args.self.now) (over cache c.args.self.now) None) (sym none_here) (refl, refl)
 
 -- the entry at the place that was found, and the entries once it was used
@@ -41,7 +41,7 @@ returns-clause-hit c = λ cache.
     c.in_ok-reply.ensures
     ∙ (c.bytes.ensures.value
     ∙ (ap (λ (a : Answer). a.bytes) c.answer.ensures.value ∙ (ap (λ (e : Entry). e.answer.bytes) c.entry.ensures ∙ ap (λ (k : Kept). k.entry.answer.bytes) c.index_mut-kept.ensures.value))) in
-    let with = λ (entries : List Kept). let t : Table = record { entries = entries; used = c.self.inside.used; inserted = c.self.inside.inserted; cycle = c.self.inside.cycle; add_failed = c.self.inside.add_failed; capacity = 0 } in t in
-    subst (λ (t : Table). HitsBy (find (asks request) t.entries) request (over cache t) (over cache (with (set items c.in-Some.at c.restart.new.self))) (Some c.in_ok-reply.reply)) c.self.view_is
+    let with = λ (entries : List Kept). let t : EntryList = record { entries = entries; used = c.self.inside.used; inserted = c.self.inside.inserted; cycle = c.self.inside.cycle; add_failed = c.self.inside.add_failed; capacity = 0 } in t in
+    subst (λ (t : EntryList). HitsBy (find (asks request) t.entries) request (over cache t) (over cache (with (set items c.in-Some.at c.restart.new.self))) (Some c.in_ok-reply.reply)) c.self.view_is
     (subst (λ (o : Option Kept). HitsBy o request (over cache (with items)) (over cache (with (set items c.in-Some.at c.restart.new.self))) (Some c.in_ok-reply.reply)) (sym found)
     (ap (λ (bytes : List ℕ). Some bytes) reply, ap (λ (entries : List Kept). over cache (with entries)) used))

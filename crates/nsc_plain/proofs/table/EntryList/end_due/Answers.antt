@@ -1,9 +1,9 @@
 use Rattle.std.proofs.Common.{List, sym, subst, arith}
 use Rattle.nsc_model.specs.Machine.{Kept}
-use Rattle.nsc_plain.specs.Table.{IsTable}
+use Rattle.nsc_plain.specs.EntryList.{IsTable}
 use Rattle.nsc_plain.proofs.Apart.{apart_due, apart_others}
 use Rattle.nsc_plain.proofs.Ends.{others_words, all_length}
-use Rattle.nsc_plain.proofs.table.Table.end_due.Goals as goal
+use Rattle.nsc_plain.proofs.table.EntryList.end_due.Goals as goal
 
 pub invariant_of-self : goal.invariant_of-self
 invariant_of-self c =

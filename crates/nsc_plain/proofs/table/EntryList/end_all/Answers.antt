@@ -1,6 +1,6 @@
 use Rattle.std.proofs.Common.{◌≡◌, ◌==◌, ℕ, false, sym, subst}
 use Rattle.nsc_plain.proofs.Ends.{some_first}
-use Rattle.nsc_plain.proofs.table.Table.end_all.Goals as goal
+use Rattle.nsc_plain.proofs.table.EntryList.end_all.Goals as goal
 
 pub returns-clause-fault : goal.returns-clause-fault
 returns-clause-fault c =
