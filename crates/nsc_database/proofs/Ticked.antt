@@ -104,6 +104,7 @@ emptied_stale settings now seen noted mid after epoch polled t none =
 
 pub emptied_ticked : (which : Db) (m n : FileId → ℕ) (latest : FileId → Option (Option (List ℕ))) (settings : DbConf) (limit : Option ℕ) (now : ℕ) (seen noted mid after : List Record) (epoch : ℕ) (polled : Polled) → Ticking seen noted mid after epoch polled → IsLookedUp which m n latest polled.content → NoneLive after → Reloaded limit after
     → LoadsAgain (room_of settings) after → IsTicked which m n latest settings limit now seen after
+unfolding emptied_stale
 emptied_ticked which m n latest settings limit now seen noted mid after epoch polled t files none r l = record {
   ends = emptied_stale settings now seen noted mid after epoch polled t none;
   content = polled.content;
@@ -154,6 +155,7 @@ listed_stale settings limit now seen noted mid after last epoch polled due t lis
 
 pub listed_ticked : (which : Db) (m n : FileId → ℕ) (latest : FileId → Option (Option (List ℕ))) (settings : DbConf) (limit : Option ℕ) (now : ℕ) (seen noted mid after last : List Record) (epoch : ℕ) (polled : Polled) (due : List Due) → Ticking seen noted mid after epoch polled → IsLookedUp which m n latest polled.content
     → AreListed settings limit now after due → IsPrefix after last → Legal last → AreOver epoch last due → Reloaded limit last → LoadsAgain (room_of settings) last → IsTicked which m n latest settings limit now seen last
+unfolding listed_stale
 listed_ticked which m n latest settings limit now seen noted mid after last epoch polled due t files listed p legal over r l = record {
   ends = listed_stale settings limit now seen noted mid after last epoch polled due t listed p legal over;
   content = polled.content;

@@ -106,11 +106,11 @@ impl<D: OfDb, F: FileSet + Drop, A: Answerer + Drop, B: Room> Base<D, F, A, B> {
         ensures again { OnOk result (LoadsAgain (room_of self.now.settings) pass.new.pass.seen) }
         ensures fault { IfErr result (λ fault. IsHoldFault fault pass.new.pass.seen (AreOver epoch pass.new.pass.seen due.items)) }
     {
+        pass.learn();
         let loads = match self.loads(alloc, polled, &due, now) {
             Ok(loads) => loads,
             Err(_) => return Err(LookupFault::NoMemory),
         };
-        pass.learn();
         let mut lock = self.desk.lock(rt);
         let desk = &mut *lock;
         desk.show(pass);
