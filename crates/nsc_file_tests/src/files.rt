@@ -94,7 +94,7 @@ fn folder(rt: &HostRuntime) -> Result<String, Fail> {
 #[test]
 fn files_of_a_folder(rt: HostRuntime) -> Result<(), Fail> {
     let folder = folder(&rt)?;
-    let mut set = HostFiles::new(&rt);
+    let mut set = HostFiles::new(rt.alloc(), &rt)?;
     set.under(rt.alloc(), folder.as_str())?;
     let hosts = Ok(Some(b"hosts".as_slice()));
     assert!(rt; gives(&mut set, rt.alloc(), FileId::Hosts, hosts));
@@ -108,6 +108,10 @@ fn files_of_a_folder(rt: HostRuntime) -> Result<(), Fail> {
     assert_eq!(rt; other.faults(), 0);
     assert!(rt; finds_what_is_known(&mut set, rt.alloc()));
     assert_eq!(rt; (set.reads(FileId::Hosts), set.faults()), (2, 1));
+    // What is at a path below a file cannot be told, and is not absent.
+    let below = format!(in rt.alloc(); "{folder}/hosts")?;
+    set.under(rt.alloc(), below.as_str())?;
+    assert!(rt; !set.is_still(rt.alloc(), FileId::Passwd, None));
     fs::remove_dir_all(&rt, folder.as_str())?;
     Ok(())
 }
@@ -134,7 +138,7 @@ fn finds_what_is_known(set: &mut HostFiles<&HostRuntime>, alloc: Global) -> bool
 
 #[test]
 fn files_of_the_system(rt: HostRuntime) -> Result<(), Fail> {
-    let mut set = HostFiles::new(&rt);
+    let mut set = HostFiles::new(rt.alloc(), &rt)?;
     let long = Err(ReadCause::TooLong { length: 16_777_217 });
     assert!(rt; conf_gives(&mut set, rt.alloc(), "/dev/null", Ok(Some(b""))));
     assert!(rt; conf_gives(&mut set, rt.alloc(), "/no-such-folder/x", Ok(None)));

@@ -9,18 +9,21 @@ ghost use Rattle.nsc_outside.specs.Tally.{count_of, no_counts};
 
 use crate::comparing::has_just;
 use crate::files::{FileSet, ReadCause};
+use crate::notices::Notices;
 use crate::paths::path_of;
 use crate::reading::{cause_of, read_whole};
 use crate::tally::Tally;
 use nsc_base::{Bytes, NoMemory};
 use nsc_model::FileId;
 use std::alloc::Global;
-use std::fs;
-use std::fs::{File, Metadata};
-use std::io::{Error, ErrorKind};
+use std::fs::{File, Metadata, OpenFile};
+use std::io::{Eprint, Error, ErrorKind};
 use std::marker::Model;
 use std::os::unix::fs::{FileTypeExt, MetadataExt};
 use std::rt::Files;
+use std::sync::Arc;
+use std::time::{Clock, Duration};
+use std::{fs, io};
 
 /// The files of a system, by default its own: `/etc/nsswitch.conf`, `/etc/passwd`, `/etc/group`, `/etc/hosts`,
 /// `/etc/services`, `/var/lib/extrausers/passwd` and `/var/lib/extrausers/group`. It tells nothing of what they hold;
@@ -28,12 +31,16 @@ use std::rt::Files;
 ///
 /// A file is absent where the system finds none at its path, so also where a folder is missing. Every other error is a
 /// failure, and so is a file that might keep a read waiting, as a FIFO or a terminal, or has no bytes, as a folder or a
-/// socket. The file's kind is looked at before it is opened; that no other kind takes its path in between is trusted.
+/// socket. The file's kind is looked at before it is opened and when it is open; that no FIFO takes its path in between is trusted.
 #[derive(Drop)]
 pub struct HostFiles<R: Files + Clone + Drop> {
     system: R,
     folder: Option<String>,
     tally: Tally,
+    // What was told of them, by all sets that were split from one.
+    notices: Arc<Notices>,
+    // The path of the configuration that was read last.
+    conf: Option<String>,
 }
 
 impl<R: Files + Clone + Drop> Model for HostFiles<R> {
@@ -47,15 +54,17 @@ impl<R: Files + Clone + Drop> Model for HostFiles<R> {
 }
 
 impl<R: Files + Clone + Drop> HostFiles<R> {
-    /// The system's own files, of which none was read.
-    pub fn new(system: R) -> HostFiles<R>
-        ensures { result ≡ record { folder = None; counts = no_counts } }
+    /// The system's own files, of which none was read. Fails only for want of memory.
+    pub fn new(alloc: Global, system: R) -> Result<HostFiles<R>, NoMemory>
+        ensures { IfOk result (λ set. set ≡ record { folder = None; counts = no_counts }) }
     {
-        HostFiles {
+        Ok(HostFiles {
             system,
             folder: None,
             tally: Tally::new(),
-        }
+            notices: Arc::new(alloc, Notices::new())?,
+            conf: None,
+        })
     }
 
     /// How many calls failed or met a file that is too long; the count stops at the greatest `u64`.
@@ -79,27 +88,65 @@ impl<R: Files + Clone + Drop> HostFiles<R> {
         self.tally.reads(file)
     }
 
+    /// The path of the configuration that was read last, if one was.
+    pub fn conf_path(&self) -> Option<&str> {
+        self.conf.as_ref().map(|conf| conf.as_str())
+    }
+
+    // The path of a file.
+    fn path(&self, alloc: Global, file: FileId) -> Result<String, NoMemory> {
+        let folder = self.folder.as_ref().map(|folder| folder.as_str());
+        path_of(alloc, folder, file)
+    }
+
     // One read of a file.
     fn fetch(&self, alloc: Global, file: FileId) -> Result<Option<Bytes>, ReadCause>
         ensures fits { IfOk result (λ f. FileFits f) }
         ensures cause { IfErr result (λ cause. IsCause None cause) }
     {
-        let folder = self.folder.as_ref().map(|folder| folder.as_str());
-        let path = path_of(alloc, folder, file)?;
+        let path = self.path(alloc, file)?;
         read_path(&self.system, alloc, path.as_str())
     }
 
     // Whether a file is found to be as it is known.
     fn finds(&self, alloc: Global, file: FileId, known: Option<&[u8]>) -> bool {
-        let folder = self.folder.as_ref().map(|folder| folder.as_str());
-        match path_of(alloc, folder, file) {
+        match self.path(alloc, file) {
             Ok(path) => is_at_path(&self.system, path.as_str(), known),
             Err(_) => false,
         }
     }
 }
 
-impl<R: Files + Clone + Drop> FileSet for HostFiles<R> {
+impl<R: Files + Clock + Eprint + Clone + Drop> HostFiles<R> {
+    // Tells the administrator of a fault of a file, once a minute at most, but for want of memory, and for a folder in the place of a
+    // file, by which a database is left to the C library. Where standard error fails nobody is left to tell.
+    fn tell_fault(&self, alloc: Global, file: FileId, cause: ReadCause) {
+        let Ok(path) = self.path(alloc, file) else {
+            return;
+        };
+        let path = path.as_str();
+        if cause == ReadCause::NoMemory || is_folder(&self.system, path) {
+            return;
+        }
+        let now = self.system.monotonic().unwrap_or(Duration::ZERO);
+        if self.notices.begin(file, now.as_secs()) {
+            let _ = eprintln!(self.system; "nscd: {path}: {cause}");
+        }
+    }
+
+    // Tells that the faults of a file are over, once where one was told.
+    fn tell_end(&self, alloc: Global, file: FileId) {
+        if !self.notices.end(file) {
+            return;
+        }
+        if let Ok(path) = self.path(alloc, file) {
+            let path = path.as_str();
+            let _ = eprintln!(self.system; "nscd: {path}: the file can be read again");
+        }
+    }
+}
+
+impl<R: Files + Clock + Eprint + Clone + Drop> FileSet for HostFiles<R> {
     ghost use Rattle.std.specs.Prelude.{None};
     ghost use Rattle.nsc_outside.specs.Tally.{count_of};
 
@@ -135,6 +182,8 @@ impl<R: Files + Clone + Drop> FileSet for HostFiles<R> {
             system: self.system.clone()?,
             folder,
             tally,
+            notices: Arc::try_clone(&self.notices)?,
+            conf: None,
         })
     }
 
@@ -155,8 +204,14 @@ impl<R: Files + Clone + Drop> FileSet for HostFiles<R> {
     {
         let outcome = self.fetch(alloc, file);
         match &outcome {
-            Ok(_) => self.tally.count_read(file),
-            Err(cause) => self.tally.count_file_cause(file, *cause),
+            Ok(_) => {
+                self.tell_end(alloc, file);
+                self.tally.count_read(file);
+            }
+            Err(cause) => {
+                self.tell_fault(alloc, file, *cause);
+                self.tally.count_file_cause(file, *cause);
+            }
         }
         outcome
     }
@@ -173,6 +228,7 @@ impl<R: Files + Clone + Drop> FileSet for HostFiles<R> {
     {
         let is_still = self.finds(alloc, file, known);
         if is_still {
+            self.tell_end(alloc, file);
             self.tally.count_read(file);
         }
         is_still
@@ -186,6 +242,7 @@ impl<R: Files + Clone + Drop> FileSet for HostFiles<R> {
         ensures faults { IfErr result (λ cause. RoseBy cause self.old.counts.faults self.new.counts.faults) }
         ensures rest { self.new ≡ record self.old { counts = record self.old.counts { faults = self.new.counts.faults } } }
     {
+        self.conf = String::from_str(alloc, path).ok();
         let outcome = read_path(&self.system, alloc, path);
         if let Err(cause) = &outcome {
             self.tally.count_cause(*cause);
@@ -199,38 +256,47 @@ fn read_path<R: Files>(system: &R, alloc: Global, path: &str) -> Result<Option<B
     ensures fits { IfOk result (λ f. FileFits f) }
     ensures cause { IfErr result (λ cause. IsCause None cause) }
 {
-    let metadata = match fs::metadata(system, path) {
-        Ok(metadata) => metadata,
-        Err(error) => return absent_or(&error),
-    };
-    if !reads_at_once(&metadata) {
-        return Err(ReadCause::Failed);
+    match open_prompt(system, path) {
+        Ok((file, length)) => Ok(Some(read_whole(alloc, file, length)?)),
+        Err(error) => absent_or(&error),
     }
-    let file = match File::open(system, path) {
-        Ok(file) => file,
-        Err(error) => return absent_or(&error),
-    };
-    Ok(Some(read_whole(alloc, file, metadata.len())?))
 }
 
 // Whether the file at a path is as it is known: absent, or these bytes.
 fn is_at_path<R: Files>(system: &R, path: &str, known: Option<&[u8]>) -> bool {
-    match (fs::metadata(system, path), known) {
-        (Ok(metadata), Some(known)) => {
-            reads_at_once(&metadata)
-                && metadata.len() == known.len() as u64
-                && is_file_of(system, path, known)
-        }
+    match (open_prompt(system, path), known) {
+        (Ok((file, length)), Some(known)) => length == known.len() as u64 && has_just(file, known),
         (Err(error), None) => error.kind() == ErrorKind::NotFound,
         _ => false,
     }
 }
 
-// Whether the file at a path has just these bytes.
-fn is_file_of<R: Files>(system: &R, path: &str, known: &[u8]) -> bool {
-    match File::open(system, path) {
-        Ok(file) => has_just(file, known),
+// Opens a file whose reads wait for nobody, and tells its length. Its kind is looked at before, since to open a FIFO may wait, and at
+// the open file, since another one may have taken the path by then.
+fn open_prompt<R: Files>(system: &R, path: &str) -> io::Result<(R::File, u64)> {
+    check_prompt(&fs::metadata(system, path)?)?;
+    let file = File::open(system, path)?;
+    let metadata = file.metadata()?;
+    check_prompt(&metadata)?;
+    Ok((file, metadata.len()))
+}
+
+// Whether a folder is at a path.
+fn is_folder<R: Files>(system: &R, path: &str) -> bool {
+    match fs::metadata(system, path) {
+        Ok(metadata) => metadata.is_dir(),
         Err(_) => false,
+    }
+}
+
+// Refuses a file whose reads may wait, or give no bytes.
+fn check_prompt(metadata: &Metadata) -> io::Result<()>
+    ensures refused { IfErr result (λ error. ¬ (error_kind error ≡ ErrorKind.NotFound)) }
+{
+    if reads_at_once(metadata) {
+        Ok(())
+    } else {
+        Err(Error::from(ErrorKind::InvalidInput))
     }
 }
 

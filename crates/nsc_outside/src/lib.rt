@@ -10,6 +10,7 @@ mod host_files;
 mod mem_files;
 mod mem_sink;
 mod mem_source;
+mod notices;
 mod numbers;
 mod paths;
 mod plan;

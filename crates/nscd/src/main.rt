@@ -12,17 +12,15 @@ use std::thread::Threads;
 use std::{env, io, thread};
 
 fn main(rt: HostRuntime) -> ExitCode {
-    let system: Result<_, _> = rt.clone();
+    let sockets: Result<_, _> = rt.clone();
     let exit = match words(&rt) {
-        Ok(words) => match (BufReader::new(rt.alloc(), rt.reader()), system) {
-            // The daemon's threads read files too, so their set owns its runtime.
-            (Ok(reader), Ok(system)) => {
+        Ok(words) => match (BufReader::new(rt.alloc(), rt.reader()), files(&rt), sockets) {
+            (Ok(reader), Ok(mut files), Ok(sockets)) => {
                 let mut input = StdSource::new(reader);
                 let mut output = StdSink::new(io::writer(&rt));
-                let mut files = HostFiles::new(system);
                 let mut clock = HostClock::new(&rt);
-                let mut net = UnixListener::new(rt.alloc(), &rt, processors(&rt));
-                run(
+                let mut net = UnixListener::new(rt.alloc(), sockets, processors(&rt));
+                let exit = run(
                     &rt,
                     &words,
                     &mut input,
@@ -30,7 +28,11 @@ fn main(rt: HostRuntime) -> ExitCode {
                     &mut files,
                     &mut clock,
                     &mut net,
-                )
+                );
+                if let (Exit::BadConf { .. }, Some(path)) = (&exit, files.conf_path()) {
+                    let _ = eprintln!(&rt; "nscd: {path}: the configuration is refused");
+                }
+                exit
             }
             _ => Exit::NoMemory,
         },
@@ -41,6 +43,11 @@ fn main(rt: HostRuntime) -> ExitCode {
         let _ = rt.stderr().write_all(text.as_slice());
     }
     ExitCode::from(exit.status())
+}
+
+// The system's files. The daemon's threads read them too, so their set owns its runtime.
+fn files(rt: &HostRuntime) -> io::Result<HostFiles<HostRuntime>> {
+    HostFiles::new(rt.alloc(), rt.clone()?).map_err(|_| io::Error::from(ErrorKind::OutOfMemory))
 }
 
 // How many processors there are, and 1 where the system does not tell.
