@@ -89,7 +89,7 @@ where
     }
 }
 
-// Binds the sockets, tells that the daemon is ready, and serves.
+// Binds the sockets, tells that the daemon is ready, and serves. Afterwards no socket is left, also where the start failed.
 fn serve<
     RT: AllocGlobal + Threads + Wait + time::Clock + Clone + Drop + Send + Sync + 'static,
     S: Store + Drop + Send + Sync + 'static,
@@ -99,6 +99,38 @@ fn serve<
 >(
     rt: &RT,
     terms: &Terms<'_>,
+    stores: Databases<S>,
+    passes: Databases<S::Pass>,
+    output: &mut K,
+    clock: &mut C,
+    net: &mut N,
+) -> Exit
+where
+    S::Pass: Send + 'static,
+    N::In: 'static,
+    N::Out: 'static,
+    requires named { AreNamed S.Store stores }
+    requires passes { ArePasses S.Store stores passes }
+    ensures exits { IsExitOf Serving result }
+    ensures ends { (faults : ℕ) → EndsSo result (record { output = stream_out K.Sink output.old; source_faults = faults; given = N.given net.old; net_faults = N.faults net.old }) (record { output = stream_out K.Sink output.new; source_faults = faults; given = N.given net.new; net_faults = N.faults net.new }) }
+{
+    let most = net.room_for(terms.workers);
+    let exit = serve_at_most(rt, terms, most, stores, passes, output, clock, net);
+    net.close();
+    exit
+}
+
+// The same, where so many connections may wait for a worker.
+fn serve_at_most<
+    RT: AllocGlobal + Threads + Wait + time::Clock + Clone + Drop + Send + Sync + 'static,
+    S: Store + Drop + Send + Sync + 'static,
+    K: Sink,
+    C: Clock,
+    N: Listener,
+>(
+    rt: &RT,
+    terms: &Terms<'_>,
+    most: usize,
     stores: Databases<S>,
     passes: Databases<S::Pass>,
     output: &mut K,
@@ -127,7 +159,7 @@ where
         Ok(number) => number.get(),
         Err(_) => 1,
     };
-    let list = match Arc::new(alloc, JobList::new(alloc, processors)) {
+    let list = match Arc::new(alloc, JobList::new(alloc, processors, most)) {
         Ok(list) => list,
         Err(_) => return Exit::NoMemory,
     };
@@ -193,17 +225,35 @@ where
     ensures stops { StopsSo result (N.given net.old) (N.given net.new) (N.faults net.old) (N.faults net.new) }
 {
     let threads = started(rt, workers, acceptor, list);
-    if !threads.is_empty() {
-        if let Ok(shared) = Arc::try_clone(list) {
-            acceptor.waitings = Some(shared);
-        }
-    }
+    net.set_workers(hand_over(acceptor, list, threads.len()));
     let exit = accept_all(rt, acceptor, clock, net);
+    // From now on nobody connects, and no peer that does not read keeps a worker from its end.
+    net.close();
     list.close(rt);
     for thread in threads {
         thread.join(rt);
     }
     exit
+}
+
+// Leaves connections to the workers, where there are some, and gives how many serve them then.
+fn hand_over<S: Store + Drop, R: Source + Drop, K: Sink + Drop>(
+    acceptor: &mut Acceptor<S, R, K>,
+    list: &Waitings<R, K>,
+    workers: usize,
+) -> usize
+    ensures { acceptor.new ≡ acceptor.old }
+{
+    if workers == 0 {
+        return 0;
+    }
+    match Arc::try_clone(list) {
+        Ok(shared) => {
+            acceptor.waitings = Some(shared);
+            workers
+        }
+        Err(_) => 0,
+    }
 }
 
 // Starts as many workers as it can, up to this number.

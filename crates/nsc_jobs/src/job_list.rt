@@ -12,7 +12,8 @@ const LOOKS: u32 = 100;
 
 /// Jobs that one thread puts and others take, in order. No worker is woken without need: at most one is on its way at a time,
 /// and while jobs follow each other closely one that has done its job looks for the next for a moment before it sleeps. It looks
-/// no more where the processors are busy, as its yields tell.
+/// no more where the processors are busy, as its yields tell. A job for which there is no place, or that has waited for more than five
+/// seconds, is dropped.
 #[derive(Drop)]
 pub struct JobList<T: Drop> {
     queue: Mutex<Queue<T>>,
@@ -23,23 +24,26 @@ pub struct JobList<T: Drop> {
 }
 
 impl<T: Drop> JobList<T> {
-    /// An open list without jobs. With fewer than three processors no worker looks for jobs, which would keep others from
-    /// running.
-    pub fn new(alloc: Global, processors: usize) -> JobList<T> {
+    /// An open list without jobs, of which there may be so many. With fewer than three processors no worker looks for jobs, which would
+    /// keep others from running.
+    pub fn new(alloc: Global, processors: usize, most: usize) -> JobList<T> {
         JobList {
-            queue: Mutex::new(Queue::new(alloc)),
+            queue: Mutex::new(Queue::new(alloc, most)),
             woken: Condvar::new(),
             jobs: AtomicU64::new(0),
             may_look: processors >= 3,
         }
     }
 
-    /// Puts a job at the end, and calls a worker where one is wanted. Where there is no memory for it the job is dropped.
+    /// Puts a job at the end, and calls a worker where one is wanted. Where there are too many then, the oldest is dropped, and where
+    /// there is no memory for it the job itself is.
     pub fn put<R: Wait + Clock>(&self, rt: &R, job: T) -> Result<(), NoMemory> {
         let now = moment(rt);
         let mut queue = self.queue.lock(rt);
-        queue.push(job, now)?;
+        let oldest = queue.push(job, now)?;
         self.end_turn(queue);
+        // It may take a while, so the lock is free by then.
+        drop(oldest);
         Ok(())
     }
 
@@ -49,17 +53,22 @@ impl<T: Drop> JobList<T> {
         self.woken.notify_all();
     }
 
-    /// Takes the first job, and waits where there is none. `None` exactly where it found the list closed and without jobs.
+    /// Takes the first job that is not too old, and waits where there is none. `None` exactly where it found the list closed and
+    /// without jobs.
     pub fn take<R: Wait + Clock>(&self, rt: &R) -> Option<T> {
         let mut may_look = self.may_look;
         for _ in rt.forever() {
             let now = moment(rt);
             let mut queue = self.queue.lock(rt);
             let is_free = may_look && queue.yields.may_yield(now);
-            match queue.next(is_free) {
+            match queue.next(is_free, now) {
                 Next::Job(job) => {
                     self.end_turn(queue);
                     return Some(job);
+                }
+                Next::Old(job) => {
+                    self.end_turn(queue);
+                    drop(job);
                 }
                 Next::Leave => return None,
                 Next::Look => {

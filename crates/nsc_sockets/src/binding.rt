@@ -11,47 +11,39 @@ use std::os::unix::net::UnixListener;
 use std::rt::Files;
 use std::{fs, io};
 
-// The mode of a folder that is made: everyone may find the sockets in it.
-const FOLDER: u32 = 0o755;
+// The mode of the folder in which a socket is made.
+const OWN: u32 = 0o700;
 
-/// A socket at this path, with its folder where there was none, and with the mode of its role. One at which another process
-/// answers is left alone, and so is a file that is no socket: `AddrInUse` and `AlreadyExists`.
+/// A socket at this path, which stands in this folder, with the mode of its role. One at which another process answers, or that
+/// cannot be asked, is left alone, and so is a file that is no socket: `AddrInUse` and `AlreadyExists`.
 ///
-/// The socket is made under another name, and takes the path when its mode is set: nobody finds it half made, and nobody
-/// finds none where one stood before.
+/// The socket is made in a folder of its own, which no other user can enter, and takes the path when its mode is set: nobody finds it
+/// half made, and nobody finds none where one stood before. Only one process at a time may do this in a folder.
 pub(crate) fn bind_at<R: Files + Net>(
     system: &R,
     alloc: Global,
+    folder: &str,
     role: Role,
     path: &str,
 ) -> io::Result<UnixListener> {
-    make_folder(system, path)?;
     check_free(system, path)?;
-    let made = format!(in alloc; "{path}.new")?;
+    let own = format!(in alloc; "{folder}/.new")?;
+    let made = format!(in alloc; "{folder}/.new/s")?;
     // What a start that was broken off has left there.
-    let _ = fs::remove_file(system, made.as_str());
-    let socket = UnixListener::bind(system, made.as_str())?;
-    socket.set_nonblocking(true)?;
-    if let Err(error) = put_at(system, role, made.as_str(), path) {
-        let _ = fs::remove_file(system, made.as_str());
-        return Err(error);
-    }
-    Ok(socket)
+    remove(system, own.as_str(), made.as_str());
+    DirBuilder::new().mode(OWN).create(system, own.as_str())?;
+    let outcome = put(system, role, made.as_str(), path);
+    remove(system, own.as_str(), made.as_str());
+    outcome
 }
 
-// Makes the folder of this path where there is none.
-fn make_folder<R: Files>(system: &R, path: &str) -> io::Result<()> {
-    let Some((folder, _)) = path.rsplit_once('/') else {
-        return Ok(());
-    };
-    if folder.is_empty() || fs::metadata(system, folder).is_ok() {
-        return Ok(());
+/// The folder in which this path stands.
+pub(crate) fn folder_of(path: &str) -> &str {
+    match path.rsplit_once('/') {
+        Some(("", _)) => "/",
+        Some((folder, _)) => folder,
+        None => ".",
     }
-    let mut builder = DirBuilder::new();
-    builder.recursive(true).mode(FOLDER);
-    builder.create(system, folder)?;
-    // The process may hold back some of the mode when a folder is made.
-    fs::set_permissions(system, folder, Permissions::from_mode(FOLDER))
 }
 
 // Fails where something stands at the path that may not be replaced.
@@ -62,22 +54,42 @@ fn check_free<R: Files + Net>(system: &R, path: &str) -> io::Result<()> {
         Err(error) => return Err(error),
     };
     if !metadata.file_type().is_socket() {
-        return Err(io::Error::from(ErrorKind::AlreadyExists));
+        let message = "a file that is no socket is in the way";
+        return Err(io::Error::new(ErrorKind::AlreadyExists, message));
     }
     match mio::net::UnixStream::connect(system, path) {
-        Ok(_) => Err(io::Error::from(ErrorKind::AddrInUse)),
-        // There is somebody, who has a great many connections before this one.
-        Err(error) if error.kind() == ErrorKind::WouldBlock => {
-            Err(io::Error::from(ErrorKind::AddrInUse))
+        Err(error)
+            if matches!(
+                error.kind(),
+                ErrorKind::ConnectionRefused | ErrorKind::NotFound
+            ) => { Ok(()) }
+        // Somebody is there, or may be: one with a great many connections before this one fails too.
+        _ => {
+            let message = "another daemon is there, or may be";
+            Err(io::Error::new(ErrorKind::AddrInUse, message))
         }
-        Err(_) => Ok(()),
     }
 }
 
-// Sets the socket's mode, and gives it its path.
-fn put_at<R: Files>(system: &R, role: Role, made: &str, path: &str) -> io::Result<()> {
+// Makes the socket, sets its mode, and gives it its path.
+fn put<R: Files + Net>(system: &R, role: Role, made: &str, path: &str) -> io::Result<UnixListener> {
+    let socket = match UnixListener::bind(system, made) {
+        Ok(socket) => socket,
+        Err(error) if error.kind() == ErrorKind::InvalidInput => {
+            return Err(io::Error::new(ErrorKind::InvalidInput, "its path is too long"));
+        }
+        Err(error) => return Err(error),
+    };
+    socket.set_nonblocking(true)?;
     fs::set_permissions(system, made, Permissions::from_mode(mode_of(role)))?;
-    fs::rename(system, made, path)
+    fs::rename(system, made, path)?;
+    Ok(socket)
+}
+
+// Removes the folder of a socket that is made, and what is in it.
+fn remove<R: Files>(system: &R, own: &str, made: &str) {
+    let _ = fs::remove_file(system, made);
+    let _ = fs::remove_dir(system, own);
 }
 
 // Who may connect: everyone, but to give orders only the owner.

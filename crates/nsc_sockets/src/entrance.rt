@@ -1,8 +1,10 @@
 use crate::door::Door;
 use crate::guest::{Guest, ReadyGuest};
 use crate::listener::Accepted;
+use crate::notice::Notice;
 use crate::pace::Pace;
-use crate::peer::Peer;
+use crate::patience::{Patience, patient_of};
+use crate::peer::{Peer, may_pass};
 use crate::role::Role;
 use crate::unix_input::UnixInput;
 use crate::unix_output::UnixOutput;
@@ -11,10 +13,10 @@ use mio::{Events, Poll, Token};
 use nsc_yields::Yields;
 use std::alloc::Global;
 use std::collections::VecDeque;
+use std::io::Eprint;
 use std::net::Net;
 use std::os::unix::net::UnixListener;
 use std::sync::Arc;
-use std::sync::atomic::AtomicU64;
 use std::time::{Clock, Duration};
 use std::{io, thread};
 
@@ -51,28 +53,36 @@ pub(crate) struct Entrance {
     doors: Vec<Door>,
     room: WaitingRoom,
     stirred: VecDeque<Stirred>,
-    // How many outputs wait for a peer that does not read.
-    waiting: Arc<AtomicU64>,
+    // What patience the outputs have with peers that do not read.
+    patience: Arc<Patience>,
     pace: Pace,
     yields: Yields,
     is_wakeful: bool,
+    // What was told of a want of descriptors.
+    notice: Notice,
 }
 
 impl Entrance {
     /// An entrance without doors. With fewer than three processors it sleeps whenever there is nothing to do, so as not to keep
-    /// those from running that it waits for.
-    pub(crate) fn new(alloc: Global, net: &impl Net, processors: usize) -> io::Result<Entrance> {
+    /// those from running that it waits for. So many guests may wait in it. No output has patience so far.
+    pub(crate) fn new(
+        alloc: Global,
+        net: &impl Net,
+        processors: usize,
+        guests: usize,
+    ) -> io::Result<Entrance> {
         Ok(Entrance {
             alloc,
             poll: Poll::new(net)?,
             events: Events::with_capacity(alloc, EVENTS)?,
             doors: Vec::new(alloc),
-            room: WaitingRoom::new(alloc)?,
+            room: WaitingRoom::new(alloc, guests)?,
             stirred: VecDeque::with_capacity(alloc, EVENTS)?,
-            waiting: Arc::new(alloc, AtomicU64::new(0))?,
+            patience: Arc::new(alloc, Patience::new(0))?,
             pace: Pace::new(),
             yields: Yields::new(),
             is_wakeful: processors >= 3,
+            notice: Notice::new(),
         })
     }
 
@@ -84,11 +94,21 @@ impl Entrance {
         Ok(())
     }
 
+    /// Ends all patience, also of those that wait, and closes the doors and whoever was not given out.
+    pub(crate) fn close(self) {
+        self.patience.allow(0);
+    }
+
+    /// So many workers serve what it gives from now on, and share the patience that they may have.
+    pub(crate) fn set_workers(&self, workers: u64) {
+        self.patience.allow(patient_of(workers));
+    }
+
     /// The next connection that can be given out, or `Quiet` after a second without one.
-    pub(crate) fn accept<C: Clock>(
+    pub(crate) fn accept<C: Clock + Clone + Eprint + Drop>(
         &mut self,
         clock: &C,
-    ) -> io::Result<Accepted<UnixInput, UnixOutput>> {
+    ) -> io::Result<Accepted<UnixInput, UnixOutput<C>>> {
         let begun = clock.monotonic()?;
         let mut now = begun;
         for turn in 0..TURNS {
@@ -99,7 +119,7 @@ impl Entrance {
             let Some(left) = Duration::from_secs(LONGEST).checked_sub(waited) else {
                 break;
             };
-            let has_yielded = self.rest(turn, now, left)?;
+            let has_yielded = self.rest_or_pause(clock, turn, now, left)?;
             let later = clock.monotonic()?;
             if has_yielded {
                 self.yields.note(now, later);
@@ -110,22 +130,24 @@ impl Entrance {
     }
 
     // A connection that can be given out at once, if there is one.
-    fn next<C: Clock>(
+    fn next<C: Clock + Clone + Eprint + Drop>(
         &mut self,
         clock: &C,
         now: Duration,
-    ) -> Option<Accepted<UnixInput, UnixOutput>> {
+    ) -> Option<Accepted<UnixInput, UnixOutput<C>>> {
         if self.pace.begin_round(now) {
             self.room.sweep(now);
+            self.tell_end(clock);
         }
         let ready = self.next_ready(clock, now)?;
-        let accepted = ready.into_ends(self.alloc, &self.waiting).ok()?;
+        let theirs = clock.clone().ok()?;
+        let accepted = ready.into_ends(self.alloc, theirs, &self.patience).ok()?;
         self.pace.note_given(now);
         Some(accepted)
     }
 
     // Those that stirred come first, then those that stand, then those at the doors.
-    fn next_ready<C: Clock>(&mut self, clock: &C, now: Duration) -> Option<ReadyGuest> {
+    fn next_ready<C: Clock + Eprint>(&mut self, clock: &C, now: Duration) -> Option<ReadyGuest> {
         if let Some(ready) = self.next_stirred() {
             return Some(ready);
         }
@@ -152,7 +174,7 @@ impl Entrance {
     }
 
     // Takes a connection at an open door. Where none can be taken, some that wait are closed to make room.
-    fn next_at<C: Clock>(
+    fn next_at<C: Clock + Eprint>(
         &mut self,
         clock: &C,
         now: Duration,
@@ -171,13 +193,57 @@ impl Entrance {
                 let guest = Guest::new(role, peer, now);
                 self.room.receive(self.poll.registry(), guest, may_stand)
             }
-            Err(error) if error.kind() == io::ErrorKind::WouldBlock => None,
-            Err(_) => {
-                if !self.room.clear() {
-                    thread::sleep(clock, Duration::from_millis(PAUSE));
-                }
+            Err(error) if may_pass(&error) => None,
+            Err(error) => {
+                self.make_room(clock, now, &error);
                 None
             }
+        }
+    }
+
+    // Some that wait are closed where descriptors or memory were wanting. Where none is, the next try comes a little later.
+    fn make_room<C: Clock + Eprint>(&mut self, system: &C, now: Duration, error: &io::Error) {
+        let is_wanting = is_wanting(error);
+        let is_scarce = is_wanting || error.kind() == io::ErrorKind::OutOfMemory;
+        if !(is_scarce && self.room.clear()) {
+            thread::sleep(system, Duration::from_millis(PAUSE));
+        }
+        if is_wanting {
+            self.room.shrink();
+            self.tell_begin(system, now);
+        }
+    }
+
+    // Tells the administrator that descriptors are wanting. Where standard error fails nobody is left to tell.
+    fn tell_begin<C: Eprint>(&mut self, system: &C, now: Duration) {
+        if self.notice.begin(now) {
+            let _ = system.eprintln(
+                "nscd: no descriptor is left: connections that wait are closed",
+            );
+        }
+    }
+
+    // And that there are enough again, once as many may wait as before.
+    fn tell_end<C: Eprint>(&mut self, system: &C) {
+        if self.room.is_full_size() && self.notice.end() {
+            let _ = system.eprintln("nscd: there are descriptors again");
+        }
+    }
+
+    // Rests. Where memory was wanting for it, it pauses, and the next turn tries again.
+    fn rest_or_pause<C: Clock>(
+        &mut self,
+        clock: &C,
+        turn: u32,
+        now: Duration,
+        left: Duration,
+    ) -> io::Result<bool> {
+        match self.rest(turn, now, left) {
+            Err(error) if may_pass(&error) || error.kind() == io::ErrorKind::OutOfMemory => {
+                thread::sleep(clock, Duration::from_millis(PAUSE));
+                Ok(false)
+            }
+            outcome => outcome,
         }
     }
 
@@ -245,4 +311,14 @@ impl Entrance {
 // The token of a door; there are few.
 fn door_token(at: usize) -> Token {
     Token(DOORS.saturating_add(at))
+}
+
+// The system's numbers for the errors that the process, or all of them together, have as many open files as they may.
+const MOST_OF_A_PROCESS: i32 = 24;
+
+const MOST_OF_ALL: i32 = 23;
+
+// Whether a descriptor was wanting.
+fn is_wanting(error: &io::Error) -> bool {
+    matches!(error.raw_os_error(), Some(MOST_OF_A_PROCESS | MOST_OF_ALL))
 }

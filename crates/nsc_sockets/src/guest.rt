@@ -1,4 +1,5 @@
 use crate::listener::Accepted;
+use crate::patience::Patience;
 use crate::peer::{Peer, may_pass};
 use crate::role::Role;
 use crate::unix_input::UnixInput;
@@ -8,8 +9,7 @@ use nsc_wire::{LONGEST, is_settled};
 use std::alloc::Global;
 use std::os::fd::{AsRawFd, RawFd};
 use std::sync::Arc;
-use std::sync::atomic::AtomicU64;
-use std::time::Duration;
+use std::time::{Clock, Duration};
 
 /// A connection that was accepted and has not been given out yet.
 #[derive(Drop)]
@@ -103,20 +103,26 @@ impl AsRawFd for Guest {
 
 impl ReadyGuest {
     /// The two ends of the connection. Where there is no memory for them it is closed.
-    pub(crate) fn into_ends(
+    pub(crate) fn into_ends<T: Clock + Drop>(
         self,
         alloc: Global,
-        waiting: &Arc<AtomicU64>,
-    ) -> Result<Accepted<UnixInput, UnixOutput>, NoMemory> {
+        clock: T,
+        patience: &Arc<Patience>,
+    ) -> Result<Accepted<UnixInput, UnixOutput<T>>, NoMemory> {
         let ReadyGuest { guest, ahead } = self;
         let Guest { role, peer, .. } = guest;
-        let patience = match role {
+        let silence = match role {
             Role::Plain | Role::Admin => Duration::ZERO,
             Role::Gate => Duration::from_secs(GATE_PATIENCE),
         };
+        // The thread that accepts serves administrators itself, so it waits long for none of them.
+        let patience = match role {
+            Role::Admin => None,
+            Role::Plain | Role::Gate => Some(Arc::try_clone(patience)?),
+        };
         let peer = Arc::new(alloc, peer)?;
-        let input = UnixInput::new(Arc::try_clone(&peer)?, ahead, patience);
-        let output = UnixOutput::new(peer, Arc::try_clone(waiting)?);
+        let input = UnixInput::new(Arc::try_clone(&peer)?, ahead, silence);
+        let output = UnixOutput::new(clock, peer, patience);
         Ok(Accepted::Conn {
             role,
             input,

@@ -38,6 +38,33 @@ pub trait Listener {
     // The bytes of the peer that the next `connect` reaches, where it tells them.
     ghost peer: { Self → Option (List ℕ) };
 
+    /// So many workers are to serve what it gives: tells how many connections at most may wait for them.
+    fn room_for(&mut self, workers: u32) -> usize
+        ensures given { given self.new ≡ given self.old }
+        ensures peer { peer self.new ≡ peer self.old }
+        ensures faults { faults self.new ≡ faults self.old }
+    {
+        let _ = workers;
+        usize::MAX
+    }
+
+    /// So many workers serve what it gives from now on. All but one, and two at most, may wait long for a peer that does not read.
+    fn set_workers(&mut self, workers: usize)
+        ensures given { given self.new ≡ given self.old }
+        ensures peer { peer self.new ≡ peer self.old }
+        ensures faults { faults self.new ≡ faults self.old }
+    {
+        let _ = workers;
+    }
+
+    /// Closes the sockets, and removes their names: from now on nobody can connect, whoever was not given yet is sent away, and nobody
+    /// waits long for a peer that does not read.
+    fn close(&mut self)
+        ensures given { given self.new ≡ given self.old }
+        ensures peer { peer self.new ≡ peer self.old }
+        ensures faults { faults self.new ≡ faults self.old }
+    {}
+
     /// Takes connections of this role at the socket of this path from now on.
     fn bind(&mut self, role: Role, path: &str) -> Result<(), Failed>
         ensures given { given self.new ≡ given self.old }

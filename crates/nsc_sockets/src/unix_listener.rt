@@ -1,23 +1,29 @@
 ghost use Rattle.std.specs.Prelude.{◌≡◌, None, OnOk, OnErr, IfOk};
 ghost use Rattle.nsc_model.specs.Reads.{Rose};
 
-use crate::binding::bind_at;
+use crate::binding::{bind_at, folder_of};
 use crate::entrance::Entrance;
+use crate::folder::Folder;
 use crate::listener::{Accepted, Listener};
+use crate::patience::Patience;
 use crate::peer::Peer;
 use crate::role::Role;
+use crate::shares::share_of;
 use crate::unix_input::UnixInput;
 use crate::unix_output::UnixOutput;
+use libc::types::rlimit;
 use nsc_outside::Failed;
 use std::alloc::Global;
-use std::io;
+use std::fs::File;
+use std::io::{Eprint, ErrorKind};
 use std::marker::Model;
 use std::net::Net;
 use std::os::fd::OwnedFd;
+use std::os::unix::net::UnixListener as Socket;
 use std::rt::Files;
 use std::sync::Arc;
-use std::sync::atomic::AtomicU64;
 use std::time::{Clock, Duration};
+use std::{fs, io};
 
 // How long a command waits for bytes of the daemon, in seconds.
 const REPLY: u64 = 5;
@@ -28,15 +34,19 @@ const REPLY: u64 = 5;
 /// bytes. One that stays silent for five seconds is closed, and so is the oldest where there are too many, or where the
 /// process has no descriptor or memory left for a new one.
 #[derive(Drop)]
-pub struct UnixListener<R: Files + Net + Clock + Drop> {
+pub struct UnixListener<R: Files<File = File> + Net + Clock + Clone + Eprint + Drop> {
     system: R,
     alloc: Global,
     processors: usize,
+    // So many connections may wait in the entrance.
+    guests: usize,
+    folder: Option<Folder>,
+    paths: Vec<String>,
     entrance: Option<Entrance>,
     faults: u64,
 }
 
-impl<R: Files + Net + Clock + Drop> Model for UnixListener<R> {
+impl<R: Files<File = File> + Net + Clock + Clone + Eprint + Drop> Model for UnixListener<R> {
     ghost use Rattle.nsc_sockets.specs.Adapters.{UnixListener};
 
     ghost Value = { UnixListener };
@@ -44,7 +54,7 @@ impl<R: Files + Net + Clock + Drop> Model for UnixListener<R> {
     ghost view = { λ s. record { faults = s.faults } };
 }
 
-impl<R: Files + Net + Clock + Drop> UnixListener<R> {
+impl<R: Files<File = File> + Net + Clock + Clone + Eprint + Drop> UnixListener<R> {
     /// A listener with no socket, at which no call has failed. It looks out for connections that come close together only
     /// where there are at least three processors.
     pub fn new(alloc: Global, system: R, processors: usize) -> UnixListener<R>
@@ -54,6 +64,9 @@ impl<R: Files + Net + Clock + Drop> UnixListener<R> {
             system,
             alloc,
             processors,
+            guests: usize::MAX,
+            folder: None,
+            paths: Vec::new(alloc),
             entrance: None,
             faults: 0,
         }
@@ -66,38 +79,57 @@ impl<R: Files + Net + Clock + Drop> UnixListener<R> {
         self.faults
     }
 
-    // Opens a socket, with the entrance for it where this is the first one.
+    // Opens a socket, with the folder and the entrance for it where this is the first one. All stand in one folder.
     fn open(&mut self, role: Role, path: &str) -> io::Result<()>
         ensures faults { self.new.faults ≡ self.old.faults }
     {
-        if self.entrance.is_none() {
-            self.entrance = Some(Entrance::new(self.alloc, &self.system, self.processors)?);
+        let at = folder_of(path);
+        match &self.folder {
+            Some(folder) if folder.is_at(at) => {}
+            Some(_) => return Err(io::Error::from(ErrorKind::InvalidInput)),
+            None => self.folder = Some(Folder::take(&self.system, self.alloc, at)?),
         }
-        let Some(entrance) = &mut self.entrance else {
-            return Ok(());
-        };
-        let socket = bind_at(&self.system, self.alloc, role, path)?;
-        entrance.add_door(role, socket)
+        let name = String::from_str(self.alloc, path)?;
+        self.paths.reserve(1)?;
+        let socket = bind_at(&self.system, self.alloc, at, role, path)?;
+        // There is room for it.
+        let _ = self.paths.push(name);
+        self.add_door(role, socket)
+    }
+
+    // Takes connections from this socket, at the entrance for all of them.
+    fn add_door(&mut self, role: Role, socket: Socket) -> io::Result<()>
+        ensures faults { self.new.faults ≡ self.old.faults }
+    {
+        if self.entrance.is_none() {
+            let entrance = Entrance::new(self.alloc, &self.system, self.processors, self.guests)?;
+            self.entrance = Some(entrance);
+        }
+        match &mut self.entrance {
+            Some(entrance) => entrance.add_door(role, socket),
+            None => Ok(()),
+        }
     }
 
     // The next connection. Without a socket there is none to wait for.
-    fn next(&mut self) -> io::Result<Accepted<UnixInput, UnixOutput>>
+    fn next(&mut self) -> io::Result<Accepted<UnixInput, UnixOutput<R>>>
         ensures faults { self.new.faults ≡ self.old.faults }
     {
         match &mut self.entrance {
             Some(entrance) => entrance.accept(&self.system),
-            None => Err(io::Error::from(io::ErrorKind::NotConnected)),
+            None => Err(io::Error::from(ErrorKind::NotConnected)),
         }
     }
 
     // The ends of a connection to this path.
-    fn reach(&self, path: &str) -> io::Result<(UnixInput, UnixOutput)> {
+    fn reach(&self, path: &str) -> io::Result<(UnixInput, UnixOutput<R>)> {
         let stream = mio::net::UnixStream::connect(&self.system, path)?;
         let peer = Arc::new(self.alloc, Peer::new(OwnedFd::from(stream))?)?;
-        let waiting = Arc::new(self.alloc, AtomicU64::new(0))?;
+        let patience = Arc::new(self.alloc, Patience::new(1))?;
         let ahead = Vec::new(self.alloc);
         let input = UnixInput::new(Arc::try_clone(&peer)?, ahead, Duration::from_secs(REPLY));
-        Ok((input, UnixOutput::new(peer, waiting)))
+        let output = UnixOutput::new(self.system.clone()?, peer, Some(patience));
+        Ok((input, output))
     }
 
     fn count_fault(&mut self)
@@ -107,10 +139,11 @@ impl<R: Files + Net + Clock + Drop> UnixListener<R> {
     }
 }
 
-impl<R: Files + Net + Clock + Drop> Listener for UnixListener<R> {
+impl<R: Files<File = File> + Net + Clock + Clone + Eprint + Send + Drop> Listener
+    for UnixListener<R> {
     type In = UnixInput;
 
-    type Out = UnixOutput;
+    type Out = UnixOutput<R>;
 
     ghost faults = { λ s. s.faults };
 
@@ -118,21 +151,56 @@ impl<R: Files + Net + Clock + Drop> Listener for UnixListener<R> {
 
     ghost peer = { λ _. None };
 
-    /// Takes connections at this path, in a folder that is made where there is none. A socket that stands there is replaced;
-    /// one at which a process answers is left as it is, and the call fails, as it does for want of memory.
+    /// Half of the descriptors that the process may have, less those that it needs. The other half is for those that are not given yet.
+    fn room_for(&mut self, workers: u32) -> usize
+        ensures faults { self.new.faults ≡ self.old.faults }
+    {
+        let share = usize::try_from(share_of(descriptors(), workers)).unwrap_or(usize::MAX);
+        self.guests = share;
+        share
+    }
+
+    /// Without this call nobody waits long.
+    fn set_workers(&mut self, workers: usize)
+        ensures faults { self.new.faults ≡ self.old.faults }
+    {
+        if let Some(entrance) = &self.entrance {
+            entrance.set_workers(workers as u64);
+        }
+    }
+
+    /// The folder stays this process's own. Where a name cannot be removed it stays.
+    fn close(&mut self)
+        ensures faults { self.new.faults ≡ self.old.faults }
+    {
+        if let Some(entrance) = self.entrance.take() {
+            entrance.close();
+        }
+        for path in self.paths.iter() {
+            let _ = fs::remove_file(&self.system, path.as_str());
+        }
+        self.paths.clear();
+    }
+
+    /// Takes connections at this path, in a folder that is made where there is none. A socket that stands there is replaced; one at which
+    /// a process answers, or that cannot be asked, is left as it is, and the call fails. So it does for want of memory, where another
+    /// process has the folder, where the folder is neither this user's nor root's or others may write it, and where it is not the one of
+    /// the sockets before.
     fn bind(&mut self, role: Role, path: &str) -> Result<(), Failed>
         ensures calm { OnOk result (self.new.faults ≡ self.old.faults) }
         ensures failed { OnErr result (Rose self.old.faults self.new.faults) }
     {
-        let Ok(()) = self.open(role, path) else {
+        if let Err(error) = self.open(role, path) {
+            // Where standard error fails nobody is left to tell.
+            let _ = eprintln!(self.system; "nscd: {path}: {error}");
             self.count_fault();
             return Err(Failed);
-        };
+        }
         Ok(())
     }
 
     /// Waits up to a second. That a connection cannot be taken is no failure; that no socket was opened is one.
-    fn accept(&mut self) -> Result<Accepted<UnixInput, UnixOutput>, Failed>
+    fn accept(&mut self) -> Result<Accepted<UnixInput, UnixOutput<R>>, Failed>
         ensures calm { OnOk result (self.new.faults ≡ self.old.faults) }
         ensures failed { OnErr result (Rose self.old.faults self.new.faults) }
     {
@@ -145,7 +213,7 @@ impl<R: Files + Net + Clock + Drop> Listener for UnixListener<R> {
 
     /// A connection whose calls wait for bytes and for room up to five seconds. It fails where nobody listens, where the
     /// other process has too many connections before this one, and for want of memory.
-    fn connect(&mut self, path: &str) -> Result<(UnixInput, UnixOutput), Failed>
+    fn connect(&mut self, path: &str) -> Result<(UnixInput, UnixOutput<R>), Failed>
         ensures calm { OnOk result (self.new.faults ≡ self.old.faults) }
         ensures failed { OnErr result (Rose self.old.faults self.new.faults) }
     {
@@ -154,5 +222,20 @@ impl<R: Files + Net + Clock + Drop> Listener for UnixListener<R> {
             return Err(Failed);
         };
         Ok(ends)
+    }
+}
+
+// How many descriptors the process may have. Most systems allow no fewer than this where they do not tell.
+const USUAL: u64 = 1024;
+
+fn descriptors() -> u64 {
+    let mut limit = rlimit {
+        rlim_cur: 0,
+        rlim_max: 0,
+    };
+    if libc::getrlimit(libc::RLIMIT_NOFILE, &mut limit) == 0 {
+        limit.rlim_cur
+    } else {
+        USUAL
     }
 }

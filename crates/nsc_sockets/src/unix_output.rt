@@ -1,40 +1,38 @@
 ghost use Rattle.std.specs.Prelude.{◌≡◌, ◌<◌, ◌≤◌, length, IfOk, OnOk, OnErr};
 ghost use Rattle.nsc_model.specs.Reads.{Rose};
 
+use crate::patience::{Patience, time_left};
 use crate::peer::{Peer, may_pass};
 use nsc_outside::{Failed, Sink};
 use std::io;
 use std::io::ErrorKind;
 use std::marker::Model;
 use std::sync::Arc;
-use std::sync::atomic::{AtomicU64, Ordering};
-use std::time::Duration;
+use std::time::{Clock, Duration};
 
-// So many peers at a time may be waited for with patience while they do not read.
-const PATIENT: u64 = 2;
-
-// How long one turn of a patient wait lasts, and the only turn of any other, in milliseconds.
+// How long one turn of a wait lasts at most, in milliseconds, and at least, and how many there are however short they are.
 const TURN: u64 = 50;
 
-const SHORT_TURN: u64 = 5;
+const LEAST_TURN: u64 = 1;
 
-// The turns of patient waits that one connection has in all: five seconds.
-const TURNS: u32 = 100;
+const TURNS: u32 = 10_000;
 
 // The bytes that are offered in a turn. More might take many turns' time while a slow peer makes room bit by bit.
 const PART: usize = 32_768;
 
 /// What a peer is sent over a socket. It tells nothing of the bytes; contracts see its count of faults.
 #[derive(Drop)]
-pub struct UnixOutput {
+pub struct UnixOutput<T: Clock + Drop> {
+    clock: T,
     peer: Arc<Peer>,
-    // How many ends that share this number wait at the moment for a peer that does not read.
-    waiting: Arc<AtomicU64>,
-    turns: u32,
+    // What patience there is for it, if it is to have some.
+    patience: Option<Arc<Patience>>,
+    // When it waited first.
+    begun: Option<Duration>,
     faults: u64,
 }
 
-impl Model for UnixOutput {
+impl<T: Clock + Drop> Model for UnixOutput<T> {
     ghost use Rattle.nsc_sockets.specs.Adapters.{UnixOutput};
 
     ghost Value = { UnixOutput };
@@ -42,15 +40,16 @@ impl Model for UnixOutput {
     ghost view = { λ s. record { faults = s.faults } };
 }
 
-impl UnixOutput {
-    /// What this peer is sent. All ends that are made with one number share what patience there is.
-    pub(crate) fn new(peer: Arc<Peer>, waiting: Arc<AtomicU64>) -> UnixOutput
+impl<T: Clock + Drop> UnixOutput<T> {
+    /// What this peer is sent. All ends that are made with one patience share it.
+    pub(crate) fn new(clock: T, peer: Arc<Peer>, patience: Option<Arc<Patience>>) -> UnixOutput<T>
         ensures { result ≡ record { faults = 0 } }
     {
         UnixOutput {
+            clock,
             peer,
-            waiting,
-            turns: TURNS,
+            patience,
+            begun: None,
             faults: 0,
         }
     }
@@ -66,47 +65,76 @@ impl UnixOutput {
         }
     }
 
-    // Waits for room among those few that may take long, or else only for a moment.
+    // Waits for room, with patience where there is some.
     fn send_slowly(&mut self, bytes: &[u8]) -> io::Result<usize>
         ensures count { IfOk result (λ n. n ≤ length bytes.now) }
         ensures faults { self.new.faults ≡ self.old.faults }
     {
         let part = &bytes[..bytes.len().min(PART)];
-        let before = self.waiting.fetch_add(1, Ordering::SeqCst);
-        let outcome = if before < PATIENT {
-            self.send_in_turns(part)
-        } else {
-            self.peer
-                .write_within(part, Duration::from_millis(SHORT_TURN))
+        let begun = self.begin()?;
+        let Some(patience) = &self.patience else {
+            return self.send_in_turns(part, begun, false);
         };
-        self.waiting.fetch_sub(1, Ordering::SeqCst);
+        let is_patient = patience.enter();
+        let outcome = self.send_in_turns(part, begun, is_patient);
+        patience.leave();
         outcome
     }
 
-    // Tries again while the connection has turns left. A turn in which bytes went out costs none.
-    fn send_in_turns(&mut self, part: &[u8]) -> io::Result<usize>
+    // Tries again until the time of the whole write is over. Patience ends where nobody may have it any more.
+    fn send_in_turns(&self, part: &[u8], begun: Duration, is_patient: bool) -> io::Result<usize>
         ensures count { IfOk result (λ n. n ≤ length part.now) }
-        ensures faults { self.new.faults ≡ self.old.faults }
     {
-        while self.turns > 0 {
-            match self.peer.write_within(part, Duration::from_millis(TURN)) {
-                Err(error) if may_pass(&error) => self.turns -= 1,
+        for _ in 0..TURNS {
+            let now = self.clock.monotonic()?;
+            let Some(left) = time_left(is_patient && !self.is_over(), begun, now) else {
+                break;
+            };
+            match self.peer.write_within(part, turn_of(left)) {
+                Err(error) if may_pass(&error) => {}
                 outcome => return outcome,
             }
         }
         Err(io::Error::from(ErrorKind::TimedOut))
     }
+
+    // Whether no writer may have patience any more.
+    fn is_over(&self) -> bool {
+        match &self.patience {
+            Some(patience) => patience.is_over(),
+            None => true,
+        }
+    }
+
+    // The moment at which it waited first, which is now where it did not so far.
+    fn begin(&mut self) -> io::Result<Duration>
+        ensures { self.new.faults ≡ self.old.faults }
+    {
+        if let Some(begun) = self.begun {
+            return Ok(begun);
+        }
+        let now = self.clock.monotonic()?;
+        self.begun = Some(now);
+        Ok(now)
+    }
 }
 
-impl Sink for UnixOutput {
+// How long the next turn lasts, where so much time is left.
+fn turn_of(left: Duration) -> Duration {
+    left.min(Duration::from_millis(TURN))
+        .max(Duration::from_millis(LEAST_TURN))
+}
+
+impl<T: Clock + Drop> Sink for UnixOutput<T> {
     ghost use Rattle.std.specs.Prelude.{None};
 
     ghost taken = { λ _. None };
 
     ghost faults = { λ s. s.faults };
 
-    /// Sends bytes at the front. A peer that does not read is waited for: up to five seconds in all where at most one other
-    /// is waited for, else five milliseconds. That there is no room by then is a failure, as each error of the socket is.
+    /// Sends bytes at the front. A peer that does not read is waited for: in all calls of one connection together up to five seconds
+    /// where there is patience for it, else five milliseconds. That there is no room by then is a failure, as each error of the socket
+    /// is.
     #[tactic(auto, using(crate::proofs::Counts::rose_risen))]
     fn write(&mut self, bytes: &[u8]) -> Result<usize, Failed>
         ensures count { IfOk result (λ n. n ≤ length bytes.now) }

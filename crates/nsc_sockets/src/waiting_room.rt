@@ -1,9 +1,9 @@
 use crate::guest::{Glance, Guest, ReadyGuest};
+use crate::shares::Places;
 use mio::unix::SourceFd;
 use mio::{Interest, Registry, Token};
 use slab::Slab;
 use std::alloc::{AllocError, Global};
-use std::cmp;
 use std::collections::VecDeque;
 use std::os::fd::AsRawFd;
 use std::time::Duration;
@@ -16,10 +16,8 @@ const LOOKS: u32 = 50;
 // So many connections may wait for bytes that the system tells of.
 const SEATS: usize = 256;
 
-// Where the process has no descriptor left, so many leave for good, since files are to be read too. This many seats stay.
+// Where the process has no descriptor left, so many leave, since files are to be read too.
 const SPARE: usize = 8;
-
-const LEAST: usize = 16;
 
 // How long a connection may sit without a whole request, in seconds.
 const STAY: u64 = 5;
@@ -33,17 +31,17 @@ pub(crate) struct WaitingRoom {
     standing: VecDeque<Guest>,
     seats: Slab<Guest>,
     // So many may sit.
-    most: usize,
+    places: Places,
 }
 
 impl WaitingRoom {
-    /// A room with nobody in it.
-    pub(crate) fn new(alloc: Global) -> Result<WaitingRoom, AllocError> {
+    /// A room with nobody in it, for so many at most, those that stand among them.
+    pub(crate) fn new(alloc: Global, most: usize) -> Result<WaitingRoom, AllocError> {
         Ok(WaitingRoom {
             alloc,
             standing: VecDeque::with_capacity(alloc, STANDING)?,
             seats: Slab::with_capacity(alloc, SEATS)?,
-            most: SEATS,
+            places: Places::new(most.saturating_sub(STANDING).min(SEATS).max(1)),
         })
     }
 
@@ -104,7 +102,7 @@ impl WaitingRoom {
 
     // From now on the system tells of its bytes, also of those that came meanwhile. Without a free seat the oldest leaves.
     fn seat(&mut self, registry: &Registry, guest: Guest) {
-        if self.seats.len() >= self.most {
+        if self.seats.len() >= self.places.most {
             self.close_oldest();
         }
         let seat = self.seats.vacant_key();
@@ -118,15 +116,15 @@ impl WaitingRoom {
         }
     }
 
-    /// Closes those that have stayed too long at this moment.
+    /// Closes those that have stayed too long at this moment. Where some had to leave for want of descriptors, more may sit again.
     pub(crate) fn sweep(&mut self, now: Duration) {
+        self.places.grow();
         let stay = Duration::from_secs(STAY);
         self.seats
             .retain(|_, guest| now.saturating_sub(guest.since()) < stay);
     }
 
-    /// Closes the oldest connections, since the process has room for no more, and lets no more sit from now on than are left.
-    /// Gives false where there is none.
+    /// Closes the oldest connections, since the process has room for no more. Gives false where there is none.
     pub(crate) fn clear(&mut self) -> bool {
         if !self.close_oldest() {
             return false;
@@ -134,8 +132,17 @@ impl WaitingRoom {
         for _ in 1..SPARE {
             self.close_oldest();
         }
-        self.most = cmp::max(self.seats.len(), LEAST);
         true
+    }
+
+    /// Whether as many may sit as at first.
+    pub(crate) fn is_full_size(&self) -> bool {
+        self.places.most >= self.places.full
+    }
+
+    /// Lets no more sit for now than do, since the process may have no more descriptors.
+    pub(crate) fn shrink(&mut self) {
+        self.places.shrink(self.seats.len());
     }
 
     // Closes the oldest connection, and gives false where there is none.

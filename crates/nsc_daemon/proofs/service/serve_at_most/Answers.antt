@@ -3,7 +3,7 @@ use Rattle.nsc_outside.specs.StreamAt.{stream_out}
 use Rattle.nsc_sockets.specs.Connections.{Connection}
 use Rattle.nsc_daemon.specs.Ends.{DaemonAt, StopsSo}
 use Rattle.nsc_daemon.proofs.Ends.{ready_so}
-use Rattle.nsc_daemon.proofs.service.serve.Goals as goal
+use Rattle.nsc_daemon.proofs.service.serve_at_most.Goals as goal
 
 pub returns-clause-ends : goal.returns-clause-ends
 returns-clause-ends g c faults =

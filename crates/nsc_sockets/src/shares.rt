@@ -1,0 +1,50 @@
+// How many connections may wait, by the descriptors that a process may have.
+ghost use Rattle.std.specs.Prelude.{◌≡◌, ◌+◌, ◌*◌, ◌-◌, ◌/◌, min, max};
+
+// What the process needs besides its workers: the standard streams, the doors, the lock of the folder, what tells of bytes, the
+// connection and the file of the thread that accepts, and some to spare.
+const NEEDED: u64 = 16;
+
+// Each worker needs one for its connection, and one for the file that it reads.
+const OF_A_WORKER: u64 = 2;
+
+// So many connections may wait in each place, however few descriptors there are.
+const LEAST: u64 = 4;
+
+/// How many connections may wait for so many workers, and as many in the waiting room: together what the process does not need.
+pub(crate) fn share_of(descriptors: u64, workers: u32) -> u64
+    ensures { result ≡ max ((descriptors - (16 + 2 * workers)) / 2) 4 }
+{
+    let needed = NEEDED + OF_A_WORKER * u64::from(workers);
+    (descriptors.saturating_sub(needed) / 2).max(LEAST)
+}
+
+/// How many may sit at the moment, and at most.
+#[derive(Clone, Copy, Debug)]
+pub(crate) struct Places {
+    pub(crate) most: usize,
+    pub(crate) full: usize,
+}
+
+impl Places {
+    /// As many as there are.
+    pub(crate) fn new(full: usize) -> Places
+        ensures { result ≡ record { most = full; full = full } }
+    {
+        Places { most: full, full }
+    }
+
+    /// No more than these are left, but for a few.
+    pub(crate) fn shrink(&mut self, left: usize)
+        ensures { self.new ≡ record self.old { most = min (max left 4) self.old.full } }
+    {
+        self.most = left.max(LEAST as usize).min(self.full);
+    }
+
+    /// Twice as many, up to all.
+    pub(crate) fn grow(&mut self)
+        ensures { self.new ≡ record self.old { most = min (self.old.most + self.old.most) self.old.full } }
+    {
+        self.most = self.most.saturating_add(self.most).min(self.full);
+    }
+}
