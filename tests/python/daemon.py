@@ -15,14 +15,20 @@ import sys
 import time
 
 sys.dont_write_bytecode = True
+import crowds
+import ending
+import folders
+import sources
+import telling
 from clients import real_clients
 from running import (
     ASK_BIG, ASK_ROOT, FILES, GETSTAT, INVALIDATE, NO_REPLY, PASSWD_BY_NAME, PATIENCE, PROGRAM, ROOT_REPLY, SHUTDOWN,
-    Fault, check, daemon, is_sent_away, read_all, request,
+    Fault, check, check_refused, daemon, is_sent_away, read_all, request,
 )  # fmt: skip
 
 STAY = 5.0  # seconds after which a peer without a whole request is sent away
 PROMPT = 0.05  # seconds for a good request beside silent peers
+DESCRIPTORS = 3000  # of this process and of a daemon
 
 
 def milliseconds(seconds):
@@ -120,8 +126,7 @@ def changes():
 
 def second_start():
     with daemon() as run:
-        said = run.second()
-        check(said == (b"", b"nscd: socket failed\n", 8), f"the second one: {said}")
+        check_refused(run.second(), "the second one")
         run.is_well("beside a second one")
         check(run.command("-i", "group") == (b"", b"", 0), "-i beside a second one")
         run.shut_down()
@@ -131,8 +136,7 @@ def second_start():
 def no_folder():
     with daemon() as run:
         run.shut_down()
-        said = run.second(run.etc / "passwd" / "run")
-        check(said == (b"", b"nscd: socket failed\n", 8), f"in a file: {said}")
+        check_refused(run.second(run.etc / "passwd" / "run"), "in a file")
         closed = run.folder / "closed"
         closed.mkdir(mode=0o555)
         how = {"user": 65534, "group": 65534, "extra_groups": []} if os.geteuid() == 0 else {}
@@ -140,7 +144,7 @@ def no_folder():
             said = run.second(closed, **how)
         except PermissionError:
             return "a folder that cannot be made: status 8; not tried as a user who may not write, who may not run the program"
-        check(said == (b"", b"nscd: socket failed\n", 8), f"in a folder that cannot be written: {said}")
+        check_refused(said, "in a folder that cannot be written")
         return "in a folder that cannot be made or written it says 'nscd: socket failed', status 8"
 
 
@@ -329,6 +333,11 @@ CASES = {
     "gone-peers": gone_peers,
     "few-descriptors": few_descriptors,
     "idle": idle,
+    **ending.CASES,
+    **crowds.CASES,
+    **folders.CASES,
+    **sources.CASES,
+    **telling.CASES,
 }
 
 
@@ -339,10 +348,10 @@ def main(names):
     if unknown:
         sys.exit(f"daemon: no case {unknown[0]}; there are {', '.join(CASES)}")
     most = resource.getrlimit(resource.RLIMIT_NOFILE)[1]
-    if most != resource.RLIM_INFINITY and most < 2000:
+    if most != resource.RLIM_INFINITY and most < DESCRIPTORS:
         print(f"daemon: skipped, since a process may have only {most} descriptors")
         return
-    resource.setrlimit(resource.RLIMIT_NOFILE, (2000, most))
+    resource.setrlimit(resource.RLIMIT_NOFILE, (DESCRIPTORS, most))
     faults = 0
     for name in names or CASES:
         try:

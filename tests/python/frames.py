@@ -73,7 +73,12 @@ def replay(program, frames, conf=None):
             file.flush()
             words += ["-f", file.name]
         done = subprocess.run(words, input=frames, capture_output=True, timeout=60)
-    return done.returncode, done.stdout, done.stderr.decode(errors="replace").strip()
+    return done.returncode, done.stdout, last_line(done.stderr)
+
+
+def last_line(text):
+    """Why the program ended. A line before it may name the file."""
+    return "".join(text.decode(errors="replace").splitlines()[-1:])
 
 
 def replies(output):

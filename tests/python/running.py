@@ -49,6 +49,12 @@ ASK_ROOT = request(PASSWD_BY_NAME, b"root\0")
 ASK_BIG = request(GROUP_BY_NAME, b"big\0")
 
 
+def check_refused(said, text):
+    """Sees that a start, which wrote this and ended so, was refused for its sockets."""
+    output, lines, status = said
+    check(output == b"" and lines.endswith(b"nscd: socket failed\n") and status == 8, f"{text}: {said}")
+
+
 def read_all(peer):
     taken = bytearray()
     while part := peer.recv(1 << 20):

@@ -5,7 +5,7 @@ import string
 import subprocess
 from dataclasses import dataclass
 
-from frames import END, ROOT, replay
+from frames import END, ROOT, last_line, replay
 from running import PROGRAM, check
 
 DIST, MAN = ROOT / "dist", ROOT / "man"
@@ -113,7 +113,7 @@ def defaults_said(text):
 
 def status_of(*words, text=END):
     done = subprocess.run([PROGRAM, *words], input=text, capture_output=True, timeout=20, check=False)
-    return done.returncode, done.stderr.decode(errors="replace").strip()
+    return done.returncode, last_line(done.stderr)
 
 
 def is_refused(*words):

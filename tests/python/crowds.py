@@ -1,0 +1,85 @@
+"""More connections than the daemon may hold: cases of tests/daemon."""
+
+import resource
+import signal
+import time
+
+from running import ASK_BIG, FILES, NO_REPLY, PASSWD_BY_NAME, PATIENCE, check, daemon, read_all, request
+
+OLD = 5.0  # seconds after which the client of a request has gone
+FEW = 64  # descriptors
+
+
+def ask_for(name):
+    return request(PASSWD_BY_NAME, name + b"\0")
+
+
+def whole_requests():
+    count = 2000
+    with daemon("-t", "4", descriptors=FEW) as run:
+        check(len(run.ask(ASK_BIG)) > 500_000, "the large reply is short")
+        peers = []
+        for _ in range(count):
+            peers.append(run.connect())
+            peers[-1].sendall(ASK_BIG)
+        times = []
+        for turn in range(10):
+            times.append(run.is_well(f"beside {count} whole requests"))
+            began = time.monotonic()
+            said = run.ask(ask_for(b"nobody%d" % turn))
+            check(said == NO_REPLY, f"a miss beside {count} whole requests: {len(said)} bytes")
+            times.append(time.monotonic() - began)
+        for peer in peers:
+            peer.close()
+        return (
+            f"with {FEW} descriptors, beside {count} whole requests whose replies nobody reads, lookups from the cache and from the files"
+            f" take {max(times):.2f} s at most"
+        )
+
+
+def old_requests():
+    """The process is stopped while requests wait for its one worker."""
+    with daemon("-t", "1") as run:
+        line = b"u%d:x:1:1:" + b"c" * 200 + b":/:/bin/sh\n"
+        (run.etc / "passwd").write_bytes(FILES["passwd"] + b"".join(line % number for number in range(10_000)))
+        run.is_well("at first")
+        peers = [run.connect(patience=3 * PATIENCE) for _ in range(100)]
+        for number, peer in enumerate(peers):
+            peer.sendall(ask_for(b"u%d" % number))
+        run.process.send_signal(signal.SIGSTOP)
+        time.sleep(OLD + 0.5)
+        run.process.send_signal(signal.SIGCONT)
+        said = [read_all(peer) for peer in peers]
+        for peer in peers:
+            peer.close()
+        unanswered = sum(reply == b"" for reply in said)
+        check(unanswered > 0, f"all of {len(peers)} requests are answered, {OLD} seconds later")
+        run.is_well("afterwards")
+        return f"of {len(peers)} requests that waited for {OLD} seconds {unanswered} are closed unanswered, and a new one is answered"
+
+
+def room_again():
+    """Descriptors are wanting for a while, and then there are enough again."""
+    with daemon() as run:
+        process, before = run.process.pid, run.opened()
+        limits = resource.prlimit(process, resource.RLIMIT_NOFILE)
+        resource.prlimit(process, resource.RLIMIT_NOFILE, (before + 40, limits[1]))
+        peers = [run.connect() for _ in range(300)]
+        time.sleep(0.5)
+        run.is_well("while descriptors are wanting")
+        for peer in peers:
+            peer.close()
+        resource.prlimit(process, resource.RLIMIT_NOFILE, limits)
+        run.is_back_at(before, "after the crowd")
+        time.sleep(OLD + 1)
+        count = 200
+        peers = [run.connect() for _ in range(count)]
+        time.sleep(1)
+        stayed = run.opened() - before
+        for peer in peers:
+            peer.close()
+        check(stayed >= count * 9 // 10, f"once descriptors are there again, {stayed} of {count} silent peers may stay")
+        return f"once descriptors are there again, {stayed} of {count} silent peers may stay"
+
+
+CASES = {"whole-requests": whole_requests, "old-requests": old_requests, "room-again": room_again}
