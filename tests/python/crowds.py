@@ -71,7 +71,8 @@ def room_again():
             peer.close()
         resource.prlimit(process, resource.RLIMIT_NOFILE, limits)
         run.is_back_at(before, "after the crowd")
-        time.sleep(OLD + 1)
+        # Twice as many may wait each second.
+        time.sleep(OLD + 3)
         count = 200
         peers = [run.connect() for _ in range(count)]
         time.sleep(1)
