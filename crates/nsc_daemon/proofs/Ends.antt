@@ -6,8 +6,8 @@ use Rattle.nsc_model.specs.Content.{Content}
 use Rattle.nsc_model.specs.declared.exit.Exit.{Exit}
 use Rattle.nsc_model.specs.declared.exit.Exit.TheVariants as exits
 use Rattle.nsc_model.specs.Wire.{Asked, Shutdown, request_of}
-use Rattle.nsc_model.specs.declared.kind.FileId.{FileId}
-use Rattle.nsc_sourcebook.specs.Reads.{FaultRose, TellsLength}
+use Rattle.nsc_outside.specs.declared.files.FileSet as file_set
+use Rattle.nsc_sourcebook.specs.Reads.{NotFetched}
 use Rattle.nsc_sourcebook.specs.declared.fault.PollFault.{PollFault}
 use Rattle.nsc_sourcebook.specs.declared.fault.PollFault.TheVariants as poll
 use Rattle.nsc_server.specs.Requests.{closing_of}
@@ -17,7 +17,7 @@ use Rattle.nsc_sockets.specs.declared.listener.Accepted.{Accepted}
 use Rattle.nsc_sockets.specs.declared.listener.Accepted.TheVariants as accepted
 use Rattle.nsc_sockets.specs.declared.role.Role.{Role}
 use Rattle.nsc_sockets.specs.declared.role.Role.TheVariants as role
-use Rattle.nsc_daemon.specs.Ends.{AsksEnd, DaemonAt, EndsSo, GivesMore, IsOpeningFault, IsReady, IsToldEnd, LastTellsEnd, StopsSo, TellsEnd, TellsHeldLength, opening_exit}
+use Rattle.nsc_daemon.specs.Ends.{AsksEnd, DaemonAt, EndsSo, GivesMore, IsOpeningFault, IsReady, IsToldEnd, LastTellsEnd, StopsSo, TellsEnd, TellsFileLength, TellsHeldLength, opening_exit}
 
 pub told_end : (on : Role) (left left' : Option (List ℕ)) (front : List ℕ) → Moves left left' front → closing_of on (request_of front) ≡ None → request_of front ≡ Shutdown → TellsEnd on left
 told_end on left left' front moved free asked = record { admin = by_role on (subst (λ (a : Asked). closing_of on a ≡ None) asked free); asked = by_left left moved } where
@@ -71,19 +71,24 @@ ends_by left (Some given) before after (accepted.Conn on input output) g gives t
 ends_by left (Some given) before after accepted.Quiet g gives told = absurd told
 
 -- the files of a database could not be read at the start
-pub at_opening : (fault : PollFault) (faults faults' : ℕ) (each each' : FileId → ℕ) → FaultRose fault faults faults' each each' → IsOpeningFault fault faults faults'
-at_opening poll.NoMemory faults faults' each each' rose = tt
-at_opening (poll.SourceFault file) faults faults' each each' rose = rose.0
-at_opening (poll.TooLong file size) faults faults' each each' rose = rose.0
+pub at_opening : {F : Type 0} (g : file_set.Ghosts F) (files files' : F) (fault : PollFault) → NotFetched g files files' fault → IsOpeningFault fault (g.faults files) (g.faults files')
+at_opening g files files' poll.NoMemory none = tt
+at_opening g files files' (poll.SourceFault file) failed = failed.all
+at_opening g files files' (poll.TooLong file size) failed = failed.0.all
+
+pub at_length : {F : Type 0} (g : file_set.Ghosts F) (files files' : F) (fault : PollFault) → NotFetched g files files' fault → TellsFileLength fault (g.held files)
+at_length g files files' poll.NoMemory none = tt
+at_length g files files' (poll.SourceFault file) failed = tt
+at_length g files files' (poll.TooLong file size) failed = failed.1
 
 -- then the daemon ends so, and nothing was written
-pub unopened : (fault : PollFault) (held : Option Content) (before after : DaemonAt) → after.output ≡ before.output → IsOpeningFault fault before.source_faults after.source_faults → TellsLength fault held
+pub unopened : (fault : PollFault) (held : Option Content) (before after : DaemonAt) → after.output ≡ before.output → IsOpeningFault fault before.source_faults after.source_faults → TellsFileLength fault held
     → EndsSo (opening_exit fault) before after
 unopened poll.NoMemory held before after silent rose told = silent
 unopened (poll.SourceFault file) held before after silent rose told = (rose, silent)
 unopened (poll.TooLong file size) held before after silent rose told = (rose, silent, told.past)
 
-pub length_held : (fault : PollFault) (held : Option Content) → TellsLength fault held → TellsHeldLength (opening_exit fault) held
+pub length_held : (fault : PollFault) (held : Option Content) → TellsFileLength fault held → TellsHeldLength (opening_exit fault) held
 length_held poll.NoMemory held told = tt
 length_held (poll.SourceFault file) held told = tt
 length_held (poll.TooLong file size) held told = (file, told)

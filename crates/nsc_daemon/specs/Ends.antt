@@ -110,3 +110,9 @@ abbrev pub IsOpeningFault : PollFault → ℕ → ℕ → Type 0
 IsOpeningFault poll.NoMemory faults faults' = Unit {0}
 IsOpeningFault (poll.SourceFault file) faults faults' = Rose faults faults'
 IsOpeningFault (poll.TooLong file size) faults faults' = Rose faults faults'
+
+-- of a file that was too long at the start, the length is told
+abbrev pub TellsFileLength : PollFault → Option Content → Type 0
+TellsFileLength poll.NoMemory held = Unit {0}
+TellsFileLength (poll.SourceFault file) held = Unit {0}
+TellsFileLength (poll.TooLong file size) held = IsPastLimit (told_of held file) size

@@ -4,8 +4,7 @@ ghost use Rattle.nsc_model.specs.Exits.{IsExitOf, Serving};
 ghost use Rattle.nsc_model.specs.Sizes.{SizeFits, SizesFit};
 ghost use Rattle.nsc_model.specs.Settings.{settings_of};
 ghost use Rattle.nsc_model.specs.declared.kind.Db.TheVariants as db_is;
-ghost use Rattle.nsc_sourcebook.specs.Reads.{TellsLength};
-ghost use Rattle.nsc_daemon.specs.Ends.{IsOpeningFault, opening_exit};
+ghost use Rattle.nsc_daemon.specs.Ends.{IsOpeningFault, TellsFileLength, opening_exit};
 
 use nsc_base::NoMemory;
 use nsc_database::{Database, DbPass, Opened, Room};
@@ -37,7 +36,7 @@ fn opened<F: FileSet + Drop>(
     ensures stays { OnOk result (F.held files.new ≡ F.held files.old) }
     ensures calm { OnOk result (F.faults files.new ≡ F.faults files.old) }
     ensures fault { IfErr result (λ fault. IsOpeningFault fault (F.faults files.old) (F.faults files.new)) }
-    ensures length { IfErr result (λ fault. TellsLength fault (F.held files.old)) }
+    ensures length { IfErr result (λ fault. TellsFileLength fault (F.held files.old)) }
 {
     Opened::open(alloc, files, Indexed, db, conf)
 }
@@ -64,7 +63,7 @@ impl<F: FileSet + Drop> Openings<F> {
         ensures services { IfOk result (λ o. (o.services.db ≡ db_is.Services) × (o.services.settings ≡ settings_of conf.now db_is.Services) × (o.services.reloads ≡ conf.now.reloads) × (F.held o.services.files ≡ F.held files.old)) }
         ensures calm { OnOk result (F.faults files.new ≡ F.faults files.old) }
         ensures fault { IfErr result (λ fault. IsOpeningFault fault (F.faults files.old) (F.faults files.new)) }
-        ensures length { IfErr result (λ fault. TellsLength fault (F.held files.old)) }
+        ensures length { IfErr result (λ fault. TellsFileLength fault (F.held files.old)) }
     {
         let passwd = opened(alloc, files, Db::Passwd, conf)?;
         let group = opened(alloc, files, Db::Group, conf)?;

@@ -1,7 +1,6 @@
 use Rattle.std.proofs.Common.{◌≡◌, ℕ, Option, rules, subst, ◌∙◌}
 use Rattle.nsc_model.specs.Content.{Content}
-use Rattle.nsc_sourcebook.specs.Reads.{TellsLength}
-use Rattle.nsc_daemon.specs.Ends.{IsOpeningFault}
+use Rattle.nsc_daemon.specs.Ends.{IsOpeningFault, TellsFileLength}
 use Rattle.nsc_daemon.proofs.opening.Openings.open.Goals as goal
 
 pub returns-in_err-hosts-clause-fault : goal.returns-in_err-hosts-clause-fault
@@ -13,7 +12,7 @@ returns-in_err-hosts-clause-fault g c =
 pub returns-in_err-hosts-clause-length : goal.returns-in_err-hosts-clause-length
 returns-in_err-hosts-clause-length g c =
     let before : g.F.FileSet.held c.opened-2.new.files ≡ g.F.FileSet.held c.args.files.now = c.in_ok-group.ensures.stays ∙ c.in_ok-passwd.ensures.stays in
-    let tells = subst (λ (o : Option Content). TellsLength c.in_err-hosts.field-0.0 o) before c.in_err-hosts.ensures.length in
+    let tells = subst (λ (o : Option Content). TellsFileLength c.in_err-hosts.field-0.0 o) before c.in_err-hosts.ensures.length in
     search (rules, tells, c.from_residual-in_err-hosts.ensures)
 
 pub returns-in_err-services-clause-fault : goal.returns-in_err-services-clause-fault
@@ -25,5 +24,5 @@ returns-in_err-services-clause-fault g c =
 pub returns-in_err-services-clause-length : goal.returns-in_err-services-clause-length
 returns-in_err-services-clause-length g c =
     let before : g.F.FileSet.held c.opened-3.new.files ≡ g.F.FileSet.held c.args.files.now = c.in_ok-hosts.ensures.stays ∙ c.in_ok-group.ensures.stays ∙ c.in_ok-passwd.ensures.stays in
-    let tells = subst (λ (o : Option Content). TellsLength c.in_err-services.field-0.0 o) before c.in_err-services.ensures.length in
+    let tells = subst (λ (o : Option Content). TellsFileLength c.in_err-services.field-0.0 o) before c.in_err-services.ensures.length in
     search (rules, tells, c.from_residual-in_err-services.ensures)
