@@ -104,8 +104,10 @@ def wanting():
         for peer in peers:
             peer.close()
         time.sleep(PATIENCE + 1)
-        run.is_well("once there are enough")
-        over = lines_of(run)
+        over, tries = [], 0
+        while not over and tries < 20:
+            run.is_well("once there are enough")
+            over, tries = lines_of(run), tries + 1
         check(len(over) == 1 and "descriptor" in over[0], f"descriptors are there again: {over}")
         return f"connections that are closed for want of descriptors are told of once, and that it is over: {lines + over}"
 
