@@ -103,7 +103,8 @@ fn two_workers(alloc: Global) -> Result<Trial, NoMemory> {
     Ok(trial)
 }
 
-// With one worker the same read gives up, so the first lookup fails. Then the host is answered, and the users can be read again.
+// With one worker the same read gives up after ten seconds, so the first lookup fails. Those behind it have waited for more than five
+// by then, so they are closed unanswered.
 fn failing_read(alloc: Global) -> Result<Trial, NoMemory> {
     let answered = Release::new(alloc)?;
     let mut trial = Trial::new(alloc, "a read that fails", ONE)?;
