@@ -166,7 +166,7 @@ def check_options(table):
     for form, (must, may) in zip(FORMS, forms):
         alike(f"form {form}", [o.letter or o.long for o in table if form in o.forms], must | may)
         check(len(must) == (form != "d"), f"form {form}: {must} must stand")
-    statuses = re.findall(r"Exit::\w+(?: \{ \.\. \})? => (\d+),", source("nsc_run/src/exit.rt"))
+    statuses = re.findall(r"Exit::\w+(?: \{ \.\. \})? => (\d+),", source("nsc_model/src/exit.rt"))
     said = re.findall(r"^\.It (\d+)$", section((MAN / "nscd.8").read_text(), "EXIT STATUS"), re.M)
     alike("exits", statuses, said)
     return len(statuses)
