@@ -28,6 +28,8 @@ fn main(rt: HostRuntime) -> io::Result<()> {
         let Trial {
             name,
             words,
+            conf,
+            start,
             step,
             changed,
             hold,
@@ -43,8 +45,8 @@ fn main(rt: HostRuntime) -> io::Result<()> {
             words.as_slice(),
             &mut MemSource::new(Vec::new(alloc)),
             &mut output,
-            &mut files(system?, alloc, changed, hold).map_err(wanting)?,
-            &mut MemClock::new(0, step),
+            &mut files(system?, alloc, changed, hold, conf).map_err(wanting)?,
+            &mut MemClock::new(start, step),
             &mut MemListener::new(alloc, arrivals, peers).map_err(wanting)?,
         );
         show(&rt, name, exit, output.taken())?;

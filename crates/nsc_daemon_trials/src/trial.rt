@@ -7,12 +7,15 @@ use std::alloc::Global;
 // How many bytes a peer takes at most.
 const ROOM: usize = 4096;
 
-/// A trial: the words of the program, how many seconds lie between two looks at the clock, when the users change, which reads wait,
-/// who comes, in order, and to whom the program connects. What each peer is sent can be read after it.
+/// A trial: the words of the program, its configuration, the first moment, how many seconds lie between two looks at the clock, when
+/// the files change, which reads wait, who comes, in order, and to whom the program connects. What each peer is sent can be read
+/// after it.
 #[derive(Drop)]
 pub struct Trial {
     pub name: &'static str,
     pub words: &'static [&'static str],
+    pub conf: &'static [u8],
+    pub start: u64,
     pub step: u64,
     pub changed: Release,
     pub hold: Hold,
@@ -22,7 +25,7 @@ pub struct Trial {
 }
 
 impl Trial {
-    /// Nobody comes, nothing changes, no read waits, and the clock stands still.
+    /// Nobody comes, nothing changes, no read waits, the configuration is empty, and the clock stands at 0.
     pub fn new(
         alloc: Global,
         name: &'static str,
@@ -31,6 +34,8 @@ impl Trial {
         Ok(Trial {
             name,
             words,
+            conf: b"",
+            start: 0,
             step: 0,
             changed: Release::new(alloc)?,
             hold: hold_from(alloc, u64::MAX, Release::new(alloc)?)?,

@@ -1,6 +1,7 @@
 use crate::requests::{
-    DESCRIPTOR, INVALIDATE_PASSWD, INVALIDATE_SHADOW, LOCALHOST, LONG_KEY, LONGEST_KEY,
-    NEGATIVE_KEY, NO_KEY, NO_TYPE, OLD_VERSION, ROOT, SHORT, SHUTDOWN, TWO, TWO_ORDERS,
+    DB, DESCRIPTOR, EVE, HTTP, INVALIDATE_PASSWD, INVALIDATE_SHADOW, LOCALHOST, LONG_KEY,
+    LONGEST_KEY, NEGATIVE_KEY, NO_KEY, NO_TYPE, OLD_VERSION, ROOT, ROOT_GROUP, SHORT, SHUTDOWN,
+    SSH, STAFF, TWO, TWO_ORDERS,
 };
 use crate::trial::Trial;
 use nsc_base::NoMemory;
@@ -29,6 +30,7 @@ pub fn trials(alloc: Global) -> Result<Vec<Trial>, NoMemory> {
     trials.push(orders(alloc)?)?;
     trials.push(two_on_one(alloc)?)?;
     trials.push(failing_read(alloc)?)?;
+    trials.push(moments(alloc)?)?;
     Ok(trials)
 }
 
@@ -116,7 +118,7 @@ fn failing_read(alloc: Global) -> Result<Trial, NoMemory> {
     Ok(trial)
 }
 
-// The users change once the first lookup is answered. Fifteen seconds pass between any two looks at the clock, so each turn ticks,
+// The files change once the first lookup is answered. Fifteen seconds pass between any two looks at the clock, so each turn ticks,
 // and the second lookup finds them as they are.
 fn tick(alloc: Global) -> Result<Trial, NoMemory> {
     let answered = Release::new(alloc)?;
@@ -128,6 +130,54 @@ fn tick(alloc: Global) -> Result<Trial, NoMemory> {
     trial.then(Arrival::QuietUntil(is_answered))?;
     trial.then(Arrival::Quiet)?;
     trial.peer(alloc, Role::Plain, ROOT)?;
+    trial.peer(alloc, Role::Admin, SHUTDOWN)?;
+    Ok(trial)
+}
+
+// Found replies are kept for long, and absent ones for five minutes; a change of the files ends none.
+const KEPT: &[u8] = b"check-files passwd no
+check-files group no
+check-files hosts no
+check-files services no
+positive-time-to-live passwd 500000
+positive-time-to-live group 500000
+positive-time-to-live hosts 500000
+positive-time-to-live services 500000
+negative-time-to-live passwd 300
+negative-time-to-live group 300
+negative-time-to-live hosts 300
+negative-time-to-live services 300
+";
+
+// What is asked first of each database is there, and what is asked then is not. After that the files change, and the time of what was
+// not there goes by. So at the end the first is as it was kept by a worker, at the moment at which it came, and a tick of each database
+// has ended the other. The admin socket's requests are served by the thread that ticks, so that the moments between them are known.
+fn moments(alloc: Global) -> Result<Trial, NoMemory> {
+    let there = [ROOT, ROOT_GROUP, LOCALHOST, SSH];
+    let new = [EVE, STAFF, DB, HTTP];
+    let answered = Release::new(alloc)?;
+    let mut trial = Trial::new(alloc, "moments", ONE)?;
+    trial.conf = KEPT;
+    trial.start = 1_000_000;
+    trial.step = 15;
+    for request in [ROOT, ROOT_GROUP, LOCALHOST] {
+        trial.peer(alloc, Role::Plain, request)?;
+    }
+    trial.peer_setting(alloc, Role::Plain, SSH, answered.share()?)?;
+    trial.then(Arrival::QuietUntil(answered))?;
+    for request in new {
+        trial.peer(alloc, Role::Admin, request)?;
+    }
+    trial.peer_setting(alloc, Role::Admin, EVE, trial.changed.share()?)?;
+    for _ in 0..25 {
+        trial.then(Arrival::Quiet)?;
+    }
+    for request in there {
+        trial.peer(alloc, Role::Plain, request)?;
+    }
+    for request in new {
+        trial.peer(alloc, Role::Admin, request)?;
+    }
     trial.peer(alloc, Role::Admin, SHUTDOWN)?;
     Ok(trial)
 }

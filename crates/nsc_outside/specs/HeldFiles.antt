@@ -6,18 +6,20 @@ use Rattle.nsc_outside.specs.Release.{Release}
 use Rattle.nsc_outside.specs.Hold.{Gate, unknown, shared_gate}
 use Rattle.nsc_outside.specs.Tally.{Tally, no_counts}
 
--- what it holds first and, once a flag is set, from then on; which reads wait; what the latest read of each file gave, by number, and what it counts
+-- what it holds first and, once a flag is set, from then on; which reads wait; its configuration, absent or its bytes; what the
+-- latest read of each file gave, by number, and what it counts
 pub record HeldFiles : Type 0 where
   pub first : Content
   pub second : Content
   pub changed : Release
   pub gate : Option Gate
+  pub conf : Option (List ℕ)
   pub latest : List (Option (Option (List ℕ)))
   pub counts : Tally
 
--- it holds this and does not change, no read waits, and none was made
+-- it holds this and does not change, no read waits, no configuration is there, and no read was made
 abbrev pub steady : Content → Release → HeldFiles
-steady content changed = record { first = content; second = content; changed = changed; gate = None; latest = replicate 7 None; counts = no_counts }
+steady content changed = record { first = content; second = content; changed = changed; gate = None; conf = None; latest = replicate 7 None; counts = no_counts }
 
 -- what a set gives that found the flag set, or did not
 abbrev pub given : Bool → HeldFiles → Content

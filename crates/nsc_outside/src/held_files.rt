@@ -11,6 +11,7 @@ ghost use Rattle.nsc_outside.specs.HeldFiles.{steady, given, shared_files};
 use crate::files::{FileSet, ReadCause};
 use crate::hold::{Gate, Hold, pass, share_gate};
 use crate::release::Release;
+use crate::shared::{Shared, copy_file, share_file};
 use crate::tally::Tally;
 use nsc_base::{Bytes, NoMemory};
 use nsc_model::{Content, FileId};
@@ -46,8 +47,8 @@ impl Told {
 
 /// A set of files in memory for tests of many threads: it changes to a second content when a flag is set, and reads of one
 /// file may wait for another flag. It tells only what its latest reads gave. The sets that were split from one share the
-/// contents, the flags and the numbers of the reads that may wait; each has counts of its own. A read gives a copy. No
-/// configuration file is there.
+/// contents, the flags and the numbers of the reads that may wait; each has counts of its own. A read gives a copy. One
+/// configuration file may be there, at every path.
 #[derive(Drop)]
 pub struct HeldFiles<R: Clock + Clone + Drop> {
     clock: R,
@@ -55,6 +56,7 @@ pub struct HeldFiles<R: Clock + Clone + Drop> {
     second: Arc<Content>,
     changed: Release,
     gate: Option<Gate>,
+    conf: Option<Shared>,
     latest: [Option<Told>; 7],
     tally: Tally,
 }
@@ -65,12 +67,12 @@ impl<R: Clock + Clone + Drop> Model for HeldFiles<R> {
 
     ghost Value = { HeldFiles };
 
-    ghost view = { λ s. record { first = arc_value s.first; second = arc_value s.second; changed = s.changed; gate = s.gate; latest = s.latest; counts = s.tally } };
+    ghost view = { λ s. record { first = arc_value s.first; second = arc_value s.second; changed = s.changed; gate = s.gate; conf = s.conf; latest = s.latest; counts = s.tally } };
 }
 
 impl<R: Clock + Clone + Drop> HeldFiles<R> {
-    /// A set that holds this content, and does not change; no read waits. By the clock a read that waits sleeps. Fails only
-    /// for want of memory.
+    /// A set that holds this content, and does not change; no read waits, and no configuration is there. By the clock a read that
+    /// waits sleeps. Fails only for want of memory.
     pub fn new(clock: R, alloc: Global, content: Content) -> Result<HeldFiles<R>, NoMemory>
         ensures set { IfOk result (λ set. set ≡ steady content set.changed) }
         ensures first { IfOk result (λ set. set.changed.is_set ≡ false) }
@@ -85,6 +87,7 @@ impl<R: Clock + Clone + Drop> HeldFiles<R> {
             second,
             changed,
             gate: None,
+            conf: None,
             latest: [None, None, None, None, None, None, None],
             tally,
         })
@@ -111,6 +114,14 @@ impl<R: Clock + Clone + Drop> HeldFiles<R> {
         ensures hold { IfOk result (λ set. IsSomeAnd set.gate (λ gate. (gate.hold ≡ hold) × (gate.numbers ≡ []))) }
     {
         self.gate = Some(Gate::new(alloc, hold)?);
+        Ok(self)
+    }
+
+    /// The same set, with these bytes as the configuration at each path. Fails only for want of memory, and the set is lost then.
+    pub fn configured(mut self, alloc: Global, conf: Bytes) -> Result<HeldFiles<R>, NoMemory>
+        ensures { IfOk result (λ set. set ≡ record self { conf = Some conf }) }
+    {
+        self.conf = Some(Shared::new(alloc, conf)?);
         Ok(self)
     }
 
@@ -182,7 +193,7 @@ impl<R: Clock + Clone + Drop> FileSet for HeldFiles<R> {
 
     ghost held = { λ _. None };
 
-    ghost conf_held = { λ _ _. Some None };
+    ghost conf_held = { λ s _. Some s.conf };
 
     /// Changes nothing.
     fn under(&mut self, _alloc: Global, _dir: &str) -> Result<(), NoMemory>
@@ -203,6 +214,7 @@ impl<R: Clock + Clone + Drop> FileSet for HeldFiles<R> {
             second: self.second.clone()?,
             changed: self.changed.share()?,
             gate: share_gate(&self.gate)?,
+            conf: share_file(&self.conf)?,
             latest: [None, None, None, None, None, None, None],
             tally,
         })
@@ -247,12 +259,19 @@ impl<R: Clock + Clone + Drop> FileSet for HeldFiles<R> {
         }
     }
 
-    /// Finds no configuration file.
-    fn read_conf(&mut self, _alloc: Global, _path: &str) -> Result<Option<Bytes>, ReadCause>
-        ensures absent { IfOk result (λ f. f ≡ None) }
-        ensures never { IfErr result (λ cause. ⊥) }
-        ensures same { self.new ≡ self.old }
+    /// Gives a copy of the configuration, whatever the path. One that is too long counts as a fault.
+    fn read_conf(&mut self, alloc: Global, _path: &str) -> Result<Option<Bytes>, ReadCause>
+        ensures answer { IfOk result (λ f. f ≡ self.old.conf) }
+        ensures fits { IfOk result (λ f. FileFits f) }
+        ensures cause { IfErr result (λ cause. IsCause (Some self.old.conf) cause) }
+        ensures calm { OnOk result (self.new ≡ self.old) }
+        ensures faults { IfErr result (λ cause. RoseBy cause self.old.counts.faults self.new.counts.faults) }
+        ensures held { self.new ≡ record self.old { counts = record self.old.counts { faults = self.new.counts.faults } } }
     {
-        Ok(None)
+        let outcome = copy_file(alloc, self.conf.as_ref().map(|conf| conf.as_slice()));
+        if let Err(cause) = outcome {
+            self.tally.count_cause(cause);
+        }
+        outcome
     }
 }
