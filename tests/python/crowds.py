@@ -4,8 +4,9 @@ import resource
 import signal
 import time
 
-from running import ASK_BIG, FILES, NO_REPLY, PASSWD_BY_NAME, PATIENCE, check, daemon, read_all, request
+from running import ASK_BIG, ASK_ROOT, FILES, NO_REPLY, PASSWD_BY_NAME, PATIENCE, ROOT_REPLY, check, daemon, read_all, request
 
+LOAD = 1.0  # seconds that a busy machine may take
 OLD = 5.0  # seconds after which the client of a request has gone
 FEW = 64  # descriptors
 
@@ -83,4 +84,57 @@ def room_again():
         return f"once descriptors are there again, {stayed} of {count} silent peers may stay"
 
 
-CASES = {"whole-requests": whole_requests, "old-requests": old_requests, "room-again": room_again}
+def burst():
+    """All come while the process is stopped, so the system tells of them at most once."""
+    with daemon() as run:
+        run.is_well("at first")
+        run.process.send_signal(signal.SIGSTOP)
+        peers = [run.connect() for _ in range(20)]
+        for peer in peers:
+            peer.sendall(ASK_ROOT)
+        run.process.send_signal(signal.SIGCONT)
+        began = time.monotonic()
+        said = [read_all(peer) for peer in peers]
+        took = time.monotonic() - began
+        for peer in peers:
+            peer.close()
+        check(said == [ROOT_REPLY] * len(peers), "another reply to one of those that came at once")
+        check(took <= LOAD, f"the last of {len(peers)} that came at once is answered after {took:.2f} s")
+        return f"of {len(peers)} that came at once the last is answered after {took * 1000:.1f} ms"
+
+
+def oldest_leave():
+    count = 400
+    with daemon() as run:
+        peers = [run.connect() for _ in range(count)]
+        time.sleep(0.5)
+        gone = [number for number, peer in enumerate(peers) if is_gone(peer)]
+        check(gone == list(range(len(gone))) and gone, f"of {count} silent peers {len(gone)} are sent away, which are not the oldest")
+        late = peers[-1]
+        late.sendall(ASK_ROOT)
+        check(read_all(late) == ROOT_REPLY, "the newest of many silent peers gets another reply")
+        for peer in peers:
+            peer.close()
+        return f"of {count} silent peers the {len(gone)} oldest are sent away, and the newest is answered"
+
+
+def is_gone(peer):
+    """Whether the peer has been told the end by now."""
+    peer.setblocking(False)
+    try:
+        return peer.recv(1) == b""
+    except BlockingIOError:
+        return False
+    except ConnectionResetError:
+        return True
+    finally:
+        peer.settimeout(PATIENCE)
+
+
+CASES = {
+    "whole-requests": whole_requests,
+    "old-requests": old_requests,
+    "room-again": room_again,
+    "burst": burst,
+    "oldest-leave": oldest_leave,
+}

@@ -82,12 +82,13 @@ def patience():
     """Who begins to read late is waited for, but by no more than all workers but one."""
     with daemon("-t", "2") as run:
         size = len(run.ask(ASK_BIG))
-        with run.connect() as peer:
-            peer.sendall(ASK_BIG)
-            time.sleep(2)
-            run.is_well("beside a late reader")
-            check(len(read_all(peer)) == size, "a late reader gets a part of its reply")
-    return "with two workers a peer that begins to read after two seconds gets its whole reply"
+        for which in ("first", "second"):
+            with run.connect() as peer:
+                peer.sendall(ASK_BIG)
+                time.sleep(2)
+                run.is_well("beside a late reader")
+                check(len(read_all(peer)) == size, f"the {which} late reader gets a part of its reply")
+    return "with two workers a peer that begins to read after two seconds gets its whole reply, and so does the next one"
 
 
 def trickle():

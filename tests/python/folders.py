@@ -119,10 +119,23 @@ def somebody_there():
         return "a socket at which a connect fails, but for want of somebody, is left alone"
 
 
+def broken_off():
+    """What a start that was killed while it made its first socket has left."""
+    with daemon(started=False) as run:
+        (run.run / ".new").mkdir(parents=True)
+        with socket.socket(socket.AF_UNIX) as other:
+            other.bind(str(run.run / ".new" / "s"))
+        run.start()
+        run.is_well("after a start that was broken off")
+        check(not (run.run / ".new").exists(), "the folder in which sockets are made is left")
+        return "what a start that was broken off has left harms no later one"
+
+
 CASES = {
     "folders-of-others": folders_of_others,
     "at-once": at_once,
     "held": held,
     "nothing-left": nothing_left,
     "somebody-there": somebody_there,
+    "broken-off": broken_off,
 }

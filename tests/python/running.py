@@ -86,8 +86,11 @@ class Daemon:
 
     def start(self):
         def limit():
+            # The modes of what it makes do not hang on this.
+            os.umask(0o077)
             if self.descriptors:
-                resource.setrlimit(resource.RLIMIT_NOFILE, (self.descriptors, self.descriptors))
+                most = resource.getrlimit(resource.RLIMIT_NOFILE)[1]
+                resource.setrlimit(resource.RLIMIT_NOFILE, (self.descriptors, most))
 
         self.process = subprocess.Popen(
             [PROGRAM, "--etc", self.etc, "--run-dir", self.run, *self.words],
