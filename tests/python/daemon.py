@@ -20,6 +20,7 @@ import ending
 import folders
 import sources
 import telling
+import unread
 from clients import real_clients
 from running import (
     ASK_BIG, ASK_ROOT, FILES, GETSTAT, INVALIDATE, NO_REPLY, PASSWD_BY_NAME, PATIENCE, PROGRAM, ROOT_REPLY, SHUTDOWN,
@@ -338,6 +339,7 @@ CASES = {
     **folders.CASES,
     **sources.CASES,
     **telling.CASES,
+    **unread.CASES,
 }
 
 
