@@ -149,30 +149,29 @@ negative-time-to-live hosts 300
 negative-time-to-live services 300
 ";
 
-// What is asked first of each database is there, and what is asked then is not. After that the files change, and the time of what was
-// not there goes by. So at the end the first is as it was kept by a worker, at the moment at which it came, and a tick of each database
-// has ended the other. The admin socket's requests are served by the thread that ticks, so that the moments between them are known.
+// What is asked first of each database is not there, and what is asked then is. After that the files change, and the time of what was
+// not there goes by. So at the end the second is as a worker kept it, at the moment at which it came, and a tick of each database has
+// ended the first. The admin socket's requests are served by the thread that ticks.
 fn moments(alloc: Global) -> Result<Trial, NoMemory> {
-    let there = [ROOT, ROOT_GROUP, LOCALHOST, SSH];
     let new = [EVE, STAFF, DB, HTTP];
-    let answered = Release::new(alloc)?;
     let mut trial = Trial::new(alloc, "moments", ONE)?;
     trial.conf = KEPT;
     trial.start = 1_000_000;
     trial.step = 15;
-    for request in [ROOT, ROOT_GROUP, LOCALHOST] {
-        trial.peer(alloc, Role::Plain, request)?;
-    }
-    trial.peer_setting(alloc, Role::Plain, SSH, answered.share()?)?;
-    trial.then(Arrival::QuietUntil(answered))?;
     for request in new {
         trial.peer(alloc, Role::Admin, request)?;
     }
-    trial.peer_setting(alloc, Role::Admin, EVE, trial.changed.share()?)?;
+    for request in [ROOT, ROOT_GROUP, LOCALHOST] {
+        trial.peer(alloc, Role::Plain, request)?;
+    }
+    let changed = trial.changed.share()?;
+    trial.peer_setting(alloc, Role::Plain, SSH, changed)?;
+    let is_changed = trial.changed.share()?;
+    trial.then(Arrival::QuietUntil(is_changed))?;
     for _ in 0..25 {
         trial.then(Arrival::Quiet)?;
     }
-    for request in there {
+    for request in [ROOT, ROOT_GROUP, LOCALHOST, SSH] {
         trial.peer(alloc, Role::Plain, request)?;
     }
     for request in new {
