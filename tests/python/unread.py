@@ -68,12 +68,12 @@ def unread_replies():
         with daemon("-t", "5") as run:
             (group / "cgroup.procs").write_text(str(run.process.pid))
             check(len(run.ask(ASK_BIG)) > 500_000, "the large reply is short")
-            costs = [cost_of(run, used, asked) for asked in (ASK_BIG, ASK_ROOT)]
-            for cost, most in zip(costs, (LONG, SHORT)):
+            costs = [cost_of(run, used, asked) for asked in (ASK_ROOT, ASK_BIG)]
+            for cost, most in zip(costs, (SHORT, LONG)):
                 check(cost <= most, f"a peer that does not read its reply costs {cost:.0f} bytes")
             run.shut_down()
         return (
-            f"a peer that does not read a reply of 500 KB costs {costs[0] / 1024:.0f} KiB, and one of a short reply {costs[1] / 1024:.1f} KiB,"
+            f"a peer that does not read a short reply costs {costs[0] / 1024:.1f} KiB, and one of 500 KB {costs[1] / 1024:.0f} KiB,"
             f" of the {limit_of_unit() >> 20} MiB of the unit"
         )
 
