@@ -25,7 +25,7 @@ FILES = {
     "nsswitch.conf": b"passwd: files\ngroup: files\nhosts: files\nservices: files\n",
 }
 
-PASSWD_BY_NAME, GROUP_BY_NAME = 0, 2
+PASSWD_BY_NAME, GROUP_BY_NAME, SERVICE_BY_NAME = 0, 2, 16
 SHUTDOWN, GETSTAT, INVALIDATE = 8, 9, 10
 ROOT_REPLY = struct.pack("<9i", 2, 1, 5, 2, 0, 0, 5, 6, 10) + b"root\0x\0root\0/root\0/bin/bash\0"
 NO_REPLY = struct.pack("<9i", 2, 0, 0, 0, -1, -1, 0, 0, 0)

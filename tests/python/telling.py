@@ -5,7 +5,7 @@ import select
 import subprocess
 import time
 
-from running import FILES, GROUP_BY_NAME, PASSWD_BY_NAME, PATIENCE, PROGRAM, check, check_refused, daemon, request
+from running import FILES, GROUP_BY_NAME, PASSWD_BY_NAME, PATIENCE, PROGRAM, SERVICE_BY_NAME, check, check_refused, daemon, request
 
 
 def lines_of(run, seconds=0.5):
@@ -45,13 +45,29 @@ def faulty_file():
             check([(str(passwd) in line, why in line) for line in lines] == [(True, True)] * (not shown), f"{why}: {lines}")
             shown += lines
             passwd.unlink()
-            passwd.write_bytes(FILES["passwd"])
+            # Another content than before, which takes a read.
+            passwd.write_bytes(FILES["passwd"] + b"eve:x:7:7:::\n")
             check(ask_anew(run, names) != b"", "a good file: no reply")
             lines = lines_of(run)
             check([(str(passwd) in line, "again" in line) for line in lines] == [(True, True)] * (len(shown) == 1), f"a good file: {lines}")
             shown += lines
+        comes_back(run, run.etc / "services", request(SERVICE_BY_NAME, b"none/tcp\0"))
         check(run.command("-K")[2] == 0 and run.process.wait(PATIENCE) == 0, "another status")
         return f"a file that cannot be read is named once, and once when it can be again, and not again within a minute: {shown}"
+
+
+def comes_back(run, path, asked):
+    """A file that could not be read is as it was before, which takes no more than a look."""
+    check(run.ask(asked) != b"", f"{path}: no reply")
+    away = path.with_name("away")
+    path.rename(away)
+    path.symlink_to(path.name)
+    lines = [line for number in range(2) for line in (run.ask(asked.replace(b"none", b"non%d" % number)), *lines_of(run))]
+    check(lines[0] == b"" and str(path) in lines[1] and lines[2:] == [b""], f"{path}: {lines}")
+    away.replace(path)
+    check(run.ask(asked.replace(b"none", b"nono")) != b"", f"{path} again: no reply")
+    lines = lines_of(run)
+    check(len(lines) == 1 and str(path) in lines[0] and "again" in lines[0], f"{path} again: {lines}")
 
 
 def long_file():
