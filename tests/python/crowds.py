@@ -77,6 +77,8 @@ def room_again():
         peers = [run.connect() for _ in range(300)]
         time.sleep(0.5)
         run.is_well("while descriptors are wanting")
+        for turn in range(5):
+            check(run.ask(ask_for(b"nobody%d" % turn)) == NO_REPLY, f"while descriptors are wanting: another reply to miss {turn}")
         for peer in peers:
             peer.close()
         resource.prlimit(process, resource.RLIMIT_NOFILE, limits)
