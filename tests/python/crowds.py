@@ -39,33 +39,30 @@ def whole_requests():
 
 
 def old_requests():
-    """The process is stopped while requests wait for its one worker. Where it was stopped before it took any, that is tried again."""
+    """The process is stopped while requests wait for its one worker, behind peers that do not read."""
     with daemon("-t", "1") as run:
-        line = b"u%d:x:1:1:" + b"c" * 200 + b":/:/bin/sh\n"
-        (run.etc / "passwd").write_bytes(FILES["passwd"] + b"".join(line % number for number in range(10_000)))
         run.is_well("at first")
-        count = 100
-        for turn in range(4):
-            unanswered = unanswered_of(run, range(turn * count, (turn + 1) * count))
-            if unanswered > 0:
-                break
-        check(unanswered > 0, f"all of {count} requests are answered, {OLD} seconds later")
+        before = [asking(run, ASK_BIG) for _ in range(60)]
+        peers = [asking(run, ASK_ROOT) for _ in range(100)]
+        # They are taken in while the worker waits for those before them, five milliseconds for each.
+        time.sleep(0.1)
+        run.process.send_signal(signal.SIGSTOP)
+        time.sleep(OLD + 0.5)
+        run.process.send_signal(signal.SIGCONT)
+        said = [read_all(peer) for peer in peers]
+        for peer in before + peers:
+            peer.close()
+        unanswered = sum(reply == b"" for reply in said)
+        check(unanswered > 0, f"all of {len(peers)} requests are answered, {OLD} seconds later")
         run.is_well("afterwards")
-        return f"of {count} requests that waited for {OLD} seconds {unanswered} are closed unanswered, and a new one is answered"
+        return f"of {len(peers)} requests that waited for {OLD} seconds {unanswered} are closed unanswered, and a new one is answered"
 
 
-def unanswered_of(run, numbers):
-    """How many of the requests for these users are closed unanswered, after the process was stopped while they waited."""
-    peers = [run.connect(patience=3 * PATIENCE) for _ in numbers]
-    for number, peer in zip(numbers, peers):
-        peer.sendall(ask_for(b"u%d" % number))
-    run.process.send_signal(signal.SIGSTOP)
-    time.sleep(OLD + 0.5)
-    run.process.send_signal(signal.SIGCONT)
-    said = [read_all(peer) for peer in peers]
-    for peer in peers:
-        peer.close()
-    return sum(reply == b"" for reply in said)
+def asking(run, asked):
+    """A peer whose request is there as soon as it is."""
+    peer = run.connect(patience=3 * PATIENCE)
+    peer.sendall(asked)
+    return peer
 
 
 def room_again():
