@@ -1,16 +1,14 @@
 // The entries whose time is over.
 ghost use Rattle.std.specs.Prelude.{◌≡◌, ◌≤◌, ◌||◌, false, All, None, Some, filter, map, length, IfOk};
-ghost use Rattle.nsc_model.specs.Entry.{key_limit};
-ghost use Rattle.nsc_model.specs.Live.{Rise};
+ghost use Rattle.nsc_model.specs.Entry.{kept_limit, key_limit};
 ghost use Rattle.nsc_shelf.specs.Shelf.{IsTold, entry_from};
 ghost use Rattle.nsc_model.specs.Machine.{Kept, due_of, next_count, reached};
-ghost use Rattle.nsc_laws.specs.Calls.{entries_of};
-ghost use Rattle.nsc_writer.specs.Due.{IsOver, due_cause_of, due_from, marked_by, pruned_by};
+ghost use Rattle.nsc_pruner.specs.Due.{IsOver, due_cause_of, due_from, marked_by, pruned_by};
 
-use crate::writer::{Cause, Writer};
 use nsc_base::{Buf, Bytes, NoMemory};
-use nsc_model::{KEY_LIMIT, Kind, Request, has_reached, next_count};
-use nsc_shelf::{EntryAt, Shelf};
+use nsc_model::{KEPT_LIMIT, KEY_LIMIT, Kind, Request, has_reached, next_count};
+use nsc_shelf::EntryAt;
+use nsc_writer::{Cause, Writer};
 use std::alloc::Global;
 use std::marker::Model;
 
@@ -28,7 +26,7 @@ pub struct Due {
 impl Model for Due {
     ghost use Rattle.std.specs.Prelude.{◌≤◌, length};
     ghost use Rattle.nsc_model.specs.Entry.{key_limit};
-    ghost use Rattle.nsc_writer.specs.Due.{Due};
+    ghost use Rattle.nsc_pruner.specs.Due.{Due};
 
     ghost Value = { Due };
 
@@ -100,102 +98,50 @@ impl Due {
     }
 }
 
-impl Writer {
-    /// The live entries whose time is over at this moment, in seconds, in rising number. Those that were reloaded so often without a
-    /// use are dropped, as those are whose reply is a not-found one. Fails only for want of memory.
-    pub fn expired(
-        &mut self,
-        alloc: Global,
-        limit: Option<u32>,
-        now: u64,
-    ) -> Result<Vec<Due>, NoMemory>
-        requires { self.old.slide ≡ None }
-        ensures all { IfOk result (λ all. all.items ≡ map (due_from limit) (due_of now self.old.cache.entries)) }
-        ensures same { self.new ≡ self.old }
-    {
-        due_entries(alloc, &mut self.shelf, limit, now)
-    }
-
-    /// Ends those of the entries that are live still, one after the other: the dropped ones as expired at this moment, and the others
-    /// to be loaded again. Marks which ones it ended, and gives their count.
-    pub fn prune_ends(&mut self, due: &mut [Due], now: u64) -> u64
-        requires over { All (IsOver self.old.seen now) due.old }
-        requires still { self.old.slide ≡ None }
-        ensures pruned { self.new ≡ pruned_by now due.old self.old }
-        ensures marked { due.new ≡ marked_by now due.old self.old }
-        ensures count { result ≡ length (filter (λ d. d.ended) due.new) }
-    {
-        self.end_each(due, now);
-        ended_count(due)
-    }
-
-    // The same without the count.
-    fn end_each(&mut self, due: &mut [Due], now: u64)
-        requires over { All (IsOver self.old.seen now) due.old }
-        requires still { self.old.slide ≡ None }
-        ensures pruned { self.new ≡ pruned_by now due.old self.old }
-        ensures marked { due.new ≡ marked_by now due.old self.old }
-    {
-        for one in due.iter_mut() {
-            self.learn();
-            let ended = self.end(one.number, one.cause(now));
-            one.mark(ended);
-        }
-    }
-}
-
-// How many of them were ended.
-fn ended_count(due: &[Due]) -> u64
-    ensures { result ≡ length (filter (λ d. d.ended) due.now) }
-{
-    let mut count = 0;
-    for one in due {
-        if one.ended {
-            count += 1;
-        }
-    }
-    count
-}
-
-// What is known of those of the entries whose time is over.
-fn due_entries(
+/// The live entries whose time is over at this moment, in seconds, in rising number. Those that were reloaded so often without a
+/// use are dropped, as those are whose reply is a not-found one. Fails only for want of memory.
+pub fn expired(
+    writer: &mut Writer,
     alloc: Global,
-    shelf: &mut Shelf,
     limit: Option<u32>,
     now: u64,
 ) -> Result<Vec<Due>, NoMemory>
-    requires rise { Rise (entries_of shelf.old.entries) }
-    requires still { shelf.old.slide ≡ None }
-    ensures all { IfOk result (λ all. all.items ≡ map (due_from limit) (due_of now shelf.old.entries)) }
-    ensures same { shelf.new ≡ shelf.old }
+    requires { writer.old.slide ≡ None }
+    ensures all { IfOk result (λ all. all.items ≡ map (due_from limit) (due_of now writer.old.cache.entries)) }
+    ensures same { writer.new ≡ writer.old }
 {
+    writer.learn();
     let mut all = Vec::new(alloc);
     let mut key = Buf::new(alloc, KEY_LIMIT)?;
+    let mut reply = Buf::new(alloc, KEPT_LIMIT)?;
     let mut from = 0;
-    'entries: while let Some(entry) = shelf.next(from) {
+    'entries: while let Some(entry) = writer.next(from) {
         if entry.timeout < now {
-            all.push(due_at(alloc, shelf, entry, limit, &mut key)?)?;
+            all.push(due_at(writer, alloc, entry, limit, &mut key, &mut reply)?)?;
         }
-        from = entry.number + 1;
+        from = entry.next;
     }
     Ok(all)
 }
 
-// What is known of an entry whose time is over. Its key goes through a buffer.
+// What is known of an entry whose time is over. Its key and its reply go through buffers.
 fn due_at(
+    writer: &mut Writer,
     alloc: Global,
-    shelf: &mut Shelf,
     entry: EntryAt,
     limit: Option<u32>,
     key: &mut Buf,
+    reply: &mut Buf,
 ) -> Result<Due, NoMemory>
-    requires limit { key.old.limit ≡ key_limit }
-    requires still { shelf.old.slide ≡ None }
-    ensures due { IfOk result (λ due. (k : Kept) → entry_from entry.number shelf.old.entries ≡ Some k → IsTold (Some k) (Some entry) → due ≡ due_from limit k) }
-    ensures same { shelf.new ≡ shelf.old }
-    ensures limit { key.new.limit ≡ key_limit }
+    requires key { key.old.limit ≡ key_limit }
+    requires reply { reply.old.limit ≡ kept_limit }
+    requires still { writer.old.slide ≡ None }
+    ensures due { IfOk result (λ due. (k : Kept) → entry_from entry.number writer.old.cache.entries ≡ Some k → IsTold (Some k) (Some entry) → due ≡ due_from limit k) }
+    ensures same { writer.new ≡ writer.old }
+    ensures key { key.new.limit ≡ key_limit }
+    ensures reply { reply.new.limit ≡ kept_limit }
 {
-    shelf.key(entry.number, key);
+    let _ = writer.entry(entry.number as usize, key, reply);
     due_from(alloc, entry, key.bytes(), limit)
 }
 
@@ -213,4 +159,44 @@ fn due_from(alloc: Global, entry: EntryAt, key: &[u8], limit: Option<u32>) -> Re
         dropped: entry.not_found || has_reached(limit, entry.reloads),
         ended: false,
     })
+}
+
+/// Ends those of the entries that are live still, one after the other: the dropped ones as expired at this moment, and the others
+/// to be loaded again. Marks which ones it ended, and gives their count.
+pub fn prune_ends(writer: &mut Writer, due: &mut [Due], now: u64) -> u64
+    requires over { All (IsOver writer.old.seen now) due.old }
+    requires still { writer.old.slide ≡ None }
+    ensures pruned { writer.new ≡ pruned_by now due.old writer.old }
+    ensures marked { due.new ≡ marked_by now due.old writer.old }
+    ensures count { result ≡ length (filter (λ d. d.ended) due.new) }
+{
+    end_each(writer, due, now);
+    ended_count(due)
+}
+
+// The same without the count.
+fn end_each(writer: &mut Writer, due: &mut [Due], now: u64)
+    requires over { All (IsOver writer.old.seen now) due.old }
+    requires still { writer.old.slide ≡ None }
+    ensures pruned { writer.new ≡ pruned_by now due.old writer.old }
+    ensures marked { due.new ≡ marked_by now due.old writer.old }
+{
+    for one in due.iter_mut() {
+        writer.learn();
+        let ended = writer.end(one.number, one.cause(now));
+        one.mark(ended);
+    }
+}
+
+// How many of them were ended.
+fn ended_count(due: &[Due]) -> u64
+    ensures { result ≡ length (filter (λ d. d.ended) due.now) }
+{
+    let mut count = 0;
+    for one in due {
+        if one.ended {
+            count += 1;
+        }
+    }
+    count
 }

@@ -1,8 +1,8 @@
 use Rattle.std.proofs.Common.{length-take, take, arith, refl}
 use Rattle.std.proofs.lemmas.List.Filters.{length-filter_both}
 use Rattle.std.specs.Prelude.{not}
-use Rattle.nsc_writer.specs.Due.{Due}
-use Rattle.nsc_writer.proofs.due.ended_count.Goals as goal
+use Rattle.nsc_pruner.specs.Due.{Due}
+use Rattle.nsc_pruner.proofs.due.ended_count.Goals as goal
 
 pub overflow_add-count : goal.overflow_add-count
 overflow_add-count c =

@@ -7,7 +7,7 @@ use Rattle.nsc_model.specs.Entry.{Entry}
 use Rattle.nsc_model.specs.History.{Allows, HasLoad, IsLive, Legal}
 use Rattle.std.specs.Bool.{OnTrue, OnFalse}
 use Rattle.nsc_laws.proofs.MachineLawLists.{same_load}
-use Rattle.nsc_writer.specs.Due.{Due, IsOver, due_cause_of, marked_by, pruned_by, pruned_one}
+use Rattle.nsc_pruner.specs.Due.{Due, IsOver, due_cause_of, marked_by, pruned_by, pruned_one}
 use Rattle.nsc_writer.specs.declared.writer.Cause.{Cause}
 use Rattle.nsc_shelf.specs.Shelf.{has_number}
 use Rattle.nsc_writer.specs.Writer.{Writer, ending_of, without_entry}
