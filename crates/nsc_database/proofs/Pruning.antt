@@ -19,7 +19,8 @@ use Rattle.nsc_writer.proofs.Later.{end_on, load_on, prefix_through}
 use Rattle.nsc_pruner.proofs.Pruned.{head_of, over_allows, tail_of}
 use Rattle.nsc_writer.proofs.Told.{ended_tells}
 use Rattle.nsc_database.specs.Rests.{Keeps}
-use Rattle.nsc_database.specs.Ticks.{AreAnew, HasNumber, IsDue, IsRenewed, ended_of}
+use Rattle.nsc_turns.specs.Ticks.{ended_of}
+use Rattle.nsc_database.specs.Ticks.{AreAnew, HasNumber, IsDue, IsRenewed}
 use Rattle.nsc_database.proofs.Again.{load_of_is}
 use Rattle.nsc_database.proofs.Ended.{IsRight, gone_ended, keeps_ended, replaced_on}
 
