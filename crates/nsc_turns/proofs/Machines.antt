@@ -1,16 +1,21 @@
 -- Turns of one caller, who has a writer to himself, are the machine's events.
-use Rattle.std.proofs.Common.{◌≡◌, ℕ, ◌+◌, Bool, true, false, cond, not, ltb, List, [], ◌∷◌, ◌++◌, append_assoc, map, Option, Some, None, Result, Ok, Err, refl, sym, ap, subst, ◌∙◌}
+use Rattle.std.proofs.Common.{◌≡◌, ℕ, zero, suc, ◌+◌, All, inl, inr, arith, Bool, true, false, cond, not, ltb, List, [], ◌∷◌, ◌++◌, append_assoc, map, Option, Some, None, Result, Ok, Err, refl, sym, ap, subst, ◌∙◌}
 use Rattle.nsc_model.specs.declared.answer.Request.{Request}
 use Rattle.nsc_model.specs.declared.conf.DbConf.{DbConf}
 use Rattle.nsc_model.specs.declared.record.Record.{Record}
 use Rattle.nsc_model.specs.Answers.{answer_of}
 use Rattle.nsc_model.specs.Content.{Content}
-use Rattle.nsc_model.specs.Machine.{◌>>=◌, Cache, Candidate, Kept, Passed, Refusal, Stopped, candidate_again, checked, compacted_after, due_ended, due_of, candidates_of, invalidated, is_dropped, kept_answer, polled, is_outdated, all_words, last_count, stopped, tick, life_of, new_entry, pruned, refusal, reloaded, reloaded_of, room_of, tried, tried_all, tried_by, unchanged}
-use Rattle.nsc_laws.specs.Calls.{Tells}
-use Rattle.nsc_pruner.specs.Due.{Due, due_from, marked_by, pruned_by}
+use Rattle.nsc_model.specs.Machine.{◌>>=◌, Cache, Candidate, Kept, Passed, Refusal, Stopped, candidate_again, checked, compacted_after, due_ended, due_of, candidates_of, invalidated, is_dropped, kept_answer, polled, is_outdated, all_words, last_count, stopped, tick, life_of, new_entry, pruned, refusal, reloaded, reloaded_of, room_of, tried, tried_all, tried_by, unchanged, is_due, next_count}
+use Rattle.std.specs.Prelude.{IfSome}
+use Rattle.std.proofs.lemmas.Bool.{ltb-true}
+use Rattle.nsc_model.specs.Entry.{Entry}
+use Rattle.nsc_model.specs.History.{IsLive, PolledSince, version_in}
+use Rattle.nsc_model.specs.Live.{Among}
+use Rattle.nsc_laws.specs.Calls.{Tells, entries_of}
+use Rattle.nsc_pruner.specs.Due.{Due, IsOver, due_from, marked_by, pruned_by}
 use Rattle.nsc_writer.specs.declared.loaded.Inserted.{Inserted}
 use Rattle.nsc_writer.specs.Loaded.{Loaded, kept_of}
-use Rattle.nsc_writer.specs.Writer.{Inserts, Writer, passed_by, refusal_of}
+use Rattle.nsc_writer.specs.Writer.{Inserts, IsAnswered, Writer, passed_by, refusal_of}
 use Rattle.nsc_turns.specs.declared.answering.Answering.{Answering}
 use Rattle.nsc_turns.specs.Loads.{anew_of, loaded_of}
 use Rattle.nsc_turns.specs.Ticks.{Reloads, ReloadsOne, Renews, compacted_for, ended_of}
@@ -136,3 +141,23 @@ kept_by_insert a files request said l w w' on s is i =
     let alone : IsAlone a files w1 = record { room = s.room; version = s.version; epoch = s.epoch; sources = s.sources } in
     let tries : w' ≡ tried_on (loaded_of a files request 0) w1 = subst (λ (x : Loaded). w' ≡ tried_on x (missed x w)) is (inserts_tried said l (missed l w) w' i) in
     ap (λ (b : Bool). (cond b (tried_all a.settings a.moment (candidates_of request) w.cache) (unchanged w.cache)).cache) on ∙ sym (ap (λ (x : Writer). x.cache) (tries ∙ tried_is a files request 0 w1 alone))
+
+-- ---- what is due, and what is answered for it
+
+all_cons : {A : Type 0} (P : A → Type 0) (x : A) (xs : List A) → P x → All P xs → All P (x ∷ xs)
+all_cons P x xs first rest zero d low = first
+all_cons P x xs first rest (suc i) d low = rest i d (omega arith)
+
+pub all_over : (limit : Option ℕ) (now : ℕ) (h : List Record) (ks : List Kept) → ((e : Entry) → Among (entries_of ks) e → IsLive h e) → All (IsOver h now) (map (due_from limit) (due_of now ks))
+all_over limit now h [] live = λ i d low. absurd (omega arith)
+all_over limit now h (k ∷ ks) live = by_test (is_due now k) refl (all_over limit now h ks (λ e a. live e (inr a))) where
+  by_test : (b : Bool) → is_due now k ≡ b → All (IsOver h now) (map (due_from limit) (due_of now ks)) → All (IsOver h now) (map (due_from limit) (cond b (k ∷ due_of now ks) (due_of now ks)))
+  by_test true over rest = all_cons (IsOver h now) (due_from limit k) (map (due_from limit) (due_of now ks)) (k.entry, (live k.entry (inl refl)).inserted, refl, ltb-true k.entry.timeout now over) rest
+  by_test false later rest = rest
+
+pub all_answered : (a : Answering) (files : Content) (h : List Record) (due : List Due) → version_in h a.stamp.version ≡ Some files → PolledSince h a.stamp.version a.stamp.epoch → All (λ load. IfSome load (IsAnswered h)) (map (anew_of a files) due)
+all_answered a files h [] version since = λ i o low. absurd (omega arith)
+all_answered a files h (d ∷ due) version since = all_cons (λ load. IfSome load (IsAnswered h)) (anew_of a files d) (map (anew_of a files) due) (by_drop d.dropped) (all_answered a files h due version since) where
+  by_drop : (b : Bool) → IfSome (cond b None (Some (loaded_of a files d.request (next_count d.reloads)))) (IsAnswered h)
+  by_drop true = tt
+  by_drop false = record { files = files; version = version; answer = refl; polled = since }

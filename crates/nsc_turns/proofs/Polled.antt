@@ -29,6 +29,10 @@ polls_stop files epoch w w' spent p = by_same (same_files files w.cache.sources)
   by_same false true q = q
   by_same false false q = absurd q
 
+pub polls_same : (r : Result Passed Stopped) (epoch : ℕ) (w w' : Writer) (spent : SpentCount) → Polls r epoch w w' (Err spent) → w' ≡ w
+polls_same (Ok passed) epoch w w' spent p = absurd p
+polls_same (Err stop) epoch w w' spent p = p.1
+
 -- it leaves the count of invalidations
 pub epoch_polled : (files : Content) (w w' : Writer) → Passes (polled files w.cache) w w' → w'.cache.epoch ≡ w.cache.epoch
 epoch_polled files w w' p = by_same (same_files files w.cache.sources) (eqb w.cache.newest_version last_count) p where
