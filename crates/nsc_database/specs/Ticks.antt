@@ -15,11 +15,12 @@ use Rattle.nsc_model.specs.Machine.{all_words, life_of, next_count}
 use Rattle.nsc_model.specs.Reloads.{replaced}
 use Rattle.nsc_model.specs.Stores.{IsLoadedAgain, IsUnmoved, MayBeUnmoved}
 use Rattle.nsc_sourcebook.specs.Book.{Polled}
-use Rattle.nsc_writer.specs.Due.{Due, marked_by, pruned_by}
+use Rattle.nsc_pruner.specs.Due.{Due, marked_by, pruned_by}
+use Rattle.nsc_turns.specs.Ticks.{ended_of}
 use Rattle.nsc_writer.specs.Loaded.{Loaded}
 use Rattle.nsc_writer.specs.Writer.{IsAnswered, Writer}
-use Rattle.nsc_database.specs.declared.renewal.Checked.{Checked}
-use Rattle.nsc_database.specs.declared.renewal.Checked.TheVariants as checked
+use Rattle.nsc_turns.specs.declared.ticks.Checked.{Checked}
+use Rattle.nsc_turns.specs.declared.ticks.Checked.TheVariants as checked
 use Rattle.nsc_database.specs.Rests.{IsCurrent, IsPacked}
 
 -- an entry of this number and request was inserted, its time is over, and entries of the request ended so often to be reloaded; it is
@@ -99,32 +100,9 @@ LoadsBut arena those history = AreLoadedBut arena those history ⊎ MayBeUnmoved
 abbrev pub IsRenewed : List Record → Due → Type 0
 IsRenewed history d = d.ended ≡ true → d.dropped ≡ false → d.reloads + 1 ≤ replaced history d.request
 
--- entries were ended that are to be loaded again, and this is to be loaded for them
-pub record AwaitsLoads (marked : List Due) (anew : List (Option Loaded)) (w : Writer) : Type 0 where
-  pub legal : Legal w.seen
-  pub due : All (IsRenewed w.seen) marked
-  pub loads : AreAnew w.seen marked anew
-  pub stamps : HaveStamp w.cache.epoch anew
-  pub packed : IsPacked w
-  pub slide : w.slide ≡ None
-  pub waits : LoadsBut w.layout.arena (IsPending marked) w.seen
-
--- what is to be loaded again over what was polled: nothing for an entry that is dropped
-abbrev pub anew_of : DbConf → Polled → ℕ → Due → Option Loaded
-anew_of settings polled now d =
-    if d.dropped then None else Some (record { request = d.request; answer = answer_of polled.content d.request; stamp = polled.stamp; timeout = now + life_of settings (answer_of polled.content d.request); reloads = next_count d.reloads })
-
--- those of them that were ended
-abbrev pub ended_of : List Due → List Due
-ended_of due = filter (λ d. d.ended) due
-
 -- the writer once it was compacted
 abbrev pub compacted_by : Writer → Writer
 compacted_by w = record w { cache = record w.cache { cycle = w.cache.cycle + 2; used = all_words w.cache.entries } }
-
--- the ends of a tick, and a compaction where any entry was ended
-pub record IsSwept (now : ℕ) (due : List Due) (w w' : Writer) : Type 0 where
-  pub swept : ((ended_of (marked_by now due w) ≡ []) × (w' ≡ pruned_by now due w)) ⊎ ((1 ≤ length (ended_of (marked_by now due w))) × (w' ≡ compacted_by (pruned_by now due w)))
 
 -- the due entries are ended, or the database was invalidated after so many invalidations
 abbrev pub AreOver : ℕ → List Record → List Due → Type 0

@@ -1,5 +1,4 @@
 pub mod Told
-pub mod Pruned
 pub mod Later
 pub mod Crossing
 pub mod Rest

@@ -1,5 +1,4 @@
 pub mod Loaded
 pub mod Uses
 pub mod Writer
-pub mod Due
 pub mod Slide

@@ -2,11 +2,9 @@
 #![tactic(auto)]
 
 mod changes;
-mod due;
 mod loaded;
 mod sliding;
 mod writer;
 
-pub use due::Due;
 pub use loaded::{Inserted, Loaded, Stamp};
 pub use writer::{Cause, Writer};

@@ -7,7 +7,7 @@ ghost use Rattle.nsc_model.specs.Machine.{last_count, live_entry, new_cache, use
 ghost use Rattle.nsc_laws.specs.Calls.{Tells};
 ghost use Rattle.nsc_writer.specs.Uses.{counted};
 ghost use Rattle.nsc_words.specs.Layout.{IsLayout};
-ghost use Rattle.nsc_shelf.specs.Shelf.{GivesHit, entry_from};
+ghost use Rattle.nsc_shelf.specs.Shelf.{GivesHit, IsTold, entry_from};
 ghost use Rattle.nsc_writer.specs.Writer.{IsListed, most_words};
 
 use nsc_base::{Buf, NoMemory};
@@ -162,6 +162,15 @@ impl Writer {
     {
         self.shelf.key(at as u64, key);
         self.shelf.reply(at as u64, reply);
+        self.shelf.next(at as u64)
+    }
+
+    /// The same without its key and its reply.
+    pub fn next(&mut self, at: usize) -> Option<EntryAt>
+        requires { self.old.slide ≡ None }
+        ensures told { IsTold (entry_from at self.old.cache.entries) result }
+        ensures same { self.new ≡ self.old }
+    {
         self.shelf.next(at as u64)
     }
 
