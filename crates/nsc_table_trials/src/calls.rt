@@ -26,6 +26,8 @@ pub struct Calls {
     settings: DbConf,
     files: Arc<Content>,
     version: u32,
+    // The number of the newest entry.
+    latest: u64,
     reply: Buf,
     dice: Dice,
 }
@@ -51,6 +53,7 @@ impl Calls {
             settings: Conf::defaults().passwd,
             files,
             version: 0,
+            latest: 0,
             reply: Buf::new(alloc, KEPT_LIMIT)?,
             dice: Dice::new(u64::from(seed)),
         })
@@ -66,12 +69,12 @@ impl Calls {
     /// Makes a call at this moment, in seconds, and tells what came of it. Fails only for want of memory.
     pub fn make(&mut self, alloc: Global, now: u32) -> Result<String, NoMemory> {
         let user = self.dice.below(USERS);
-        match self.dice.below(20) {
-            0..=8 => self.insert(alloc, user, now),
-            9..=13 => self.search(alloc, user),
-            14..=16 => self.end(alloc, now),
-            17 => self.change(alloc),
-            18 => self.compact(alloc),
+        match self.dice.below(200) {
+            0..=79 => self.insert(alloc, user, now),
+            80..=149 => self.search(alloc, user),
+            150..=189 => self.end(alloc),
+            190..=193 => self.change(alloc),
+            194..=198 => self.compact(alloc),
             _ => self.invalidate(alloc),
         }
     }
@@ -81,7 +84,10 @@ impl Calls {
         let reloads = u64::from(self.dice.below(4));
         let said = match self.load(alloc, user, now, reloads)? {
             None => format!(in alloc; "spent")?,
-            Some(Inserted::Done { number }) => format!(in alloc; "done {number}")?,
+            Some(Inserted::Done { number }) => {
+                self.latest = number;
+                format!(in alloc; "done {number}")?
+            }
             Some(Inserted::Present { number }) => format!(in alloc; "present {number}")?,
             Some(Inserted::Full { need, free }) => format!(in alloc; "full {need} {free}")?,
             Some(_) => format!(in alloc; "other")?,
@@ -135,10 +141,10 @@ impl Calls {
         }
     }
 
-    // Ends an entry, if it is live.
-    fn end(&mut self, alloc: Global, now: u32) -> Result<String, NoMemory> {
-        let number = self.dice.below(now / 3 + 1);
-        let is_ended = self.writer.end(u64::from(number), Cause::Replaced);
+    // Ends one of the newest entries, if it is live.
+    fn end(&mut self, alloc: Global) -> Result<String, NoMemory> {
+        let number = self.latest.saturating_sub(u64::from(self.dice.below(30)));
+        let is_ended = self.writer.end(number, Cause::Replaced);
         Ok(format!(in alloc; "end {number} {is_ended}")?)
     }
 
