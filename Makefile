@@ -2,6 +2,7 @@
 
 PROGRAM = crates/nscd/out/nscd
 TRIALS = crates/nsc_trials/out/nsc_trials
+TABLE_TRIALS = crates/nsc_table_trials/out/nsc_table_trials
 EXAMPLE = crates/nscd/stdin
 WORDS = $(shell cat crates/nscd/args)
 
@@ -42,7 +43,7 @@ build/frames: tools/make-frames examples/machine.txt $(wildcard examples/machine
 test:
 	@.ci/run
 
-build: build/nscd build/nscd-trials
+build: build/nscd build/nscd-trials build/nscd-table-trials
 
 # A copy under another name first: a run that is cut off leaves no half of a program behind.
 build/nscd: $(PROGRAM)
@@ -55,6 +56,11 @@ build/nscd-trials: $(TRIALS)
 	cp $(TRIALS) build/nscd-trials.new
 	mv build/nscd-trials.new build/nscd-trials
 
+build/nscd-table-trials: $(TABLE_TRIALS)
+	@mkdir -p build
+	cp $(TABLE_TRIALS) build/nscd-table-trials.new
+	mv build/nscd-table-trials.new build/nscd-table-trials
+
 # rt links the program once all is proved. The touch comes since rt leaves a program alone that a change of the sources
 # did not alter, as one in a comment, and make would then prove again each time.
 $(PROGRAM): $(SOURCES)
@@ -65,6 +71,11 @@ $(PROGRAM): $(SOURCES)
 $(TRIALS): $(SOURCES)
 	cd crates/nsc_trials && rt run < stdin > /dev/null
 	@touch $(TRIALS)
+
+# Calls of a writer by chance, with the words of its table.
+$(TABLE_TRIALS): $(SOURCES)
+	cd crates/nsc_table_trials && rt run < /dev/null > /dev/null
+	@touch $(TABLE_TRIALS)
 
 # The proved program and all that belongs to it, as docs/INSTALL.md says. Nothing is built or proved here.
 install:
