@@ -1,6 +1,6 @@
 pub mod Entries
 pub mod States
-pub mod Found
+pub mod Numbers
 pub mod Still
 pub mod Slide
 pub mod HeadWords

@@ -1,5 +1,5 @@
 -- The slide of a shelf: its begin, its words, and its end.
-use Rattle.std.proofs.Common.{◌≡◌, ◌≢◌, ℕ, ◌+◌, ◌-◌, ◌%◌, ◌<◌, ◌≤◌, ◌⊎◌, inl, inr, ⊎_elim, Bool, true, false, cond, List, [], ◌∷◌, ◌++◌, length, set, slice_index, Option, Some, None, refl, sym, ap, subst, ◌∙◌, arith, length-set, get_or-set_same, get_or-set_other}
+use Rattle.std.proofs.Common.{◌≡◌, ◌≢◌, ℕ, ◌+◌, ◌-◌, ◌<◌, ◌≤◌, ◌⊎◌, inl, inr, ⊎_elim, Bool, true, false, cond, List, [], ◌∷◌, ◌++◌, length, set, slice_index, Option, Some, None, refl, sym, ap, subst, ◌∙◌, arith, length-set, get_or-set_same, get_or-set_other}
 use Rattle.std.proofs.lemmas.List.Sums.{sum_by_push}
 use Rattle.std.specs.declared.snapshot.Snapshot.{Snapshot}
 use Rattle.nsc_words.specs.declared.layout.Layout.{Layout}
@@ -15,9 +15,9 @@ use Rattle.nsc_model.specs.Machine.{Kept, all_words, entry_words, last_count}
 use Rattle.nsc_shelf.specs.declared.finding.Mark.{Mark}
 use Rattle.nsc_shelf.specs.Hints.{AreHints}
 use Rattle.nsc_rule.specs.Entries.{entries_in, kept_in, kind_of, request_in}
-use Rattle.nsc_shelf.specs.Shelf.{AreEntries, HoldEntries, IsBegun, IsHeld, IsShelf, IsSlid, head_in, shelf_in, shelf_of, slide_words, under_way}
+use Rattle.nsc_shelf.specs.Shelf.{AreEntries, HoldEntries, IsHeld, IsShelf, IsSlide, shelf_in, shelf_of, slide_words, under_way}
 use Rattle.nsc_shelf.proofs.Entries.{one_more}
-use Rattle.nsc_shelf.proofs.States.{head_same, shelf_by, view_by}
+use Rattle.nsc_shelf.proofs.States.{shelf_by, view_by}
 
 -- ---- one word
 
@@ -43,30 +43,41 @@ word_held (Some before) words map count mark hints at value held low at_word = r
 
 -- ---- the begin
 
-pub begun_view : (old new : List ℕ) (map : Layout) (count : ℕ) (mark : Mark) (before : Snapshot (List ℕ)) → before.value ≡ old → IsShelf old map count mark → new ≡ set old 0 (slice_index old 0 + 1) → slice_index old 0 % 2 ≡ 0 → slice_index old 0 < last_count → IsBegun (shelf_of old map) (shelf_in (Some before) new map)
-begun_view old new map count mark before snapped is set_is even less =
+-- what the words of a slide that begins are
+pub record Begun (old new : List ℕ) (map : Layout) (before : Snapshot (List ℕ)) : Type 0 where
+  pub view : shelf_in (Some before) new map ≡ record (shelf_of old map) { cycle = slice_index old 0 + 1 }
+  pub hold : HoldEntries new map (entries_in (nodes_in old map)) (nodes_in old map)
+  pub used : slice_index new 3 ≡ arena_start map + (slice_index old 3 - arena_start map)
+  pub slide : IsSlide before.value new
+
+pub begun : (old new : List ℕ) (map : Layout) (count : ℕ) (mark : Mark) (before : Snapshot (List ℕ)) → before.value ≡ old → IsShelf old map count mark → new ≡ set old 0 (slice_index old 0 + 1) → slice_index old 0 < last_count → Begun old new map before
+begun old new map count mark before snapped is set_is less =
     let table = is.laid.table in
     let other : (i : ℕ) → i ≢ 0 → slice_index new i ≡ slice_index old i = λ i n. ap (λ (ws : List ℕ). slice_index ws i) set_is ∙ get_or-set_other old 0 i (slice_index old 0 + 1) 0 n in
-    let e4 = other 4 (omega arith) in
-    let e9 = other 9 (omega arith) in
     let e0 : slice_index new 0 ≡ slice_index old 0 + 1 = ap (λ (ws : List ℕ). slice_index ws 0) set_is ∙ get_or-set_same old 0 (slice_index old 0 + 1) 0 (omega arith) in
-    let eh = head_same new old (λ i low z a b. other i z) in
     let first = is.laid.first_free in
     let low = end_after (arena_start map) (nodes_in old map) is.laid.row in
     let three = other 3 (omega arith) in
+    let e4 = other 4 (omega arith) in
+    let e5 = other 5 (omega arith) in
+    let e6 = other 6 (omega arith) in
+    let e7 = other 7 (omega arith) in
+    let e8 = other 8 (omega arith) in
+    let e9 = other 9 (omega arith) in
     record {
-      even = even;
-      counted = less;
-      sizes = is.sizes;
-      words = new;
-      is = λ i. record { entries = entries_in (nodes_in (snapped i) map); used = slice_index (snapped i) 3 - arena_start map; inserted = e4 i; cycle = e0 i; add_failed = e9 i; head = eh i; layout = map; slide = Some new };
-      nodes = nodes_in old map;
+      view = λ i. record { entries = entries_in (nodes_in (snapped i) map); used = slice_index (snapped i) 3 - arena_start map; inserted = e4 i; cycle = e0 i; add_failed = e9 i; hits = record { found = e5 i; not_found = e6 i }; misses = record { found = e7 i; not_found = e8 i } };
       hold = record {
         laid = set_head old new map (nodes_in old map) 0 (slice_index old 0 + 1) (omega arith) (omega arith) set_is is.laid;
         kinds = is.entries.kinds;
         live = refl;
       };
       used = omega arith;
+      slide = record {
+        size = ap length set_is ∙ length-set old 0 (slice_index old 0 + 1) ∙ ap length (sym snapped);
+        head = λ i small zero three. other i zero ∙ ap (λ (ws : List ℕ). slice_index ws i) (sym snapped);
+        cycle = e0 ∙ ap (λ (ws : List ℕ). slice_index ws 0 + 1) (sym snapped);
+        counted = subst (λ (ws : List ℕ). slice_index ws 0 < last_count) (sym snapped) less;
+      };
     }
 
 -- ---- the entries of other nodes
@@ -147,34 +158,33 @@ alone_fit words map entries nodes hold alone =
 some_same : {A : Type 0} (x y : A) → Some x ≡ Some y → x ≡ y
 some_same x y e = cc
 
--- the words of a slide that ends
-pub record Ends (slide : Option (Snapshot (List ℕ))) (words new : List ℕ) (map : Layout) (count : ℕ) : Type 0 where
-  pub view : shelf_of new map ≡ record (shelf_in slide words map) { used = all_words (shelf_in slide words map).entries; cycle = slice_index words 0 + 1; slide = None }
+-- what the words of a slide that ends are
+pub record Ended (slide : Option (Snapshot (List ℕ))) (words new : List ℕ) (map : Layout) (count : ℕ) : Type 0 where
+  pub view : shelf_of new map ≡ record (shelf_in slide words map) { used = all_words (shelf_in slide words map).entries; cycle = slice_index words 0 + 1 }
   pub held : (mark : Mark) (hints : List ℕ) → mark.place ≡ arena_start map → AreHints hints map (nodes_in new map) → IsHeld None new map count mark hints
 
-pub ends : (slide : Option (Snapshot (List ℕ))) (words new : List ℕ) (map : Layout) (count : ℕ) (mark : Mark) (hints : List ℕ) → IsHeld slide words map count mark hints → IsSlid (shelf_in slide words map) → new ≡ set words 0 (slice_index words 0 + 1) → Ends slide words new map count
-ends None words new map count mark hints held slid set_is = absurd (let e = slid.under_way in cc)
-ends (Some before) words new map count mark hints held slid set_is =
+pub ended : (slide : Option (Snapshot (List ℕ))) (words held_words new : List ℕ) (map : Layout) (count : ℕ) (mark : Mark) (hints : List ℕ) (nodes : List Placed) → IsHeld slide words map count mark hints → under_way slide words ≡ Some held_words → HoldEntries held_words map (shelf_in slide words map).entries nodes → ((p : Placed) → Among p nodes → p.usable ≡ true) → new ≡ set words 0 (slice_index words 0 + 1) → Ended slide words new map count
+ended None words held_words new map count mark hints nodes held going hold alone set_is = absurd cc
+ended (Some before) words held_words new map count mark hints nodes held going hold alone set_is =
     let start : ℕ = arena_start map in
-    let nodes : List Placed = slid.nodes in
-    let same : words ≡ slid.words = some_same words slid.words slid.under_way in
-    let laid_old : Laid words map nodes = subst (λ (ws : List ℕ). Laid ws map nodes) (sym same) slid.hold.laid in
+    let same : words ≡ held_words = some_same words held_words going in
+    let laid_old : Laid words map nodes = subst (λ (ws : List ℕ). Laid ws map nodes) (sym same) hold.laid in
     let table = laid_old.table in
     let laid : Laid new map nodes = set_head words new map nodes 0 (slice_index words 0 + 1) (omega arith) (omega arith) set_is laid_old in
     let other : (i : ℕ) → i ≢ 0 → slice_index new i ≡ slice_index words i = λ i n. ap (λ (ws : List ℕ). slice_index ws i) set_is ∙ get_or-set_other words 0 i (slice_index words 0 + 1) 0 n in
     let e0 : slice_index new 0 ≡ slice_index words 0 + 1 = ap (λ (ws : List ℕ). slice_index ws 0) set_is ∙ get_or-set_same words 0 (slice_index words 0 + 1) 0 (omega arith) in
-    let entries : entries_in nodes ≡ entries_in (nodes_in before.value map) = slid.hold.live in
+    let entries : entries_in nodes ≡ entries_in (nodes_in before.value map) = hold.live in
     let e4 : slice_index new 4 ≡ slice_index before.value 4 = other 4 (omega arith) ∙ held.head.head 4 (omega arith) (omega arith) (omega arith) in
-    let all = words_alone start nodes laid.row slid.alone in
+    let all = words_alone start nodes laid.row alone in
     let words_same : all_words (entries_in nodes) ≡ all_words (entries_in (nodes_in before.value map)) = ap all_words entries in
     let used : end_of start nodes - start ≡ all_words (entries_in (nodes_in before.value map)) = omega arith in
-    let are = other_entries (nodes_in before.value map) nodes (slice_index before.value 4) held.shelf.entries slid.hold.kinds slid.alone entries in
-    let seen = view_by new map nodes (slice_index words 4) (slice_index words 0 + 1) (slice_index words 9) (head_in words) laid (other 4 (omega arith)) e0 (other 9 (omega arith)) (head_same new words (λ i low z a b. other i z)) in
+    let are = other_entries (nodes_in before.value map) nodes (slice_index before.value 4) held.shelf.entries hold.kinds alone entries in
+    let seen = view_by new map nodes (slice_index words 4) (slice_index words 0 + 1) words laid (other 4 (omega arith)) e0 (λ i low high. other i (omega arith)) in
     let odd = held.head.cycle in
     let even = held.even in
     let less = held.head.counted in
     record {
-      view = seen ∙ (λ i. record { entries = entries i; used = used i; inserted = slice_index words 4; cycle = slice_index words 0 + 1; add_failed = slice_index words 9; head = head_in words; layout = map; slide = None });
+      view = seen ∙ (λ i. record (shelf_in (Some before) words map) { entries = entries i; used = used i; cycle = slice_index words 0 + 1 });
       held = λ mark' hints' place hinted. record {
         shelf = shelf_by new map nodes (slice_index before.value 4) count mark' held.shelf.sizes laid are e4 held.shelf.counted (held.shelf.live ∙ ap length (sym entries)) (mark_at_start map nodes mark'.place mark'.number place);
         even = omega arith;

@@ -1,3 +1,4 @@
+pub mod Uses
 pub mod Shelf
 pub mod Finding
 pub mod Hints

@@ -1,8 +1,10 @@
 // The words of a table, and the numbers at its head beside them.
-ghost use Rattle.std.specs.Prelude.{◌≡◌, ◌<◌, IfOk, replicate, slice_index};
+ghost use Rattle.std.specs.Prelude.{◌≡◌, ◌+◌, ◌<◌, ◌≤◌, IfOk, if◌then◌else◌, length, replicate, slice_index, slice_set};
+ghost use Rattle.nsc_model.specs.Machine.{next_count};
 
 use nsc_arena::{VecWords, Words};
 use nsc_base::NoMemory;
+use nsc_model::next_count;
 use nsc_words::HEAD_WORDS;
 use std::alloc::Global;
 use std::marker::Model;
@@ -43,6 +45,29 @@ impl Table {
         ensures { result ≡ slice_index self.now at }
     {
         self.heads[at]
+    }
+
+    /// Counts one more of what the word at a place in the head counts. A count stays at its end.
+    pub fn count(&mut self, at: usize)
+        requires head { at < 16 }
+        requires size { 16 ≤ length self.old }
+        ensures { self.new ≡ slice_set self.old at (next_count (slice_index self.old at)) }
+    {
+        let count = self.heads[at];
+        self.set(at, next_count(count));
+    }
+
+    /// Counts a lookup by the word at a place in the head, or by the one behind it where its reply is a not-found one.
+    pub fn count_use(&mut self, at: usize, not_found: bool)
+        requires head { at < 15 }
+        requires size { 16 ≤ length self.old }
+        ensures { let place = (if not_found then at + 1 else at) in self.new ≡ slice_set self.old place (next_count (slice_index self.old place)) }
+    {
+        if not_found {
+            self.count(at + 1);
+        } else {
+            self.count(at);
+        }
     }
 }
 
