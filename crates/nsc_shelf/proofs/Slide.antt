@@ -15,7 +15,7 @@ use Rattle.nsc_model.specs.Machine.{Kept, all_words, entry_words, last_count}
 use Rattle.nsc_shelf.specs.declared.finding.Mark.{Mark}
 use Rattle.nsc_shelf.specs.Hints.{AreHints}
 use Rattle.nsc_rule.specs.Entries.{entries_in, kept_in, kind_of, request_in}
-use Rattle.nsc_shelf.specs.Shelf.{AreEntries, HoldEntries, IsHeld, IsShelf, IsSlide, shelf_in, shelf_of, slide_words, under_way}
+use Rattle.nsc_shelf.specs.Shelf.{AreEntries, HoldEntries, IsHeld, IsShelf, shelf_in, shelf_of, slide_words, under_way}
 use Rattle.nsc_shelf.proofs.Entries.{one_more}
 use Rattle.nsc_shelf.proofs.States.{shelf_by, view_by}
 
@@ -48,7 +48,6 @@ pub record Begun (old new : List ℕ) (map : Layout) (before : Snapshot (List �
   pub view : shelf_in (Some before) new map ≡ record (shelf_of old map) { cycle = slice_index old 0 + 1 }
   pub hold : HoldEntries new map (entries_in (nodes_in old map)) (nodes_in old map)
   pub used : slice_index new 3 ≡ arena_start map + (slice_index old 3 - arena_start map)
-  pub slide : IsSlide before.value new
 
 pub begun : (old new : List ℕ) (map : Layout) (count : ℕ) (mark : Mark) (before : Snapshot (List ℕ)) → before.value ≡ old → IsShelf old map count mark → new ≡ set old 0 (slice_index old 0 + 1) → slice_index old 0 < last_count → Begun old new map before
 begun old new map count mark before snapped is set_is less =
@@ -72,12 +71,6 @@ begun old new map count mark before snapped is set_is less =
         live = refl;
       };
       used = omega arith;
-      slide = record {
-        size = ap length set_is ∙ length-set old 0 (slice_index old 0 + 1) ∙ ap length (sym snapped);
-        head = λ i small zero three. other i zero ∙ ap (λ (ws : List ℕ). slice_index ws i) (sym snapped);
-        cycle = e0 ∙ ap (λ (ws : List ℕ). slice_index ws 0 + 1) (sym snapped);
-        counted = subst (λ (ws : List ℕ). slice_index ws 0 < last_count) (sym snapped) less;
-      };
     }
 
 -- ---- the entries of other nodes

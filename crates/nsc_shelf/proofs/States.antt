@@ -93,6 +93,10 @@ pub record Altered (old new : List ℕ) (layout : Layout) (count : ℕ) (mark : 
   pub shelf : IsShelf new layout count mark
   pub view : shelf_of new layout ≡ after
 
+-- by two changes, one after the other
+pub altered_then : {a b c : List ℕ} {layout : Layout} {count count' : ℕ} {mark mark' : Mark} {mid after : Shelf} → Altered a b layout count mark mid → Altered b c layout count' mark' after → Altered a c layout count' mark' after
+altered_then first second = record { cycle = second.cycle ∙ first.cycle; shelf = second.shelf; view = second.view }
+
 -- once its nodes were changed so
 pub altered : (f : Placed → Placed) (old new : List ℕ) (layout : Layout) (count count' : ℕ) (mark : Mark) (entries : List Kept) → IsChange f → IsShelf old layout count mark → Laid new layout (map f (nodes_in old layout)) → IsSameHead old new → entries_in (map f (nodes_in old layout)) ≡ entries → count' ≡ length entries → Altered old new layout count' mark (record (shelf_of old layout) { entries = entries })
 altered f old new layout count count' mark entries leaves is laid head same live =

@@ -1,6 +1,6 @@
 pub mod Told
-pub mod Pruned
+pub mod Moved
+mod Ends
 pub mod Later
 pub mod Crossing
 pub mod Rest
-pub mod Slides

@@ -143,23 +143,3 @@ emptied_tells h cache t = subst (λ (l : List Record). Tells l (emptied cache).c
 -- the same of a pen and a shelf that are known by equations
 pub told_as : (files : Content) (p q : Pen) (s t : Shelf) → q ≡ p → t ≡ s → Tells p.seen (cache_of files p.version p.epoch s) → Tells q.seen (cache_of files q.version q.epoch t)
 told_as files p q s t same_pen same_shelf told = subst (λ (x : Pen × Shelf). Tells x.0.seen (cache_of files x.0.version x.0.epoch x.1)) (λ i. (sym same_pen i, sym same_shelf i)) told
-
--- the ends of these entries, one after the other, make this of the history
-pub record EndsTo (ks : List Kept) (h all : List Record) : Type 0 where
-  pub ends : ends_of by_invalidation ks h ≡ all
-  pub live : (e : Entry) → Among (entries_of ks) e → IsLive h e
-  pub rising : Rise (entries_of ks)
-
-pub begins_to_end : (ks : List Kept) (h : List Record) → AreLive h (entries_of ks) → EndsTo ks h (ends_of by_invalidation ks h)
-begins_to_end ks h are = record { ends = refl; live = are.live; rising = are.rising }
-
-pub ends_next : (k : Kept) (ks : List Kept) (h all : List Record) → EndsTo (k ∷ ks) h all → EndsTo ks (End k.entry.number Invalidated ∷ h) all
-ends_next k ks h all t = record {
-  ends = t.ends;
-  live = λ e a. lives_on h k.entry e Invalidated (first_least k.entry (entries_of ks) e t.rising a) (t.live e (inr a));
-  rising = rise_tail k.entry (entries_of ks) t.rising;
-}
-
-pub first_of : (ks : List Kept) (i : ℕ) (k : Kept) → i < length ks → k ≡ get_or ks i k → drop i ks ≡ k ∷ drop (i + 1) ks
-first_of ks i k low is = let next : drop (suc i) ks ≡ drop (i + 1) ks = ap (λ (n : ℕ). drop n ks) (sym (add-one i)) in
-    drop-cons ks i k low ∙ (λ j. sym is j ∷ next j)

@@ -1,6 +1,7 @@
 -- What a writer is: the words that it writes, the history, the cache that it has of it, how its lookups went, and the words of a
 -- slide of its entries while one is under way; and what its calls come to.
 use Rattle.std.specs.Prelude.{◌≡◌, ℕ, ◌+◌, ◌<◌, ◌≤◌, min, Bool, true, false, List, [], ◌∷◌, ◌++◌, length, Option, Some, None, Result, Ok, Err}
+use Rattle.std.specs.declared.snapshot.Snapshot.{Snapshot}
 use Rattle.atomic_table.specs.Seated.{TableId}
 use Rattle.nsc_words.specs.declared.layout.Layout.{Layout}
 use Rattle.nsc_model.specs.declared.record.Ending.{Ending}
@@ -14,11 +15,15 @@ use Rattle.nsc_model.specs.History.{version_in, PolledSince}
 use Rattle.nsc_model.specs.Machine.{Kept, Cache, Passed, Stopped, Refusal, TooLarge, Discarded, Present, Spent, Full, refusal, last_count, live_entry, entry_words, by_invalidation, emptied, ends_of}
 use Rattle.nsc_model.specs.Answers.{answer_of}
 use Rattle.nsc_shelf.specs.declared.entry.EntryAt.{EntryAt}
-use Rattle.nsc_shelf.specs.Shelf.{IsTold, Shelf, number_of, others_than}
+use Rattle.nsc_laws.specs.Calls.{Tells}
+use Rattle.nsc_rule.specs.Map.{Map}
+use Rattle.nsc_rule.specs.Pen.{Pen}
+use Rattle.nsc_shelf.specs.declared.finding.Mark.{Mark}
+use Rattle.nsc_shelf.specs.Shelf.{IsHeld, IsTold, Shelf, number_of, others_than, shelf_in}
 use Rattle.nsc_writer.specs.declared.loaded.Inserted.{Inserted}
 use Rattle.nsc_writer.specs.declared.loaded.Inserted.TheVariants as inserted
 use Rattle.nsc_writer.specs.declared.loaded.Stamp.{Stamp}
-use Rattle.nsc_writer.specs.Uses.{Uses}
+use Rattle.nsc_shelf.specs.Uses.{Uses}
 use Rattle.nsc_writer.specs.declared.writer.Cause.{Cause}
 use Rattle.nsc_writer.specs.declared.writer.Cause.TheVariants as cause
 use Rattle.nsc_writer.specs.Loaded.{Loaded, kept_of}
@@ -40,6 +45,19 @@ most_words = 8388608
 abbrev pub cache_of : Content → ℕ → ℕ → Shelf → Cache
 cache_of sources version epoch shelf =
     record { sources = sources; newest_version = version; entries = shelf.entries; used = shelf.used; epoch = epoch; inserted = shelf.inserted; cycle = shelf.cycle; add_failed = shelf.add_failed }
+
+-- the writer of this pen, this content and this shelf, with the words of a slide
+abbrev pub writer_of : TableId → Layout → Pen → Content → Shelf → Option (List ℕ) → Writer
+writer_of table layout pen content shelf slide =
+    record { table = table; layout = layout; seen = pen.seen; cache = cache_of content pen.version pen.epoch shelf; hits = shelf.hits; misses = shelf.misses; slide = slide }
+
+-- the words hold what the history tells
+pub record IsWriter (map : Map) (pen : Pen) (content : Content) (layout : Layout) (slide : Option (Snapshot (List ℕ))) (words : List ℕ) (live : ℕ) (mark : Mark) (hints : List ℕ) : Type 0 where
+  pub table : pen.table ≡ map.table
+  pub laid_out : layout ≡ map.layout
+  pub held : IsHeld slide words layout live mark hints
+  pub tells : Tells pen.seen (cache_of content pen.version pen.epoch (shelf_in slide words layout))
+  pub most : layout.arena ≤ most_words
 
 -- the writer once an event of the machine passed
 abbrev pub passed_by : Passed → Writer → Writer
@@ -138,7 +156,10 @@ ending_of cause.Replaced = ending.Replaced
 abbrev pub without_entry : ℕ → Ending → Writer → Writer
 without_entry number ending w = record w { cache = record w.cache { entries = others_than number w.cache.entries }; seen = End number ending ∷ w.seen }
 
--- the writer once every entry ended as invalidated
+-- the writer once every entry ended as invalidated, and once that was counted
+abbrev pub all_ended : Writer → Writer
+all_ended w = record w { cache = record w.cache { entries = [] }; seen = ends_of by_invalidation w.cache.entries w.seen }
+
 abbrev pub emptied_by : Writer → Writer
 emptied_by w = record w { cache = (emptied w.cache).cache; seen = Invalid (w.cache.epoch + 1) ∷ ends_of by_invalidation w.cache.entries w.seen }
 

@@ -5,19 +5,17 @@ ghost use Rattle.std.specs.Arc.{arc_value};
 ghost use Rattle.nsc_model.specs.declared.record.Record.TheVariants as record_of;
 ghost use Rattle.nsc_model.specs.Entry.{Entry};
 ghost use Rattle.nsc_model.specs.History.{Allows, IsLive, PolledSince};
-ghost use Rattle.nsc_model.specs.Machine.{by_invalidation, ends_of, last_count, polled};
-ghost use Rattle.nsc_model.specs.Live.{AreLive};
-ghost use Rattle.nsc_laws.specs.Calls.{entries_of};
+ghost use Rattle.nsc_model.specs.Machine.{last_count, polled};
 ghost use Rattle.nsc_shelf.specs.Shelf.{has_number};
 ghost use Rattle.nsc_writer.specs.Loaded.{kept_of};
-ghost use Rattle.nsc_writer.specs.Writer.{Inserts, IsAnswered, IsAdmitted, IsNewest, IsRefused, Polls, SaysRefused, ending_of, emptied_by, is_full, refusal_of, with_entry, without_entry};
+ghost use Rattle.nsc_writer.specs.Writer.{Inserts, IsAnswered, IsAdmitted, IsNewest, IsRefused, Polls, SaysRefused, all_ended, ending_of, emptied_by, is_full, refusal_of, with_entry, with_failed, without_entry};
 
 use crate::loaded::{Inserted, Loaded, Stamp};
 use crate::writer::{Cause, Writer};
+use nsc_arena::{Fixed, Words, chain, end_node, place_bytes};
 use nsc_model::{Content, Ending, KEPT_LIMIT, LAST_COUNT, Spent};
-use nsc_rule::{Map, Pen};
-use nsc_shelf::Shelf;
-use nsc_words::node_words;
+use nsc_shelf::{find_from, note};
+use nsc_words::{ADD_FAILED, LOADS, node_words};
 use std::sync::Arc;
 
 impl Writer {
@@ -39,7 +37,6 @@ impl Writer {
             return Err(Spent { count: LAST_COUNT });
         }
         self.pen.change(&self.map, &content);
-        self.shelf.set_source(before + 1);
         self.content = content;
         Ok(Stamp {
             version: before + 1,
@@ -81,14 +78,15 @@ impl Writer {
                 epoch,
             });
         }
-        if let Some(number) = self.shelf.number_of(loaded.kind(), loaded.key()) {
+        let inserted = self.inserted();
+        let free = self.map().layout().arena - self.used();
+        if let Some(number) = self.number_of(loaded.kind(), loaded.key()) {
             return Some(Inserted::Present { number });
         }
-        if self.shelf.inserted() == LAST_COUNT {
+        if inserted == LAST_COUNT {
             return Some(Inserted::Spent { count: LAST_COUNT });
         }
         let need = node_words(loaded.key().len(), length);
-        let free = self.map.layout().arena - self.shelf.used();
         if need > free {
             return Some(Inserted::Full {
                 need: need as u64,
@@ -121,13 +119,21 @@ impl Writer {
     {
         if let Some(refused) = self.refusal(loaded) {
             if is_full(refused) {
-                self.shelf.fail();
+                self.fail();
             }
             return refused;
         }
-        let number = self.shelf.inserted();
+        let number = self.inserted();
         self.put(loaded, number);
         Inserted::Done { number }
+    }
+
+    // Counts an insertion that found no room.
+    fn fail(&mut self)
+        requires { self.old.slide ≡ None }
+        ensures { self.new ≡ with_failed self.old }
+    {
+        self.words.count(ADD_FAILED);
     }
 
     // Inserts the entry of this number, which nothing refuses.
@@ -145,14 +151,21 @@ impl Writer {
         let timeout = loaded.timeout();
         self.pen
             .insert(&self.map, number, kind, key, answer, version, timeout);
-        self.shelf.put(
-            kind,
-            key.as_slice(),
-            answer,
+        let fixed = Fixed {
+            number,
+            kind: kind.number(),
             version,
             timeout,
-            loaded.reloads(),
-        );
+            reloads: loaded.reloads(),
+            not_found: answer.is_not_found(),
+        };
+        let key = key.as_slice();
+        if let Some(at) = place_bytes(&mut self.words, self.layout, fixed, key, answer.bytes()) {
+            let hash = chain(&mut self.words, self.layout, at);
+            self.words.set(LOADS, number + 1);
+            self.live += 1;
+            note(self.layout, &mut self.hints, hash, at);
+        }
     }
 
     /// Ends the entry of this number by this cause, which lets it end. It is false exactly where the entry is not live; then
@@ -164,11 +177,26 @@ impl Writer {
         ensures ended { OnTrue result (self.new ≡ without_entry number (ending_of cause) self.old) }
         ensures stays { OnFalse result (self.new ≡ self.old) }
     {
-        if !self.shelf.has(number) {
+        self.end_by(number, cause.ending())
+    }
+
+    // The same for any cause.
+    fn end_by(&mut self, number: u64, cause: Ending) -> bool
+        requires allowed { (e : Entry) → IsLive self.old.seen e → e.number ≡ number → Allows cause e }
+        requires still { self.old.slide ≡ None }
+        ensures live { result ≡ has_number number self.old.cache.entries }
+        ensures ended { OnTrue result (self.new ≡ without_entry number cause self.old) }
+        ensures stays { OnFalse result (self.new ≡ self.old) }
+    {
+        let Some(found) = find_from(&mut self.words, self.layout, &mut self.mark, number) else {
+            return false;
+        };
+        if found.head.number != number {
             return false;
         }
-        self.pen.end(&self.map, number, cause.ending());
-        self.shelf.take_out(number);
+        self.pen.end(&self.map, number, cause);
+        end_node(&mut self.words, self.layout, found.at);
+        self.live -= 1;
         true
     }
 
@@ -184,11 +212,22 @@ impl Writer {
         if before == LAST_COUNT {
             return Err(Spent { count: LAST_COUNT });
         }
-        end_all(&mut self.pen, &self.map, &mut self.shelf);
+        self.end_all();
         self.pen.invalidate(&self.map);
-        self.shelf.clear();
-        self.shelf.set_epoch(before + 1);
         Ok(before + 1)
+    }
+
+    // Ends the live entries, one after the other, as invalidated.
+    fn end_all(&mut self)
+        requires { self.old.slide ≡ None }
+        ensures { self.new ≡ all_ended self.old }
+    {
+        let mut from = 0;
+        'entries: while let Some(entry) = self.next(from) {
+            self.learn();
+            self.end_by(entry.number, Ending::Invalidated);
+            from = entry.next;
+        }
     }
 }
 
@@ -208,20 +247,5 @@ impl Cause {
             Cause::Expired(now) => Ending::Expired { now },
             Cause::Replaced => Ending::Replaced,
         }
-    }
-}
-
-// Ends the live entries, one after the other, as invalidated. They stay on their shelf.
-fn end_all(pen: &mut Pen, map: &Map, shelf: &mut Shelf)
-    requires map { map.now.table ≡ pen.old.table }
-    requires still { shelf.old.slide ≡ None }
-    requires live { AreLive pen.old.seen (entries_of shelf.old.entries) }
-    ensures pen { pen.new ≡ record pen.old { seen = ends_of by_invalidation shelf.old.entries pen.old.seen } }
-    ensures same { shelf.new ≡ shelf.old }
-{
-    let mut from = 0;
-    'entries: while let Some(entry) = shelf.next(from) {
-        pen.end(map, entry.number, Ending::Invalidated);
-        from = entry.number + 1;
     }
 }

@@ -2,11 +2,10 @@
 #![tactic(auto)]
 
 mod changes;
-mod due;
 mod loaded;
+mod lookups;
 mod sliding;
 mod writer;
 
-pub use due::Due;
 pub use loaded::{Inserted, Loaded, Stamp};
 pub use writer::{Cause, Writer};

@@ -6,6 +6,6 @@ use Rattle.nsc_writer.proofs.writer.Writer.confirm.Goals as goal
 
 pub returns-clause-polled : goal.returns-clause-polled
 returns-clause-polled c =
-    let epochs = c.self.invariant.1.epochs_are in
+    let epochs = c.self.invariant.tells.epochs_are in
     let low = subst (λ (w : Writer). c.args.epoch ≤ w.cache.epoch) (sym c.self.view_is) c.requires.epoch in
     polled_now c.self.inside.pen.seen c.poll.new.self.seen (Poll c.version-version.result) c.version-version.result c.args.epoch (search rules) refl (omega arith)

@@ -1,26 +1,41 @@
-use Rattle.std.proofs.Common.{◌≡◌, ◌+◌, None, refl, rules, ap, subst, sym, ◌∙◌, arith}
+use Rattle.std.proofs.Common.{◌≡◌, ℕ, ◌+◌, ◌≤◌, None, length, set, refl, sym, ap, subst, ◌∙◌, arith}
+use Rattle.std.proofs.lemmas.List.{with_items_is}
 use Rattle.std.specs.Arc.{arc_value}
-use Rattle.nsc_model.specs.Machine.{all_words}
+use Rattle.std.specs.Vec.{with_items}
 use Rattle.nsc_laws.proofs.MachineLawSteps.{retells}
-use Rattle.nsc_shelf.specs.Shelf.{Shelf}
-use Rattle.nsc_shelf.proofs.Slide.{alone_fit}
+use Rattle.nsc_model.specs.Machine.{all_words}
+use Rattle.nsc_shelf.specs.declared.finding.Mark.{Mark}
+use Rattle.nsc_shelf.specs.Shelf.{Shelf, shelf_in}
+use Rattle.nsc_shelf.proofs.Hinted.{no_hints_in}
+use Rattle.nsc_shelf.proofs.Slide.{Ended, ended}
 use Rattle.nsc_writer.specs.Slide.{IsSlid}
-use Rattle.nsc_writer.specs.Writer.{cache_of}
-use Rattle.nsc_writer.proofs.Slides.{slid_on}
-use Rattle.nsc_writer.proofs.Told.{told_as}
+use Rattle.nsc_writer.specs.Writer.{Writer, cache_of, writer_of}
+use Rattle.nsc_writer.proofs.Moved.{written}
 use Rattle.nsc_writer.proofs.writer.Writer.end_slide.Goals as goal
+use Rattle.nsc_writer.proofs.writer.Writer.end_slide.Goals.{After-set}
 
-pub end_slide-requires : goal.end_slide-requires
-end_slide-requires c =
+ends : (c : After-set) → Ended c.self.inside.slide c.self.inside.words c.set.new.self c.self.inside.layout c.self.inside.live
+ends c =
     let w = c.self.inside in
-    slid_on w.map.table w.map.layout w.pen.seen (arc_value w.content) w.pen.version w.pen.epoch w.shelf c.self.invariant.2 c.self.invariant.5 c.self.invariant.6 (subst IsSlid (sym c.self.view_is) c.requires)
+    let slid = subst IsSlid (sym c.self.view_is) c.requires in
+    let is = c.set.ensures.set ∙ ap (λ (n : ℕ). set w.words 0 (n + 1)) c.head-cycle.ensures in
+    ended w.slide w.words slid.words c.set.new.self w.layout w.live w.mark w.hints.items slid.nodes c.self.invariant.held slid.under_way slid.hold slid.alone is
 
 pub invariant_of-self : goal.invariant_of-self
 invariant_of-self c =
     let w = c.self.inside in
-    let slid = subst IsSlid (sym c.self.view_is) c.requires in
-    let fit = alone_fit slid.words w.map.layout w.shelf.entries slid.nodes slid.hold slid.alone in
-    let now : Shelf = record w.shelf { used = all_words w.shelf.entries; cycle = w.shelf.cycle + 1; slide = None } in
-    let told = retells w.pen.seen (cache_of (arc_value w.content) w.pen.version w.pen.epoch w.shelf) w.shelf.entries (all_words w.shelf.entries) (w.shelf.cycle + 1) w.shelf.add_failed refl c.self.invariant.1 in
-    let used : c.end_slide.new.self.used ≡ all_words w.shelf.entries = ap (λ (s : Shelf). s.used) c.end_slide.ensures in
-    (search rules, told_as (arc_value w.content) w.pen w.pen now c.end_slide.new.self refl c.end_slide.ensures told, search rules, omega arith, search rules, ap (λ (s : Shelf). s.head.epoch) (c.end_slide.ensures) ∙ c.self.invariant.5, ap (λ (s : Shelf). s.head.source) (c.end_slide.ensures) ∙ c.self.invariant.6)
+    let e = ends (goal.at.invariant_of-self c).After-set in
+    let s : Shelf = shelf_in w.slide w.words w.layout in
+    let size : length c.forget.new.hints ≡ w.hints.len = omega (arith, c.deref_mut.ensures.len, w.hints.ok.0) in
+    let some : 4 ≤ length c.deref_mut.result.now = omega (arith, c.deref_mut.ensures.len, w.hints.ok.0, c.self.invariant.held.hinted.some) in
+    let held = e.held c.start-self-inside.result (with_items w.hints c.forget.new.hints).items (ap (λ (k : Mark). k.place) c.start-self-inside.ensures)
+    (no_hints_in (with_items w.hints c.forget.new.hints).items (length c.deref_mut.result.now) (with_items_is w.hints c.forget.new.hints size ∙ c.forget.ensures) some) in
+    written w.pen (record s { used = all_words s.entries; cycle = s.cycle + 1 }) c.self.invariant refl refl held e.view
+    (retells w.pen.seen (cache_of (arc_value w.content) w.pen.version w.pen.epoch s) s.entries (all_words s.entries) (s.cycle + 1) s.add_failed refl c.self.invariant.tells)
+
+pub returns : goal.returns
+returns c =
+    let w = c.self.inside in
+    let e = ends (goal.at.returns c).After-set in
+    (λ i. writer_of w.map.table w.layout w.pen (arc_value w.content) (e.view i) None)
+    ∙ ap (λ (v : Writer). record v { cache = record v.cache { cycle = v.cache.cycle + 1; used = all_words v.cache.entries }; slide = None }) c.self.view_is

@@ -9,7 +9,7 @@ use Rattle.nsc_writer.proofs.writer.Writer.record_poll.Goals as goal
 
 pub returns-clause-polled : goal.returns-clause-polled
 returns-clause-polled c =
-    let epochs = c.self.invariant.1.epochs_are in
+    let epochs = c.self.invariant.tells.epochs_are in
     let low = subst (λ (w : Writer). c.args.epoch ≤ w.cache.epoch) (sym c.self.view_is) c.requires.epoch in
     polled_now c.self.inside.pen.seen c.change.new.self.seen (Change (c.version-before.result + 1) c.deref-3.result.now) (c.version-before.result + 1) c.args.epoch (search rules) refl (omega arith)
 

@@ -1,6 +1,0 @@
-use Rattle.std.proofs.Common.{◌≡◌, filter, length, take}
-use Rattle.nsc_writer.specs.Due.{Due}
-use Rattle.nsc_writer.proofs.due.ended_count.Given as goal
-
-abbrev pub invariant-loop-one : goal.invariant-loop-one
-invariant-loop-one l = l.count ≡ length (filter (λ (d : Due). d.ended) (take l.one-index l.due))
