@@ -10,7 +10,7 @@ use Rattle.nsc_model.specs.History.{HasEnd, IsLive, changes}
 use Rattle.nsc_model.specs.Machine.{Kept, Cache, due_of, is_due, is_dropped, is_outdated, reached}
 use Rattle.nsc_laws.specs.Calls.{Tells, entries_of}
 use Rattle.nsc_laws.proofs.CoreLawRecords.{ended_or_not}
-use Rattle.nsc_writer.specs.Due.{due_from}
+use Rattle.nsc_pruner.specs.Due.{due_from}
 use Rattle.nsc_writer.specs.Writer.{Writer}
 use Rattle.nsc_database.specs.Rests.{IsCurrent, IsReloaded, Keeps}
 use Rattle.nsc_database.specs.Ticks.{AreAllDue, AreListed, HasNumber, IsDue}

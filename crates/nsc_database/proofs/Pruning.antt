@@ -11,12 +11,12 @@ use Rattle.nsc_model.specs.Kinds.{is_request}
 use Rattle.nsc_model.specs.Reloads.{IsDropped, ends, one_of, replaced}
 use Rattle.nsc_laws.specs.Calls.{Tells}
 use Rattle.nsc_laws.proofs.Requests.{request_same}
-use Rattle.nsc_writer.specs.Due.{Due, due_cause_of, marked_by, pruned_by, pruned_one}
+use Rattle.nsc_pruner.specs.Due.{Due, due_cause_of, marked_by, pruned_by, pruned_one}
 use Rattle.nsc_writer.specs.Loaded.{Loaded}
 use Rattle.nsc_shelf.specs.Shelf.{has_number}
 use Rattle.nsc_writer.specs.Writer.{Writer, ending_of, without_entry}
 use Rattle.nsc_writer.proofs.Later.{end_on, load_on, prefix_through}
-use Rattle.nsc_writer.proofs.Pruned.{head_of, over_allows, tail_of}
+use Rattle.nsc_pruner.proofs.Pruned.{head_of, over_allows, tail_of}
 use Rattle.nsc_writer.proofs.Told.{ended_tells}
 use Rattle.nsc_database.specs.Rests.{Keeps}
 use Rattle.nsc_database.specs.Ticks.{AreAnew, HasNumber, IsDue, IsRenewed, ended_of}

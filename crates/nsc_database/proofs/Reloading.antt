@@ -17,10 +17,10 @@ use Rattle.nsc_shelf.specs.Shelf.{has_number}
 use Rattle.nsc_writer.specs.declared.loaded.Inserted.{Inserted}
 use Rattle.nsc_writer.specs.declared.loaded.Inserted.TheVariants as inserted
 use Rattle.nsc_writer.specs.declared.writer.Cause.TheVariants as cause
-use Rattle.nsc_writer.specs.Due.{Due, due_cause_of, marked_by, pruned_by, pruned_one}
+use Rattle.nsc_pruner.specs.Due.{Due, due_cause_of, marked_by, pruned_by, pruned_one}
 use Rattle.nsc_writer.specs.Loaded.{Loaded, kept_of}
 use Rattle.nsc_writer.specs.Writer.{Inserts, IsAnswered, IsRefused, Writer, ending_of, without_entry}
-use Rattle.nsc_writer.proofs.Pruned.{head_of, tail_of}
+use Rattle.nsc_pruner.proofs.Pruned.{head_of, tail_of}
 use Rattle.nsc_database.specs.Holds.{IsInserted}
 use Rattle.nsc_database.specs.Rests.{IsPacked, Keeps}
 use Rattle.nsc_database.specs.Ticks.{IsDue, IsPending, LoadsBut}

@@ -15,10 +15,10 @@ use Rattle.nsc_writer.specs.declared.loaded.Inserted.{Inserted}
 use Rattle.nsc_writer.specs.declared.loaded.Inserted.TheVariants as inserted
 use Rattle.nsc_shelf.specs.Shelf.{has_number}
 use Rattle.nsc_words.specs.declared.layout.Layout.{Layout}
-use Rattle.nsc_writer.specs.Due.{Due, IsOver, due_cause_of, marked_by, pruned_by, pruned_one}
+use Rattle.nsc_pruner.specs.Due.{Due, IsOver, due_cause_of, marked_by, pruned_by, pruned_one}
 use Rattle.nsc_writer.specs.Loaded.{Loaded}
 use Rattle.nsc_writer.specs.Writer.{Inserts, IsAnswered, IsRefused, Writer, ending_of, without_entry}
-use Rattle.nsc_writer.proofs.Pruned.{split_at}
+use Rattle.nsc_pruner.proofs.Pruned.{split_at}
 use Rattle.nsc_sourcebook.specs.Book.{Polled}
 use Rattle.nsc_database.specs.Rests.{IsPacked, Keeps, Rests, IsAtRest}
 use Rattle.nsc_database.specs.Steady.{KeepsVersion}

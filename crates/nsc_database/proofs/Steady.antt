@@ -18,7 +18,7 @@ use Rattle.nsc_laws.proofs.SpelledHistories.{version_below}
 use Rattle.nsc_writer.specs.declared.loaded.Inserted.{Inserted}
 use Rattle.nsc_writer.specs.declared.loaded.Inserted.TheVariants as inserted
 use Rattle.nsc_writer.specs.declared.loaded.Stamp.{Stamp}
-use Rattle.nsc_writer.specs.Due.{Due, due_cause_of, pruned_by, pruned_one}
+use Rattle.nsc_pruner.specs.Due.{Due, due_cause_of, pruned_by, pruned_one}
 use Rattle.nsc_shelf.specs.Shelf.{has_number}
 use Rattle.nsc_writer.specs.Loaded.{Loaded}
 use Rattle.nsc_writer.specs.Writer.{Writer, Inserts, Polls, emptied_by, ending_of, without_entry}

@@ -17,7 +17,7 @@ use Rattle.nsc_model.specs.Stores.{EndsStale, IsTickFault, IsTicked, LoadsAgain}
 use Rattle.nsc_model.specs.Machine.{room_of}
 use Rattle.nsc_laws.proofs.CoreLawRecords.{ended_or_not}
 use Rattle.nsc_laws.proofs.Prefixes.{more_after, prefix_legal}
-use Rattle.nsc_writer.specs.Due.{Due}
+use Rattle.nsc_pruner.specs.Due.{Due}
 use Rattle.nsc_writer.proofs.Later.{end_on, load_on, polled_on, prefix_through, version_on}
 use Rattle.nsc_outside.specs.declared.files.FileSet as file_set
 use Rattle.nsc_sourcebook.specs.Book.{Polled}

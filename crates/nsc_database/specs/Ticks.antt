@@ -15,7 +15,7 @@ use Rattle.nsc_model.specs.Machine.{all_words, life_of, next_count}
 use Rattle.nsc_model.specs.Reloads.{replaced}
 use Rattle.nsc_model.specs.Stores.{IsLoadedAgain, IsUnmoved, MayBeUnmoved}
 use Rattle.nsc_sourcebook.specs.Book.{Polled}
-use Rattle.nsc_writer.specs.Due.{Due, marked_by, pruned_by}
+use Rattle.nsc_pruner.specs.Due.{Due, marked_by, pruned_by}
 use Rattle.nsc_writer.specs.Loaded.{Loaded}
 use Rattle.nsc_writer.specs.Writer.{IsAnswered, Writer}
 use Rattle.nsc_database.specs.declared.renewal.Checked.{Checked}

@@ -25,7 +25,8 @@ use nsc_model::{Answerer, DbConf, InvalidateFault, Kind, LookupFault, Spent, Sta
 use nsc_outside::FileSet;
 use nsc_rule::Pass;
 use nsc_sourcebook::{Fetched, PollFault, Polled, SourceBook};
-use nsc_writer::{Due, Inserted, Loaded, Writer};
+use nsc_pruner::{Due, expired};
+use nsc_writer::{Inserted, Loaded, Writer};
 use std::alloc::Global;
 use std::marker::{Model, PhantomData};
 
@@ -203,7 +204,7 @@ impl<D: OfDb, B: Room> Desk<D, B> {
     {
         self.writer.learn();
         let newest = self.writer.version();
-        let listed = self.writer.expired(alloc, limit, now);
+        let listed = expired(&mut self.writer, alloc, limit, now);
         self.ticked = newest;
         match listed {
             Ok(due) => Ok(Checked::Listed(due)),

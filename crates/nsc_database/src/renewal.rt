@@ -2,13 +2,14 @@
 ghost use Rattle.std.specs.Prelude.{◌≡◌, ◌≤◌, All, None, IfErr, OnOk};
 ghost use Rattle.nsc_model.specs.Machine.{last_count};
 ghost use Rattle.nsc_model.specs.Stores.{LoadsAgain};
-ghost use Rattle.nsc_writer.specs.Due.{IsOver, marked_by, pruned_by};
+ghost use Rattle.nsc_pruner.specs.Due.{IsOver, marked_by, pruned_by};
 ghost use Rattle.nsc_database.specs.Rests.{Rests};
 ghost use Rattle.nsc_database.specs.Ticks.{AwaitsLoads, IsSwept};
 
 use nsc_compactor::compact;
 use nsc_model::Spent;
-use nsc_writer::{Due, Loaded, Writer};
+use nsc_pruner::{Due, prune_ends};
+use nsc_writer::{Loaded, Writer};
 
 /// What became of the entries once a tick had looked at the files.
 #[derive(Drop)]
@@ -27,7 +28,7 @@ pub fn end_due(writer: &mut Writer, due: &mut [Due], now: u64) -> Result<(), Spe
     ensures swept { OnOk result (IsSwept now due.old writer.old writer.new) }
     ensures spent { IfErr result (λ spent. (spent.count ≡ last_count) × (last_count ≤ writer.new.cache.cycle) × (writer.new ≡ pruned_by now due.old writer.old)) }
 {
-    let ended = writer.prune_ends(due, now);
+    let ended = prune_ends(writer, due, now);
     if ended == 0 {
         return Ok(());
     }

@@ -17,7 +17,8 @@ use nsc_base::{Bytes, NoMemory};
 use nsc_model::{Answerer, LookupFault};
 use nsc_outside::FileSet;
 use nsc_sourcebook::Polled;
-use nsc_writer::{Due, Loaded};
+use nsc_pruner::Due;
+use nsc_writer::Loaded;
 use std::alloc::Global;
 use std::sync::Wait;
 

@@ -1,6 +1,6 @@
 use Rattle.std.proofs.Common.{◌≡◌, ◌∙◌, ℕ, Bool, true, false, cond, List, [], ◌∷◌, ap, refl}
 use Rattle.nsc_shelf.specs.Shelf.{has_number}
-use Rattle.nsc_writer.specs.Due.{Due, due_cause_of, pruned_by, pruned_one}
+use Rattle.nsc_pruner.specs.Due.{Due, due_cause_of, pruned_by, pruned_one}
 use Rattle.nsc_writer.specs.Writer.{Writer, ending_of, without_entry}
 use Rattle.nsc_database.proofs.renewal.end_due.Goals as goal
 

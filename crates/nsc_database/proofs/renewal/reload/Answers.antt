@@ -3,7 +3,7 @@ use Rattle.std.proofs.Math.ListN.{drop_of_length-le}
 use Rattle.std.proofs.lemmas.Bool.{false≢true}
 use Rattle.nsc_words.specs.declared.layout.Layout.{Layout}
 use Rattle.nsc_model.specs.declared.kind.Kind.TheVariants.{PwName}
-use Rattle.nsc_writer.specs.Due.{Due}
+use Rattle.nsc_pruner.specs.Due.{Due}
 use Rattle.nsc_writer.specs.Writer.{Writer}
 use Rattle.nsc_model.specs.Stores.{LoadsAgain}
 use Rattle.nsc_database.specs.Rests.{Rests}

@@ -4,7 +4,7 @@ use Rattle.nsc_model.specs.declared.record.Record.{Record}
 use Rattle.nsc_model.specs.History.{IsPrefix}
 use Rattle.nsc_model.specs.Machine.{room_of}
 use Rattle.nsc_model.specs.Stores.{LoadsAgain}
-use Rattle.nsc_writer.specs.Due.{Due}
+use Rattle.nsc_pruner.specs.Due.{Due}
 use Rattle.nsc_writer.specs.Loaded.{Loaded}
 use Rattle.nsc_database.specs.Rests.{Desk}
 use Rattle.nsc_database.specs.Ticks.{AreAnew, HaveStamp, IsDue, anew_of}

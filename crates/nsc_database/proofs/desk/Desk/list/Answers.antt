@@ -4,7 +4,7 @@ use Rattle.nsc_model.specs.declared.record.Record.{Record}
 use Rattle.nsc_model.specs.declared.store.LookupFault.{LookupFault}
 use Rattle.nsc_model.specs.Machine.{is_outdated}
 use Rattle.nsc_model.specs.Settings.{settings_of}
-use Rattle.nsc_writer.specs.Due.{Due}
+use Rattle.nsc_pruner.specs.Due.{Due}
 use Rattle.nsc_writer.specs.Writer.{Writer}
 use Rattle.nsc_database.specs.declared.renewal.Checked.{Checked}
 use Rattle.nsc_database.specs.Rests.{Desk, Keeps}
@@ -17,7 +17,7 @@ use Rattle.nsc_database.proofs.desk.Desk.list.Goals.{in-Err, in-Ok}
 pub invariant_of-self : goal.invariant_of-self
 invariant_of-self g c =
     let current = subst (λ (d : Desk). is_outdated (settings_of g.B.Room.conf g.D.OfDb.db) d.writer.cache.newest_version d.ticked ≡ false) (sym c.self.view_is) c.requires.current in
-    at_rest_current c.version-newest.result c.self.inside.writer c.expired-listed.new.self c.expired-listed.ensures.same c.version-newest.ensures current c.self.invariant
+    at_rest_current c.version-newest.result c.self.inside.writer c.expired-listed.new.writer c.expired-listed.ensures.same c.version-newest.ensures current c.self.invariant
 
 pub returns-clause-checked : goal.returns-clause-checked
 returns-clause-checked g c =
@@ -30,6 +30,6 @@ returns-clause-checked g c =
     elim c.match-listed.branch [
       | in-Ok s ↦
           let all = rw s.in-Ok.is at c.expired-listed.ensures.all in
-          subst (λ (r : Result Checked LookupFault). IfOk r (λ x. IsChecked x settings c.args.limit c.args.now c.expired-listed.new.self.seen)) (sym s.result-is) (subst (λ (x : List Record × List Due). AreListed settings c.args.limit c.args.now x.0 x.1) (λ i. (seen i, sym all i)) listed)
-      | in-Err s ↦ subst (λ (r : Result Checked LookupFault). IfOk r (λ x. IsChecked x settings c.args.limit c.args.now c.expired-listed.new.self.seen)) (sym s.result-is) tt
+          subst (λ (r : Result Checked LookupFault). IfOk r (λ x. IsChecked x settings c.args.limit c.args.now c.expired-listed.new.writer.seen)) (sym s.result-is) (subst (λ (x : List Record × List Due). AreListed settings c.args.limit c.args.now x.0 x.1) (λ i. (seen i, sym all i)) listed)
+      | in-Err s ↦ subst (λ (r : Result Checked LookupFault). IfOk r (λ x. IsChecked x settings c.args.limit c.args.now c.expired-listed.new.writer.seen)) (sym s.result-is) tt
     ]

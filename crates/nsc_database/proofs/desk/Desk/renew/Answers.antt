@@ -1,7 +1,7 @@
 use Rattle.std.proofs.Common.{◌≢◌, ◌∙◌, All, List, ap, arith, inl, inr, refl, subst, sym}
 use Rattle.nsc_words.specs.declared.layout.Layout.{Layout}
 use Rattle.nsc_model.specs.History.{invalidations}
-use Rattle.nsc_writer.specs.Due.{Due}
+use Rattle.nsc_pruner.specs.Due.{Due}
 use Rattle.nsc_writer.proofs.Later.{end_on}
 use Rattle.nsc_database.specs.Rests.{Desk}
 use Rattle.nsc_database.specs.Ticks.{AreAnew, AwaitsLoads, IsDue}
