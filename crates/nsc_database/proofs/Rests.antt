@@ -22,7 +22,7 @@ use Rattle.nsc_writer.specs.declared.loaded.Stamp.{Stamp}
 use Rattle.nsc_writer.specs.Loaded.{Loaded, kept_of}
 use Rattle.nsc_writer.specs.Writer.{Writer, Inserts, Polls, with_entry}
 use Rattle.nsc_shelf.specs.declared.entry.Hit.{Hit}
-use Rattle.nsc_writer.specs.Uses.{Uses, counted}
+use Rattle.nsc_shelf.specs.Uses.{Uses, counted}
 use Rattle.nsc_writer.proofs.Later.{prefix_through}
 use Rattle.nsc_model.specs.Stores.{LoadsAgain}
 use Rattle.nsc_database.specs.Rests.{IsPacked, IsReloaded, Keeps, Rests}

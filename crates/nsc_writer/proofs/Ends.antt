@@ -1,16 +1,14 @@
 -- The entries of a writer end, one after the other, as invalidated.
-use Rattle.std.proofs.Common.{◌≡◌, ◌≢◌, ℕ, ◌+◌, ◌<◌, ◌≤◌, inl, inr, Bool, true, false, cond, not, ◌||◌, eqb, leb, eq-eqb, List, [], ◌∷◌, length, filter, Option, Some, None, refl, sym, ap, subst, ◌∙◌, arith}
+use Rattle.std.proofs.Common.{◌≡◌, ◌≢◌, ℕ, ◌+◌, ◌≤◌, inl, inr, Bool, true, cond, not, ◌||◌, eq-eqb, List, [], ◌∷◌, Some, None, refl, sym, ap, subst, ◌∙◌, arith}
 use Rattle.std.proofs.lemmas.Bool.{le-leb, ne_eqb}
 use Rattle.nsc_model.specs.declared.record.Ending.TheVariants.{Invalidated}
-use Rattle.nsc_model.specs.declared.record.Record.{Record}
 use Rattle.nsc_model.specs.declared.record.Record.TheVariants.{End}
 use Rattle.nsc_model.specs.Entry.{Entry}
 use Rattle.nsc_model.specs.Live.{Among, Rise}
 use Rattle.nsc_model.specs.Machine.{Kept, by_invalidation, ends_of}
 use Rattle.nsc_laws.specs.Calls.{entries_of}
-use Rattle.nsc_laws.proofs.CoreLawRecords.{first_least, rise_tail}
-use Rattle.nsc_shelf.specs.declared.entry.EntryAt.{EntryAt}
-use Rattle.nsc_shelf.specs.Shelf.{IsTold, entry_from, has_number, is_numbered, others_than}
+use Rattle.nsc_laws.proofs.CoreLawRecords.{first_least}
+use Rattle.nsc_shelf.specs.Shelf.{entry_from, has_number, others_than}
 use Rattle.nsc_writer.specs.Writer.{Writer, all_ended, without_entry}
 
 -- some of a writer's entries ended: those that are left have at least this number, and their ends make the whole

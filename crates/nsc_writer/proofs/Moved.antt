@@ -10,7 +10,7 @@ use Rattle.nsc_rule.specs.Pen.{Pen}
 use Rattle.nsc_shelf.specs.declared.finding.Mark.{Mark}
 use Rattle.nsc_shelf.specs.Shelf.{IsHeld, Shelf, shelf_in, under_way}
 use Rattle.nsc_shelf.proofs.Still.{Moved}
-use Rattle.nsc_writer.specs.Writer.{IsWriter, Writer, cache_of, writer_of}
+use Rattle.nsc_writer.specs.Writer.{IsWriter, cache_of, writer_of}
 
 -- it is one still, where the history tells what its shelf is then
 pub written : {map : Map} {pen pen' : Pen} {content : Content} {layout : Layout} {slide slide' : Option (Snapshot (List ℕ))} {words words' : List ℕ} {live live' : ℕ} {mark mark' : Mark} {hints hints' : List ℕ} (after : Pen) (shelf : Shelf) → IsWriter map pen content layout slide words live mark hints → after.table ≡ pen.table → pen' ≡ after → IsHeld slide' words' layout live' mark' hints' → shelf_in slide' words' layout ≡ shelf → Tells after.seen (cache_of content after.version after.epoch shelf) → IsWriter map pen' content layout slide' words' live' mark' hints'

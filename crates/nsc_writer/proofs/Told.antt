@@ -1,9 +1,8 @@
 -- What the history tells of the writer's cache after each of its calls.
-use Rattle.std.proofs.Common.{◌≡◌, ◌≢◌, ℕ, ◌<◌, ◌≤◌, ◌+◌, Bool, true, false, not, ◌||◌, eqb, List, [], ◌∷◌, ◌++◌, length, get_or, drop, drop-cons, add-one, suc, None, refl, sym, ap, subst, ◌∙◌, arith, inl, inr}
+use Rattle.std.proofs.Common.{◌≡◌, ◌≢◌, ℕ, ◌≤◌, ◌+◌, Bool, true, false, not, ◌||◌, eqb, List, [], ◌∷◌, ◌++◌, None, refl, sym, ap, subst, ◌∙◌, arith, inl, inr}
 use Rattle.std.proofs.lemmas.Bool.{eqb-true, eqb-false}
 use Rattle.nsc_model.specs.declared.answer.Request.{Request}
 use Rattle.nsc_model.specs.declared.record.Ending.{Ending}
-use Rattle.nsc_model.specs.declared.record.Ending.TheVariants.{Invalidated}
 use Rattle.nsc_model.specs.declared.record.Record.{Record}
 use Rattle.nsc_model.specs.declared.record.Record.TheVariants.{Change, Poll, Load, End, Invalid}
 use Rattle.nsc_model.specs.Kinds.{is_request}
@@ -11,12 +10,11 @@ use Rattle.nsc_model.specs.Content.{Content}
 use Rattle.nsc_model.specs.Entry.{Entry}
 use Rattle.nsc_model.specs.History.{invalidations, IsLive, NoneLiveOf, WasPolled, Allows, LooksAt, PolledSince}
 use Rattle.nsc_model.specs.Machine.{Kept, Cache, by_invalidation, emptied, ends_of, live_entry, used_now}
-use Rattle.nsc_model.specs.Live.{Among, Rise, AreLive}
+use Rattle.nsc_model.specs.Live.{Among, AreLive}
 use Rattle.nsc_laws.specs.Calls.{Tells, entries_of}
 use Rattle.nsc_laws.proofs.Requests.{request_same}
-use Rattle.nsc_laws.proofs.CoreLawRecords.{rise_tail, first_least}
 use Rattle.nsc_laws.proofs.MachineLawLists.{filter_from, filter_to, rise_filter, missed, used_entries}
-use Rattle.nsc_laws.proofs.MachineLawEnds.{ended_same, lives_on}
+use Rattle.nsc_laws.proofs.MachineLawEnds.{ended_same}
 use Rattle.nsc_laws.proofs.MachineLawSteps.{retells}
 use Rattle.nsc_laws.proofs.MachineLawParts.{none_of, kept_tells, inserted_by, invalid_tells}
 use Rattle.nsc_writer.specs.Loaded.{Loaded, kept_of}

@@ -1,7 +1,7 @@
 use Rattle.std.proofs.Common.{◌∙◌, ℕ, List, ap, arith, subst}
 use Rattle.nsc_model.specs.declared.record.Record.{Record}
 use Rattle.nsc_writer.specs.Writer.{Writer}
-use Rattle.nsc_writer.specs.Uses.{counted}
+use Rattle.nsc_shelf.specs.Uses.{counted}
 use Rattle.nsc_database.specs.Holds.{IsInserted}
 use Rattle.nsc_database.specs.Rests.{Desk}
 use Rattle.nsc_database.proofs.Rests.{rests_inserted, rests_missed, rests_through}

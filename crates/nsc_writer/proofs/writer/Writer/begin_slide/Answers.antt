@@ -1,4 +1,4 @@
-use Rattle.std.proofs.Common.{◌≡◌, ℕ, ◌+◌, ◌<◌, List, Some, None, set, slice_index, ap, subst, ◌∙◌, arith}
+use Rattle.std.proofs.Common.{◌≡◌, ℕ, ◌+◌, ◌<◌, Some, None, set, slice_index, ap, subst, ◌∙◌, arith}
 use Rattle.std.specs.Arc.{arc_value}
 use Rattle.nsc_words.specs.Layout.{arena_start}
 use Rattle.nsc_arena.specs.ReadBack.{nodes_in}

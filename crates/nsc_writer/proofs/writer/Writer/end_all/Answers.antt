@@ -1,13 +1,12 @@
-use Rattle.std.proofs.Common.{◌≡◌, ℕ, ◌+◌, ◌<◌, List, [], ◌∷◌, Bool, true, false, length, Option, Some, None, refl, sym, ap, subst, ◌∙◌, arith}
+use Rattle.std.proofs.Common.{◌≡◌, ℕ, ◌<◌, [], ◌∷◌, Bool, true, false, length, Some, sym, ap, subst, ◌∙◌, arith}
 use Rattle.std.specs.Bool.{OnTrue}
 use Rattle.nsc_model.specs.Live.{Rise}
 use Rattle.nsc_model.specs.declared.record.Ending.TheVariants.{Invalidated}
-use Rattle.nsc_model.specs.declared.record.Record.{Record}
 use Rattle.nsc_model.specs.Machine.{Kept, by_invalidation, ends_of}
 use Rattle.nsc_laws.specs.Calls.{entries_of}
 use Rattle.nsc_shelf.specs.declared.entry.EntryAt.{EntryAt}
 use Rattle.nsc_shelf.specs.Shelf.{IsTold, entry_from, has_number}
-use Rattle.nsc_writer.specs.Writer.{Writer, all_ended, without_entry}
+use Rattle.nsc_writer.specs.Writer.{Writer, without_entry}
 use Rattle.nsc_writer.proofs.Ends.{EndsSome, first_left, first_numbered, next_ended, none_ended, none_left}
 use Rattle.nsc_writer.proofs.Rest.{told_entry, told_none}
 use Rattle.nsc_writer.proofs.writer.Writer.end_all.Goals as goal

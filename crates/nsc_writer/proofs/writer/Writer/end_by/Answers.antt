@@ -1,9 +1,9 @@
-use Rattle.std.proofs.Common.{◌≡◌, ℕ, ◌-◌, ◌≤◌, List, ◌∷◌, None, true, false, eqb, eq-eqb, refl, sym, ap, subst, ◌∙◌, arith}
+use Rattle.std.proofs.Common.{◌≡◌, ℕ, ◌-◌, List, ◌∷◌, None, eqb, eq-eqb, refl, sym, ap, subst, ◌∙◌, arith}
 use Rattle.std.proofs.lemmas.Bool.{ne_eqb}
 use Rattle.std.specs.Arc.{arc_value}
 use Rattle.nsc_words.specs.declared.node.Placed.{Placed}
 use Rattle.nsc_words.specs.Laid.{Laid}
-use Rattle.nsc_arena.specs.Changes.{changed_at, ended}
+use Rattle.nsc_arena.specs.Changes.{ended}
 use Rattle.nsc_arena.specs.ReadBack.{nodes_in}
 use Rattle.nsc_arena.specs.Written.{IsSameHead}
 use Rattle.nsc_arena.specs.declared.reading.Head.{Head}
@@ -11,13 +11,12 @@ use Rattle.nsc_arena.proofs.Changed.{ended_is}
 use Rattle.nsc_model.specs.declared.record.Record.TheVariants.{End}
 use Rattle.nsc_model.specs.Entry.{Entry}
 use Rattle.nsc_model.specs.History.{Allows, IsLive}
-use Rattle.nsc_rule.specs.Pen.{Pen}
 use Rattle.nsc_shelf.specs.Shelf.{Shelf, has_number, others_than, shelf_in, under_way}
 use Rattle.nsc_shelf.proofs.Hinted.{hints_by, hints_changed_at}
 use Rattle.nsc_shelf.proofs.Numbers.{has_by, has_none, remarked}
 use Rattle.nsc_shelf.proofs.States.{taken, taken_less}
 use Rattle.nsc_shelf.proofs.Still.{Moved, marked, moved, still, still_view}
-use Rattle.nsc_writer.specs.Writer.{Writer, cache_of, without_entry, writer_of}
+use Rattle.nsc_writer.specs.Writer.{Writer, cache_of, without_entry}
 use Rattle.nsc_writer.proofs.Moved.{moved_still, moved_view, written}
 use Rattle.nsc_writer.proofs.Told.{ended_tells, live_numbered}
 use Rattle.nsc_writer.proofs.writer.Writer.end_by.Goals as goal

@@ -8,7 +8,7 @@ use Rattle.nsc_shelf.specs.declared.entry.EntryAt.{EntryAt}
 use Rattle.nsc_shelf.specs.Shelf.{IsTold, entry_from, shelf_in, under_way}
 use Rattle.nsc_shelf.proofs.Still.{Entered, entered, marked, none_entered, still}
 use Rattle.nsc_writer.specs.Writer.{IsListed, Writer}
-use Rattle.nsc_writer.proofs.Moved.{moved_still, moved_view}
+use Rattle.nsc_writer.proofs.Moved.{moved_still}
 use Rattle.nsc_writer.proofs.writer.Writer.entry.Goals as goal
 use Rattle.nsc_writer.proofs.writer.Writer.entry.Goals.{In-Some, After-read_key, After-read_reply}
 

@@ -1,7 +1,6 @@
-use Rattle.std.proofs.Common.{◌≡◌, ◌≢◌, ℕ, ◌-◌, ◌/◌, ◌%◌, ◌<◌, None, List, [], ◌∷◌, replicate, slice_index, refl, ap, sym, subst, ◌∙◌, arith, rules}
+use Rattle.std.proofs.Common.{◌≡◌, ◌≢◌, ℕ, ◌-◌, ◌/◌, ◌%◌, ◌<◌, None, List, [], ◌∷◌, slice_index, refl, ap, sym, subst, ◌∙◌, arith, rules}
 use Rattle.std.specs.Arc.{arc_value}
 use Rattle.std.proofs.lemmas.List.{get_or-replicate}
-use Rattle.nsc_words.specs.Laid.{Laid}
 use Rattle.nsc_words.specs.Layout.{arena_start}
 use Rattle.nsc_arena.proofs.Passed.{mark_at_start}
 use Rattle.nsc_model.specs.Machine.{new_cache}
@@ -13,7 +12,7 @@ use Rattle.nsc_shelf.specs.declared.finding.Mark.{Mark}
 use Rattle.nsc_shelf.specs.Shelf.{AreEntries, IsHeld, Shelf, shelf_of}
 use Rattle.nsc_shelf.proofs.Hinted.{hints_by, no_hints_in}
 use Rattle.nsc_shelf.proofs.States.{shelf_by, view_by}
-use Rattle.nsc_writer.specs.Writer.{Writer, cache_of, writer_of}
+use Rattle.nsc_writer.specs.Writer.{cache_of, writer_of}
 use Rattle.nsc_writer.proofs.writer.Writer.new.Goals as goal
 use Rattle.nsc_writer.proofs.writer.Writer.new.Goals.{After-start-2}
 

@@ -1,12 +1,12 @@
 use Rattle.std.proofs.Common.{◌≡◌, ◌+◌, Option, Some, None, refl, ap, subst, ◌∙◌, arith}
 use Rattle.nsc_arena.specs.declared.reading.Head.{Head}
-use Rattle.nsc_model.specs.Machine.{Kept, last_count}
+use Rattle.nsc_model.specs.Machine.{Kept}
 use Rattle.nsc_rule.specs.Entries.{kept_in, kind_of}
 use Rattle.nsc_shelf.specs.declared.entry.EntryAt.{EntryAt}
 use Rattle.nsc_shelf.specs.Shelf.{IsTold, entry_from, shelf_in, under_way}
 use Rattle.nsc_shelf.proofs.Still.{Entered, entered, marked, none_entered, still}
 use Rattle.nsc_writer.specs.Writer.{Writer}
-use Rattle.nsc_writer.proofs.Moved.{moved_still, moved_view}
+use Rattle.nsc_writer.proofs.Moved.{moved_still}
 use Rattle.nsc_writer.proofs.writer.Writer.next.Goals as goal
 use Rattle.nsc_writer.proofs.writer.Writer.next.Goals.{In-Some}
 

@@ -1,8 +1,7 @@
-use Rattle.std.proofs.Common.{◌≡◌, ◌≢◌, ℕ, ◌+◌, ◌-◌, ◌<◌, ◌≤◌, inl, List, [], ◌∷◌, ◌++◌, length, slice_index, true, None, refl, sym, ap, subst, ◌∙◌, arith, get_or-set_same, get_or-set_other}
+use Rattle.std.proofs.Common.{◌≡◌, ◌≢◌, ℕ, ◌+◌, ◌-◌, ◌<◌, inl, List, [], ◌∷◌, ◌++◌, length, slice_index, true, None, refl, sym, ap, subst, ◌∙◌, arith, get_or-set_same, get_or-set_other}
 use Rattle.std.proofs.lemmas.List.{length-append, with_items_is}
 use Rattle.std.specs.Arc.{arc_value}
 use Rattle.std.specs.Vec.{with_items}
-use Rattle.nsc_base.specs.Nodes.{node_words}
 use Rattle.nsc_words.specs.declared.layout.Layout.{Layout}
 use Rattle.nsc_words.specs.declared.node.Placed.{Placed}
 use Rattle.nsc_words.specs.Laid.{Laid, end_of, words_in}
@@ -20,12 +19,11 @@ use Rattle.nsc_model.specs.Machine.{Kept, entry_words, last_count, live_entry}
 use Rattle.nsc_laws.specs.Calls.{Tells}
 use Rattle.nsc_laws.proofs.MachineLawParts.{inserted_by}
 use Rattle.nsc_rule.specs.Entries.{entries_in, kept_in, kind_of, request_in}
-use Rattle.nsc_rule.specs.Pen.{Pen}
 use Rattle.nsc_shelf.specs.Hints.{AreHints}
-use Rattle.nsc_shelf.specs.Shelf.{IsHeld, Shelf, shelf_in, shelf_of, under_way}
+use Rattle.nsc_shelf.specs.Shelf.{Shelf, shelf_in, shelf_of, under_way}
 use Rattle.nsc_shelf.proofs.Entries.{few_entries, one_more}
 use Rattle.nsc_shelf.proofs.Hinted.{hints_by, hints_more, hints_noted}
-use Rattle.nsc_shelf.proofs.States.{Altered, kind_back, marked_more, new_entries, next_after, shelf_by, view_by}
+use Rattle.nsc_shelf.proofs.States.{kind_back, marked_more, new_entries, next_after, shelf_by, view_by}
 use Rattle.nsc_shelf.proofs.Still.{Moved, moved, still, still_view}
 use Rattle.nsc_writer.specs.Loaded.{Loaded, kept_of}
 use Rattle.nsc_writer.specs.declared.loaded.Stamp.{Stamp}
