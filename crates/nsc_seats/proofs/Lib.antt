@@ -1,0 +1,4 @@
+pub mod Numbers
+pub mod Onward
+pub mod Moves
+pub mod Opening
