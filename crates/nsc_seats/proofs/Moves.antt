@@ -166,3 +166,12 @@ tells key id other v w s kept at apart there = joins key s id other v w (told_of
 
 pub shows : (key : Layout) (id other : ℕ) (v w : View) → Joins (IsKept key) id v other w (shown v w) nobody
 shows key id other v w s kept at apart there = joins key s id other v w (shown v w) kept at apart there (shown_fits kept.plan id other v w)
+
+-- ---- what a seat knows once it was told
+
+pub told_reader : (me other new : Me (Unit {0}) View) (heard : List Record) → me ≡ (reading (seen_by me.0) (is_retired me.0) (walk_by me.0), []) → new ≡ (told_of me.0 other.0, me.1) → seen_by other.0 ≡ heard
+    → new ≡ (Reads (seen_by me.0) heard (is_retired me.0) (walk_by me.0), [])
+told_reader me other new heard is joined said = joined ∙ (λ i. (told_of (is i).0 other.0, (is i).1)) ∙ (λ i. (Reads (seen_by me.0) (said i) (is_retired me.0) (walk_by me.0), []))
+
+pub told_writer : (me other new : Me (Unit {0}) View) (heard : List Record) → me ≡ (writing (plan_by me.0), []) → new ≡ (told_of me.0 other.0, me.1) → seen_by other.0 ≡ heard → new ≡ (Writes (plan_by me.0) heard, [])
+told_writer me other new heard is joined said = joined ∙ (λ i. (told_of (is i).0 other.0, (is i).1)) ∙ (λ i. (Writes (plan_by me.0) (said i), []))

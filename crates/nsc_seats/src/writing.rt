@@ -21,6 +21,7 @@ impl Pen {
         requires free { IsFree self.old.plan at }
         ensures { self.new ≡ record self.old { plan = stored at word self.old.plan } }
     {
+        self.learn();
         self.write(map, at, word, &Stroke::Plain);
     }
 
@@ -32,6 +33,7 @@ impl Pen {
         requires high { at ≤ 9 }
         ensures { self.new ≡ record self.old { plan = stored at word self.old.plan } }
     {
+        self.learn();
         self.write(map, at, word, &Stroke::Plain);
     }
 
@@ -43,6 +45,7 @@ impl Pen {
         requires node { HasNode self.old.plan place }
         ensures { self.new ≡ record self.old { plan = reloaded place count self.old.plan } }
     {
+        self.learn();
         self.write(map, place + RELOADS, count, &Stroke::Reloads { place });
     }
 
@@ -53,6 +56,7 @@ impl Pen {
         requires ready { IsReady self.old.plan bucket at }
         ensures { self.new ≡ record self.old { plan = published bucket at self.old.plan } }
     {
+        self.learn();
         self.write(map, bucket, at as u64, &Stroke::Publish);
     }
 
@@ -64,6 +68,7 @@ impl Pen {
         requires node { MayEnd self.old.plan place cause }
         ensures { self.new ≡ record self.old { plan = cleared place cause self.old.plan } }
     {
+        self.learn();
         self.write(map, place + STATE, 0, &Stroke::End { place, cause });
     }
 
@@ -74,6 +79,7 @@ impl Pen {
         requires link { MayUnlink self.old.plan from to }
         ensures { self.new ≡ record self.old { plan = stored from to self.old.plan } }
     {
+        self.learn();
         self.write(map, from, to, &Stroke::Plain);
     }
 
@@ -85,6 +91,7 @@ impl Pen {
         requires room { slice_index self.old.plan.words 0 < last_count }
         ensures { self.new ≡ record self.old { plan = begun self.old.plan } }
     {
+        self.learn();
         let cycle = self.head(CYCLE);
         self.write(map, CYCLE, cycle + 1, &Stroke::Plain);
     }
@@ -98,6 +105,7 @@ impl Pen {
         requires inside { at < table_words self.old.plan.layout }
         ensures { self.new ≡ record self.old { plan = stored at word self.old.plan } }
     {
+        self.learn();
         self.write(map, at, word, &Stroke::Plain);
     }
 
@@ -109,6 +117,7 @@ impl Pen {
         requires slid { IsSlid self.old.plan }
         ensures { self.new ≡ record self.old { plan = finished self.old.plan } }
     {
+        self.learn();
         let cycle = self.head(CYCLE);
         self.write(map, CYCLE, cycle + 1, &Stroke::Even);
     }
@@ -121,6 +130,7 @@ impl Pen {
         requires room { slice_index self.old.plan.words 1 < last_count }
         ensures { self.new ≡ record self.old { plan = invalidated self.old.plan } }
     {
+        self.learn();
         let epoch = self.head(EPOCH);
         self.write(map, EPOCH, epoch + 1, &Stroke::Invalid);
     }
@@ -131,6 +141,7 @@ impl Pen {
         requires active { self.old.plan.retired ≡ false }
         ensures { self.new ≡ record self.old { plan = polled self.old.plan } }
     {
+        self.learn();
         let version = self.head(SOURCE);
         self.write(map, SOURCE, version, &Stroke::Poll);
     }
@@ -143,6 +154,7 @@ impl Pen {
         requires room { slice_index self.old.plan.words 2 < last_count }
         ensures { self.new ≡ record self.old { plan = changed content.now self.old.plan } }
     {
+        self.learn();
         let version = self.head(SOURCE);
         let content = Snapshot::of(content);
         self.write(map, SOURCE, version + 1, &Stroke::Change { content });
