@@ -13,7 +13,7 @@ use Rattle.nsc_seats.specs.declared.view.Plan.{Plan}
 use Rattle.nsc_seats.specs.Entries.{entry_of}
 use Rattle.nsc_seats.specs.Plans.{Grows, IsEven, Later, Shows, Sits, Sound, cycle_of, filled}
 
-set_twice : (l : List ℕ) (i a b : ℕ) → set (set l i a) i b ≡ set l i b
+pub set_twice : (l : List ℕ) (i a b : ℕ) → set (set l i a) i b ≡ set l i b
 set_twice [] i a b = refl
 set_twice (x ∷ xs) zero a b = refl
 set_twice (x ∷ xs) (suc i) a b = ap (λ (ys : List ℕ). x ∷ ys) (set_twice xs i a b)

@@ -4,3 +4,7 @@ pub mod Moves
 pub mod Opening
 pub mod Filled
 pub mod Steady
+pub mod Linked
+pub mod Altered
+pub mod Unlinked
+pub mod Sources
