@@ -8,3 +8,4 @@ pub mod Linked
 pub mod Altered
 pub mod Unlinked
 pub mod Sources
+pub mod Crossing

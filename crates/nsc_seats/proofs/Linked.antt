@@ -29,8 +29,8 @@ bucket_low layout p sizes =
     let some = sizes.some_bucket in
     let hash : ℕ = hash_of p.node.kind p.node.key in
     (omega arith, bounded hash layout.buckets some) where
-  bounded : (h n : ℕ) → 1 ≤ n → 16 + h % n < 16 + n
-  bounded h n some = omega arith
+      bounded : (h n : ℕ) → 1 ≤ n → 16 + h % n < 16 + n
+      bounded h n some = omega arith
 
 -- the words of the chain once the node is linked
 linked_words : (layout : Layout) (words : List ℕ) (nodes : List Placed) (n : Placed) (link : ℕ) → link ≡ bucket_in layout n → link ≢ 3 → n.place + 7 ≢ 3 → slice_index words (n.place + 7) ≡ slice_index words link
