@@ -1,10 +1,10 @@
 -- A node is changed where it stands: its reloads are counted, or it ends.
-use Rattle.std.proofs.Common.{◌≡◌, ◌≢◌, ◌∙◌, ℕ, ◌+◌, ◌<◌, ◌≤◌, Bool, true, false, true≢false, cond, eqb, eq-eqb, inl, inr, ⊎_elim, List, [], ◌∷◌, map, set, slice_index, refl, sym, ap, subst, arith}
+use Rattle.std.proofs.Common.{◌≡◌, ◌≢◌, ◌∙◌, ℕ, ◌+◌, ◌≤◌, Bool, true, false, true≢false, cond, eqb, eq-eqb, inl, inr, ⊎_elim, List, [], ◌∷◌, map, set, slice_index, refl, sym, ap, subst, arith}
 use Rattle.std.proofs.lemmas.Bool.{cases_eq, ne_eqb}
 use Rattle.nsc_words.specs.declared.layout.Layout.{Layout}
 use Rattle.nsc_words.specs.declared.node.Placed.{Placed}
-use Rattle.nsc_words.specs.Laid.{Among, InRow, Laid, Rising, end_of}
-use Rattle.nsc_words.specs.Layout.{IsLayout, arena_start, table_words}
+use Rattle.nsc_words.specs.Laid.{Among, InRow, Laid, Rising}
+use Rattle.nsc_words.specs.Layout.{arena_start, table_words}
 use Rattle.nsc_arena.specs.Changes.{changed_at, ended, with_reloads}
 use Rattle.nsc_arena.proofs.Changed.{IsChange, at_place, change_at, end_laid, ended_is, from_map, into_map, reloads_is, reloads_laid, same_end}
 use Rattle.nsc_arena.proofs.Rows.{same_place, within}
@@ -12,7 +12,7 @@ use Rattle.nsc_model.specs.declared.record.Ending.{Ending}
 use Rattle.nsc_model.specs.declared.record.Record.{Record}
 use Rattle.nsc_model.specs.declared.record.Record.TheVariants.{End}
 use Rattle.nsc_model.specs.Entry.{Entry}
-use Rattle.nsc_model.specs.History.{loads, Allows, HasEnd, IsLive, IsPrefix, Legal}
+use Rattle.nsc_model.specs.History.{loads, IsLive, Legal}
 use Rattle.nsc_model.proofs.Beginnings.{prefix_all, prefix_more}
 use Rattle.nsc_seats.specs.declared.view.Plan.{Plan}
 use Rattle.nsc_model.specs.Kinds.{type_number}

@@ -1,17 +1,17 @@
 -- Words with FIRST_FREE put right, once another word was set; and plans of which one word was set.
-use Rattle.std.proofs.Common.{◌≡◌, ◌≢◌, ◌∙◌, ℕ, zero, suc, ◌+◌, ◌%◌, ◌<◌, ◌≤◌, Bool, true, false, true≢false, inl, inr, ⊎_elim, List, [], ◌∷◌, length, length-set, set, slice_index, refl, sym, ap, subst, arith, get_or-set_other, get_or-set_same}
+use Rattle.std.proofs.Common.{◌≡◌, ◌≢◌, ◌∙◌, ℕ, zero, suc, ◌+◌, ◌%◌, ◌<◌, ◌≤◌, false, inr, List, [], ◌∷◌, length-set, set, slice_index, refl, sym, ap, arith, get_or-set_other}
 use Rattle.std.proofs.lemmas.List.{set-get_or, set_comm}
 use Rattle.nsc_words.specs.declared.layout.Layout.{Layout}
 use Rattle.nsc_words.specs.declared.node.Placed.{Placed}
-use Rattle.nsc_words.specs.Laid.{Among, Laid, end_of}
-use Rattle.nsc_words.specs.Layout.{IsLayout, arena_start, table_words}
+use Rattle.nsc_words.specs.Laid.{Laid, end_of}
+use Rattle.nsc_words.specs.Layout.{arena_start}
 use Rattle.nsc_arena.proofs.Rows.{set_head}
 use Rattle.nsc_model.specs.History.{changes, invalidations, loads, IsLive, IsPrefix, Legal}
 use Rattle.nsc_model.specs.Entry.{Entry}
 use Rattle.nsc_model.specs.declared.record.Record.{Record}
 use Rattle.nsc_seats.specs.declared.view.Plan.{Plan}
 use Rattle.nsc_seats.specs.Entries.{entry_of}
-use Rattle.nsc_seats.specs.Plans.{Grows, IsEven, Later, Shows, Sits, Sound, cycle_of, filled}
+use Rattle.nsc_seats.specs.Plans.{Grows, IsEven, Later, Shows, Sits, Sound, filled}
 
 pub set_twice : (l : List ℕ) (i a b : ℕ) → set (set l i a) i b ≡ set l i b
 set_twice [] i a b = refl

@@ -9,3 +9,5 @@ pub mod Altered
 pub mod Unlinked
 pub mod Sources
 pub mod Crossing
+pub mod Reached
+pub mod Searched

@@ -1,5 +1,5 @@
 -- A node is linked, and its entry inserted.
-use Rattle.std.proofs.Common.{◌≡◌, ◌≢◌, ◌∙◌, ℕ, ◌+◌, ◌%◌, ◌<◌, ◌≤◌, true, false, inl, inr, ⊎_elim, List, [], ◌∷◌, length, length-set, set, slice_index, refl, sym, ap, subst, arith, get_or-set_other, get_or-set_same}
+use Rattle.std.proofs.Common.{◌≡◌, ◌≢◌, ◌∙◌, ℕ, ◌+◌, ◌%◌, ◌<◌, ◌≤◌, true, false, inl, inr, ⊎_elim, List, ◌∷◌, set, slice_index, refl, sym, ap, subst, arith}
 use Rattle.std.proofs.lemmas.List.{set-get_or}
 use Rattle.nsc_words.specs.declared.layout.Layout.{Layout}
 use Rattle.nsc_words.specs.declared.node.Placed.{Placed}
@@ -12,13 +12,12 @@ use Rattle.nsc_arena.proofs.Chains.{chained}
 use Rattle.nsc_arena.proofs.Rows.{end_after, kept}
 use Rattle.nsc_model.specs.declared.record.Record.{Record}
 use Rattle.nsc_model.specs.declared.record.Record.TheVariants.{Load}
-use Rattle.nsc_model.specs.Entry.{Entry}
-use Rattle.nsc_model.specs.History.{loads, IsLive, IsPrefix, Legal}
+use Rattle.nsc_model.specs.History.{loads, IsLive, Legal}
 use Rattle.nsc_model.specs.Kinds.{type_number}
 use Rattle.nsc_model.proofs.Beginnings.{prefix_all, prefix_more}
 use Rattle.nsc_seats.specs.declared.view.Plan.{Plan}
 use Rattle.nsc_seats.specs.Entries.{entry_of, kind_of}
-use Rattle.nsc_seats.specs.Plans.{Grows, IsEven, Later, Shows, Sits, Sound, end_in, filled}
+use Rattle.nsc_seats.specs.Plans.{Grows, Later, Sits, Sound, filled}
 use Rattle.nsc_seats.specs.Strokes.{IsReady, published}
 use Rattle.nsc_seats.proofs.Numbers.{end_below}
 use Rattle.nsc_seats.proofs.Filled.{filled_at, filled_set, later_at, set_twice, sound_at}

@@ -1,11 +1,11 @@
 -- Each step of a seat keeps the rule.
-use Rattle.std.proofs.Common.{◌≡◌, ◌≢◌, ◌∙◌, ℕ, zero, suc, ◌<◌, ◌≤◌, cond, Bool, true, false, List, [], ◌∷◌, ◌++◌, length, length-append, set, slice_index, refl, sym, ap, subst, ⊎_elim, arith}
+use Rattle.std.proofs.Common.{◌≡◌, ◌≢◌, ◌∙◌, ℕ, ◌<◌, ◌≤◌, cond, Bool, true, false, List, [], ◌++◌, length, length-append, set, slice_index, refl, sym, ap, subst, ⊎_elim, arith}
 use Rattle.std.specs.Prelude.{nat_lt}
 use Rattle.std.proofs.lemmas.Bool.Decides.{nat_tests}
 use Rattle.std.proofs.lemmas.List.{set-get_or}
 use mathlib.Core.Option.{some, none}
 use lib.ListN.{get_elem?}
-use Rattle.atomic_table.specs.Table.{State, Me, step, keeps, stepped, Allows, Splits, Joins}
+use Rattle.atomic_table.specs.Table.{State, Me, step, keeps, Allows, Splits, Joins}
 use Rattle.atomic_table.proofs.Lists.{at_set, at_snoc, set_again}
 use Rattle.nsc_words.specs.declared.layout.Layout.{Layout}
 use Rattle.nsc_model.specs.History.{IsPrefix}
@@ -16,8 +16,8 @@ use Rattle.nsc_seats.specs.declared.view.Walk.{Walk}
 use Rattle.nsc_seats.specs.declared.view.View.{View}
 use Rattle.nsc_seats.specs.declared.view.View.TheVariants.{Writes, Reads}
 use Rattle.nsc_seats.specs.Plans.{Later, Sound}
-use Rattle.nsc_seats.specs.Seats.{Fits, Follows, IsKept, LearnTells, LoadTells, MeetTells, WriteTells, is_retired, longer, nobody, plan_by, reader_of, reading, seen_by, shown, told_of, told_to, walk_by, writing}
-use Rattle.nsc_seats.proofs.Onward.{follows_on, nobody_fits, reader_fits, seen_fits, shown_fits, told_fits}
+use Rattle.nsc_seats.specs.Seats.{Fits, Follows, IsKept, LearnTells, LoadTells, MeetTells, WriteTells, is_retired, longer, nobody, plan_by, reader_of, reading, seen_by, shown, told_of, walk_by, writing}
+use Rattle.nsc_seats.proofs.Onward.{follows_on, nobody_fits, reader_fits, shown_fits, told_fits}
 
 -- the views once one seat has another one
 fits_set : (p : Plan) (views : List View) (seat : ℕ) (w : View) → ((j : ℕ) (u : View) → j ≢ seat → get_elem? views j ≡ some u → Fits p j u) → Fits p seat w
@@ -175,3 +175,11 @@ told_reader me other new heard is joined said = joined ∙ (λ i. (told_of (is i
 
 pub told_writer : (me other new : Me (Unit {0}) View) (heard : List Record) → me ≡ (writing (plan_by me.0), []) → new ≡ (told_of me.0 other.0, me.1) → seen_by other.0 ≡ heard → new ≡ (Writes (plan_by me.0) heard, [])
 told_writer me other new heard is joined said = joined ∙ (λ i. (told_of (is i).0 other.0, (is i).1)) ∙ (λ i. (Writes (plan_by me.0) (said i), []))
+
+-- a load of a search
+pub looks_as : (key : Layout) (slots id at : ℕ) (me : Me (Unit {0}) View) (told : ℕ → View → Type 0) → me.1 ≡ [] → ((p : Plan) → Sound p → p.layout ≡ key → Fits p id me.0 → (w : View) × Fits p id w × told (slice_index p.words at) w)
+    → Allows (IsKept key) slots id me at (λ n. n) (λ found me'. told found me'.0 × (me'.1 ≡ me.1))
+looks_as key slots id at me told bare tale =
+    let is : (me.0, []) ≡ me = λ i. (me.0, sym bare i) in
+    let P : Me (Unit {0}) View → Type 0 = λ m. Allows (IsKept key) slots id m at (λ n. n) (λ found me'. told found me'.0 × (me'.1 ≡ m.1)) in
+    subst P is (looks key slots id at me.0 (λ found me'. told found me'.0 × (me'.1 ≡ [])) (λ p sound layout fits. let h = tale p sound layout fits in (h.0, h.1, (h.2, refl))))

@@ -1,5 +1,5 @@
 -- What a seat that reads knows still follows a later plan.
-use Rattle.std.proofs.Common.{◌≡◌, ◌∙◌, ℕ, ◌%◌, ◌<◌, ◌≤◌, ⊎_elim, Bool, true, false, true≢false, List, [], Some, refl, sym, ap, subst, arith}
+use Rattle.std.proofs.Common.{◌≡◌, ◌∙◌, ℕ, ◌%◌, ◌≤◌, ⊎_elim, Bool, true, false, true≢false, List, [], sym, ap, subst, arith}
 use Rattle.nsc_words.specs.declared.layout.Layout.{Layout}
 use Rattle.nsc_words.specs.declared.node.Placed.{Placed}
 use Rattle.nsc_words.specs.Laid.{Among}
@@ -13,7 +13,7 @@ use Rattle.nsc_seats.specs.declared.view.View.{View}
 use Rattle.nsc_seats.specs.declared.view.View.TheVariants.{Writes, Reads}
 use Rattle.nsc_seats.specs.Entries.{entry_of, request_bucket}
 use Rattle.nsc_seats.specs.Plans.{cycle_of, Grows, IsEven, Later}
-use Rattle.nsc_seats.specs.Seats.{Fits, Follows, Reaches, reading, reader_of, resting, nobody, seen_by, told_to, walk_by, is_retired, told_of, shown}
+use Rattle.nsc_seats.specs.Seats.{Fits, Follows, Reaches, reader_of, resting, nobody, seen_by, told_to, walk_by, is_retired, told_of, shown}
 use Rattle.nsc_seats.proofs.Numbers.{prefix_through, loads_on}
 
 -- a walk reaches as far where the nodes grow

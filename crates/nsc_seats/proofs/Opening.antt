@@ -1,5 +1,5 @@
 -- A table at its start keeps the rule.
-use Rattle.std.proofs.Common.{◌≡◌, ◌≢◌, ◌∙◌, ℕ, zero, suc, ◌+◌, ◌%◌, ◌<◌, ◌≤◌, true, List, [], ◌∷◌, length, length-set, replicate, set, slice_index, refl, sym, ap, subst, arith, get_or-set_other, inl, inr}
+use Rattle.std.proofs.Common.{◌≡◌, ◌≢◌, ◌∙◌, ℕ, zero, suc, ◌<◌, List, [], ◌∷◌, length, length-set, replicate, slice_index, refl, sym, subst, arith, get_or-set_other}
 use Rattle.std.proofs.lemmas.List.{get_or-replicate, length-replicate}
 use mathlib.Core.Option.{some, some-ne-none, some-injective}
 use lib.ListN.{get_elem?}
@@ -8,11 +8,10 @@ use Rattle.nsc_words.specs.declared.layout.Layout.{Layout}
 use Rattle.nsc_words.specs.Layout.{IsLayout, arena_start, table_words}
 use Rattle.nsc_arena.proofs.Cleared as clear
 use Rattle.nsc_model.specs.Content.{Content}
-use Rattle.nsc_model.specs.History.{HasLoad}
 use Rattle.nsc_model.specs.declared.record.Record.TheVariants.{Change}
 use Rattle.nsc_model.proofs.Beginnings.{prefix_none}
 use Rattle.nsc_seats.specs.declared.view.View.{View}
-use Rattle.nsc_seats.specs.Plans.{Shows, Sits, Sound, cycle_of, filled, first_plan, no_nodes}
+use Rattle.nsc_seats.specs.Plans.{Sits, Sound, filled, first_plan, no_nodes}
 use Rattle.nsc_seats.specs.Seats.{Fits, IsKept, opening_view}
 
 pub zero_at : (layout : Layout) (i : ℕ) → i < table_words layout → i ≢ 3 → slice_index (no_nodes layout) i ≡ 0

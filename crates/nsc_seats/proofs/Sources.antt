@@ -1,16 +1,16 @@
 -- The database is invalidated, or its files are looked at.
-use Rattle.std.proofs.Common.{◌≡◌, ◌≢◌, ◌∙◌, ℕ, ◌+◌, ◌%◌, ◌<◌, ◌≤◌, false, List, [], ◌∷◌, Some, length-set, set, slice_index, refl, sym, ap, subst, arith, get_or-set_other, get_or-set_same}
+use Rattle.std.proofs.Common.{◌≡◌, ◌≢◌, ◌∙◌, ℕ, ◌+◌, ◌%◌, ◌<◌, ◌≤◌, false, List, [], ◌∷◌, Some, length-set, set, slice_index, refl, sym, ap, arith, get_or-set_other, get_or-set_same}
 use Rattle.std.proofs.lemmas.List.{set-get_or}
 use Rattle.nsc_words.specs.declared.node.Placed.{Placed}
 use Rattle.nsc_model.specs.Content.{Content}
 use Rattle.nsc_model.specs.Entry.{Entry}
 use Rattle.nsc_model.specs.Machine.{last_count}
 use Rattle.nsc_model.specs.declared.record.Record.{Record}
-use Rattle.nsc_model.specs.declared.record.Record.TheVariants.{Change, Poll, Load, End, Invalid}
-use Rattle.nsc_model.specs.History.{changes, invalidations, loads, newest, IsLive, IsPrefix, Legal, NoneLive}
+use Rattle.nsc_model.specs.declared.record.Record.TheVariants.{Change, Poll, Invalid}
+use Rattle.nsc_model.specs.History.{changes, invalidations, loads, newest, IsLive, Legal, NoneLive}
 use Rattle.nsc_model.proofs.Beginnings.{prefix_all, prefix_more}
 use Rattle.nsc_seats.specs.declared.view.Plan.{Plan}
-use Rattle.nsc_seats.specs.Plans.{IsEven, Later, Shows, Sits, Sound}
+use Rattle.nsc_seats.specs.Plans.{Later, Shows, Sits, Sound}
 use Rattle.nsc_seats.specs.Strokes.{after, changed, invalidated, polled}
 use Rattle.nsc_seats.specs.declared.view.Stroke.TheVariants as stroke
 use Rattle.nsc_seats.proofs.Filled.{grows_same, head_set, later_at, sits_on}

@@ -1,16 +1,15 @@
 -- Steps of the pen that leave the history as it is.
-use Rattle.std.proofs.Common.{◌≡◌, ◌≢◌, ◌∙◌, ℕ, ◌+◌, ◌%◌, ◌^◌, ◌<◌, ◌≤◌, false, ◌⊎◌, ⊎_elim, List, length, length-set, set, slice_index, refl, sym, ap, subst, arith, get_or-set_other, get_or-set_same}
+use Rattle.std.proofs.Common.{◌≡◌, ◌≢◌, ◌∙◌, ℕ, ◌+◌, ◌%◌, ◌^◌, ◌<◌, ◌≤◌, false, ◌⊎◌, ⊎_elim, List, length-set, set, slice_index, refl, sym, ap, subst, arith, get_or-set_other, get_or-set_same}
 use Rattle.std.proofs.lemmas.Bool.{cases_eq}
-use Rattle.nsc_words.specs.declared.layout.Layout.{Layout}
 use Rattle.nsc_words.specs.declared.node.Placed.{Placed}
-use Rattle.nsc_words.specs.Laid.{Laid, end_of}
-use Rattle.nsc_words.specs.Layout.{arena_start, table_words}
+use Rattle.nsc_words.specs.Laid.{Laid}
+use Rattle.nsc_words.specs.Layout.{arena_start}
 use Rattle.nsc_arena.proofs.Rows.{end_after, same_below}
 use Rattle.nsc_arena.specs.ReadBack.{nodes_in}
 use Rattle.nsc_model.specs.Machine.{last_count}
 use Rattle.nsc_model.proofs.Beginnings.{prefix_all}
 use Rattle.nsc_seats.specs.declared.view.Plan.{Plan}
-use Rattle.nsc_seats.specs.Plans.{Grows, IsEven, IsOdd, Later, Shows, Sound, cycle_of, end_in, filled}
+use Rattle.nsc_seats.specs.Plans.{IsEven, IsOdd, Later, Shows, Sound, cycle_of, filled}
 use Rattle.nsc_seats.specs.Strokes.{IsFree, IsSlid, begun, finished, stored}
 use Rattle.nsc_seats.proofs.Filled.{filled_again, filled_set, grows_same, head_set, later_at, sound_at}
 

@@ -1,10 +1,10 @@
 -- A word of a chain is made to lead past an ended node.
-use Rattle.std.proofs.Common.{◌≡◌, ◌≢◌, ◌∙◌, ℕ, ◌+◌, ◌<◌, ◌≤◌, ◌⊎◌, true, false, true≢false, inl, inr, ⊎_elim, List, length, length-set, set, slice_index, refl, sym, ap, subst, arith, get_or-set_other, get_or-set_same}
+use Rattle.std.proofs.Common.{◌≡◌, ◌≢◌, ◌∙◌, ℕ, ◌+◌, ◌<◌, ◌≤◌, ◌⊎◌, false, true≢false, inl, inr, ⊎_elim, List, length, length-set, set, slice_index, refl, sym, ap, subst, arith, get_or-set_other, get_or-set_same}
 use Rattle.std.proofs.lemmas.Bool.{cases_eq, cases_lt}
 use Rattle.nsc_words.specs.declared.layout.Layout.{Layout}
 use Rattle.nsc_words.specs.declared.node.Placed.{Placed}
 use Rattle.nsc_words.specs.Laid.{Among, InRow, Laid, Leads, bucket_in, end_of, words_in}
-use Rattle.nsc_words.specs.Layout.{IsLayout, arena_start, table_words}
+use Rattle.nsc_words.specs.Layout.{arena_start, table_words}
 use Rattle.nsc_arena.proofs.Rows.{apart, end_after, kept, same_place, within}
 use Rattle.nsc_seats.specs.declared.view.Plan.{Plan}
 use Rattle.nsc_seats.specs.Plans.{IsEven, Shows, Sound, filled}

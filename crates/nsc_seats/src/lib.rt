@@ -6,6 +6,7 @@ mod map;
 mod pass;
 mod pen;
 mod plays;
+mod steps;
 mod view;
 mod writing;
 

@@ -3,7 +3,7 @@ ghost use Rattle.nsc_model.specs.History.{Legal, IsPrefix};
 ghost use Rattle.nsc_seats.specs.Seats.{is_retired, reading, seen_by, walk_by};
 
 use crate::map::Map;
-use crate::plays::{Copies, Meets, Shows, Tells};
+use crate::plays::{Copies, Hears, Meets, Shows};
 use crate::view::View;
 use atomic_table::Seat;
 use nsc_words::CYCLE;
@@ -12,7 +12,7 @@ use std::marker::Model;
 /// A seat at the words of a database that only reads, with what it has seen of the history, and how far its search has come.
 #[derive(Drop)]
 pub struct Pass {
-    seat: Seat<(), View>,
+    pub(crate) seat: Seat<(), View>,
 }
 
 impl Model for Pass {
@@ -83,7 +83,7 @@ impl Pass {
     {
         let words = map.words();
         let other = other.into_seat();
-        words.join_seat::<Tells>(&mut self.seat, other);
+        words.join_seat::<Hears>(&mut self.seat, other);
         words.load::<Meets>(&mut self.seat, CYCLE);
     }
 }

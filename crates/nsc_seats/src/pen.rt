@@ -7,7 +7,7 @@ ghost use Rattle.nsc_seats.specs.Seats.{plan_by, resting, writing};
 
 use crate::map::Map;
 use crate::pass::Pass;
-use crate::plays::{Becomes, Copies, Learns, Looks, Moves, Tells};
+use crate::plays::{Becomes, Copies, Hears, Learns, Looks, Moves};
 use crate::view::{Stroke, View};
 use atomic_table::Seat;
 use nsc_words::{CYCLE, FIRST_FREE, HEAD_WORDS, Layout};
@@ -108,7 +108,7 @@ impl Pen {
     {
         let words = map.words();
         let copy = pass.split(map).into_seat();
-        words.join_seat::<Tells>(&mut self.seat, copy);
+        words.join_seat::<Hears>(&mut self.seat, copy);
         words.load::<Learns>(&mut self.seat, CYCLE);
     }
 

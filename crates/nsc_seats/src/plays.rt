@@ -36,6 +36,28 @@ impl<J: Becomes> Play<(), View> for Moves<J> {
     ghost then = { WriteTells J.plan };
 }
 
+/// What a load of a search tells.
+pub trait Tells {
+    ghost use Rattle.std.specs.Prelude.{ℕ};
+    ghost use Rattle.nsc_seats.specs.declared.view.View.{View};
+
+    // Of the word and the view after.
+    ghost told: { ℕ → View → Type 0 };
+}
+
+impl Tells for Brand {
+    ghost told = { λ found w. Unit {0} };
+}
+
+/// A load of a search.
+pub struct Searches<J: Tells>(PhantomData<J>);
+
+impl<J: Tells> Play<(), View> for Searches<J> {
+    ghost use Rattle.std.specs.Prelude.{◌≡◌};
+
+    ghost then = { λ s me found me'. J.told found me'.0 × (me'.1 ≡ me.1) };
+}
+
 /// A load by the pen.
 pub struct Looks;
 
@@ -75,9 +97,9 @@ impl Split<View> for Copies {
 }
 
 /// A seat is told what another one has seen.
-pub struct Tells;
+pub struct Hears;
 
-impl Join<View> for Tells {
+impl Join<View> for Hears {
     ghost use Rattle.nsc_seats.specs.Seats.{told_of, nobody};
 
     ghost both = { told_of };

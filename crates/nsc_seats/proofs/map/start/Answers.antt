@@ -1,6 +1,5 @@
 use Rattle.std.proofs.Common.{◌≡◌, ◌∙◌, ℕ, List, [], sym, subst, rules}
 use Rattle.atomic_table.specs.Table.{opening}
-use Rattle.nsc_seats.specs.declared.view.Plan.{Plan}
 use Rattle.nsc_seats.specs.Plans.{Sound, first_plan}
 use Rattle.nsc_seats.specs.Seats.{IsKept, opening_view, plan_by}
 use Rattle.nsc_seats.proofs.Opening.{opens, sound_first}
