@@ -11,3 +11,4 @@ pub mod Sources
 pub mod Crossing
 pub mod Reached
 pub mod Searched
+pub mod Callers
