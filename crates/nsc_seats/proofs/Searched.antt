@@ -52,7 +52,7 @@ begins seat request seen retired walk p sound was =
           bound = λ q among usable is low. let shows = shown_at p (cycle_of p) sound refl even in let at = within (arena_start p.layout) p.nodes q shows.laid.row among in let room = shows.laid.room in omega arith;
         };
       },
-      record { view = refl; legal = sound.legal; before = was.seen; last = sound.cycle },
+      record { view = refl; legal = sound.legal; before = was.seen; most = sound.cycle },
     )
 
 -- ---- a walk goes on to where a word of a chain leads
@@ -287,6 +287,7 @@ ends seat seen retired walk p sound was =
         before = was.seen;
         first = first;
         known = known;
+        most = sound.cycle;
         none_older = λ steady bottom e live of.
             let same : walk.first ≡ cycle_of p = sym steady.0 in
             let shows = shown_at p walk.first sound same steady.1 in

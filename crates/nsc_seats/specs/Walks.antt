@@ -69,7 +69,7 @@ pub record BeginTells (layout : Layout) (request : Request) (v : View) (found : 
   pub view : w ≡ reading (seen_by w) (is_retired v) (begun_walk layout request (seen_by w) found (walk_by v))
   pub legal : Legal (seen_by w)
   pub before : IsPrefix (seen_by v) (seen_by w)
-  pub last : found ≤ last_count
+  pub most : found ≤ last_count
 
 -- a bucket's word
 pub record BucketTells (layout : Layout) (v : View) (found : ℕ) (w : View) : Type 0 where
@@ -103,4 +103,5 @@ pub record LastTells (v : View) (found : ℕ) (w : View) : Type 0 where
   pub before : IsPrefix (seen_by v) (seen_by w)
   pub first : (walk_by v).first ≤ (walk_by v).known
   pub known : (walk_by v).known ≤ found
+  pub most : found ≤ last_count
   pub none_older : IsSteady (walk_by w) → (walk_by v).place ≡ 0 → NoneOlder (seen_by w) (walk_by v)

@@ -30,7 +30,7 @@ impl Pass {
         ensures table { self.new.table ≡ self.old.table }
         ensures before { IsPrefix self.old.seen self.new.seen }
         ensures walk { self.new.walk ≡ begun_walk map.now.layout request self.new.seen result self.old.walk }
-        ensures last { result ≤ last_count }
+        ensures most { result ≤ last_count }
     {
         look::<Brand>(&mut self.seat, map, CYCLE)
     }
@@ -96,6 +96,7 @@ impl Pass {
         ensures walk { self.new.walk ≡ record self.old.walk { known = result; last = result } }
         ensures first { self.old.walk.first ≤ self.old.walk.known }
         ensures known { self.old.walk.known ≤ result }
+        ensures most { result ≤ last_count }
         ensures none { IsSteady self.new.walk → self.old.walk.place ≡ 0 → NoneOlder self.new.seen self.old.walk }
     {
         look::<Brand>(&mut self.seat, map, CYCLE)
