@@ -1,0 +1,14 @@
+pub mod Numbers
+pub mod Onward
+pub mod Moves
+pub mod Opening
+pub mod Filled
+pub mod Steady
+pub mod Linked
+pub mod Altered
+pub mod Unlinked
+pub mod Sources
+pub mod Crossing
+pub mod Reached
+pub mod Searched
+pub mod Callers

@@ -1,0 +1,136 @@
+-- The rule of the shared words: they are those of the plan that the writing seat knows, which is sound, and what each other seat
+-- knows follows that plan.
+use Rattle.std.specs.Prelude.{◌≡◌, ℕ, ◌%◌, ◌<◌, ◌≤◌, nat_lt, if◌then◌else◌, Bool, true, false, List, [], length, slice_index, Some, None}
+use mathlib.Core.Option as maybe
+use lib.ListN.{get_elem?}
+use Rattle.atomic_table.specs.Table.{State, Me, Step}
+use Rattle.nsc_words.specs.declared.layout.Layout.{Layout}
+use Rattle.nsc_words.specs.declared.node.Placed.{Placed}
+use Rattle.nsc_words.specs.Laid.{Among}
+use Rattle.nsc_model.specs.Content.{Content}
+use Rattle.nsc_model.specs.Entry.{Entry}
+use Rattle.nsc_model.specs.History.{loads, IsPrefix}
+use Rattle.nsc_model.specs.declared.kind.Kind.TheVariants as kind
+use Rattle.nsc_model.specs.declared.record.Record.{Record}
+use Rattle.nsc_seats.specs.declared.view.Plan.{Plan}
+use Rattle.nsc_seats.specs.declared.view.Walk.{Walk}
+use Rattle.nsc_seats.specs.declared.view.View.{View}
+use Rattle.nsc_seats.specs.declared.view.View.TheVariants.{Writes, Reads}
+use Rattle.nsc_seats.specs.Entries.{entry_of, request_bucket, request_in}
+use Rattle.nsc_seats.specs.Plans.{cycle_of, Sound, first_plan}
+
+-- ---- the views of the seats
+
+-- no search has begun
+abbrev pub resting : Walk
+resting = record { searches = 0; first = 0; last = 0; began = []; request = record { kind = kind.PwName; key = [] }; known = 0; place = 0; on = None; gone = false }
+
+-- the seat that writes
+abbrev pub writing : Plan → View
+writing p = Writes p []
+
+abbrev pub reading : List Record → Bool → Walk → View
+reading seen retired walk = Reads seen [] retired walk
+
+abbrev pub opening_view : Layout → Content → View
+opening_view layout content = writing (first_plan layout content)
+
+abbrev pub nobody : View
+nobody = reading [] false resting
+
+-- the parts of a view
+abbrev pub seen_by : View → List Record
+seen_by (Writes plan told) = plan.seen
+seen_by (Reads seen told retired walk) = seen
+
+abbrev pub told_to : View → List Record
+told_to (Writes plan told) = told
+told_to (Reads seen told retired walk) = told
+
+abbrev pub is_retired : View → Bool
+is_retired (Writes plan told) = plan.retired
+is_retired (Reads seen told retired walk) = retired
+
+-- the walk of a seat; that of the writing one rests
+abbrev pub walk_by : View → Walk
+walk_by (Writes plan told) = resting
+walk_by (Reads seen told retired walk) = walk
+
+-- no plan
+abbrev pub no_plan : Plan
+no_plan = record { layout = record { buckets = 0; arena = 0 }; seen = []; words = []; nodes = []; retired = false }
+
+-- the plan of the seat that writes
+abbrev pub plan_by : View → Plan
+plan_by (Writes plan told) = plan
+plan_by (Reads seen told retired walk) = no_plan
+
+-- a new seat beside this one, which reads
+abbrev pub reader_of : View → View
+reader_of v = reading (seen_by v) (is_retired v) (walk_by v)
+
+-- this seat, told what another one has seen
+abbrev pub told_of : View → View → View
+told_of (Writes plan told) w = Writes plan (seen_by w)
+told_of (Reads seen told retired walk) w = Reads seen (seen_by w) retired walk
+
+-- this seat, which has seen what another one has seen
+abbrev pub shown : View → View → View
+shown (Writes plan told) w = Writes plan told
+shown (Reads seen told retired walk) w = Reads (seen_by w) told (is_retired w) walk
+
+-- the longer of two lists of records, and the first one of two that are equally long
+abbrev pub longer : List Record → List Record → List Record
+longer seen told = if nat_lt (length seen) (length told) then told else seen
+
+-- ---- a search under way
+
+-- the entry that a walk stands on stands at its place, in the bucket that it follows, ended where the walk found it so; and the
+-- usable nodes that answer its request, of those that stood when it began, are at its place or below
+pub record Reaches (p : Plan) (w : Walk) : Type 0 where
+  pub at : (e : Entry) → w.on ≡ Some e → (q : Placed) × Among q p.nodes × (q.place ≡ w.place) × (entry_of q ≡ e) × (request_bucket p.layout e.request ≡ request_bucket p.layout w.request) × (w.gone ≡ true → q.usable ≡ false)
+  pub bound : (q : Placed) → Among q p.nodes → q.usable ≡ true → request_in q ≡ w.request → q.node.number < loads w.began → q.place ≤ w.place
+
+-- what a seat that reads knows follows the plan: it has seen, and was told of, beginnings of the history; it knows no later CYCLE;
+-- and where CYCLE is still what its search began with, and even, the walk reaches what it is to reach
+pub record Follows (p : Plan) (v : View) : Type 0 where
+  pub seen : IsPrefix (seen_by v) p.seen
+  pub told : IsPrefix (told_to v) p.seen
+  pub began : IsPrefix (walk_by v).began p.seen
+  pub first : (walk_by v).first ≤ (walk_by v).known
+  pub known : (walk_by v).known ≤ cycle_of p
+  pub retired : is_retired v ≡ true → (p.retired ≡ true) × (seen_by v ≡ p.seen)
+  pub reaches : (walk_by v).first ≡ cycle_of p → (walk_by v).first % 2 ≡ 0 → Reaches p (walk_by v)
+
+-- what a seat knows is so. The one that writes is the first one, and its plan is the plan
+abbrev pub Fits : Plan → ℕ → View → Type 0
+Fits p seat (Writes plan told) = (seat ≡ 0) × (plan ≡ p) × IsPrefix told p.seen
+Fits p seat (Reads seen told retired walk) = Follows p (Reads seen told retired walk)
+
+-- the rule
+pub record IsKept (key : Layout) (s : State (Unit {0}) View) : Type 0 where
+  pub plan : Plan
+  pub layout : plan.layout ≡ key
+  pub words : s.words ≡ plan.words
+  pub sound : Sound plan
+  pub fits : (seat : ℕ) (v : View) → get_elem? s.views seat ≡ maybe.some v → Fits plan seat v
+
+-- ---- what the steps tell
+
+-- the writing seat has this plan
+abbrev pub WriteTells : Plan → Step (Unit {0}) → Me (Unit {0}) View → ℕ → Me (Unit {0}) View → Type 0
+WriteTells plan s me found me' = me' ≡ (writing plan, me.1)
+
+-- the word is that of the plan
+abbrev pub LoadTells : Step (Unit {0}) → Me (Unit {0}) View → ℕ → Me (Unit {0}) View → Type 0
+LoadTells s me found me' = (found ≡ slice_index (plan_by me.0).words s.word) × (me' ≡ me)
+
+-- what the writing seat was told of begins its history
+abbrev pub LearnTells : Step (Unit {0}) → Me (Unit {0}) View → ℕ → Me (Unit {0}) View → Type 0
+LearnTells s me found me' = IsPrefix (told_to me.0) (seen_by me.0) × (me' ≡ (writing (plan_by me.0), me.1))
+
+-- both lists begin the longer one, which was then seen
+abbrev pub MeetTells : Step (Unit {0}) → Me (Unit {0}) View → ℕ → Me (Unit {0}) View → Type 0
+MeetTells s me found me' =
+    let both = longer (seen_by me.0) (told_to me.0) in
+    IsPrefix (seen_by me.0) both × IsPrefix (told_to me.0) both × (me' ≡ (reading both (is_retired me.0) (walk_by me.0), me.1))

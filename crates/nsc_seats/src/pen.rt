@@ -1,0 +1,143 @@
+ghost use Rattle.std.specs.Prelude.{◌≡◌, ℕ, ◌<◌, ◌≤◌, [], slice_index, slice_set};
+ghost use Rattle.nsc_model.specs.History.{IsPrefix};
+ghost use Rattle.nsc_words.specs.Layout.{table_words};
+ghost use Rattle.nsc_seats.specs.Plans.{Later, Sound, no_nodes};
+ghost use Rattle.nsc_seats.specs.Strokes.{after};
+ghost use Rattle.nsc_seats.specs.Seats.{plan_by, resting, writing};
+
+use crate::map::Map;
+use crate::pass::Pass;
+use crate::plays::{Becomes, Copies, Hears, Learns, Looks, Moves};
+use crate::view::{Stroke, View};
+use atomic_table::Seat;
+use nsc_words::{CYCLE, FIRST_FREE, HEAD_WORDS, Layout};
+use std::marker::{Brand, Model};
+
+/// The one seat that writes the words of a database. It has seen the whole history, and knows every word.
+#[derive(Drop)]
+pub struct Pen {
+    seat: Seat<(), View>,
+    // The head words, so that they are read without a step.
+    heads: [u64; 16],
+}
+
+impl Model for Pen {
+    ghost use Rattle.std.specs.Prelude.{◌≡◌, ℕ, ◌<◌, [], slice_index};
+    ghost use Rattle.nsc_words.specs.Layout.{table_words};
+    ghost use Rattle.nsc_seats.specs.Pen.{Pen};
+    ghost use Rattle.nsc_seats.specs.Plans.{Sound};
+    ghost use Rattle.nsc_seats.specs.Seats.{plan_by, writing};
+
+    ghost Value = { Pen };
+
+    ghost view = { λ p. record { table = p.seat.table_id; plan = plan_by p.seat.me.0 } };
+
+    ghost invariant = { λ p. (p.seat.me ≡ (writing (plan_by p.seat.me.0), [])) × Sound (plan_by p.seat.me.0) × (p.seat.table_id.words ≡ table_words (plan_by p.seat.me.0).layout) × ((i : ℕ) → i < 16 → slice_index p.heads i ≡ slice_index (plan_by p.seat.me.0).words i) };
+}
+
+impl Pen {
+    // The pen of a seat that has just been dealt.
+    pub(crate) fn new(seat: Seat<(), View>, layout: Layout) -> Pen
+        requires seat { seat.me ≡ (writing (plan_by seat.me.0), []) }
+        requires sound { Sound (plan_by seat.me.0) }
+        requires table { seat.table_id.words ≡ table_words layout }
+        requires layout { (plan_by seat.me.0).layout ≡ layout }
+        requires words { (plan_by seat.me.0).words ≡ no_nodes layout }
+        ensures { result ≡ record { table = seat.table_id; plan = plan_by seat.me.0 } }
+    {
+        let mut heads = [0; 16];
+        heads[FIRST_FREE] = layout.arena_start() as u64;
+        Pen { seat, heads }
+    }
+
+    /// What holds of its plan between any two steps.
+    pub fn learn(&self)
+        ensures sound { Sound self.now.plan }
+        ensures table { self.now.table.words ≡ table_words self.now.plan.layout }
+    {
+        let _ = &self.seat;
+    }
+
+    /// A head word, by its place from 0 to 15. It takes no step.
+    pub fn head(&self, at: usize) -> u64
+        requires { at < 16 }
+        ensures { result ≡ slice_index self.now.plan.words at }
+    {
+        self.heads[at]
+    }
+
+    /// The word at a place.
+    pub fn load(&mut self, map: &Map, at: usize) -> u64
+        requires map { map.now.table ≡ self.old.table }
+        requires inside { at < table_words self.old.plan.layout }
+        ensures word { result ≡ slice_index self.old.plan.words at }
+        ensures same { self.new ≡ self.old }
+    {
+        map.words().load::<Looks>(&mut self.seat, at)
+    }
+
+    /// A pass that has seen the whole history, with no search.
+    pub fn pass(&mut self, map: &Map) -> Pass
+        requires { map.now.table ≡ self.old.table }
+        ensures same { self.new ≡ self.old }
+        ensures pass { result ≡ record { table = self.old.table; seen = self.old.plan.seen; walk = resting } }
+    {
+        Pass::new(map.words().split_seat::<Copies>(&mut self.seat))
+    }
+
+    /// The pass has seen the whole history then, which begins with what it had seen. Its search stays.
+    pub fn show(&mut self, map: &Map, pass: &mut Pass)
+        requires pen { map.now.table ≡ self.old.table }
+        requires pass { map.now.table ≡ pass.old.table }
+        ensures same { self.new ≡ self.old }
+        ensures pass { pass.new ≡ record pass.old { seen = self.old.plan.seen } }
+        ensures before { IsPrefix pass.old.seen self.old.plan.seen }
+    {
+        self.hear(map, pass);
+        let whole = self.pass(map);
+        pass.take(map, whole);
+    }
+
+    // What the pass has seen begins the history.
+    fn hear(&mut self, map: &Map, pass: &mut Pass)
+        requires pen { map.now.table ≡ self.old.table }
+        requires pass { map.now.table ≡ pass.old.table }
+        ensures same { self.new ≡ self.old }
+        ensures pass { pass.new ≡ pass.old }
+        ensures before { IsPrefix pass.old.seen self.old.plan.seen }
+    {
+        let words = map.words();
+        let copy = pass.split(map).into_seat();
+        words.join_seat::<Hears>(&mut self.seat, copy);
+        words.load::<Learns>(&mut self.seat, CYCLE);
+    }
+
+    // One step: the word at a place becomes this one, which comes to what the stroke says.
+    pub(crate) fn write(&mut self, map: &Map, at: usize, word: u64, stroke: &Stroke)
+        requires map { map.now.table ≡ self.old.table }
+        requires inside { at < table_words self.old.plan.layout }
+        requires sound { Sound (after stroke.now at word self.old.plan) }
+        requires later { Later self.old.plan (after stroke.now at word self.old.plan) }
+        ensures { self.new ≡ record self.old { plan = after stroke.now at word self.old.plan } }
+    {
+        put::<Brand>(&mut self.seat, map, at, word, stroke);
+        if at < HEAD_WORDS {
+            self.heads[at] = word;
+        }
+    }
+}
+
+// Writes a word as the plan that is picked wants it.
+fn put<J: Becomes>(seat: &mut Seat<(), View>, map: &Map, at: usize, word: u64, stroke: &Stroke)
+    requires table { seat.old.table_id ≡ map.now.table }
+    requires inside { at < map.now.table.words }
+    requires pen { seat.old.me ≡ (writing (plan_by seat.old.me.0), []) }
+    requires words { J.plan.words ≡ slice_set (plan_by seat.old.me.0).words at word }
+    requires sound { Sound J.plan }
+    requires later { Later (plan_by seat.old.me.0) J.plan }
+    ensures table { seat.new.table_id ≡ seat.old.table_id }
+    ensures pen { seat.new.me ≡ (writing J.plan, []) }
+{
+    let _ = stroke;
+    map.words().store::<Moves<J>>(seat, at, word);
+}

@@ -1,0 +1,104 @@
+// What the seats at the words know.
+use nsc_model::{Content, Ending, Entry, Record, Request};
+use nsc_words::{Layout, Placed};
+use std::collections::LinkedList;
+use std::snapshot::Snapshot;
+
+/// What the seat that writes knows: the table itself. No value of it is made.
+pub struct Plan {
+    /// How the words are laid out.
+    pub layout: Layout,
+    /// The history, the newest record first.
+    pub seen: LinkedList<Record>,
+    /// All words.
+    pub words: [u64; 0],
+    /// The nodes, the newest first. While a compaction is under way, those before it.
+    pub nodes: LinkedList<Placed>,
+    /// Whether another table goes on in place of this one.
+    pub retired: bool,
+}
+
+/// How far the search of a seat that reads has come. No value of it is made.
+pub struct Walk {
+    /// How many searches it has begun.
+    pub searches: u64,
+    /// What CYCLE was when the latest search began.
+    pub first: u64,
+    /// What CYCLE was at the latest end of a search.
+    pub last: u64,
+    /// The history when the search began.
+    pub began: LinkedList<Record>,
+    /// What is searched for.
+    pub request: Request,
+    /// What CYCLE was at the latest step.
+    pub known: u64,
+    /// Where it stands: a node's place, or 0.
+    pub place: u64,
+    /// The entry of the node on which it stands.
+    pub on: Option<Entry>,
+    /// Whether that entry was found ended.
+    pub gone: bool,
+}
+
+/// What a seat knows, and what it was told that another seat has seen. No value of it is made.
+pub enum View {
+    /// The seat that writes.
+    Writes {
+        /// What it knows.
+        plan: Plan,
+        /// What it was told of.
+        told: LinkedList<Record>,
+    },
+    /// A seat that reads.
+    Reads {
+        /// The history, as far as it has seen it.
+        seen: LinkedList<Record>,
+        /// What it was told of.
+        told: LinkedList<Record>,
+        /// Whether it has seen that another table goes on in place of this one.
+        retired: bool,
+        /// Its search.
+        walk: Walk,
+    },
+}
+
+/// What the table is told once, when it is made.
+#[derive(Drop)]
+pub struct About {
+    /// How the words are laid out.
+    pub layout: Layout,
+    /// The content of version 0.
+    pub content: Snapshot<Content>,
+}
+
+/// What a step of the pen comes to, beside the word that it writes.
+#[derive(Drop)]
+pub enum Stroke {
+    /// Nothing more.
+    Plain,
+    /// The node at this place has the word as its count of reloads.
+    Reloads {
+        /// The place.
+        place: usize,
+    },
+    /// The node at the place that the word names is linked, and its entry inserted.
+    Publish,
+    /// The node at this place ends.
+    End {
+        /// The place.
+        place: usize,
+        /// Why it ends.
+        cause: Ending,
+    },
+    /// A compaction is over.
+    Even,
+    /// The database is invalidated, as often as the word says.
+    Invalid,
+    /// The version that the word names is confirmed.
+    Poll,
+    /// The files have this content, which is the version that the word names.
+    Change {
+        /// The content.
+        content: Snapshot<Content>,
+    },
+}
