@@ -2,7 +2,7 @@
 use Rattle.std.proofs.Common.{◌≡◌, ◌≢◌, ℕ, ◌+◌, ◌-◌, ◌<◌, ◌≤◌, Bool, true, false, cond, List, length, set, slice_index, ap, ◌∙◌, arith, get_or-set_same, get_or-set_other}
 use Rattle.nsc_words.specs.declared.layout.Layout.{Layout}
 use Rattle.nsc_words.specs.declared.node.Placed.{Placed}
-use Rattle.nsc_words.specs.Laid.{Laid}
+use Rattle.nsc_words.specs.Laid.{Laid, end_of}
 use Rattle.nsc_words.specs.Layout.{arena_start}
 use Rattle.nsc_arena.specs.ReadBack.{nodes_in}
 use Rattle.nsc_arena.proofs.ReadBack.{read_back}
@@ -25,12 +25,11 @@ counted_at old new layout count mark k value after low high set_is is same =
     let laid = set_head old new layout nodes k value high (omega arith) set_is is.laid in
     let back = read_back new layout nodes laid in
     let e0 = other_word old new k value 0 (omega arith) set_is in
-    let e3 = other_word old new k value 3 (omega arith) set_is in
     let e4 = other_word old new k value 4 (omega arith) set_is in
-    let view : shelf_of new layout ≡ record (shelf_of old layout) { add_failed = slice_index new 9; hits = uses_at new 5; misses = uses_at new 7 } = λ i. record { entries = entries_in (back i); used = e3 i - arena_start layout; inserted = e4 i; cycle = e0 i; add_failed = slice_index new 9; hits = uses_at new 5; misses = uses_at new 7 } in
+    let view : shelf_of new layout ≡ record (shelf_of old layout) { add_failed = slice_index new 9; hits = uses_at new 5; misses = uses_at new 7 } = λ i. record { entries = entries_in (back i); used = end_of (arena_start layout) (back i) - arena_start layout; inserted = e4 i; cycle = e0 i; add_failed = slice_index new 9; hits = uses_at new 5; misses = uses_at new 7 } in
     record {
       laid = laid;
-      altered = record { cycle = e0; shelf = shelf_by new layout nodes (slice_index old 4) count mark is.sizes laid is.entries e4 is.counted is.live is.marked; view = view ∙ same };
+      altered = record { cycle = e0; epoch = other_word old new k value 1 (omega arith) set_is; source = other_word old new k value 2 (omega arith) set_is; shelf = shelf_by new layout nodes (slice_index old 4) count mark is.sizes laid is.entries e4 is.counted is.live is.marked; view = view ∙ same };
     }
   where
     other_word : (old new : List ℕ) (k value i : ℕ) → i ≢ k → new ≡ set old k value → slice_index new i ≡ slice_index old i

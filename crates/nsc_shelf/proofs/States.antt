@@ -34,13 +34,12 @@ pub view_by : (words : List ℕ) (map : Layout) (nodes : List Placed) (inserted 
     → shelf_of words map ≡ record { entries = entries_in nodes; used = end_of (arena_start map) nodes - arena_start map; inserted = inserted; cycle = cycle; add_failed = slice_index like 9; hits = uses_at like 5; misses = uses_at like 7 }
 view_by words map nodes inserted cycle like laid e4 e0 same =
     let back = read_back words map nodes laid in
-    let first = laid.first_free in
     let e5 = same 5 (omega arith) (omega arith) in
     let e6 = same 6 (omega arith) (omega arith) in
     let e7 = same 7 (omega arith) (omega arith) in
     let e8 = same 8 (omega arith) (omega arith) in
     let e9 = same 9 (omega arith) (omega arith) in
-    λ i. record { entries = entries_in (back i); used = first i - arena_start map; inserted = e4 i; cycle = e0 i; add_failed = e9 i; hits = record { found = e5 i; not_found = e6 i }; misses = record { found = e7 i; not_found = e8 i } }
+    λ i. record { entries = entries_in (back i); used = end_of (arena_start map) (back i) - arena_start map; inserted = e4 i; cycle = e0 i; add_failed = e9 i; hits = record { found = e5 i; not_found = e6 i }; misses = record { found = e7 i; not_found = e8 i } }
 
 pub shelf_by : (words : List ℕ) (map : Layout) (nodes : List Placed) (inserted count : ℕ) (mark : Mark) → IsLayout map → Laid words map nodes → AreEntries nodes inserted → slice_index words 4 ≡ inserted → inserted ≤ last_count → count ≡ length (entries_in nodes) → IsMark map nodes mark.place mark.number → IsShelf words map count mark
 shelf_by words map nodes inserted count mark sizes laid entries e4 counted live marked =
@@ -90,12 +89,14 @@ marked_still f layout nodes from number leaves mark = record {
 -- the words of a shelf were changed, and it is this one then
 pub record Altered (old new : List ℕ) (layout : Layout) (count : ℕ) (mark : Mark) (after : Shelf) : Type 0 where
   pub cycle : slice_index new 0 ≡ slice_index old 0
+  pub epoch : slice_index new 1 ≡ slice_index old 1
+  pub source : slice_index new 2 ≡ slice_index old 2
   pub shelf : IsShelf new layout count mark
   pub view : shelf_of new layout ≡ after
 
 -- by two changes, one after the other
 pub altered_then : {a b c : List ℕ} {layout : Layout} {count count' : ℕ} {mark mark' : Mark} {mid after : Shelf} → Altered a b layout count mark mid → Altered b c layout count' mark' after → Altered a c layout count' mark' after
-altered_then first second = record { cycle = second.cycle ∙ first.cycle; shelf = second.shelf; view = second.view }
+altered_then first second = record { cycle = second.cycle ∙ first.cycle; epoch = second.epoch ∙ first.epoch; source = second.source ∙ first.source; shelf = second.shelf; view = second.view }
 
 -- once its nodes were changed so
 pub altered : (f : Placed → Placed) (old new : List ℕ) (layout : Layout) (count count' : ℕ) (mark : Mark) (entries : List Kept) → IsChange f → IsShelf old layout count mark → Laid new layout (map f (nodes_in old layout)) → IsSameHead old new → entries_in (map f (nodes_in old layout)) ≡ entries → count' ≡ length entries → Altered old new layout count' mark (record (shelf_of old layout) { entries = entries })
@@ -103,9 +104,11 @@ altered f old new layout count count' mark entries leaves is laid head same live
     let nodes : List Placed = nodes_in old layout in
     let e0 = head 0 (omega arith) (omega arith) in
     let e4 = head 4 (omega arith) (omega arith) in
-    let before : end_of (arena_start layout) (map f nodes) ≡ slice_index old 3 = same_end f (arena_start layout) nodes leaves ∙ sym is.laid.first_free in
+    let before : end_of (arena_start layout) (map f nodes) ≡ end_of (arena_start layout) nodes = same_end f (arena_start layout) nodes leaves in
     record {
       cycle = e0;
+      epoch = head 1 (omega arith) (omega arith);
+      source = head 2 (omega arith) (omega arith);
       shelf = shelf_by new layout (map f nodes) (slice_index old 4) count' mark is.sizes laid (changed_entries f nodes (slice_index old 4) leaves is.entries) e4 is.counted (live ∙ ap length (sym same)) (marked_still f layout nodes mark.place mark.number leaves is.marked);
       view = view_by new layout (map f nodes) (slice_index old 4) (slice_index old 0) old laid e4 e0 (λ i low high. head i (omega arith) (omega arith)) ∙ (λ i. record (shelf_of old layout) { entries = same i; used = before i - arena_start layout });
     }

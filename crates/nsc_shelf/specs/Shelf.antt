@@ -1,16 +1,17 @@
 -- The live entries of a database with their counts, the words in which they stand, and their slide.
-use Rattle.std.specs.Prelude.{◌≡◌, ℕ, ◌≢◌, ◌-◌, ◌<◌, ◌≤◌, ◌+◌, ◌%◌, ◌==◌, nat_le, not, Bool, true, List, [], filter, find, length, Option, Some, None, slice_index}
+use Rattle.std.specs.Prelude.{◌≡◌, ℕ, ◌≢◌, ◌-◌, ◌<◌, ◌≤◌, ◌+◌, ◌%◌, ◌==◌, nat_le, not, Bool, true, if◌then◌else◌, List, [], filter, find, length, Option, Some, None, slice_index}
 use Rattle.std.specs.List.{list_any}
-use Rattle.std.specs.declared.snapshot.Snapshot.{Snapshot}
 use Rattle.nsc_words.specs.declared.layout.Layout.{Layout}
 use Rattle.nsc_words.specs.declared.node.Placed.{Placed}
-use Rattle.nsc_words.specs.Laid.{Among, Laid}
+use Rattle.nsc_words.specs.Laid.{Among, Laid, end_of}
 use Rattle.nsc_words.specs.Layout.{IsLayout, arena_start}
 use Rattle.nsc_arena.specs.Changes.{IsMark}
 use Rattle.nsc_arena.specs.ReadBack.{nodes_in}
 use Rattle.nsc_model.specs.Kinds.{is_request, type_number}
 use Rattle.nsc_model.specs.Machine.{Kept, last_count}
+use Rattle.nsc_rule.specs.declared.view.Plan.{Plan}
 use Rattle.nsc_rule.specs.Entries.{entries_in, kind_of, request_in}
+use Rattle.nsc_rule.specs.Plans.{IsEven}
 use Rattle.nsc_shelf.specs.declared.entry.EntryAt.{EntryAt}
 use Rattle.nsc_shelf.specs.declared.entry.Hit.{Hit}
 use Rattle.nsc_shelf.specs.declared.finding.Mark.{Mark}
@@ -28,11 +29,11 @@ pub record Shelf : Type 0 where
   pub hits : Uses
   pub misses : Uses
 
--- by the words in which the entries stand, and by those with the counts
-abbrev pub shelf_from : List ℕ → List ℕ → Layout → Shelf
-shelf_from before words map = record {
-  entries = entries_in (nodes_in before map);
-  used = slice_index before 3 - arena_start map;
+-- by the nodes, and by the words with the counts
+abbrev pub shelf_in : List Placed → List ℕ → Layout → Shelf
+shelf_in nodes words layout = record {
+  entries = entries_in nodes;
+  used = end_of (arena_start layout) nodes - arena_start layout;
   inserted = slice_index words 4;
   cycle = slice_index words 0;
   add_failed = slice_index words 9;
@@ -41,7 +42,7 @@ shelf_from before words map = record {
 }
 
 abbrev pub shelf_of : List ℕ → Layout → Shelf
-shelf_of words map = shelf_from words words map
+shelf_of words layout = shelf_in (nodes_in words layout) words layout
 
 -- each node is of a kind, its number was given before, and no two usable ones answer one request
 pub record AreEntries (nodes : List Placed) (inserted : ℕ) : Type 0 where
@@ -58,7 +59,23 @@ pub record IsShelf (words : List ℕ) (map : Layout) (count : ℕ) (mark : Mark)
   pub live : count ≡ length (entries_in (nodes_in words map))
   pub marked : IsMark map (nodes_in words map) mark.place mark.number
 
+-- what is known of a plan apart from its history: its words hold its nodes while no slide is under way, and these are entries, with their
+-- count, the mark from which a search by number goes on, and hints that are places of nodes
+pub record IsHeld (plan : Plan) (layout : Layout) (count : ℕ) (mark : Mark) (hints : List ℕ) : Type 0 where
+  pub laid_out : plan.layout ≡ layout
+  pub sizes : IsLayout layout
+  pub laid : IsEven plan → Laid plan.words layout plan.nodes
+  pub entries : AreEntries plan.nodes (slice_index plan.words 4)
+  pub counted : slice_index plan.words 4 ≤ last_count
+  pub live : count ≡ length (entries_in plan.nodes)
+  pub marked : IsMark layout plan.nodes mark.place mark.number
+  pub hinted : AreHints hints layout plan.nodes
+
 -- ---- slides
+
+-- the words of a slide that is under way
+abbrev pub slide_of : List ℕ → Option (List ℕ)
+slide_of words = if slice_index words 0 % 2 == 0 then None else Some words
 
 -- the words of a slide; none, where none is under way
 abbrev pub slide_words : Option (List ℕ) → List ℕ
@@ -70,39 +87,6 @@ pub record HoldEntries (words : List ℕ) (map : Layout) (entries : List Kept) (
   pub laid : Laid words map nodes
   pub kinds : (p : Placed) → Among p nodes → type_number (kind_of p.node.kind) ≡ p.node.kind
   pub live : entries_in nodes ≡ entries
-
--- the words in which the entries of a shelf stand: those before a slide, while one is under way
-abbrev pub entry_words_of : Option (Snapshot (List ℕ)) → List ℕ → List ℕ
-entry_words_of None words = words
-entry_words_of (Some before) words = before.value
-
--- the words of a slide that is under way
-abbrev pub under_way : Option (Snapshot (List ℕ)) → List ℕ → Option (List ℕ)
-under_way None words = None
-under_way (Some before) words = Some words
-
-abbrev pub shelf_in : Option (Snapshot (List ℕ)) → List ℕ → Layout → Shelf
-shelf_in slide words map = shelf_from (entry_words_of slide words) words map
-
--- a slide leaves the head words but FIRST_FREE, and makes the count odd until it ends
-pub record IsSlide (before words : List ℕ) : Type 0 where
-  pub size : length words ≡ length before
-  pub head : (i : ℕ) → i < 16 → i ≢ 0 → i ≢ 3 → slice_index words i ≡ slice_index before i
-  pub cycle : slice_index words 0 ≡ slice_index before 0 + 1
-  pub counted : slice_index before 0 < last_count
-
-abbrev pub KeepsHead : Option (Snapshot (List ℕ)) → List ℕ → Type 0
-KeepsHead None words = Unit {0}
-KeepsHead (Some before) words = IsSlide before.value words
-
--- the entries stand in the words before a slide, if one is under way; the count was even then, and not past its end; and the hints are
--- places of the nodes there
-pub record IsHeld (slide : Option (Snapshot (List ℕ))) (words : List ℕ) (map : Layout) (count : ℕ) (mark : Mark) (hints : List ℕ) : Type 0 where
-  pub shelf : IsShelf (entry_words_of slide words) map count mark
-  pub even : slice_index (entry_words_of slide words) 0 % 2 ≡ 0
-  pub cycles : slice_index (entry_words_of slide words) 0 ≤ last_count
-  pub head : KeepsHead slide words
-  pub hinted : AreHints hints map (nodes_in (entry_words_of slide words) map)
 
 -- ---- entries by number
 

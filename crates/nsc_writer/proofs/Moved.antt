@@ -1,30 +1,31 @@
--- A writer whose words were changed.
-use Rattle.std.proofs.Common.{◌≡◌, ℕ, List, Option, refl, sym, ap, subst, ◌∙◌}
-use Rattle.std.specs.declared.snapshot.Snapshot.{Snapshot}
-use Rattle.atomic_table.specs.Seated.{TableId}
+-- A writer whose pen wrote.
+use Rattle.std.proofs.Common.{◌≡◌, ℕ, List, slice_index, ap, sym, subst, ◌∙◌}
 use Rattle.nsc_words.specs.declared.layout.Layout.{Layout}
+use Rattle.nsc_model.specs.declared.record.Record.{Record}
 use Rattle.nsc_model.specs.Content.{Content}
 use Rattle.nsc_laws.specs.Calls.{Tells}
-use Rattle.nsc_rule.specs.Map.{Map}
+use Rattle.nsc_rule.specs.declared.view.Plan.{Plan}
 use Rattle.nsc_rule.specs.Pen.{Pen}
 use Rattle.nsc_shelf.specs.declared.finding.Mark.{Mark}
-use Rattle.nsc_shelf.specs.Shelf.{IsHeld, Shelf, shelf_in, under_way}
+use Rattle.nsc_shelf.specs.Shelf.{IsHeld, Shelf, shelf_in, slide_of}
 use Rattle.nsc_shelf.proofs.Still.{Moved}
-use Rattle.nsc_writer.specs.Writer.{IsWriter, cache_of, writer_of}
+use Rattle.nsc_writer.specs.Writer.{IsWriter, Writer, cache_of, writer_of}
 
--- it is one still, where the history tells what its shelf is then
-pub written : {map : Map} {pen pen' : Pen} {content : Content} {layout : Layout} {slide slide' : Option (Snapshot (List ℕ))} {words words' : List ℕ} {live live' : ℕ} {mark mark' : Mark} {hints hints' : List ℕ} (after : Pen) (shelf : Shelf) → IsWriter map pen content layout slide words live mark hints → after.table ≡ pen.table → pen' ≡ after → IsHeld slide' words' layout live' mark' hints' → shelf_in slide' words' layout ≡ shelf → Tells after.seen (cache_of content after.version after.epoch shelf) → IsWriter map pen' content layout slide' words' live' mark' hints'
-written {map} {pen} {pen'} {content} {layout} {slide} {slide'} {words} {words'} {live} {live'} {mark} {mark'} {hints} {hints'} after shelf is table same held view tells = record {
-  table = ap (λ (p : Pen). p.table) same ∙ table ∙ is.table;
-  laid_out = is.laid_out;
+-- it is one still, where the history tells what its words tell
+pub written : {pen : Pen} {layout : Layout} {content : Content} {live : ℕ} {mark : Mark} {hints : List ℕ} (seen : List Record) (version epoch : ℕ) (shelf : Shelf) → IsHeld pen.plan layout live mark hints → pen.plan.seen ≡ seen → slice_index pen.plan.words 2 ≡ version → slice_index pen.plan.words 1 ≡ epoch → shelf_in pen.plan.nodes pen.plan.words layout ≡ shelf → Tells seen (cache_of content version epoch shelf) → IsWriter pen layout content live mark hints
+written {content = content} seen version epoch shelf held a b c d tells = record {
   held = held;
-  tells = subst (λ (x : Pen × Shelf). Tells x.0.seen (cache_of content x.0.version x.0.epoch x.1)) (λ i. (sym same i, sym view i)) tells;
-  most = is.most;
+  tells = subst (λ (x : List Record × ℕ × ℕ × Shelf). Tells x.0 (cache_of content x.1 x.2 x.3)) (λ i. (sym a i, sym b i, sym c i, sym d i)) tells;
 }
 
--- the same of a pen that wrote nothing
-pub moved_still : {map : Map} {pen : Pen} {content : Content} {layout : Layout} {slide : Option (Snapshot (List ℕ))} {words words' : List ℕ} {live live' : ℕ} {mark mark' : Mark} {hints hints' : List ℕ} {change : Shelf → Shelf} → IsWriter map pen content layout slide words live mark hints → Moved slide words words' layout live' mark' hints' change → Tells pen.seen (cache_of content pen.version pen.epoch (change (shelf_in slide words layout))) → IsWriter map pen content layout slide words' live' mark' hints'
-moved_still {pen = pen} {layout = layout} {slide = slide} {words = words} {change = change} is m tells = written pen (change (shelf_in slide words layout)) is refl refl m.held m.view tells
+-- the same where no slide is under way, and the versions and the invalidations stay
+pub moved_still : {pen' : Pen} {plan' : Plan} {layout : Layout} {content : Content} {live : ℕ} {mark : Mark} {hints : List ℕ} {change : Shelf → Shelf} (pen : Pen) (seen : List Record) → pen' ≡ record pen { plan = plan' } → plan'.seen ≡ seen → Moved pen.plan plan' layout live mark hints change → Tells seen (cache_of content (slice_index pen.plan.words 2) (slice_index pen.plan.words 1) (change (shelf_in pen.plan.nodes pen.plan.words layout))) → IsWriter pen' layout content live mark hints
+moved_still {pen'} {plan'} {layout} {content} {live} {mark} {hints} {change} pen seen same history m tells =
+    let w : IsWriter (record pen { plan = plan' }) layout content live mark hints = written seen (slice_index pen.plan.words 2) (slice_index pen.plan.words 1) (change (shelf_in pen.plan.nodes pen.plan.words layout)) m.held history m.source m.epoch m.view tells in
+    subst (λ (p : Pen). IsWriter p layout content live mark hints) (sym same) w
 
-pub moved_view : {table : TableId} {layout : Layout} {pen' : Pen} {content : Content} {slide : Option (Snapshot (List ℕ))} {words words' : List ℕ} {live' : ℕ} {mark' : Mark} {hints' : List ℕ} {change : Shelf → Shelf} (pen : Pen) → pen' ≡ pen → Moved slide words words' layout live' mark' hints' change → writer_of table layout pen' content (shelf_in slide words' layout) (under_way slide words') ≡ writer_of table layout pen content (change (shelf_in slide words layout)) (under_way slide words)
-moved_view {table} {layout} {content = content} pen same m i = writer_of table layout (same i) content (m.view i) (m.going i)
+pub moved_view : {pen' : Pen} {plan' : Plan} {layout : Layout} {live : ℕ} {mark : Mark} {hints : List ℕ} {change : Shelf → Shelf} (pen : Pen) (content : Content) (seen : List Record) → pen' ≡ record pen { plan = plan' } → plan'.seen ≡ seen → Moved pen.plan plan' layout live mark hints change
+    → writer_of pen' layout content ≡ (let shelf = change (shelf_in pen.plan.nodes pen.plan.words layout) in record { table = pen.table; layout = layout; seen = seen; cache = cache_of content (slice_index pen.plan.words 2) (slice_index pen.plan.words 1) shelf; hits = shelf.hits; misses = shelf.misses; slide = slide_of pen.plan.words })
+moved_view {layout = layout} pen content seen same history m =
+    ap (λ (p : Pen). writer_of p layout content) same
+    ∙ (λ i. record { table = pen.table; layout = layout; seen = history i; cache = cache_of content (m.source i) (m.epoch i) (m.view i); hits = (m.view i).hits; misses = (m.view i).misses; slide = m.going i })

@@ -1,7 +1,6 @@
 -- What a writer is: the words that it writes, the history, the cache that it has of it, how its lookups went, and the words of a
 -- slide of its entries while one is under way; and what its calls come to.
-use Rattle.std.specs.Prelude.{◌≡◌, ℕ, ◌+◌, ◌<◌, ◌≤◌, min, Bool, true, false, List, [], ◌∷◌, ◌++◌, length, Option, Some, None, Result, Ok, Err}
-use Rattle.std.specs.declared.snapshot.Snapshot.{Snapshot}
+use Rattle.std.specs.Prelude.{◌≡◌, ℕ, ◌+◌, ◌<◌, ◌≤◌, min, Bool, true, false, List, [], ◌∷◌, ◌++◌, length, slice_index, Option, Some, None, Result, Ok, Err}
 use Rattle.atomic_table.specs.Seated.{TableId}
 use Rattle.nsc_words.specs.declared.layout.Layout.{Layout}
 use Rattle.nsc_model.specs.declared.record.Ending.{Ending}
@@ -16,10 +15,9 @@ use Rattle.nsc_model.specs.Machine.{Kept, Cache, Passed, Stopped, Refusal, TooLa
 use Rattle.nsc_model.specs.Answers.{answer_of}
 use Rattle.nsc_shelf.specs.declared.entry.EntryAt.{EntryAt}
 use Rattle.nsc_laws.specs.Calls.{Tells}
-use Rattle.nsc_rule.specs.Map.{Map}
 use Rattle.nsc_rule.specs.Pen.{Pen}
 use Rattle.nsc_shelf.specs.declared.finding.Mark.{Mark}
-use Rattle.nsc_shelf.specs.Shelf.{IsHeld, IsTold, Shelf, number_of, others_than, shelf_in}
+use Rattle.nsc_shelf.specs.Shelf.{IsHeld, IsTold, Shelf, number_of, others_than, shelf_in, slide_of}
 use Rattle.nsc_writer.specs.declared.loaded.Inserted.{Inserted}
 use Rattle.nsc_writer.specs.declared.loaded.Inserted.TheVariants as inserted
 use Rattle.nsc_writer.specs.declared.loaded.Stamp.{Stamp}
@@ -46,18 +44,16 @@ abbrev pub cache_of : Content → ℕ → ℕ → Shelf → Cache
 cache_of sources version epoch shelf =
     record { sources = sources; newest_version = version; entries = shelf.entries; used = shelf.used; epoch = epoch; inserted = shelf.inserted; cycle = shelf.cycle; add_failed = shelf.add_failed }
 
--- the writer of this pen, this content and this shelf, with the words of a slide
-abbrev pub writer_of : TableId → Layout → Pen → Content → Shelf → Option (List ℕ) → Writer
-writer_of table layout pen content shelf slide =
-    record { table = table; layout = layout; seen = pen.seen; cache = cache_of content pen.version pen.epoch shelf; hits = shelf.hits; misses = shelf.misses; slide = slide }
+-- the writer of this pen and this content
+abbrev pub writer_of : Pen → Layout → Content → Writer
+writer_of pen layout content =
+    let shelf = shelf_in pen.plan.nodes pen.plan.words layout in
+    record { table = pen.table; layout = layout; seen = pen.plan.seen; cache = cache_of content (slice_index pen.plan.words 2) (slice_index pen.plan.words 1) shelf; hits = shelf.hits; misses = shelf.misses; slide = slide_of pen.plan.words }
 
--- the words hold what the history tells
-pub record IsWriter (map : Map) (pen : Pen) (content : Content) (layout : Layout) (slide : Option (Snapshot (List ℕ))) (words : List ℕ) (live : ℕ) (mark : Mark) (hints : List ℕ) : Type 0 where
-  pub table : pen.table ≡ map.table
-  pub laid_out : layout ≡ map.layout
-  pub held : IsHeld slide words layout live mark hints
-  pub tells : Tells pen.seen (cache_of content pen.version pen.epoch (shelf_in slide words layout))
-  pub most : layout.arena ≤ most_words
+-- what the pen knows is what the history tells
+pub record IsWriter (pen : Pen) (layout : Layout) (content : Content) (live : ℕ) (mark : Mark) (hints : List ℕ) : Type 0 where
+  pub held : IsHeld pen.plan layout live mark hints
+  pub tells : Tells pen.plan.seen (cache_of content (slice_index pen.plan.words 2) (slice_index pen.plan.words 1) (shelf_in pen.plan.nodes pen.plan.words layout))
 
 -- the writer once an event of the machine passed
 abbrev pub passed_by : Passed → Writer → Writer

@@ -12,10 +12,10 @@ ghost use Rattle.nsc_writer.specs.Writer.{Inserts, IsAnswered, IsAdmitted, IsNew
 
 use crate::loaded::{Inserted, Loaded, Stamp};
 use crate::writer::{Cause, Writer};
-use nsc_arena::{Fixed, Words, chain, end_node, place_bytes};
+use nsc_arena::{Fixed, lead, place_bytes};
 use nsc_model::{Content, Ending, KEPT_LIMIT, LAST_COUNT, Spent};
 use nsc_shelf::{find_from, note};
-use nsc_words::{ADD_FAILED, LOADS, node_words};
+use nsc_words::{ADD_FAILED, FIRST_FREE, LOADS, hash, node_words};
 use std::sync::Arc;
 
 impl Writer {
@@ -32,11 +32,11 @@ impl Writer {
         if content.is_same(&self.content) {
             return Ok(self.confirm(epoch));
         }
-        let before = self.pen.version();
+        let before = self.version();
         if before == LAST_COUNT {
             return Err(Spent { count: LAST_COUNT });
         }
-        self.pen.change(&self.map, &content);
+        self.sheet.change(&content);
         self.content = content;
         Ok(Stamp {
             version: before + 1,
@@ -52,8 +52,8 @@ impl Writer {
         ensures history { self.new ≡ record self.old { seen = record_of.Poll self.old.cache.newest_version ∷ self.old.seen } }
         ensures polled { PolledSince self.new.seen result.version result.epoch }
     {
-        let version = self.pen.version();
-        self.pen.poll(&self.map);
+        let version = self.version();
+        self.sheet.poll();
         Stamp { version, epoch }
     }
 
@@ -71,7 +71,7 @@ impl Writer {
             return Some(Inserted::TooLarge { length });
         }
         let noted = loaded.stamp().epoch;
-        let epoch = self.pen.epoch();
+        let epoch = self.epoch();
         if noted < epoch {
             return Some(Inserted::Discarded {
                 loaded: noted,
@@ -133,7 +133,7 @@ impl Writer {
         requires { self.old.slide ≡ None }
         ensures { self.new ≡ with_failed self.old }
     {
-        self.words.count(ADD_FAILED);
+        self.sheet.count(ADD_FAILED);
     }
 
     // Inserts the entry of this number, which nothing refuses.
@@ -144,25 +144,22 @@ impl Writer {
         requires still { self.old.slide ≡ None }
         ensures { self.new ≡ with_entry (kept_of loaded.now self.old.cache.inserted) self.old }
     {
-        let kind = loaded.kind();
-        let key = loaded.owned_key();
-        let answer = loaded.answer();
-        let version = loaded.stamp().version;
-        let timeout = loaded.timeout();
-        self.pen
-            .insert(&self.map, number, kind, key, answer, version, timeout);
         let fixed = Fixed {
             number,
-            kind: kind.number(),
-            version,
-            timeout,
+            kind: loaded.kind().number(),
+            version: loaded.stamp().version,
+            timeout: loaded.timeout(),
             reloads: loaded.reloads(),
-            not_found: answer.is_not_found(),
+            not_found: loaded.answer().is_not_found(),
         };
-        let key = key.as_slice();
-        if let Some(at) = place_bytes(&mut self.words, self.layout, fixed, key, answer.bytes()) {
-            let hash = chain(&mut self.words, self.layout, at);
-            self.words.set(LOADS, number + 1);
+        let key = loaded.key();
+        let reply = loaded.answer().bytes();
+        if let Some(at) = place_bytes(&mut self.sheet, self.layout, fixed, key, reply) {
+            let hash = hash(fixed.kind, key);
+            let (bucket, end) = lead(&mut self.sheet, self.layout, at, hash);
+            self.sheet.publish(bucket, at);
+            self.sheet.set_count(FIRST_FREE, end as u64);
+            self.sheet.set_count(LOADS, number + 1);
             self.live += 1;
             note(self.layout, &mut self.hints, hash, at);
         }
@@ -188,14 +185,13 @@ impl Writer {
         ensures ended { OnTrue result (self.new ≡ without_entry number cause self.old) }
         ensures stays { OnFalse result (self.new ≡ self.old) }
     {
-        let Some(found) = find_from(&mut self.words, self.layout, &mut self.mark, number) else {
+        let Some(found) = find_from(&mut self.sheet, self.layout, &mut self.mark, number) else {
             return false;
         };
         if found.head.number != number {
             return false;
         }
-        self.pen.end(&self.map, number, cause);
-        end_node(&mut self.words, self.layout, found.at);
+        self.sheet.end(found.at, cause);
         self.live -= 1;
         true
     }
@@ -208,12 +204,12 @@ impl Writer {
         ensures below { IfOk result (λ _. self.old.cache.epoch < last_count) }
         ensures spent { IfErr result (λ spent. (self.old.cache.epoch ≡ last_count) × (spent.count ≡ last_count) × (self.new ≡ self.old)) }
     {
-        let before = self.pen.epoch();
+        let before = self.epoch();
         if before == LAST_COUNT {
             return Err(Spent { count: LAST_COUNT });
         }
         self.end_all();
-        self.pen.invalidate(&self.map);
+        self.sheet.invalidate();
         Ok(before + 1)
     }
 

@@ -10,7 +10,7 @@ use crate::writer::Writer;
 use nsc_arena::{head_at, walk};
 use nsc_base::Buf;
 use nsc_model::Kind;
-use nsc_shelf::{EntryAt, Found, Hit, count_anew, find, find_from, read_key, read_reply};
+use nsc_shelf::{EntryAt, Found, Hit, find, find_from, read_key, read_reply};
 use nsc_words::{HITS, MISSES, hash};
 
 impl Writer {
@@ -19,7 +19,7 @@ impl Writer {
         requires { self.old.slide ≡ None }
         ensures { self.new ≡ record self.old { misses = counted not_found self.old.misses } }
     {
-        self.words.count_use(MISSES, not_found);
+        self.sheet.count_use(MISSES, not_found);
     }
 
     /// The live entry that answers the request of this kind and key, if there is one: the buffer then has its reply, its count
@@ -34,7 +34,7 @@ impl Writer {
     {
         reply.clear();
         let Some(at) = find(
-            &mut self.words,
+            &mut self.sheet,
             self.layout,
             &mut self.hints,
             kind.number(),
@@ -42,11 +42,11 @@ impl Writer {
         ) else {
             return None;
         };
-        let head = head_at(&mut self.words, at);
+        let head = head_at(&mut self.sheet, at);
         let found = Found { at, head };
-        read_reply(&mut self.words, found, reply);
-        count_anew(&mut self.words, self.layout, found);
-        self.words.count_use(HITS, head.not_found);
+        read_reply(&mut self.sheet, found, reply);
+        self.sheet.count_anew(found);
+        self.sheet.count_use(HITS, head.not_found);
         Some(Hit {
             number: head.number,
             version: head.version,
@@ -61,8 +61,8 @@ impl Writer {
         ensures same { self.new ≡ self.old }
     {
         let number = kind.number();
-        match walk(&mut self.words, self.layout, hash(number, key), number, key) {
-            Some(at) => Some(head_at(&mut self.words, at).number),
+        match walk(&mut self.sheet, self.layout, hash(number, key), number, key) {
+            Some(at) => Some(head_at(&mut self.sheet, at).number),
             None => None,
         }
     }
@@ -80,11 +80,11 @@ impl Writer {
     {
         key.clear();
         reply.clear();
-        let Some(found) = find_from(&mut self.words, self.layout, &mut self.mark, at as u64) else {
+        let Some(found) = find_from(&mut self.sheet, self.layout, &mut self.mark, at as u64) else {
             return None;
         };
-        read_key(&mut self.words, found, key);
-        read_reply(&mut self.words, found, reply);
+        read_key(&mut self.sheet, found, key);
+        read_reply(&mut self.sheet, found, reply);
         Some(EntryAt::of(found.head))
     }
 
@@ -94,7 +94,7 @@ impl Writer {
         ensures told { IsTold (entry_from at self.old.cache.entries) result }
         ensures same { self.new ≡ self.old }
     {
-        let Some(found) = find_from(&mut self.words, self.layout, &mut self.mark, at as u64) else {
+        let Some(found) = find_from(&mut self.sheet, self.layout, &mut self.mark, at as u64) else {
             return None;
         };
         Some(EntryAt::of(found.head))

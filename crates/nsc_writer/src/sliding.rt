@@ -9,7 +9,6 @@ use nsc_arena::Words;
 use nsc_model::{LAST_COUNT, Spent};
 use nsc_shelf::{Mark, forget};
 use nsc_words::CYCLE;
-use std::snapshot::Snapshot;
 
 impl Writer {
     /// Begins a slide of the entries: the count of its beginnings and ends is odd until it ends, and the words of the table may be
@@ -20,12 +19,10 @@ impl Writer {
         ensures begun { IfOk result (λ _. IsBegun self.old self.new) }
         ensures spent { IfErr result (λ spent. (self.old.cache.cycle ≡ last_count) × (spent.count ≡ last_count) × (self.new ≡ self.old)) }
     {
-        let cycle = self.words.head(CYCLE);
-        if cycle >= LAST_COUNT {
+        if self.sheet.head(CYCLE) >= LAST_COUNT {
             return Err(Spent { count: LAST_COUNT });
         }
-        self.slide = Some(Snapshot::of(&self.words));
-        self.words.set(CYCLE, cycle + 1);
+        self.sheet.begin();
         Ok(())
     }
 
@@ -35,7 +32,7 @@ impl Writer {
         ensures word { result ≡ slice_index (slide_words self.old.slide) at }
         ensures same { self.new ≡ self.old }
     {
-        self.words.get(at)
+        self.sheet.get(at)
     }
 
     /// Sets a word of the slide that is under way: FIRST_FREE, a bucket, or a word of the arena.
@@ -44,7 +41,7 @@ impl Writer {
         requires open { (at ≡ 3) ⊎ (16 ≤ at) }
         ensures { self.new ≡ record self.old { slide = Some (slice_set (slide_words self.old.slide) at word) } }
     {
-        self.words.set(at, word);
+        self.sheet.slide_word(at, word);
     }
 
     /// Ends the slide, whose words hold nodes of the live entries alone: the words of those that ended are free again.
@@ -52,10 +49,8 @@ impl Writer {
         requires { IsSlid self.old }
         ensures { self.new ≡ record self.old { cache = record self.old.cache { cycle = self.old.cache.cycle + 1; used = all_words self.old.cache.entries }; slide = None } }
     {
-        let cycle = self.words.head(CYCLE);
-        self.words.set(CYCLE, cycle + 1);
+        self.sheet.finish();
         self.mark = Mark::start(self.layout);
-        self.slide = None;
         forget(&mut self.hints);
     }
 }
@@ -72,10 +67,10 @@ impl Words for Writer {
     ghost can_set = { λ w at. (at == 3) || nat_le 16 at };
 
     fn len(&self) -> usize {
-        if self.slide.is_some() {
-            self.words.len()
-        } else {
+        if self.sheet.head(CYCLE) % 2 == 0 {
             0
+        } else {
+            self.sheet.len()
         }
     }
 

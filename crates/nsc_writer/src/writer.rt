@@ -5,19 +5,19 @@ ghost use Rattle.nsc_model.specs.History.{IsPrefix};
 ghost use Rattle.nsc_model.specs.Machine.{last_count, new_cache};
 ghost use Rattle.nsc_laws.specs.Calls.{Tells};
 ghost use Rattle.nsc_words.specs.Layout.{IsLayout};
+ghost use Rattle.nsc_rule.specs.Seats.{resting};
 ghost use Rattle.nsc_writer.specs.Writer.{most_words};
 
-use nsc_arena::clear;
 use nsc_base::NoMemory;
 use nsc_model::{Content, Stats};
-use nsc_rule::{Map, Pass, Pen, start};
-use nsc_shelf::{Mark, Table, no_hints};
+use nsc_rule::{Map, Pass, start};
+use nsc_shelf::{Mark, Sheet, no_hints};
 use nsc_words::{
-    ADD_FAILED, CYCLE, FIRST_FREE, HITS, LOADS, Layout, MISSES, NEGATIVE_HITS, NEGATIVE_MISSES,
+    ADD_FAILED, CYCLE, EPOCH, FIRST_FREE, HITS, LOADS, Layout, MISSES, NEGATIVE_HITS,
+    NEGATIVE_MISSES, SOURCE,
 };
 use std::alloc::Global;
 use std::marker::Model;
-use std::snapshot::Snapshot;
 use std::sync::Arc;
 
 /// Why a call ends an entry.
@@ -29,33 +29,27 @@ pub enum Cause {
     Replaced,
 }
 
-/// The one writer of a database: the newest content, the live entries as nodes in the words of a table, with their counts at its head, and
-/// the pen that writes the history that they are of.
+/// The one writer of a database: the newest content, and the words that hold the live entries with the pen that writes them.
 #[derive(Drop)]
 pub struct Writer {
-    pub(crate) map: Map,
-    pub(crate) pen: Pen,
-    pub(crate) content: Arc<Content>,
+    pub(crate) sheet: Sheet,
     pub(crate) layout: Layout,
-    pub(crate) words: Table,
+    pub(crate) content: Arc<Content>,
     pub(crate) live: usize,
     pub(crate) mark: Mark,
-    // The words before the slide that is under way.
-    pub(crate) slide: Option<Snapshot<Table>>,
     // Places of nodes, by the hashes of their requests.
     pub(crate) hints: Vec<u32>,
 }
 
 impl Model for Writer {
     ghost use Rattle.std.specs.Arc.{arc_value};
-    ghost use Rattle.nsc_shelf.specs.Shelf.{shelf_in, under_way};
     ghost use Rattle.nsc_writer.specs.Writer.{IsWriter, Writer, writer_of};
 
     ghost Value = { Writer };
 
-    ghost view = { λ w. writer_of w.map.table w.layout w.pen (arc_value w.content) (shelf_in w.slide w.words w.layout) (under_way w.slide w.words) };
+    ghost view = { λ w. writer_of w.sheet w.layout (arc_value w.content) };
 
-    ghost invariant = { λ w. IsWriter w.map w.pen (arc_value w.content) w.layout w.slide w.words w.live w.mark w.hints.items };
+    ghost invariant = { λ w. IsWriter w.sheet w.layout (arc_value w.content) w.live w.mark w.hints.items };
 }
 
 impl Writer {
@@ -72,17 +66,12 @@ impl Writer {
     {
         let (map, pen, pass) = start(alloc, layout, &content)?;
         let hints = no_hints(alloc, layout)?;
-        let mut words = Table::new(alloc, layout.words())?;
-        clear(&mut words, layout);
         let writer = Writer {
-            map,
-            pen,
-            content,
+            sheet: Sheet::new(map, pen),
             layout,
-            words,
+            content,
             live: 0,
             mark: Mark::start(layout),
-            slide: None,
             hints,
         };
         Ok((writer, pass))
@@ -93,37 +82,37 @@ impl Writer {
         ensures told { Tells self.now.seen self.now.cache }
         ensures room { self.now.layout.arena ≤ most_words }
     {
-        let _ = &self.pen;
+        self.sheet.learn();
     }
 
     /// The words that it writes.
     pub fn map(&self) -> &Map
         ensures { result.now ≡ record { table = self.now.table; layout = self.now.layout } }
     {
-        &self.map
+        self.sheet.map()
     }
 
     /// How often the database was invalidated.
     pub fn epoch(&self) -> u64
         ensures { result ≡ self.now.cache.epoch }
     {
-        self.pen.epoch()
+        self.sheet.head(EPOCH)
     }
 
     /// The number of the newest version.
     pub fn version(&self) -> u64
         ensures { result ≡ self.now.cache.newest_version }
     {
-        self.pen.version()
+        self.sheet.head(SOURCE)
     }
 
     /// A pass that has seen the whole history.
     pub fn pass(&mut self) -> Pass
         requires { self.old.slide ≡ None }
         ensures same { self.new ≡ self.old }
-        ensures pass { result ≡ record { table = self.old.table; seen = self.old.seen } }
+        ensures pass { result ≡ record { table = self.old.table; seen = self.old.seen; walk = resting } }
     {
-        self.pen.pass(&self.map)
+        self.sheet.pass()
     }
 
     /// The pass has seen the whole history then, which begins with what it had seen.
@@ -134,7 +123,7 @@ impl Writer {
         ensures pass { pass.new ≡ record pass.old { seen = self.old.seen } }
         ensures before { IsPrefix pass.old.seen self.old.seen }
     {
-        self.pen.show(&self.map, pass);
+        self.sheet.show(pass);
     }
 
     /// Whether no entry is live.
@@ -153,16 +142,16 @@ impl Writer {
     {
         Stats {
             enabled: true,
-            hits: self.words.head(HITS),
-            negative_hits: self.words.head(NEGATIVE_HITS),
-            misses: self.words.head(MISSES),
-            negative_misses: self.words.head(NEGATIVE_MISSES),
+            hits: self.sheet.head(HITS),
+            negative_hits: self.sheet.head(NEGATIVE_HITS),
+            misses: self.sheet.head(MISSES),
+            negative_misses: self.sheet.head(NEGATIVE_MISSES),
             entries: self.live as u64,
             used: self.used() as u64,
             arena: self.layout.arena as u64,
-            invalidations: self.pen.epoch(),
-            compactions: self.words.head(CYCLE) / 2,
-            addfailed: self.words.head(ADD_FAILED),
+            invalidations: self.sheet.head(EPOCH),
+            compactions: self.sheet.head(CYCLE) / 2,
+            addfailed: self.sheet.head(ADD_FAILED),
         }
     }
 
@@ -171,7 +160,7 @@ impl Writer {
         ensures value { result ≡ self.now.cache.inserted }
         ensures bound { result ≤ last_count }
     {
-        self.words.head(LOADS)
+        self.sheet.head(LOADS)
     }
 
     // How many words the entries take, with those that ended since the last compaction.
@@ -180,6 +169,6 @@ impl Writer {
         ensures value { result ≡ self.now.cache.used }
         ensures bound { result ≤ self.now.layout.arena }
     {
-        self.words.head(FIRST_FREE) as usize - self.layout.arena_start()
+        self.sheet.head(FIRST_FREE) as usize - self.layout.arena_start()
     }
 }

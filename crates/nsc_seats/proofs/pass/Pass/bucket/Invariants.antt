@@ -1,5 +1,0 @@
-use Rattle.nsc_seats.specs.Walks.{BucketTells}
-use Rattle.nsc_seats.proofs.pass.Pass.bucket.Given as goal
-
-abbrev pub ghosts-look : goal.ghosts-look
-ghosts-look a = record { told = BucketTells a.map.now.layout a.seat.now.me.0 }

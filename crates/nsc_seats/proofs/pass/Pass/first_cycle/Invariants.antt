@@ -1,5 +1,0 @@
-use Rattle.nsc_seats.specs.Walks.{BeginTells}
-use Rattle.nsc_seats.proofs.pass.Pass.first_cycle.Given as goal
-
-abbrev pub ghosts-look : goal.ghosts-look
-ghosts-look g a = record { told = BeginTells a.map.now.layout g.request a.seat.now.me.0 }

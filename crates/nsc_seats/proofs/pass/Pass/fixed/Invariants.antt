@@ -1,5 +1,0 @@
-use Rattle.nsc_seats.specs.Walks.{FixedTells}
-use Rattle.nsc_seats.proofs.pass.Pass.fixed.Given as goal
-
-abbrev pub ghosts-look : goal.ghosts-look
-ghosts-look a = record { told = FixedTells a.at a.seat.now.me.0 }

@@ -1,5 +1,0 @@
-use Rattle.nsc_seats.specs.Walks.{LastTells}
-use Rattle.nsc_seats.proofs.pass.Pass.last_cycle.Given as goal
-
-abbrev pub ghosts-look : goal.ghosts-look
-ghosts-look a = record { told = LastTells a.seat.now.me.0 }

@@ -1,5 +1,0 @@
-use Rattle.nsc_seats.specs.Walks.{NextTells}
-use Rattle.nsc_seats.proofs.pass.Pass.next.Given as goal
-
-abbrev pub ghosts-look : goal.ghosts-look
-ghosts-look a = record { told = NextTells a.map.now.layout a.seat.now.me.0 }

@@ -1,6 +1,0 @@
-use Rattle.std.proofs.Common.{rules}
-use Rattle.nsc_seats.proofs.Moves.{shows}
-use Rattle.nsc_seats.proofs.pass.Pass.take.Goals as goal
-
-pub join_seat-requires : goal.join_seat-requires
-join_seat-requires c = (search rules, search rules, search rules, search rules, shows _ _ _ _ _)

@@ -1,8 +1,0 @@
-pub mod Entries
-pub mod Map
-pub mod Plans
-pub mod Strokes
-pub mod Seats
-pub mod Pen
-pub mod Pass
-pub mod Walks
