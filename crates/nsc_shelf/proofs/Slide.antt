@@ -1,5 +1,5 @@
 -- The slide of a shelf: its begin, its words, and its end.
-use Rattle.std.proofs.Common.{◌≡◌, ◌≢◌, ℕ, ◌+◌, ◌-◌, ◌<◌, ◌≤◌, ◌⊎◌, inl, inr, ⊎_elim, Bool, true, false, cond, List, [], ◌∷◌, ◌++◌, length, set, slice_index, Option, Some, None, refl, sym, ap, subst, ◌∙◌, arith, length-set, get_or-set_same, get_or-set_other}
+use Rattle.std.proofs.Common.{◌≡◌, ◌≢◌, ℕ, ◌+◌, ◌-◌, ◌<◌, ◌⊎◌, inl, inr, ⊎_elim, Bool, true, false, cond, List, [], ◌∷◌, ◌++◌, set, slice_index, refl, sym, ap, subst, ◌∙◌, arith, get_or-set_same, get_or-set_other}
 use Rattle.std.proofs.lemmas.List.Sums.{sum_by_push}
 use Rattle.nsc_words.specs.declared.layout.Layout.{Layout}
 use Rattle.nsc_words.specs.declared.node.Placed.{Placed}
@@ -69,17 +69,17 @@ has_split k y (x ∷ xs) (inl is) = inl (inl is)
 has_split k y (x ∷ xs) (inr more) = ⊎_elim (λ (h : Has k xs). inl (inr h)) (λ (e : k ≡ y). inr e) (has_split k y xs more)
 
 -- a usable node is an entry, and an entry is one
-entry_of : (nodes : List Placed) (p : Placed) → Among p nodes → p.usable ≡ true → Has (kept_in p) (entries_in nodes)
-entry_of [] p among usable = absurd among
-entry_of (q ∷ older) p (inl is) usable =
+pub usable_has : (nodes : List Placed) (p : Placed) → Among p nodes → p.usable ≡ true → Has (kept_in p) (entries_in nodes)
+usable_has [] p among usable = absurd among
+usable_has (q ∷ older) p (inl is) usable =
     let own : q.usable ≡ true = ap (λ (r : Placed). r.usable) (sym is) ∙ usable in
     subst (λ (k : Kept). Has k (entries_in (q ∷ older))) (ap kept_in (sym is)) (subst (Has (kept_in q)) (sym (one_more q older own)) (has_last (kept_in q) (entries_in older)))
-entry_of (q ∷ older) p (inr more) usable = by q.usable (entry_of older p more usable) where
+usable_has (q ∷ older) p (inr more) usable = by q.usable (usable_has older p more usable) where
   by : (b : Bool) → Has (kept_in p) (entries_in older) → Has (kept_in p) (cond b (entries_in older ++ kept_in q ∷ []) (entries_in older))
   by true has = has_before (kept_in p) (entries_in older) (kept_in q ∷ []) has
   by false has = has
 
-node_of : (nodes : List Placed) (k : Kept) → Has k (entries_in nodes) → (p : Placed) × Among p nodes × (p.usable ≡ true) × (k ≡ kept_in p)
+pub node_of : (nodes : List Placed) (k : Kept) → Has k (entries_in nodes) → (p : Placed) × Among p nodes × (p.usable ≡ true) × (k ≡ kept_in p)
 node_of [] k has = absurd has
 node_of (q ∷ older) k has = by q.usable refl has (node_of older k) where
   by : (b : Bool) → q.usable ≡ b → Has k (cond b (entries_in older ++ kept_in q ∷ []) (entries_in older)) → (Has k (entries_in older) → (p : Placed) × Among p older × (p.usable ≡ true) × (k ≡ kept_in p)) → (p : Placed) × Among p (q ∷ older) × (p.usable ≡ true) × (k ≡ kept_in p)
@@ -89,7 +89,7 @@ node_of (q ∷ older) k has = by q.usable refl has (node_of older k) where
 -- other nodes that are usable, and of the same entries
 pub other_entries : (old new : List Placed) (inserted : ℕ) → AreEntries old inserted → ((p : Placed) → Among p new → type_number (kind_of p.node.kind) ≡ p.node.kind) → ((p : Placed) → Among p new → p.usable ≡ true) → entries_in new ≡ entries_in old → AreEntries new inserted
 other_entries old new inserted are kinds alone same =
-    let from : (p : Placed) → Among p new → (q : Placed) × Among q old × (q.usable ≡ true) × (kept_in p ≡ kept_in q) = λ p among. node_of old (kept_in p) (subst (Has (kept_in p)) same (entry_of new p among (alone p among))) in
+    let from : (p : Placed) → Among p new → (q : Placed) × Among q old × (q.usable ≡ true) × (kept_in p ≡ kept_in q) = λ p among. node_of old (kept_in p) (subst (Has (kept_in p)) same (usable_has new p among (alone p among))) in
     record {
       kinds = kinds;
       numbers = λ p among. let w = from p among in subst (λ (n : ℕ). n < inserted) (sym (ap (λ (k : Kept). k.entry.number) w.3)) (are.numbers w.0 w.1);

@@ -1,13 +1,15 @@
 -- A plan while no slide is under way.
-use Rattle.std.proofs.Common.{◌≡◌, ℕ, ◌%◌, ◌<◌, Bool, true, false, cond, eqb, List, length, Option, Some, None, set, slice_index, refl, sym, ap, subst, ◌∙◌}
-use Rattle.std.proofs.lemmas.Bool.{eqb-true}
+use Rattle.std.proofs.Common.{◌≡◌, ◌≢◌, ℕ, ◌%◌, ◌<◌, ◌≤◌, Bool, true, false, cond, eqb, List, length, Some, None, set, slice_index, refl, sym, ap, subst, ◌∙◌, arith, get_or-set_other}
+use Rattle.std.proofs.lemmas.Bool.{eqb-false, eqb-true}
 use Rattle.nsc_words.specs.declared.layout.Layout.{Layout}
 use Rattle.nsc_words.specs.declared.node.Placed.{Placed}
 use Rattle.nsc_words.specs.Laid.{Laid}
 use Rattle.nsc_arena.specs.Changes.{IsFirst, IsMark, IsNodeAt, head_of}
 use Rattle.nsc_arena.specs.ReadBack.{nodes_in}
 use Rattle.nsc_arena.proofs.ReadBack.{read_back}
-use Rattle.nsc_arena.proofs.Rows.{node_at}
+use Rattle.nsc_arena.proofs.Rows.{node_at, set_head}
+use Rattle.nsc_model.specs.declared.record.Record.{Record}
+use Rattle.nsc_model.specs.Machine.{last_count}
 use Rattle.nsc_rule.specs.declared.view.Plan.{Plan}
 use Rattle.nsc_rule.specs.Entries.{entries_in, kept_in}
 use Rattle.nsc_rule.specs.Plans.{IsEven}
@@ -30,6 +32,12 @@ none_even words none = by (eqb (slice_index words 0 % 2) 0) refl none where
   by : (b : Bool) → eqb (slice_index words 0 % 2) 0 ≡ b → cond b None (Some words) ≡ None → slice_index words 0 % 2 ≡ 0
   by true t e = eqb-true (slice_index words 0 % 2) 0 t
   by false t e = absurd cc
+
+pub some_odd : (words held : List ℕ) → slide_of words ≡ Some held → (slice_index words 0 % 2 ≡ 1) × (words ≡ held)
+some_odd words held going = by (eqb (slice_index words 0 % 2) 0) refl going where
+  by : (b : Bool) → eqb (slice_index words 0 % 2) 0 ≡ b → cond b None (Some words) ≡ Some held → (slice_index words 0 % 2 ≡ 1) × (words ≡ held)
+  by true t e = absurd cc
+  by false t e = (let other = eqb-false (slice_index words 0 % 2) 0 t in omega arith, cc)
 
 -- the words are then those of a shelf, and hold the plan's nodes
 pub record Rests (plan : Plan) (layout : Layout) (count : ℕ) (mark : Mark) (hints : List ℕ) : Type 0 where
@@ -87,6 +95,38 @@ moved {plan} {plan'} {layout} {count' = count'} {mark' = mark'} hints' change re
 -- a count was set
 pub counted_moved : {plan : Plan} {layout : Layout} {count : ℕ} {mark : Mark} {hints : List ℕ} (at word : ℕ) (change : Shelf → Shelf) → Rests plan layout count mark hints → Counted plan.words (set plan.words at word) layout count mark (change (shelf_of plan.words layout)) → Moved plan (stored at word plan) layout count mark hints change
 counted_moved {plan} {layout} {hints = hints} at word change rests now = moved hints change rests refl (subst (Laid (set plan.words at word) layout) rests.back now.laid) now.altered rests.hinted
+
+-- the number of the newest version was set, or that of the invalidations
+pub record Numbered (plan : Plan) (words : List ℕ) (seen : List Record) (layout : Layout) (count : ℕ) (mark : Mark) (hints : List ℕ) : Type 0 where
+  pub held : IsHeld (record plan { seen = seen; words = words }) layout count mark hints
+  pub view : shelf_in plan.nodes words layout ≡ shelf_in plan.nodes plan.words layout
+  pub going : slide_of words ≡ slide_of plan.words
+
+pub numbered : {plan : Plan} {layout : Layout} {count : ℕ} {mark : Mark} {hints : List ℕ} (k word : ℕ) (seen : List Record) → 0 < k → k < 3 → Rests plan layout count mark hints → IsHeld plan layout count mark hints → Numbered plan (set plan.words k word) seen layout count mark hints
+numbered {plan} {layout} k word seen low high rests held =
+    let new : List ℕ = set plan.words k word in
+    let other : (i : ℕ) → i ≢ k → slice_index new i ≡ slice_index plan.words i = λ i n. get_or-set_other plan.words k i word 0 n in
+    let e0 = other 0 (omega arith) in
+    let e4 = other 4 (omega arith) in
+    let e5 = other 5 (omega arith) in
+    let e6 = other 6 (omega arith) in
+    let e7 = other 7 (omega arith) in
+    let e8 = other 8 (omega arith) in
+    let e9 = other 9 (omega arith) in
+    record {
+      held = record {
+        laid_out = held.laid_out;
+        sizes = held.sizes;
+        laid = λ even. set_head plan.words new layout plan.nodes k word (omega arith) (omega arith) refl rests.laid;
+        entries = subst (AreEntries plan.nodes) (sym e4) held.entries;
+        counted = subst (λ (n : ℕ). n ≤ last_count) (sym e4) held.counted;
+        live = held.live;
+        marked = held.marked;
+        hinted = held.hinted;
+      };
+      view = λ i. record (shelf_in plan.nodes plan.words layout) { inserted = e4 i; cycle = e0 i; add_failed = e9 i; hits = record { found = e5 i; not_found = e6 i }; misses = record { found = e7 i; not_found = e8 i } };
+      going = slide_none new (ap (λ (n : ℕ). n % 2) e0 ∙ rests.even) ∙ sym (slide_none plan.words rests.even);
+    }
 
 -- another mark
 pub marked : {plan : Plan} {layout : Layout} {count : ℕ} {mark mark' : Mark} {hints : List ℕ} → Rests plan layout count mark hints → IsHeld plan layout count mark hints → ((nodes : List Placed) → Laid plan.words layout nodes → IsMark layout nodes mark.place mark.number → IsMark layout nodes mark'.place mark'.number) → IsHeld plan layout count mark' hints

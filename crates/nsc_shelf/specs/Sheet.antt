@@ -1,5 +1,5 @@
 -- The words of a table, as its one pen writes them.
-use Rattle.std.specs.Prelude.{◌≡◌, ℕ, ◌%◌, ◌==◌, nat_le, Bool, ◌&&◌, [], ◌∷◌, slice_index}
+use Rattle.std.specs.Prelude.{ℕ, ◌%◌, ◌==◌, nat_le, Bool, ◌&&◌, [], ◌∷◌, slice_index}
 use Rattle.nsc_rule.specs.Pen.{Pen}
 use Rattle.nsc_rule.specs.Plans.{end_in}
 

@@ -1,5 +1,5 @@
 -- The live entries of a database with their counts, the words in which they stand, and their slide.
-use Rattle.std.specs.Prelude.{◌≡◌, ℕ, ◌≢◌, ◌-◌, ◌<◌, ◌≤◌, ◌+◌, ◌%◌, ◌==◌, nat_le, not, Bool, true, if◌then◌else◌, List, [], filter, find, length, Option, Some, None, slice_index}
+use Rattle.std.specs.Prelude.{◌≡◌, ℕ, ◌-◌, ◌<◌, ◌≤◌, ◌+◌, ◌%◌, ◌==◌, nat_le, not, Bool, true, if◌then◌else◌, List, [], filter, find, length, Option, Some, None, slice_index}
 use Rattle.std.specs.List.{list_any}
 use Rattle.nsc_words.specs.declared.layout.Layout.{Layout}
 use Rattle.nsc_words.specs.declared.node.Placed.{Placed}

@@ -2,7 +2,6 @@
 ghost use Rattle.std.specs.Prelude.{◌≡◌, ◌≢◌, ◌⊎◌, ◌+◌, ◌<◌, ◌≤◌, ◌==◌, if◌then◌else◌, Some, length, slice_index};
 ghost use Rattle.nsc_model.specs.History.{IsPrefix, NoneLive, newest};
 ghost use Rattle.nsc_model.specs.Machine.{last_count, next_count};
-ghost use Rattle.nsc_words.specs.Layout.{table_words};
 ghost use Rattle.nsc_rule.specs.Plans.{IsEven, IsOdd, Sound};
 ghost use Rattle.nsc_rule.specs.Seats.{resting};
 ghost use Rattle.nsc_rule.specs.Strokes.{HasNode, IsReady, IsSlid, MayEnd, begun, changed, cleared, finished, invalidated, polled, published, reloaded, stored};
@@ -157,9 +156,10 @@ impl Sheet {
     pub fn slide_word(&mut self, at: usize, word: u64)
         requires odd { IsOdd self.old.plan }
         requires place { (at ≡ 3) ⊎ (16 ≤ at) }
-        requires inside { at < table_words self.old.plan.layout }
+        requires inside { at < length self.old.plan.words }
         ensures { self.new ≡ record self.old { plan = stored at word self.old.plan } }
     {
+        self.pen.learn();
         self.pen.slide_word(&self.map, at, word);
     }
 

@@ -9,7 +9,7 @@ use Rattle.nsc_rule.specs.Pen.{Pen}
 use Rattle.nsc_shelf.specs.declared.finding.Mark.{Mark}
 use Rattle.nsc_shelf.specs.Shelf.{IsHeld, Shelf, shelf_in, slide_of}
 use Rattle.nsc_shelf.proofs.Still.{Moved}
-use Rattle.nsc_writer.specs.Writer.{IsWriter, Writer, cache_of, writer_of}
+use Rattle.nsc_writer.specs.Writer.{IsWriter, cache_of, writer_of}
 
 -- it is one still, where the history tells what its words tell
 pub written : {pen : Pen} {layout : Layout} {content : Content} {live : ℕ} {mark : Mark} {hints : List ℕ} (seen : List Record) (version epoch : ℕ) (shelf : Shelf) → IsHeld pen.plan layout live mark hints → pen.plan.seen ≡ seen → slice_index pen.plan.words 2 ≡ version → slice_index pen.plan.words 1 ≡ epoch → shelf_in pen.plan.nodes pen.plan.words layout ≡ shelf → Tells seen (cache_of content version epoch shelf) → IsWriter pen layout content live mark hints
@@ -29,3 +29,7 @@ pub moved_view : {pen' : Pen} {plan' : Plan} {layout : Layout} {live : ℕ} {mar
 moved_view {layout = layout} pen content seen same history m =
     ap (λ (p : Pen). writer_of p layout content) same
     ∙ (λ i. record { table = pen.table; layout = layout; seen = history i; cache = cache_of content (m.source i) (m.epoch i) (m.view i); hits = (m.view i).hits; misses = (m.view i).misses; slide = m.going i })
+
+-- the same pen, with another mark
+pub remarked : {pen' : Pen} {layout : Layout} {content : Content} {live : ℕ} {mark mark' : Mark} {hints : List ℕ} (pen : Pen) → pen' ≡ pen → IsHeld pen.plan layout live mark' hints → IsWriter pen layout content live mark hints → IsWriter pen' layout content live mark' hints
+remarked {layout = layout} {content} {live} {mark' = mark'} {hints} pen same held is = subst (λ (p : Pen). IsWriter p layout content live mark' hints) (sym same) (record { held = held; tells = is.tells })

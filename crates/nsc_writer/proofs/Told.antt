@@ -6,7 +6,6 @@ use Rattle.nsc_model.specs.declared.record.Ending.{Ending}
 use Rattle.nsc_model.specs.declared.record.Record.{Record}
 use Rattle.nsc_model.specs.declared.record.Record.TheVariants.{Change, Poll, Load, End, Invalid}
 use Rattle.nsc_model.specs.Kinds.{is_request}
-use Rattle.nsc_model.specs.Content.{Content}
 use Rattle.nsc_model.specs.Entry.{Entry}
 use Rattle.nsc_model.specs.History.{invalidations, IsLive, NoneLiveOf, WasPolled, Allows, LooksAt, PolledSince}
 use Rattle.nsc_model.specs.Machine.{Kept, Cache, by_invalidation, emptied, ends_of, live_entry, used_now}
@@ -18,9 +17,8 @@ use Rattle.nsc_laws.proofs.MachineLawEnds.{ended_same}
 use Rattle.nsc_laws.proofs.MachineLawSteps.{retells}
 use Rattle.nsc_laws.proofs.MachineLawParts.{none_of, kept_tells, inserted_by, invalid_tells}
 use Rattle.nsc_writer.specs.Loaded.{Loaded, kept_of}
-use Rattle.nsc_rule.specs.Pen.{Pen}
-use Rattle.nsc_shelf.specs.Shelf.{Shelf, has_number, is_numbered, others_than}
-use Rattle.nsc_writer.specs.Writer.{IsAnswered, cache_of}
+use Rattle.nsc_shelf.specs.Shelf.{has_number, is_numbered, others_than}
+use Rattle.nsc_writer.specs.Writer.{IsAnswered}
 
 -- ---- polls
 
@@ -137,7 +135,3 @@ used_tells h cache request t = retells h cache (used_now request cache.entries) 
 pub emptied_tells : (h : List Record) (cache : Cache) → Tells h cache → Tells (Invalid (cache.epoch + 1) ∷ ends_of by_invalidation cache.entries h) (emptied cache).cache
 emptied_tells h cache t = subst (λ (l : List Record). Tells l (emptied cache).cache)
     (ap (λ (n : ℕ). Invalid (n + 1) ∷ ends_of by_invalidation cache.entries h) t.epochs_are) (subst (λ (l : List Record). Tells (Invalid (invalidations h + 1) ∷ l) (emptied cache).cache) (ended_same cache.entries h) (invalid_tells h cache t))
-
--- the same of a pen and a shelf that are known by equations
-pub told_as : (files : Content) (p q : Pen) (s t : Shelf) → q ≡ p → t ≡ s → Tells p.seen (cache_of files p.version p.epoch s) → Tells q.seen (cache_of files q.version q.epoch t)
-told_as files p q s t same_pen same_shelf told = subst (λ (x : Pen × Shelf). Tells x.0.seen (cache_of files x.0.version x.0.epoch x.1)) (λ i. (sym same_pen i, sym same_shelf i)) told

@@ -32,6 +32,7 @@ impl Writer {
         if content.is_same(&self.content) {
             return Ok(self.confirm(epoch));
         }
+        self.sheet.learn();
         let before = self.version();
         if before == LAST_COUNT {
             return Err(Spent { count: LAST_COUNT });
@@ -204,6 +205,7 @@ impl Writer {
         ensures below { IfOk result (λ _. self.old.cache.epoch < last_count) }
         ensures spent { IfErr result (λ spent. (self.old.cache.epoch ≡ last_count) × (spent.count ≡ last_count) × (self.new ≡ self.old)) }
     {
+        self.sheet.learn();
         let before = self.epoch();
         if before == LAST_COUNT {
             return Err(Spent { count: LAST_COUNT });

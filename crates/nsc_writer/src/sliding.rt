@@ -19,6 +19,7 @@ impl Writer {
         ensures begun { IfOk result (λ _. IsBegun self.old self.new) }
         ensures spent { IfErr result (λ spent. (self.old.cache.cycle ≡ last_count) × (spent.count ≡ last_count) × (self.new ≡ self.old)) }
     {
+        self.sheet.learn();
         if self.sheet.head(CYCLE) >= LAST_COUNT {
             return Err(Spent { count: LAST_COUNT });
         }

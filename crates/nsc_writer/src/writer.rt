@@ -140,6 +140,7 @@ impl Writer {
         ensures bound { self.now.cache.cycle ≤ last_count }
         ensures value { result ≡ record { enabled = true; hits = self.now.hits.found; negative_hits = self.now.hits.not_found; misses = self.now.misses.found; negative_misses = self.now.misses.not_found; entries = length self.now.cache.entries; used = self.now.cache.used; arena = self.now.layout.arena; invalidations = self.now.cache.epoch; compactions = self.now.cache.cycle / 2; addfailed = self.now.cache.add_failed } }
     {
+        self.sheet.learn();
         Stats {
             enabled: true,
             hits: self.sheet.head(HITS),

@@ -1,42 +1,44 @@
-use Rattle.std.proofs.Common.{◌≡◌, ◌≢◌, ℕ, ◌+◌, ◌-◌, ◌<◌, inl, List, [], ◌∷◌, ◌++◌, length, slice_index, true, None, refl, sym, ap, subst, ◌∙◌, arith, get_or-set_same, get_or-set_other}
-use Rattle.std.proofs.lemmas.List.{length-append, with_items_is}
+use Rattle.std.proofs.Common.{◌≡◌, ℕ, ◌+◌, ◌%◌, ◌≤◌, inl, List, ◌∷◌, length, slice_index, true, None, refl, sym, ap, subst, ◌∙◌, arith}
+use Rattle.std.proofs.lemmas.List.{with_items_is}
 use Rattle.std.specs.Arc.{arc_value}
 use Rattle.std.specs.Vec.{with_items}
 use Rattle.nsc_words.specs.declared.layout.Layout.{Layout}
 use Rattle.nsc_words.specs.declared.node.Placed.{Placed}
-use Rattle.nsc_words.specs.Laid.{Laid, end_of, words_in}
-use Rattle.nsc_words.specs.Layout.{arena_start}
-use Rattle.nsc_arena.specs.Changes.{IsNext, node_of, usable_at}
-use Rattle.nsc_arena.specs.ReadBack.{nodes_in}
-use Rattle.nsc_arena.proofs.Rows.{end_after, set_head}
-use Rattle.nsc_model.specs.declared.answer.Request.{Request}
-use Rattle.nsc_model.specs.declared.record.Record.TheVariants.{Load}
+use Rattle.nsc_words.specs.Hash.{hash_of}
+use Rattle.nsc_words.specs.Laid.{bucket_in, end_of, words_in}
+use Rattle.nsc_words.specs.Layout.{arena_start, table_words}
+use Rattle.nsc_arena.specs.Changes.{IsNext, IsNodeAt, node_of, usable_at}
+use Rattle.nsc_arena.specs.ReadBack.{placed_in}
+use Rattle.nsc_arena.specs.Written.{IsSameBelow}
+use Rattle.nsc_arena.proofs.Chains.{next_at}
+use Rattle.nsc_arena.proofs.ReadBack.{node_back}
+use Rattle.nsc_arena.proofs.Rows.{end_after}
 use Rattle.nsc_model.specs.declared.kind.Kind.{Kind}
+use Rattle.nsc_model.specs.declared.record.Record.TheVariants.{Load}
 use Rattle.nsc_model.specs.Answer.{Answer}
-use Rattle.nsc_model.specs.Entry.{Entry}
 use Rattle.nsc_model.specs.History.{Legal}
-use Rattle.nsc_model.specs.Machine.{Kept, entry_words, last_count, live_entry}
+use Rattle.nsc_model.specs.Kinds.{type_number}
+use Rattle.nsc_model.specs.Machine.{Kept}
 use Rattle.nsc_laws.specs.Calls.{Tells}
 use Rattle.nsc_laws.proofs.MachineLawParts.{inserted_by}
-use Rattle.nsc_rule.specs.Entries.{entries_in, kept_in, kind_of, request_in}
+use Rattle.nsc_rule.specs.Entries.{entry_of, kept_in, kind_of}
+use Rattle.nsc_rule.specs.Pen.{Pen}
+use Rattle.nsc_rule.specs.Strokes.{IsReady, published, stored}
+use Rattle.nsc_rule.proofs.Callers.{ready_by}
 use Rattle.nsc_shelf.specs.Hints.{AreHints}
-use Rattle.nsc_shelf.specs.Shelf.{Shelf, shelf_in, shelf_of, under_way}
-use Rattle.nsc_shelf.proofs.Entries.{few_entries, one_more}
-use Rattle.nsc_shelf.proofs.Hinted.{hints_by, hints_more, hints_noted}
-use Rattle.nsc_shelf.proofs.States.{kind_back, marked_more, new_entries, next_after, shelf_by, view_by}
-use Rattle.nsc_shelf.proofs.Still.{Moved, moved, still, still_view}
+use Rattle.nsc_shelf.specs.Shelf.{slide_of}
+use Rattle.nsc_shelf.proofs.Entries.{few_entries}
+use Rattle.nsc_shelf.proofs.Hinted.{hints_more, hints_noted}
+use Rattle.nsc_shelf.proofs.Sheets.{sheet_with}
+use Rattle.nsc_shelf.proofs.States.{kind_back}
+use Rattle.nsc_shelf.proofs.Still.{Rests, still}
 use Rattle.nsc_writer.specs.Loaded.{Loaded, kept_of}
-use Rattle.nsc_writer.specs.declared.loaded.Stamp.{Stamp}
 use Rattle.nsc_writer.specs.Writer.{IsAdmitted, IsAnswered, Writer, with_entry, writer_of}
-use Rattle.nsc_writer.proofs.Moved.{moved_view, written}
+use Rattle.nsc_writer.proofs.Moved.{moved_still, moved_view}
+use Rattle.nsc_writer.proofs.Put.{IsWrittenAt, led, led_head, led_next, led_stands, put_moved, put_plan, put_words}
 use Rattle.nsc_writer.proofs.Told.{loaded_tells}
 use Rattle.nsc_writer.proofs.writer.Writer.put.Goals as goal
-use Rattle.nsc_writer.proofs.writer.Writer.put.Goals.{In-Some, After-set, After-note}
-
--- what is inserted, as it stands in the history
-entry_by : (l : Loaded) (number inserted : ℕ) (kind : Kind) (key : List ℕ) (stamp : Stamp) (answer : Answer) (timeout : ℕ) → number ≡ inserted → kind ≡ l.request.kind → key ≡ l.request.key → stamp ≡ l.stamp → answer ≡ l.answer → timeout ≡ l.timeout
-    → record { number = number; request = record { kind = kind; key = key }; version = stamp.version; answer = answer; timeout = timeout } ≡ (kept_of l inserted).entry
-entry_by l number inserted kind key stamp answer timeout a b c d e f i = record { number = a i; request = record { kind = b i; key = c i }; version = (d i).version; answer = e i; timeout = f i }
+use Rattle.nsc_writer.proofs.writer.Writer.put.Goals.{In-Some, After-hash-hash, After-lead-bucket, After-note}
 
 -- the history tells of it
 told_by : (v w : Writer) (l : Loaded) → v ≡ w → Tells v.seen v.cache → IsAdmitted w l → IsAnswered w.seen l → Tells (Load (kept_of l v.cache.inserted).entry ∷ v.seen) (inserted_by (kept_of l v.cache.inserted) v.cache)
@@ -46,144 +48,169 @@ told_by v w l same told free answered =
 
 -- the new node
 abbrev node : In-Some → Placed
-node c = usable_at c.in-Some.at (node_of (record { number = c.args.number; kind = c.number.result; version = c.stamp-version.result.version; timeout = c.timeout-timeout.result; reloads = c.reloads.result; not_found = c.is_not_found.result }) c.as_slice-key.result.now c.bytes.result.now)
+node c = usable_at c.in-Some.at (node_of (record { number = c.args.number; kind = c.number.result; version = c.stamp.result.version; timeout = c.timeout.result; reloads = c.reloads.result; not_found = c.is_not_found.result }) c.key-key.result.now c.bytes-reply.result.now)
 
-numbered : (c : In-Some) → c.args.number ≡ slice_index c.self.inside.words 4
-numbered c = c.requires.number ∙ ap (λ (v : Writer). v.cache.inserted) (sym c.self.view_is)
+-- what is known of it
+record Known (c : In-Some) : Type 0 where
+  rests : Rests c.self.inside.sheet.plan c.self.inside.layout c.self.inside.live c.self.inside.mark c.self.inside.hints.items
+  number : c.args.number ≡ slice_index c.self.inside.sheet.plan.words 4
+  kind : c.number.result ≡ type_number c.args.loaded.now.request.kind
+  kept : kept_in (node c) ≡ kept_of c.args.loaded.now (slice_index c.self.inside.sheet.plan.words 4)
+  next : IsNext c.place_bytes.new.table.plan.words c.self.inside.layout c.self.inside.sheet.plan.nodes (node c)
+  here : IsNodeAt c.place_bytes.new.table.plan.words c.in-Some.at (node c)
 
--- its entry is what is inserted
-kept : (c : In-Some) → kept_in (node c) ≡ kept_of c.args.loaded.now (slice_index c.self.inside.words 4)
-kept c =
+known : (c : In-Some) → Known c
+known c =
+    let w = c.self.inside in
     let l : Loaded = c.args.loaded.now in
-    let number = numbered c in
-    let kind : kind_of c.number.result ≡ l.request.kind = ap kind_of c.number.ensures ∙ kind_back c.kind-kind.result ∙ c.kind-kind.ensures in
-    let key : c.as_slice-key.result.now ≡ l.request.key = c.as_slice-key.ensures ∙ c.owned_key-key.ensures.value in
-    let bytes : c.bytes.result.now ≡ l.answer.bytes = c.bytes.ensures.value ∙ ap (λ (a : Answer). a.bytes) c.answer-answer.ensures in
-    let not_found : c.is_not_found.result ≡ l.answer.not_found = c.is_not_found.ensures ∙ ap (λ (a : Answer). a.not_found) c.answer-answer.ensures in
-    λ i. record { entry = record { number = number i; request = record { kind = kind i; key = key i }; version = (c.stamp-version.ensures i).version; answer = record { bytes = bytes i; not_found = not_found i }; timeout = c.timeout-timeout.ensures i }; reloads = c.reloads.ensures i }
-
--- it may be linked
-next : (c : In-Some) → IsNext c.place_bytes.new.table c.self.inside.layout (nodes_in c.self.inside.words c.self.inside.layout) (node c)
-next c =
-    let w = c.self.inside in
-    let none : under_way w.slide w.words ≡ None = ap (λ (v : Writer). v.slide) c.self.view_is ∙ c.requires.still in
-    let is = (still none c.self.invariant.held).shelf in
-    next_after w.words c.place_bytes.new.table w.layout w.live w.mark c.in-Some.at (node c).node is c.in-Some.ensures.placed (c.place_bytes.ensures.laid (nodes_in w.words w.layout) is.laid) (numbered c)
-
--- what the words hold then, and the numbers at their head
-record Put (old new : List ℕ) (layout : Layout) (p : Placed) : Type 0 where
-  laid : Laid new layout (p ∷ nodes_in old layout)
-  inserted : slice_index new 4 ≡ slice_index old 4 + 1
-  other : (i : ℕ) → i < 16 → i ≢ 3 → i ≢ 4 → slice_index new i ≡ slice_index old i
-
-put : (c : After-set) (p : Placed) → IsNext c.place_bytes.new.table c.self.inside.layout (nodes_in c.self.inside.words c.self.inside.layout) p → p.place ≡ c.in-Some.at → c.args.number ≡ slice_index c.self.inside.words 4 → Put c.self.inside.words c.set.new.self c.self.inside.layout p
-put c p linked place number =
-    let w = c.self.inside in
-    let none : under_way w.slide w.words ≡ None = ap (λ (v : Writer). v.slide) c.self.view_is ∙ c.requires.still in
-    let is = (still none c.self.invariant.held).shelf in
-    let nodes : List Placed = nodes_in w.words w.layout in
-    let chain : List ℕ = c.chain-hash.new.table in
-    let chained : Laid chain w.layout (p ∷ nodes) = c.chain-hash.ensures.laid nodes p linked place in
+    let none : slide_of w.sheet.plan.words ≡ None = ap (λ (v : Writer). v.slide) c.self.view_is ∙ c.requires.still in
+    let rests = still none c.self.invariant.held in
+    let number = c.requires.number ∙ ap (λ (v : Writer). v.cache.inserted) (sym c.self.view_is) in
+    let numbered : c.number.result ≡ type_number l.request.kind = c.number.ensures ∙ ap type_number c.kind.ensures in
+    let kind : kind_of c.number.result ≡ l.request.kind = ap kind_of numbered ∙ kind_back l.request.kind in
+    let key : c.key-key.result.now ≡ l.request.key = c.key-key.ensures.value in
+    let bytes : c.bytes-reply.result.now ≡ l.answer.bytes = c.bytes-reply.ensures.value ∙ ap (λ (a : Answer). a.bytes) c.answer-2.ensures in
+    let not_found : c.is_not_found.result ≡ l.answer.not_found = c.is_not_found.ensures ∙ ap (λ (a : Answer). a.not_found) c.answer.ensures in
     let placed = c.in-Some.ensures.placed in
-    let at_first = placed.0 in
-    let first = is.laid.first_free in
-    let table = chained.table in
-    let low = end_after (arena_start w.layout) nodes is.laid.row in
+    let first = rests.laid.first_free in
+    let next : IsNext c.place_bytes.new.table.plan.words w.layout w.sheet.plan.nodes (node c) = record {
+      laid = c.place_bytes.ensures.laid w.sheet.plan.nodes rests.laid;
+      place = placed.0 ∙ first;
+      room = placed.1;
+      usable = refl;
+      stands = placed.2;
+      newest = λ q among. omega (arith, c.self.invariant.held.entries.numbers q among, number);
+    } in
     record {
-      laid = set_head chain c.set.new.self w.layout (p ∷ nodes) 4 (c.args.number + 1) (omega arith) (omega arith) c.set.ensures.set chained;
-      inserted = ap (λ (ws : List ℕ). slice_index ws 4) c.set.ensures.set ∙ get_or-set_same chain 4 (c.args.number + 1) 0 (omega arith) ∙ ap (λ (k : ℕ). k + 1) number;
-      other = λ i small a b. ap (λ (ws : List ℕ). slice_index ws i) c.set.ensures.set ∙ get_or-set_other chain 4 i (c.args.number + 1) 0 b ∙ c.chain-hash.ensures.head i small a ∙ placed.3.below i (omega arith);
+      rests = rests;
+      number = number;
+      kind = numbered;
+      kept = λ i. record { entry = record { number = number i; request = record { kind = kind i; key = key i }; version = (c.stamp.ensures i).version; answer = record { bytes = bytes i; not_found = not_found i }; timeout = c.timeout.ensures i }; reloads = c.reloads.ensures i };
+      next = next;
+      here = next_at c.place_bytes.new.table.plan.words w.layout w.sheet.plan.nodes (node c) c.in-Some.at rests.shelf.sizes next refl;
     }
 
--- the shelf then
-filled : (c : After-note) (p : Placed) → kept_in p ≡ kept_of c.args.loaded.now (slice_index c.self.inside.words 4) → p.usable ≡ true → p.place ≡ slice_index c.self.inside.words 3 → p.node.kind ≡ c.number.result → Put c.self.inside.words c.set.new.self c.self.inside.layout p
-    → Moved c.self.inside.slide c.self.inside.words c.set.new.self c.self.inside.layout (c.self.inside.live + 1) c.self.inside.mark (with_items c.self.inside.hints c.note.new.hints).items (λ s. record s { entries = s.entries ++ kept_of c.args.loaded.now (slice_index c.self.inside.words 4) ∷ []; used = s.used + entry_words (kept_of c.args.loaded.now (slice_index c.self.inside.words 4)).entry; inserted = s.inserted + 1 })
-filled c p fresh usable place kind done =
-    let w = c.self.inside in
-    let l : Loaded = c.args.loaded.now in
-    let k : Kept = kept_of l (slice_index w.words 4) in
-    let none : under_way w.slide w.words ≡ None = ap (λ (v : Writer). v.slide) c.self.view_is ∙ c.requires.still in
-    let old = still none c.self.invariant.held in
-    let is = old.shelf in
-    let nodes : List Placed = nodes_in w.words w.layout in
-    let free = subst (λ (v : Writer). IsAdmitted v l) (sym c.self.view_is) c.requires.free in
-    let below : slice_index w.words 4 < last_count = free.count in
-    let asks : l.request ≡ request_in p = ap (λ (x : Kept). x.entry.request) (sym fresh) in
-    let new : live_entry (request_in p) (entries_in nodes) ≡ None = ap (λ (s : Shelf). live_entry (request_in p) s.entries) (still_view w.slide w.words w.layout none) ∙ ap (λ (r : Request). live_entry r (shelf_in w.slide w.words w.layout).entries) (sym asks) ∙ free.new in
-    let entries = new_entries nodes p (slice_index w.words 4) c.kind-kind.result is.entries (kind ∙ c.number.ensures) (ap (λ (x : Kept). x.entry.number) fresh) new in
-    let more : length (entries_in (p ∷ nodes)) ≡ length (entries_in nodes) + 1 = ap length (one_more p nodes usable) ∙ length-append (entries_in nodes) (kept_in p ∷ []) in
-    let shelf = shelf_by c.set.new.self w.layout (p ∷ nodes) (slice_index w.words 4 + 1) (w.live + 1) w.mark is.sizes done.laid entries done.inserted (omega arith) (omega (arith, more, is.live)) (marked_more w.layout nodes p w.mark.place w.mark.number is.marked) in
-    let taken : entries_in (p ∷ nodes) ≡ entries_in nodes ++ k ∷ [] = one_more p nodes usable ∙ ap (λ (x : Kept). entries_in nodes ++ x ∷ []) fresh in
-    let words : words_in p.node ≡ entry_words k.entry = ap (λ (x : Kept). entry_words x.entry) fresh in
-    let low = end_after (arena_start w.layout) nodes is.laid.row in
-    let used : end_of (arena_start w.layout) (p ∷ nodes) - arena_start w.layout ≡ (slice_index w.words 3 - arena_start w.layout) + entry_words k.entry = omega (arith, words, low, is.laid.first_free, place) in
-    let view : shelf_of c.set.new.self w.layout ≡ record (shelf_of w.words w.layout) { entries = entries_in nodes ++ k ∷ []; used = (slice_index w.words 3 - arena_start w.layout) + entry_words k.entry; inserted = slice_index w.words 4 + 1 } =
-    view_by c.set.new.self w.layout (p ∷ nodes) (slice_index w.words 4 + 1) (slice_index w.words 0) w.words done.laid done.inserted (done.other 0 (omega arith) (omega arith) (omega arith)) (λ i above high. done.other i (omega arith) (omega arith) (omega arith))
-    ∙ (λ i. record (shelf_of w.words w.layout) { entries = taken i; used = used i; inserted = slice_index w.words 4 + 1 }) in
-    let hinted : AreHints c.deref_mut.result.now w.layout nodes = subst (λ (hs : List ℕ). AreHints hs w.layout nodes) (sym c.deref_mut.ensures.value) old.hinted in
-    let noted : AreHints c.note.new.hints w.layout (p ∷ nodes) = hints_noted c.deref_mut.result.now c.note.new.hints w.layout (p ∷ nodes) p c.in-Some.at (hints_more c.deref_mut.result.now nodes p hinted) (inl refl) (place ∙ sym c.in-Some.ensures.placed.0) c.note.ensures.count c.note.ensures.hints in
-    let size : length c.note.new.hints ≡ w.hints.len = omega (arith, c.note.ensures.count, c.deref_mut.ensures.len) in
-    moved (with_items w.hints c.note.new.hints).items (λ (s : Shelf). record s { entries = s.entries ++ k ∷ []; used = s.used + entry_words k.entry; inserted = s.inserted + 1 }) none c.self.invariant.held
-    (record { cycle = done.other 0 (omega arith) (omega arith) (omega arith); shelf = shelf; view = view })
-    (subst (λ (hs : List ℕ). AreHints hs w.layout (nodes_in c.set.new.self w.layout)) (sym (with_items_is w.hints c.note.new.hints size)) (hints_by c.note.new.hints done.laid noted))
+pub lead-bucket-requires-clause-hash : goal.lead-bucket-requires-clause-hash
+lead-bucket-requires-clause-hash c p here =
+    let i = (goal.at.lead-bucket-requires-clause-hash c).In-Some in
+    let own = (known i).here in
+    let words : List ℕ = c.place_bytes.new.table.plan.words in
+    let same : node i ≡ p = sym (node_back words (node i) own.stands) ∙ ap (placed_in words) (sym here.place) ∙ node_back words p here.stands in
+    c.hash-hash.ensures ∙ ap (λ (q : Placed). hash_of q.node.kind q.node.key) same
 
-pub insert-requires-clause-legal : goal.insert-requires-clause-legal
-insert-requires-clause-legal c =
+-- it was written, and its NEXT set
+written : (c : After-lead-bucket) (n : Placed) → Rests c.self.inside.sheet.plan c.self.inside.layout c.self.inside.live c.self.inside.mark c.self.inside.hints.items → IsNext c.place_bytes.new.table.plan.words c.self.inside.layout c.self.inside.sheet.plan.nodes n → IsNodeAt c.place_bytes.new.table.plan.words c.in-Some.at n → c.args.number ≡ slice_index c.self.inside.sheet.plan.words 4 → n.node.number ≡ c.args.number
+    → IsWrittenAt c.self.inside.sheet.plan c.self.inside.layout c.place_bytes.new.table.plan.words n c.lead-bucket.result.0 c.lead-bucket.result.1 c.args.number
+written c n rests next here number numbered =
+    let gives = c.lead-bucket.ensures.gives n here in
+    let place = here.place in
+    record {
+      sizes = rests.shelf.sizes;
+      next = next;
+      below = subst (IsSameBelow c.self.inside.sheet.plan.words c.place_bytes.new.table.plan.words) (sym place) c.in-Some.ensures.placed.3;
+      bucket_is = ap (λ (r : ℕ × ℕ). r.0) gives;
+      end_is = ap (λ (r : ℕ × ℕ). r.1) gives ∙ ap (λ (at : ℕ). at + words_in n.node) (sym place);
+      number_is = number;
+      numbered = numbered ∙ number;
+    }
+
+-- the pen then
+led_pen : (c : After-lead-bucket) → c.lead-bucket.new.table ≡ record c.self.inside.sheet { plan = record c.self.inside.sheet.plan { words = led c.place_bytes.new.table.plan.words c.in-Some.at c.lead-bucket.result.0 } }
+led_pen c =
+    let placed = sheet_with c.self.inside.sheet c.place_bytes.new.table c.place_bytes.ensures.rest in
+    sheet_with c.place_bytes.new.table c.lead-bucket.new.table c.lead-bucket.ensures.rest
+    ∙ (λ i. record (placed i) { plan = record (placed i).plan { words = c.lead-bucket.ensures.set i } })
+
+-- it may be linked, and is what is read of the words
+linked : (pen : Pen) (layout : Layout) (mid : List ℕ) (n : Placed) (bucket end number : ℕ) (kind : Kind) (k : Kept) → pen.plan.layout ≡ layout → slice_index pen.plan.words 0 % 2 ≡ 0 → IsWrittenAt pen.plan layout mid n bucket end number → n.usable ≡ true → n.node.kind ≡ type_number kind → kept_in n ≡ k → Legal (Load k.entry ∷ pen.plan.seen)
+    → (placed_in (led mid n.place bucket) n.place ≡ n) × IsReady (record pen.plan { words = led mid n.place bucket }) bucket n.place
+linked pen layout mid n bucket end number kind k laid_out even is usable kinds kept legal = ready_by (record pen.plan { words = led mid n.place bucket }) bucket n (record {
+  even = ap (λ (w : ℕ). w % 2) (led_head is 0 (omega arith)) ∙ even;
+  place = is.next.place ∙ ap (λ (m : Layout). end_of (arena_start m) pen.plan.nodes) (sym laid_out);
+  room = subst (λ (m : Layout). n.place + words_in n.node ≤ table_words m) (sym laid_out) is.next.room;
+  stands = led_stands is;
+  usable = usable;
+  kind = subst (λ (x : ℕ). type_number (kind_of x) ≡ x) (sym kinds) (ap type_number (kind_back kind));
+  bucket = is.bucket_is ∙ ap (λ (m : Layout). bucket_in m n) (sym laid_out);
+  next = led_next is;
+  legal = subst (λ (x : Kept). Legal (Load x.entry ∷ pen.plan.seen)) (sym kept) legal;
+})
+
+pub publish-requires : goal.publish-requires
+publish-requires c =
+    let at = goal.at.publish-requires c in
     let w = c.self.inside in
     let l : Loaded = c.args.loaded.now in
-    let v : Writer = writer_of w.map.table w.layout w.pen (arc_value w.content) (shelf_in w.slide w.words w.layout) (under_way w.slide w.words) in
+    let i = at.In-Some in
+    let k = known i in
+    let v : Writer = writer_of w.sheet w.layout (arc_value w.content) in
     let told = told_by v c.args.self.now l c.self.view_is c.self.invariant.tells c.requires.free c.requires.answered in
-    let entry = entry_by l c.args.number (slice_index w.words 4) c.kind-kind.result c.owned_key-key.result.now c.stamp-version.result c.answer-answer.result.now c.timeout-timeout.result (c.requires.number ∙ ap (λ (x : Writer). x.cache.inserted) (sym c.self.view_is)) c.kind-kind.ensures c.owned_key-key.ensures.value c.stamp-version.ensures c.answer-answer.ensures c.timeout-timeout.ensures in
-    subst (λ (e : Entry). Legal (Load e ∷ w.pen.seen)) (sym entry) told.legal
-
-pub chain-hash-requires-clause-next : goal.chain-hash-requires-clause-next
-chain-hash-requires-clause-next c = let i = (goal.at.chain-hash-requires-clause-next c).In-Some in (nodes_in c.self.inside.words c.self.inside.layout, node i, next i, refl)
-
-pub set-requires-clause-inside : goal.set-requires-clause-inside
-set-requires-clause-inside c =
-    let i = (goal.at.set-requires-clause-inside c).In-Some in
-    let table = (c.chain-hash.ensures.laid (nodes_in c.self.inside.words c.self.inside.layout) (node i) (next i) refl).table in
-    omega arith
+    let is = written at.After-lead-bucket (node i) k.rests k.next k.here k.number refl in
+    subst (λ (p : Pen). IsReady p.plan c.lead-bucket.result.0 c.in-Some.at) (sym (led_pen at.After-lead-bucket))
+    (linked w.sheet w.layout c.place_bytes.new.table.plan.words (node i) c.lead-bucket.result.0 c.lead-bucket.result.1 c.args.number l.request.kind (kept_of l (slice_index w.sheet.plan.words 4)) k.rests.laid_out k.rests.even is refl k.kind k.kept told.legal).1
 
 pub overflow_add-self : goal.overflow_add-self
 overflow_add-self c =
     let w = c.self.inside in
-    let none : under_way w.slide w.words ≡ None = ap (λ (v : Writer). v.slide) c.self.view_is ∙ c.requires.still in
-    let is = (still none c.self.invariant.held).shelf in
-    let few = few_entries (arena_start w.layout) (nodes_in w.words w.layout) is.laid.row in
-    omega (arith, few, is.laid.room, is.live, is.sizes.buckets, is.sizes.room)
+    let r = (known (goal.at.overflow_add-self c).In-Some).rests in
+    let few = few_entries (arena_start w.layout) w.sheet.plan.nodes r.laid.row in
+    omega (arith, few, r.laid.room, c.self.invariant.held.live, r.shelf.sizes.buckets, r.shelf.sizes.room)
 
 pub note-requires-clause-from : goal.note-requires-clause-from
 note-requires-clause-from c =
     let w = c.self.inside in
-    let none : under_way w.slide w.words ≡ None = ap (λ (v : Writer). v.slide) c.self.view_is ∙ c.requires.still in
-    let is = (still none c.self.invariant.held).shelf in
-    let low = end_after (arena_start w.layout) (nodes_in w.words w.layout) is.laid.row in
-    omega (arith, low, is.laid.first_free, c.in-Some.ensures.placed.0)
+    let k = known (goal.at.note-requires-clause-from c).In-Some in
+    let low = end_after (arena_start w.layout) w.sheet.plan.nodes k.rests.laid.row in
+    omega (arith, low, k.next.place)
+
+-- the pen at last
+written_pen : (c : After-note) (n : Placed) (k : Kept) → c.lead-bucket.new.table ≡ record c.self.inside.sheet { plan = record c.self.inside.sheet.plan { words = led c.place_bytes.new.table.plan.words c.in-Some.at c.lead-bucket.result.0 } } → placed_in (led c.place_bytes.new.table.plan.words c.in-Some.at c.lead-bucket.result.0) c.in-Some.at ≡ n → kept_in n ≡ k
+    → c.set_count-in-Some.new.self ≡ record c.self.inside.sheet { plan = put_plan c.self.inside.sheet.plan (Load k.entry ∷ c.self.inside.sheet.plan.seen) (put_words c.place_bytes.new.table.plan.words c.in-Some.at c.lead-bucket.result.0 c.lead-bucket.result.1 c.args.number) n }
+written_pen c n k led_is back kept =
+    let w = c.self.inside in
+    let words : List ℕ = put_words c.place_bytes.new.table.plan.words c.in-Some.at c.lead-bucket.result.0 c.lead-bucket.result.1 c.args.number in
+    c.set_count-in-Some.ensures
+    ∙ ap (λ (p : Pen). record p { plan = stored 4 (c.args.number + 1) p.plan }) (c.set_count.ensures ∙ ap (λ (p : Pen). record p { plan = stored 3 c.lead-bucket.result.1 p.plan }) (c.publish.ensures ∙ ap (λ (p : Pen). record p { plan = published c.lead-bucket.result.0 c.in-Some.at p.plan }) led_is))
+    ∙ (λ i. record w.sheet { plan = put_plan w.sheet.plan (Load (entry_of (back i)) ∷ w.sheet.plan.seen) words (back i) })
+    ∙ (λ i. record w.sheet { plan = put_plan w.sheet.plan (Load (kept i).entry ∷ w.sheet.plan.seen) words n })
+
+hinted : (c : After-note) (n : Placed) → Rests c.self.inside.sheet.plan c.self.inside.layout c.self.inside.live c.self.inside.mark c.self.inside.hints.items → n.place ≡ c.in-Some.at → AreHints (with_items c.self.inside.hints c.note.new.hints).items c.self.inside.layout (n ∷ c.self.inside.sheet.plan.nodes)
+hinted c n r place =
+    let w = c.self.inside in
+    let old : AreHints c.deref_mut.result.now w.layout w.sheet.plan.nodes = subst (λ (hs : List ℕ). AreHints hs w.layout w.sheet.plan.nodes) (sym c.deref_mut.ensures.value) r.hinted in
+    let size : length c.note.new.hints ≡ w.hints.len = omega (arith, c.note.ensures.count, c.deref_mut.ensures.len) in
+    subst (λ (hs : List ℕ). AreHints hs w.layout (n ∷ w.sheet.plan.nodes)) (sym (with_items_is w.hints c.note.new.hints size))
+    (hints_noted c.deref_mut.result.now c.note.new.hints w.layout (n ∷ w.sheet.plan.nodes) n c.in-Some.at (hints_more c.deref_mut.result.now w.sheet.plan.nodes n old) (inl refl) place c.note.ensures.count c.note.ensures.hints)
 
 pub invariant_of-self : goal.invariant_of-self
 invariant_of-self c =
     let at = goal.at.invariant_of-self c in
     let w = c.self.inside in
     let l : Loaded = c.args.loaded.now in
-    let s : Shelf = shelf_in w.slide w.words w.layout in
-    let k : Kept = kept_of l (slice_index w.words 4) in
     let i = at.In-Some in
-    let m = filled at.After-note (node i) (kept i) refl c.in-Some.ensures.placed.0 refl (put at.After-set (node i) (next i) refl (numbered i)) in
-    let v : Writer = writer_of w.map.table w.layout w.pen (arc_value w.content) s (under_way w.slide w.words) in
+    let f = known i in
+    let k : Kept = kept_of l (slice_index w.sheet.plan.words 4) in
+    let v : Writer = writer_of w.sheet w.layout (arc_value w.content) in
     let told = told_by v c.args.self.now l c.self.view_is c.self.invariant.tells c.requires.free c.requires.answered in
-    let entry = entry_by l c.args.number (slice_index w.words 4) c.kind-kind.result c.owned_key-key.result.now c.stamp-version.result c.answer-answer.result.now c.timeout-timeout.result (numbered i) c.kind-kind.ensures c.owned_key-key.ensures.value c.stamp-version.ensures c.answer-answer.ensures c.timeout-timeout.ensures in
-    written (record w.pen { seen = Load k.entry ∷ w.pen.seen }) (record s { entries = s.entries ++ k ∷ []; used = s.used + entry_words k.entry; inserted = s.inserted + 1 }) c.self.invariant refl
-    (c.insert.ensures ∙ ap (λ (e : Entry). record w.pen { seen = Load e ∷ w.pen.seen }) entry) m.held m.view told
+    let free = subst (λ (x : Writer). IsAdmitted x l) (sym c.self.view_is) c.requires.free in
+    let is = written at.After-lead-bucket (node i) f.rests f.next f.here f.number refl in
+    let back = (linked w.sheet w.layout c.place_bytes.new.table.plan.words (node i) c.lead-bucket.result.0 c.lead-bucket.result.1 c.args.number l.request.kind k f.rests.laid_out f.rests.even is refl f.kind f.kept told.legal).0 in
+    let m = put_moved (Load k.entry ∷ w.sheet.plan.seen) (with_items w.hints c.note.new.hints).items l.request.kind k f.rests c.self.invariant.held is f.kept refl f.kind free.new free.count (hinted at.After-note (node i) f.rests refl) in
+    moved_still w.sheet (Load k.entry ∷ w.sheet.plan.seen) (written_pen at.After-note (node i) k (led_pen at.After-lead-bucket) back f.kept) refl m told
 
 pub returns-in-Some : goal.returns-in-Some
 returns-in-Some c =
     let at = goal.at.returns-in-Some c in
     let w = c.self.inside in
     let l : Loaded = c.args.loaded.now in
-    let k : Kept = kept_of l (slice_index w.words 4) in
     let i = at.In-Some in
-    let m = filled at.After-note (node i) (kept i) refl c.in-Some.ensures.placed.0 refl (put at.After-set (node i) (next i) refl (numbered i)) in
-    let entry = entry_by l c.args.number (slice_index w.words 4) c.kind-kind.result c.owned_key-key.result.now c.stamp-version.result c.answer-answer.result.now c.timeout-timeout.result (numbered i) c.kind-kind.ensures c.owned_key-key.ensures.value c.stamp-version.ensures c.answer-answer.ensures c.timeout-timeout.ensures in
-    moved_view (record w.pen { seen = Load k.entry ∷ w.pen.seen }) (c.insert.ensures ∙ ap (λ (e : Entry). record w.pen { seen = Load e ∷ w.pen.seen }) entry) m
-    ∙ ap (λ (v : Writer). with_entry (kept_of l v.cache.inserted) v) c.self.view_is
+    let f = known i in
+    let k : Kept = kept_of l (slice_index w.sheet.plan.words 4) in
+    let v : Writer = writer_of w.sheet w.layout (arc_value w.content) in
+    let told = told_by v c.args.self.now l c.self.view_is c.self.invariant.tells c.requires.free c.requires.answered in
+    let free = subst (λ (x : Writer). IsAdmitted x l) (sym c.self.view_is) c.requires.free in
+    let is = written at.After-lead-bucket (node i) f.rests f.next f.here f.number refl in
+    let back = (linked w.sheet w.layout c.place_bytes.new.table.plan.words (node i) c.lead-bucket.result.0 c.lead-bucket.result.1 c.args.number l.request.kind k f.rests.laid_out f.rests.even is refl f.kind f.kept told.legal).0 in
+    let m = put_moved (Load k.entry ∷ w.sheet.plan.seen) (with_items w.hints c.note.new.hints).items l.request.kind k f.rests c.self.invariant.held is f.kept refl f.kind free.new free.count (hinted at.After-note (node i) f.rests refl) in
+    moved_view w.sheet (arc_value w.content) (Load k.entry ∷ w.sheet.plan.seen) (written_pen at.After-note (node i) k (led_pen at.After-lead-bucket) back f.kept) refl m
+    ∙ ap (λ (x : Writer). with_entry (kept_of l x.cache.inserted) x) c.self.view_is

@@ -47,11 +47,11 @@ alone c =
     let stamp = ap (λ (s : Stamp). s.epoch) c.stamp-noted.ensures in
     record {
       short = omega (arith, c.if-length-gt-KEPT_LIMIT.false, ap length bytes);
-      noted = omega (arith, c.if-noted-epoch.false, stamp, c.epoch-epoch.ensures.value, ap (λ (w : Writer). w.cache.epoch) c.self.view_is);
+      noted = omega (arith, c.if-noted-epoch.false, stamp, c.epoch-epoch.ensures);
       new = none_numbered (live_entry l.request c.args.self.now.cache.entries) (c.in_default.ensures.number ∙ (λ i. number_of (live_entry (record { kind = kind i; key = key i }) c.args.self.now.cache.entries)));
       count = λ e. c.if-inserted-eq-LAST_COUNT.false (c.inserted-inserted.ensures.value ∙ e);
       words = sym (c.node_words-need.ensures ∙ (λ i. node_words (length (c.key-2.ensures.value i)) (length (bytes i))));
-      arena = sym (ap (λ (m : Layout). m.arena) (c.layout.ensures ∙ ap (λ (m : Map). m.layout) c.map.ensures));
+      arena = sym (ap (λ (m : Layout). m.arena) (c.layout.ensures.layout ∙ ap (λ (m : Map). m.layout) c.map.ensures));
     }
 
 pub returns-then-need-free-clause-said : goal.returns-then-need-free-clause-said
