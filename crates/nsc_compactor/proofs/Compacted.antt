@@ -9,14 +9,14 @@ use Rattle.nsc_arena.proofs.Slides.{slid_from}
 use Rattle.nsc_model.specs.Kinds.{type_number}
 use Rattle.nsc_model.specs.Machine.{all_words}
 use Rattle.nsc_rule.specs.Entries.{entries_in, kind_of}
-use Rattle.nsc_shelf.specs.Shelf.{Shelf, slide_words}
+use Rattle.nsc_shelf.specs.Shelf.{slide_words}
 use Rattle.nsc_shelf.proofs.Entries.{slid_same, words_slid}
 use Rattle.nsc_writer.specs.Slide.{IsBegun, IsSlid, emptied_slide, without_words}
 use Rattle.nsc_writer.specs.Writer.{Writer}
 
 -- where a slide began, these are its words
-begun_words : (before after : Writer) → (b : IsBegun before after) → slide_words after.slide ≡ b.shelf.words
-begun_words before after b = ap (λ (s : Shelf). slide_words s.slide) b.shelf.is
+begun_words : (before after : Writer) → (b : IsBegun before after) → slide_words after.slide ≡ b.words
+begun_words before after b = ap (λ (w : Writer). slide_words w.slide) b.is
 
 -- no node that is left ended, and each is of a kind
 slid_alone : (start : ℕ) (nodes : List Placed) (q : Placed) → Among q (slid start nodes) → q.usable ≡ true
@@ -42,31 +42,31 @@ ended_slide w = record w { slide = None }
 same_but : (before begun after : Writer) → IsBegun before begun → without_words after ≡ without_words begun → ended_slide after ≡ record before { cache = record before.cache { cycle = before.cache.cycle + 1 }; slide = None }
 same_but before begun after b rest = ap ended_slide rest ∙ ap ended_slide b.is
 
-pub slid_ends : (before begun after : Writer) (map : Layout) → map ≡ before.layout → (b : IsBegun before begun) → without_words after ≡ without_words begun → Laid (slide_words after.slide) map (slid (arena_start map) b.shelf.nodes) → IsSlid after
+pub slid_ends : (before begun after : Writer) (map : Layout) → map ≡ before.layout → (b : IsBegun before begun) → without_words after ≡ without_words begun → Laid (slide_words after.slide) map (slid (arena_start map) b.nodes) → IsSlid after
 slid_ends before begun after map same b rest laid =
     let now = same_but before begun after b rest in
     let layout : after.layout ≡ map = ap (λ (w : Writer). w.layout) now ∙ sym same in
     let entries : before.cache.entries ≡ after.cache.entries = sym (ap (λ (w : Writer). w.cache.entries) now) in
     record {
       words = slide_words after.slide;
-      under_way = under_way_by after.slide (ap (λ (w : Writer). w.slide) rest ∙ ap (λ (s : Shelf). emptied_slide s.slide) b.shelf.is);
-      nodes = slid (arena_start map) b.shelf.nodes;
+      under_way = under_way_by after.slide (ap (λ (w : Writer). w.slide) rest ∙ ap (λ (w : Writer). emptied_slide w.slide) b.is);
+      nodes = slid (arena_start map) b.nodes;
       hold = record {
-        laid = subst (λ (m : Layout). Laid (slide_words after.slide) m (slid (arena_start map) b.shelf.nodes)) (sym layout) laid;
-        kinds = slid_kinds (arena_start map) b.shelf.nodes b.shelf.hold.kinds;
-        live = slid_same (arena_start map) b.shelf.nodes ∙ b.shelf.hold.live ∙ entries;
+        laid = subst (λ (m : Layout). Laid (slide_words after.slide) m (slid (arena_start map) b.nodes)) (sym layout) laid;
+        kinds = slid_kinds (arena_start map) b.nodes b.hold.kinds;
+        live = slid_same (arena_start map) b.nodes ∙ b.hold.live ∙ entries;
       };
-      alone = slid_alone (arena_start map) b.shelf.nodes;
+      alone = slid_alone (arena_start map) b.nodes;
     }
 
-pub freed_words : (before begun : Writer) (words : List ℕ) (map : Layout) (freed : ℕ) → map ≡ before.layout → (b : IsBegun before begun) → Laid words map (slid (arena_start map) b.shelf.nodes) → slice_index words 3 + freed ≡ slice_index (slide_words begun.slide) 3 → freed + all_words before.cache.entries ≡ before.cache.used
+pub freed_words : (before begun : Writer) (words : List ℕ) (map : Layout) (freed : ℕ) → map ≡ before.layout → (b : IsBegun before begun) → Laid words map (slid (arena_start map) b.nodes) → slice_index words 3 + freed ≡ slice_index (slide_words begun.slide) 3 → freed + all_words before.cache.entries ≡ before.cache.used
 freed_words before begun words map freed same b laid said =
     let first = laid.first_free in
-    let all = words_slid (arena_start map) b.shelf.nodes in
-    let live : all_words (entries_in b.shelf.nodes) ≡ all_words before.cache.entries = ap all_words b.shelf.hold.live in
+    let all = words_slid (arena_start map) b.nodes in
+    let live : all_words (entries_in b.nodes) ≡ all_words before.cache.entries = ap all_words b.hold.live in
     let start : arena_start map ≡ arena_start before.layout = ap arena_start same in
-    let used : slice_index (slide_words begun.slide) 3 ≡ slice_index b.shelf.words 3 = ap (λ (ws : List ℕ). slice_index ws 3) (begun_words before begun b) in
-    let was : slice_index b.shelf.words 3 ≡ arena_start before.layout + before.cache.used = b.shelf.used in
+    let used : slice_index (slide_words begun.slide) 3 ≡ slice_index b.words 3 = ap (λ (ws : List ℕ). slice_index ws 3) (begun_words before begun b) in
+    let was : slice_index b.words 3 ≡ arena_start before.layout + before.cache.used = b.used in
     omega arith
 
 pub compacted : (before begun after last : Writer) → before.slide ≡ None → IsBegun before begun → without_words after ≡ without_words begun → last ≡ record after { cache = record after.cache { cycle = after.cache.cycle + 1; used = all_words after.cache.entries }; slide = None }

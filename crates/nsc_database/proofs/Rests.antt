@@ -23,7 +23,7 @@ use Rattle.nsc_writer.specs.Writer.{Writer, Inserts, Polls, with_entry}
 use Rattle.nsc_turns.specs.declared.entries.HitOrMiss.{HitOrMiss}
 use Rattle.nsc_turns.specs.declared.entries.HitOrMiss.TheVariants as looked
 use Rattle.nsc_turns.specs.Turns.{Looks}
-use Rattle.nsc_writer.specs.Uses.{Uses}
+use Rattle.nsc_shelf.specs.Uses.{Uses}
 use Rattle.nsc_writer.proofs.Later.{prefix_through}
 use Rattle.nsc_model.specs.Stores.{LoadsAgain}
 use Rattle.nsc_database.specs.Rests.{IsPacked, IsReloaded, Keeps, Rests}

@@ -9,7 +9,7 @@ ghost use Rattle.nsc_model.specs.Machine.{is_outdated, room_of};
 ghost use Rattle.nsc_model.specs.Reloads.{Reloaded};
 ghost use Rattle.nsc_model.specs.Settings.{settings_of};
 ghost use Rattle.nsc_model.specs.Stores.{IsCounted, IsEmptied, IsInvalidateFault, IsSpent, IsUnmoved, LoadsAgain};
-ghost use Rattle.nsc_writer.specs.Uses.{counted};
+ghost use Rattle.nsc_shelf.specs.Uses.{counted};
 ghost use Rattle.nsc_database.specs.Frames.{Held};
 ghost use Rattle.nsc_database.specs.Holds.{IsInserted, IsLooked, IsPolled};
 ghost use Rattle.nsc_database.specs.Steady.{IsSteady};

@@ -1,10 +1,13 @@
 -- The entries that stand in words, by the nodes that the words hold.
 use Rattle.std.specs.Prelude.{ℕ, if◌then◌else◌, List, [], ◌∷◌, ◌++◌, Option, Some, None}
+use Rattle.nsc_words.specs.declared.layout.Layout.{Layout}
 use Rattle.nsc_words.specs.declared.node.Placed.{Placed}
+use Rattle.nsc_words.specs.Layout.{bucket_of}
 use Rattle.nsc_model.specs.declared.answer.Request.{Request}
 use Rattle.nsc_model.specs.declared.kind.Kind.{Kind}
 use Rattle.nsc_model.specs.declared.kind.Kind.TheVariants.{PwName}
-use Rattle.nsc_model.specs.Kinds.{kind_numbered}
+use Rattle.nsc_model.specs.Entry.{Entry}
+use Rattle.nsc_model.specs.Kinds.{kind_numbered, type_number}
 use Rattle.nsc_model.specs.Machine.{Kept}
 
 -- the kind of a number; any, where it is that of none
@@ -28,3 +31,11 @@ kept_in p = record {
 abbrev pub entries_in : List Placed → List Kept
 entries_in [] = []
 entries_in (p ∷ older) = if p.usable then entries_in older ++ kept_in p ∷ [] else entries_in older
+
+-- the entry that a node holds
+abbrev pub entry_of : Placed → Entry
+entry_of p = (kept_in p).entry
+
+-- the bucket of a request
+abbrev pub request_bucket : Layout → Request → ℕ
+request_bucket layout request = bucket_of layout (type_number request.kind) request.key

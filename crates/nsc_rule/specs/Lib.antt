@@ -1,5 +1,8 @@
-pub mod Seats
+pub mod Entries
 pub mod Map
+pub mod Plans
+pub mod Strokes
+pub mod Seats
 pub mod Pen
 pub mod Pass
-pub mod Entries
+pub mod Walks

@@ -1,8 +1,10 @@
--- What a pass is: the words at which it has a seat, and what it has seen of the history.
+-- What a pass is: the words at which it has a seat, what it has seen of the history, and how far its search has come.
 use Rattle.std.specs.Prelude.{List}
 use Rattle.atomic_table.specs.Seated.{TableId}
 use Rattle.nsc_model.specs.declared.record.Record.{Record}
+use Rattle.nsc_rule.specs.declared.view.Walk.{Walk}
 
 pub record Pass : Type 0 where
   pub table : TableId
   pub seen : List Record
+  pub walk : Walk

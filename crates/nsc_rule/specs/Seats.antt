@@ -1,85 +1,136 @@
--- The rule of the shared words: the history is legal, the words are what it says, the writing seat has seen it whole, and every other seat a
--- beginning of it. The views of the seats have it; the words do not.
-use Rattle.std.specs.Prelude.{◌≡◌, ℕ, ◌-◌, nat_lt, if◌then◌else◌, true, false, List, [], ◌∷◌, length}
-use mathlib.Core.Option.{Option, some, none}
+-- The rule of the shared words: they are those of the plan that the writing seat knows, which is sound, and what each other seat
+-- knows follows that plan.
+use Rattle.std.specs.Prelude.{◌≡◌, ℕ, ◌%◌, ◌<◌, ◌≤◌, nat_lt, if◌then◌else◌, Bool, true, false, List, [], length, slice_index, Some, None}
+use mathlib.Core.Option as maybe
 use lib.ListN.{get_elem?}
 use Rattle.atomic_table.specs.Table.{State, Me, Step}
+use Rattle.nsc_words.specs.declared.layout.Layout.{Layout}
+use Rattle.nsc_words.specs.declared.node.Placed.{Placed}
+use Rattle.nsc_words.specs.Laid.{Among}
 use Rattle.nsc_model.specs.Content.{Content}
+use Rattle.nsc_model.specs.Entry.{Entry}
+use Rattle.nsc_model.specs.History.{loads, IsPrefix}
+use Rattle.nsc_model.specs.declared.kind.Kind.TheVariants as kind
 use Rattle.nsc_model.specs.declared.record.Record.{Record}
-use Rattle.nsc_model.specs.declared.record.Record.TheVariants as record_of
-use Rattle.nsc_model.specs.History.{changes, invalidations, IsPrefix, Legal}
+use Rattle.nsc_rule.specs.declared.view.Plan.{Plan}
+use Rattle.nsc_rule.specs.declared.view.Walk.{Walk}
 use Rattle.nsc_rule.specs.declared.view.View.{View}
-use Rattle.nsc_rule.specs.declared.view.Said.{Said}
-use Rattle.nsc_rule.specs.declared.view.Said.TheVariants as said
+use Rattle.nsc_rule.specs.declared.view.View.TheVariants.{Writes, Reads}
+use Rattle.nsc_rule.specs.Entries.{entry_of, request_bucket, request_in}
+use Rattle.nsc_rule.specs.Plans.{cycle_of, Sound, first_plan}
 
--- the words that a history has: the number of its invalidations, and that of its newest version
-abbrev pub words_of : List Record → List ℕ
-words_of history = invalidations history ∷ (changes history - 1) ∷ []
+-- ---- the views of the seats
 
--- what a seat knows is so: the one that writes is the first one and has seen all, and each has seen, and was told of, a
--- beginning of the history
-pub record Fits (history : List Record) (seat : ℕ) (v : View) : Type 0 where
-  pub writes : v.pen ≡ true → (seat ≡ 0) × (v.seen ≡ history)
-  pub seen : IsPrefix v.seen history
-  pub told : IsPrefix v.told history
+-- no search has begun
+abbrev pub resting : Walk
+resting = record { searches = 0; first = 0; last = 0; began = []; request = record { kind = kind.PwName; key = [] }; known = 0; place = 0; on = None; gone = false }
 
--- the rule
-pub record IsKept (s : State Said View) : Type 0 where
-  pub history : List Record
-  pub legal : Legal history
-  pub words : s.words ≡ words_of history
-  pub fits : (seat : ℕ) (v : View) → get_elem? s.views seat ≡ some v → Fits history seat v
+-- the seat that writes
+abbrev pub writing : Plan → View
+writing p = Writes p []
 
--- the views of the seats
-abbrev pub pen_view : List Record → View
-pen_view history = record { pen = true; seen = history; told = [] }
+abbrev pub reading : List Record → Bool → Walk → View
+reading seen retired walk = Reads seen [] retired walk
 
-abbrev pub reader_view : List Record → View
-reader_view seen = record { pen = false; seen = seen; told = [] }
-
-abbrev pub opening_view : Content → View
-opening_view content = pen_view (record_of.Change 0 content ∷ [])
+abbrev pub opening_view : Layout → Content → View
+opening_view layout content = writing (first_plan layout content)
 
 abbrev pub nobody : View
-nobody = reader_view []
+nobody = reading [] false resting
 
--- a new seat beside this one
+-- the parts of a view
+abbrev pub seen_by : View → List Record
+seen_by (Writes plan told) = plan.seen
+seen_by (Reads seen told retired walk) = seen
+
+abbrev pub told_to : View → List Record
+told_to (Writes plan told) = told
+told_to (Reads seen told retired walk) = told
+
+abbrev pub is_retired : View → Bool
+is_retired (Writes plan told) = plan.retired
+is_retired (Reads seen told retired walk) = retired
+
+-- the walk of a seat; that of the writing one rests
+abbrev pub walk_by : View → Walk
+walk_by (Writes plan told) = resting
+walk_by (Reads seen told retired walk) = walk
+
+-- no plan
+abbrev pub no_plan : Plan
+no_plan = record { layout = record { buckets = 0; arena = 0 }; seen = []; words = []; nodes = []; retired = false }
+
+-- the plan of the seat that writes
+abbrev pub plan_by : View → Plan
+plan_by (Writes plan told) = plan
+plan_by (Reads seen told retired walk) = no_plan
+
+-- a new seat beside this one, which reads
 abbrev pub reader_of : View → View
-reader_of v = reader_view v.seen
+reader_of v = reading (seen_by v) (is_retired v) (walk_by v)
 
 -- this seat, told what another one has seen
 abbrev pub told_of : View → View → View
-told_of v w = record v { told = w.seen }
+told_of (Writes plan told) w = Writes plan (seen_by w)
+told_of (Reads seen told retired walk) w = Reads seen (seen_by w) retired walk
 
 -- this seat, which has seen what another one has seen
 abbrev pub shown : View → View → View
-shown v w = record v { seen = w.seen }
+shown (Writes plan told) w = Writes plan told
+shown (Reads seen told retired walk) w = Reads (seen_by w) told (is_retired w) walk
 
 -- the longer of two lists of records, and the first one of two that are equally long
 abbrev pub longer : List Record → List Record → List Record
 longer seen told = if nat_lt (length seen) (length told) then told else seen
 
--- the record that a step says
-abbrev pub said_record : Said → Record
-said_record (said.Change version content) = record_of.Change version content.value
-said_record (said.Poll version) = record_of.Poll version
-said_record (said.Load number kind key version answer timeout) = record_of.Load (record { number = number; request = record { kind = kind; key = key.value }; version = version; answer = answer.value; timeout = timeout })
-said_record (said.End number cause) = record_of.End number cause
-said_record (said.Invalid epoch) = record_of.Invalid epoch
+-- ---- a search under way
 
--- the record that was said was added to all that was seen
-abbrev pub AddsSaid : Option Said → View → View → Type 0
-AddsSaid (some s) v w = w ≡ record v { seen = said_record s ∷ v.seen }
-AddsSaid none v w = Unit {0}
+-- the entry that a walk stands on stands at its place, in the bucket that it follows, ended where the walk found it so; and the
+-- usable nodes that answer its request, of those that stood when it began, are at its place or below
+pub record Reaches (p : Plan) (w : Walk) : Type 0 where
+  pub at : (e : Entry) → w.on ≡ Some e → (q : Placed) × Among q p.nodes × (q.place ≡ w.place) × (entry_of q ≡ e) × (request_bucket p.layout e.request ≡ request_bucket p.layout w.request) × (w.gone ≡ true → q.usable ≡ false)
+  pub bound : (q : Placed) → Among q p.nodes → q.usable ≡ true → request_in q ≡ w.request → q.node.number < loads w.began → q.place ≤ w.place
 
-abbrev pub AddTells : Step Said → Me Said View → ℕ → Me Said View → Type 0
-AddTells s me found me' = AddsSaid s.said me.0 me'.0 × (me'.1 ≡ me.1)
+-- what a seat that reads knows follows the plan: it has seen, and was told of, beginnings of the history; it knows no later CYCLE;
+-- and where CYCLE is still what its search began with, and even, the walk reaches what it is to reach
+pub record Follows (p : Plan) (v : View) : Type 0 where
+  pub seen : IsPrefix (seen_by v) p.seen
+  pub told : IsPrefix (told_to v) p.seen
+  pub began : IsPrefix (walk_by v).began p.seen
+  pub first : (walk_by v).first ≤ (walk_by v).known
+  pub known : (walk_by v).known ≤ cycle_of p
+  pub retired : is_retired v ≡ true → (p.retired ≡ true) × (seen_by v ≡ p.seen)
+  pub reaches : (walk_by v).first ≡ cycle_of p → (walk_by v).first % 2 ≡ 0 → Reaches p (walk_by v)
+
+-- what a seat knows is so. The one that writes is the first one, and its plan is the plan
+abbrev pub Fits : Plan → ℕ → View → Type 0
+Fits p seat (Writes plan told) = (seat ≡ 0) × (plan ≡ p) × IsPrefix told p.seen
+Fits p seat (Reads seen told retired walk) = Follows p (Reads seen told retired walk)
+
+-- the rule
+pub record IsKept (key : Layout) (s : State (Unit {0}) View) : Type 0 where
+  pub plan : Plan
+  pub layout : plan.layout ≡ key
+  pub words : s.words ≡ plan.words
+  pub sound : Sound plan
+  pub fits : (seat : ℕ) (v : View) → get_elem? s.views seat ≡ maybe.some v → Fits plan seat v
+
+-- ---- what the steps tell
+
+-- the writing seat has this plan
+abbrev pub WriteTells : Plan → Step (Unit {0}) → Me (Unit {0}) View → ℕ → Me (Unit {0}) View → Type 0
+WriteTells plan s me found me' = me' ≡ (writing plan, me.1)
+
+-- the word is that of the plan
+abbrev pub LoadTells : Step (Unit {0}) → Me (Unit {0}) View → ℕ → Me (Unit {0}) View → Type 0
+LoadTells s me found me' = (found ≡ slice_index (plan_by me.0).words s.word) × (me' ≡ me)
 
 -- what the writing seat was told of begins its history
-abbrev pub LearnTells : Step Said → Me Said View → ℕ → Me Said View → Type 0
-LearnTells s me found me' = IsPrefix me.0.told me.0.seen × (me'.0 ≡ record me.0 { told = [] }) × (me'.1 ≡ me.1)
+abbrev pub LearnTells : Step (Unit {0}) → Me (Unit {0}) View → ℕ → Me (Unit {0}) View → Type 0
+LearnTells s me found me' = IsPrefix (told_to me.0) (seen_by me.0) × (me' ≡ (writing (plan_by me.0), me.1))
 
 -- both lists begin the longer one, which was then seen
-abbrev pub MeetTells : Step Said → Me Said View → ℕ → Me Said View → Type 0
+abbrev pub MeetTells : Step (Unit {0}) → Me (Unit {0}) View → ℕ → Me (Unit {0}) View → Type 0
 MeetTells s me found me' =
-    let both = longer me.0.seen me.0.told in IsPrefix me.0.seen both × IsPrefix me.0.told both × (me'.0 ≡ record me.0 { seen = both; told = [] }) × (me'.1 ≡ me.1)
+    let both = longer (seen_by me.0) (told_to me.0) in
+    IsPrefix (seen_by me.0) both × IsPrefix (told_to me.0) both × (me' ≡ (reading both (is_retired me.0) (walk_by me.0), me.1))

@@ -1,20 +1,23 @@
-ghost use Rattle.std.specs.Prelude.{◌≡◌, ◌≤◌, [], ◌∷◌, IfOk};
-ghost use Rattle.nsc_model.specs.declared.record.Record.TheVariants as record_of;
+ghost use Rattle.std.specs.Prelude.{◌≡◌, IfOk};
+ghost use Rattle.nsc_words.specs.Layout.{IsLayout, table_words};
+ghost use Rattle.nsc_rule.specs.Plans.{first_plan, no_nodes};
+ghost use Rattle.nsc_rule.specs.Seats.{resting};
 
 use crate::pass::Pass;
 use crate::pen::Pen;
-use crate::view::{History, Said, View};
+use crate::plays::Kept;
+use crate::view::{About, View};
 use atomic_table::{Shared, Table};
 use nsc_base::NoMemory;
 use nsc_model::Content;
-use nsc_words::Layout;
+use nsc_words::{FIRST_FREE, Layout};
 use std::alloc::Global;
 use std::marker::Model;
 use std::snapshot::Snapshot;
 use std::sync::Arc;
 
 // The words, with the memory that they stand in.
-type Words = Table<Said, View, Snapshot<Content>, History, Global>;
+type Words = Table<(), View, About, Kept, Global>;
 
 /// A handle on the words that the threads of one database share.
 #[derive(Drop)]
@@ -26,13 +29,14 @@ pub struct Map {
 impl Model for Map {
     ghost use Rattle.std.specs.Prelude.{◌≡◌};
     ghost use Rattle.std.specs.Arc.{arc_value};
+    ghost use Rattle.nsc_words.specs.Layout.{IsLayout, table_words};
     ghost use Rattle.nsc_rule.specs.Map.{Map};
 
     ghost Value = { Map };
 
     ghost view = { λ m. record { table = (arc_value m.words).shared.table_id; layout = m.layout } };
 
-    ghost invariant = { λ m. (arc_value m.words).shared.table_id.words ≡ 2 };
+    ghost invariant = { λ m. ((arc_value m.words).shared.table_id.words ≡ table_words m.layout) × ((arc_value m.words).shared.key.layout ≡ m.layout) × IsLayout m.layout };
 }
 
 impl Map {
@@ -48,33 +52,51 @@ impl Map {
 
     /// How the words are laid out.
     pub fn layout(&self) -> Layout
-        ensures { result ≡ self.now.layout }
+        ensures layout { result ≡ self.now.layout }
+        ensures sizes { IsLayout self.now.layout }
     {
         self.layout
     }
 
     // The words.
-    pub(crate) fn words(&self) -> &Shared<Said, View, Snapshot<Content>, History>
+    pub(crate) fn words(&self) -> &Shared<(), View, About, Kept>
         ensures words { result.now.table_id ≡ self.now.table }
-        ensures count { result.now.table_id.words ≡ 2 }
+        ensures count { result.now.table_id.words ≡ table_words self.now.layout }
+        ensures key { result.now.key.layout ≡ self.now.layout }
     {
         &self.words.shared
     }
 }
 
-/// New words, with the pen that writes them and a first pass: the history is this content as version 0. Fails only for want
-/// of memory.
+/// New words with no entry, with the pen that writes them and a first pass: the history is this content as version 0. Fails only for
+/// want of memory.
 pub fn start(alloc: Global, layout: Layout, content: &Content) -> Result<(Map, Pen, Pass), NoMemory>
+    requires { IsLayout layout }
     ensures map { IfOk result (λ r. r.0.layout ≡ layout) }
-    ensures pen { IfOk result (λ r. r.1 ≡ record { table = r.0.table; seen = record_of.Change 0 content.now ∷ []; version = 0; epoch = 0 }) }
-    ensures pass { IfOk result (λ r. r.2 ≡ record { table = r.0.table; seen = record_of.Change 0 content.now ∷ [] }) }
+    ensures pen { IfOk result (λ r. r.1 ≡ record { table = r.0.table; plan = first_plan layout content.now }) }
+    ensures pass { IfOk result (λ r. r.2 ≡ record { table = r.0.table; seen = (first_plan layout content.now).seen; walk = resting }) }
 {
-    let (table, seat) = Words::of_words(alloc, &[0, 0], &Snapshot::of(content))?;
+    let words = first_words(alloc, layout)?;
+    let about = About {
+        layout,
+        content: Snapshot::of(content),
+    };
+    let (table, seat) = Words::of_words(alloc, words.as_slice(), &about)?;
     let map = Map {
         layout,
         words: Arc::new(alloc, table)?,
     };
-    let mut pen = Pen::new(seat);
+    let mut pen = Pen::new(seat, layout);
     let pass = pen.pass(&map);
     Ok((map, pen, pass))
+}
+
+// Words with no node.
+fn first_words(alloc: Global, layout: Layout) -> Result<Vec<u64>, NoMemory>
+    requires { IsLayout layout }
+    ensures { IfOk result (λ words. words.items ≡ no_nodes layout) }
+{
+    let mut words = vec![in alloc; 0; layout.words()]?;
+    words[FIRST_FREE] = layout.arena_start() as u64;
+    Ok(words)
 }

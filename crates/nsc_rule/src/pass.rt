@@ -1,43 +1,45 @@
 ghost use Rattle.std.specs.Prelude.{◌≡◌, ◌⊎◌, [], ◌∷◌};
 ghost use Rattle.nsc_model.specs.History.{Legal, IsPrefix};
-ghost use Rattle.nsc_rule.specs.Seats.{reader_view};
+ghost use Rattle.nsc_rule.specs.Seats.{is_retired, reading, seen_by, walk_by};
 
 use crate::map::Map;
-use crate::view::{Copies, Meets, SOURCE, Said, Shows, Tells, View};
+use crate::plays::{Copies, Hears, Meets, Shows};
+use crate::view::View;
 use atomic_table::Seat;
+use nsc_words::CYCLE;
 use std::marker::Model;
 
-/// A seat at the words of a database that only reads, with what it has seen of the history.
+/// A seat at the words of a database that only reads, with what it has seen of the history, and how far its search has come.
 #[derive(Drop)]
 pub struct Pass {
-    seat: Seat<Said, View>,
+    pub(crate) seat: Seat<(), View>,
 }
 
 impl Model for Pass {
     ghost use Rattle.std.specs.Prelude.{◌≡◌, []};
     ghost use Rattle.nsc_model.specs.History.{Legal};
     ghost use Rattle.nsc_rule.specs.Pass.{Pass};
-    ghost use Rattle.nsc_rule.specs.Seats.{reader_view};
+    ghost use Rattle.nsc_rule.specs.Seats.{is_retired, reading, seen_by, walk_by};
 
     ghost Value = { Pass };
 
-    ghost view = { λ p. record { table = p.seat.table_id; seen = p.seat.me.0.seen } };
+    ghost view = { λ p. record { table = p.seat.table_id; seen = seen_by p.seat.me.0; walk = walk_by p.seat.me.0 } };
 
-    ghost invariant = { λ p. (p.seat.me ≡ (reader_view p.seat.me.0.seen, [])) × Legal p.seat.me.0.seen };
+    ghost invariant = { λ p. (p.seat.me ≡ (reading (seen_by p.seat.me.0) (is_retired p.seat.me.0) (walk_by p.seat.me.0), [])) × Legal (seen_by p.seat.me.0) };
 }
 
 impl Pass {
     // The pass of a seat that has seen this.
-    pub(crate) fn new(seat: Seat<Said, View>) -> Pass
-        requires { (seat.me ≡ (reader_view seat.me.0.seen, [])) × Legal seat.me.0.seen }
-        ensures { result ≡ record { table = seat.table_id; seen = seat.me.0.seen } }
+    pub(crate) fn new(seat: Seat<(), View>) -> Pass
+        requires { (seat.me ≡ (reading (seen_by seat.me.0) (is_retired seat.me.0) (walk_by seat.me.0), [])) × Legal (seen_by seat.me.0) }
+        ensures { result ≡ record { table = seat.table_id; seen = seen_by seat.me.0; walk = walk_by seat.me.0 } }
     {
         Pass { seat }
     }
 
     // Its seat.
-    pub(crate) fn into_seat(self) -> Seat<Said, View>
-        ensures seat { (result.table_id ≡ self.table) × (result.me ≡ (reader_view self.seen, [])) }
+    pub(crate) fn into_seat(self) -> Seat<(), View>
+        ensures seat { (result.table_id ≡ self.table) × (result.me ≡ (reading self.seen (is_retired result.me.0) self.walk, [])) }
         ensures legal { Legal self.seen }
     {
         self.seat
@@ -50,7 +52,7 @@ impl Pass {
         let _ = &self.seat;
     }
 
-    /// Another pass, which has seen as much.
+    /// Another pass, which has seen as much and whose search has come as far.
     pub fn split(&mut self, map: &Map) -> Pass
         requires { map.now.table ≡ self.old.table }
         ensures same { self.new ≡ self.old }
@@ -59,17 +61,17 @@ impl Pass {
         Pass::new(map.words().split_seat::<Copies>(&mut self.seat))
     }
 
-    // It has seen what another one has seen, of which it knows that it begins with what it had seen.
+    // It has seen what another one has seen, of which it knows that it begins with what it had seen. Its search stays.
     pub(crate) fn take(&mut self, map: &Map, whole: Pass)
         requires map { map.now.table ≡ self.old.table }
         requires whole { map.now.table ≡ whole.table }
-        ensures { self.new ≡ whole }
+        ensures { self.new ≡ record self.old { seen = whole.seen } }
     {
         let whole = whole.into_seat();
         map.words().join_seat::<Shows>(&mut self.seat, whole);
     }
 
-    /// It has seen the longer one of what it and the other one had seen. Both begin that.
+    /// It has seen the longer one of what it and the other one had seen. Both begin that. Its search stays.
     pub fn meet(&mut self, map: &Map, other: Pass)
         requires map { map.now.table ≡ self.old.table }
         requires other { map.now.table ≡ other.table }
@@ -77,10 +79,11 @@ impl Pass {
         ensures before { IsPrefix self.old.seen self.new.seen }
         ensures other { IsPrefix other.seen self.new.seen }
         ensures either { (self.new.seen ≡ self.old.seen) ⊎ (self.new.seen ≡ other.seen) }
+        ensures walk { self.new.walk ≡ self.old.walk }
     {
         let words = map.words();
         let other = other.into_seat();
-        words.join_seat::<Tells>(&mut self.seat, other);
-        words.load::<Meets>(&mut self.seat, SOURCE);
+        words.join_seat::<Hears>(&mut self.seat, other);
+        words.load::<Meets>(&mut self.seat, CYCLE);
     }
 }

@@ -1,118 +1,104 @@
-// What the seats at the words know, and what their steps tell.
-use atomic_table::{Join, Play, Split, TableRule};
-use nsc_base::Bytes;
-use nsc_model::{Answer, Content, Ending, Kind, Record};
+// What the seats at the words know.
+use nsc_model::{Content, Ending, Entry, Record, Request};
+use nsc_words::{Layout, Placed};
 use std::collections::LinkedList;
 use std::snapshot::Snapshot;
 
-/// The word that has the number of invalidations.
-pub const EPOCH: usize = 0;
-
-/// The word that has the number of the newest version.
-pub const SOURCE: usize = 1;
-
-/// What a seat knows: the history as far as it has seen it, whether it is the seat that writes, which has seen it whole, and
-/// what it was told that another seat has seen. No value of it is made.
-pub struct View {
-    pub pen: bool,
+/// What the seat that writes knows: the table itself. No value of it is made.
+pub struct Plan {
+    /// How the words are laid out.
+    pub layout: Layout,
+    /// The history, the newest record first.
     pub seen: LinkedList<Record>,
-    pub told: LinkedList<Record>,
+    /// All words.
+    pub words: [u64; 0],
+    /// The nodes, the newest first. While a compaction is under way, those before it.
+    pub nodes: LinkedList<Placed>,
+    /// Whether another table goes on in place of this one.
+    pub retired: bool,
 }
 
-/// The record that a step adds. The words have a part of it at most.
+/// How far the search of a seat that reads has come. No value of it is made.
+pub struct Walk {
+    /// How many searches it has begun.
+    pub searches: u64,
+    /// What CYCLE was when the latest search began.
+    pub first: u64,
+    /// What CYCLE was at the latest end of a search.
+    pub last: u64,
+    /// The history when the search began.
+    pub began: LinkedList<Record>,
+    /// What is searched for.
+    pub request: Request,
+    /// What CYCLE was at the latest step.
+    pub known: u64,
+    /// Where it stands: a node's place, or 0.
+    pub place: u64,
+    /// The entry of the node on which it stands.
+    pub on: Option<Entry>,
+    /// Whether that entry was found ended.
+    pub gone: bool,
+}
+
+/// What a seat knows, and what it was told that another seat has seen. No value of it is made.
+pub enum View {
+    /// The seat that writes.
+    Writes {
+        /// What it knows.
+        plan: Plan,
+        /// What it was told of.
+        told: LinkedList<Record>,
+    },
+    /// A seat that reads.
+    Reads {
+        /// The history, as far as it has seen it.
+        seen: LinkedList<Record>,
+        /// What it was told of.
+        told: LinkedList<Record>,
+        /// Whether it has seen that another table goes on in place of this one.
+        retired: bool,
+        /// Its search.
+        walk: Walk,
+    },
+}
+
+/// What the table is told once, when it is made.
 #[derive(Drop)]
-pub enum Said {
-    Change {
-        version: u64,
-        content: Snapshot<Content>,
+pub struct About {
+    /// How the words are laid out.
+    pub layout: Layout,
+    /// The content of version 0.
+    pub content: Snapshot<Content>,
+}
+
+/// What a step of the pen comes to, beside the word that it writes.
+#[derive(Drop)]
+pub enum Stroke {
+    /// Nothing more.
+    Plain,
+    /// The node at this place has the word as its count of reloads.
+    Reloads {
+        /// The place.
+        place: usize,
     },
-    Poll {
-        version: u64,
-    },
-    Load {
-        number: u64,
-        kind: Kind,
-        key: Snapshot<Bytes>,
-        version: u64,
-        answer: Snapshot<Answer>,
-        timeout: u64,
-    },
+    /// The node at the place that the word names is linked, and its entry inserted.
+    Publish,
+    /// The node at this place ends.
     End {
-        number: u64,
+        /// The place.
+        place: usize,
+        /// Why it ends.
         cause: Ending,
     },
-    Invalid {
-        epoch: u64,
+    /// A compaction is over.
+    Even,
+    /// The database is invalidated, as often as the word says.
+    Invalid,
+    /// The version that the word names is confirmed.
+    Poll,
+    /// The files have this content, which is the version that the word names.
+    Change {
+        /// The content.
+        content: Snapshot<Content>,
     },
-}
-
-/// The rule of the words. Its first seat writes, and has the content of version 0 from the table's key.
-pub struct History;
-
-impl TableRule<Said, View, Snapshot<Content>> for History {
-    ghost use Rattle.nsc_rule.specs.Seats.{IsKept, opening_view};
-
-    ghost holds = { λ key s. IsKept s };
-
-    ghost first = { λ key. opening_view key.value };
-}
-
-/// A step that adds a record.
-pub struct Adds;
-
-impl Play<Said, View> for Adds {
-    ghost use Rattle.nsc_rule.specs.Seats.{AddTells};
-
-    ghost then = { AddTells };
-}
-
-/// A load by the writing seat, which tells that what it was told of begins its history.
-pub struct Learns;
-
-impl Play<Said, View> for Learns {
-    ghost use Rattle.nsc_rule.specs.Seats.{LearnTells};
-
-    ghost then = { LearnTells };
-}
-
-/// A load by another seat, which from then on has seen the longer one of what it had seen and what it was told of.
-pub struct Meets;
-
-impl Play<Said, View> for Meets {
-    ghost use Rattle.nsc_rule.specs.Seats.{MeetTells};
-
-    ghost then = { MeetTells };
-}
-
-/// A new seat, which has seen as much.
-pub struct Copies;
-
-impl Split<View> for Copies {
-    ghost use Rattle.nsc_rule.specs.Seats.{reader_of};
-
-    ghost left = { λ v. v };
-
-    ghost right = { reader_of };
-}
-
-/// A seat is told what another one has seen.
-pub struct Tells;
-
-impl Join<View> for Tells {
-    ghost use Rattle.nsc_rule.specs.Seats.{told_of, nobody};
-
-    ghost both = { told_of };
-
-    ghost spent = { nobody };
-}
-
-/// A seat has seen what another one has seen.
-pub struct Shows;
-
-impl Join<View> for Shows {
-    ghost use Rattle.nsc_rule.specs.Seats.{shown, nobody};
-
-    ghost both = { shown };
-
-    ghost spent = { nobody };
 }

@@ -1,6 +1,7 @@
 pub mod Entries
 pub mod States
-pub mod Found
+pub mod Numbers
+pub mod Sheets
 pub mod Still
 pub mod Slide
 pub mod HeadWords

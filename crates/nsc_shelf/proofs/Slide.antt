@@ -1,72 +1,49 @@
 -- The slide of a shelf: its begin, its words, and its end.
-use Rattle.std.proofs.Common.{◌≡◌, ◌≢◌, ℕ, ◌+◌, ◌-◌, ◌%◌, ◌<◌, ◌≤◌, ◌⊎◌, inl, inr, ⊎_elim, Bool, true, false, cond, List, [], ◌∷◌, ◌++◌, length, set, slice_index, Option, Some, None, refl, sym, ap, subst, ◌∙◌, arith, length-set, get_or-set_same, get_or-set_other}
+use Rattle.std.proofs.Common.{◌≡◌, ◌≢◌, ℕ, ◌+◌, ◌-◌, ◌<◌, ◌⊎◌, inl, inr, ⊎_elim, Bool, true, false, cond, List, [], ◌∷◌, ◌++◌, set, slice_index, refl, sym, ap, subst, ◌∙◌, arith, get_or-set_same, get_or-set_other}
 use Rattle.std.proofs.lemmas.List.Sums.{sum_by_push}
-use Rattle.std.specs.declared.snapshot.Snapshot.{Snapshot}
 use Rattle.nsc_words.specs.declared.layout.Layout.{Layout}
 use Rattle.nsc_words.specs.declared.node.Placed.{Placed}
 use Rattle.nsc_words.specs.Laid.{Among, InRow, Laid, end_of}
 use Rattle.nsc_words.specs.Layout.{arena_start}
-use Rattle.nsc_arena.specs.ReadBack.{nodes_in}
-use Rattle.nsc_arena.proofs.Passed.{mark_at_start}
 use Rattle.nsc_arena.proofs.Rows.{end_after, set_head}
 use Rattle.nsc_model.specs.declared.answer.Request.{Request}
 use Rattle.nsc_model.specs.Kinds.{is_request, type_number}
-use Rattle.nsc_model.specs.Machine.{Kept, all_words, entry_words, last_count}
-use Rattle.nsc_shelf.specs.declared.finding.Mark.{Mark}
-use Rattle.nsc_shelf.specs.Hints.{AreHints}
+use Rattle.nsc_model.specs.Machine.{Kept, all_words, entry_words}
+use Rattle.nsc_rule.specs.declared.view.Plan.{Plan}
 use Rattle.nsc_rule.specs.Entries.{entries_in, kept_in, kind_of, request_in}
-use Rattle.nsc_shelf.specs.Shelf.{AreEntries, HoldEntries, IsBegun, IsHeld, IsShelf, IsSlid, head_in, shelf_in, shelf_of, slide_words, under_way}
+use Rattle.nsc_shelf.specs.Shelf.{AreEntries, HoldEntries, shelf_in}
 use Rattle.nsc_shelf.proofs.Entries.{one_more}
-use Rattle.nsc_shelf.proofs.States.{head_same, shelf_by, view_by}
-
--- ---- one word
-
-apart : (at i : ℕ) → (at ≡ 3) ⊎ (16 ≤ at) → i < 16 → i ≢ 3 → i ≢ at
-apart at i (inl is) low other = λ same. other (same ∙ is)
-apart at i (inr high) low other = omega arith
-
--- a word that is set leaves the head
-pub word_held : (slide : Option (Snapshot (List ℕ))) (words : List ℕ) (map : Layout) (count : ℕ) (mark : Mark) (hints : List ℕ) (at value : ℕ) → IsHeld slide words map count mark hints → at < length (slide_words (under_way slide words)) → (at ≡ 3) ⊎ (16 ≤ at) → IsHeld slide (set words at value) map count mark hints
-word_held None words map count mark hints at value held low at_word = absurd (omega arith)
-word_held (Some before) words map count mark hints at value held low at_word = record {
-  shelf = held.shelf;
-  even = held.even;
-  cycles = held.cycles;
-  head = record {
-    size = length-set words at value ∙ held.head.size;
-    head = λ i small zero three. get_or-set_other words at i value 0 (apart at i at_word small three) ∙ held.head.head i small zero three;
-    cycle = get_or-set_other words at 0 value 0 (apart at 0 at_word (omega arith) (omega arith)) ∙ held.head.cycle;
-    counted = held.head.counted;
-  };
-  hinted = held.hinted;
-}
 
 -- ---- the begin
 
-pub begun_view : (old new : List ℕ) (map : Layout) (count : ℕ) (mark : Mark) (before : Snapshot (List ℕ)) → before.value ≡ old → IsShelf old map count mark → new ≡ set old 0 (slice_index old 0 + 1) → slice_index old 0 % 2 ≡ 0 → slice_index old 0 < last_count → IsBegun (shelf_of old map) (shelf_in (Some before) new map)
-begun_view old new map count mark before snapped is set_is even less =
-    let table = is.laid.table in
+-- what a slide that begins makes of the words
+pub record Begun (old new : List ℕ) (layout : Layout) (nodes : List Placed) : Type 0 where
+  pub view : shelf_in nodes new layout ≡ record (shelf_in nodes old layout) { cycle = slice_index old 0 + 1 }
+  pub laid : Laid new layout nodes
+  pub used : slice_index new 3 ≡ arena_start layout + (end_of (arena_start layout) nodes - arena_start layout)
+  pub other : (i : ℕ) → i ≢ 0 → slice_index new i ≡ slice_index old i
+  pub cycle : slice_index new 0 ≡ slice_index old 0 + 1
+
+pub begun : (old new : List ℕ) (layout : Layout) (nodes : List Placed) → Laid old layout nodes → new ≡ set old 0 (slice_index old 0 + 1) → Begun old new layout nodes
+begun old new layout nodes is set_is =
+    let table = is.table in
     let other : (i : ℕ) → i ≢ 0 → slice_index new i ≡ slice_index old i = λ i n. ap (λ (ws : List ℕ). slice_index ws i) set_is ∙ get_or-set_other old 0 i (slice_index old 0 + 1) 0 n in
-    let e4 = other 4 (omega arith) in
-    let e9 = other 9 (omega arith) in
     let e0 : slice_index new 0 ≡ slice_index old 0 + 1 = ap (λ (ws : List ℕ). slice_index ws 0) set_is ∙ get_or-set_same old 0 (slice_index old 0 + 1) 0 (omega arith) in
-    let eh = head_same new old (λ i low z a b. other i z) in
-    let first = is.laid.first_free in
-    let low = end_after (arena_start map) (nodes_in old map) is.laid.row in
+    let first = is.first_free in
+    let low = end_after (arena_start layout) nodes is.row in
     let three = other 3 (omega arith) in
+    let e4 = other 4 (omega arith) in
+    let e5 = other 5 (omega arith) in
+    let e6 = other 6 (omega arith) in
+    let e7 = other 7 (omega arith) in
+    let e8 = other 8 (omega arith) in
+    let e9 = other 9 (omega arith) in
     record {
-      even = even;
-      counted = less;
-      sizes = is.sizes;
-      words = new;
-      is = λ i. record { entries = entries_in (nodes_in (snapped i) map); used = slice_index (snapped i) 3 - arena_start map; inserted = e4 i; cycle = e0 i; add_failed = e9 i; head = eh i; layout = map; slide = Some new };
-      nodes = nodes_in old map;
-      hold = record {
-        laid = set_head old new map (nodes_in old map) 0 (slice_index old 0 + 1) (omega arith) (omega arith) set_is is.laid;
-        kinds = is.entries.kinds;
-        live = refl;
-      };
+      view = λ i. record (shelf_in nodes old layout) { inserted = e4 i; cycle = e0 i; add_failed = e9 i; hits = record { found = e5 i; not_found = e6 i }; misses = record { found = e7 i; not_found = e8 i } };
+      laid = set_head old new layout nodes 0 (slice_index old 0 + 1) (omega arith) (omega arith) set_is is;
       used = omega arith;
+      other = other;
+      cycle = e0;
     }
 
 -- ---- the entries of other nodes
@@ -92,17 +69,17 @@ has_split k y (x ∷ xs) (inl is) = inl (inl is)
 has_split k y (x ∷ xs) (inr more) = ⊎_elim (λ (h : Has k xs). inl (inr h)) (λ (e : k ≡ y). inr e) (has_split k y xs more)
 
 -- a usable node is an entry, and an entry is one
-entry_of : (nodes : List Placed) (p : Placed) → Among p nodes → p.usable ≡ true → Has (kept_in p) (entries_in nodes)
-entry_of [] p among usable = absurd among
-entry_of (q ∷ older) p (inl is) usable =
+pub usable_has : (nodes : List Placed) (p : Placed) → Among p nodes → p.usable ≡ true → Has (kept_in p) (entries_in nodes)
+usable_has [] p among usable = absurd among
+usable_has (q ∷ older) p (inl is) usable =
     let own : q.usable ≡ true = ap (λ (r : Placed). r.usable) (sym is) ∙ usable in
     subst (λ (k : Kept). Has k (entries_in (q ∷ older))) (ap kept_in (sym is)) (subst (Has (kept_in q)) (sym (one_more q older own)) (has_last (kept_in q) (entries_in older)))
-entry_of (q ∷ older) p (inr more) usable = by q.usable (entry_of older p more usable) where
+usable_has (q ∷ older) p (inr more) usable = by q.usable (usable_has older p more usable) where
   by : (b : Bool) → Has (kept_in p) (entries_in older) → Has (kept_in p) (cond b (entries_in older ++ kept_in q ∷ []) (entries_in older))
   by true has = has_before (kept_in p) (entries_in older) (kept_in q ∷ []) has
   by false has = has
 
-node_of : (nodes : List Placed) (k : Kept) → Has k (entries_in nodes) → (p : Placed) × Among p nodes × (p.usable ≡ true) × (k ≡ kept_in p)
+pub node_of : (nodes : List Placed) (k : Kept) → Has k (entries_in nodes) → (p : Placed) × Among p nodes × (p.usable ≡ true) × (k ≡ kept_in p)
 node_of [] k has = absurd has
 node_of (q ∷ older) k has = by q.usable refl has (node_of older k) where
   by : (b : Bool) → q.usable ≡ b → Has k (cond b (entries_in older ++ kept_in q ∷ []) (entries_in older)) → (Has k (entries_in older) → (p : Placed) × Among p older × (p.usable ≡ true) × (k ≡ kept_in p)) → (p : Placed) × Among p (q ∷ older) × (p.usable ≡ true) × (k ≡ kept_in p)
@@ -112,7 +89,7 @@ node_of (q ∷ older) k has = by q.usable refl has (node_of older k) where
 -- other nodes that are usable, and of the same entries
 pub other_entries : (old new : List Placed) (inserted : ℕ) → AreEntries old inserted → ((p : Placed) → Among p new → type_number (kind_of p.node.kind) ≡ p.node.kind) → ((p : Placed) → Among p new → p.usable ≡ true) → entries_in new ≡ entries_in old → AreEntries new inserted
 other_entries old new inserted are kinds alone same =
-    let from : (p : Placed) → Among p new → (q : Placed) × Among q old × (q.usable ≡ true) × (kept_in p ≡ kept_in q) = λ p among. node_of old (kept_in p) (subst (Has (kept_in p)) same (entry_of new p among (alone p among))) in
+    let from : (p : Placed) → Among p new → (q : Placed) × Among q old × (q.usable ≡ true) × (kept_in p ≡ kept_in q) = λ p among. node_of old (kept_in p) (subst (Has (kept_in p)) same (usable_has new p among (alone p among))) in
     record {
       kinds = kinds;
       numbers = λ p among. let w = from p among in subst (λ (n : ℕ). n < inserted) (sym (ap (λ (k : Kept). k.entry.number) w.3)) (are.numbers w.0 w.1);
@@ -134,52 +111,37 @@ words_alone start (p ∷ older) row alone =
     let more = sum_by_push (λ (k : Kept). entry_words k.entry) (entries_in older) (kept_in p) in
     omega arith
 
--- so they fit into the arena
-pub alone_fit : (words : List ℕ) (map : Layout) (entries : List Kept) (nodes : List Placed) → HoldEntries words map entries nodes → ((p : Placed) → Among p nodes → p.usable ≡ true) → all_words entries ≤ map.arena
-alone_fit words map entries nodes hold alone =
-    let all = words_alone (arena_start map) nodes hold.laid.row alone in
-    let same : all_words (entries_in nodes) ≡ all_words entries = ap all_words hold.live in
-    let room = hold.laid.room in
-    omega arith
-
 -- ---- the end
 
-some_same : {A : Type 0} (x y : A) → Some x ≡ Some y → x ≡ y
-some_same x y e = cc
+-- what a slide that ends makes of the words: they hold nodes of the same entries alone
+pub record Ended (plan : Plan) (new : List ℕ) (layout : Layout) (nodes : List Placed) : Type 0 where
+  pub view : shelf_in nodes new layout ≡ record (shelf_in plan.nodes plan.words layout) { used = all_words (entries_in plan.nodes); cycle = slice_index plan.words 0 + 1 }
+  pub laid : Laid new layout nodes
+  pub entries : AreEntries nodes (slice_index new 4)
+  pub other : (i : ℕ) → i ≢ 0 → slice_index new i ≡ slice_index plan.words i
+  pub cycle : slice_index new 0 ≡ slice_index plan.words 0 + 1
 
--- the words of a slide that ends
-pub record Ends (slide : Option (Snapshot (List ℕ))) (words new : List ℕ) (map : Layout) (count : ℕ) : Type 0 where
-  pub view : shelf_of new map ≡ record (shelf_in slide words map) { used = all_words (shelf_in slide words map).entries; cycle = slice_index words 0 + 1; slide = None }
-  pub held : (mark : Mark) (hints : List ℕ) → mark.place ≡ arena_start map → AreHints hints map (nodes_in new map) → IsHeld None new map count mark hints
-
-pub ends : (slide : Option (Snapshot (List ℕ))) (words new : List ℕ) (map : Layout) (count : ℕ) (mark : Mark) (hints : List ℕ) → IsHeld slide words map count mark hints → IsSlid (shelf_in slide words map) → new ≡ set words 0 (slice_index words 0 + 1) → Ends slide words new map count
-ends None words new map count mark hints held slid set_is = absurd (let e = slid.under_way in cc)
-ends (Some before) words new map count mark hints held slid set_is =
-    let start : ℕ = arena_start map in
-    let nodes : List Placed = slid.nodes in
-    let same : words ≡ slid.words = some_same words slid.words slid.under_way in
-    let laid_old : Laid words map nodes = subst (λ (ws : List ℕ). Laid ws map nodes) (sym same) slid.hold.laid in
-    let table = laid_old.table in
-    let laid : Laid new map nodes = set_head words new map nodes 0 (slice_index words 0 + 1) (omega arith) (omega arith) set_is laid_old in
+pub ended : (plan : Plan) (new : List ℕ) (layout : Layout) (nodes : List Placed) → AreEntries plan.nodes (slice_index plan.words 4) → HoldEntries plan.words layout (entries_in plan.nodes) nodes → ((p : Placed) → Among p nodes → p.usable ≡ true) → new ≡ set plan.words 0 (slice_index plan.words 0 + 1) → Ended plan new layout nodes
+ended plan new layout nodes are hold alone set_is =
+    let start : ℕ = arena_start layout in
+    let words : List ℕ = plan.words in
+    let table = hold.laid.table in
+    let laid : Laid new layout nodes = set_head words new layout nodes 0 (slice_index words 0 + 1) (omega arith) (omega arith) set_is hold.laid in
     let other : (i : ℕ) → i ≢ 0 → slice_index new i ≡ slice_index words i = λ i n. ap (λ (ws : List ℕ). slice_index ws i) set_is ∙ get_or-set_other words 0 i (slice_index words 0 + 1) 0 n in
     let e0 : slice_index new 0 ≡ slice_index words 0 + 1 = ap (λ (ws : List ℕ). slice_index ws 0) set_is ∙ get_or-set_same words 0 (slice_index words 0 + 1) 0 (omega arith) in
-    let entries : entries_in nodes ≡ entries_in (nodes_in before.value map) = slid.hold.live in
-    let e4 : slice_index new 4 ≡ slice_index before.value 4 = other 4 (omega arith) ∙ held.head.head 4 (omega arith) (omega arith) (omega arith) in
-    let all = words_alone start nodes laid.row slid.alone in
-    let words_same : all_words (entries_in nodes) ≡ all_words (entries_in (nodes_in before.value map)) = ap all_words entries in
-    let used : end_of start nodes - start ≡ all_words (entries_in (nodes_in before.value map)) = omega arith in
-    let are = other_entries (nodes_in before.value map) nodes (slice_index before.value 4) held.shelf.entries slid.hold.kinds slid.alone entries in
-    let seen = view_by new map nodes (slice_index words 4) (slice_index words 0 + 1) (slice_index words 9) (head_in words) laid (other 4 (omega arith)) e0 (other 9 (omega arith)) (head_same new words (λ i low z a b. other i z)) in
-    let odd = held.head.cycle in
-    let even = held.even in
-    let less = held.head.counted in
+    let e4 = other 4 (omega arith) in
+    let e5 = other 5 (omega arith) in
+    let e6 = other 6 (omega arith) in
+    let e7 = other 7 (omega arith) in
+    let e8 = other 8 (omega arith) in
+    let e9 = other 9 (omega arith) in
+    let all = words_alone start nodes laid.row alone in
+    let words_same : all_words (entries_in nodes) ≡ all_words (entries_in plan.nodes) = ap all_words hold.live in
+    let used : end_of start nodes - start ≡ all_words (entries_in plan.nodes) = omega arith in
     record {
-      view = seen ∙ (λ i. record { entries = entries i; used = used i; inserted = slice_index words 4; cycle = slice_index words 0 + 1; add_failed = slice_index words 9; head = head_in words; layout = map; slide = None });
-      held = λ mark' hints' place hinted. record {
-        shelf = shelf_by new map nodes (slice_index before.value 4) count mark' held.shelf.sizes laid are e4 held.shelf.counted (held.shelf.live ∙ ap length (sym entries)) (mark_at_start map nodes mark'.place mark'.number place);
-        even = omega arith;
-        cycles = omega arith;
-        head = tt;
-        hinted = hinted;
-      };
+      view = λ i. record { entries = hold.live i; used = used i; inserted = e4 i; cycle = e0 i; add_failed = e9 i; hits = record { found = e5 i; not_found = e6 i }; misses = record { found = e7 i; not_found = e8 i } };
+      laid = laid;
+      entries = subst (AreEntries nodes) (sym e4) (other_entries plan.nodes nodes (slice_index words 4) are hold.kinds alone hold.live);
+      other = other;
+      cycle = e0;
     }

@@ -25,27 +25,21 @@ use Rattle.nsc_model.specs.Kinds.{is_request, type_number}
 use Rattle.nsc_model.specs.Machine.{Kept, last_count, live_entry, used_by, used_now}
 use Rattle.nsc_shelf.specs.declared.finding.Mark.{Mark}
 use Rattle.nsc_rule.specs.Entries.{entries_in, kept_in, kind_of, request_in}
-use Rattle.nsc_shelf.specs.Shelf.{AreEntries, HeadWords, IsShelf, head_in, is_numbered, others_than, shelf_of}
-use Rattle.nsc_shelf.proofs.Entries.{find_none, find_one, left, mapped, none_found, one_less, unmoved}
+use Rattle.nsc_shelf.specs.Shelf.{AreEntries, IsShelf, Shelf, is_numbered, others_than, shelf_of}
+use Rattle.nsc_shelf.specs.Uses.{uses_at}
+use Rattle.nsc_shelf.proofs.Entries.{find_none, find_one, left, mapped, none_found, one_less}
 
--- what a shelf is, where the other numbers at its head are those of these words
-pub view_by : (words : List ℕ) (map : Layout) (nodes : List Placed) (inserted cycle failed : ℕ) (head : HeadWords) → Laid words map nodes → slice_index words 4 ≡ inserted → slice_index words 0 ≡ cycle → slice_index words 9 ≡ failed → head_in words ≡ head
-    → shelf_of words map ≡ record { entries = entries_in nodes; used = end_of (arena_start map) nodes - arena_start map; inserted = inserted; cycle = cycle; add_failed = failed; head = head; layout = map; slide = None }
-view_by words map nodes inserted cycle failed head laid e4 e0 e9 eh =
-    let same = read_back words map nodes laid in
-    let first = laid.first_free in
-    λ i. record { entries = entries_in (same i); used = first i - arena_start map; inserted = e4 i; cycle = e0 i; add_failed = e9 i; head = eh i; layout = map; slide = None }
-
--- these numbers are as before where their words are
-pub head_same : (new old : List ℕ) → ((i : ℕ) → i < 9 → i ≢ 0 → i ≢ 3 → i ≢ 4 → slice_index new i ≡ slice_index old i) → head_in new ≡ head_in old
-head_same new old same =
-    let e1 = same 1 (omega arith) (omega arith) (omega arith) (omega arith) in
-    let e2 = same 2 (omega arith) (omega arith) (omega arith) (omega arith) in
-    let e5 = same 5 (omega arith) (omega arith) (omega arith) (omega arith) in
-    let e6 = same 6 (omega arith) (omega arith) (omega arith) (omega arith) in
-    let e7 = same 7 (omega arith) (omega arith) (omega arith) (omega arith) in
-    let e8 = same 8 (omega arith) (omega arith) (omega arith) (omega arith) in
-    λ i. record { epoch = e1 i; source = e2 i; hits = e5 i; negative_hits = e6 i; misses = e7 i; negative_misses = e8 i }
+-- what a shelf is, where the words with its counts have those of other words
+pub view_by : (words : List ℕ) (map : Layout) (nodes : List Placed) (inserted cycle : ℕ) (like : List ℕ) → Laid words map nodes → slice_index words 4 ≡ inserted → slice_index words 0 ≡ cycle → ((i : ℕ) → 4 < i → i < 10 → slice_index words i ≡ slice_index like i)
+    → shelf_of words map ≡ record { entries = entries_in nodes; used = end_of (arena_start map) nodes - arena_start map; inserted = inserted; cycle = cycle; add_failed = slice_index like 9; hits = uses_at like 5; misses = uses_at like 7 }
+view_by words map nodes inserted cycle like laid e4 e0 same =
+    let back = read_back words map nodes laid in
+    let e5 = same 5 (omega arith) (omega arith) in
+    let e6 = same 6 (omega arith) (omega arith) in
+    let e7 = same 7 (omega arith) (omega arith) in
+    let e8 = same 8 (omega arith) (omega arith) in
+    let e9 = same 9 (omega arith) (omega arith) in
+    λ i. record { entries = entries_in (back i); used = end_of (arena_start map) (back i) - arena_start map; inserted = e4 i; cycle = e0 i; add_failed = e9 i; hits = record { found = e5 i; not_found = e6 i }; misses = record { found = e7 i; not_found = e8 i } }
 
 pub shelf_by : (words : List ℕ) (map : Layout) (nodes : List Placed) (inserted count : ℕ) (mark : Mark) → IsLayout map → Laid words map nodes → AreEntries nodes inserted → slice_index words 4 ≡ inserted → inserted ≤ last_count → count ≡ length (entries_in nodes) → IsMark map nodes mark.place mark.number → IsShelf words map count mark
 shelf_by words map nodes inserted count mark sizes laid entries e4 counted live marked =
@@ -92,22 +86,31 @@ marked_still f layout nodes from number leaves mark = record {
   below = λ q among. let w = from_map f mark.older q among in subst (λ (n : ℕ). n < number) (sym (ap (λ (r : Placed). r.node.number) w.2 ∙ leaves.number w.0)) (mark.below w.0 w.1);
 }
 
--- the words of a shelf once its nodes were changed so
-pub record Altered (old new : List ℕ) (layout : Layout) (count : ℕ) (mark : Mark) (entries : List Kept) : Type 0 where
+-- the words of a shelf were changed, and it is this one then
+pub record Altered (old new : List ℕ) (layout : Layout) (count : ℕ) (mark : Mark) (after : Shelf) : Type 0 where
   pub cycle : slice_index new 0 ≡ slice_index old 0
+  pub epoch : slice_index new 1 ≡ slice_index old 1
+  pub source : slice_index new 2 ≡ slice_index old 2
   pub shelf : IsShelf new layout count mark
-  pub view : shelf_of new layout ≡ record (shelf_of old layout) { entries = entries }
+  pub view : shelf_of new layout ≡ after
 
-pub altered : (f : Placed → Placed) (old new : List ℕ) (layout : Layout) (count count' : ℕ) (mark : Mark) (entries : List Kept) → IsChange f → IsShelf old layout count mark → Laid new layout (map f (nodes_in old layout)) → IsSameHead old new → entries_in (map f (nodes_in old layout)) ≡ entries → count' ≡ length entries → Altered old new layout count' mark entries
+-- by two changes, one after the other
+pub altered_then : {a b c : List ℕ} {layout : Layout} {count count' : ℕ} {mark mark' : Mark} {mid after : Shelf} → Altered a b layout count mark mid → Altered b c layout count' mark' after → Altered a c layout count' mark' after
+altered_then first second = record { cycle = second.cycle ∙ first.cycle; epoch = second.epoch ∙ first.epoch; source = second.source ∙ first.source; shelf = second.shelf; view = second.view }
+
+-- once its nodes were changed so
+pub altered : (f : Placed → Placed) (old new : List ℕ) (layout : Layout) (count count' : ℕ) (mark : Mark) (entries : List Kept) → IsChange f → IsShelf old layout count mark → Laid new layout (map f (nodes_in old layout)) → IsSameHead old new → entries_in (map f (nodes_in old layout)) ≡ entries → count' ≡ length entries → Altered old new layout count' mark (record (shelf_of old layout) { entries = entries })
 altered f old new layout count count' mark entries leaves is laid head same live =
     let nodes : List Placed = nodes_in old layout in
     let e0 = head 0 (omega arith) (omega arith) in
     let e4 = head 4 (omega arith) (omega arith) in
-    let before : end_of (arena_start layout) (map f nodes) ≡ slice_index old 3 = same_end f (arena_start layout) nodes leaves ∙ sym is.laid.first_free in
+    let before : end_of (arena_start layout) (map f nodes) ≡ end_of (arena_start layout) nodes = same_end f (arena_start layout) nodes leaves in
     record {
       cycle = e0;
+      epoch = head 1 (omega arith) (omega arith);
+      source = head 2 (omega arith) (omega arith);
       shelf = shelf_by new layout (map f nodes) (slice_index old 4) count' mark is.sizes laid (changed_entries f nodes (slice_index old 4) leaves is.entries) e4 is.counted (live ∙ ap length (sym same)) (marked_still f layout nodes mark.place mark.number leaves is.marked);
-      view = view_by new layout (map f nodes) (slice_index old 4) (slice_index old 0) (slice_index old 9) (head_in old) laid e4 e0 (head 9 (omega arith) (omega arith)) (head_same new old (λ i low z a b. head i (omega arith) a)) ∙ (λ i. record { entries = same i; used = before i - arena_start layout; inserted = slice_index old 4; cycle = slice_index old 0; add_failed = slice_index old 9; head = head_in old; layout = layout; slide = None });
+      view = view_by new layout (map f nodes) (slice_index old 4) (slice_index old 0) old laid e4 e0 (λ i low high. head i (omega arith) (omega arith)) ∙ (λ i. record (shelf_of old layout) { entries = same i; used = before i - arena_start layout });
     }
 
 -- and where a newer node comes
@@ -206,16 +209,11 @@ taken_less words layout nodes n at laid among place usable =
     one_less (λ q. cond (eqb q.place at) (ended q) q) nodes n laid.rising among usable (ap (λ (b : Bool). (cond b (ended n) n).usable) (eq-eqb n.place at place))
     (λ q m differs. let e : q.place ≢ at = λ f. differs (ap (λ (r : Placed). r.node.number) (same_place (arena_start layout) nodes q n laid.row m among (f ∙ sym place))) in ap (λ (b : Bool). cond b (ended q) q) (ne_eqb q.place at e))
 
-pub taken : (old new : List ℕ) (layout : Layout) (count : ℕ) (mark : Mark) (n : Placed) (at number : ℕ) → IsShelf old layout count mark → Laid new layout (changed_at at ended (nodes_in old layout)) → IsSameHead old new → Among n (nodes_in old layout) → n.place ≡ at → n.usable ≡ true → n.node.number ≡ number → Altered old new layout (count - 1) mark (others_than number (entries_in (nodes_in old layout)))
+pub taken : (old new : List ℕ) (layout : Layout) (count : ℕ) (mark : Mark) (n : Placed) (at number : ℕ) → IsShelf old layout count mark → Laid new layout (changed_at at ended (nodes_in old layout)) → IsSameHead old new → Among n (nodes_in old layout) → n.place ≡ at → n.usable ≡ true → n.node.number ≡ number → Altered old new layout (count - 1) mark (record (shelf_of old layout) { entries = others_than number (entries_in (nodes_in old layout)) })
 taken old new layout count mark n at number is laid head among place usable numbered =
     let nodes : List Placed = nodes_in old layout in
     let left = taken_out old layout nodes n at number is.laid among place numbered in
     altered _ old new layout count (count - 1) mark (others_than number (entries_in nodes)) (change_at at ended ended_is) is laid head left (omega (arith, taken_less old layout nodes n at is.laid among place usable, is.live, ap length left))
-
--- no entry has the number
-pub none_taken : (number : ℕ) (nodes : List Placed) → ((p : Placed) → Among p nodes → p.usable ≡ true → p.node.number ≢ number) → others_than number (entries_in nodes) ≡ entries_in nodes
-none_taken number nodes none =
-    sym (left (λ q. q) (λ k. not (is_numbered number k)) nodes (λ q m u. inl (ap not (ne_eqb q.node.number number (none q m u)), refl)) (λ q e. e)) ∙ ap entries_in (unmoved (λ q. q) nodes (λ q m. refl))
 
 -- ---- an entry is used
 
@@ -247,7 +245,7 @@ used_same words layout nodes inserted kind key n at laid are among place e =
     fails true h = absurd (h refl)
     fails false h = refl
 
-pub reused : (old new : List ℕ) (layout : Layout) (count : ℕ) (mark : Mark) (kind : Kind) (key : List ℕ) (n : Placed) (at : ℕ) → IsShelf old layout count mark → Laid new layout (changed_at at (with_reloads 0) (nodes_in old layout)) → IsSameHead old new → Among n (nodes_in old layout) → n.place ≡ at → answers (type_number kind) key n ≡ true → Altered old new layout count mark (used_now (record { kind = kind; key = key }) (entries_in (nodes_in old layout)))
+pub reused : (old new : List ℕ) (layout : Layout) (count : ℕ) (mark : Mark) (kind : Kind) (key : List ℕ) (n : Placed) (at : ℕ) → IsShelf old layout count mark → Laid new layout (changed_at at (with_reloads 0) (nodes_in old layout)) → IsSameHead old new → Among n (nodes_in old layout) → n.place ≡ at → answers (type_number kind) key n ≡ true → Altered old new layout count mark (record (shelf_of old layout) { entries = used_now (record { kind = kind; key = key }) (entries_in (nodes_in old layout)) })
 reused old new layout count mark kind key n at is laid head among place asks =
     let nodes : List Placed = nodes_in old layout in
     let r : Request = record { kind = kind; key = key } in

@@ -1,4 +1,5 @@
+pub mod Uses
+pub mod Sheet
 pub mod Shelf
 pub mod Finding
 pub mod Hints
-pub mod Heads

@@ -1,4 +1,9 @@
 // What callers are told of entries.
+ghost use Rattle.std.specs.Prelude.{◌≡◌, ◌+◌, ◌<◌};
+ghost use Rattle.nsc_model.specs.Machine.{last_count};
+ghost use Rattle.nsc_rule.specs.Entries.{kind_of};
+
+use nsc_arena::Head;
 use nsc_model::Kind;
 
 /// A live entry that answered a lookup.
@@ -29,4 +34,32 @@ pub struct EntryAt {
     pub not_found: bool,
     /// The number from which on the next one is found.
     pub next: usize,
+}
+
+impl EntryAt {
+    /// The entry of a node, by what was read of it.
+    pub fn of(head: Head) -> EntryAt
+        requires { head.number < last_count }
+        ensures { result ≡ record { number = head.number; kind = kind_of head.kind; version = head.version; timeout = head.timeout; reloads = head.reloads; not_found = head.not_found; next = head.number + 1 } }
+    {
+        EntryAt {
+            number: head.number,
+            kind: kind_or_any(head.kind),
+            version: head.version,
+            timeout: head.timeout,
+            reloads: head.reloads,
+            not_found: head.not_found,
+            next: (head.number + 1) as usize,
+        }
+    }
+}
+
+// The kind of this number; the kind of users by name, where it is that of none.
+fn kind_or_any(number: u32) -> Kind
+    ensures { result ≡ kind_of number }
+{
+    match Kind::numbered(number) {
+        Some(kind) => kind,
+        None => Kind::PwName,
+    }
 }

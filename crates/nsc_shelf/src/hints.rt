@@ -41,7 +41,8 @@ pub fn forget(hints: &mut [u32])
     hints.fill(0);
 }
 
-/// The place of the usable node of a request, by its kind, below 256, and its key: by a hint, or else by its chain, and then it is noted.
+/// The place of a usable node of a request, by its kind, below 256, and its key: by a hint, or else by its chain, and then it is noted. Where
+/// such nodes are one, that is the newest one, and `None` comes exactly where there is none.
 pub fn find<W: Words>(
     words: &mut W,
     map: Layout,
@@ -53,10 +54,9 @@ pub fn find<W: Words>(
     requires kind { kind < 256 }
     requires laid { Laid (W.words words.old) map (nodes_in (W.words words.old) map) }
     requires hints { AreHints hints.old map (nodes_in (W.words words.old) map) }
-    requires alone { IsAlone kind key.now (nodes_in (W.words words.old) map) }
     ensures same { W.words words.new ≡ W.words words.old }
     ensures rest { W.rest words.new ≡ W.rest words.old }
-    ensures newest { result ≡ place_of (newest_for kind key.now (nodes_in (W.words words.old) map)) }
+    ensures newest { IsAlone kind key.now (nodes_in (W.words words.old) map) → result ≡ place_of (newest_for kind key.now (nodes_in (W.words words.old) map)) }
     ensures hinted { AreHints hints.new map (nodes_in (W.words words.old) map) }
 {
     let hash = hash(kind, key);
@@ -97,10 +97,9 @@ fn find_hinted<W: Words>(
     requires layout { IsLayout map }
     requires laid { Laid (W.words words.old) map (nodes_in (W.words words.old) map) }
     requires hints { AreHints hints.now map (nodes_in (W.words words.old) map) }
-    requires alone { IsAlone kind key.now (nodes_in (W.words words.old) map) }
     ensures same { W.words words.new ≡ W.words words.old }
     ensures rest { W.rest words.new ≡ W.rest words.old }
-    ensures newest { IfSome result (λ place. place_of (newest_for kind key.now (nodes_in (W.words words.old) map)) ≡ Some place) }
+    ensures newest { IsAlone kind key.now (nodes_in (W.words words.old) map) → IfSome result (λ place. place_of (newest_for kind key.now (nodes_in (W.words words.old) map)) ≡ Some place) }
 {
     let row = row_of(hash, hints.len());
     for index in row..row + ROW {

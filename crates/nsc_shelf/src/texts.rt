@@ -1,16 +1,13 @@
-// The key and the reply of a node that was found, and its count of reloads.
-ghost use Rattle.std.specs.Prelude.{◌≡◌, ◌+◌, ◌≤◌, ◌++◌, List, length};
+// The key and the reply of a node that was found.
+ghost use Rattle.std.specs.Prelude.{◌≡◌, ◌+◌, ◌≤◌, ◌++◌, length};
 ghost use Rattle.nsc_model.specs.Entry.{key_limit, kept_limit};
 ghost use Rattle.nsc_words.specs.declared.node.Placed.{Placed};
-ghost use Rattle.nsc_words.specs.Laid.{Among, Laid};
-ghost use Rattle.nsc_words.specs.Layout.{IsLayout};
-ghost use Rattle.nsc_arena.specs.Changes.{IsNodeAt, changed_at, head_of, with_reloads};
-ghost use Rattle.nsc_arena.specs.Written.{IsSameHead, MaySetNodes};
+ghost use Rattle.nsc_arena.specs.Changes.{IsNodeAt, head_of};
 
 use crate::finding::Found;
-use nsc_arena::{Words, read_bytes, set_reloads};
+use nsc_arena::{Words, read_bytes};
 use nsc_base::Buf;
-use nsc_words::{KEY, Layout};
+use nsc_words::KEY;
 
 /// Puts the key of a node that was found after the bytes of a buffer.
 pub fn read_key<W: Words>(words: &mut W, found: Found, key: &mut Buf)
@@ -33,18 +30,4 @@ pub fn read_reply<W: Words>(words: &mut W, found: Found, reply: &mut Buf)
 {
     let text = found.at + KEY + found.head.key_len.div_ceil(8);
     read_bytes(words, text, found.head.reply_len, reply);
-}
-
-/// The reloads of a node that was found count anew. Where they are 0 already, no word is set.
-pub fn count_anew<W: Words>(words: &mut W, map: Layout, found: Found)
-    requires layout { IsLayout map }
-    requires open { MaySetNodes map (W.can_set (W.rest words.old)) }
-    requires node { (nodes : List Placed) × (p : Placed) × Laid (W.words words.old) map nodes × Among p nodes × (p.place ≡ found.at) }
-    ensures laid { (nodes : List Placed) (p : Placed) → Laid (W.words words.old) map nodes → Among p nodes → p.place ≡ found.at → found.head ≡ head_of p → Laid (W.words words.new) map (changed_at found.at (with_reloads 0) nodes) }
-    ensures head { IsSameHead (W.words words.old) (W.words words.new) }
-    ensures rest { W.rest words.new ≡ W.rest words.old }
-{
-    if found.head.reloads != 0 {
-        set_reloads(words, map, found.at, 0);
-    }
 }

@@ -1,6 +1,6 @@
 //! Trials of a database that many threads call, over a file that changes while they run. With no word each trial prints a line.
 //! With words the program makes calls for their time: `hits THREADS ENTRIES COUNT [ASKED]`, `misses USERS COUNT`, `ticks ENTRIES COUNT
-//! SECONDS`, `compactions ENTRIES COUNT`, `finds ENTRIES COUNT`.
+//! SECONDS`, `compactions ENTRIES COUNT`.
 #![tactic(auto)]
 
 mod asked;
@@ -14,7 +14,6 @@ mod outcome;
 mod room;
 mod script;
 mod scripts;
-mod tables;
 mod task;
 mod texts;
 mod timing;
@@ -26,7 +25,6 @@ use mode::Mode;
 use std::alloc::AllocError;
 use std::process::ExitCode;
 use std::{env, io};
-use tables::finds;
 use timing::run_load;
 use trials::run_trials;
 
@@ -38,9 +36,6 @@ fn main(rt: HostRuntime) -> io::Result<ExitCode> {
             true
         }
         Some(Mode::Load(load)) => run_load(&rt, rt.alloc(), load),
-        Some(Mode::Finds { entries, count }) => {
-            matches!(finds(rt.alloc(), entries, count), Ok(true))
-        }
         None => false,
     };
     Ok(ExitCode::from(if is_right { 0 } else { 1 }))

@@ -7,13 +7,6 @@ pub enum Mode {
     Trials,
     /// Calls, for their time.
     Load(Load),
-    /// Searches of a table by itself, for their time.
-    Finds {
-        /// How many entries it has.
-        entries: u32,
-        /// How many searches.
-        count: u32,
-    },
 }
 
 impl Mode {
@@ -48,12 +41,6 @@ impl Mode {
                 entries: number(&words[1])?,
                 count: number(&words[2])?,
             },
-            ("finds", 3) => {
-                return Some(Mode::Finds {
-                    entries: number(&words[1])?,
-                    count: number(&words[2])?,
-                });
-            }
             _ => return None,
         };
         Some(Mode::Load(load))

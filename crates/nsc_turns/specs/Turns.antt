@@ -4,7 +4,7 @@ use Rattle.nsc_model.specs.declared.answer.Request.{Request}
 use Rattle.nsc_model.specs.Machine.{Kept, Passed, Stopped, tried_by, used_now}
 use Rattle.nsc_shelf.specs.Shelf.{GivesHit}
 use Rattle.nsc_writer.specs.Loaded.{Loaded, kept_of}
-use Rattle.nsc_writer.specs.Uses.{counted}
+use Rattle.nsc_shelf.specs.Uses.{counted}
 use Rattle.nsc_writer.specs.Writer.{Writer, passed_by, refusal_of}
 use Rattle.nsc_turns.specs.declared.entries.HitOrMiss.{HitOrMiss}
 use Rattle.nsc_turns.specs.declared.entries.HitOrMiss.TheVariants as looked

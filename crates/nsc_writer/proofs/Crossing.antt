@@ -3,11 +3,11 @@ use denote.Param.Send.{IsSend, sendable}
 use Rattle.std.proofs.Crossing.{crosses}
 use Rattle.nsc_model.proofs.Crossing.{content-send, content-sync}
 use Rattle.nsc_rule.proofs.Crossing.{map-send, pen-send}
-use Rattle.nsc_shelf.specs.contracts.shelf.Shelf as shelf
+use Rattle.nsc_shelf.specs.contracts.sheet.Sheet as sheet
 use Rattle.nsc_writer.specs.contracts.writer.Writer as writer
 
-shelf-send : IsSend shelf.the_row
-shelf-send = search (sendable, crosses) depth 30
+sheet-send : IsSend sheet.the_row
+sheet-send = search (sendable, crosses, map-send, pen-send) depth 30
 
 pub writer-send : IsSend writer.the_row
-writer-send = search (sendable, crosses, map-send, pen-send, content-send, content-sync, shelf-send) depth 30
+writer-send = search (sendable, crosses, content-send, content-sync, sheet-send) depth 30

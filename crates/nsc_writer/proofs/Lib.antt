@@ -1,5 +1,9 @@
 pub mod Told
+pub mod Moved
+mod Ends
+mod Sits
+mod Used
+mod Put
 pub mod Later
 pub mod Crossing
 pub mod Rest
-pub mod Slides

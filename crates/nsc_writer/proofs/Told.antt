@@ -1,28 +1,24 @@
 -- What the history tells of the writer's cache after each of its calls.
-use Rattle.std.proofs.Common.{◌≡◌, ◌≢◌, ℕ, ◌<◌, ◌≤◌, ◌+◌, Bool, true, false, not, ◌||◌, eqb, List, [], ◌∷◌, ◌++◌, length, get_or, drop, drop-cons, add-one, suc, None, refl, sym, ap, subst, ◌∙◌, arith, inl, inr}
+use Rattle.std.proofs.Common.{◌≡◌, ◌≢◌, ℕ, ◌≤◌, ◌+◌, Bool, true, false, not, ◌||◌, eqb, List, [], ◌∷◌, ◌++◌, None, refl, sym, ap, subst, ◌∙◌, arith, inl, inr}
 use Rattle.std.proofs.lemmas.Bool.{eqb-true, eqb-false}
 use Rattle.nsc_model.specs.declared.answer.Request.{Request}
 use Rattle.nsc_model.specs.declared.record.Ending.{Ending}
-use Rattle.nsc_model.specs.declared.record.Ending.TheVariants.{Invalidated}
 use Rattle.nsc_model.specs.declared.record.Record.{Record}
 use Rattle.nsc_model.specs.declared.record.Record.TheVariants.{Change, Poll, Load, End, Invalid}
 use Rattle.nsc_model.specs.Kinds.{is_request}
-use Rattle.nsc_model.specs.Content.{Content}
 use Rattle.nsc_model.specs.Entry.{Entry}
 use Rattle.nsc_model.specs.History.{invalidations, IsLive, NoneLiveOf, WasPolled, Allows, LooksAt, PolledSince}
 use Rattle.nsc_model.specs.Machine.{Kept, Cache, by_invalidation, emptied, ends_of, live_entry, used_now}
-use Rattle.nsc_model.specs.Live.{Among, Rise, AreLive}
+use Rattle.nsc_model.specs.Live.{Among, AreLive}
 use Rattle.nsc_laws.specs.Calls.{Tells, entries_of}
 use Rattle.nsc_laws.proofs.Requests.{request_same}
-use Rattle.nsc_laws.proofs.CoreLawRecords.{rise_tail, first_least}
 use Rattle.nsc_laws.proofs.MachineLawLists.{filter_from, filter_to, rise_filter, missed, used_entries}
-use Rattle.nsc_laws.proofs.MachineLawEnds.{ended_same, lives_on}
+use Rattle.nsc_laws.proofs.MachineLawEnds.{ended_same}
 use Rattle.nsc_laws.proofs.MachineLawSteps.{retells}
 use Rattle.nsc_laws.proofs.MachineLawParts.{none_of, kept_tells, inserted_by, invalid_tells}
 use Rattle.nsc_writer.specs.Loaded.{Loaded, kept_of}
-use Rattle.nsc_rule.specs.Pen.{Pen}
-use Rattle.nsc_shelf.specs.Shelf.{Shelf, has_number, is_numbered, others_than}
-use Rattle.nsc_writer.specs.Writer.{IsAnswered, cache_of}
+use Rattle.nsc_shelf.specs.Shelf.{has_number, is_numbered, others_than}
+use Rattle.nsc_writer.specs.Writer.{IsAnswered}
 
 -- ---- polls
 
@@ -139,27 +135,3 @@ used_tells h cache request t = retells h cache (used_now request cache.entries) 
 pub emptied_tells : (h : List Record) (cache : Cache) → Tells h cache → Tells (Invalid (cache.epoch + 1) ∷ ends_of by_invalidation cache.entries h) (emptied cache).cache
 emptied_tells h cache t = subst (λ (l : List Record). Tells l (emptied cache).cache)
     (ap (λ (n : ℕ). Invalid (n + 1) ∷ ends_of by_invalidation cache.entries h) t.epochs_are) (subst (λ (l : List Record). Tells (Invalid (invalidations h + 1) ∷ l) (emptied cache).cache) (ended_same cache.entries h) (invalid_tells h cache t))
-
--- the same of a pen and a shelf that are known by equations
-pub told_as : (files : Content) (p q : Pen) (s t : Shelf) → q ≡ p → t ≡ s → Tells p.seen (cache_of files p.version p.epoch s) → Tells q.seen (cache_of files q.version q.epoch t)
-told_as files p q s t same_pen same_shelf told = subst (λ (x : Pen × Shelf). Tells x.0.seen (cache_of files x.0.version x.0.epoch x.1)) (λ i. (sym same_pen i, sym same_shelf i)) told
-
--- the ends of these entries, one after the other, make this of the history
-pub record EndsTo (ks : List Kept) (h all : List Record) : Type 0 where
-  pub ends : ends_of by_invalidation ks h ≡ all
-  pub live : (e : Entry) → Among (entries_of ks) e → IsLive h e
-  pub rising : Rise (entries_of ks)
-
-pub begins_to_end : (ks : List Kept) (h : List Record) → AreLive h (entries_of ks) → EndsTo ks h (ends_of by_invalidation ks h)
-begins_to_end ks h are = record { ends = refl; live = are.live; rising = are.rising }
-
-pub ends_next : (k : Kept) (ks : List Kept) (h all : List Record) → EndsTo (k ∷ ks) h all → EndsTo ks (End k.entry.number Invalidated ∷ h) all
-ends_next k ks h all t = record {
-  ends = t.ends;
-  live = λ e a. lives_on h k.entry e Invalidated (first_least k.entry (entries_of ks) e t.rising a) (t.live e (inr a));
-  rising = rise_tail k.entry (entries_of ks) t.rising;
-}
-
-pub first_of : (ks : List Kept) (i : ℕ) (k : Kept) → i < length ks → k ≡ get_or ks i k → drop i ks ≡ k ∷ drop (i + 1) ks
-first_of ks i k low is = let next : drop (suc i) ks ≡ drop (i + 1) ks = ap (λ (n : ℕ). drop n ks) (sym (add-one i)) in
-    drop-cons ks i k low ∙ (λ j. sym is j ∷ next j)

@@ -1,4 +1,3 @@
 pub mod Loaded
-pub mod Uses
 pub mod Writer
 pub mod Slide

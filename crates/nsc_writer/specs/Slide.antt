@@ -1,29 +1,30 @@
--- The slide of a writer's entries is that of its shelf.
-use Rattle.std.specs.Prelude.{◌≡◌, ℕ, ◌+◌, List, [], Option, Some, None}
-use Rattle.nsc_shelf.specs.Shelf.{IsBegun as BeginsOn, IsSlid as IsSlidOn, Shelf}
+-- The slide of a writer's entries.
+use Rattle.std.specs.Prelude.{◌≡◌, ℕ, ◌+◌, ◌<◌, ◌%◌, true, List, [], Option, Some, None, slice_index}
+use Rattle.nsc_words.specs.declared.node.Placed.{Placed}
+use Rattle.nsc_words.specs.Laid.{Among}
+use Rattle.nsc_words.specs.Layout.{IsLayout, arena_start}
+use Rattle.nsc_model.specs.Machine.{last_count}
+use Rattle.nsc_shelf.specs.Shelf.{HoldEntries}
 use Rattle.nsc_writer.specs.Writer.{Writer}
 
--- the shelf of a writer
-abbrev pub own_shelf : Writer → Shelf
-own_shelf w = record {
-  entries = w.cache.entries;
-  used = w.cache.used;
-  inserted = w.cache.inserted;
-  cycle = w.cache.cycle;
-  add_failed = w.cache.add_failed;
-  head = record { epoch = w.cache.epoch; source = w.cache.newest_version; hits = w.hits.found; negative_hits = w.hits.not_found; misses = w.misses.found; negative_misses = w.misses.not_found };
-  layout = w.layout;
-  slide = w.slide;
-}
-
--- it begins on the shelf, and what the shelf does not have is as before
+-- it begins: the count was even, and is odd then, and the words hold nodes of the live entries, with those that ended
 pub record IsBegun (before after : Writer) : Type 0 where
-  pub shelf : BeginsOn (own_shelf before) (own_shelf after)
-  pub is : after ≡ record before { cache = record before.cache { cycle = before.cache.cycle + 1 }; slide = after.slide }
+  pub even : before.cache.cycle % 2 ≡ 0
+  pub counted : before.cache.cycle < last_count
+  pub sizes : IsLayout before.layout
+  pub words : List ℕ
+  pub is : after ≡ record before { cache = record before.cache { cycle = before.cache.cycle + 1 }; slide = Some words }
+  pub nodes : List Placed
+  pub hold : HoldEntries words before.layout before.cache.entries nodes
+  pub used : slice_index words 3 ≡ arena_start before.layout + before.cache.used
 
--- it may end
-abbrev pub IsSlid : Writer → Type 0
-IsSlid w = IsSlidOn (own_shelf w)
+-- it may end: the words hold nodes of the live entries alone
+pub record IsSlid (w : Writer) : Type 0 where
+  pub words : List ℕ
+  pub under_way : w.slide ≡ Some words
+  pub nodes : List Placed
+  pub hold : HoldEntries words w.layout w.cache.entries nodes
+  pub alone : (p : Placed) → Among p nodes → p.usable ≡ true
 
 -- no words, of a slide that is under way all the same
 abbrev pub emptied_slide : Option (List ℕ) → Option (List ℕ)

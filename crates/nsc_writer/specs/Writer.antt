@@ -1,6 +1,6 @@
 -- What a writer is: the words that it writes, the history, the cache that it has of it, how its lookups went, and the words of a
 -- slide of its entries while one is under way; and what its calls come to.
-use Rattle.std.specs.Prelude.{◌≡◌, ℕ, ◌+◌, ◌<◌, ◌≤◌, min, Bool, true, false, List, [], ◌∷◌, ◌++◌, length, Option, Some, None, Result, Ok, Err}
+use Rattle.std.specs.Prelude.{◌≡◌, ℕ, ◌+◌, ◌<◌, ◌≤◌, min, Bool, true, false, List, [], ◌∷◌, ◌++◌, length, slice_index, Option, Some, None, Result, Ok, Err}
 use Rattle.atomic_table.specs.Seated.{TableId}
 use Rattle.nsc_words.specs.declared.layout.Layout.{Layout}
 use Rattle.nsc_model.specs.declared.record.Ending.{Ending}
@@ -14,11 +14,14 @@ use Rattle.nsc_model.specs.History.{version_in, PolledSince}
 use Rattle.nsc_model.specs.Machine.{Kept, Cache, Passed, Stopped, Refusal, TooLarge, Discarded, Present, Spent, Full, refusal, last_count, live_entry, entry_words, by_invalidation, emptied, ends_of}
 use Rattle.nsc_model.specs.Answers.{answer_of}
 use Rattle.nsc_shelf.specs.declared.entry.EntryAt.{EntryAt}
-use Rattle.nsc_shelf.specs.Shelf.{IsTold, Shelf, number_of, others_than}
+use Rattle.nsc_laws.specs.Calls.{Tells}
+use Rattle.nsc_rule.specs.Pen.{Pen}
+use Rattle.nsc_shelf.specs.declared.finding.Mark.{Mark}
+use Rattle.nsc_shelf.specs.Shelf.{IsHeld, IsTold, Shelf, number_of, others_than, shelf_in, slide_of}
 use Rattle.nsc_writer.specs.declared.loaded.Inserted.{Inserted}
 use Rattle.nsc_writer.specs.declared.loaded.Inserted.TheVariants as inserted
 use Rattle.nsc_writer.specs.declared.loaded.Stamp.{Stamp}
-use Rattle.nsc_writer.specs.Uses.{Uses}
+use Rattle.nsc_shelf.specs.Uses.{Uses}
 use Rattle.nsc_writer.specs.declared.writer.Cause.{Cause}
 use Rattle.nsc_writer.specs.declared.writer.Cause.TheVariants as cause
 use Rattle.nsc_writer.specs.Loaded.{Loaded, kept_of}
@@ -40,6 +43,17 @@ most_words = 8388608
 abbrev pub cache_of : Content → ℕ → ℕ → Shelf → Cache
 cache_of sources version epoch shelf =
     record { sources = sources; newest_version = version; entries = shelf.entries; used = shelf.used; epoch = epoch; inserted = shelf.inserted; cycle = shelf.cycle; add_failed = shelf.add_failed }
+
+-- the writer of this pen and this content
+abbrev pub writer_of : Pen → Layout → Content → Writer
+writer_of pen layout content =
+    let shelf = shelf_in pen.plan.nodes pen.plan.words layout in
+    record { table = pen.table; layout = layout; seen = pen.plan.seen; cache = cache_of content (slice_index pen.plan.words 2) (slice_index pen.plan.words 1) shelf; hits = shelf.hits; misses = shelf.misses; slide = slide_of pen.plan.words }
+
+-- what the pen knows is what the history tells
+pub record IsWriter (pen : Pen) (layout : Layout) (content : Content) (live : ℕ) (mark : Mark) (hints : List ℕ) : Type 0 where
+  pub held : IsHeld pen.plan layout live mark hints
+  pub tells : Tells pen.plan.seen (cache_of content (slice_index pen.plan.words 2) (slice_index pen.plan.words 1) (shelf_in pen.plan.nodes pen.plan.words layout))
 
 -- the writer once an event of the machine passed
 abbrev pub passed_by : Passed → Writer → Writer
@@ -138,7 +152,10 @@ ending_of cause.Replaced = ending.Replaced
 abbrev pub without_entry : ℕ → Ending → Writer → Writer
 without_entry number ending w = record w { cache = record w.cache { entries = others_than number w.cache.entries }; seen = End number ending ∷ w.seen }
 
--- the writer once every entry ended as invalidated
+-- the writer once every entry ended as invalidated, and once that was counted
+abbrev pub all_ended : Writer → Writer
+all_ended w = record w { cache = record w.cache { entries = [] }; seen = ends_of by_invalidation w.cache.entries w.seen }
+
 abbrev pub emptied_by : Writer → Writer
 emptied_by w = record w { cache = (emptied w.cache).cache; seen = Invalid (w.cache.epoch + 1) ∷ ends_of by_invalidation w.cache.entries w.seen }
 

@@ -5,19 +5,17 @@ ghost use Rattle.std.specs.Arc.{arc_value};
 ghost use Rattle.nsc_model.specs.declared.record.Record.TheVariants as record_of;
 ghost use Rattle.nsc_model.specs.Entry.{Entry};
 ghost use Rattle.nsc_model.specs.History.{Allows, IsLive, PolledSince};
-ghost use Rattle.nsc_model.specs.Machine.{by_invalidation, ends_of, last_count, polled};
-ghost use Rattle.nsc_model.specs.Live.{AreLive};
-ghost use Rattle.nsc_laws.specs.Calls.{entries_of};
+ghost use Rattle.nsc_model.specs.Machine.{last_count, polled};
 ghost use Rattle.nsc_shelf.specs.Shelf.{has_number};
 ghost use Rattle.nsc_writer.specs.Loaded.{kept_of};
-ghost use Rattle.nsc_writer.specs.Writer.{Inserts, IsAnswered, IsAdmitted, IsNewest, IsRefused, Polls, SaysRefused, ending_of, emptied_by, is_full, refusal_of, with_entry, without_entry};
+ghost use Rattle.nsc_writer.specs.Writer.{Inserts, IsAnswered, IsAdmitted, IsNewest, IsRefused, Polls, SaysRefused, all_ended, ending_of, emptied_by, is_full, refusal_of, with_entry, with_failed, without_entry};
 
 use crate::loaded::{Inserted, Loaded, Stamp};
 use crate::writer::{Cause, Writer};
+use nsc_arena::{Fixed, lead, place_bytes};
 use nsc_model::{Content, Ending, KEPT_LIMIT, LAST_COUNT, Spent};
-use nsc_rule::{Map, Pen};
-use nsc_shelf::Shelf;
-use nsc_words::node_words;
+use nsc_shelf::{find_from, note};
+use nsc_words::{ADD_FAILED, FIRST_FREE, LOADS, hash, node_words};
 use std::sync::Arc;
 
 impl Writer {
@@ -34,12 +32,12 @@ impl Writer {
         if content.is_same(&self.content) {
             return Ok(self.confirm(epoch));
         }
-        let before = self.pen.version();
+        self.sheet.learn();
+        let before = self.version();
         if before == LAST_COUNT {
             return Err(Spent { count: LAST_COUNT });
         }
-        self.pen.change(&self.map, &content);
-        self.shelf.set_source(before + 1);
+        self.sheet.change(&content);
         self.content = content;
         Ok(Stamp {
             version: before + 1,
@@ -55,8 +53,8 @@ impl Writer {
         ensures history { self.new ≡ record self.old { seen = record_of.Poll self.old.cache.newest_version ∷ self.old.seen } }
         ensures polled { PolledSince self.new.seen result.version result.epoch }
     {
-        let version = self.pen.version();
-        self.pen.poll(&self.map);
+        let version = self.version();
+        self.sheet.poll();
         Stamp { version, epoch }
     }
 
@@ -74,21 +72,22 @@ impl Writer {
             return Some(Inserted::TooLarge { length });
         }
         let noted = loaded.stamp().epoch;
-        let epoch = self.pen.epoch();
+        let epoch = self.epoch();
         if noted < epoch {
             return Some(Inserted::Discarded {
                 loaded: noted,
                 epoch,
             });
         }
-        if let Some(number) = self.shelf.number_of(loaded.kind(), loaded.key()) {
+        let inserted = self.inserted();
+        let free = self.map().layout().arena - self.used();
+        if let Some(number) = self.number_of(loaded.kind(), loaded.key()) {
             return Some(Inserted::Present { number });
         }
-        if self.shelf.inserted() == LAST_COUNT {
+        if inserted == LAST_COUNT {
             return Some(Inserted::Spent { count: LAST_COUNT });
         }
         let need = node_words(loaded.key().len(), length);
-        let free = self.map.layout().arena - self.shelf.used();
         if need > free {
             return Some(Inserted::Full {
                 need: need as u64,
@@ -121,13 +120,21 @@ impl Writer {
     {
         if let Some(refused) = self.refusal(loaded) {
             if is_full(refused) {
-                self.shelf.fail();
+                self.fail();
             }
             return refused;
         }
-        let number = self.shelf.inserted();
+        let number = self.inserted();
         self.put(loaded, number);
         Inserted::Done { number }
+    }
+
+    // Counts an insertion that found no room.
+    fn fail(&mut self)
+        requires { self.old.slide ≡ None }
+        ensures { self.new ≡ with_failed self.old }
+    {
+        self.sheet.count(ADD_FAILED);
     }
 
     // Inserts the entry of this number, which nothing refuses.
@@ -138,21 +145,25 @@ impl Writer {
         requires still { self.old.slide ≡ None }
         ensures { self.new ≡ with_entry (kept_of loaded.now self.old.cache.inserted) self.old }
     {
-        let kind = loaded.kind();
-        let key = loaded.owned_key();
-        let answer = loaded.answer();
-        let version = loaded.stamp().version;
-        let timeout = loaded.timeout();
-        self.pen
-            .insert(&self.map, number, kind, key, answer, version, timeout);
-        self.shelf.put(
-            kind,
-            key.as_slice(),
-            answer,
-            version,
-            timeout,
-            loaded.reloads(),
-        );
+        let fixed = Fixed {
+            number,
+            kind: loaded.kind().number(),
+            version: loaded.stamp().version,
+            timeout: loaded.timeout(),
+            reloads: loaded.reloads(),
+            not_found: loaded.answer().is_not_found(),
+        };
+        let key = loaded.key();
+        let reply = loaded.answer().bytes();
+        if let Some(at) = place_bytes(&mut self.sheet, self.layout, fixed, key, reply) {
+            let hash = hash(fixed.kind, key);
+            let (bucket, end) = lead(&mut self.sheet, self.layout, at, hash);
+            self.sheet.publish(bucket, at);
+            self.sheet.set_count(FIRST_FREE, end as u64);
+            self.sheet.set_count(LOADS, number + 1);
+            self.live += 1;
+            note(self.layout, &mut self.hints, hash, at);
+        }
     }
 
     /// Ends the entry of this number by this cause, which lets it end. It is false exactly where the entry is not live; then
@@ -164,11 +175,25 @@ impl Writer {
         ensures ended { OnTrue result (self.new ≡ without_entry number (ending_of cause) self.old) }
         ensures stays { OnFalse result (self.new ≡ self.old) }
     {
-        if !self.shelf.has(number) {
+        self.end_by(number, cause.ending())
+    }
+
+    // The same for any cause.
+    fn end_by(&mut self, number: u64, cause: Ending) -> bool
+        requires allowed { (e : Entry) → IsLive self.old.seen e → e.number ≡ number → Allows cause e }
+        requires still { self.old.slide ≡ None }
+        ensures live { result ≡ has_number number self.old.cache.entries }
+        ensures ended { OnTrue result (self.new ≡ without_entry number cause self.old) }
+        ensures stays { OnFalse result (self.new ≡ self.old) }
+    {
+        let Some(found) = find_from(&mut self.sheet, self.layout, &mut self.mark, number) else {
+            return false;
+        };
+        if found.head.number != number {
             return false;
         }
-        self.pen.end(&self.map, number, cause.ending());
-        self.shelf.take_out(number);
+        self.sheet.end(found.at, cause);
+        self.live -= 1;
         true
     }
 
@@ -180,15 +205,27 @@ impl Writer {
         ensures below { IfOk result (λ _. self.old.cache.epoch < last_count) }
         ensures spent { IfErr result (λ spent. (self.old.cache.epoch ≡ last_count) × (spent.count ≡ last_count) × (self.new ≡ self.old)) }
     {
-        let before = self.pen.epoch();
+        self.sheet.learn();
+        let before = self.epoch();
         if before == LAST_COUNT {
             return Err(Spent { count: LAST_COUNT });
         }
-        end_all(&mut self.pen, &self.map, &mut self.shelf);
-        self.pen.invalidate(&self.map);
-        self.shelf.clear();
-        self.shelf.set_epoch(before + 1);
+        self.end_all();
+        self.sheet.invalidate();
         Ok(before + 1)
+    }
+
+    // Ends the live entries, one after the other, as invalidated.
+    fn end_all(&mut self)
+        requires { self.old.slide ≡ None }
+        ensures { self.new ≡ all_ended self.old }
+    {
+        let mut from = 0;
+        'entries: while let Some(entry) = self.next(from) {
+            self.learn();
+            self.end_by(entry.number, Ending::Invalidated);
+            from = entry.next;
+        }
     }
 }
 
@@ -208,20 +245,5 @@ impl Cause {
             Cause::Expired(now) => Ending::Expired { now },
             Cause::Replaced => Ending::Replaced,
         }
-    }
-}
-
-// Ends the live entries, one after the other, as invalidated. They stay on their shelf.
-fn end_all(pen: &mut Pen, map: &Map, shelf: &mut Shelf)
-    requires map { map.now.table ≡ pen.old.table }
-    requires still { shelf.old.slide ≡ None }
-    requires live { AreLive pen.old.seen (entries_of shelf.old.entries) }
-    ensures pen { pen.new ≡ record pen.old { seen = ends_of by_invalidation shelf.old.entries pen.old.seen } }
-    ensures same { shelf.new ≡ shelf.old }
-{
-    let mut from = 0;
-    'entries: while let Some(entry) = shelf.next(from) {
-        pen.end(map, entry.number, Ending::Invalidated);
-        from = entry.number + 1;
     }
 }

@@ -3,6 +3,7 @@
 
 mod changes;
 mod loaded;
+mod lookups;
 mod sliding;
 mod writer;
 

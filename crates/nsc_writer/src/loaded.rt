@@ -110,14 +110,6 @@ impl Loaded {
     {
         self.reloads
     }
-
-    // The key of the request, as it is owned.
-    pub(crate) fn owned_key(&self) -> &Bytes
-        ensures value { result.now ≡ self.now.request.key }
-        ensures bound { length result.now ≤ key_limit }
-    {
-        &self.key
-    }
 }
 
 /// What became of an insertion.

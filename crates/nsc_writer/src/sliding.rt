@@ -6,7 +6,9 @@ ghost use Rattle.nsc_writer.specs.Slide.{IsBegun, IsSlid};
 
 use crate::writer::Writer;
 use nsc_arena::Words;
-use nsc_model::Spent;
+use nsc_model::{LAST_COUNT, Spent};
+use nsc_shelf::{Mark, forget};
+use nsc_words::CYCLE;
 
 impl Writer {
     /// Begins a slide of the entries: the count of its beginnings and ends is odd until it ends, and the words of the table may be
@@ -17,7 +19,12 @@ impl Writer {
         ensures begun { IfOk result (λ _. IsBegun self.old self.new) }
         ensures spent { IfErr result (λ spent. (self.old.cache.cycle ≡ last_count) × (spent.count ≡ last_count) × (self.new ≡ self.old)) }
     {
-        self.shelf.begin_slide()
+        self.sheet.learn();
+        if self.sheet.head(CYCLE) >= LAST_COUNT {
+            return Err(Spent { count: LAST_COUNT });
+        }
+        self.sheet.begin();
+        Ok(())
     }
 
     /// A word of the slide that is under way, by its number in the whole table.
@@ -26,7 +33,7 @@ impl Writer {
         ensures word { result ≡ slice_index (slide_words self.old.slide) at }
         ensures same { self.new ≡ self.old }
     {
-        self.shelf.word(at)
+        self.sheet.get(at)
     }
 
     /// Sets a word of the slide that is under way: FIRST_FREE, a bucket, or a word of the arena.
@@ -35,7 +42,7 @@ impl Writer {
         requires open { (at ≡ 3) ⊎ (16 ≤ at) }
         ensures { self.new ≡ record self.old { slide = Some (slice_set (slide_words self.old.slide) at word) } }
     {
-        self.shelf.slide_word(at, word);
+        self.sheet.slide_word(at, word);
     }
 
     /// Ends the slide, whose words hold nodes of the live entries alone: the words of those that ended are free again.
@@ -43,7 +50,9 @@ impl Writer {
         requires { IsSlid self.old }
         ensures { self.new ≡ record self.old { cache = record self.old.cache { cycle = self.old.cache.cycle + 1; used = all_words self.old.cache.entries }; slide = None } }
     {
-        self.shelf.end_slide();
+        self.sheet.finish();
+        self.mark = Mark::start(self.layout);
+        forget(&mut self.hints);
     }
 }
 
@@ -59,7 +68,11 @@ impl Words for Writer {
     ghost can_set = { λ w at. (at == 3) || nat_le 16 at };
 
     fn len(&self) -> usize {
-        self.shelf.slide_len()
+        if self.sheet.head(CYCLE) % 2 == 0 {
+            0
+        } else {
+            self.sheet.len()
+        }
     }
 
     fn get(&mut self, at: usize) -> u64 {

@@ -2,7 +2,7 @@ use Rattle.std.proofs.Common.{◌≡◌, ℕ, List, length, sym, ap, subst, arit
 use Rattle.nsc_words.specs.Laid.{Stands}
 use Rattle.nsc_arena.proofs.Rows.{inside}
 use Rattle.nsc_arena.specs.declared.reading.Head.{Head}
-use Rattle.nsc_shelf.proofs.Found.{marked_found}
+use Rattle.nsc_shelf.proofs.Numbers.{marked_found}
 use Rattle.nsc_shelf.proofs.finding.find_from.Goals as goal
 
 pub first_from-requires-clause-laid : goal.first_from-requires-clause-laid

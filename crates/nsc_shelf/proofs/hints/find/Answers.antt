@@ -4,7 +4,7 @@ use Rattle.nsc_shelf.proofs.Hinted.{hints_noted, walked}
 use Rattle.nsc_shelf.proofs.hints.find.Goals as goal
 
 pub returns-in-Some-clause-newest : goal.returns-in-Some-clause-newest
-returns-in-Some-clause-newest g c = sym c.in-Some.ensures.newest
+returns-in-Some-clause-newest g c alone = sym (c.in-Some.ensures.newest alone)
 
 pub note-requires-clause-from : goal.note-requires-clause-from
 note-requires-clause-from g c = (walked c.args.kind c.args.key.now c.in_ok-place.place c.requires.laid c.find_hinted.ensures.same c.in_ok-place.ensures.newest).from
@@ -13,7 +13,7 @@ pub note-requires-clause-to : goal.note-requires-clause-to
 note-requires-clause-to g c = (walked c.args.kind c.args.key.now c.in_ok-place.place c.requires.laid c.find_hinted.ensures.same c.in_ok-place.ensures.newest).to
 
 pub returns-clause-newest : goal.returns-clause-newest
-returns-clause-newest g c = (walked c.args.kind c.args.key.now c.in_ok-place.place c.requires.laid c.find_hinted.ensures.same c.in_ok-place.ensures.newest).newest
+returns-clause-newest g c alone = (walked c.args.kind c.args.key.now c.in_ok-place.place c.requires.laid c.find_hinted.ensures.same c.in_ok-place.ensures.newest).newest
 
 pub returns-clause-hinted : goal.returns-clause-hinted
 returns-clause-hinted g c =

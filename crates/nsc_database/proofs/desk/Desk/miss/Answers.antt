@@ -1,4 +1,4 @@
-use Rattle.nsc_writer.specs.Uses.{counted}
+use Rattle.nsc_shelf.specs.Uses.{counted}
 use Rattle.nsc_database.proofs.Rests.{rests_missed}
 use Rattle.nsc_database.proofs.Standing.{at_rest_on}
 use Rattle.nsc_database.proofs.desk.Desk.miss.Goals as goal

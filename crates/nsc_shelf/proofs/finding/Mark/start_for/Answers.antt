@@ -1,6 +1,6 @@
 use Rattle.std.proofs.Common.{arith}
 use Rattle.nsc_arena.proofs.Passed.{mark_at_start}
-use Rattle.nsc_shelf.proofs.Found.{marked_above}
+use Rattle.nsc_shelf.proofs.Numbers.{marked_above}
 use Rattle.nsc_shelf.proofs.finding.Mark.start_for.Goals as goal
 
 pub returns-then-self-number : goal.returns-then-self-number

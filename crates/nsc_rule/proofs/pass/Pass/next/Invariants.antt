@@ -1,0 +1,5 @@
+use Rattle.nsc_rule.specs.Walks.{NextTells}
+use Rattle.nsc_rule.proofs.pass.Pass.next.Given as goal
+
+abbrev pub ghosts-look : goal.ghosts-look
+ghosts-look a = record { told = NextTells a.map.now.layout a.seat.now.me.0 }

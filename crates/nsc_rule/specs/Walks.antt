@@ -1,0 +1,107 @@
+-- What the steps of a search tell. Each speaks of the moment of its own load, and holds where CYCLE was then still what the search
+-- began with, and even: the last load tells that of all steps at once.
+use Rattle.std.specs.Prelude.{◌≡◌, ◌≢◌, ℕ, ◌+◌, ◌%◌, ◌<◌, ◌≤◌, ◌==◌, not, true, false, ◌⊎◌, if◌then◌else◌, List, length, Option, Some, None}
+use Rattle.nsc_base.specs.Nodes.{node_words, words_for}
+use Rattle.nsc_words.specs.declared.layout.Layout.{Layout}
+use Rattle.nsc_words.specs.Layout.{arena_start, table_words}
+use Rattle.nsc_words.specs.Packing.{shape_word, size_word}
+use Rattle.nsc_words.specs.Words.{word_of}
+use Rattle.nsc_model.specs.Entry.{Entry, key_limit, kept_limit}
+use Rattle.nsc_model.specs.History.{loads, IsLive, IsPrefix, Legal}
+use Rattle.nsc_model.specs.Kinds.{type_number}
+use Rattle.nsc_model.specs.Machine.{last_count}
+use Rattle.nsc_model.specs.declared.answer.Request.{Request}
+use Rattle.nsc_model.specs.declared.record.Record.{Record}
+use Rattle.nsc_rule.specs.declared.view.Walk.{Walk}
+use Rattle.nsc_arena.specs.ReadBack.{placed_in}
+use Rattle.nsc_rule.specs.declared.view.View.{View}
+use Rattle.nsc_rule.specs.Entries.{entry_of}
+use Rattle.nsc_rule.specs.Seats.{is_retired, reading, seen_by, walk_by}
+
+-- CYCLE was at the latest step what the search began with, and even
+abbrev pub IsSteady : Walk → Type 0
+IsSteady w = (w.known ≡ w.first) × (w.first % 2 ≡ 0)
+
+-- a search begins, behind all words
+abbrev pub begun_walk : Layout → Request → List Record → ℕ → Walk → Walk
+begun_walk layout request seen cycle w = record { searches = w.searches + 1; first = cycle; last = w.last; began = seen; request = request; known = cycle; place = table_words layout; on = None; gone = false }
+
+-- the fixed words of the node of an entry: all but its RELOADS, STATE and NEXT, by their numbers in the node
+pub record IsFixed (e : Entry) (index word : ℕ) : Type 0 where
+  pub number : index ≡ 0 → word ≡ e.number
+  pub shape : index ≡ 1 → word ≡ shape_word (type_number e.request.kind) (length e.request.key)
+  pub size : index ≡ 2 → word ≡ size_word (length e.answer.bytes) e.answer.not_found
+  pub version : index ≡ 3 → word ≡ e.version
+  pub timeout : index ≡ 4 → word ≡ e.timeout
+  pub key : (i : ℕ) → i < words_for (length e.request.key) → index ≡ 8 + i → word ≡ word_of e.request.key i
+  pub reply : (i : ℕ) → i < words_for (length e.answer.bytes) → index ≡ 8 + words_for (length e.request.key) + i → word ≡ word_of e.answer.bytes i
+
+-- the node of an entry stands at a place, within the arena
+pub record IsWithin (layout : Layout) (place : ℕ) (e : Entry) : Type 0 where
+  pub low : arena_start layout ≤ place
+  pub high : place + node_words (length e.request.key) (length e.answer.bytes) ≤ table_words layout
+  pub key : length e.request.key ≤ key_limit
+  pub reply : length e.answer.bytes ≤ kept_limit
+
+-- a walk goes to the place that a word of a chain had
+pub record Lands (layout : Layout) (old new : Walk) (found : ℕ) : Type 0 where
+  pub walk : new ≡ record old { known = new.known; place = found; on = new.on; gone = false }
+  pub known : old.known ≤ new.known
+  pub on : found ≢ 0 → (e : Entry) × (new.on ≡ Some e)
+  pub within : IsSteady new → (e : Entry) → new.on ≡ Some e → found ≢ 0 → IsWithin layout found e
+
+-- the entry on which a walk stands is of another request, or was found ended
+abbrev pub MayPass : Walk → Type 0
+MayPass w = (e : Entry) × (w.on ≡ Some e) × (IsSteady w → (e.request ≢ w.request) ⊎ (w.gone ≡ true))
+
+-- what a place leads to: the entry of the node there, or none at 0
+abbrev pub entry_at : List ℕ → ℕ → Option Entry
+entry_at words place = if place == 0 then None else Some (entry_of (placed_in words place))
+
+-- each live entry of the request was inserted since the search began
+abbrev pub NoneOlder : List Record → Walk → Type 0
+NoneOlder seen w = (e : Entry) → IsLive seen e → e.request ≡ w.request → loads w.began ≤ e.number
+
+-- ---- what the loads tell: of the view before, the word, and the view after
+
+-- CYCLE, where a search begins
+pub record BeginTells (layout : Layout) (request : Request) (v : View) (found : ℕ) (w : View) : Type 0 where
+  pub view : w ≡ reading (seen_by w) (is_retired v) (begun_walk layout request (seen_by w) found (walk_by v))
+  pub legal : Legal (seen_by w)
+  pub before : IsPrefix (seen_by v) (seen_by w)
+  pub most : found ≤ last_count
+
+-- a bucket's word
+pub record BucketTells (layout : Layout) (v : View) (found : ℕ) (w : View) : Type 0 where
+  pub view : w ≡ reading (seen_by v) (is_retired v) (walk_by w)
+  pub lands : Lands layout (walk_by v) (walk_by w) found
+
+-- a node's NEXT
+pub record NextTells (layout : Layout) (v : View) (found : ℕ) (w : View) : Type 0 where
+  pub view : w ≡ reading (seen_by v) (is_retired v) (walk_by w)
+  pub lands : Lands layout (walk_by v) (walk_by w) found
+  pub lower : IsSteady (walk_by w) → found < (walk_by v).place
+
+-- any word
+pub record FixedTells (at : ℕ) (v : View) (found : ℕ) (w : View) : Type 0 where
+  pub view : w ≡ reading (seen_by v) (is_retired v) (record (walk_by v) { known = (walk_by w).known })
+  pub known : (walk_by v).known ≤ (walk_by w).known
+  pub fixed : IsSteady (walk_by w) → (e : Entry) (index : ℕ) → (walk_by v).on ≡ Some e → at ≡ (walk_by v).place + index → IsFixed e index found
+
+-- a node's STATE
+pub record StateTells (v : View) (found : ℕ) (w : View) : Type 0 where
+  pub view : w ≡ reading (seen_by w) (is_retired v) (record (walk_by v) { known = (walk_by w).known; gone = not (found == 1) })
+  pub legal : Legal (seen_by w)
+  pub before : IsPrefix (seen_by v) (seen_by w)
+  pub known : (walk_by v).known ≤ (walk_by w).known
+  pub live : IsSteady (walk_by w) → (e : Entry) → (walk_by v).on ≡ Some e → found ≡ 1 → IsLive (seen_by w) e
+
+-- CYCLE, where a search ends
+pub record LastTells (v : View) (found : ℕ) (w : View) : Type 0 where
+  pub view : w ≡ reading (seen_by w) (is_retired v) (record (walk_by v) { known = found; last = found })
+  pub legal : Legal (seen_by w)
+  pub before : IsPrefix (seen_by v) (seen_by w)
+  pub first : (walk_by v).first ≤ (walk_by v).known
+  pub known : (walk_by v).known ≤ found
+  pub most : found ≤ last_count
+  pub none_older : IsSteady (walk_by w) → (walk_by v).place ≡ 0 → NoneOlder (seen_by w) (walk_by v)

@@ -1,0 +1,224 @@
+// The words of a table, as its one pen writes them.
+ghost use Rattle.std.specs.Prelude.{◌≡◌, ◌≢◌, ◌⊎◌, ◌+◌, ◌<◌, ◌≤◌, ◌==◌, if◌then◌else◌, Some, length, slice_index};
+ghost use Rattle.nsc_model.specs.History.{IsPrefix, NoneLive, newest};
+ghost use Rattle.nsc_model.specs.Machine.{last_count, next_count};
+ghost use Rattle.nsc_rule.specs.Plans.{IsEven, IsOdd, Sound};
+ghost use Rattle.nsc_rule.specs.Seats.{resting};
+ghost use Rattle.nsc_rule.specs.Strokes.{HasNode, IsReady, IsSlid, MayEnd, begun, changed, cleared, finished, invalidated, polled, published, reloaded, stored};
+
+use crate::finding::Found;
+use nsc_arena::Words;
+use nsc_model::{Content, Ending, next_count};
+use nsc_rule::{Map, Pass, Pen};
+use std::marker::Model;
+
+/// The words that the threads of a database share, and the pen that writes them. Each call is one step of the pen.
+#[derive(Drop)]
+pub struct Sheet {
+    map: Map,
+    pen: Pen,
+}
+
+impl Model for Sheet {
+    ghost use Rattle.std.specs.Prelude.{◌≡◌, false};
+    ghost use Rattle.nsc_rule.specs.Pen.{Pen};
+
+    ghost Value = { Pen };
+
+    ghost view = { λ s. s.pen };
+
+    ghost invariant = { λ s. (s.pen.table ≡ s.map.table) × (s.pen.plan.layout ≡ s.map.layout) × (s.pen.plan.retired ≡ false) };
+}
+
+impl Sheet {
+    ghost use Rattle.std.specs.Prelude.{false};
+
+    /// The words that a pen writes.
+    pub fn new(map: Map, pen: Pen) -> Sheet
+        requires table { pen.table ≡ map.table }
+        requires layout { pen.plan.layout ≡ map.layout }
+        requires active { pen.plan.retired ≡ false }
+        ensures { result ≡ pen }
+    {
+        Sheet { map, pen }
+    }
+
+    /// What holds of the pen's plan between any two steps.
+    pub fn learn(&self)
+        ensures { Sound self.now.plan }
+    {
+        self.pen.learn();
+    }
+
+    /// A handle on the words.
+    pub fn map(&self) -> &Map
+        ensures { result.now ≡ record { table = self.now.table; layout = self.now.plan.layout } }
+    {
+        &self.map
+    }
+
+    /// A head word. It takes no step.
+    pub fn head(&self, at: usize) -> u64
+        requires { at < 16 }
+        ensures { result ≡ slice_index self.now.plan.words at }
+    {
+        self.pen.head(at)
+    }
+
+    /// A pass that has seen the whole history, with no search.
+    pub fn pass(&mut self) -> Pass
+        ensures same { self.new ≡ self.old }
+        ensures pass { result ≡ record { table = self.old.table; seen = self.old.plan.seen; walk = resting } }
+    {
+        self.pen.pass(&self.map)
+    }
+
+    /// The pass has seen the whole history then, which begins with what it had seen. Its search stays.
+    pub fn show(&mut self, pass: &mut Pass)
+        requires { pass.old.table ≡ self.old.table }
+        ensures same { self.new ≡ self.old }
+        ensures pass { pass.new ≡ record pass.old { seen = self.old.plan.seen } }
+        ensures before { IsPrefix pass.old.seen self.old.plan.seen }
+    {
+        self.pen.show(&self.map, pass);
+    }
+
+    /// Sets a count at the head, or FIRST_FREE: one of the places 3 to 9.
+    pub fn set_count(&mut self, at: usize, count: u64)
+        requires low { 3 ≤ at }
+        requires high { at ≤ 9 }
+        ensures { self.new ≡ record self.old { plan = stored at count self.old.plan } }
+    {
+        self.pen.count(&self.map, at, count);
+    }
+
+    /// Counts one more of what the word at a place counts. A count stays at its end.
+    pub fn count(&mut self, at: usize)
+        requires low { 3 ≤ at }
+        requires high { at ≤ 9 }
+        ensures { self.new ≡ record self.old { plan = stored at (next_count (slice_index self.old.plan.words at)) self.old.plan } }
+    {
+        let count = self.head(at);
+        self.set_count(at, next_count(count));
+    }
+
+    /// Counts a lookup by the word at a place, or by the one behind it where its reply is a not-found one.
+    pub fn count_use(&mut self, at: usize, not_found: bool)
+        requires low { 3 ≤ at }
+        requires high { at ≤ 8 }
+        ensures { let place = (if not_found then at + 1 else at) in self.new ≡ record self.old { plan = stored place (next_count (slice_index self.old.plan.words place)) self.old.plan } }
+    {
+        if not_found {
+            self.count(at + 1);
+        } else {
+            self.count(at);
+        }
+    }
+
+    /// The reloads of a node that was found count anew. Where they are 0 already, it takes no step.
+    pub fn count_anew(&mut self, found: Found)
+        requires even { IsEven self.old.plan }
+        requires node { HasNode self.old.plan found.at }
+        ensures { self.new ≡ (if found.head.reloads == 0 then self.old else record self.old { plan = reloaded found.at 0 self.old.plan }) }
+    {
+        if found.head.reloads != 0 {
+            self.pen.reloads(&self.map, found.at, 0);
+        }
+    }
+
+    /// Links the node that was written behind the others, which adds the record of its insertion.
+    pub fn publish(&mut self, bucket: usize, at: usize)
+        requires { IsReady self.old.plan bucket at }
+        ensures { self.new ≡ record self.old { plan = published bucket at self.old.plan } }
+    {
+        self.pen.publish(&self.map, bucket, at);
+    }
+
+    /// Ends the usable node at a place, which adds the record of its end.
+    pub fn end(&mut self, place: usize, cause: Ending)
+        requires even { IsEven self.old.plan }
+        requires node { MayEnd self.old.plan place cause }
+        ensures { self.new ≡ record self.old { plan = cleared place cause self.old.plan } }
+    {
+        self.pen.clear_state(&self.map, place, cause);
+    }
+
+    /// Begins a slide.
+    pub fn begin(&mut self)
+        requires even { IsEven self.old.plan }
+        requires room { slice_index self.old.plan.words 0 < last_count }
+        ensures { self.new ≡ record self.old { plan = begun self.old.plan } }
+    {
+        self.pen.odd(&self.map);
+    }
+
+    /// Sets a word of a slide: FIRST_FREE, a bucket's, or one of the arena.
+    pub fn slide_word(&mut self, at: usize, word: u64)
+        requires odd { IsOdd self.old.plan }
+        requires place { (at ≡ 3) ⊎ (16 ≤ at) }
+        requires inside { at < length self.old.plan.words }
+        ensures { self.new ≡ record self.old { plan = stored at word self.old.plan } }
+    {
+        self.pen.learn();
+        self.pen.slide_word(&self.map, at, word);
+    }
+
+    /// Ends a slide, once the words show the live entries again.
+    pub fn finish(&mut self)
+        requires odd { IsOdd self.old.plan }
+        requires slid { IsSlid self.old.plan }
+        ensures { self.new ≡ record self.old { plan = finished self.old.plan } }
+    {
+        self.pen.even(&self.map);
+    }
+
+    /// Counts an invalidation, and adds its record. No entry is live.
+    pub fn invalidate(&mut self)
+        requires ended { NoneLive self.old.plan.seen }
+        requires room { slice_index self.old.plan.words 1 < last_count }
+        ensures { self.new ≡ record self.old { plan = invalidated self.old.plan } }
+    {
+        self.pen.epoch(&self.map);
+    }
+
+    /// Adds the record of a poll that confirms the newest version.
+    pub fn poll(&mut self)
+        ensures { self.new ≡ record self.old { plan = polled self.old.plan } }
+    {
+        self.pen.poll(&self.map);
+    }
+
+    /// Adds the record of a new version, which has this content.
+    pub fn change(&mut self, content: &Content)
+        requires new { newest self.old.plan.seen ≢ Some content.now }
+        requires room { slice_index self.old.plan.words 2 < last_count }
+        ensures { self.new ≡ record self.old { plan = changed content.now self.old.plan } }
+    {
+        self.pen.change(&self.map, content);
+    }
+}
+
+impl Words for Sheet {
+    ghost use Rattle.nsc_shelf.specs.Sheet.{is_free, with_cycle_alone};
+
+    ghost words = { λ s. s.plan.words };
+
+    ghost rest = { with_cycle_alone };
+
+    ghost can_set = { is_free };
+
+    fn len(&self) -> usize {
+        self.pen.learn();
+        self.map.layout().words()
+    }
+
+    fn get(&mut self, at: usize) -> u64 {
+        self.pen.learn();
+        self.pen.load(&self.map, at)
+    }
+
+    fn set(&mut self, at: usize, value: u64) {
+        self.pen.learn();
+        self.pen.store(&self.map, at, value);
+    }
+}

@@ -1,0 +1,102 @@
+// Lookups of entries, and the list of them.
+ghost use Rattle.std.specs.Prelude.{◌≡◌, ◌≤◌, None, IfNone, IfSome};
+ghost use Rattle.nsc_model.specs.Entry.{key_limit, kept_limit};
+ghost use Rattle.nsc_model.specs.Machine.{live_entry, used_now};
+ghost use Rattle.nsc_shelf.specs.Shelf.{GivesHit, IsTold, entry_from, number_of};
+ghost use Rattle.nsc_shelf.specs.Uses.{counted};
+ghost use Rattle.nsc_writer.specs.Writer.{IsListed};
+
+use crate::writer::Writer;
+use nsc_arena::{head_at, walk};
+use nsc_base::Buf;
+use nsc_model::Kind;
+use nsc_shelf::{EntryAt, Found, Hit, find, find_from, read_key, read_reply};
+use nsc_words::{HITS, MISSES, hash};
+
+impl Writer {
+    /// Counts a lookup that made an answer anew.
+    pub fn miss(&mut self, not_found: bool)
+        requires { self.old.slide ≡ None }
+        ensures { self.new ≡ record self.old { misses = counted not_found self.old.misses } }
+    {
+        self.sheet.count_use(MISSES, not_found);
+    }
+
+    /// The live entry that answers the request of this kind and key, if there is one: the buffer then has its reply, its count
+    /// of reloads begins anew, and a hit is counted. Its time is not looked at.
+    pub fn search(&mut self, kind: Kind, key: &[u8], reply: &mut Buf) -> Option<Hit>
+        requires limit { kept_limit ≤ reply.old.limit }
+        requires still { self.old.slide ≡ None }
+        ensures gives { GivesHit (live_entry (record { kind = kind; key = key.now }) self.old.cache.entries) result reply.new.content }
+        ensures stays { IfNone result (self.new ≡ self.old) }
+        ensures used { IfSome result (λ hit. self.new ≡ record self.old { cache = record self.old.cache { entries = used_now (record { kind = kind; key = key.now }) self.old.cache.entries }; hits = counted hit.not_found self.old.hits }) }
+        ensures limit { reply.new.limit ≡ reply.old.limit }
+    {
+        reply.clear();
+        let Some(at) = find(
+            &mut self.sheet,
+            self.layout,
+            &mut self.hints,
+            kind.number(),
+            key,
+        ) else {
+            return None;
+        };
+        let head = head_at(&mut self.sheet, at);
+        let found = Found { at, head };
+        read_reply(&mut self.sheet, found, reply);
+        self.sheet.count_anew(found);
+        self.sheet.count_use(HITS, head.not_found);
+        Some(Hit {
+            number: head.number,
+            version: head.version,
+            not_found: head.not_found,
+        })
+    }
+
+    // The number of the entry that answers the request of this kind and key, if there is one.
+    pub(crate) fn number_of(&mut self, kind: Kind, key: &[u8]) -> Option<u64>
+        requires { self.old.slide ≡ None }
+        ensures number { result ≡ number_of (live_entry (record { kind = kind; key = key.now }) self.old.cache.entries) }
+        ensures same { self.new ≡ self.old }
+    {
+        let number = kind.number();
+        match walk(&mut self.sheet, self.layout, hash(number, key), number, key) {
+            Some(at) => Some(head_at(&mut self.sheet, at).number),
+            None => None,
+        }
+    }
+
+    /// The oldest live entry whose number is at least this one, with its key and its reply in the buffers; `None` where there is none,
+    /// which leaves the buffers empty. The list begins at 0, and each entry says from where on the next one is found.
+    pub fn entry(&mut self, at: usize, key: &mut Buf, reply: &mut Buf) -> Option<EntryAt>
+        requires key { key_limit ≤ key.old.limit }
+        requires reply { kept_limit ≤ reply.old.limit }
+        requires still { self.old.slide ≡ None }
+        ensures entry { IsListed (entry_from at self.old.cache.entries) result key.new.content reply.new.content }
+        ensures same { self.new ≡ self.old }
+        ensures key { key.new.limit ≡ key.old.limit }
+        ensures reply { reply.new.limit ≡ reply.old.limit }
+    {
+        key.clear();
+        reply.clear();
+        let Some(found) = find_from(&mut self.sheet, self.layout, &mut self.mark, at as u64) else {
+            return None;
+        };
+        read_key(&mut self.sheet, found, key);
+        read_reply(&mut self.sheet, found, reply);
+        Some(EntryAt::of(found.head))
+    }
+
+    /// The same without its key and its reply.
+    pub fn next(&mut self, at: usize) -> Option<EntryAt>
+        requires { self.old.slide ≡ None }
+        ensures told { IsTold (entry_from at self.old.cache.entries) result }
+        ensures same { self.new ≡ self.old }
+    {
+        let Some(found) = find_from(&mut self.sheet, self.layout, &mut self.mark, at as u64) else {
+            return None;
+        };
+        Some(EntryAt::of(found.head))
+    }
+}
