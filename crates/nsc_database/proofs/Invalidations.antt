@@ -1,16 +1,24 @@
 -- What an invalidation leaves of a writer, with and without its compaction.
-use Rattle.std.proofs.Common.{◌≡◌, ℕ, ◌+◌, ◌≤◌, List, [], ◌∷◌, length, refl, sym, ap, subst, ◌∙◌, arith, inr}
-use Rattle.nsc_model.specs.Machine.{Kept, all_words, by_invalidation, ends_of, last_count}
+use Rattle.std.proofs.Common.{◌≡◌, ℕ, ◌+◌, ◌≤◌, List, [], ◌∷◌, length, refl, sym, ap, subst, ◌∙◌, arith, inl, inr, Result, Ok, Err}
+use Rattle.std.specs.Prelude.{IfErr, IfOk}
+use Rattle.nsc_model.specs.declared.record.Record.{Record}
+use Rattle.nsc_model.specs.declared.store.Spent.{Spent}
+use Rattle.nsc_model.specs.History.{NoneLive, invalidations}
+use Rattle.nsc_model.specs.Machine.{Kept, all_words, by_invalidation, ends_of, invalidated, last_count}
 use Rattle.nsc_model.specs.Reloads.{ends}
-use Rattle.nsc_model.specs.Stores.{IsUnmoved}
+use Rattle.nsc_model.specs.Stores.{IsEmptied, IsUnmoved}
 use Rattle.nsc_laws.specs.Calls.{Tells}
 use Rattle.nsc_writer.specs.Writer.{Writer, emptied_by}
+use Rattle.nsc_writer.proofs.Told.{emptied_tells}
+use Rattle.nsc_turns.specs.Turns.{Passes, Stops}
+use Rattle.nsc_turns.proofs.Emptied.{IsStopped, passes_left, stops_left}
 use Rattle.nsc_database.specs.Rests.{FindsNewest, IsPacked, Rests}
 use Rattle.nsc_database.specs.Ticks.{compacted_by}
 use Rattle.nsc_model.specs.Stores.{LoadsAgain}
 use Rattle.nsc_model.specs.declared.record.Record.TheVariants.{Invalid}
 use Rattle.nsc_database.proofs.Again.{again_ends, again_more}
-use Rattle.nsc_database.proofs.Shown.{emptied_on}
+use Rattle.nsc_database.proofs.Rests.{rests_same}
+use Rattle.nsc_database.proofs.Shown.{emptied_on, is_emptied}
 use Rattle.nsc_database.proofs.Steady.{version_emptied}
 use Rattle.nsc_database.proofs.Ended.{ends_through, keeps_compacted, keeps_emptied, keeps_newest, packed_compacted, packed_spent}
 
@@ -55,7 +63,7 @@ rests_compacted w w' w'' empty t some is =
     })
 
 -- where the count of the beginnings and the ends of slides stands at its end
-pub rests_spent : (w w' w'' : Writer) → w' ≡ emptied_by w → Tells w.seen w.cache → w'.cache.cycle ≡ last_count → w'' ≡ w' → Rests w w''
+pub rests_spent : (w w' w'' : Writer) → w' ≡ emptied_by w → Tells w.seen w.cache → last_count ≤ w'.cache.cycle → w'' ≡ w' → Rests w w''
 rests_spent w w' w'' empty t last is = subst (Rests w) (sym is) (rests_from w w' empty t (λ p. packed_spent w' w' refl (omega arith)
     (let more = left_ends w w' empty in let low = p.cycles in let cycle : w'.cache.cycle ≡ w.cache.cycle = ap (λ (x : Writer). x.cache.cycle) empty in omega arith)))
 
@@ -68,3 +76,31 @@ finds_left w w' is t settings limit ticked k = keeps_newest settings limit ticke
 pub finds_compacted : (w w' w'' : Writer) → w' ≡ emptied_by w → Tells w.seen w.cache → w'' ≡ compacted_by w' → FindsNewest w w''
 finds_compacted w w' w'' empty t is settings limit ticked k =
     keeps_compacted settings limit w.cache.newest_version (all_words w'.cache.entries) (w'.cache.cycle + 2) w' w'' is (finds_left w w' empty t settings limit ticked k)
+
+-- ---- the turn
+
+pub rests_emptied : (w w' : Writer) → Passes (invalidated w.cache) w w' → Tells w.seen w.cache → Rests w w'
+rests_emptied w w' p t = elim (passes_left w w' p) [ inl (none, is) ↦ rests_left w w' is t none | inr (some, is) ↦ rests_compacted w (emptied_by w) w' refl t some is ]
+
+pub finds_emptied : (w w' : Writer) → Passes (invalidated w.cache) w w' → Tells w.seen w.cache → FindsNewest w w'
+finds_emptied w w' p t = elim (passes_left w w' p) [ inl (none, is) ↦ finds_left w w' is t | inr (some, is) ↦ finds_compacted w (emptied_by w) w' refl t is ]
+
+pub passes_emptied : (w w' : Writer) (epoch : ℕ) → Passes (invalidated w.cache) w w' → Tells w.seen w.cache → epoch ≡ w'.cache.epoch → IsEmptied w.seen w'.seen epoch
+passes_emptied w w' epoch p t counted =
+    let left : (w'.seen ≡ (emptied_by w).seen) × (w'.cache.epoch ≡ w.cache.epoch + 1) = elim (passes_left w w' p) [ inl (none, is) ↦ (ap (λ (x : Writer). x.seen) is, ap (λ (x : Writer). x.cache.epoch) is) | inr (some, is) ↦ (ap (λ (x : Writer). x.seen) is, ap (λ (x : Writer). x.cache.epoch) is) ] in
+    subst (λ (h : List Record). IsEmptied w.seen h epoch) (sym left.0) (is_emptied w (emptied_by w) epoch t (emptied_tells w.seen w.cache t) (counted ∙ left.1) refl)
+
+pub rests_stopped : (w w' : Writer) (count : ℕ) → Stops (invalidated w.cache) count w w' → Tells w.seen w.cache → Rests w w'
+rests_stopped w w' count s t = elim (stops_left w w' count s).1 [ inl (last, is) ↦ rests_same w w' is | inr (high, is) ↦ rests_spent w (emptied_by w) w' refl t high is ]
+
+pub stops_unmoved : (w w' : Writer) (count : ℕ) → Stops (invalidated w.cache) count w w' → Tells w.seen w.cache → IsPacked w → IsUnmoved w'.seen count (NoneLive w'.seen)
+stops_unmoved w w' count s t packed = by_cause (stops_left w w' count s) where
+  by_cause : IsStopped w count w' → IsUnmoved w'.seen count (NoneLive w'.seen)
+  by_cause (at, inl (last, is)) = record { last = at; cause = inl (ap (λ (x : Writer). invalidations x.seen) is ∙ t.epochs_are ∙ last ∙ sym at) }
+  by_cause (at, inr (high, is)) =
+      let none = (is_emptied w (emptied_by w) (w.cache.epoch + 1) t (emptied_tells w.seen w.cache t) refl refl).none in
+      packed_unmoved w' count (NoneLive w'.seen) ((rests_stopped w w' count s t).packed packed) (subst (λ (x : Writer). last_count ≤ x.cache.cycle) (sym is) high) at (subst (λ (x : Writer). NoneLive x.seen) (sym is) none)
+
+pub rests_invalidated : (r : Result ℕ Spent) (w w' : Writer) → IfOk r (λ epoch. Passes (invalidated w.cache) w w') → IfErr r (λ spent. Stops (invalidated w.cache) spent.count w w') → Tells w.seen w.cache → Rests w w'
+rests_invalidated (Ok epoch) w w' p s t = rests_emptied w w' p t
+rests_invalidated (Err spent) w w' p s t = rests_stopped w w' spent.count s t

@@ -12,3 +12,4 @@ pub mod Ticked
 pub mod Crossing
 pub mod Again
 pub mod Reloading
+pub mod Checked

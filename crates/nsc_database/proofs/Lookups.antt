@@ -23,7 +23,7 @@ use Rattle.nsc_writer.specs.Writer.{IsAnswered}
 use Rattle.nsc_writer.proofs.Later.{prefix_through, version_on, load_on, end_on}
 use Rattle.nsc_sourcebook.specs.Book.{Polled}
 use Rattle.nsc_database.specs.Holds.{IsInserted, IsPolled}
-use Rattle.nsc_database.specs.declared.holds.HitOrMiss.TheVariants as looked
+use Rattle.nsc_turns.specs.declared.entries.HitOrMiss.TheVariants as looked
 use Rattle.nsc_database.specs.Lookups.{IsFoundIfCached, IsTried, given_by}
 use Rattle.nsc_database.proofs.Shown.{prefix_length, invalidations_on, loads_on}
 

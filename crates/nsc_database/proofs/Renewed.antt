@@ -1,15 +1,19 @@
 -- The ends of a tick with their compaction, and what is loaded again after them.
-use Rattle.std.proofs.Common.{◌≡◌, ◌∙◌, drop, ℕ, zero, suc, ◌+◌, ◌<◌, ◌≤◌, ◌⊎◌, Bool, true, false, All, List, [], ◌∷◌, cond, get_or, length, map, Option, Some, None, refl, sym, ap, subst, arith, inl, inr}
+use Rattle.std.proofs.Common.{◌≡◌, ◌∙◌, drop, ℕ, zero, suc, ◌+◌, ◌<◌, ◌≤◌, ◌⊎◌, Bool, true, false, All, List, [], ◌∷◌, cond, ltb, get_or, length, map, Option, Some, None, Result, Ok, Err, refl, sym, ap, subst, arith, inl, inr}
 use Rattle.std.proofs.Math.Nat.{min-le_left}
-use Rattle.nsc_model.specs.Answers.{answer_of}
+use Rattle.std.proofs.lemmas.List.{length-map}
+use Rattle.std.specs.Bool.{OnFalse, OnTrue}
+use Rattle.std.specs.Prelude.{IfErr, IfSome, OnOk}
+use Rattle.nsc_model.specs.declared.store.Spent.{Spent}
+use Rattle.std.proofs.lemmas.Bool.{false≢true}
 use Rattle.nsc_model.specs.declared.conf.DbConf.{DbConf}
 use Rattle.nsc_model.specs.declared.kind.Db.{Db}
 use Rattle.nsc_model.specs.Content.{Content}
 use Rattle.nsc_model.specs.declared.record.Record.{Record}
 use Rattle.nsc_model.specs.History.{HasEnd, IsPrefix, Legal, PolledSince, version_in}
-use Rattle.nsc_model.specs.Machine.{all_words, last_count, life_of, next_count}
+use Rattle.nsc_model.specs.Machine.{all_words, last_count, next_count, stopped, unchanged}
 use Rattle.nsc_model.specs.Reloads.{replaced}
-use Rattle.nsc_model.specs.Stores.{LoadsAgain}
+use Rattle.nsc_model.specs.Stores.{IsUnmoved, LoadsAgain}
 use Rattle.nsc_laws.specs.Calls.{Tells}
 use Rattle.nsc_writer.specs.declared.loaded.Inserted.{Inserted}
 use Rattle.nsc_writer.specs.declared.loaded.Inserted.TheVariants as inserted
@@ -18,16 +22,24 @@ use Rattle.nsc_words.specs.declared.layout.Layout.{Layout}
 use Rattle.nsc_pruner.specs.Due.{Due, IsOver, due_cause_of, marked_by, pruned_by, pruned_one}
 use Rattle.nsc_writer.specs.Loaded.{Loaded}
 use Rattle.nsc_writer.specs.Writer.{Inserts, IsAnswered, IsRefused, Writer, ending_of, without_entry}
-use Rattle.nsc_pruner.proofs.Pruned.{split_at}
-use Rattle.nsc_sourcebook.specs.Book.{Polled}
+use Rattle.nsc_pruner.proofs.Pruned.{head_of, tail_of}
+use Rattle.nsc_turns.specs.declared.answering.Answering.{Answering}
+use Rattle.nsc_turns.specs.Loads.{anew_of, loaded_of}
+use Rattle.nsc_turns.specs.Ticks.{Reloads, ReloadsOne, Renews, compacted_for, ended_of}
+use Rattle.nsc_turns.specs.Turns.{Passes, Stops}
+use Rattle.nsc_turns.proofs.Machines.{all_answered}
+use Rattle.nsc_turns.proofs.Renewed.{answered_on, spends}
+use Rattle.nsc_writer.proofs.Later.{end_on, polled_on, version_on}
 use Rattle.nsc_database.specs.Rests.{IsPacked, Keeps, Rests, IsAtRest}
 use Rattle.nsc_database.specs.Steady.{KeepsVersion}
-use Rattle.nsc_database.specs.Ticks.{AreAnew, AwaitsLoads, HasNumber, IsAnew, IsDue, IsPending, IsRenewed, IsSwept, HaveStamp, LoadsBut, anew_of, compacted_by, ended_of}
-use Rattle.nsc_database.proofs.Shown.{answered_on}
-use Rattle.nsc_database.proofs.Ended.{keeps_compacted, packed_compacted, packed_spent, replaced_on}
-use Rattle.nsc_database.proofs.Pruning.{all_count, all_leave, anew_marked}
+use Rattle.nsc_database.specs.Ticks.{AreAnew, AreOver, HasNumber, IsDue, IsPending, IsRenewed, LoadsBut, compacted_by}
+use Rattle.nsc_database.proofs.Again.{none_but}
+use Rattle.nsc_database.proofs.Invalidations.{packed_unmoved}
+use Rattle.nsc_database.proofs.Ended.{keeps_compacted, packed_compacted, packed_spent}
+use Rattle.nsc_laws.proofs.Reloads.{replaced_on}
+use Rattle.nsc_database.proofs.Pruning.{all_count, all_leave}
 use Rattle.nsc_database.proofs.Reloading.{pend_inserted, pend_past, pends}
-use Rattle.nsc_database.proofs.Rests.{rests_inserted, rests_through}
+use Rattle.nsc_database.proofs.Rests.{rests_inserted, rests_same, rests_through}
 use Rattle.nsc_database.proofs.Steady.{keeps_through, still_kept, version_pruned}
 
 -- ends leave the count of invalidations
@@ -59,36 +71,51 @@ waits_of : (settings : DbConf) (limit : Option ℕ) (now ticked : ℕ) (due : Li
 waits_of settings limit now ticked due w all t k layout again =
     subst (λ (n : ℕ). LoadsBut n (IsPending (marked_by now due w)) (pruned_by now due w).seen) (sym (ap (λ (x : Layout). x.arena) layout)) (pends settings limit now ticked w.layout.arena due w all t k again)
 
-pub swept_leaves : (settings : DbConf) (limit : Option ℕ) (now ticked : ℕ) (due : List Due) (w w' : Writer) → All (IsDue limit now w.seen) due → Tells w.seen w.cache → Keeps settings limit ticked w → IsPacked w → IsSwept now due w w' → Swept settings limit now ticked due w w'
-swept_leaves settings limit now ticked due w w' all t k p s = by_case s.swept where
-  by_case : ((ended_of (marked_by now due w) ≡ []) × (w' ≡ pruned_by now due w)) ⊎ ((1 ≤ length (ended_of (marked_by now due w))) × (w' ≡ compacted_by (pruned_by now due w))) → Swept settings limit now ticked due w w'
-  by_case (inl (none, is)) =
-      let l = all_leave settings limit now ticked due w all t k in
-      let c = all_count settings limit now ticked due w all t k in
-      let same = c.same (ap (λ (ds : List Due). length ds) none) in
-      subst (Swept settings limit now ticked due w) (sym is)
-      (record { legal = l.told.legal; on = l.on; table = l.table; layout = l.layout; slide = l.slide; keeps = l.keeps; packed = subst IsPacked (sym same) p; gone = l.gone; renewed = c.renewed; epoch = epoch_pruned now due w; waits = waits_of settings limit now ticked due w all t k l.layout; version = version_pruned now due w })
-  by_case (inr (some, is)) =
-      let l = all_leave settings limit now ticked due w all t k in
-      let c = all_count settings limit now ticked due w all t k in
-      let w1 = pruned_by now due w in
-      let low = p.cycles in
-      let cycle = l.cycle in
-      let more = c.ended in
-      subst (Swept settings limit now ticked due w) (sym is) (record {
-        legal = l.told.legal;
-        on = l.on;
-        table = l.table;
-        layout = l.layout;
-        slide = l.slide;
-        keeps = keeps_compacted settings limit ticked (all_words w1.cache.entries) (w1.cache.cycle + 2) w1 (compacted_by w1) refl l.keeps;
-        packed = packed_compacted w1 (compacted_by w1) refl (omega arith);
-        gone = l.gone;
-        renewed = c.renewed;
-        epoch = epoch_pruned now due w;
-        waits = waits_of settings limit now ticked due w all t k l.layout;
-        version = let v = version_pruned now due w in record { version = v.version; sources = v.sources };
-      })
+-- nothing ended, and nothing was compacted
+swept_none : (settings : DbConf) (limit : Option ℕ) (now ticked : ℕ) (due : List Due) (w : Writer) → All (IsDue limit now w.seen) due → Tells w.seen w.cache → Keeps settings limit ticked w → IsPacked w → ended_of (marked_by now due w) ≡ [] → Swept settings limit now ticked due w (pruned_by now due w)
+swept_none settings limit now ticked due w all t k p none =
+    let l = all_leave settings limit now ticked due w all t k in
+    let c = all_count settings limit now ticked due w all t k in
+    let same = c.same (ap (λ (ds : List Due). length ds) none) in
+    record { legal = l.told.legal; on = l.on; table = l.table; layout = l.layout; slide = l.slide; keeps = l.keeps; packed = subst IsPacked (sym same) p; gone = l.gone; renewed = c.renewed; epoch = epoch_pruned now due w; waits = waits_of settings limit now ticked due w all t k l.layout; version = version_pruned now due w }
+
+-- some ended, and there was a compaction
+swept_some : (settings : DbConf) (limit : Option ℕ) (now ticked : ℕ) (due : List Due) (w : Writer) → All (IsDue limit now w.seen) due → Tells w.seen w.cache → Keeps settings limit ticked w → IsPacked w → 1 ≤ length (ended_of (marked_by now due w)) → Swept settings limit now ticked due w (compacted_by (pruned_by now due w))
+swept_some settings limit now ticked due w all t k p some =
+    let l = all_leave settings limit now ticked due w all t k in
+    let c = all_count settings limit now ticked due w all t k in
+    let w1 = pruned_by now due w in
+    let low = p.cycles in
+    let cycle = l.cycle in
+    let more = c.ended in
+    let v = version_pruned now due w in
+    record {
+      legal = l.told.legal;
+      on = l.on;
+      table = l.table;
+      layout = l.layout;
+      slide = l.slide;
+      keeps = keeps_compacted settings limit ticked (all_words w1.cache.entries) (w1.cache.cycle + 2) w1 (compacted_by w1) refl l.keeps;
+      packed = packed_compacted w1 (compacted_by w1) refl (omega arith);
+      gone = l.gone;
+      renewed = c.renewed;
+      epoch = epoch_pruned now due w;
+      waits = waits_of settings limit now ticked due w all t k l.layout;
+      version = record { version = v.version; sources = v.sources };
+    }
+
+pub swept_leaves : (settings : DbConf) (limit : Option ℕ) (now ticked : ℕ) (due : List Due) (w w' : Writer) → All (IsDue limit now w.seen) due → Tells w.seen w.cache → Keeps settings limit ticked w → IsPacked w → Passes (compacted_for (ended_of (marked_by now due w)) (pruned_by now due w).cache) (pruned_by now due w) w' → Swept settings limit now ticked due w w'
+swept_leaves settings limit now ticked due w w' all t k p s = by_ended (ended_of (marked_by now due w)) refl s where
+  w1 : Writer
+  w1 = pruned_by now due w
+
+  by_cycle : (b : Bool) → 1 ≤ length (ended_of (marked_by now due w)) → Passes (cond b (Ok (unchanged (record w1.cache { cycle = w1.cache.cycle + 2; used = all_words w1.cache.entries }))) (Err (stopped w1.cache))) w1 w' → Swept settings limit now ticked due w w'
+  by_cycle true some q = subst (Swept settings limit now ticked due w) (sym q) (swept_some settings limit now ticked due w all t k p some)
+  by_cycle false some q = absurd q
+
+  by_ended : (ended : List Due) → ended_of (marked_by now due w) ≡ ended → Passes (compacted_for ended w1.cache) w1 w' → Swept settings limit now ticked due w w'
+  by_ended [] none q = subst (Swept settings limit now ticked due w) (sym q) (swept_none settings limit now ticked due w all t k p none)
+  by_ended (d ∷ ended) some q = by_cycle (ltb w1.cache.cycle last_count) (let count = ap (λ (ds : List Due). length ds) some in omega arith) q
 
 -- where the count of the beginnings and the ends of slides stands at its end
 pub swept_spent : (settings : DbConf) (limit : Option ℕ) (now ticked : ℕ) (due : List Due) (w w' : Writer) → All (IsDue limit now w.seen) due → Tells w.seen w.cache → Keeps settings limit ticked w → IsPacked w → w' ≡ pruned_by now due w → last_count ≤ w'.cache.cycle
@@ -109,24 +136,26 @@ all_over limit now h due all i d low = let x = all i d low in (x.entry, x.insert
 
 -- ---- what is loaded again
 
-pub anew_on : (a b : List Record) (due : List Due) (loads : List (Option Loaded)) → Legal a → Legal b → IsPrefix a b → AreAnew a due loads → AreAnew b due loads
-anew_on a b [] [] la lb p n = n
-anew_on a b [] (load ∷ loads) la lb p n = n
-anew_on a b (d ∷ due) [] la lb p n = n
-anew_on a b (d ∷ due) (None ∷ loads) la lb p n = (n.0, anew_on a b due loads la lb p n.1)
-anew_on a b (d ∷ due) (Some l ∷ loads) la lb p n = ((n.0.0, n.0.1, n.0.2, answered_on a b l lb la p n.0.3), anew_on a b due loads la lb p n.1)
-
-pub awaits_swept : {settings : DbConf} {limit : Option ℕ} {ticked : ℕ} (now epoch : ℕ) (due : List Due) (loads : List (Option Loaded)) (w w' : Writer) → Swept settings limit now ticked due w w' → Legal w.seen → w.slide ≡ None → LoadsAgain w.layout.arena w.seen → AreAnew w.seen due loads → HaveStamp epoch loads → w.cache.epoch ≡ epoch
-    → AwaitsLoads (marked_by now due w) loads w'
-awaits_swept {settings} {limit} {ticked} now epoch due loads w w' s legal still again anew stamps same = record {
-  legal = s.legal;
-  due = s.renewed;
-  loads = anew_marked now w'.seen due w loads (anew_on w.seen w'.seen due loads legal s.legal s.on anew);
-  stamps = subst (λ (n : ℕ). HaveStamp n loads) (sym (s.epoch ∙ same)) stamps;
-  packed = s.packed;
-  slide = s.slide ∙ still;
-  waits = s.waits again;
+pub anew_on : (a b : List Record) (epoch : ℕ) (due : List Due) (loads : List (Option Loaded)) → Legal a → Legal b → IsPrefix a b → AreAnew a epoch due loads → AreAnew b epoch due loads
+anew_on a b epoch due loads la lb p n = record {
+  answering = n.answering;
+  files = n.files;
+  version = version_on a b n.answering.stamp.version n.files lb la p n.version;
+  since = polled_on a b n.answering.stamp.version n.answering.stamp.epoch p n.since;
+  stamped = n.stamped;
+  made = n.made;
 }
+
+pub answered_anew : (h : List Record) (epoch : ℕ) (due : List Due) (loads : List (Option Loaded)) → AreAnew h epoch due loads → All (λ load. IfSome load (IsAnswered h)) loads
+answered_anew h epoch due loads n = subst (λ (ls : List (Option Loaded)). All (λ load. IfSome load (IsAnswered h)) ls) (sym n.made) (all_answered n.answering n.files h due n.version n.since)
+
+pub as_many : (h : List Record) (epoch : ℕ) (due : List Due) (loads : List (Option Loaded)) → AreAnew h epoch due loads → length loads ≤ length due
+as_many h epoch due loads n = let same : length loads ≡ length (map (anew_of n.answering n.files) due) = ap (λ (ls : List (Option Loaded)). length ls) n.made in omega (arith, length-map due (anew_of n.answering n.files))
+
+-- the marks make no difference
+anew_marked : (a : Answering) (files : Content) (now : ℕ) (due : List Due) (w : Writer) → map (anew_of a files) (marked_by now due w) ≡ map (anew_of a files) due
+anew_marked a files now [] w = refl
+anew_marked a files now (d ∷ due) w = ap (λ (l : List (Option Loaded)). anew_of a files d ∷ l) (anew_marked a files now due (pruned_one now d w))
 
 -- the lock's writer after it
 pub at_rest_swept : {settings : DbConf} {limit : Option ℕ} {held : Option Content} {which : Db} {ticked : ℕ} {now : ℕ} {due : List Due} (w w' w'' : Writer) → Swept settings limit now ticked due w w' → Rests w' w'' → LoadsAgain w''.layout.arena w''.seen → IsAtRest settings limit held which ticked w → IsAtRest settings limit held which ticked w''
@@ -138,74 +167,8 @@ at_rest_swept {settings} {limit} {held} {which} {ticked} {now} {due} w w' w'' s 
   r.slide ∙ s.slide ∙ st.4,
 )
 
--- the one at a place
-pub anew_at : (h : List Record) (due : List Due) (loads : List (Option Loaded)) (i : ℕ) (d : Due) (o : Option Loaded) (l : Loaded) → AreAnew h due loads → i < length loads → get_or loads i o ≡ Some l → (i < length due) × IsAnew h (get_or due i d) (Some l)
-anew_at h [] [] i d o l n low is = absurd (omega arith)
-anew_at h [] (load ∷ loads) i d o l n low is = absurd n
-anew_at h (e ∷ due) [] i d o l n low is = absurd n
-anew_at h (e ∷ due) (load ∷ loads) zero d o l n low is = (omega arith, subst (IsAnew h e) is n.0)
-anew_at h (e ∷ due) (load ∷ loads) (suc i) d o l n low is = let r = anew_at h due loads i d o l n.1 (omega arith) is in let first = r.0 in (omega arith, r.1)
-
--- one insertion
-pub reloads_one : (h : List Record) (d : Due) (l : Loaded) (said : Inserted) (w0 w w' : Writer) → h ≡ w0.seen → Rests w0 w → IsRenewed h d → d.ended ≡ true → IsAnew h d (Some l) → Inserts said l w w' → Rests w0 w'
-reloads_one h d l said w0 w w' same r renewed ended anew i =
-    let low = renewed ended anew.0 in
-    let few = anew.2 in
-    let rise = replaced_on h w.seen d.request (subst (λ (x : List Record). IsPrefix x w.seen) (sym same) r.on) in
-    let asked : replaced w.seen l.request ≡ replaced w.seen d.request = ap (replaced w.seen) anew.1 in
-    rests_through w0 w w' r (rests_inserted said l w w' i (omega arith))
-
 next_low : (n : ℕ) → next_count n ≤ n + 1
 next_low n = min-le_left (n + 1) last_count
-
-pub anew_all : (settings : DbConf) (now : ℕ) (h : List Record) (polled : Polled) (due : List Due) → version_in h polled.stamp.version ≡ Some polled.content → PolledSince h polled.stamp.version polled.stamp.epoch → AreAnew h due (map (anew_of settings polled now) due)
-anew_all settings now h polled [] version since = tt
-anew_all settings now h polled (d ∷ due) version since = (by_drop d.dropped refl, anew_all settings now h polled due version since) where
-  by_drop : (b : Bool) → d.dropped ≡ b → IsAnew h d (cond b None (Some (record { request = d.request; answer = answer_of polled.content d.request; stamp = polled.stamp; timeout = now + life_of settings (answer_of polled.content d.request); reloads = next_count d.reloads })))
-  by_drop true is = is
-  by_drop false is = (is, refl, next_low d.reloads, record { files = polled.content; version = version; answer = refl; polled = since })
-
-pub stamps_all : (settings : DbConf) (now : ℕ) (polled : Polled) (due : List Due) → HaveStamp polled.stamp.epoch (map (anew_of settings polled now) due)
-stamps_all settings now polled [] = tt
-stamps_all settings now polled (d ∷ due) = by_drop d.dropped (stamps_all settings now polled due) where
-  by_drop : (b : Bool) → HaveStamp polled.stamp.epoch (map (anew_of settings polled now) due)
-      → HaveStamp polled.stamp.epoch (cond b None (Some (record { request = d.request; answer = answer_of polled.content d.request; stamp = polled.stamp; timeout = now + life_of settings (answer_of polled.content d.request); reloads = next_count d.reloads })) ∷ map (anew_of settings polled now) due)
-  by_drop true rest = rest
-  by_drop false rest = (refl, rest)
-
--- ---- what waits, one after the other
-
--- the stamp of the one at a place
-pub stamp_at : (epoch : ℕ) (loads : List (Option Loaded)) (i : ℕ) (o : Option Loaded) (l : Loaded) → HaveStamp epoch loads → i < length loads → get_or loads i o ≡ Some l → l.stamp.epoch ≡ epoch
-stamp_at epoch [] i o l h low is = absurd (omega arith)
-stamp_at epoch (None ∷ loads) zero o l h low is = absurd cc
-stamp_at epoch (None ∷ loads) (suc i) o l h low is = stamp_at epoch loads i o l h (omega arith) is
-stamp_at epoch (Some x ∷ loads) zero o l h low is = subst (λ (y : Loaded). y.stamp.epoch ≡ epoch) (let same : x ≡ l = cc in same) h.0
-stamp_at epoch (Some x ∷ loads) (suc i) o l h low is = stamp_at epoch loads i o l h.1 (omega arith) is
-
--- the one at a place for which nothing is to be loaded is dropped
-pub dropped_at : (h : List Record) (due : List Due) (loads : List (Option Loaded)) (i : ℕ) (d : Due) (o : Option Loaded) → AreAnew h due loads → i < length loads → get_or loads i o ≡ None → (i < length due) × ((get_or due i d).dropped ≡ true)
-dropped_at h [] [] i d o n low is = absurd (omega arith)
-dropped_at h [] (load ∷ loads) i d o n low is = absurd n
-dropped_at h (e ∷ due) [] i d o n low is = absurd n
-dropped_at h (e ∷ due) (load ∷ loads) zero d o n low is = (omega arith, subst (IsAnew h e) is n.0)
-dropped_at h (e ∷ due) (load ∷ loads) (suc i) d o n low is = let r = dropped_at h due loads i d o n.1 (omega arith) is in let first = r.0 in (omega arith, r.1)
-
-pub as_many : (h : List Record) (due : List Due) (loads : List (Option Loaded)) → AreAnew h due loads → length due ≡ length loads
-as_many h [] [] n = refl
-as_many h [] (load ∷ loads) n = absurd n
-as_many h (d ∷ due) [] n = absurd n
-as_many h (d ∷ due) (load ∷ loads) n = let rest = as_many h due loads n.1 in omega arith
-
--- at a place of the list
-pub past_at : (arena : ℕ) (due : List Due) (i : ℕ) (d : Due) (h : List Record) → i < length due → ((get_or due i d).ended ≡ true → (get_or due i d).dropped ≡ false → ⊥) → LoadsBut arena (IsPending (drop i due)) h → LoadsBut arena (IsPending (drop (i + 1) due)) h
-past_at arena due i d h low none l = pend_past arena (get_or due i d) (drop (i + 1) due) h none (subst (λ (ds : List Due). LoadsBut arena (IsPending ds) h) (split_at due i d low) l)
-
-pub inserted_at : (said : Inserted) (l : Loaded) (due : List Due) (i : ℕ) (d : Due) (arena : ℕ) (w w' : Writer) → w.layout.arena ≡ arena → i < length due → Tells w.seen w.cache → IsPacked w → Inserts said l w w' → IsRefused said l w → IsAnswered w.seen l → l.stamp.epoch ≡ w.cache.epoch → l.request ≡ (get_or due i d).request
-    → LoadsBut arena (IsPending (drop i due)) w.seen → LoadsBut arena (IsPending (drop (i + 1) due)) w'.seen
-inserted_at said l due i d arena w w' same low t packed ins refused answered stamp asked waits =
-    subst (λ (n : ℕ). LoadsBut n (IsPending (drop (i + 1) due)) w'.seen) same
-    (pend_inserted said l (get_or due i d) (drop (i + 1) due) w w' t packed ins refused answered stamp asked (subst (λ (x : ℕ × List Due). LoadsBut x.0 (IsPending x.1) w.seen) (λ j. (sym same j, split_at due i d low j)) waits))
 
 pub epoch_inserted : (said : Inserted) (l : Loaded) (w w' : Writer) → Inserts said l w w' → w'.cache.epoch ≡ w.cache.epoch
 epoch_inserted (inserted.Done number) l w w' i = ap (λ (x : Writer). x.cache.epoch) i.2
@@ -214,3 +177,84 @@ epoch_inserted (inserted.Discarded noted epoch) l w w' i = ap (λ (x : Writer). 
 epoch_inserted (inserted.Present number) l w w' i = ap (λ (x : Writer). x.cache.epoch) i.1
 epoch_inserted (inserted.Spent count) l w w' i = ap (λ (x : Writer). x.cache.epoch) i.1
 epoch_inserted (inserted.Full need free) l w w' i = ap (λ (x : Writer). x.cache.epoch) i.1
+
+-- ---- what waits, one after the other
+
+-- the writer goes on, keeps the count of invalidations, and these wait still
+abbrev Waits : List Due → Writer → Writer → Type 0
+Waits due w0 w = Rests w0 w × (w.cache.epoch ≡ w0.cache.epoch) × LoadsBut w0.layout.arena (IsPending due) w.seen
+
+-- one of them, whose answer was made over the history of the first writer
+one_waits : (a : Answering) (files : Content) (d : Due) (due : List Due) (w0 w mid : Writer) → Legal w0.seen → IsPacked w0 → IsRenewed w0.seen d → IsAnswered w0.seen (loaded_of a files d.request (next_count d.reloads)) → a.stamp.epoch ≡ w0.cache.epoch → Waits (d ∷ due) w0 w → ReloadsOne d (anew_of a files d) w mid → Waits due w0 mid
+one_waits a files d due w0 w mid legal packed renewed answered stamp waits one = by_drop d.dropped refl one where
+  l : Loaded
+  l = loaded_of a files d.request (next_count d.reloads)
+
+  passed : (d.ended ≡ true → d.dropped ≡ false → ⊥) → mid ≡ w → Waits due w0 mid
+  passed none same = subst (Waits due w0) (sym same) (waits.0, waits.1, pend_past w0.layout.arena d due w.seen none waits.2)
+
+  by_ended : (b : Bool) → d.ended ≡ b → d.dropped ≡ false → OnTrue b ((said : Inserted) × Inserts said l w mid × IsRefused said l w × Tells w.seen w.cache) × OnFalse b (mid ≡ w) → Waits due w0 mid
+  by_ended true e kept ((said, i, why, told), none) =
+      let room : w.layout.arena ≡ w0.layout.arena = ap (λ (x : Layout). x.arena) waits.0.layout in
+      let low = renewed e kept in
+      let few = next_low d.reloads in
+      let rise = replaced_on w0.seen w.seen d.request waits.0.on in (
+        rests_through w0 w mid waits.0 (rests_inserted said l w mid i (omega arith)),
+        epoch_inserted said l w mid i ∙ waits.1,
+        subst (λ (n : ℕ). LoadsBut n (IsPending due) mid.seen) room
+            (pend_inserted said l d due w mid told (waits.0.packed packed) i why (answered_on w0.seen w.seen l told.legal legal waits.0.on answered) (stamp ∙ sym waits.1) refl (subst (λ (n : ℕ). LoadsBut n (IsPending (d ∷ due)) w.seen) (sym room) waits.2)),
+      )
+  by_ended false e kept (none, same) = passed (λ ended k. false≢true (sym e ∙ ended)) same
+
+  by_drop : (b : Bool) → d.dropped ≡ b → ReloadsOne d (cond b None (Some l)) w mid → Waits due w0 mid
+  by_drop true e same = passed (λ ended kept. false≢true (sym kept ∙ e)) same
+  by_drop false e r = by_ended d.ended refl e r
+
+all_reloaded : (a : Answering) (files : Content) (due : List Due) (w0 w w' : Writer) → Legal w0.seen → IsPacked w0 → All (IsRenewed w0.seen) due → version_in w0.seen a.stamp.version ≡ Some files → PolledSince w0.seen a.stamp.version a.stamp.epoch → a.stamp.epoch ≡ w0.cache.epoch → Waits due w0 w → Reloads due (map (anew_of a files) due) w w' → Rests w0 w' × LoadsAgain w'.layout.arena w'.seen
+all_reloaded a files [] w0 w w' legal packed renewed version since stamp waits same = subst (λ (x : Writer). Rests w0 x × LoadsAgain x.layout.arena x.seen) (sym same)
+    (waits.0, subst (λ (n : ℕ). LoadsAgain n w.seen) (sym (ap (λ (x : Layout). x.arena) waits.0.layout)) (none_but w0.layout.arena (IsPending []) w.seen (λ r x. x) waits.2))
+all_reloaded a files (d ∷ due) w0 w w' legal packed renewed version since stamp waits r =
+    let answered : IsAnswered w0.seen (loaded_of a files d.request (next_count d.reloads)) = record { files = files; version = version; answer = refl; polled = since } in
+    let one = one_waits a files d due w0 w r.0 legal packed (head_of (IsRenewed w0.seen) d due renewed) answered stamp waits r.1 in
+    all_reloaded a files due w0 r.0 w' legal packed (tail_of (IsRenewed w0.seen) d due renewed) version since stamp one r.2
+
+-- a renewal of a tick, whose lock is free after it
+renewed_rests : (settings : DbConf) (limit : Option ℕ) (now ticked epoch : ℕ) (due : List Due) (loads : List (Option Loaded)) (w swept w' : Writer) (s : Swept settings limit now ticked due w swept) → Legal w.seen → LoadsAgain w.layout.arena w.seen → AreAnew w.seen epoch due loads → w.cache.epoch ≡ epoch → Reloads (marked_by now due w) loads swept w'
+    → Rests swept w' × LoadsAgain w'.layout.arena w'.seen
+renewed_rests settings limit now ticked epoch due loads w swept w' s legal again anew same r =
+    let n = anew_on w.seen swept.seen epoch due loads legal s.legal s.on anew in
+    let made = n.made ∙ sym (anew_marked n.answering n.files now due w) in
+    all_reloaded n.answering n.files (marked_by now due w) swept swept w' s.legal s.packed s.renewed n.version n.since (n.stamped ∙ sym (s.epoch ∙ same)) (rests_same swept swept refl, refl, s.waits again) (subst (λ (ls : List (Option Loaded)). Reloads (marked_by now due w) ls swept w') made r)
+
+-- what a hold for it leaves
+pub record Renewal (settings : DbConf) (limit : Option ℕ) (held : Option Content) (which : Db) (ticked epoch : ℕ) (due : List Due) (w w' : Writer) (r : Result (Unit {0}) Spent) : Type 0 where
+  pub rest : IsAtRest settings limit held which ticked w'
+  pub table : w'.table ≡ w.table
+  pub layout : w'.layout ≡ w.layout
+  pub over : OnOk r (AreOver epoch w'.seen due)
+  pub spent : IfErr r (λ s. IsUnmoved w'.seen s.count (AreOver epoch w'.seen due))
+
+pub renewal : {settings : DbConf} {limit : Option ℕ} {held : Option Content} {which : Db} {ticked : ℕ} (now epoch : ℕ) (due : List Due) (loads : List (Option Loaded)) (w w' : Writer) (r : Result (Unit {0}) Spent) → All (IsDue limit now w.seen) due → AreAnew w.seen epoch due loads → w.cache.epoch ≡ epoch
+    → Tells w.seen w.cache → OnOk r (Renews now due loads w w') → IfErr r (λ s. Stops (compacted_for (ended_of (marked_by now due w)) (pruned_by now due w).cache) s.count (pruned_by now due w) w') → IsAtRest settings limit held which ticked w → Renewal settings limit held which ticked epoch due w w' r
+renewal {settings} {limit} {held} {which} {ticked} now epoch due loads w w' (Ok done) all anew same t r stops rest =
+    let s = swept_leaves settings limit now ticked due w r.0 all t rest.0 rest.1 r.1 in
+    let l = renewed_rests settings limit now ticked epoch due loads w r.0 w' s t.legal rest.3 anew same r.2 in
+    record {
+      rest = at_rest_swept w r.0 w' s l.0 l.1 rest;
+      table = l.0.table ∙ s.table;
+      layout = l.0.layout ∙ s.layout;
+      over = inr (λ n has. end_on r.0.seen w'.seen n l.0.on (s.gone n has));
+      spent = tt;
+    }
+renewal {settings} {limit} {held} {which} {ticked} now epoch due loads w w' (Err spent) all anew same t r stops rest =
+    let e = spends (ended_of (marked_by now due w)) spent.count (pruned_by now due w) w' stops in
+    let s = swept_spent settings limit now ticked due w w' all t rest.0 rest.1 e.same e.high in
+    let low = s.packed.cycles in
+    let high = e.high in
+    record {
+      rest = at_rest_swept w w' w' s (rests_same w' w' refl) (inr (omega arith)) rest;
+      table = s.table;
+      layout = s.layout;
+      over = tt;
+      spent = packed_unmoved w' spent.count (AreOver epoch w'.seen due) s.packed e.high e.at (inr s.gone);
+    }

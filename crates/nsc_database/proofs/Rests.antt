@@ -1,7 +1,6 @@
 -- What holds of a writer while its lock is free stays so through each of its calls.
 use Rattle.std.proofs.Common.{◌≡◌, ℕ, zero, suc, ◌+◌, ◌<◌, ◌≤◌, Bool, true, false, not, ◌&&◌, cond, eqb, All, List, [], ◌∷◌, ◌++◌, get_or, sum_by, add-zero, Option, Some, None, Ok, Err, refl, sym, ap, subst, ◌∙◌, arith, inl, inr}
 use Rattle.std.specs.Bool.{OnTrue}
-use Rattle.std.specs.Prelude.{IfNone, IfSome}
 use Rattle.std.proofs.lemmas.Bool.{eqb-true, false≢true}
 use Rattle.std.proofs.lemmas.List.Elements.{All-append}
 use Rattle.std.proofs.lemmas.List.Sums.{sum_by-append, sum_by-cons}
@@ -21,8 +20,10 @@ use Rattle.nsc_writer.specs.declared.loaded.Inserted.TheVariants as inserted
 use Rattle.nsc_writer.specs.declared.loaded.Stamp.{Stamp}
 use Rattle.nsc_writer.specs.Loaded.{Loaded, kept_of}
 use Rattle.nsc_writer.specs.Writer.{Writer, Inserts, Polls, with_entry}
-use Rattle.nsc_shelf.specs.declared.entry.Hit.{Hit}
-use Rattle.nsc_shelf.specs.Uses.{Uses, counted}
+use Rattle.nsc_turns.specs.declared.entries.HitOrMiss.{HitOrMiss}
+use Rattle.nsc_turns.specs.declared.entries.HitOrMiss.TheVariants as looked
+use Rattle.nsc_turns.specs.Turns.{Looks}
+use Rattle.nsc_shelf.specs.Uses.{Uses}
 use Rattle.nsc_writer.proofs.Later.{prefix_through}
 use Rattle.nsc_model.specs.Stores.{LoadsAgain}
 use Rattle.nsc_database.specs.Rests.{IsPacked, IsReloaded, Keeps, Rests}
@@ -260,9 +261,9 @@ rests_missed m w w' is = subst (Rests w) (sym is) (record {
   version = record { version = refl; sources = refl };
 })
 
-pub rests_searched : (request : Request) (found : Option Hit) (w w' : Writer) → IfNone found (w' ≡ w) → IfSome found (λ hit. w' ≡ record w { cache = record w.cache { entries = used_now request w.cache.entries }; hits = counted hit.not_found w.hits }) → Rests w w'
-rests_searched request None w w' same used = rests_same w w' same
-rests_searched request (Some hit) w w' same used = subst (Rests w) (sym used) (record {
+pub rests_looked : (found : Option Kept) (request : Request) (r : HitOrMiss) (w w' : Writer) (reply : List ℕ) → Looks found request r w w' reply → Rests w w'
+rests_looked found request (looked.Missed epoch) w w' reply l = rests_same w w' l.2
+rests_looked found request (looked.Hit hit) w w' reply l = subst (Rests w) (sym l.1) (record {
   on = ([], refl);
   table = refl;
   layout = refl;

@@ -31,7 +31,10 @@ use Rattle.nsc_sourcebook.specs.Book.{Fetched, Polled, PollsBook, SourceBook}
 use Rattle.nsc_sourcebook.proofs.Newest.{newest_held}
 use Rattle.nsc_writer.proofs.Told.{asked_none, invalidations_rise}
 use Rattle.nsc_writer.proofs.Later.{prefix_through, version_on, polled_on}
-use Rattle.nsc_database.specs.Holds.{IsInserted, IsPolled}
+use Rattle.nsc_turns.specs.declared.entries.HitOrMiss.{HitOrMiss}
+use Rattle.nsc_turns.specs.declared.entries.HitOrMiss.TheVariants as looked
+use Rattle.nsc_turns.specs.Turns.{Looks as LooksUp}
+use Rattle.nsc_database.specs.Holds.{IsInserted, IsLooked, IsPolled}
 use Rattle.nsc_database.specs.Rests.{IsPacked}
 
 -- ---- a look
@@ -44,7 +47,7 @@ live_found h cache request k t is =
     let f = found (λ (x : Kept). is_request request x.entry.request) cache.entries k is in
     (t.entries_are.live k.entry f.0, sym (same_request request k.entry.request f.1))
 
-pub looked_hit : (h : List Record) (cache : Cache) (request : Request) (hit : Hit) (reply : List ℕ) → Tells h cache → GivesHit (live_entry request cache.entries) (Some hit) reply → IsHit h request reply hit.number
+looked_hit : (h : List Record) (cache : Cache) (request : Request) (hit : Hit) (reply : List ℕ) → Tells h cache → GivesHit (live_entry request cache.entries) (Some hit) reply → IsHit h request reply hit.number
 looked_hit h cache request hit reply t gives = by_entry (live_entry request cache.entries) refl gives where
   by_entry : (o : Option Kept) → live_entry request cache.entries ≡ o → GivesHit o (Some hit) reply → IsHit h request reply hit.number
   by_entry None is g = absurd cc
@@ -52,11 +55,15 @@ looked_hit h cache request hit reply t gives = by_entry (live_entry request cach
       let f = live_found h cache request k t is in
       record { entry = k.entry; live = f.0; numbered = sym (ap (λ (x : Hit). x.number) (hit_is hit _ g.0)); answers = f.1; said = sym g.1 }
 
-pub looked_none : (h : List Record) (cache : Cache) (request : Request) (reply : List ℕ) → Tells h cache → GivesHit (live_entry request cache.entries) None reply → NoneLiveOf h request
+looked_none : (h : List Record) (cache : Cache) (request : Request) (reply : List ℕ) → Tells h cache → GivesHit (live_entry request cache.entries) None reply → NoneLiveOf h request
 looked_none h cache request reply t gives = by_entry (live_entry request cache.entries) refl gives where
   by_entry : (o : Option Kept) → live_entry request cache.entries ≡ o → GivesHit o None reply → NoneLiveOf h request
   by_entry None is g = asked_none h cache request t is
   by_entry (Some k) is g = absurd cc
+
+pub is_looked : (r : HitOrMiss) (request : Request) (w w' : Writer) (reply : List ℕ) → Tells w.seen w.cache → LooksUp (live_entry request w.cache.entries) request r w w' reply → IsLooked r w.seen request reply
+is_looked (looked.Hit hit) request w w' reply t l = looked_hit w.seen w.cache request hit reply t l.0
+is_looked (looked.Missed epoch) request w w' reply t l = (l.1 ∙ sym t.epochs_are, looked_none w.seen w.cache request reply t l.0)
 
 -- ---- a poll
 
@@ -164,14 +171,6 @@ polls_on fetched epoch b b' w w' (Ok p) q = (polls_looks fetched.content epoch w
 polls_on fetched epoch b b' w w' (Err spent) q = same_writer w w' (polls_spent fetched.content epoch w w' spent q.0).2
 
 -- ---- an insertion
-
-pub answered_on : (seen h : List Record) (loaded : Loaded) → Legal h → Legal seen → IsPrefix seen h → IsAnswered seen loaded → IsAnswered h loaded
-answered_on seen h loaded legal legal_seen p a = record {
-  files = a.files;
-  version = version_on seen h loaded.stamp.version a.files legal legal_seen p a.version;
-  answer = a.answer;
-  polled = polled_on seen h loaded.stamp.version loaded.stamp.epoch p a.polled;
-}
 
 pub inserts_on : (said : Inserted) (loaded : Loaded) (w w' : Writer) → Inserts said loaded w w' → GoesOn w w'
 inserts_on (inserted.Done number) loaded w w' i = subst (GoesOn w) (sym i.2) (record { on = (Load (kept_of loaded w.cache.inserted).entry ∷ [], refl); table = refl; layout = refl; slide = refl })

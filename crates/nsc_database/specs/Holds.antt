@@ -10,8 +10,8 @@ use Rattle.nsc_writer.specs.declared.loaded.Inserted.{Inserted}
 use Rattle.nsc_writer.specs.declared.loaded.Inserted.TheVariants as inserted
 use Rattle.nsc_writer.specs.Loaded.{Loaded, kept_of}
 use Rattle.nsc_sourcebook.specs.Book.{Polled}
-use Rattle.nsc_database.specs.declared.holds.HitOrMiss.{HitOrMiss}
-use Rattle.nsc_database.specs.declared.holds.HitOrMiss.TheVariants as looked
+use Rattle.nsc_turns.specs.declared.entries.HitOrMiss.{HitOrMiss}
+use Rattle.nsc_turns.specs.declared.entries.HitOrMiss.TheVariants as looked
 
 -- a look for a live entry of the request: its reply, or the number of invalidations where none is live
 abbrev pub IsLooked : HitOrMiss → List Record → Request → List ℕ → Type 0

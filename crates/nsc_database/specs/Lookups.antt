@@ -11,8 +11,8 @@ use Rattle.nsc_model.specs.Stores.{IsHit}
 use Rattle.nsc_writer.specs.declared.loaded.Inserted.{Inserted}
 use Rattle.nsc_writer.specs.declared.loaded.Inserted.TheVariants as inserted
 use Rattle.nsc_writer.specs.Loaded.{Loaded}
-use Rattle.nsc_database.specs.declared.holds.HitOrMiss.{HitOrMiss}
-use Rattle.nsc_database.specs.declared.holds.HitOrMiss.TheVariants as looked
+use Rattle.nsc_turns.specs.declared.entries.HitOrMiss.{HitOrMiss}
+use Rattle.nsc_turns.specs.declared.entries.HitOrMiss.TheVariants as looked
 use Rattle.nsc_database.specs.Holds.{IsInserted}
 
 -- a look for a live entry of the request, where the database is cached; where it is not, none is found, and the count of invalidations that is told is 0

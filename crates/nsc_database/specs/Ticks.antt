@@ -1,5 +1,5 @@
 -- What the holds of a tick come to.
-use Rattle.std.specs.Prelude.{◌≡◌, ℕ, ◌+◌, ◌<◌, ◌≤◌, ◌⊎◌, Bool, true, false, if◌then◌else◌, All, List, [], ◌∷◌, filter, length, Option, Some, None}
+use Rattle.std.specs.Prelude.{◌≡◌, ℕ, ◌+◌, ◌<◌, ◌≤◌, ◌⊎◌, Bool, true, false, if◌then◌else◌, All, List, [], ◌∷◌, map, Option, Some}
 use Rattle.std.specs.Bool.{OnTrue}
 use Rattle.nsc_model.specs.declared.conf.DbConf.{DbConf}
 use Rattle.nsc_model.specs.declared.answer.Request.{Request}
@@ -9,18 +9,19 @@ use Rattle.nsc_model.specs.declared.record.Record.TheVariants.{End}
 use Rattle.nsc_model.specs.declared.store.LookupFault.{LookupFault}
 use Rattle.nsc_model.specs.declared.store.LookupFault.TheVariants as fault
 use Rattle.nsc_model.specs.Entry.{Entry}
-use Rattle.nsc_model.specs.History.{HasEnd, HasLoad, IsPrefix, Legal, NoneLive, invalidations, load_of}
-use Rattle.nsc_model.specs.Answers.{answer_of}
-use Rattle.nsc_model.specs.Machine.{all_words, life_of, next_count}
+use Rattle.nsc_model.specs.Content.{Content}
+use Rattle.nsc_model.specs.History.{HasEnd, HasLoad, IsPrefix, NoneLive, PolledSince, invalidations, load_of, version_in}
+use Rattle.nsc_model.specs.Machine.{all_words}
 use Rattle.nsc_model.specs.Reloads.{replaced}
 use Rattle.nsc_model.specs.Stores.{IsLoadedAgain, IsUnmoved, MayBeUnmoved}
-use Rattle.nsc_sourcebook.specs.Book.{Polled}
-use Rattle.nsc_pruner.specs.Due.{Due, marked_by, pruned_by}
+use Rattle.nsc_pruner.specs.Due.{Due}
+use Rattle.nsc_turns.specs.declared.answering.Answering.{Answering}
+use Rattle.nsc_turns.specs.Loads.{anew_of}
 use Rattle.nsc_writer.specs.Loaded.{Loaded}
-use Rattle.nsc_writer.specs.Writer.{IsAnswered, Writer}
-use Rattle.nsc_database.specs.declared.renewal.Checked.{Checked}
-use Rattle.nsc_database.specs.declared.renewal.Checked.TheVariants as checked
-use Rattle.nsc_database.specs.Rests.{IsCurrent, IsPacked}
+use Rattle.nsc_writer.specs.Writer.{Writer}
+use Rattle.nsc_turns.specs.declared.ticks.Checked.{Checked}
+use Rattle.nsc_turns.specs.declared.ticks.Checked.TheVariants as checked
+use Rattle.nsc_database.specs.Rests.{IsCurrent}
 
 -- an entry of this number and request was inserted, its time is over, and entries of the request ended so often to be reloaded; it is
 -- dropped where its reply is a not-found one, or where the limit is reached
@@ -65,23 +66,14 @@ IsHoldFault (fault.Spent count) after ended = IsUnmoved after count ended
 IsHoldFault (fault.SourceFault file) after ended = ⊥
 IsHoldFault (fault.TooLong file size) after ended = ⊥
 
--- what is to be loaded again for those that are due, one for each: nothing for one that is dropped, or the answer to its request with
--- one reload more
-abbrev pub IsAnew : List Record → Due → Option Loaded → Type 0
-IsAnew history d None = d.dropped ≡ true
-IsAnew history d (Some l) = (d.dropped ≡ false) × (l.request ≡ d.request) × (l.reloads ≤ d.reloads + 1) × IsAnswered history l
-
-abbrev pub AreAnew : List Record → List Due → List (Option Loaded) → Type 0
-AreAnew history [] [] = Unit {0}
-AreAnew history [] (load ∷ loads) = ⊥
-AreAnew history (d ∷ due) [] = ⊥
-AreAnew history (d ∷ due) (load ∷ loads) = IsAnew history d load × AreAnew history due loads
-
--- each was polled after so many invalidations
-abbrev pub HaveStamp : ℕ → List (Option Loaded) → Type 0
-HaveStamp epoch [] = Unit {0}
-HaveStamp epoch (None ∷ loads) = HaveStamp epoch loads
-HaveStamp epoch (Some l ∷ loads) = (l.stamp.epoch ≡ epoch) × HaveStamp epoch loads
+-- what is to be loaded again for those that are due, over one version, polled after so many invalidations
+pub record AreAnew (history : List Record) (epoch : ℕ) (due : List Due) (loads : List (Option Loaded)) : Type 0 where
+  pub answering : Answering
+  pub files : Content
+  pub version : version_in history answering.stamp.version ≡ Some files
+  pub since : PolledSince history answering.stamp.version answering.stamp.epoch
+  pub stamped : answering.stamp.epoch ≡ epoch
+  pub made : loads ≡ map (anew_of answering files) due
 
 -- the request of one of them, which ended to be loaded again
 abbrev pub IsPending : List Due → Request → Type 0
@@ -99,32 +91,9 @@ LoadsBut arena those history = AreLoadedBut arena those history ⊎ MayBeUnmoved
 abbrev pub IsRenewed : List Record → Due → Type 0
 IsRenewed history d = d.ended ≡ true → d.dropped ≡ false → d.reloads + 1 ≤ replaced history d.request
 
--- entries were ended that are to be loaded again, and this is to be loaded for them
-pub record AwaitsLoads (marked : List Due) (anew : List (Option Loaded)) (w : Writer) : Type 0 where
-  pub legal : Legal w.seen
-  pub due : All (IsRenewed w.seen) marked
-  pub loads : AreAnew w.seen marked anew
-  pub stamps : HaveStamp w.cache.epoch anew
-  pub packed : IsPacked w
-  pub slide : w.slide ≡ None
-  pub waits : LoadsBut w.layout.arena (IsPending marked) w.seen
-
--- what is to be loaded again over what was polled: nothing for an entry that is dropped
-abbrev pub anew_of : DbConf → Polled → ℕ → Due → Option Loaded
-anew_of settings polled now d =
-    if d.dropped then None else Some (record { request = d.request; answer = answer_of polled.content d.request; stamp = polled.stamp; timeout = now + life_of settings (answer_of polled.content d.request); reloads = next_count d.reloads })
-
--- those of them that were ended
-abbrev pub ended_of : List Due → List Due
-ended_of due = filter (λ d. d.ended) due
-
 -- the writer once it was compacted
 abbrev pub compacted_by : Writer → Writer
 compacted_by w = record w { cache = record w.cache { cycle = w.cache.cycle + 2; used = all_words w.cache.entries } }
-
--- the ends of a tick, and a compaction where any entry was ended
-pub record IsSwept (now : ℕ) (due : List Due) (w w' : Writer) : Type 0 where
-  pub swept : ((ended_of (marked_by now due w) ≡ []) × (w' ≡ pruned_by now due w)) ⊎ ((1 ≤ length (ended_of (marked_by now due w))) × (w' ≡ compacted_by (pruned_by now due w)))
 
 -- the due entries are ended, or the database was invalidated after so many invalidations
 abbrev pub AreOver : ℕ → List Record → List Due → Type 0

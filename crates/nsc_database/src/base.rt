@@ -1,21 +1,20 @@
 // A database of which it is known which one it is.
-ghost use Rattle.std.specs.Prelude.{◌≡◌, ◌≤◌, ◌<◌, ◌+◌, ◌^◌, length, IfOk, IfErr, OnOk};
+ghost use Rattle.std.specs.Prelude.{◌≡◌, ◌≤◌, ◌<◌, ◌^◌, length, IfOk, IfErr, OnOk};
 ghost use Rattle.nsc_model.specs.Entry.{key_limit};
-ghost use Rattle.nsc_model.specs.Answers.{answer_of};
 ghost use Rattle.nsc_model.specs.History.{Legal, invalidations};
 ghost use Rattle.nsc_writer.specs.Writer.{IsAnswered};
 ghost use Rattle.nsc_model.specs.Reads.{IsLookedUp};
-ghost use Rattle.nsc_model.specs.Machine.{life_of, room_of};
+ghost use Rattle.nsc_model.specs.Machine.{room_of};
 ghost use Rattle.nsc_model.specs.Settings.{settings_of};
 ghost use Rattle.nsc_model.specs.Stores.{IsCounted, IsEmptied, IsFault, IsInvalidateFault, IsSpent};
 ghost use Rattle.nsc_sourcebook.specs.Book.{FitsBook};
 ghost use Rattle.nsc_sourcebook.specs.Reads.{IsPart, NoneFailed};
+ghost use Rattle.nsc_turns.specs.Loads.{loaded_of};
 ghost use Rattle.nsc_database.specs.Frames.{Goes, Held};
 ghost use Rattle.nsc_database.specs.Holds.{IsLooked, IsPolled};
 ghost use Rattle.nsc_database.specs.Lookups.{IsTried, given_by};
 
 use crate::desk::{Desk, Shelved};
-use crate::holds::HitOrMiss;
 use crate::pass::DbPass;
 use crate::room::{OfDb, Room};
 use nsc_base::{Buf, Bytes, NoMemory};
@@ -25,6 +24,7 @@ use nsc_model::{
 use nsc_outside::FileSet;
 use nsc_rule::Map;
 use nsc_sourcebook::{Fetched, Polled};
+use nsc_turns::{Answering, HitOrMiss, load};
 use nsc_writer::{Inserted, Loaded};
 use std::alloc::Global;
 use std::marker::PhantomData;
@@ -164,12 +164,29 @@ impl<D: OfDb, F: FileSet + Drop, A: Answerer + Drop, B: Room> Base<D, F, A, B> {
     ) -> Result<Loaded, NoMemory>
         requires key { length key.now ≤ key_limit }
         requires moment { now < 2 ^ 62 }
-        ensures { IfOk result (λ l. l ≡ record { request = record { kind = kind; key = key.now }; answer = answer_of polled.now.content (record { kind = kind; key = key.now }); stamp = polled.now.stamp; timeout = now + life_of self.now.settings (answer_of polled.now.content (record { kind = kind; key = key.now })); reloads = 0 }) }
+        ensures { IfOk result (λ l. l ≡ loaded_of (record { settings = self.now.settings; stamp = polled.now.stamp; moment = now }) polled.now.content (record { kind = kind; key = key.now }) 0) }
     {
-        let answer = self.answers.answer(alloc, polled.ready(), kind, key)?;
-        let key = Bytes::copy(alloc, key)?;
-        let timeout = now + self.settings.life_of(&answer);
-        Ok(Loaded::new(kind, key, answer, polled.stamp(), timeout, 0))
+        let answering = self.answering(polled, now);
+        load(
+            alloc,
+            &self.answers,
+            polled.ready(),
+            &answering,
+            kind,
+            key,
+            0,
+        )
+    }
+
+    /// What answers over a polled content have in common, that are made at this moment, in seconds.
+    pub fn answering(&self, polled: &Polled<A>, now: u64) -> Answering
+        ensures { result ≡ record { settings = self.now.settings; stamp = polled.now.stamp; moment = now } }
+    {
+        Answering {
+            settings: self.settings,
+            stamp: polled.stamp(),
+            moment: now,
+        }
     }
 }
 

@@ -10,22 +10,20 @@ ghost use Rattle.nsc_model.specs.Reloads.{Reloaded};
 ghost use Rattle.nsc_model.specs.Settings.{settings_of};
 ghost use Rattle.nsc_model.specs.Stores.{IsCounted, IsEmptied, IsInvalidateFault, IsSpent, IsUnmoved, LoadsAgain};
 ghost use Rattle.nsc_shelf.specs.Uses.{counted};
-ghost use Rattle.nsc_database.specs.declared.renewal.Checked.TheVariants as is_checked;
 ghost use Rattle.nsc_database.specs.Frames.{Held};
 ghost use Rattle.nsc_database.specs.Holds.{IsInserted, IsLooked, IsPolled};
 ghost use Rattle.nsc_database.specs.Steady.{IsSteady};
-ghost use Rattle.nsc_database.specs.Ticks.{AreAnew, AreOver, HaveStamp, EmptiesOutdated, IsChecked, IsDue, IsHoldFault};
+ghost use Rattle.nsc_database.specs.Ticks.{AreAnew, AreOver, EmptiesOutdated, IsChecked, IsDue, IsHoldFault};
 
-use crate::holds::{self, HitOrMiss};
 use crate::pass::DbPass;
-use crate::renewal::{Checked, end_due, reload};
 use crate::room::{OfDb, Room};
 use nsc_base::{Buf, NoMemory};
-use nsc_model::{Answerer, DbConf, InvalidateFault, Kind, LookupFault, Spent, Stats};
+use nsc_model::{Answerer, CacheFault, DbConf, InvalidateFault, Kind, LookupFault, Spent, Stats};
 use nsc_outside::FileSet;
+use nsc_pruner::Due;
 use nsc_rule::Pass;
 use nsc_sourcebook::{Fetched, PollFault, Polled, SourceBook};
-use nsc_pruner::{Due, expired};
+use nsc_turns::{Checked, HitOrMiss, check, insert, invalidate, look, renew};
 use nsc_writer::{Inserted, Loaded, Writer};
 use std::alloc::Global;
 use std::marker::{Model, PhantomData};
@@ -117,12 +115,7 @@ impl<D: OfDb, B: Room> Desk<D, B> {
         ensures limit { reply.new.limit ≡ reply.old.limit }
     {
         self.writer.learn();
-        match self.writer.search(kind, key, reply) {
-            Some(hit) => HitOrMiss::Hit(hit),
-            None => HitOrMiss::Missed {
-                epoch: self.writer.epoch(),
-            },
-        }
+        look(&mut self.writer, kind, key, reply)
     }
 
     /// Enters that the files were looked at, after so many invalidations: what was fetched becomes the newest version, or confirms
@@ -153,9 +146,8 @@ impl<D: OfDb, B: Room> Desk<D, B> {
         ensures inserted { IsInserted (room_of (settings_of B.conf D.db)) result.0 loaded self.old.writer.seen self.new.writer.seen }
         ensures back { result.1 ≡ loaded }
     {
-        self.writer.miss(loaded.answer().is_not_found());
         self.writer.learn();
-        self.writer.insert(loaded)
+        insert(&mut self.writer, loaded)
     }
 
     /// Ends every entry, and gives the new number of invalidations. At `Spent` that number stands at its end; or every entry
@@ -164,7 +156,8 @@ impl<D: OfDb, B: Room> Desk<D, B> {
         ensures done { IfOk result (λ epoch. IsEmptied self.old.writer.seen self.new.writer.seen epoch) }
         ensures fault { IfErr result (λ fault. IsInvalidateFault fault self.new.writer.seen) }
     {
-        match holds::invalidate(&mut self.writer) {
+        self.writer.learn();
+        match invalidate(&mut self.writer) {
             Ok(epoch) => Ok(epoch),
             Err(spent) => Err(InvalidateFault::Spent { count: spent.count }),
         }
@@ -187,44 +180,15 @@ impl<D: OfDb, B: Room> Desk<D, B> {
         ensures cause { IfOk result (λ checked. EmptiesOutdated checked (is_outdated settings.now self.old.writer.cache.newest_version self.old.ticked)) }
         ensures fault { IfErr result (λ fault. IsHoldFault fault self.new.writer.seen (NoneLive self.new.writer.seen)) }
     {
-        let newest = self.writer.version();
-        if settings.is_outdated(newest, self.ticked) {
-            return self.empty();
-        }
-        self.list(alloc, limit, now)
-    }
-
-    // Says which are due, since the newest version is the one that the last tick found, or that does not count.
-    fn list(&mut self, alloc: Global, limit: Option<u32>, now: u64) -> Result<Checked, LookupFault>
-        requires limit { limit ≡ B.conf.reloads }
-        requires current { is_outdated (settings_of B.conf D.db) self.old.writer.cache.newest_version self.old.ticked ≡ false }
-        ensures checked { IfOk result (λ checked. IsChecked checked (settings_of B.conf D.db) limit now self.new.writer.seen) }
-        ensures cause { IfOk result (λ checked. EmptiesOutdated checked false) }
-        ensures fault { IfErr result (λ fault. IsHoldFault fault self.new.writer.seen (NoneLive self.new.writer.seen)) }
-    {
         self.writer.learn();
         let newest = self.writer.version();
-        let listed = expired(&mut self.writer, alloc, limit, now);
-        self.ticked = newest;
-        match listed {
-            Ok(due) => Ok(Checked::Listed(due)),
-            Err(_) => Err(LookupFault::NoMemory),
-        }
-    }
-
-    // Ends every entry, since the newest version is not the one that the last tick found.
-    fn empty(&mut self) -> Result<Checked, LookupFault>
-        ensures emptied { IfOk result (λ checked. checked ≡ is_checked.Emptied) }
-        ensures none { OnOk result (NoneLive self.new.writer.seen) }
-        ensures fault { IfErr result (λ fault. IsHoldFault fault self.new.writer.seen (NoneLive self.new.writer.seen)) }
-    {
-        let newest = self.writer.version();
-        match holds::invalidate(&mut self.writer) {
-            Ok(_) => {
+        match check(&mut self.writer, alloc, settings, limit, self.ticked, now) {
+            Ok(checked) => {
                 self.ticked = newest;
-                Ok(Checked::Emptied)
+                Ok(checked)
             }
-            Err(spent) => Err(LookupFault::Spent { count: spent.count }),
+            Err(CacheFault::NoMemory) => Err(LookupFault::NoMemory),
+            Err(CacheFault::Spent { count }) => Err(LookupFault::Spent { count }),
         }
     }
 
@@ -240,8 +204,7 @@ impl<D: OfDb, B: Room> Desk<D, B> {
     ) -> Result<(), Spent>
         requires noted { epoch ≤ invalidations self.old.writer.seen }
         requires due { All (IsDue B.conf.reloads now self.old.writer.seen) due.old }
-        requires loads { AreAnew self.old.writer.seen due.old loads.now }
-        requires stamps { HaveStamp epoch loads.now }
+        requires loads { AreAnew self.old.writer.seen epoch due.old loads.now }
         ensures over { OnOk result (AreOver epoch self.new.writer.seen due.old) }
         ensures spent { IfErr result (λ spent. IsUnmoved self.new.writer.seen spent.count (AreOver epoch self.new.writer.seen due.old)) }
     {
@@ -249,13 +212,7 @@ impl<D: OfDb, B: Room> Desk<D, B> {
         if self.writer.epoch() != epoch {
             return Ok(());
         }
-        match end_due(&mut self.writer, due, now) {
-            Ok(()) => {
-                reload(&mut self.writer, due, loads);
-                Ok(())
-            }
-            Err(spent) => Err(spent),
-        }
+        renew(&mut self.writer, due, loads, now)
     }
 }
 

@@ -4,11 +4,9 @@
 mod base;
 mod database;
 mod desk;
-mod holds;
 mod lookup;
 mod opened;
 mod pass;
-mod renewal;
 mod room;
 mod tick;
 

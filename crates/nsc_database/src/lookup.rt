@@ -8,13 +8,13 @@ ghost use Rattle.nsc_database.specs.Frames.{Goes, Held};
 ghost use Rattle.nsc_database.specs.Lookups.{IsFoundIfCached};
 
 use crate::base::Base;
-use crate::holds::HitOrMiss;
 use crate::pass::DbPass;
 use crate::room::{OfDb, Room};
 use nsc_base::{Bytes, NoMemory};
 use nsc_model::{Answerer, Given, Kind, LookupFault, Why};
 use nsc_outside::FileSet;
 use nsc_sourcebook::Polled;
+use nsc_turns::HitOrMiss;
 use std::alloc::Global;
 use std::sync::Wait;
 

@@ -7,17 +7,18 @@ ghost use Rattle.nsc_model.specs.Stores.{IsTickFault, IsTicked, LoadsAgain};
 ghost use Rattle.nsc_sourcebook.specs.Reads.{NoneFailed};
 ghost use Rattle.nsc_database.specs.Frames.{Goes, Held};
 ghost use Rattle.nsc_database.specs.Holds.{IsPolledVersion};
-ghost use Rattle.nsc_database.specs.Ticks.{AreOver, IsChecked, IsDue, IsHoldFault, anew_of};
+ghost use Rattle.nsc_turns.specs.Loads.{anew_of};
+ghost use Rattle.nsc_database.specs.Ticks.{AreOver, IsChecked, IsDue, IsHoldFault};
 
 use crate::base::Base;
 use crate::pass::DbPass;
-use crate::renewal::Checked;
 use crate::room::{OfDb, Room};
-use nsc_base::{Bytes, NoMemory};
+use nsc_base::NoMemory;
 use nsc_model::{Answerer, LookupFault};
 use nsc_outside::FileSet;
-use nsc_sourcebook::Polled;
 use nsc_pruner::Due;
+use nsc_sourcebook::Polled;
+use nsc_turns::{Checked, loads};
 use nsc_writer::Loaded;
 use std::alloc::Global;
 use std::sync::Wait;
@@ -133,14 +134,20 @@ impl<D: OfDb, F: FileSet + Drop, A: Answerer + Drop, B: Room> Base<D, F, A, B> {
         now: u64,
     ) -> Result<Vec<Option<Loaded>>, NoMemory>
         requires { now < 2 ^ 62 }
-        ensures { IfOk result (λ loads. loads.items ≡ map (anew_of self.now.settings polled.now now) due.now) }
+        ensures { IfOk result (λ loads. loads.items ≡ map (anew_of (record { settings = self.now.settings; stamp = polled.now.stamp; moment = now }) polled.now.content) due.now) }
     {
         let further = self.further(alloc, polled, due.len());
         let ready = match &further {
             Some(further) => further,
             None => polled.ready(),
         };
-        self.loads_by(alloc, ready, polled, due, now)
+        loads(
+            alloc,
+            &self.answers,
+            ready,
+            &self.answering(polled, now),
+            due,
+        )
     }
 
     // The content that was polled, prepared further where that serves so many answers better.
@@ -151,54 +158,5 @@ impl<D: OfDb, F: FileSet + Drop, A: Answerer + Drop, B: Room> Base<D, F, A, B> {
             return None;
         }
         self.answers.prepare_further(alloc, polled.ready())
-    }
-
-    // The same by what was made ready of that content.
-    fn loads_by(
-        &self,
-        alloc: Global,
-        ready: &A::Ready,
-        polled: &Polled<A>,
-        due: &[Due],
-        now: u64,
-    ) -> Result<Vec<Option<Loaded>>, NoMemory>
-        requires moment { now < 2 ^ 62 }
-        requires ready { A.prepared_from ready.now ≡ polled.now.content }
-        ensures { IfOk result (λ loads. loads.items ≡ map (anew_of self.now.settings polled.now now) due.now) }
-    {
-        let mut loads = Vec::new(alloc);
-        for one in due {
-            loads.push(self.anew(alloc, ready, polled, one, now)?)?;
-        }
-        Ok(loads)
-    }
-
-    // The same for one of them. Nothing is answered for one that is dropped.
-    fn anew(
-        &self,
-        alloc: Global,
-        ready: &A::Ready,
-        polled: &Polled<A>,
-        due: &Due,
-        now: u64,
-    ) -> Result<Option<Loaded>, NoMemory>
-        requires moment { now < 2 ^ 62 }
-        requires ready { A.prepared_from ready.now ≡ polled.now.content }
-        ensures { IfOk result (λ load. load ≡ anew_of self.now.settings polled.now now due.now) }
-    {
-        if due.is_dropped() {
-            return Ok(None);
-        }
-        let answer = self.answers.answer(alloc, ready, due.kind(), due.key())?;
-        let key = Bytes::copy(alloc, due.key())?;
-        let timeout = now + self.settings.life_of(&answer);
-        Ok(Some(Loaded::new(
-            due.kind(),
-            key,
-            answer,
-            polled.stamp(),
-            timeout,
-            due.next_reloads(),
-        )))
     }
 }

@@ -14,6 +14,8 @@ pub mod MachineLawSteps
 pub mod MachineLawParts
 pub mod MachineLaw
 pub mod MachineLawRuns
+pub mod Reloads
+pub mod MachineLawReloads
 pub mod MachineLawCores
 pub mod MachineLawReplays
 pub mod Grammar

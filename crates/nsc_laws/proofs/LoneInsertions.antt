@@ -1,5 +1,5 @@
 -- An insertion that no other caller overtakes.
-use Rattle.std.proofs.Common.{◌≡◌, ℕ, Bool, false, ltb, cond, Option, None, Some, sym, ap, subst, rules}
+use Rattle.std.proofs.Common.{◌≡◌, ℕ, Bool, false, ltb, cond, None, Some, sym, ap, subst, rules}
 use Rattle.nsc_model.specs.declared.answer.Request.{Request}
 use Rattle.nsc_model.specs.Machine.{Cache, Discarded, live_entry, overtaken, present_cause}
 

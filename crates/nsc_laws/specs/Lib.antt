@@ -1,5 +1,6 @@
 pub mod Core
 pub mod Calls
+pub mod Reloading
 pub mod Replies
 pub mod Moments
 pub mod Turns

@@ -22,6 +22,7 @@ pub use histories::{prefixes_are_legal, replied_entries_were_live};
 pub use lists::{texts_give_lists, texts_spell_lists};
 pub use machines::{
     lone_insertions_are_not_overtaken, machine_events_are_moves, runs_are_answered,
+    runs_are_reloaded,
 };
 pub use replays::replays_are_answered;
 pub use replies::bytes_spell_one_reply;

@@ -10,6 +10,7 @@ ghost use Rattle.nsc_model.specs.declared.conf.DbConf.{DbConf};
 ghost use Rattle.nsc_model.specs.Machine.{Cache, new_cache, live_entry, overtaken, lookup, tick, invalidated};
 ghost use Rattle.nsc_laws.specs.Core.{Core, opening};
 ghost use Rattle.nsc_laws.specs.Calls.{Drives, TurnsBy, PassesBy, Event, EachAnswered};
+ghost use Rattle.nsc_laws.specs.Reloading.{EachReloaded};
 
 /// Each event of the machine is a list of moves of the core, made by one caller that has seen the whole history before
 /// it, with the same records and the same reply; so also where it stops. The reply is an answer to its request, and an entry
@@ -29,6 +30,14 @@ pub fn machine_events_are_moves()
 pub fn runs_are_answered()
     ensures { (db : Db) (settings : DbConf) (reloads : Option ℕ) (files : Content) (events : List Event) →
         EachAnswered db settings reloads events 0 (new_cache (part_of db files)) (Change 0 (part_of db files) ∷ []) }
+{}
+
+/// In every run of events from a new cache, whatever the files are at each of them, entries end for good only as ticks and
+/// invalidations end them: one that is not loaded again gave a not-found reply, or as many entries of its request ended before to be
+/// loaded again as the limit says. So of the machine is known what is known of a tick of many threads.
+pub fn runs_are_reloaded()
+    ensures { (db : Db) (settings : DbConf) (reloads : Option ℕ) (files : Content) (events : List Event) →
+        EachReloaded db settings reloads events 0 (new_cache (part_of db files)) (Change 0 (part_of db files) ∷ []) }
 {}
 
 /// An insertion that notes the present epoch, and whose request has no live entry, is overtaken by none: no invalidation came

@@ -4,3 +4,4 @@ pub mod Parts
 pub mod Outputs
 pub mod OneRound
 pub mod Chains
+pub mod Cacheds

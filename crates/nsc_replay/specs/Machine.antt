@@ -19,14 +19,14 @@ abbrev pub state_of : Content → ℕ → Databases Cached → State
 state_of files moment databases = record {
   files = files;
   moment = moment;
-  caches = record { passwd = databases.passwd.cache.cache; group = databases.group.cache.cache; hosts = databases.hosts.cache.cache; services = databases.services.cache.cache };
-  ticked = record { passwd = databases.passwd.cache.ticked; group = databases.group.cache.ticked; hosts = databases.hosts.cache.ticked; services = databases.services.cache.ticked };
+  caches = record { passwd = databases.passwd.writer.cache; group = databases.group.writer.cache; hosts = databases.hosts.writer.cache; services = databases.services.writer.cache };
+  ticked = record { passwd = databases.passwd.ticked; group = databases.group.ticked; hosts = databases.hosts.ticked; services = databases.services.ticked };
 }
 
 -- a database has its settings, and reads its part of the files
 pub record HasOwn (which : Db) (settings : Conf) (files : Content) (cached : Cached) : Type 0 where
-  pub own : cached.cache.settings ≡ settings_of settings which
-  pub limit : cached.cache.reloads ≡ settings.reloads
+  pub own : cached.settings ≡ settings_of settings which
+  pub limit : cached.reloads ≡ settings.reloads
   pub part : cached.files ≡ part_of which files
 
 -- so does each of them, and the moment is not later than the last one

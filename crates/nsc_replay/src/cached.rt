@@ -1,49 +1,79 @@
-ghost use Rattle.std.specs.Prelude.{◌≡◌, ◌≤◌, ◌<◌, ◌^◌, length, unwrap_or, option_map, IfOk, IfErr, OnOk};
+ghost use Rattle.std.specs.Prelude.{◌≡◌, ℕ, ◌≤◌, ◌<◌, ◌^◌, None, length, map, unwrap_or, option_map, IfNone, IfSome, IfOk, IfErr, OnOk};
 ghost use Rattle.std.specs.Arc.{arc_value};
 ghost use Rattle.nsc_model.specs.Files.{no_files};
 ghost use Rattle.nsc_model.specs.Entry.{key_limit};
 ghost use Rattle.nsc_model.specs.Answer.{reply_limit};
-ghost use Rattle.nsc_model.specs.Machine.{new_cache, lookup, tick, polled, ticked_after, ticked_by, invalidated};
+ghost use Rattle.nsc_model.specs.Machine.{new_cache, cached, lookup, tick, checked, polled, pruned, ticked_by, invalidated, due_of, room_of};
 ghost use Rattle.nsc_model.specs.Events.{ComesTo, TurnsTo};
-ghost use Rattle.nsc_plain.specs.PlainCache.{ticked_at};
-ghost use Rattle.nsc_model.specs.Faults.{FaultsBy, StopsBy};
+ghost use Rattle.nsc_model.specs.Sizes.{SizeFits};
+ghost use Rattle.nsc_pruner.specs.Due.{due_from};
+ghost use Rattle.nsc_turns.specs.Loads.{loaded_of};
+ghost use Rattle.nsc_turns.specs.Turns.{Passes};
+ghost use Rattle.nsc_replay.specs.Cached.{Faults, GivesUp, IsFresh};
 
-use nsc_base::{Bytes, NoMemory};
-use nsc_model::{Answerer, CacheFault, Content, DbConf, Kind};
-use nsc_plain::{DbFiles, PlainCache};
+use crate::prepared::Prepared;
+use nsc_base::{Buf, Bytes, NoMemory};
+use nsc_model::{Answerer, CacheFault, Content, DbConf, KEPT_LIMIT, Kind};
+use nsc_pruner::Due;
+use nsc_turns::{
+    Answering, Checked, HitOrMiss, check, insert, invalidate, load, loads, look, renew,
+};
+use nsc_words::Layout;
+use nsc_writer::{Loaded, Stamp, Writer};
 use std::alloc::Global;
 use std::marker::Model;
 use std::sync::Arc;
 
-/// A database of a replay: the files that it reads, with what was prepared from them, and its cache.
+/// A database of a replay: the files that it reads, whether its writer polled them, its settings, and its writer.
 #[derive(Drop)]
 pub struct Cached<A: Answerer> {
-    files: DbFiles<A>,
-    cache: PlainCache,
+    files: Prepared<A>,
+    is_polled: bool,
+    settings: DbConf,
+    reloads: Option<u32>,
+    writer: Writer,
+    ticked: u64,
+    reply: Buf,
 }
 
 impl<A: Answerer> Model for Cached<A> {
-    ghost use Rattle.std.specs.Prelude.{◌≡◌};
+    ghost use Rattle.std.specs.Prelude.{◌≡◌, None};
     ghost use Rattle.std.specs.Bool.{OnTrue};
+    ghost use Rattle.nsc_model.specs.Entry.{kept_limit};
+    ghost use Rattle.nsc_model.specs.Machine.{room_of};
     ghost use Rattle.nsc_replay.specs.Cached.{Cached};
 
     ghost Value = { Cached };
 
-    ghost view = { λ d. record { files = d.files.files; cache = d.cache } };
+    ghost view = { λ d. record { files = d.files; settings = d.settings; reloads = d.reloads; writer = d.writer; ticked = d.ticked } };
 
-    ghost invariant = { λ d. OnTrue d.files.is_polled (d.cache.cache.sources ≡ d.files.files) };
+    ghost invariant = { λ d. OnTrue d.is_polled (d.writer.cache.sources ≡ d.files) × (d.writer.layout.arena ≡ room_of d.settings) × (d.writer.slide ≡ None) × (d.reply.limit ≡ kept_limit) };
 }
 
 impl<A: Answerer> Cached<A> {
-    /// Every file absent, and an empty cache with these settings. Fails only for want of memory.
-    pub fn new(alloc: Global, conf: DbConf, reloads: Option<u32>) -> Result<Cached<A>, NoMemory>
-        requires some { 1 ≤ conf.size }
-        requires limit { conf.size ≤ 65536 }
-        ensures { IfOk result (λ cached. cached ≡ record { files = no_files; cache = record { settings = conf; reloads = reloads; cache = new_cache no_files; ticked = 0 } }) }
+    /// Every file absent, and an empty cache with these settings. All words that its entries will ever take are taken here. Fails
+    /// only for want of memory.
+    pub fn new(alloc: Global, settings: DbConf, reloads: Option<u32>) -> Result<Cached<A>, NoMemory>
+        requires { SizeFits settings }
+        ensures files { IfOk result (λ cached. cached.files ≡ no_files) }
+        ensures settings { IfOk result (λ cached. (cached.settings ≡ settings) × (cached.reloads ≡ reloads)) }
+        ensures cache { IfOk result (λ cached. cached.writer.cache ≡ new_cache no_files) }
+        ensures ticked { IfOk result (λ cached. cached.ticked ≡ 0) }
     {
+        let layout = Layout {
+            buckets: settings.size as usize,
+            arena: settings.room(),
+        };
+        let content = Arc::new(alloc, Content::none())?;
+        let (writer, _pass) = Writer::new(alloc, layout, content.clone()?)?;
         Ok(Cached {
-            files: DbFiles::new(Arc::new(alloc, Content::none())?),
-            cache: PlainCache::new(alloc, conf, reloads)?,
+            files: Prepared::new(content),
+            is_polled: false,
+            settings,
+            reloads,
+            writer,
+            ticked: 0,
+            reply: Buf::new(alloc, KEPT_LIMIT)?,
         })
     }
 
@@ -52,7 +82,8 @@ impl<A: Answerer> Cached<A> {
         ensures { self.new ≡ record self.old { files = unwrap_or (option_map (λ c. arc_value c) content) self.old.files } }
     {
         if let Some(content) = content {
-            self.files = DbFiles::new(content);
+            self.files = Prepared::new(content);
+            self.is_polled = false;
         }
     }
 
@@ -67,42 +98,180 @@ impl<A: Answerer> Cached<A> {
     ) -> Result<Bytes, CacheFault>
         requires key { length key.now ≤ key_limit }
         requires moment { now < 2 ^ 62 }
-        ensures files { self.new.files ≡ self.old.files }
-        ensures settings { self.new.cache.settings ≡ self.old.cache.settings }
-        ensures limit { self.new.cache.reloads ≡ self.old.cache.reloads }
-        ensures ticked { self.new.cache.ticked ≡ self.old.cache.ticked }
+        ensures rest { self.new ≡ record self.old { writer = self.new.writer } }
         ensures bound { IfOk result (λ reply. length reply ≤ reply_limit) }
-        ensures turn { IfOk result (λ reply. TurnsTo (lookup self.old.cache.settings now self.old.files (record { kind = kind; key = key.now }) self.old.cache.cache) self.new.cache.cache reply) }
-        ensures fault { IfErr result (FaultsBy (lookup self.old.cache.settings now self.old.files (record { kind = kind; key = key.now }) self.old.cache.cache) self.old.files self.old.cache.cache self.new.cache.cache) }
+        ensures turn { IfOk result (λ reply. TurnsTo (lookup self.old.settings now self.old.files (record { kind = kind; key = key.now }) self.old.writer.cache) self.new.writer.cache reply) }
+        ensures fault { IfErr result (Faults (lookup self.old.settings now self.old.files (record { kind = kind; key = key.now }) self.old.writer.cache) self.new.writer.cache) }
     {
-        self.cache
-            .lookup_prepared(alloc, &mut self.files, answers, kind, key, now)
+        if let Some(reply) = self.hit(alloc, kind, key)? {
+            return Ok(reply);
+        }
+        let stamp = match self.poll() {
+            Ok(stamp) => stamp,
+            Err(fault) => return Err(fault),
+        };
+        let loaded = self.load(alloc, answers, stamp, kind, key, now)?;
+        if self.settings.enabled {
+            self.writer.learn();
+            let (_said, loaded) = insert(&mut self.writer, loaded);
+            return Ok(loaded.into_reply());
+        }
+        Ok(loaded.into_reply())
+    }
+
+    // The reply of the live entry of the request, where the database is cached, if there is one.
+    fn hit(&mut self, alloc: Global, kind: Kind, key: &[u8]) -> Result<Option<Bytes>, NoMemory>
+        ensures rest { self.new ≡ record self.old { writer = self.new.writer } }
+        ensures bound { IfOk result (λ hit. IfSome hit (λ reply. length reply ≤ reply_limit)) }
+        ensures hit { IfOk result (λ hit. IfSome hit (λ reply. (now : ℕ) → TurnsTo (lookup self.old.settings now self.old.files (record { kind = kind; key = key.now }) self.old.writer.cache) self.new.writer.cache reply)) }
+        ensures none { IfOk result (λ hit. IfNone hit (cached self.old.settings (record { kind = kind; key = key.now }) self.old.writer.cache ≡ None)) }
+        ensures same { IfOk result (λ hit. IfNone hit (self.new ≡ self.old)) }
+    {
+        if !self.settings.enabled {
+            return Ok(None);
+        }
+        if let HitOrMiss::Hit(_) = look(&mut self.writer, kind, key, &mut self.reply) {
+            return Ok(Some(Bytes::copy(alloc, self.reply.bytes())?));
+        }
+        Ok(None)
+    }
+
+    // Polls the files; where the writer is known to have polled them, nothing is compared.
+    fn poll(&mut self) -> Result<Stamp, CacheFault>
+        ensures rest { self.new ≡ record self.old { writer = self.new.writer } }
+        ensures polled { OnOk result (Passes (polled self.old.files self.old.writer.cache) self.old.writer self.new.writer) }
+        ensures fresh { IfOk result (λ stamp. IsFresh self.old.files stamp self.new.writer) }
+        ensures fault { IfErr result (GivesUp (polled self.old.files self.old.writer.cache) self.old.writer self.new.writer) }
+    {
+        self.writer.learn();
+        let epoch = self.writer.epoch();
+        if self.is_polled {
+            return Ok(self.writer.confirm(epoch));
+        }
+        match self.writer.record_poll(self.files.content()?, epoch) {
+            Ok(stamp) => {
+                self.is_polled = true;
+                Ok(stamp)
+            }
+            Err(spent) => Err(CacheFault::Spent { count: spent.count }),
+        }
+    }
+
+    // The answer over the files, as it is to be inserted.
+    fn load(
+        &mut self,
+        alloc: Global,
+        answers: &A,
+        stamp: Stamp,
+        kind: Kind,
+        key: &[u8],
+        now: u64,
+    ) -> Result<Loaded, NoMemory>
+        requires key { length key.now ≤ key_limit }
+        requires moment { now < 2 ^ 62 }
+        ensures same { self.new ≡ self.old }
+        ensures loaded { IfOk result (λ l. l ≡ loaded_of (record { settings = self.old.settings; stamp = stamp; moment = now }) self.old.files (record { kind = kind; key = key.now }) 0) }
+    {
+        let answering = Answering {
+            settings: self.settings,
+            stamp,
+            moment: now,
+        };
+        let ready = self.files.lend(alloc, answers, 1)?;
+        let loaded = load(alloc, answers, &ready, &answering, kind, key, 0);
+        self.files.keep(ready);
+        loaded
     }
 
     /// A tick over the files as they are, at this moment in seconds.
     pub fn tick(&mut self, alloc: Global, answers: &A, now: u64) -> Result<(), CacheFault>
-        requires moment { now < 2 ^ 62 }
+        requires { now < 2 ^ 62 }
         ensures files { self.new.files ≡ self.old.files }
-        ensures settings { self.new.cache.settings ≡ self.old.cache.settings }
-        ensures limit { self.new.cache.reloads ≡ self.old.cache.reloads }
-        ensures ticked { OnOk result (self.new.cache.ticked ≡ ticked_by self.old.cache.settings self.old.cache.ticked self.new.cache.cache) }
-        ensures kept { IfErr result (λ fault. self.new.cache.ticked ≡ ticked_at fault self.old.cache.ticked (ticked_after self.old.cache.settings self.old.cache.ticked (polled self.old.files self.old.cache.cache))) }
-        ensures turn { OnOk result (ComesTo (tick self.old.cache.settings self.old.cache.reloads now self.old.files self.old.cache.ticked self.old.cache.cache) self.new.cache.cache) }
-        ensures fault { IfErr result (FaultsBy (tick self.old.cache.settings self.old.cache.reloads now self.old.files self.old.cache.ticked self.old.cache.cache) self.old.files self.old.cache.cache self.new.cache.cache) }
+        ensures settings { (self.new.settings ≡ self.old.settings) × (self.new.reloads ≡ self.old.reloads) }
+        ensures ticked { OnOk result (self.new.ticked ≡ ticked_by self.old.settings self.old.ticked self.new.writer.cache) }
+        ensures turn { OnOk result (ComesTo (tick self.old.settings self.old.reloads now self.old.files self.old.ticked self.old.writer.cache) self.new.writer.cache) }
+        ensures fault { IfErr result (Faults (tick self.old.settings self.old.reloads now self.old.files self.old.ticked self.old.writer.cache) self.new.writer.cache) }
     {
-        self.cache
-            .tick_prepared(alloc, &mut self.files, answers, now)
+        if !self.settings.enabled {
+            return Ok(());
+        }
+        let stamp = match self.poll() {
+            Ok(stamp) => stamp,
+            Err(fault) => return Err(fault),
+        };
+        match self.check(alloc, answers, stamp, now) {
+            Ok(()) => {
+                self.ticked = self.writer.version();
+                Ok(())
+            }
+            Err(fault) => Err(fault),
+        }
+    }
+
+    // After the poll of a tick: every entry ends where the files changed since the last one; else those that are due end, and are
+    // loaded again.
+    fn check(
+        &mut self,
+        alloc: Global,
+        answers: &A,
+        stamp: Stamp,
+        now: u64,
+    ) -> Result<(), CacheFault>
+        requires moment { now < 2 ^ 62 }
+        requires fresh { IsFresh self.old.files stamp self.old.writer }
+        ensures rest { self.new ≡ record self.old { writer = self.new.writer } }
+        ensures turn { OnOk result (Passes (checked self.old.settings self.old.reloads now self.old.ticked self.old.writer.cache) self.old.writer self.new.writer) }
+        ensures fault { IfErr result (GivesUp (checked self.old.settings self.old.reloads now self.old.ticked self.old.writer.cache) self.old.writer self.new.writer) }
+    {
+        let (settings, reloads, ticked) = (self.settings, self.reloads, self.ticked);
+        match check(&mut self.writer, alloc, &settings, reloads, ticked, now) {
+            Ok(Checked::Emptied) => Ok(()),
+            Ok(Checked::Listed(due)) => self.renew(alloc, answers, stamp, due, now),
+            Err(fault) => Err(fault),
+        }
+    }
+
+    // Loads those again that are due.
+    fn renew(
+        &mut self,
+        alloc: Global,
+        answers: &A,
+        stamp: Stamp,
+        mut due: Vec<Due>,
+        now: u64,
+    ) -> Result<(), CacheFault>
+        requires moment { now < 2 ^ 62 }
+        requires fresh { IsFresh self.old.files stamp self.old.writer }
+        requires due { due.items ≡ map (due_from self.old.reloads) (due_of now self.old.writer.cache.entries) }
+        ensures rest { self.new ≡ record self.old { writer = self.new.writer } }
+        ensures turn { OnOk result (Passes (pruned self.old.settings self.old.reloads now self.old.writer.cache) self.old.writer self.new.writer) }
+        ensures fault { IfErr result (GivesUp (pruned self.old.settings self.old.reloads now self.old.writer.cache) self.old.writer self.new.writer) }
+    {
+        let answering = Answering {
+            settings: self.settings,
+            stamp,
+            moment: now,
+        };
+        let ready = self.files.lend(alloc, answers, due.len())?;
+        let anew = loads(alloc, answers, &ready, &answering, &due);
+        self.files.keep(ready);
+        let anew = anew?;
+        self.writer.learn();
+        match renew(&mut self.writer, &mut due, &anew, now) {
+            Ok(()) => Ok(()),
+            Err(spent) => Err(CacheFault::Spent { count: spent.count }),
+        }
     }
 
     /// An invalidation.
     pub fn invalidate(&mut self) -> Result<(), CacheFault>
-        ensures files { self.new.files ≡ self.old.files }
-        ensures settings { self.new.cache.settings ≡ self.old.cache.settings }
-        ensures limit { self.new.cache.reloads ≡ self.old.cache.reloads }
-        ensures ticked { self.new.cache.ticked ≡ self.old.cache.ticked }
-        ensures turn { OnOk result (ComesTo (invalidated self.old.cache.cache) self.new.cache.cache) }
-        ensures fault { IfErr result (StopsBy (invalidated self.old.cache.cache) self.new.cache.cache) }
+        ensures rest { self.new ≡ record self.old { writer = self.new.writer } }
+        ensures turn { OnOk result (ComesTo (invalidated self.old.writer.cache) self.new.writer.cache) }
+        ensures fault { IfErr result (Faults (invalidated self.old.writer.cache) self.new.writer.cache) }
     {
-        self.cache.invalidate()
+        match invalidate(&mut self.writer) {
+            Ok(_) => Ok(()),
+            Err(spent) => Err(CacheFault::Spent { count: spent.count }),
+        }
     }
 }

@@ -6,6 +6,7 @@ mod frame;
 mod halt;
 mod machine;
 mod pieces;
+mod prepared;
 mod reading;
 mod reply;
 mod rounds;

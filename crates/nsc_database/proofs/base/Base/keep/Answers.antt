@@ -6,7 +6,8 @@ use Rattle.nsc_model.specs.Machine.{room_of}
 use Rattle.nsc_writer.specs.Writer.{IsAnswered}
 use Rattle.nsc_database.specs.Holds.{IsInserted}
 use Rattle.nsc_database.specs.Rests.{Desk}
-use Rattle.nsc_database.proofs.Shown.{answered_on, inserted_since}
+use Rattle.nsc_turns.proofs.Renewed.{answered_on}
+use Rattle.nsc_database.proofs.Shown.{inserted_since}
 use Rattle.nsc_database.proofs.Standing.{held_through}
 use Rattle.nsc_database.proofs.base.Base.keep.Goals as goal
 

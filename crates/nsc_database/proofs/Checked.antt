@@ -1,0 +1,31 @@
+-- What is known once a tick looked whether every entry ends.
+use Rattle.std.proofs.Common.{◌≡◌, ℕ, List, Option, Result, Ok, Err, refl, sym, ap, subst}
+use Rattle.nsc_model.specs.declared.conf.DbConf.{DbConf}
+use Rattle.nsc_model.specs.declared.fault.CacheFault.TheVariants as fault
+use Rattle.nsc_model.specs.declared.kind.Db.{Db}
+use Rattle.nsc_model.specs.declared.record.Record.{Record}
+use Rattle.nsc_model.specs.Content.{Content}
+use Rattle.nsc_model.specs.Machine.{is_outdated}
+use Rattle.nsc_laws.specs.Calls.{Tells}
+use Rattle.nsc_pruner.specs.Due.{Due}
+use Rattle.nsc_turns.specs.declared.ticks.Checked.{Checked}
+use Rattle.nsc_turns.specs.declared.ticks.Checked.TheVariants as checked
+use Rattle.nsc_turns.specs.Ticks.{Checks}
+use Rattle.nsc_writer.specs.Writer.{Writer}
+use Rattle.nsc_database.specs.Rests.{IsAtRest, Keeps}
+use Rattle.nsc_database.specs.Ticks.{AreListed, IsChecked}
+use Rattle.nsc_database.proofs.Invalidations.{finds_emptied, passes_emptied, rests_emptied}
+use Rattle.nsc_database.proofs.Listed.{are_listed}
+use Rattle.nsc_database.proofs.Standing.{at_rest_current, at_rest_on}
+
+pub at_rest_checked : {settings : DbConf} {limit : Option ℕ} {held : Option Content} {which : Db} {ticked : ℕ} (c : Checked) (most : Option ℕ) (now newest : ℕ) (w w' : Writer) → Checks (is_outdated settings w.cache.newest_version ticked) most now w w' (Ok c) → Tells w.seen w.cache → newest ≡ w.cache.newest_version
+    → IsAtRest settings limit held which ticked w → IsAtRest settings limit held which newest w'
+at_rest_checked {settings} {limit} {held} {which} {ticked} checked.Emptied most now newest w w' c t is s =
+    let on = at_rest_on w w' (rests_emptied w w' c.1 t) s in
+    (subst (λ (n : ℕ). Keeps settings limit n w') (sym is) (finds_emptied w w' c.1 t settings limit ticked s.0), on.1, on.2, on.3, on.4)
+at_rest_checked {settings} {limit} {held} {which} {ticked} (checked.Listed due) most now newest w w' c t is s = at_rest_current newest w w' c.2 is c.0 s
+
+pub is_checked : {settings : DbConf} {ticked : ℕ} (c : Checked) (limit : Option ℕ) (now : ℕ) (w w' : Writer) → Checks (is_outdated settings w.cache.newest_version ticked) limit now w w' (Ok c) → Tells w.seen w.cache → Keeps settings limit ticked w → IsChecked c settings limit now w'.seen
+is_checked {settings} {ticked} checked.Emptied limit now w w' c t k = (passes_emptied w w' w'.cache.epoch c.1 t refl).none
+is_checked {settings} {ticked} (checked.Listed due) limit now w w' c t k =
+    subst (λ (x : List Record × List Due). AreListed settings limit now x.0 x.1) (λ i. (sym (ap (λ (y : Writer). y.seen) c.2) i, sym c.1 i)) (are_listed settings limit now ticked w t k c.0)

@@ -1,0 +1,163 @@
+-- Turns of one caller, who has a writer to himself, are the machine's events.
+use Rattle.std.proofs.Common.{◌≡◌, ℕ, zero, suc, ◌+◌, All, inl, inr, arith, Bool, true, false, cond, not, ltb, List, [], ◌∷◌, ◌++◌, append_assoc, map, Option, Some, None, Result, Ok, Err, refl, sym, ap, subst, ◌∙◌}
+use Rattle.nsc_model.specs.declared.answer.Request.{Request}
+use Rattle.nsc_model.specs.declared.conf.DbConf.{DbConf}
+use Rattle.nsc_model.specs.declared.record.Record.{Record}
+use Rattle.nsc_model.specs.Answers.{answer_of}
+use Rattle.nsc_model.specs.Content.{Content}
+use Rattle.nsc_model.specs.Machine.{◌>>=◌, Cache, Candidate, Kept, Passed, Refusal, Stopped, candidate_again, checked, compacted_after, due_ended, due_of, candidates_of, invalidated, is_dropped, kept_answer, polled, is_outdated, all_words, last_count, stopped, tick, life_of, new_entry, pruned, refusal, reloaded, reloaded_of, room_of, tried, tried_all, tried_by, unchanged, is_due, next_count}
+use Rattle.std.specs.Prelude.{IfSome}
+use Rattle.std.proofs.lemmas.Bool.{ltb-true}
+use Rattle.nsc_model.specs.Entry.{Entry}
+use Rattle.nsc_model.specs.History.{IsLive, PolledSince, version_in}
+use Rattle.nsc_model.specs.Live.{Among}
+use Rattle.nsc_laws.specs.Calls.{Tells, entries_of}
+use Rattle.nsc_pruner.specs.Due.{Due, IsOver, due_from, marked_by, pruned_by}
+use Rattle.nsc_writer.specs.declared.loaded.Inserted.{Inserted}
+use Rattle.nsc_writer.specs.Loaded.{Loaded, kept_of}
+use Rattle.nsc_writer.specs.Writer.{Inserts, IsAnswered, Writer, passed_by, refusal_of}
+use Rattle.nsc_turns.specs.declared.answering.Answering.{Answering}
+use Rattle.nsc_turns.specs.Loads.{anew_of, loaded_of}
+use Rattle.nsc_turns.specs.Ticks.{Reloads, ReloadsOne, Renews, compacted_for, ended_of}
+use Rattle.nsc_turns.specs.Turns.{Passes, Stops, missed, tried_on}
+use Rattle.nsc_turns.proofs.Events.{inserts_tried, passes_after, passes_then, stops_after, stops_first}
+use Rattle.nsc_turns.proofs.Pruned.{due_end, gone_from}
+
+-- what is answered is over the newest version, polled since the last invalidation, and the words are those of the settings
+pub record IsAlone (a : Answering) (files : Content) (w : Writer) : Type 0 where
+  pub room : w.layout.arena ≡ room_of a.settings
+  pub version : a.stamp.version ≡ w.cache.newest_version
+  pub epoch : a.stamp.epoch ≡ w.cache.epoch
+  pub sources : w.cache.sources ≡ files
+
+-- ---- insertions
+
+alone_tried : (a : Answering) (files : Content) (w : Writer) (refused : Option Refusal) (k : Kept) → IsAlone a files w → IsAlone a files (passed_by (tried_by refused k w.cache) w)
+alone_tried a files w None k s = record { room = s.room; version = s.version; epoch = s.epoch; sources = s.sources }
+alone_tried a files w (Some (Refusal.TooLarge size)) k s = record { room = s.room; version = s.version; epoch = s.epoch; sources = s.sources }
+alone_tried a files w (Some _) k s = record { room = s.room; version = s.version; epoch = s.epoch; sources = s.sources }
+
+-- what was answered is the machine's entry
+kept_is : (a : Answering) (files : Content) (request : Request) (reloads : ℕ) (w : Writer) → IsAlone a files w → kept_of (loaded_of a files request reloads) w.cache.inserted ≡ new_entry a.settings a.moment (record { request = request; reloads = reloads }) w.cache
+kept_is a files request reloads w s =
+    λ i. let answer = answer_of (sym s.sources i) request in record { entry = record { number = w.cache.inserted; request = request; version = s.version i; answer = answer; timeout = a.moment + life_of a.settings answer }; reloads = reloads }
+
+pub tried_is : (a : Answering) (files : Content) (request : Request) (reloads : ℕ) (w : Writer) → IsAlone a files w → tried_on (loaded_of a files request reloads) w ≡ passed_by (tried a.settings a.moment (record { request = request; reloads = reloads }) w.cache) w
+tried_is a files request reloads w s =
+    λ i. let k = kept_is a files request reloads w s i in passed_by (tried_by (refusal (s.room i) (s.epoch i) k.entry w.cache) k w.cache) w
+
+-- ---- what is loaded again
+
+-- one after the other
+first_then : (first : Passed) (settings : DbConf) (moment : ℕ) (others : List Candidate) (w mid after : Writer) → mid ≡ passed_by first w → after ≡ passed_by (tried_all settings moment others mid.cache) mid
+    → after ≡ record w { cache = (tried_all settings moment others first.cache).cache; seen = ((tried_all settings moment others first.cache).adds ++ first.adds) ++ w.seen }
+first_then first settings moment others w mid after is rest =
+    rest ∙ ap (λ (x : Writer). passed_by (tried_all settings moment others x.cache) x) is
+    ∙ ap (λ (h : List Record). record w { cache = (tried_all settings moment others first.cache).cache; seen = h }) (sym (append_assoc (tried_all settings moment others first.cache).adds first.adds w.seen))
+
+pub reloads_tried : (a : Answering) (files : Content) (limit : Option ℕ) (ks : List Kept) (w w' : Writer) → IsAlone a files w → Reloads (map (gone_from limit) ks) (map (anew_of a files) (map (due_from limit) ks)) w w' → w' ≡ passed_by (reloaded a.settings a.moment (reloaded_of limit ks) w.cache) w
+reloads_tried a files limit [] w w' s r = r
+reloads_tried a files limit (k ∷ ks) w w' s r = by_drop (is_dropped limit k) (λ mid alone rest. reloads_tried a files limit ks mid w' alone rest) r.1 r.2 where
+  Rest : Writer → Type 0
+  Rest mid = Reloads (map (gone_from limit) ks) (map (anew_of a files) (map (due_from limit) ks)) mid w'
+
+  by_drop : (b : Bool) → ((mid : Writer) → IsAlone a files mid → Rest mid → w' ≡ passed_by (reloaded a.settings a.moment (reloaded_of limit ks) mid.cache) mid) → ReloadsOne (gone_from limit k) (cond b None (Some (loaded_of a files k.entry.request (candidate_again k).reloads))) w r.0 → Rest r.0
+      → w' ≡ passed_by (tried_all a.settings a.moment (map candidate_again (cond (not b) (k ∷ reloaded_of limit ks) (reloaded_of limit ks))) w.cache) w
+  by_drop true others same rest = others w s (subst Rest same rest)
+  by_drop false others one rest =
+      let l : Loaded = loaded_of a files k.entry.request (candidate_again k).reloads in
+      let on = inserts_tried one.0.0 l w r.0 one.0.1 in
+      let alone = subst (IsAlone a files) (sym on) (alone_tried a files w (refusal_of w l) (kept_of l w.cache.inserted) s) in
+      first_then (tried a.settings a.moment (candidate_again k) w.cache) a.settings a.moment (map candidate_again (reloaded_of limit ks)) w r.0 w' (on ∙ tried_is a files k.entry.request (candidate_again k).reloads w s) (others r.0 alone rest)
+
+-- ---- prunings
+
+ended_as : (limit : Option ℕ) (ks : List Kept) (cache : Cache) → compacted_for (ended_of (map (gone_from limit) ks)) cache ≡ compacted_after ks cache
+ended_as limit [] cache = refl
+ended_as limit (k ∷ ks) cache = refl
+
+-- the compaction of the ends is the machine's
+swept_as : (limit : Option ℕ) (now : ℕ) (w : Writer) (P : Result Passed Stopped → Writer → Type 0) → Tells w.seen w.cache
+    → P (compacted_for (ended_of (marked_by now (map (due_from limit) (due_of now w.cache.entries)) w)) (pruned_by now (map (due_from limit) (due_of now w.cache.entries)) w).cache) (pruned_by now (map (due_from limit) (due_of now w.cache.entries)) w)
+    → P (compacted_after (due_of now w.cache.entries) (due_ended limit now w.cache).cache) (passed_by (due_ended limit now w.cache) w)
+swept_as limit now w P t p =
+    let e = due_end limit now w t.entries_are.rising in
+    let r : compacted_for (ended_of (map (gone_from limit) (due_of now w.cache.entries))) (due_ended limit now w.cache).cache ≡ compacted_after (due_of now w.cache.entries) (due_ended limit now w.cache).cache = ended_as limit (due_of now w.cache.entries) (due_ended limit now w.cache).cache in
+    subst (λ (x : Result Passed Stopped). P x (passed_by (due_ended limit now w.cache) w)) r
+    (subst (λ (x : List Due × Writer). P (compacted_for (ended_of x.0) x.1.cache) x.1) (λ i. (e.marked i, e.pruned i)) p)
+
+-- ends and a compaction leave what is newest
+alone_swept : (a : Answering) (files : Content) (limit : Option ℕ) (now : ℕ) (ks : List Kept) (w swept : Writer) → IsAlone a files w → Passes (compacted_after ks (due_ended limit now w.cache).cache) (passed_by (due_ended limit now w.cache) w) swept → IsAlone a files swept
+alone_swept a files limit now [] w swept s p = subst (IsAlone a files) (sym p) (record { room = s.room; version = s.version; epoch = s.epoch; sources = s.sources })
+alone_swept a files limit now (k ∷ ks) w swept s p = by_cycle (ltb w.cache.cycle last_count) p where
+  ends : Cache
+  ends = (due_ended limit now w.cache).cache
+
+  by_cycle : (b : Bool) → Passes (cond b (Ok (unchanged (record ends { cycle = ends.cycle + 2; used = all_words ends.entries }))) (Err (stopped ends))) (passed_by (due_ended limit now w.cache) w) swept → IsAlone a files swept
+  by_cycle true q = subst (IsAlone a files) (sym q) (record { room = s.room; version = s.version; epoch = s.epoch; sources = s.sources })
+  by_cycle false q = absurd q
+
+pub renews_pruned : (a : Answering) (files : Content) (limit : Option ℕ) (w w' : Writer) → Tells w.seen w.cache → IsAlone a files w → Renews a.moment (map (due_from limit) (due_of a.moment w.cache.entries)) (map (anew_of a files) (map (due_from limit) (due_of a.moment w.cache.entries))) w w' → Passes (pruned a.settings limit a.moment w.cache) w w'
+renews_pruned a files limit w w' t s r =
+    let ends = due_ended limit a.moment w.cache in
+    let due = due_of a.moment w.cache.entries in
+    let swept : Writer = r.0 in
+    let sweeps = swept_as limit a.moment w (λ (result : Result Passed Stopped) (e : Writer). Passes result e swept) t r.1 in
+    let reloads = subst (λ (marked : List Due). Reloads marked (map (anew_of a files) (map (due_from limit) due)) swept w') (due_end limit a.moment w t.entries_are.rising).marked r.2 in
+    let last = reloads_tried a files limit due swept w' (alone_swept a files limit a.moment due w swept s sweeps) reloads in
+    passes_after _ ends w (passed_by ends w) w' refl (passes_then (compacted_after due ends.cache) (λ after. Ok (reloaded a.settings a.moment (reloaded_of limit due) after)) (passed_by ends w) swept w' sweeps last)
+
+pub renewal_stops : (a : Answering) (limit : Option ℕ) (count : ℕ) (w w' : Writer) → Tells w.seen w.cache
+    → Stops (compacted_for (ended_of (marked_by a.moment (map (due_from limit) (due_of a.moment w.cache.entries)) w)) (pruned_by a.moment (map (due_from limit) (due_of a.moment w.cache.entries)) w).cache) count (pruned_by a.moment (map (due_from limit) (due_of a.moment w.cache.entries)) w) w'
+    → Stops (pruned a.settings limit a.moment w.cache) count w w'
+renewal_stops a limit count w w' t s =
+    let ends = due_ended limit a.moment w.cache in
+    let due = due_of a.moment w.cache.entries in
+    let stop = swept_as limit a.moment w (λ (result : Result Passed Stopped) (e : Writer). Stops result count e w') t s in
+    stops_after _ ends count w (passed_by ends w) w' refl (stops_first (compacted_after due ends.cache) (λ after. Ok (reloaded a.settings a.moment (reloaded_of limit due) after)) count (passed_by ends w) w' stop)
+
+-- ---- what a tick does after its poll
+
+pub outdated_checks : (P : Result Passed Stopped → Type 0) (settings : DbConf) (limit : Option ℕ) (now ticked : ℕ) (cache : Cache) → is_outdated settings cache.newest_version ticked ≡ true → P (invalidated cache) → P (checked settings limit now ticked cache)
+outdated_checks P settings limit now ticked cache on p = subst P (sym (ap (λ (b : Bool). cond b (invalidated cache) (pruned settings limit now cache)) on)) p
+
+pub current_checks : (P : Result Passed Stopped → Type 0) (settings : DbConf) (limit : Option ℕ) (now ticked : ℕ) (cache : Cache) → is_outdated settings cache.newest_version ticked ≡ false → P (pruned settings limit now cache) → P (checked settings limit now ticked cache)
+current_checks P settings limit now ticked cache off p = subst P (sym (ap (λ (b : Bool). cond b (invalidated cache) (pruned settings limit now cache)) off)) p
+
+-- a whole tick of a database that is cached, and of one that is not
+pub tick_on : (P : Result Passed Stopped → Type 0) (settings : DbConf) (limit : Option ℕ) (now : ℕ) (files : Content) (ticked : ℕ) (cache : Cache) → settings.enabled ≡ true → P (polled files cache >>= checked settings limit now ticked) → P (tick settings limit now files ticked cache)
+unfolding tick
+tick_on P settings limit now files ticked cache on p = subst P (sym (ap (λ (b : Bool). cond b (polled files cache >>= checked settings limit now ticked) (Ok (unchanged cache))) on)) p
+
+pub tick_off : (settings : DbConf) (limit : Option ℕ) (now : ℕ) (files : Content) (ticked : ℕ) (cache : Cache) → settings.enabled ≡ false → tick settings limit now files ticked cache ≡ Ok (unchanged cache)
+unfolding tick
+tick_off settings limit now files ticked cache off = ap (λ (b : Bool). cond b (polled files cache >>= checked settings limit now ticked) (Ok (unchanged cache))) off
+
+-- ---- the insertion of a lookup
+
+pub kept_by_insert : (a : Answering) (files : Content) (request : Request) (said : Inserted) (l : Loaded) (w w' : Writer) → a.settings.enabled ≡ true → IsAlone a files w → l ≡ loaded_of a files request 0 → Inserts said l (missed l w) w' → (kept_answer a.settings a.moment request w.cache).cache ≡ w'.cache
+kept_by_insert a files request said l w w' on s is i =
+    let w1 = missed (loaded_of a files request 0) w in
+    let alone : IsAlone a files w1 = record { room = s.room; version = s.version; epoch = s.epoch; sources = s.sources } in
+    let tries : w' ≡ tried_on (loaded_of a files request 0) w1 = subst (λ (x : Loaded). w' ≡ tried_on x (missed x w)) is (inserts_tried said l (missed l w) w' i) in
+    ap (λ (b : Bool). (cond b (tried_all a.settings a.moment (candidates_of request) w.cache) (unchanged w.cache)).cache) on ∙ sym (ap (λ (x : Writer). x.cache) (tries ∙ tried_is a files request 0 w1 alone))
+
+-- ---- what is due, and what is answered for it
+
+all_cons : {A : Type 0} (P : A → Type 0) (x : A) (xs : List A) → P x → All P xs → All P (x ∷ xs)
+all_cons P x xs first rest zero d low = first
+all_cons P x xs first rest (suc i) d low = rest i d (omega arith)
+
+pub all_over : (limit : Option ℕ) (now : ℕ) (h : List Record) (ks : List Kept) → ((e : Entry) → Among (entries_of ks) e → IsLive h e) → All (IsOver h now) (map (due_from limit) (due_of now ks))
+all_over limit now h [] live = λ i d low. absurd (omega arith)
+all_over limit now h (k ∷ ks) live = by_test (is_due now k) refl (all_over limit now h ks (λ e a. live e (inr a))) where
+  by_test : (b : Bool) → is_due now k ≡ b → All (IsOver h now) (map (due_from limit) (due_of now ks)) → All (IsOver h now) (map (due_from limit) (cond b (k ∷ due_of now ks) (due_of now ks)))
+  by_test true over rest = all_cons (IsOver h now) (due_from limit k) (map (due_from limit) (due_of now ks)) (k.entry, (live k.entry (inl refl)).inserted, refl, ltb-true k.entry.timeout now over) rest
+  by_test false later rest = rest
+
+pub all_answered : (a : Answering) (files : Content) (h : List Record) (due : List Due) → version_in h a.stamp.version ≡ Some files → PolledSince h a.stamp.version a.stamp.epoch → All (λ load. IfSome load (IsAnswered h)) (map (anew_of a files) due)
+all_answered a files h [] version since = λ i o low. absurd (omega arith)
+all_answered a files h (d ∷ due) version since = all_cons (λ load. IfSome load (IsAnswered h)) (anew_of a files d) (map (anew_of a files) due) (by_drop d.dropped) (all_answered a files h due version since) where
+  by_drop : (b : Bool) → IfSome (cond b None (Some (loaded_of a files d.request (next_count d.reloads)))) (IsAnswered h)
+  by_drop true = tt
+  by_drop false = record { files = files; version = version; answer = refl; polled = since }

@@ -1,0 +1,33 @@
+-- What turns make of a writer: what the machine makes of its cache, with the records that go to the history.
+use Rattle.std.specs.Prelude.{◌≡◌, ℕ, List, Option, Some, None, Result, Ok, Err}
+use Rattle.nsc_model.specs.declared.answer.Request.{Request}
+use Rattle.nsc_model.specs.Machine.{Kept, Passed, Stopped, tried_by, used_now}
+use Rattle.nsc_shelf.specs.Shelf.{GivesHit}
+use Rattle.nsc_writer.specs.Loaded.{Loaded, kept_of}
+use Rattle.nsc_shelf.specs.Uses.{counted}
+use Rattle.nsc_writer.specs.Writer.{Writer, passed_by, refusal_of}
+use Rattle.nsc_turns.specs.declared.entries.HitOrMiss.{HitOrMiss}
+use Rattle.nsc_turns.specs.declared.entries.HitOrMiss.TheVariants as looked
+
+-- an event passes
+abbrev pub Passes : Result Passed Stopped → Writer → Writer → Type 0
+Passes (Ok passed) before after = after ≡ passed_by passed before
+Passes (Err stop) before after = ⊥
+
+-- an event stops, at this count
+abbrev pub Stops : Result Passed Stopped → ℕ → Writer → Writer → Type 0
+Stops (Ok passed) count before after = ⊥
+Stops (Err stop) count before after = (count ≡ stop.count) × (after ≡ passed_by (record { cache = stop.cache; adds = stop.adds }) before)
+
+-- a look for the live entry that answers a request: its reply, and its count of reloads begins anew; or the number of invalidations
+abbrev pub Looks : Option Kept → Request → HitOrMiss → Writer → Writer → List ℕ → Type 0
+Looks found request (looked.Hit hit) before after reply = GivesHit found (Some hit) reply × (after ≡ record before { cache = record before.cache { entries = used_now request before.cache.entries }; hits = counted hit.not_found before.hits })
+Looks found request (looked.Missed epoch) before after reply = GivesHit found None reply × (epoch ≡ before.cache.epoch) × (after ≡ before)
+
+-- a miss is counted
+abbrev pub missed : Loaded → Writer → Writer
+missed l w = record w { misses = counted l.answer.not_found w.misses }
+
+-- the insertion of this was tried
+abbrev pub tried_on : Loaded → Writer → Writer
+tried_on l w = passed_by (tried_by (refusal_of w l) (kept_of l w.cache.inserted) w.cache) w

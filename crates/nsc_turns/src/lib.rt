@@ -1,0 +1,10 @@
+//! The turns of a cache over its one writer: lookups, ticks and invalidations do what the machine does.
+#![tactic(auto)]
+
+mod answering;
+mod entries;
+mod ticks;
+
+pub use answering::{Answering, load, loads};
+pub use entries::{HitOrMiss, insert, invalidate, look};
+pub use ticks::{Checked, check, renew};
