@@ -1,5 +1,5 @@
 -- What the calls on nodes come to.
-use Rattle.std.specs.Prelude.{◌≡◌, ◌≢◌, ℕ, ◌+◌, ◌<◌, ◌≤◌, ◌^◌, ◌==◌, true, false, if◌then◌else◌, List, ◌++◌, length, map, slice_index, Option, Some, None}
+use Rattle.std.specs.Prelude.{◌≡◌, ℕ, ◌+◌, ◌<◌, ◌≤◌, ◌^◌, ◌==◌, true, false, if◌then◌else◌, List, ◌++◌, length, map, slice_index, Option, Some, None}
 use Rattle.nsc_words.specs.declared.layout.Layout.{Layout}
 use Rattle.nsc_words.specs.declared.node.Node.{Node}
 use Rattle.nsc_words.specs.declared.node.Placed.{Placed}
@@ -36,13 +36,6 @@ changed_at place change nodes = map (λ p. if p.place == place then change p els
 
 abbrev pub ended : Placed → Placed
 ended p = record p { usable = false }
-
-abbrev pub all_ended : List Placed → List Placed
-all_ended nodes = map ended nodes
-
--- the words but for these nodes' STATEs are as before
-abbrev pub IsSameButStates : List ℕ → List ℕ → List Placed → Type 0
-IsSameButStates old new nodes = (i : ℕ) → ((p : Placed) → Among p nodes → i ≢ p.place + 6) → slice_index new i ≡ slice_index old i
 
 abbrev pub with_reloads : ℕ → Placed → Placed
 with_reloads count p = record p { node = record p.node { reloads = count } }

@@ -3,8 +3,6 @@
 #![tactic(auto)]
 
 mod chaining;
-mod changing;
-mod ending;
 mod laws;
 mod memory;
 mod numbers;
@@ -15,8 +13,6 @@ mod walking;
 mod writing;
 
 pub use chaining::{chain, lead};
-pub use changing::{end_node, set_reloads};
-pub use ending::end_nodes;
 pub use laws::nodes_are_read_back;
 pub use memory::{VecWords, Words};
 pub use numbers::first_from;

@@ -54,7 +54,7 @@ pub fn place_bytes<W: Words>(
     Some(at)
 }
 
-// Writes a node at a place. Its NEXT is 0.
+// Writes a node at a place, but for its NEXT, which is set when it is linked.
 fn put_node<W: Words>(table: &mut W, at: usize, fixed: Fixed, key: &[u8], reply: &[u8])
     requires kind { fixed.kind < 256 }
     requires key { length key.now ≤ 1024 }
@@ -71,12 +71,12 @@ fn put_node<W: Words>(table: &mut W, at: usize, fixed: Fixed, key: &[u8], reply:
     put_bytes(table, at + KEY + key.len().div_ceil(8), reply);
 }
 
-// The first words of a usable node.
-fn head_words(fixed: Fixed, key_len: usize, reply_len: usize) -> [u64; 8]
+// The first words of a usable node, up to its NEXT.
+fn head_words(fixed: Fixed, key_len: usize, reply_len: usize) -> [u64; 7]
     requires kind { fixed.kind < 256 }
     requires key { key_len ≤ 1024 }
     requires reply { reply_len ≤ 65536 }
-    ensures { result ≡ fixed.number ∷ shape_word fixed.kind key_len ∷ size_word reply_len fixed.not_found ∷ fixed.version ∷ fixed.timeout ∷ fixed.reloads ∷ 1 ∷ 0 ∷ [] }
+    ensures { result ≡ fixed.number ∷ shape_word fixed.kind key_len ∷ size_word reply_len fixed.not_found ∷ fixed.version ∷ fixed.timeout ∷ fixed.reloads ∷ 1 ∷ [] }
 {
     [
         fixed.number,
@@ -86,6 +86,5 @@ fn head_words(fixed: Fixed, key_len: usize, reply_len: usize) -> [u64; 8]
         fixed.timeout,
         fixed.reloads,
         1,
-        0,
     ]
 }

@@ -35,7 +35,7 @@ pub fn put_bytes<W: Words>(table: &mut W, at: usize, bytes: &[u8])
     }
 }
 
-/// Copies words down to a place that is not behind theirs. Each is read before it is written over.
+/// Copies words down to a place that is not behind theirs. Each is read before it is written over; where the place is theirs, none is set.
 pub fn move_down<W: Words>(table: &mut W, from: usize, to: usize, count: usize)
     requires down { to ≤ from }
     requires size { length (W.words table.old) < 2 ^ 63 }
@@ -44,6 +44,9 @@ pub fn move_down<W: Words>(table: &mut W, from: usize, to: usize, count: usize)
     ensures written { IsWritten (W.words table.old) (W.words table.new) to count (λ i. slice_index (W.words table.old) (from + i)) }
     ensures rest { W.rest table.new ≡ W.rest table.old }
 {
+    if to == from {
+        return;
+    }
     for index in 0..count {
         let word = table.get(from + index);
         table.set(to + index, word);
