@@ -16,6 +16,7 @@ use Rattle.nsc_model.specs.Reloads.{AreDropped, IsDropped, Reloaded, ends, inval
 use Rattle.nsc_laws.specs.Calls.{Tells, entries_of}
 use Rattle.nsc_laws.proofs.CoreLawRecords.{ended_or_not}
 use Rattle.nsc_laws.proofs.MachineLawEnds.{changes_ends}
+use Rattle.nsc_laws.proofs.Reloads.{IsRight, dropped_through, reloaded_ended, replaced_on}
 use Rattle.nsc_shelf.specs.Shelf.{has_number, is_numbered}
 use Rattle.nsc_writer.specs.Writer.{Writer, emptied_by, without_entry}
 use Rattle.nsc_database.specs.Rests.{IsPacked, IsReloaded, Keeps}
@@ -26,10 +27,6 @@ on_true true A B f a = f a
 on_true false A B f a = a
 
 -- ---- an invalidation
-
-dropped_through : (limit : Option ℕ) (ks : List Kept) (h : List Record) → AreDropped limit h → AreDropped limit (ends_of by_invalidation ks h)
-dropped_through limit [] h d = d
-dropped_through limit (k ∷ ks) h d = dropped_through limit ks (End k.entry.number Invalidated ∷ h) d
 
 pub ends_through : (cause : Kept → Ending) (ks : List Kept) (h : List Record) → ends (ends_of cause ks h) ≡ ends h + length ks
 ends_through cause [] h = omega arith
@@ -71,19 +68,6 @@ keeps_compacted settings limit ticked used cycle w w' is k = subst (Keeps settin
 
 -- ---- one end
 
-replaced_rises : (more h : List Record) (request : Request) → replaced h request ≤ replaced (more ++ h) request
-replaced_rises [] h request = omega arith
-replaced_rises (Change v c ∷ more) h request = replaced_rises more h request
-replaced_rises (Poll v ∷ more) h request = replaced_rises more h request
-replaced_rises (Load e ∷ more) h request = replaced_rises more h request
-replaced_rises (End n (Expired now) ∷ more) h request = replaced_rises more h request
-replaced_rises (End n Invalidated ∷ more) h request = replaced_rises more h request
-replaced_rises (End n Replaced ∷ more) h request = let low = replaced_rises more h request in omega arith
-replaced_rises (Invalid n ∷ more) h request = replaced_rises more h request
-
-pub replaced_on : (a b : List Record) (request : Request) → IsPrefix a b → replaced a request ≤ replaced b request
-replaced_on a b request p = let low = replaced_rises p.0 a request in let same : replaced b request ≡ replaced (p.0 ++ a) request = ap (λ (h : List Record). replaced h request) p.1 in omega arith
-
 all_filtered : (P : Kept → Type 0) (test : Kept → Bool) (ks : List Kept) → All P ks → All P (filter test ks)
 all_filtered P test [] all = λ i d low. absurd (omega arith)
 all_filtered P test (k ∷ ks) all = by_test (test k) (all_filtered P test ks (λ i d low. all (suc i) d (omega arith))) where
@@ -91,17 +75,6 @@ all_filtered P test (k ∷ ks) all = by_test (test k) (all_filtered P test ks (�
   by_test true rest zero d low = all 0 k (omega arith)
   by_test true rest (suc i) d low = rest i d (omega arith)
   by_test false rest i d low = rest i d low
-
--- why this end is right: a dropped entry may be dropped
-abbrev pub IsRight : Option ℕ → List Record → ℕ → Ending → Type 0
-IsRight limit h n (Expired now) = IsDropped limit h (load_of h n)
-IsRight limit h n Invalidated = ⊥
-IsRight limit h n Replaced = Unit {0}
-
-reloaded_ended : (limit : Option ℕ) (h : List Record) (n : ℕ) (cause : Ending) → IsRight limit h n cause → Reloaded limit h → Reloaded limit (End n cause ∷ h)
-reloaded_ended limit h n (Expired now) right r = record { dropped = (right, r.dropped); invalidated = r.invalidated }
-reloaded_ended limit h n Invalidated right r = absurd right
-reloaded_ended limit h n Replaced right r = record { dropped = r.dropped; invalidated = r.invalidated }
 
 pub keeps_ended : (settings : DbConf) (limit : Option ℕ) (ticked n : ℕ) (cause : Ending) (w : Writer) → IsRight limit w.seen n cause → Keeps settings limit ticked w → Keeps settings limit ticked (without_entry n cause w)
 keeps_ended settings limit ticked n cause w right k = record {

@@ -12,7 +12,6 @@ use Rattle.nsc_model.specs.Reloads.{IsDropped, ends, one_of, replaced}
 use Rattle.nsc_laws.specs.Calls.{Tells}
 use Rattle.nsc_laws.proofs.Requests.{request_same}
 use Rattle.nsc_pruner.specs.Due.{Due, due_cause_of, marked_by, pruned_by, pruned_one}
-use Rattle.nsc_writer.specs.Loaded.{Loaded}
 use Rattle.nsc_shelf.specs.Shelf.{has_number}
 use Rattle.nsc_writer.specs.Writer.{Writer, ending_of, without_entry}
 use Rattle.nsc_writer.proofs.Later.{end_on, load_on, prefix_through}
@@ -20,9 +19,10 @@ use Rattle.nsc_pruner.proofs.Pruned.{head_of, over_allows, tail_of}
 use Rattle.nsc_writer.proofs.Told.{ended_tells}
 use Rattle.nsc_database.specs.Rests.{Keeps}
 use Rattle.nsc_turns.specs.Ticks.{ended_of}
-use Rattle.nsc_database.specs.Ticks.{AreAnew, HasNumber, IsDue, IsRenewed}
+use Rattle.nsc_database.specs.Ticks.{HasNumber, IsDue, IsRenewed}
 use Rattle.nsc_database.proofs.Again.{load_of_is}
-use Rattle.nsc_database.proofs.Ended.{IsRight, gone_ended, keeps_ended, replaced_on}
+use Rattle.nsc_database.proofs.Ended.{gone_ended, keeps_ended}
+use Rattle.nsc_laws.proofs.Reloads.{IsRight, replaced_on}
 
 -- what is due stays so as the history goes on
 due_on : (limit : Option ℕ) (now : ℕ) (a b : List Record) (d : Due) → IsPrefix a b → IsDue limit now a d → IsDue limit now b d
@@ -170,11 +170,3 @@ all_count settings limit now ticked (d ∷ due) w all t k =
             ended = rest.ended;
             same = rest.same;
           }
-
--- what is loaded again for those that are due is so also where they are marked
-pub anew_marked : (now : ℕ) (h : List Record) (due : List Due) (w : Writer) (loads : List (Option Loaded)) → AreAnew h due loads → AreAnew h (marked_by now due w) loads
-anew_marked now h [] w [] a = a
-anew_marked now h [] w (load ∷ loads) a = a
-anew_marked now h (d ∷ due) w [] a = a
-anew_marked now h (d ∷ due) w (None ∷ loads) a = (a.0, anew_marked now h due (pruned_one now d w) loads a.1)
-anew_marked now h (d ∷ due) w (Some l ∷ loads) a = (a.0, anew_marked now h due (pruned_one now d w) loads a.1)

@@ -1,6 +1,7 @@
 -- The ends of a tick with their compaction, and what is loaded again after them.
 use Rattle.std.proofs.Common.{◌≡◌, ◌∙◌, drop, ℕ, zero, suc, ◌+◌, ◌<◌, ◌≤◌, ◌⊎◌, Bool, true, false, All, List, [], ◌∷◌, cond, ltb, get_or, length, map, Option, Some, None, Result, Ok, Err, refl, sym, ap, subst, arith, inl, inr}
 use Rattle.std.proofs.Math.Nat.{min-le_left}
+use Rattle.std.proofs.lemmas.List.{length-map}
 use Rattle.std.specs.Bool.{OnFalse, OnTrue}
 use Rattle.std.specs.Prelude.{IfErr, IfSome, OnOk}
 use Rattle.nsc_model.specs.declared.store.Spent.{Spent}
@@ -26,15 +27,17 @@ use Rattle.nsc_turns.specs.declared.answering.Answering.{Answering}
 use Rattle.nsc_turns.specs.Loads.{anew_of, loaded_of}
 use Rattle.nsc_turns.specs.Ticks.{Reloads, ReloadsOne, Renews, compacted_for, ended_of}
 use Rattle.nsc_turns.specs.Turns.{Passes, Stops}
+use Rattle.nsc_turns.proofs.Machines.{all_answered}
 use Rattle.nsc_turns.proofs.Renewed.{answered_on, spends}
-use Rattle.nsc_writer.proofs.Later.{end_on}
+use Rattle.nsc_writer.proofs.Later.{end_on, polled_on, version_on}
 use Rattle.nsc_database.specs.Rests.{IsPacked, Keeps, Rests, IsAtRest}
 use Rattle.nsc_database.specs.Steady.{KeepsVersion}
-use Rattle.nsc_database.specs.Ticks.{AreAnew, AreOver, HasNumber, IsAnew, IsDue, IsPending, IsRenewed, HaveStamp, LoadsBut, compacted_by}
+use Rattle.nsc_database.specs.Ticks.{AreAnew, AreOver, HasNumber, IsDue, IsPending, IsRenewed, LoadsBut, compacted_by}
 use Rattle.nsc_database.proofs.Again.{none_but}
 use Rattle.nsc_database.proofs.Invalidations.{packed_unmoved}
-use Rattle.nsc_database.proofs.Ended.{keeps_compacted, packed_compacted, packed_spent, replaced_on}
-use Rattle.nsc_database.proofs.Pruning.{all_cons, all_count, all_leave, anew_marked}
+use Rattle.nsc_database.proofs.Ended.{keeps_compacted, packed_compacted, packed_spent}
+use Rattle.nsc_laws.proofs.Reloads.{replaced_on}
+use Rattle.nsc_database.proofs.Pruning.{all_count, all_leave}
 use Rattle.nsc_database.proofs.Reloading.{pend_inserted, pend_past, pends}
 use Rattle.nsc_database.proofs.Rests.{rests_inserted, rests_same, rests_through}
 use Rattle.nsc_database.proofs.Steady.{keeps_through, still_kept, version_pruned}
@@ -133,12 +136,26 @@ all_over limit now h due all i d low = let x = all i d low in (x.entry, x.insert
 
 -- ---- what is loaded again
 
-pub anew_on : (a b : List Record) (due : List Due) (loads : List (Option Loaded)) → Legal a → Legal b → IsPrefix a b → AreAnew a due loads → AreAnew b due loads
-anew_on a b [] [] la lb p n = n
-anew_on a b [] (load ∷ loads) la lb p n = n
-anew_on a b (d ∷ due) [] la lb p n = n
-anew_on a b (d ∷ due) (None ∷ loads) la lb p n = (n.0, anew_on a b due loads la lb p n.1)
-anew_on a b (d ∷ due) (Some l ∷ loads) la lb p n = ((n.0.0, n.0.1, n.0.2, answered_on a b l lb la p n.0.3), anew_on a b due loads la lb p n.1)
+pub anew_on : (a b : List Record) (epoch : ℕ) (due : List Due) (loads : List (Option Loaded)) → Legal a → Legal b → IsPrefix a b → AreAnew a epoch due loads → AreAnew b epoch due loads
+anew_on a b epoch due loads la lb p n = record {
+  answering = n.answering;
+  files = n.files;
+  version = version_on a b n.answering.stamp.version n.files lb la p n.version;
+  since = polled_on a b n.answering.stamp.version n.answering.stamp.epoch p n.since;
+  stamped = n.stamped;
+  made = n.made;
+}
+
+pub answered_anew : (h : List Record) (epoch : ℕ) (due : List Due) (loads : List (Option Loaded)) → AreAnew h epoch due loads → All (λ load. IfSome load (IsAnswered h)) loads
+answered_anew h epoch due loads n = subst (λ (ls : List (Option Loaded)). All (λ load. IfSome load (IsAnswered h)) ls) (sym n.made) (all_answered n.answering n.files h due n.version n.since)
+
+pub as_many : (h : List Record) (epoch : ℕ) (due : List Due) (loads : List (Option Loaded)) → AreAnew h epoch due loads → length loads ≤ length due
+as_many h epoch due loads n = let same : length loads ≡ length (map (anew_of n.answering n.files) due) = ap (λ (ls : List (Option Loaded)). length ls) n.made in omega (arith, length-map due (anew_of n.answering n.files))
+
+-- the marks make no difference
+anew_marked : (a : Answering) (files : Content) (now : ℕ) (due : List Due) (w : Writer) → map (anew_of a files) (marked_by now due w) ≡ map (anew_of a files) due
+anew_marked a files now [] w = refl
+anew_marked a files now (d ∷ due) w = ap (λ (l : List (Option Loaded)). anew_of a files d ∷ l) (anew_marked a files now due (pruned_one now d w))
 
 -- the lock's writer after it
 pub at_rest_swept : {settings : DbConf} {limit : Option ℕ} {held : Option Content} {which : Db} {ticked : ℕ} {now : ℕ} {due : List Due} (w w' w'' : Writer) → Swept settings limit now ticked due w w' → Rests w' w'' → LoadsAgain w''.layout.arena w''.seen → IsAtRest settings limit held which ticked w → IsAtRest settings limit held which ticked w''
@@ -150,44 +167,8 @@ at_rest_swept {settings} {limit} {held} {which} {ticked} {now} {due} w w' w'' s 
   r.slide ∙ s.slide ∙ st.4,
 )
 
--- one insertion
-pub reloads_one : (h : List Record) (d : Due) (l : Loaded) (said : Inserted) (w0 w w' : Writer) → h ≡ w0.seen → Rests w0 w → IsRenewed h d → d.ended ≡ true → IsAnew h d (Some l) → Inserts said l w w' → Rests w0 w'
-reloads_one h d l said w0 w w' same r renewed ended anew i =
-    let low = renewed ended anew.0 in
-    let few = anew.2 in
-    let rise = replaced_on h w.seen d.request (subst (λ (x : List Record). IsPrefix x w.seen) (sym same) r.on) in
-    let asked : replaced w.seen l.request ≡ replaced w.seen d.request = ap (replaced w.seen) anew.1 in
-    rests_through w0 w w' r (rests_inserted said l w w' i (omega arith))
-
 next_low : (n : ℕ) → next_count n ≤ n + 1
 next_low n = min-le_left (n + 1) last_count
-
-pub anew_all : (a : Answering) (files : Content) (h : List Record) (due : List Due) → version_in h a.stamp.version ≡ Some files → PolledSince h a.stamp.version a.stamp.epoch → AreAnew h due (map (anew_of a files) due)
-anew_all a files h [] version since = tt
-anew_all a files h (d ∷ due) version since = (by_drop d.dropped refl, anew_all a files h due version since) where
-  by_drop : (b : Bool) → d.dropped ≡ b → IsAnew h d (cond b None (Some (loaded_of a files d.request (next_count d.reloads))))
-  by_drop true is = is
-  by_drop false is = (is, refl, next_low d.reloads, record { files = files; version = version; answer = refl; polled = since })
-
-pub stamps_all : (a : Answering) (files : Content) (due : List Due) → HaveStamp a.stamp.epoch (map (anew_of a files) due)
-stamps_all a files [] = tt
-stamps_all a files (d ∷ due) = by_drop d.dropped (stamps_all a files due) where
-  by_drop : (b : Bool) → HaveStamp a.stamp.epoch (map (anew_of a files) due) → HaveStamp a.stamp.epoch (cond b None (Some (loaded_of a files d.request (next_count d.reloads))) ∷ map (anew_of a files) due)
-  by_drop true rest = rest
-  by_drop false rest = (refl, rest)
-
-pub as_many : (h : List Record) (due : List Due) (loads : List (Option Loaded)) → AreAnew h due loads → length loads ≤ length due
-as_many h [] [] n = omega arith
-as_many h [] (load ∷ loads) n = absurd n
-as_many h (d ∷ due) [] n = absurd n
-as_many h (d ∷ due) (load ∷ loads) n = let rest = as_many h due loads n.1 in omega arith
-
-pub all_answered : (h : List Record) (due : List Due) (loads : List (Option Loaded)) → AreAnew h due loads → All (λ load. IfSome load (IsAnswered h)) loads
-all_answered h [] [] n = λ i o low. absurd (omega arith)
-all_answered h [] (load ∷ loads) n = absurd n
-all_answered h (d ∷ due) [] n = absurd n
-all_answered h (d ∷ due) (None ∷ loads) n = all_cons (λ load. IfSome load (IsAnswered h)) None loads tt (all_answered h due loads n.1)
-all_answered h (d ∷ due) (Some l ∷ loads) n = all_cons (λ load. IfSome load (IsAnswered h)) (Some l) loads n.0.3 (all_answered h due loads n.1)
 
 pub epoch_inserted : (said : Inserted) (l : Loaded) (w w' : Writer) → Inserts said l w w' → w'.cache.epoch ≡ w.cache.epoch
 epoch_inserted (inserted.Done number) l w w' i = ap (λ (x : Writer). x.cache.epoch) i.2
@@ -199,49 +180,51 @@ epoch_inserted (inserted.Full need free) l w w' i = ap (λ (x : Writer). x.cache
 
 -- ---- what waits, one after the other
 
-first_anew : (h : List Record) (d : Due) (due : List Due) (load : Option Loaded) (loads : List (Option Loaded)) → AreAnew h (d ∷ due) (load ∷ loads) → IsAnew h d load × AreAnew h due loads
-first_anew h d due None loads n = n
-first_anew h d due (Some l) loads n = n
-
 -- the writer goes on, keeps the count of invalidations, and these wait still
 abbrev Waits : List Due → Writer → Writer → Type 0
 Waits due w0 w = Rests w0 w × (w.cache.epoch ≡ w0.cache.epoch) × LoadsBut w0.layout.arena (IsPending due) w.seen
 
-one_waits : (d : Due) (due : List Due) (load : Option Loaded) (w0 w mid : Writer) → Legal w0.seen → IsPacked w0 → IsRenewed w0.seen d → IsAnew w0.seen d load → HaveStamp w0.cache.epoch (load ∷ []) → Waits (d ∷ due) w0 w → ReloadsOne d load w mid → Waits due w0 mid
-one_waits d due None w0 w mid legal packed renewed anew stamp waits same =
-    subst (Waits due w0) (sym same) (waits.0, waits.1, pend_past w0.layout.arena d due w.seen (λ ended kept. absurd (false≢true (sym kept ∙ anew))) waits.2)
-one_waits d due (Some l) w0 w mid legal packed renewed anew stamp waits one = by_ended d.ended refl one where
-  by_ended : (b : Bool) → d.ended ≡ b → OnTrue b ((said : Inserted) × Inserts said l w mid × IsRefused said l w × Tells w.seen w.cache) × OnFalse b (mid ≡ w) → Waits due w0 mid
-  by_ended true e ((said, i, why, told), none) =
+-- one of them, whose answer was made over the history of the first writer
+one_waits : (a : Answering) (files : Content) (d : Due) (due : List Due) (w0 w mid : Writer) → Legal w0.seen → IsPacked w0 → IsRenewed w0.seen d → IsAnswered w0.seen (loaded_of a files d.request (next_count d.reloads)) → a.stamp.epoch ≡ w0.cache.epoch → Waits (d ∷ due) w0 w → ReloadsOne d (anew_of a files d) w mid → Waits due w0 mid
+one_waits a files d due w0 w mid legal packed renewed answered stamp waits one = by_drop d.dropped refl one where
+  l : Loaded
+  l = loaded_of a files d.request (next_count d.reloads)
+
+  passed : (d.ended ≡ true → d.dropped ≡ false → ⊥) → mid ≡ w → Waits due w0 mid
+  passed none same = subst (Waits due w0) (sym same) (waits.0, waits.1, pend_past w0.layout.arena d due w.seen none waits.2)
+
+  by_ended : (b : Bool) → d.ended ≡ b → d.dropped ≡ false → OnTrue b ((said : Inserted) × Inserts said l w mid × IsRefused said l w × Tells w.seen w.cache) × OnFalse b (mid ≡ w) → Waits due w0 mid
+  by_ended true e kept ((said, i, why, told), none) =
       let room : w.layout.arena ≡ w0.layout.arena = ap (λ (x : Layout). x.arena) waits.0.layout in
-      let answered = answered_on w0.seen w.seen l told.legal legal waits.0.on anew.3 in (
-        reloads_one w0.seen d l said w0 w mid refl waits.0 renewed e anew i,
+      let low = renewed e kept in
+      let few = next_low d.reloads in
+      let rise = replaced_on w0.seen w.seen d.request waits.0.on in (
+        rests_through w0 w mid waits.0 (rests_inserted said l w mid i (omega arith)),
         epoch_inserted said l w mid i ∙ waits.1,
         subst (λ (n : ℕ). LoadsBut n (IsPending due) mid.seen) room
-            (pend_inserted said l d due w mid told (waits.0.packed packed) i why answered (stamp.0 ∙ sym waits.1) anew.1 (subst (λ (n : ℕ). LoadsBut n (IsPending (d ∷ due)) w.seen) (sym room) waits.2)),
+            (pend_inserted said l d due w mid told (waits.0.packed packed) i why (answered_on w0.seen w.seen l told.legal legal waits.0.on answered) (stamp ∙ sym waits.1) refl (subst (λ (n : ℕ). LoadsBut n (IsPending (d ∷ due)) w.seen) (sym room) waits.2)),
       )
-  by_ended false e (none, same) = subst (Waits due w0) (sym same) (waits.0, waits.1, pend_past w0.layout.arena d due w.seen (λ ended kept. false≢true (sym e ∙ ended)) waits.2)
+  by_ended false e kept (none, same) = passed (λ ended k. false≢true (sym e ∙ ended)) same
 
-first_stamp : (epoch : ℕ) (load : Option Loaded) (loads : List (Option Loaded)) → HaveStamp epoch (load ∷ loads) → HaveStamp epoch (load ∷ []) × HaveStamp epoch loads
-first_stamp epoch None loads h = (tt, h)
-first_stamp epoch (Some l) loads h = ((h.0, tt), h.1)
+  by_drop : (b : Bool) → d.dropped ≡ b → ReloadsOne d (cond b None (Some l)) w mid → Waits due w0 mid
+  by_drop true e same = passed (λ ended kept. false≢true (sym kept ∙ e)) same
+  by_drop false e r = by_ended d.ended refl e r
 
-pub all_reloaded : (due : List Due) (loads : List (Option Loaded)) (w0 w w' : Writer) → Legal w0.seen → IsPacked w0 → All (IsRenewed w0.seen) due → AreAnew w0.seen due loads → HaveStamp w0.cache.epoch loads → Waits due w0 w → Reloads due loads w w' → Rests w0 w' × LoadsAgain w'.layout.arena w'.seen
-all_reloaded [] [] w0 w w' legal packed renewed anew stamps waits same = subst (λ (x : Writer). Rests w0 x × LoadsAgain x.layout.arena x.seen) (sym same)
-    (waits.0, subst (λ (n : ℕ). LoadsAgain n w.seen) (sym (ap (λ (x : Layout). x.arena) waits.0.layout)) (none_but w0.layout.arena (IsPending []) w.seen (λ r a. a) waits.2))
-all_reloaded [] (load ∷ loads) w0 w w' legal packed renewed anew stamps waits r = absurd anew
-all_reloaded (d ∷ due) [] w0 w w' legal packed renewed anew stamps waits r = absurd anew
-all_reloaded (d ∷ due) (load ∷ loads) w0 w w' legal packed renewed anew stamps waits r =
-    let s = first_stamp w0.cache.epoch load loads stamps in
-    let n = first_anew w0.seen d due load loads anew in
-    let one = one_waits d due load w0 w r.0 legal packed (head_of (IsRenewed w0.seen) d due renewed) n.0 s.0 waits r.1 in
-    all_reloaded due loads w0 r.0 w' legal packed (tail_of (IsRenewed w0.seen) d due renewed) n.1 s.1 one r.2
+all_reloaded : (a : Answering) (files : Content) (due : List Due) (w0 w w' : Writer) → Legal w0.seen → IsPacked w0 → All (IsRenewed w0.seen) due → version_in w0.seen a.stamp.version ≡ Some files → PolledSince w0.seen a.stamp.version a.stamp.epoch → a.stamp.epoch ≡ w0.cache.epoch → Waits due w0 w → Reloads due (map (anew_of a files) due) w w' → Rests w0 w' × LoadsAgain w'.layout.arena w'.seen
+all_reloaded a files [] w0 w w' legal packed renewed version since stamp waits same = subst (λ (x : Writer). Rests w0 x × LoadsAgain x.layout.arena x.seen) (sym same)
+    (waits.0, subst (λ (n : ℕ). LoadsAgain n w.seen) (sym (ap (λ (x : Layout). x.arena) waits.0.layout)) (none_but w0.layout.arena (IsPending []) w.seen (λ r x. x) waits.2))
+all_reloaded a files (d ∷ due) w0 w w' legal packed renewed version since stamp waits r =
+    let answered : IsAnswered w0.seen (loaded_of a files d.request (next_count d.reloads)) = record { files = files; version = version; answer = refl; polled = since } in
+    let one = one_waits a files d due w0 w r.0 legal packed (head_of (IsRenewed w0.seen) d due renewed) answered stamp waits r.1 in
+    all_reloaded a files due w0 r.0 w' legal packed (tail_of (IsRenewed w0.seen) d due renewed) version since stamp one r.2
 
 -- a renewal of a tick, whose lock is free after it
-pub renewed_rests : (settings : DbConf) (limit : Option ℕ) (now ticked epoch : ℕ) (due : List Due) (loads : List (Option Loaded)) (w swept w' : Writer) (s : Swept settings limit now ticked due w swept) → Legal w.seen → LoadsAgain w.layout.arena w.seen → AreAnew w.seen due loads → HaveStamp epoch loads → w.cache.epoch ≡ epoch → Reloads (marked_by now due w) loads swept w'
+renewed_rests : (settings : DbConf) (limit : Option ℕ) (now ticked epoch : ℕ) (due : List Due) (loads : List (Option Loaded)) (w swept w' : Writer) (s : Swept settings limit now ticked due w swept) → Legal w.seen → LoadsAgain w.layout.arena w.seen → AreAnew w.seen epoch due loads → w.cache.epoch ≡ epoch → Reloads (marked_by now due w) loads swept w'
     → Rests swept w' × LoadsAgain w'.layout.arena w'.seen
-renewed_rests settings limit now ticked epoch due loads w swept w' s legal again anew stamps same r =
-    all_reloaded (marked_by now due w) loads swept swept w' s.legal s.packed s.renewed (anew_marked now swept.seen due w loads (anew_on w.seen swept.seen due loads legal s.legal s.on anew)) (subst (λ (n : ℕ). HaveStamp n loads) (sym (s.epoch ∙ same)) stamps) (rests_same swept swept refl, refl, s.waits again) r
+renewed_rests settings limit now ticked epoch due loads w swept w' s legal again anew same r =
+    let n = anew_on w.seen swept.seen epoch due loads legal s.legal s.on anew in
+    let made = n.made ∙ sym (anew_marked n.answering n.files now due w) in
+    all_reloaded n.answering n.files (marked_by now due w) swept swept w' s.legal s.packed s.renewed n.version n.since (n.stamped ∙ sym (s.epoch ∙ same)) (rests_same swept swept refl, refl, s.waits again) (subst (λ (ls : List (Option Loaded)). Reloads (marked_by now due w) ls swept w') made r)
 
 -- what a hold for it leaves
 pub record Renewal (settings : DbConf) (limit : Option ℕ) (held : Option Content) (which : Db) (ticked epoch : ℕ) (due : List Due) (w w' : Writer) (r : Result (Unit {0}) Spent) : Type 0 where
@@ -251,11 +234,11 @@ pub record Renewal (settings : DbConf) (limit : Option ℕ) (held : Option Conte
   pub over : OnOk r (AreOver epoch w'.seen due)
   pub spent : IfErr r (λ s. IsUnmoved w'.seen s.count (AreOver epoch w'.seen due))
 
-pub renewal : {settings : DbConf} {limit : Option ℕ} {held : Option Content} {which : Db} {ticked : ℕ} (now epoch : ℕ) (due : List Due) (loads : List (Option Loaded)) (w w' : Writer) (r : Result (Unit {0}) Spent) → All (IsDue limit now w.seen) due → AreAnew w.seen due loads → HaveStamp epoch loads → w.cache.epoch ≡ epoch
+pub renewal : {settings : DbConf} {limit : Option ℕ} {held : Option Content} {which : Db} {ticked : ℕ} (now epoch : ℕ) (due : List Due) (loads : List (Option Loaded)) (w w' : Writer) (r : Result (Unit {0}) Spent) → All (IsDue limit now w.seen) due → AreAnew w.seen epoch due loads → w.cache.epoch ≡ epoch
     → Tells w.seen w.cache → OnOk r (Renews now due loads w w') → IfErr r (λ s. Stops (compacted_for (ended_of (marked_by now due w)) (pruned_by now due w).cache) s.count (pruned_by now due w) w') → IsAtRest settings limit held which ticked w → Renewal settings limit held which ticked epoch due w w' r
-renewal {settings} {limit} {held} {which} {ticked} now epoch due loads w w' (Ok done) all anew stamps same t r stops rest =
+renewal {settings} {limit} {held} {which} {ticked} now epoch due loads w w' (Ok done) all anew same t r stops rest =
     let s = swept_leaves settings limit now ticked due w r.0 all t rest.0 rest.1 r.1 in
-    let l = renewed_rests settings limit now ticked epoch due loads w r.0 w' s t.legal rest.3 anew stamps same r.2 in
+    let l = renewed_rests settings limit now ticked epoch due loads w r.0 w' s t.legal rest.3 anew same r.2 in
     record {
       rest = at_rest_swept w r.0 w' s l.0 l.1 rest;
       table = l.0.table ∙ s.table;
@@ -263,7 +246,7 @@ renewal {settings} {limit} {held} {which} {ticked} now epoch due loads w w' (Ok 
       over = inr (λ n has. end_on r.0.seen w'.seen n l.0.on (s.gone n has));
       spent = tt;
     }
-renewal {settings} {limit} {held} {which} {ticked} now epoch due loads w w' (Err spent) all anew stamps same t r stops rest =
+renewal {settings} {limit} {held} {which} {ticked} now epoch due loads w w' (Err spent) all anew same t r stops rest =
     let e = spends (ended_of (marked_by now due w)) spent.count (pruned_by now due w) w' stops in
     let s = swept_spent settings limit now ticked due w w' all t rest.0 rest.1 e.same e.high in
     let low = s.packed.cycles in

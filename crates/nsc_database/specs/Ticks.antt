@@ -1,5 +1,5 @@
 -- What the holds of a tick come to.
-use Rattle.std.specs.Prelude.{◌≡◌, ℕ, ◌+◌, ◌<◌, ◌≤◌, ◌⊎◌, Bool, true, false, if◌then◌else◌, All, List, [], ◌∷◌, filter, length, Option, Some, None}
+use Rattle.std.specs.Prelude.{◌≡◌, ℕ, ◌+◌, ◌<◌, ◌≤◌, ◌⊎◌, Bool, true, false, if◌then◌else◌, All, List, [], ◌∷◌, map, Option, Some}
 use Rattle.std.specs.Bool.{OnTrue}
 use Rattle.nsc_model.specs.declared.conf.DbConf.{DbConf}
 use Rattle.nsc_model.specs.declared.answer.Request.{Request}
@@ -9,19 +9,19 @@ use Rattle.nsc_model.specs.declared.record.Record.TheVariants.{End}
 use Rattle.nsc_model.specs.declared.store.LookupFault.{LookupFault}
 use Rattle.nsc_model.specs.declared.store.LookupFault.TheVariants as fault
 use Rattle.nsc_model.specs.Entry.{Entry}
-use Rattle.nsc_model.specs.History.{HasEnd, HasLoad, IsPrefix, Legal, NoneLive, invalidations, load_of}
-use Rattle.nsc_model.specs.Answers.{answer_of}
-use Rattle.nsc_model.specs.Machine.{all_words, life_of, next_count}
+use Rattle.nsc_model.specs.Content.{Content}
+use Rattle.nsc_model.specs.History.{HasEnd, HasLoad, IsPrefix, NoneLive, PolledSince, invalidations, load_of, version_in}
+use Rattle.nsc_model.specs.Machine.{all_words}
 use Rattle.nsc_model.specs.Reloads.{replaced}
 use Rattle.nsc_model.specs.Stores.{IsLoadedAgain, IsUnmoved, MayBeUnmoved}
-use Rattle.nsc_sourcebook.specs.Book.{Polled}
-use Rattle.nsc_pruner.specs.Due.{Due, marked_by, pruned_by}
-use Rattle.nsc_turns.specs.Ticks.{ended_of}
+use Rattle.nsc_pruner.specs.Due.{Due}
+use Rattle.nsc_turns.specs.declared.answering.Answering.{Answering}
+use Rattle.nsc_turns.specs.Loads.{anew_of}
 use Rattle.nsc_writer.specs.Loaded.{Loaded}
-use Rattle.nsc_writer.specs.Writer.{IsAnswered, Writer}
+use Rattle.nsc_writer.specs.Writer.{Writer}
 use Rattle.nsc_turns.specs.declared.ticks.Checked.{Checked}
 use Rattle.nsc_turns.specs.declared.ticks.Checked.TheVariants as checked
-use Rattle.nsc_database.specs.Rests.{IsCurrent, IsPacked}
+use Rattle.nsc_database.specs.Rests.{IsCurrent}
 
 -- an entry of this number and request was inserted, its time is over, and entries of the request ended so often to be reloaded; it is
 -- dropped where its reply is a not-found one, or where the limit is reached
@@ -66,23 +66,14 @@ IsHoldFault (fault.Spent count) after ended = IsUnmoved after count ended
 IsHoldFault (fault.SourceFault file) after ended = ⊥
 IsHoldFault (fault.TooLong file size) after ended = ⊥
 
--- what is to be loaded again for those that are due, one for each: nothing for one that is dropped, or the answer to its request with
--- one reload more
-abbrev pub IsAnew : List Record → Due → Option Loaded → Type 0
-IsAnew history d None = d.dropped ≡ true
-IsAnew history d (Some l) = (d.dropped ≡ false) × (l.request ≡ d.request) × (l.reloads ≤ d.reloads + 1) × IsAnswered history l
-
-abbrev pub AreAnew : List Record → List Due → List (Option Loaded) → Type 0
-AreAnew history [] [] = Unit {0}
-AreAnew history [] (load ∷ loads) = ⊥
-AreAnew history (d ∷ due) [] = ⊥
-AreAnew history (d ∷ due) (load ∷ loads) = IsAnew history d load × AreAnew history due loads
-
--- each was polled after so many invalidations
-abbrev pub HaveStamp : ℕ → List (Option Loaded) → Type 0
-HaveStamp epoch [] = Unit {0}
-HaveStamp epoch (None ∷ loads) = HaveStamp epoch loads
-HaveStamp epoch (Some l ∷ loads) = (l.stamp.epoch ≡ epoch) × HaveStamp epoch loads
+-- what is to be loaded again for those that are due, over one version, polled after so many invalidations
+pub record AreAnew (history : List Record) (epoch : ℕ) (due : List Due) (loads : List (Option Loaded)) : Type 0 where
+  pub answering : Answering
+  pub files : Content
+  pub version : version_in history answering.stamp.version ≡ Some files
+  pub since : PolledSince history answering.stamp.version answering.stamp.epoch
+  pub stamped : answering.stamp.epoch ≡ epoch
+  pub made : loads ≡ map (anew_of answering files) due
 
 -- the request of one of them, which ended to be loaded again
 abbrev pub IsPending : List Due → Request → Type 0

@@ -13,7 +13,7 @@ ghost use Rattle.nsc_shelf.specs.Uses.{counted};
 ghost use Rattle.nsc_database.specs.Frames.{Held};
 ghost use Rattle.nsc_database.specs.Holds.{IsInserted, IsLooked, IsPolled};
 ghost use Rattle.nsc_database.specs.Steady.{IsSteady};
-ghost use Rattle.nsc_database.specs.Ticks.{AreAnew, AreOver, HaveStamp, EmptiesOutdated, IsChecked, IsDue, IsHoldFault};
+ghost use Rattle.nsc_database.specs.Ticks.{AreAnew, AreOver, EmptiesOutdated, IsChecked, IsDue, IsHoldFault};
 
 use crate::pass::DbPass;
 use crate::room::{OfDb, Room};
@@ -204,8 +204,7 @@ impl<D: OfDb, B: Room> Desk<D, B> {
     ) -> Result<(), Spent>
         requires noted { epoch ≤ invalidations self.old.writer.seen }
         requires due { All (IsDue B.conf.reloads now self.old.writer.seen) due.old }
-        requires loads { AreAnew self.old.writer.seen due.old loads.now }
-        requires stamps { HaveStamp epoch loads.now }
+        requires loads { AreAnew self.old.writer.seen epoch due.old loads.now }
         ensures over { OnOk result (AreOver epoch self.new.writer.seen due.old) }
         ensures spent { IfErr result (λ spent. IsUnmoved self.new.writer.seen spent.count (AreOver epoch self.new.writer.seen due.old)) }
     {

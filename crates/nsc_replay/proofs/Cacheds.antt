@@ -20,7 +20,7 @@ use Rattle.nsc_turns.specs.Ticks.{Checks, Renews, compacted_for, ended_of}
 use Rattle.nsc_turns.specs.Turns.{Passes, Stops, missed}
 use Rattle.nsc_turns.proofs.Emptied.{sources_left, sources_stopped}
 use Rattle.nsc_turns.proofs.Events.{stops_at, stops_first, stops_then}
-use Rattle.nsc_turns.proofs.Machines.{IsAlone, current_checks, kept_by_insert, outdated_checks, renews_pruned}
+use Rattle.nsc_turns.proofs.Machines.{IsAlone, current_checks, kept_by_insert, renews_pruned}
 use Rattle.nsc_turns.proofs.Polled.{lookup_stops, lookup_turns}
 use Rattle.nsc_turns.specs.declared.answering.Answering.{Answering}
 use Rattle.nsc_turns.specs.Loads.{anew_of, loaded_of}
@@ -73,10 +73,6 @@ kept_same b files room w w' is k = subst (IsKept b files room) (sym is) k
 pub kept_faulted : (fault : CacheFault) (outdated : Bool) (limit : Option ℕ) (now : ℕ) (b : Bool) (files : Content) (room : ℕ) (w w' : Writer) → Checks outdated limit now w w' (Err fault) → IsKept b files room w → IsKept b files room w'
 kept_faulted faults.NoMemory outdated limit now b files room w w' c k = kept_same b files room w w' c.1 k
 kept_faulted (faults.Spent count) outdated limit now b files room w w' c k = kept_invalidated (Err (record { count = count })) b files room w w' tt c.1 k
-
-pub check_faults : (fault : CacheFault) (settings : DbConf) (limit : Option ℕ) (now ticked : ℕ) (w w' : Writer) → Checks (is_outdated settings w.cache.newest_version ticked) limit now w w' (Err fault) → GivesUp (checked settings limit now ticked w.cache) w w' fault
-check_faults faults.NoMemory settings limit now ticked w w' c = tt
-check_faults (faults.Spent count) settings limit now ticked w w' c = outdated_checks (λ (r : Result Passed Stopped). Stops r count w w') settings limit now ticked w.cache c.0 c.1
 
 pub current_faults : (fault : CacheFault) (settings : DbConf) (limit : Option ℕ) (now ticked : ℕ) (w w' : Writer) → is_outdated settings w.cache.newest_version ticked ≡ false → GivesUp (pruned settings limit now w.cache) w w' fault → GivesUp (checked settings limit now ticked w.cache) w w' fault
 current_faults faults.NoMemory settings limit now ticked w w' off g = tt

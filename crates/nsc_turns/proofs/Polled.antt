@@ -1,14 +1,12 @@
 -- Polls and lookups of one caller, who has a writer to himself, are the machine's.
-use Rattle.std.proofs.Common.{◌≡◌, ◌∙◌, ◌+◌, ℕ, Bool, true, false, cond, eqb, List, [], ◌∷◌, Option, Some, None, Result, Ok, Err, refl, sym, ap, subst}
+use Rattle.std.proofs.Common.{◌≡◌, ◌∙◌, ℕ, Bool, true, cond, List, Option, Some, None, Result, Ok, Err, sym, ap, subst}
 use Rattle.nsc_model.specs.declared.answer.Request.{Request}
 use Rattle.nsc_model.specs.declared.conf.DbConf.{DbConf}
-use Rattle.nsc_model.specs.declared.record.Record.TheVariants.{Change, Poll}
 use Rattle.nsc_model.specs.declared.store.Spent.{Spent as SpentCount}
 use Rattle.nsc_model.specs.Answers.{answer_of}
 use Rattle.nsc_model.specs.Content.{Content}
 use Rattle.nsc_model.specs.Events.{StopsAt, TurnsTo}
-use Rattle.nsc_model.specs.Files.{same_files}
-use Rattle.nsc_model.specs.Machine.{Cache, Kept, Passed, Stopped, cached, hit_or_load, kept_answer, last_count, live_entry, loaded, lookup, polled, stopped}
+use Rattle.nsc_model.specs.Machine.{Cache, Kept, Passed, Stopped, cached, hit_or_load, kept_answer, live_entry, loaded, lookup, polled}
 use Rattle.nsc_shelf.specs.declared.entry.Hit.{Hit}
 use Rattle.nsc_writer.specs.declared.loaded.Stamp.{Stamp}
 use Rattle.nsc_writer.specs.Writer.{Polls, Writer}
@@ -21,31 +19,9 @@ pub polls_pass : (r : Result Passed Stopped) (epoch : ℕ) (w w' : Writer) (stam
 polls_pass (Ok passed) epoch w w' stamp p = (p.1, ap (λ (s : Stamp). s.epoch) p.0)
 polls_pass (Err stop) epoch w w' stamp p = absurd p
 
-pub polls_stop : (files : Content) (epoch : ℕ) (w w' : Writer) (spent : SpentCount) → Polls (polled files w.cache) epoch w w' (Err spent) → Stops (polled files w.cache) spent.count w w'
-polls_stop files epoch w w' spent p = by_same (same_files files w.cache.sources) (eqb w.cache.newest_version last_count) p where
-  by_same : (same last : Bool) → Polls (cond same (Ok (record { cache = w.cache; adds = Poll w.cache.newest_version ∷ [] })) (cond last (Err (stopped w.cache)) (Ok (record { cache = record w.cache { sources = files; newest_version = w.cache.newest_version + 1 }; adds = Change (w.cache.newest_version + 1) files ∷ [] })))) epoch w w' (Err spent)
-      → Stops (cond same (Ok (record { cache = w.cache; adds = Poll w.cache.newest_version ∷ [] })) (cond last (Err (stopped w.cache)) (Ok (record { cache = record w.cache { sources = files; newest_version = w.cache.newest_version + 1 }; adds = Change (w.cache.newest_version + 1) files ∷ [] })))) spent.count w w'
-  by_same true last q = absurd q
-  by_same false true q = q
-  by_same false false q = absurd q
-
 pub polls_same : (r : Result Passed Stopped) (epoch : ℕ) (w w' : Writer) (spent : SpentCount) → Polls r epoch w w' (Err spent) → w' ≡ w
 polls_same (Ok passed) epoch w w' spent p = absurd p
 polls_same (Err stop) epoch w w' spent p = p.1
-
--- it leaves the count of invalidations
-pub epoch_polled : (files : Content) (w w' : Writer) → Passes (polled files w.cache) w w' → w'.cache.epoch ≡ w.cache.epoch
-epoch_polled files w w' p = by_same (same_files files w.cache.sources) (eqb w.cache.newest_version last_count) p where
-  by_same : (same last : Bool) → Passes (cond same (Ok (record { cache = w.cache; adds = Poll w.cache.newest_version ∷ [] })) (cond last (Err (stopped w.cache)) (Ok (record { cache = record w.cache { sources = files; newest_version = w.cache.newest_version + 1 }; adds = Change (w.cache.newest_version + 1) files ∷ [] })))) w w' → w'.cache.epoch ≡ w.cache.epoch
-  by_same true last q = ap (λ (x : Writer). x.cache.epoch) q
-  by_same false true q = absurd q
-  by_same false false q = ap (λ (x : Writer). x.cache.epoch) q
-
--- files that are known to be the newest version are confirmed
-pub confirms : (files : Content) (w w' : Writer) → same_files files w.cache.sources ≡ true → w' ≡ record w { seen = Poll w.cache.newest_version ∷ w.seen } → Passes (polled files w.cache) w w'
-confirms files w w' same is =
-    subst (λ (r : Result Passed Stopped). Passes r w w') (sym (ap (λ (b : Bool). cond b (Ok (record { cache = w.cache; adds = Poll w.cache.newest_version ∷ [] })) (cond (eqb w.cache.newest_version last_count) (Err (stopped w.cache))
-    (Ok (record { cache = record w.cache { sources = files; newest_version = w.cache.newest_version + 1 }; adds = Change (w.cache.newest_version + 1) files ∷ [] })))) same)) is
 
 -- ---- lookups
 
@@ -58,20 +34,6 @@ lookup_hits settings now files request hit w w' reply on l =
       by_found : (o : Option Kept) → Looks o request (looked.Hit hit) w w' reply → TurnsTo (hit_or_load o settings now files request w.cache) w'.cache reply
       by_found None found = absurd (let e : Some hit ≡ None = found.0 in cc)
       by_found (Some k) found = (sym (ap (λ (x : Writer). x.cache) found.1), sym found.0.1)
-
--- none does
-pub cached_none : (settings : DbConf) (request : Request) (epoch : ℕ) (w w' : Writer) (reply : List ℕ) → Looks (live_entry request w.cache.entries) request (looked.Missed epoch) w w' reply → cached settings request w.cache ≡ None
-cached_none settings request epoch w w' reply l = by_enabled settings.enabled (by_found (live_entry request w.cache.entries) l) where
-  by_found : (o : Option Kept) → Looks o request (looked.Missed epoch) w w' reply → o ≡ None
-  by_found None found = refl
-  by_found (Some k) found = absurd (let e : None ≡ Some (record { number = k.entry.number; version = k.entry.version; not_found = k.entry.answer.not_found }) = found.0.0 in cc)
-
-  by_enabled : (b : Bool) → live_entry request w.cache.entries ≡ None → cond b (live_entry request w.cache.entries) None ≡ None
-  by_enabled true none = none
-  by_enabled false none = refl
-
-pub cached_off : (settings : DbConf) (request : Request) (cache : Cache) → settings.enabled ≡ false → cached settings request cache ≡ None
-cached_off settings request cache off = ap (λ (b : Bool). cond b (live_entry request cache.entries) None) off
 
 pub lookup_turns : (settings : DbConf) (now : ℕ) (files : Content) (request : Request) (w w1 w2 : Writer) (reply : List ℕ) → cached settings request w.cache ≡ None → Passes (polled files w.cache) w w1 → (kept_answer settings now request w1.cache).cache ≡ w2.cache → (answer_of w1.cache.sources request).bytes ≡ reply
     → TurnsTo (lookup settings now files request w.cache) w2.cache reply

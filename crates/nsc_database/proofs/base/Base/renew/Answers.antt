@@ -5,13 +5,11 @@ use Rattle.nsc_model.specs.History.{IsPrefix}
 use Rattle.nsc_model.specs.Machine.{room_of}
 use Rattle.nsc_model.specs.Stores.{LoadsAgain}
 use Rattle.nsc_pruner.specs.Due.{Due}
-use Rattle.nsc_writer.specs.Loaded.{Loaded}
 use Rattle.nsc_database.specs.Rests.{Desk}
 use Rattle.nsc_turns.specs.declared.answering.Answering.{Answering}
-use Rattle.nsc_turns.specs.Loads.{anew_of}
-use Rattle.nsc_database.specs.Ticks.{AreAnew, HaveStamp, IsDue}
+use Rattle.nsc_database.specs.Ticks.{AreAnew, IsDue}
 use Rattle.nsc_database.proofs.Pruning.{all_due_on}
-use Rattle.nsc_database.proofs.Renewed.{anew_all, anew_on, stamps_all}
+use Rattle.nsc_database.proofs.Renewed.{anew_on}
 use Rattle.nsc_database.proofs.Shown.{invalidations_on}
 use Rattle.nsc_database.proofs.Standing.{held_through}
 use Rattle.nsc_database.proofs.base.Base.renew.Goals as goal
@@ -33,17 +31,9 @@ pub renew-renewed-requires-clause-loads : goal.renew-renewed-requires-clause-loa
 renew-renewed-requires-clause-loads g c =
     let seen = c.show.ensures.seen ∙ sym (ap (λ (d : Desk). d.writer.seen) c.show.ensures.same) in
     let a : Answering = record { settings = c.args.self.now.settings; stamp = c.args.polled.now.stamp; moment = c.args.now } in
-    let made = anew_all a c.args.polled.now.content c.args.pass.now.pass.seen c.args.due.items c.requires.polled.version c.requires.polled.since in
-    let loads : c.deref-2.result.now ≡ map (anew_of a c.args.polled.now.content) c.args.due.items = c.deref-2.ensures.value ∙ c.in-Ok.ensures ∙ ap (map (anew_of a c.args.polled.now.content)) c.deref.ensures.value in
-    subst (λ (x : List Record × List Due × List (Option Loaded)). AreAnew x.0 x.1 x.2) (λ i. (seen i, sym c.deref_mut.ensures.value i, sym loads i))
-    (anew_on c.args.pass.now.pass.seen c.show.new.pass.pass.seen c.args.due.items _ c.learn.ensures.legal c.show.ensures.frame.legal c.show.ensures.frame.before made)
-
-pub renew-renewed-requires-clause-stamps : goal.renew-renewed-requires-clause-stamps
-renew-renewed-requires-clause-stamps g c =
-    let a : Answering = record { settings = c.args.self.now.settings; stamp = c.args.polled.now.stamp; moment = c.args.now } in
-    let made = stamps_all a c.args.polled.now.content c.args.due.items in
-    let loads : c.deref-2.result.now ≡ map (anew_of a c.args.polled.now.content) c.args.due.items = c.deref-2.ensures.value ∙ c.in-Ok.ensures ∙ ap (map (anew_of a c.args.polled.now.content)) c.deref.ensures.value in
-    subst (λ (x : ℕ × List (Option Loaded)). HaveStamp x.0 x.1) (λ i. (c.requires.polled.epoch_is i, sym loads i)) made
+    let anew : AreAnew c.args.pass.now.pass.seen c.args.epoch c.deref.result.now c.deref-2.result.now = record { answering = a; files = c.args.polled.now.content; version = c.requires.polled.version; since = c.requires.polled.since; stamped = c.requires.polled.epoch_is; made = c.deref-2.ensures.value ∙ c.in-Ok.ensures } in
+    subst (λ (x : List Record × List Due). AreAnew x.0 c.args.epoch x.1 c.deref-2.result.now) (λ i. (seen i, (c.deref.ensures.value ∙ sym c.deref_mut.ensures.value) i))
+    (anew_on c.args.pass.now.pass.seen c.show.new.pass.pass.seen c.args.epoch c.deref.result.now c.deref-2.result.now c.learn.ensures.legal c.show.ensures.frame.legal c.show.ensures.frame.before anew)
 
 pub returns-in-Ok-renewed-clause-frame : goal.returns-in-Ok-renewed-clause-frame
 returns-in-Ok-renewed-clause-frame g c = held_through _ _ _ c.show.ensures.frame c.show-2.ensures.frame
