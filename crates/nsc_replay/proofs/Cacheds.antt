@@ -17,7 +17,7 @@ use Rattle.nsc_writer.specs.Loaded.{Loaded}
 use Rattle.nsc_writer.specs.declared.loaded.Inserted.{Inserted}
 use Rattle.nsc_writer.specs.Writer.{Inserts, IsAnswered, Writer}
 use Rattle.nsc_turns.specs.Ticks.{Checks, Renews, compacted_for, ended_of}
-use Rattle.nsc_turns.specs.Turns.{Passes, Stops, missed}
+use Rattle.nsc_turns.specs.Turns.{Completes, Stops, missed}
 use Rattle.nsc_turns.proofs.Emptied.{sources_left, sources_stopped}
 use Rattle.nsc_turns.proofs.Events.{stops_at, stops_first, stops_then}
 use Rattle.nsc_turns.proofs.Machines.{IsAlone, current_checks, kept_by_insert, renews_pruned}
@@ -43,7 +43,7 @@ pub kept_on : (b : Bool) (files : Content) (room : ℕ) (w w' : Writer) → w'.c
 kept_on b files room w w' sources layout slide k = (on_true b (w.cache.sources ≡ files) (w'.cache.sources ≡ files) (λ is. sources ∙ is) k.0, ap (λ (x : Layout). x.arena) layout ∙ k.1, slide ∙ k.2)
 
 -- what an event passes, or where it stops, leaves the layout, and no slide under way
-pub layout_passed : (r : Result Passed Stopped) (w w' : Writer) → Passes r w w' → (w'.layout ≡ w.layout) × (w'.slide ≡ w.slide)
+pub layout_passed : (r : Result Passed Stopped) (w w' : Writer) → Completes r w w' → (w'.layout ≡ w.layout) × (w'.slide ≡ w.slide)
 layout_passed (Ok passed) w w' p = (ap (λ (x : Writer). x.layout) p, ap (λ (x : Writer). x.slide) p)
 layout_passed (Err stop) w w' p = absurd p
 
@@ -57,13 +57,13 @@ pub faults_first : (r : Result Passed Stopped) (next : Cache → Result Passed S
 faults_first r next w w' faults.NoMemory g = tt
 faults_first r next w w' (faults.Spent count) g = stops_at (r >>= next) count w w' (stops_first r next count w w' g)
 
-pub faults_then : (r : Result Passed Stopped) (next : Cache → Result Passed Stopped) (w mid w' : Writer) (fault : CacheFault) → Passes r w mid → GivesUp (next mid.cache) mid w' fault → Faults (r >>= next) w'.cache fault
+pub faults_then : (r : Result Passed Stopped) (next : Cache → Result Passed Stopped) (w mid w' : Writer) (fault : CacheFault) → Completes r w mid → GivesUp (next mid.cache) mid w' fault → Faults (r >>= next) w'.cache fault
 faults_then r next w mid w' faults.NoMemory p g = tt
 faults_then r next w mid w' (faults.Spent count) p g = stops_at (r >>= next) count w w' (stops_then r next count w mid w' p g)
 
 -- ---- invalidations, and what a tick looks for
 
-pub kept_invalidated : (r : Result ℕ Spent) (b : Bool) (files : Content) (room : ℕ) (w w' : Writer) → IfOk r (λ epoch. Passes (invalidated w.cache) w w') → IfErr r (λ spent. Stops (invalidated w.cache) spent.count w w') → IsKept b files room w → IsKept b files room w'
+pub kept_invalidated : (r : Result ℕ Spent) (b : Bool) (files : Content) (room : ℕ) (w w' : Writer) → IfOk r (λ epoch. Completes (invalidated w.cache) w w') → IfErr r (λ spent. Stops (invalidated w.cache) spent.count w w') → IsKept b files room w → IsKept b files room w'
 kept_invalidated (Ok epoch) b files room w w' p s k = let same = layout_passed (invalidated w.cache) w w' p in kept_on b files room w w' (sources_left w w' p) same.0 same.1 k
 kept_invalidated (Err spent) b files room w w' p s k = let same = layout_stopped (invalidated w.cache) spent.count w w' s in kept_on b files room w w' (sources_stopped w w' spent.count s) same.0 same.1 k
 
@@ -100,7 +100,7 @@ pub record IsMade (a : Answering) (files : Content) (limit : Option ℕ) (due : 
   pub due_are : due ≡ map (due_from limit) (due_of a.moment w.cache.entries)
   pub loads_are : loads ≡ map (anew_of a files) due
 
-pub renewed_passes : (a : Answering) (files : Content) (limit : Option ℕ) (due : List Due) (loads : List (Option Loaded)) (w w' : Writer) → IsMade a files limit due loads w → Tells w.seen w.cache → IsAlone a files w → Renews a.moment due loads w w' → Passes (pruned a.settings limit a.moment w.cache) w w'
+pub renewed_passes : (a : Answering) (files : Content) (limit : Option ℕ) (due : List Due) (loads : List (Option Loaded)) (w w' : Writer) → IsMade a files limit due loads w → Tells w.seen w.cache → IsAlone a files w → Renews a.moment due loads w w' → Completes (pruned a.settings limit a.moment w.cache) w w'
 renewed_passes a files limit due loads w w' m t s r =
     let loads : loads ≡ map (anew_of a files) (map (due_from limit) (due_of a.moment w.cache.entries)) = m.loads_are ∙ ap (map (anew_of a files)) m.due_are in
     renews_pruned a files limit w w' t s (subst (λ (x : List Due × List (Option Loaded)). Renews a.moment x.0 x.1 w w') (λ i. (m.due_are i, loads i)) r)
@@ -121,7 +121,7 @@ answered_fresh a files request reloads l w is f t = subst (IsAnswered w.seen) (s
 -- after the poll of a lookup that found no entry
 pub record IsMissed (a : Answering) (request : Request) (l : Loaded) (s p : Cached) : Type 0 where
   pub none : cached s.settings request s.writer.cache ≡ None
-  pub passes : Passes (polled s.files s.writer.cache) s.writer p.writer
+  pub completes : Completes (polled s.files s.writer.cache) s.writer p.writer
   pub fresh : IsFresh s.files a.stamp p.writer
   pub rest : p ≡ record s { writer = p.writer }
   pub settings : a.settings ≡ p.settings
@@ -138,9 +138,9 @@ lookup_kept a request said l s p w reply m on room i said_is =
     let files = ap (λ (x : Cached). x.files) m.rest in
     let alone = alone_fresh a p.files p.writer (subst (λ (f : Content). IsFresh f a.stamp p.writer) (sym files) m.fresh) (room ∙ ap room_of (sym m.settings)) in
     let kept = kept_by_insert a p.files request said l p.writer w (ap (λ (x : DbConf). x.enabled) m.settings ∙ on) alone m.loaded i in
-    lookup_turns s.settings a.moment s.files request s.writer p.writer w reply m.none m.passes (ap (λ (x : DbConf). (kept_answer x a.moment request p.writer.cache).cache) (sym (m.settings ∙ same)) ∙ kept) (answer_is a request l s p reply m said_is)
+    lookup_turns s.settings a.moment s.files request s.writer p.writer w reply m.none m.completes (ap (λ (x : DbConf). (kept_answer x a.moment request p.writer.cache).cache) (sym (m.settings ∙ same)) ∙ kept) (answer_is a request l s p reply m said_is)
 
 pub lookup_lone : (a : Answering) (request : Request) (l : Loaded) (s p : Cached) (reply : List ℕ) → IsMissed a request l s p → p.settings.enabled ≡ false → reply ≡ l.answer.bytes → TurnsTo (lookup s.settings a.moment s.files request s.writer.cache) p.writer.cache reply
 lookup_lone a request l s p reply m off said_is =
     let enabled = sym (ap (λ (x : Cached). x.settings.enabled) m.rest) ∙ off in
-    lookup_turns s.settings a.moment s.files request s.writer p.writer p.writer reply m.none m.passes (ap (λ (b : Bool). (cond b (tried_all s.settings a.moment (candidates_of request) p.writer.cache) (unchanged p.writer.cache)).cache) enabled) (answer_is a request l s p reply m said_is)
+    lookup_turns s.settings a.moment s.files request s.writer p.writer p.writer reply m.none m.completes (ap (λ (b : Bool). (cond b (tried_all s.settings a.moment (candidates_of request) p.writer.cache) (unchanged p.writer.cache)).cache) enabled) (answer_is a request l s p reply m said_is)

@@ -8,7 +8,7 @@ ghost use Rattle.nsc_model.specs.Events.{ComesTo, TurnsTo};
 ghost use Rattle.nsc_model.specs.Sizes.{SizeFits};
 ghost use Rattle.nsc_pruner.specs.Due.{due_from};
 ghost use Rattle.nsc_turns.specs.Loads.{loaded_of};
-ghost use Rattle.nsc_turns.specs.Turns.{Passes};
+ghost use Rattle.nsc_turns.specs.Turns.{Completes};
 ghost use Rattle.nsc_replay.specs.Cached.{Faults, GivesUp, IsFresh};
 
 use crate::prepared::Prepared;
@@ -139,7 +139,7 @@ impl<A: Answerer> Cached<A> {
     // Polls the files; where the writer is known to have polled them, nothing is compared.
     fn poll(&mut self) -> Result<Stamp, CacheFault>
         ensures rest { self.new ≡ record self.old { writer = self.new.writer } }
-        ensures polled { OnOk result (Passes (polled self.old.files self.old.writer.cache) self.old.writer self.new.writer) }
+        ensures polled { OnOk result (Completes (polled self.old.files self.old.writer.cache) self.old.writer self.new.writer) }
         ensures fresh { IfOk result (λ stamp. IsFresh self.old.files stamp self.new.writer) }
         ensures fault { IfErr result (GivesUp (polled self.old.files self.old.writer.cache) self.old.writer self.new.writer) }
     {
@@ -220,7 +220,7 @@ impl<A: Answerer> Cached<A> {
         requires moment { now < 2 ^ 62 }
         requires fresh { IsFresh self.old.files stamp self.old.writer }
         ensures rest { self.new ≡ record self.old { writer = self.new.writer } }
-        ensures turn { OnOk result (Passes (checked self.old.settings self.old.reloads now self.old.ticked self.old.writer.cache) self.old.writer self.new.writer) }
+        ensures turn { OnOk result (Completes (checked self.old.settings self.old.reloads now self.old.ticked self.old.writer.cache) self.old.writer self.new.writer) }
         ensures fault { IfErr result (GivesUp (checked self.old.settings self.old.reloads now self.old.ticked self.old.writer.cache) self.old.writer self.new.writer) }
     {
         let (settings, reloads, ticked) = (self.settings, self.reloads, self.ticked);
@@ -244,7 +244,7 @@ impl<A: Answerer> Cached<A> {
         requires fresh { IsFresh self.old.files stamp self.old.writer }
         requires due { due.items ≡ map (due_from self.old.reloads) (due_of now self.old.writer.cache.entries) }
         ensures rest { self.new ≡ record self.old { writer = self.new.writer } }
-        ensures turn { OnOk result (Passes (pruned self.old.settings self.old.reloads now self.old.writer.cache) self.old.writer self.new.writer) }
+        ensures turn { OnOk result (Completes (pruned self.old.settings self.old.reloads now self.old.writer.cache) self.old.writer self.new.writer) }
         ensures fault { IfErr result (GivesUp (pruned self.old.settings self.old.reloads now self.old.writer.cache) self.old.writer self.new.writer) }
     {
         let answering = Answering {

@@ -5,7 +5,7 @@ use Rattle.nsc_model.specs.Events.{TurnsTo}
 use Rattle.nsc_model.specs.Machine.{lookup, polled, room_of}
 use Rattle.nsc_laws.specs.Calls.{Tells}
 use Rattle.nsc_turns.specs.declared.answering.Answering.{Answering}
-use Rattle.nsc_turns.specs.Turns.{Passes, missed}
+use Rattle.nsc_turns.specs.Turns.{Completes, missed}
 use Rattle.nsc_writer.specs.Loaded.{Loaded}
 use Rattle.nsc_writer.specs.Writer.{Inserts, IsAnswered, Writer}
 use Rattle.nsc_replay.specs.Cached.{Cached, GivesUp, IsFresh}
@@ -41,7 +41,7 @@ returns-then-self-clause-turn g c =
     let view = c.self.view_is ∙ c.load.ensures.same in
     let missed_all : IsMissed a request c.in_ok-loaded.loaded s p = record {
       none = rw c.in_default.is at c.in_ok-reply.ensures.none;
-      passes = subst (λ (x : Cached). Passes (polled x.files x.writer.cache) x.writer p.writer) same c.in-Ok.ensures.polled;
+      completes = subst (λ (x : Cached). Completes (polled x.files x.writer.cache) x.writer p.writer) same c.in-Ok.ensures.polled;
       fresh = subst (λ (x : Cached). IsFresh x.files c.in-Ok.stamp p.writer) same c.in-Ok.ensures.fresh;
       rest = c.poll.ensures.rest ∙ ap (λ (x : Cached). let y : Cached = record x { writer = p.writer } in y) same;
       settings = refl;
@@ -60,7 +60,7 @@ returns-clause-turn g c =
     let view = c.self.view_is ∙ c.load.ensures.same in
     let missed_all : IsMissed a request c.in_ok-loaded.loaded s p = record {
       none = rw c.in_default.is at c.in_ok-reply.ensures.none;
-      passes = subst (λ (x : Cached). Passes (polled x.files x.writer.cache) x.writer p.writer) same c.in-Ok.ensures.polled;
+      completes = subst (λ (x : Cached). Completes (polled x.files x.writer.cache) x.writer p.writer) same c.in-Ok.ensures.polled;
       fresh = subst (λ (x : Cached). IsFresh x.files c.in-Ok.stamp p.writer) same c.in-Ok.ensures.fresh;
       rest = c.poll.ensures.rest ∙ ap (λ (x : Cached). let y : Cached = record x { writer = p.writer } in y) same;
       settings = refl;

@@ -1,8 +1,8 @@
 use Rattle.std.proofs.Common.{◌∙◌, Result, ap, refl, subst, sym}
 use Rattle.nsc_model.specs.Events.{ComesTo}
 use Rattle.nsc_model.specs.Machine.{◌>>=◌, Passed, Stopped, checked, polled, tick}
-use Rattle.nsc_turns.specs.Turns.{Passes}
-use Rattle.nsc_turns.proofs.Events.{comes_to, passes_then}
+use Rattle.nsc_turns.specs.Turns.{Completes}
+use Rattle.nsc_turns.proofs.Events.{comes_to, completes_then}
 use Rattle.nsc_turns.proofs.Machines.{tick_off, tick_on}
 use Rattle.nsc_replay.specs.Cached.{Cached, Faults, GivesUp}
 use Rattle.nsc_replay.proofs.Cacheds.{faults_first, faults_then}
@@ -27,8 +27,8 @@ returns-in-Ok-check-clause-turn g c =
     let p = c.poll.new.self in
     let w' = c.check.new.self.writer in
     let on = sym (ap (λ (x : Cached). x.settings.enabled) c.self.view_is) ∙ c.if-not-self.false in
-    let turn = subst (λ (x : Cached). Passes (checked x.settings x.reloads c.args.now x.ticked p.writer.cache) p.writer w') c.poll.ensures.rest c.in-Ok-check.ensures.turn in
-    let whole = passes_then (polled s.files s.writer.cache) (checked s.settings s.reloads c.args.now s.ticked) s.writer p.writer w' c.in-Ok.ensures.polled turn in
+    let turn = subst (λ (x : Cached). Completes (checked x.settings x.reloads c.args.now x.ticked p.writer.cache) p.writer w') c.poll.ensures.rest c.in-Ok-check.ensures.turn in
+    let whole = completes_then (polled s.files s.writer.cache) (checked s.settings s.reloads c.args.now s.ticked) s.writer p.writer w' c.in-Ok.ensures.polled turn in
     subst (λ (x : Cached). ComesTo (tick s.settings s.reloads c.args.now s.files s.ticked s.writer.cache) x.writer.cache) (sym c.self-2.view_is)
     (tick_on (λ (r : Result Passed Stopped). ComesTo r w'.cache) s.settings s.reloads c.args.now s.files s.ticked s.writer.cache on (comes_to (polled s.files s.writer.cache >>= checked s.settings s.reloads c.args.now s.ticked) s.writer w' whole))
 
