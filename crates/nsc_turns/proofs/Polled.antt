@@ -26,12 +26,12 @@ polls_same (Err stop) epoch w w' spent p = p.1
 -- ---- lookups
 
 -- the writer with the counts of hits and misses of another
-abbrev counted_as : Writer → Writer → Writer
+abbrev pub counted_as : Writer → Writer → Writer
 counted_as other w = record w { hits = other.hits; misses = other.misses }
 
 -- the insertion after the poll of a lookup was tried, where the database is cached
-abbrev pub IsKept : DbConf → ℕ → Request → Writer → Writer → Type 0
-IsKept settings now request w w' = w' ≡ counted_as w' (passed_by (kept_answer settings now request w.cache) w)
+abbrev pub KeepsAnswer : DbConf → ℕ → Request → Writer → Writer → Type 0
+KeepsAnswer settings now request w w' = w' ≡ counted_as w' (passed_by (kept_answer settings now request w.cache) w)
 
 -- a live entry answers
 pub lookup_hits : (settings : DbConf) (now : ℕ) (files : Content) (request : Request) (hit : Hit) (w w' : Writer) (reply : List ℕ) → settings.enabled ≡ true → Looks (live_entry request w.cache.entries) request (looked.Hit hit) w w' reply → CompletesWith (lookup settings now files request w.cache) w w' reply
@@ -45,7 +45,7 @@ lookup_hits settings now files request hit w w' reply on l =
           (subst (λ (x : Writer). x ≡ record w { cache = record w.cache { entries = used_now request w.cache.entries }; seen = [] ++ w.seen; hits = x.hits; misses = x.misses }) (sym found.1) refl, sym found.0.1)
 
 -- a poll, and then what became of the answer
-pub lookup_completes : (settings : DbConf) (now : ℕ) (files : Content) (request : Request) (w w1 w2 : Writer) (reply : List ℕ) → cached settings request w.cache ≡ None → Completes (polled files w.cache) w w1 → IsKept settings now request w1 w2 → (answer_of w1.cache.sources request).bytes ≡ reply
+pub lookup_completes : (settings : DbConf) (now : ℕ) (files : Content) (request : Request) (w w1 w2 : Writer) (reply : List ℕ) → cached settings request w.cache ≡ None → Completes (polled files w.cache) w w1 → KeepsAnswer settings now request w1 w2 → (answer_of w1.cache.sources request).bytes ≡ reply
     → CompletesWith (lookup settings now files request w.cache) w w2 reply
 unfolding lookup
 lookup_completes settings now files request w w1 w2 reply none p kept said =

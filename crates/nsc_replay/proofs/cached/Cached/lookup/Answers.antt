@@ -1,11 +1,10 @@
 use Rattle.std.proofs.Common.{◌≡◌, ◌∙◌, ap, refl, subst, sym}
 use Rattle.nsc_model.specs.declared.answer.Request.{Request}
 use Rattle.nsc_model.specs.Content.{Content}
-use Rattle.nsc_model.specs.Events.{TurnsTo}
 use Rattle.nsc_model.specs.Machine.{lookup, polled, room_of}
 use Rattle.nsc_laws.specs.Calls.{Tells}
 use Rattle.nsc_turns.specs.declared.answering.Answering.{Answering}
-use Rattle.nsc_turns.specs.Turns.{Completes, missed}
+use Rattle.nsc_turns.specs.Turns.{Completes, CompletesWith, missed}
 use Rattle.nsc_writer.specs.Loaded.{Loaded}
 use Rattle.nsc_writer.specs.Writer.{Inserts, IsAnswered, Writer}
 use Rattle.nsc_replay.specs.Cached.{Cached, GivesUp, IsFresh}
@@ -66,5 +65,5 @@ returns-clause-turn g c =
       settings = refl;
       loaded = c.in_ok-loaded.ensures.loaded;
     } in
-    subst (λ (x : Cached). TurnsTo (lookup s.settings c.args.now s.files request s.writer.cache) x.writer.cache c.into_reply-2.result) (sym c.load.ensures.same)
+    subst (λ (x : Cached). CompletesWith (lookup s.settings c.args.now s.files request s.writer.cache) s.writer x.writer c.into_reply-2.result) (sym c.load.ensures.same)
     (lookup_lone a request c.in_ok-loaded.loaded s p c.into_reply-2.result missed_all (sym (ap (λ (x : Cached). x.settings.enabled) view) ∙ c.if-self.false) c.into_reply-2.ensures)

@@ -12,7 +12,7 @@ use Rattle.nsc_turns.specs.Ticks.{compacted_for, ended_of}
 use Rattle.nsc_turns.specs.Turns.{Completes, Stops}
 use Rattle.nsc_turns.proofs.Machines.{all_answered, all_over, renewal_stops}
 use Rattle.nsc_replay.specs.Cached.{Cached, IsFresh}
-use Rattle.nsc_replay.proofs.Cacheds.{IsMade, alone_fresh, kept_renewed, kept_spent, renewed_passes, version_fresh}
+use Rattle.nsc_replay.proofs.Cacheds.{IsMade, alone_fresh, kept_renewed, kept_spent, renewed_completes, version_fresh}
 use Rattle.nsc_replay.proofs.cached.Cached.renew.Goals as goal
 
 pub renew-requires-clause-over : goal.renew-requires-clause-over
@@ -46,7 +46,7 @@ returns-in-Ok-clause-turn g c =
     let made : IsMade a d.files d.reloads c.deref_mut.result.now c.deref-2.result.now w = record { due_are = due; loads_are = loads } in
     let fresh = subst (λ (x : Cached). IsFresh x.files c.args.stamp x.writer) (sym c.self.view_is) c.requires.fresh in
     subst (λ (x : Cached). Completes (pruned x.settings x.reloads c.args.now x.writer.cache) x.writer c.renew.new.writer) c.self.view_is
-    (renewed_passes a d.files d.reloads c.deref_mut.result.now c.deref-2.result.now w c.renew.new.writer made c.learn.ensures.told (alone_fresh a d.files w fresh c.self.invariant.1) c.in-Ok.ensures.renews)
+    (renewed_completes a d.files d.reloads c.deref_mut.result.now c.deref-2.result.now w c.renew.new.writer made c.learn.ensures.told (alone_fresh a d.files w fresh c.self.invariant.1) c.in-Ok.ensures.renews)
 
 pub invariant_of-self-2 : goal.invariant_of-self-2
 invariant_of-self-2 g c =
