@@ -10,8 +10,8 @@ use Rattle.nsc_model.specs.Stores.{IsEmptied, IsUnmoved}
 use Rattle.nsc_laws.specs.Calls.{Tells}
 use Rattle.nsc_writer.specs.Writer.{Writer, emptied_by}
 use Rattle.nsc_writer.proofs.Told.{emptied_tells}
-use Rattle.nsc_turns.specs.Turns.{Passes, Stops}
-use Rattle.nsc_turns.proofs.Emptied.{IsStopped, passes_left, stops_left}
+use Rattle.nsc_turns.specs.Turns.{Completes, Stops}
+use Rattle.nsc_turns.proofs.Emptied.{IsStopped, completes_left, stops_left}
 use Rattle.nsc_database.specs.Rests.{FindsNewest, IsPacked, Rests}
 use Rattle.nsc_database.specs.Ticks.{compacted_by}
 use Rattle.nsc_model.specs.Stores.{LoadsAgain}
@@ -79,15 +79,15 @@ finds_compacted w w' w'' empty t is settings limit ticked k =
 
 -- ---- the turn
 
-pub rests_emptied : (w w' : Writer) → Passes (invalidated w.cache) w w' → Tells w.seen w.cache → Rests w w'
-rests_emptied w w' p t = elim (passes_left w w' p) [ inl (none, is) ↦ rests_left w w' is t none | inr (some, is) ↦ rests_compacted w (emptied_by w) w' refl t some is ]
+pub rests_emptied : (w w' : Writer) → Completes (invalidated w.cache) w w' → Tells w.seen w.cache → Rests w w'
+rests_emptied w w' p t = elim (completes_left w w' p) [ inl (none, is) ↦ rests_left w w' is t none | inr (some, is) ↦ rests_compacted w (emptied_by w) w' refl t some is ]
 
-pub finds_emptied : (w w' : Writer) → Passes (invalidated w.cache) w w' → Tells w.seen w.cache → FindsNewest w w'
-finds_emptied w w' p t = elim (passes_left w w' p) [ inl (none, is) ↦ finds_left w w' is t | inr (some, is) ↦ finds_compacted w (emptied_by w) w' refl t is ]
+pub finds_emptied : (w w' : Writer) → Completes (invalidated w.cache) w w' → Tells w.seen w.cache → FindsNewest w w'
+finds_emptied w w' p t = elim (completes_left w w' p) [ inl (none, is) ↦ finds_left w w' is t | inr (some, is) ↦ finds_compacted w (emptied_by w) w' refl t is ]
 
-pub passes_emptied : (w w' : Writer) (epoch : ℕ) → Passes (invalidated w.cache) w w' → Tells w.seen w.cache → epoch ≡ w'.cache.epoch → IsEmptied w.seen w'.seen epoch
-passes_emptied w w' epoch p t counted =
-    let left : (w'.seen ≡ (emptied_by w).seen) × (w'.cache.epoch ≡ w.cache.epoch + 1) = elim (passes_left w w' p) [ inl (none, is) ↦ (ap (λ (x : Writer). x.seen) is, ap (λ (x : Writer). x.cache.epoch) is) | inr (some, is) ↦ (ap (λ (x : Writer). x.seen) is, ap (λ (x : Writer). x.cache.epoch) is) ] in
+pub completes_emptied : (w w' : Writer) (epoch : ℕ) → Completes (invalidated w.cache) w w' → Tells w.seen w.cache → epoch ≡ w'.cache.epoch → IsEmptied w.seen w'.seen epoch
+completes_emptied w w' epoch p t counted =
+    let left : (w'.seen ≡ (emptied_by w).seen) × (w'.cache.epoch ≡ w.cache.epoch + 1) = elim (completes_left w w' p) [ inl (none, is) ↦ (ap (λ (x : Writer). x.seen) is, ap (λ (x : Writer). x.cache.epoch) is) | inr (some, is) ↦ (ap (λ (x : Writer). x.seen) is, ap (λ (x : Writer). x.cache.epoch) is) ] in
     subst (λ (h : List Record). IsEmptied w.seen h epoch) (sym left.0) (is_emptied w (emptied_by w) epoch t (emptied_tells w.seen w.cache t) (counted ∙ left.1) refl)
 
 pub rests_stopped : (w w' : Writer) (count : ℕ) → Stops (invalidated w.cache) count w w' → Tells w.seen w.cache → Rests w w'
@@ -101,6 +101,6 @@ stops_unmoved w w' count s t packed = by_cause (stops_left w w' count s) where
       let none = (is_emptied w (emptied_by w) (w.cache.epoch + 1) t (emptied_tells w.seen w.cache t) refl refl).none in
       packed_unmoved w' count (NoneLive w'.seen) ((rests_stopped w w' count s t).packed packed) (subst (λ (x : Writer). last_count ≤ x.cache.cycle) (sym is) high) at (subst (λ (x : Writer). NoneLive x.seen) (sym is) none)
 
-pub rests_invalidated : (r : Result ℕ Spent) (w w' : Writer) → IfOk r (λ epoch. Passes (invalidated w.cache) w w') → IfErr r (λ spent. Stops (invalidated w.cache) spent.count w w') → Tells w.seen w.cache → Rests w w'
+pub rests_invalidated : (r : Result ℕ Spent) (w w' : Writer) → IfOk r (λ epoch. Completes (invalidated w.cache) w w') → IfErr r (λ spent. Stops (invalidated w.cache) spent.count w w') → Tells w.seen w.cache → Rests w w'
 rests_invalidated (Ok epoch) w w' p s t = rests_emptied w w' p t
 rests_invalidated (Err spent) w w' p s t = rests_stopped w w' spent.count s t

@@ -26,7 +26,7 @@ use Rattle.nsc_pruner.proofs.Pruned.{head_of, tail_of}
 use Rattle.nsc_turns.specs.declared.answering.Answering.{Answering}
 use Rattle.nsc_turns.specs.Loads.{anew_of, loaded_of}
 use Rattle.nsc_turns.specs.Ticks.{Reloads, ReloadsOne, Renews, compacted_for, ended_of}
-use Rattle.nsc_turns.specs.Turns.{Passes, Stops}
+use Rattle.nsc_turns.specs.Turns.{Completes, Stops}
 use Rattle.nsc_turns.proofs.Machines.{all_answered}
 use Rattle.nsc_turns.proofs.Renewed.{answered_on, spends}
 use Rattle.nsc_writer.proofs.Later.{end_on, polled_on, version_on}
@@ -104,16 +104,16 @@ swept_some settings limit now ticked due w all t k p some =
       version = record { version = v.version; sources = v.sources };
     }
 
-pub swept_leaves : (settings : DbConf) (limit : Option ℕ) (now ticked : ℕ) (due : List Due) (w w' : Writer) → All (IsDue limit now w.seen) due → Tells w.seen w.cache → Keeps settings limit ticked w → IsPacked w → Passes (compacted_for (ended_of (marked_by now due w)) (pruned_by now due w).cache) (pruned_by now due w) w' → Swept settings limit now ticked due w w'
+pub swept_leaves : (settings : DbConf) (limit : Option ℕ) (now ticked : ℕ) (due : List Due) (w w' : Writer) → All (IsDue limit now w.seen) due → Tells w.seen w.cache → Keeps settings limit ticked w → IsPacked w → Completes (compacted_for (ended_of (marked_by now due w)) (pruned_by now due w).cache) (pruned_by now due w) w' → Swept settings limit now ticked due w w'
 swept_leaves settings limit now ticked due w w' all t k p s = by_ended (ended_of (marked_by now due w)) refl s where
   w1 : Writer
   w1 = pruned_by now due w
 
-  by_cycle : (b : Bool) → 1 ≤ length (ended_of (marked_by now due w)) → Passes (cond b (Ok (unchanged (record w1.cache { cycle = w1.cache.cycle + 2; used = all_words w1.cache.entries }))) (Err (stopped w1.cache))) w1 w' → Swept settings limit now ticked due w w'
+  by_cycle : (b : Bool) → 1 ≤ length (ended_of (marked_by now due w)) → Completes (cond b (Ok (unchanged (record w1.cache { cycle = w1.cache.cycle + 2; used = all_words w1.cache.entries }))) (Err (stopped w1.cache))) w1 w' → Swept settings limit now ticked due w w'
   by_cycle true some q = subst (Swept settings limit now ticked due w) (sym q) (swept_some settings limit now ticked due w all t k p some)
   by_cycle false some q = absurd q
 
-  by_ended : (ended : List Due) → ended_of (marked_by now due w) ≡ ended → Passes (compacted_for ended w1.cache) w1 w' → Swept settings limit now ticked due w w'
+  by_ended : (ended : List Due) → ended_of (marked_by now due w) ≡ ended → Completes (compacted_for ended w1.cache) w1 w' → Swept settings limit now ticked due w w'
   by_ended [] none q = subst (Swept settings limit now ticked due w) (sym q) (swept_none settings limit now ticked due w all t k p none)
   by_ended (d ∷ ended) some q = by_cycle (ltb w1.cache.cycle last_count) (let count = ap (λ (ds : List Due). length ds) some in omega arith) q
 

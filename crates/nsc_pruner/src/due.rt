@@ -58,7 +58,7 @@ impl Due {
         self.request.key.as_slice()
     }
 
-    /// How often it is reloaded since its last use, once it is reloaded; the count stays at its end.
+    /// The count of reloads without a use for the entry that is loaded in its place: one more than its own, which stays at 2^62.
     pub fn next_reloads(&self) -> u64
         ensures { result ≡ next_count self.now.reloads }
     {
@@ -98,8 +98,9 @@ impl Due {
     }
 }
 
-/// The live entries whose time is over at this moment, in seconds, in rising number. Those that were reloaded so often without a
-/// use are dropped, as those are whose reply is a not-found one. Fails only for want of memory.
+/// The live entries whose time is over at this moment, in seconds, in rising number. One is dropped, and not reloaded, where its
+/// reply is a not-found one, or where it was reloaded `limit` times or more without a use; `None` is no limit. Fails only for want of
+/// memory.
 pub fn expired(
     writer: &mut Writer,
     alloc: Global,

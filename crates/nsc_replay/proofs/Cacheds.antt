@@ -1,5 +1,5 @@
 -- What turns leave of a database of a replay.
-use Rattle.std.proofs.Common.{◌≡◌, ◌∙◌, ℕ, Bool, true, false, cond, List, map, Option, Some, None, Result, Ok, Err, refl, sym, ap, subst}
+use Rattle.std.proofs.Common.{◌≡◌, ◌∙◌, ℕ, inl, inr, Bool, true, false, cond, List, map, Option, Some, None, Result, Ok, Err, refl, sym, ap, subst}
 use Rattle.std.specs.Bool.{OnTrue}
 use Rattle.std.specs.Prelude.{IfErr, IfOk}
 use Rattle.nsc_words.specs.declared.layout.Layout.{Layout}
@@ -10,25 +10,24 @@ use Rattle.nsc_model.specs.declared.conf.DbConf.{DbConf}
 use Rattle.nsc_model.specs.declared.store.Spent.{Spent}
 use Rattle.nsc_model.specs.declared.answer.Request.{Request}
 use Rattle.nsc_model.specs.Answers.{answer_of}
-use Rattle.nsc_model.specs.Events.{TurnsTo}
-use Rattle.nsc_model.specs.Machine.{◌>>=◌, Cache, Passed, Stopped, cached, candidates_of, checked, due_of, kept_answer, lookup, polled, tried_all, unchanged, invalidated, is_outdated, pruned, room_of}
+use Rattle.nsc_model.specs.Machine.{◌>>=◌, Cache, Passed, Stopped, cached, candidates_of, checked, due_of, kept_answer, lookup, polled, ticked_after, tried_all, unchanged, invalidated, is_outdated, pruned, room_of}
 use Rattle.nsc_pruner.specs.Due.{Due, due_from, marked_by, pruned_by}
 use Rattle.nsc_writer.specs.Loaded.{Loaded}
 use Rattle.nsc_writer.specs.declared.loaded.Inserted.{Inserted}
-use Rattle.nsc_writer.specs.Writer.{Inserts, IsAnswered, Writer}
+use Rattle.nsc_writer.specs.Writer.{Inserts, IsAnswered, Writer, passed_by}
 use Rattle.nsc_turns.specs.Ticks.{Checks, Renews, compacted_for, ended_of}
-use Rattle.nsc_turns.specs.Turns.{Passes, Stops, missed}
+use Rattle.nsc_turns.specs.Turns.{Completes, CompletesWith, Stops, missed}
 use Rattle.nsc_turns.proofs.Emptied.{sources_left, sources_stopped}
-use Rattle.nsc_turns.proofs.Events.{stops_at, stops_first, stops_then}
+use Rattle.nsc_turns.proofs.Events.{stops_first, stops_then}
 use Rattle.nsc_turns.proofs.Machines.{IsAlone, current_checks, kept_by_insert, renews_pruned}
-use Rattle.nsc_turns.proofs.Polled.{lookup_stops, lookup_turns}
+use Rattle.nsc_turns.proofs.Polled.{KeepsAnswer, counted_as, lookup_completes, lookup_stops}
 use Rattle.nsc_turns.specs.declared.answering.Answering.{Answering}
 use Rattle.nsc_turns.specs.Loads.{anew_of, loaded_of}
 use Rattle.nsc_writer.specs.declared.loaded.Stamp.{Stamp}
 use Rattle.nsc_laws.specs.Calls.{Tells}
 use Rattle.nsc_model.specs.History.{version_in}
 use Rattle.nsc_turns.proofs.Renewed.{leaves_pruned, leaves_renewed, spends}
-use Rattle.nsc_replay.specs.Cached.{Cached, Faults, GivesUp, IsFresh}
+use Rattle.nsc_replay.specs.Cached.{Cached, Faults, GivesUp, IsFresh, ticked_at}
 
 -- what a database owes of its writer
 abbrev pub IsKept : Bool → Content → ℕ → Writer → Type 0
@@ -42,10 +41,10 @@ on_true false A B f a = a
 pub kept_on : (b : Bool) (files : Content) (room : ℕ) (w w' : Writer) → w'.cache.sources ≡ w.cache.sources → w'.layout ≡ w.layout → w'.slide ≡ w.slide → IsKept b files room w → IsKept b files room w'
 kept_on b files room w w' sources layout slide k = (on_true b (w.cache.sources ≡ files) (w'.cache.sources ≡ files) (λ is. sources ∙ is) k.0, ap (λ (x : Layout). x.arena) layout ∙ k.1, slide ∙ k.2)
 
--- what an event passes, or where it stops, leaves the layout, and no slide under way
-pub layout_passed : (r : Result Passed Stopped) (w w' : Writer) → Passes r w w' → (w'.layout ≡ w.layout) × (w'.slide ≡ w.slide)
-layout_passed (Ok passed) w w' p = (ap (λ (x : Writer). x.layout) p, ap (λ (x : Writer). x.slide) p)
-layout_passed (Err stop) w w' p = absurd p
+-- an event that completes, or that stops, leaves the layout, and no slide under way
+pub layout_completed : (r : Result Passed Stopped) (w w' : Writer) → Completes r w w' → (w'.layout ≡ w.layout) × (w'.slide ≡ w.slide)
+layout_completed (Ok passed) w w' p = (ap (λ (x : Writer). x.layout) p, ap (λ (x : Writer). x.slide) p)
+layout_completed (Err stop) w w' p = absurd p
 
 pub layout_stopped : (r : Result Passed Stopped) (count : ℕ) (w w' : Writer) → Stops r count w w' → (w'.layout ≡ w.layout) × (w'.slide ≡ w.slide)
 layout_stopped (Ok passed) count w w' s = absurd s
@@ -53,18 +52,28 @@ layout_stopped (Err stop) count w w' s = (ap (λ (x : Writer). x.layout) s.1, ap
 
 -- ---- faults
 
-pub faults_first : (r : Result Passed Stopped) (next : Cache → Result Passed Stopped) (w w' : Writer) (fault : CacheFault) → GivesUp r w w' fault → Faults (r >>= next) w'.cache fault
-faults_first r next w w' faults.NoMemory g = tt
-faults_first r next w w' (faults.Spent count) g = stops_at (r >>= next) count w w' (stops_first r next count w w' g)
+pub faults_first : (files : Content) (next : Cache → Result Passed Stopped) (w w' : Writer) (fault : CacheFault) → GivesUp (polled files w.cache) w w' fault → Faults (polled files w.cache >>= next) files w w' fault
+faults_first files next w w' faults.NoMemory g = inl g
+faults_first files next w w' (faults.Spent count) g = stops_first (polled files w.cache) next count w w' g
 
-pub faults_then : (r : Result Passed Stopped) (next : Cache → Result Passed Stopped) (w mid w' : Writer) (fault : CacheFault) → Passes r w mid → GivesUp (next mid.cache) mid w' fault → Faults (r >>= next) w'.cache fault
-faults_then r next w mid w' faults.NoMemory p g = tt
-faults_then r next w mid w' (faults.Spent count) p g = stops_at (r >>= next) count w w' (stops_then r next count w mid w' p g)
+pub faults_then : (files : Content) (next : Cache → Result Passed Stopped) (w mid w' : Writer) (fault : CacheFault) → Completes (polled files w.cache) w mid → GivesUp (next mid.cache) mid w' fault → Faults (polled files w.cache >>= next) files w w' fault
+faults_then files next w mid w' faults.NoMemory p g = inr (subst (Completes (polled files w.cache) w) (sym g) p)
+faults_then files next w mid w' (faults.Spent count) p g = stops_then (polled files w.cache) next count w mid w' p g
+
+-- the version that a tick keeps which stops after its poll, and before it
+pub kept_after : (settings : DbConf) (ticked : ℕ) (r : Result Passed Stopped) (w mid : Writer) → Completes r w mid → ticked_after settings ticked (Ok (unchanged mid.cache)) ≡ ticked_after settings ticked r
+kept_after settings ticked (Ok poll) w mid p = ap (λ (x : Writer). ticked_after settings ticked (Ok (unchanged x.cache))) p
+kept_after settings ticked (Err stop) w mid p = absurd p
+
+pub kept_before : (settings : DbConf) (ticked : ℕ) (r : Result Passed Stopped) (w w' : Writer) (fault : CacheFault) → GivesUp r w w' fault → ticked ≡ ticked_at fault ticked (ticked_after settings ticked r)
+kept_before settings ticked r w w' faults.NoMemory g = refl
+kept_before settings ticked (Ok poll) w w' (faults.Spent count) g = absurd g
+kept_before settings ticked (Err stop) w w' (faults.Spent count) g = refl
 
 -- ---- invalidations, and what a tick looks for
 
-pub kept_invalidated : (r : Result ℕ Spent) (b : Bool) (files : Content) (room : ℕ) (w w' : Writer) → IfOk r (λ epoch. Passes (invalidated w.cache) w w') → IfErr r (λ spent. Stops (invalidated w.cache) spent.count w w') → IsKept b files room w → IsKept b files room w'
-kept_invalidated (Ok epoch) b files room w w' p s k = let same = layout_passed (invalidated w.cache) w w' p in kept_on b files room w w' (sources_left w w' p) same.0 same.1 k
+pub kept_invalidated : (r : Result ℕ Spent) (b : Bool) (files : Content) (room : ℕ) (w w' : Writer) → IfOk r (λ epoch. Completes (invalidated w.cache) w w') → IfErr r (λ spent. Stops (invalidated w.cache) spent.count w w') → IsKept b files room w → IsKept b files room w'
+kept_invalidated (Ok epoch) b files room w w' p s k = let same = layout_completed (invalidated w.cache) w w' p in kept_on b files room w w' (sources_left w w' p) same.0 same.1 k
 kept_invalidated (Err spent) b files room w w' p s k = let same = layout_stopped (invalidated w.cache) spent.count w w' s in kept_on b files room w w' (sources_stopped w w' spent.count s) same.0 same.1 k
 
 pub kept_same : (b : Bool) (files : Content) (room : ℕ) (w w' : Writer) → w' ≡ w → IsKept b files room w → IsKept b files room w'
@@ -75,7 +84,7 @@ kept_faulted faults.NoMemory outdated limit now b files room w w' c k = kept_sam
 kept_faulted (faults.Spent count) outdated limit now b files room w w' c k = kept_invalidated (Err (record { count = count })) b files room w w' tt c.1 k
 
 pub current_faults : (fault : CacheFault) (settings : DbConf) (limit : Option ℕ) (now ticked : ℕ) (w w' : Writer) → is_outdated settings w.cache.newest_version ticked ≡ false → GivesUp (pruned settings limit now w.cache) w w' fault → GivesUp (checked settings limit now ticked w.cache) w w' fault
-current_faults faults.NoMemory settings limit now ticked w w' off g = tt
+current_faults faults.NoMemory settings limit now ticked w w' off g = g
 current_faults (faults.Spent count) settings limit now ticked w w' off g = current_checks (λ (r : Result Passed Stopped). Stops r count w w') settings limit now ticked w.cache off g
 
 -- ---- renewals
@@ -100,8 +109,8 @@ pub record IsMade (a : Answering) (files : Content) (limit : Option ℕ) (due : 
   pub due_are : due ≡ map (due_from limit) (due_of a.moment w.cache.entries)
   pub loads_are : loads ≡ map (anew_of a files) due
 
-pub renewed_passes : (a : Answering) (files : Content) (limit : Option ℕ) (due : List Due) (loads : List (Option Loaded)) (w w' : Writer) → IsMade a files limit due loads w → Tells w.seen w.cache → IsAlone a files w → Renews a.moment due loads w w' → Passes (pruned a.settings limit a.moment w.cache) w w'
-renewed_passes a files limit due loads w w' m t s r =
+pub renewed_completes : (a : Answering) (files : Content) (limit : Option ℕ) (due : List Due) (loads : List (Option Loaded)) (w w' : Writer) → IsMade a files limit due loads w → Tells w.seen w.cache → IsAlone a files w → Renews a.moment due loads w w' → Completes (pruned a.settings limit a.moment w.cache) w w'
+renewed_completes a files limit due loads w w' m t s r =
     let loads : loads ≡ map (anew_of a files) (map (due_from limit) (due_of a.moment w.cache.entries)) = m.loads_are ∙ ap (map (anew_of a files)) m.due_are in
     renews_pruned a files limit w w' t s (subst (λ (x : List Due × List (Option Loaded)). Renews a.moment x.0 x.1 w w') (λ i. (m.due_are i, loads i)) r)
 
@@ -111,8 +120,8 @@ renewal_faults (Err fault) settings limit now ticked w w1 w' off same g = curren
 
 -- ---- lookups
 
-pub lookup_faults : (fault : CacheFault) (settings : DbConf) (now : ℕ) (files : Content) (request : Request) (w w' : Writer) → cached settings request w.cache ≡ None → GivesUp (polled files w.cache) w w' fault → Faults (lookup settings now files request w.cache) w'.cache fault
-lookup_faults faults.NoMemory settings now files request w w' none g = tt
+pub lookup_faults : (fault : CacheFault) (settings : DbConf) (now : ℕ) (files : Content) (request : Request) (w w' : Writer) → cached settings request w.cache ≡ None → GivesUp (polled files w.cache) w w' fault → Faults (lookup settings now files request w.cache) files w w' fault
+lookup_faults faults.NoMemory settings now files request w w' none g = inl g
 lookup_faults (faults.Spent count) settings now files request w w' none g = lookup_stops settings now files request count w w' none g
 
 pub answered_fresh : (a : Answering) (files : Content) (request : Request) (reloads : ℕ) (l : Loaded) (w : Writer) → l ≡ loaded_of a files request reloads → IsFresh files a.stamp w → Tells w.seen w.cache → IsAnswered w.seen l
@@ -121,7 +130,7 @@ answered_fresh a files request reloads l w is f t = subst (IsAnswered w.seen) (s
 -- after the poll of a lookup that found no entry
 pub record IsMissed (a : Answering) (request : Request) (l : Loaded) (s p : Cached) : Type 0 where
   pub none : cached s.settings request s.writer.cache ≡ None
-  pub passes : Passes (polled s.files s.writer.cache) s.writer p.writer
+  pub completes : Completes (polled s.files s.writer.cache) s.writer p.writer
   pub fresh : IsFresh s.files a.stamp p.writer
   pub rest : p ≡ record s { writer = p.writer }
   pub settings : a.settings ≡ p.settings
@@ -131,16 +140,21 @@ answer_is : (a : Answering) (request : Request) (l : Loaded) (s p : Cached) (rep
 answer_is a request l s p reply m said =
     ap (λ (c : Content). (answer_of c request).bytes) (m.fresh.sources ∙ sym (ap (λ (x : Cached). x.files) m.rest)) ∙ sym (said ∙ ap (λ (x : Loaded). x.answer.bytes) m.loaded)
 
+-- an insertion whose miss was counted
+missed_keeps : (l : Loaded) (settings : DbConf) (now : ℕ) (request : Request) (w w' : Writer) → w' ≡ missed l (passed_by (kept_answer settings now request w.cache) w) → KeepsAnswer settings now request w w'
+missed_keeps l settings now request w w' is = subst (λ (x : Writer). x ≡ counted_as x (passed_by (kept_answer settings now request w.cache) w)) (sym is) refl
+
 pub lookup_kept : (a : Answering) (request : Request) (said : Inserted) (l : Loaded) (s p : Cached) (w : Writer) (reply : List ℕ) → IsMissed a request l s p → p.settings.enabled ≡ true → p.writer.layout.arena ≡ room_of p.settings → Inserts said l (missed l p.writer) w → reply ≡ l.answer.bytes
-    → TurnsTo (lookup s.settings a.moment s.files request s.writer.cache) w.cache reply
+    → CompletesWith (lookup s.settings a.moment s.files request s.writer.cache) s.writer w reply
 lookup_kept a request said l s p w reply m on room i said_is =
     let same = ap (λ (x : Cached). x.settings) m.rest in
     let files = ap (λ (x : Cached). x.files) m.rest in
     let alone = alone_fresh a p.files p.writer (subst (λ (f : Content). IsFresh f a.stamp p.writer) (sym files) m.fresh) (room ∙ ap room_of (sym m.settings)) in
-    let kept = kept_by_insert a p.files request said l p.writer w (ap (λ (x : DbConf). x.enabled) m.settings ∙ on) alone m.loaded i in
-    lookup_turns s.settings a.moment s.files request s.writer p.writer w reply m.none m.passes (ap (λ (x : DbConf). (kept_answer x a.moment request p.writer.cache).cache) (sym (m.settings ∙ same)) ∙ kept) (answer_is a request l s p reply m said_is)
+    let kept = missed_keeps (loaded_of a p.files request 0) a.settings a.moment request p.writer w (kept_by_insert a p.files request said l p.writer w (ap (λ (x : DbConf). x.enabled) m.settings ∙ on) alone m.loaded i) in
+    lookup_completes s.settings a.moment s.files request s.writer p.writer w reply m.none m.completes (subst (λ (x : DbConf). KeepsAnswer x a.moment request p.writer w) (m.settings ∙ same) kept) (answer_is a request l s p reply m said_is)
 
-pub lookup_lone : (a : Answering) (request : Request) (l : Loaded) (s p : Cached) (reply : List ℕ) → IsMissed a request l s p → p.settings.enabled ≡ false → reply ≡ l.answer.bytes → TurnsTo (lookup s.settings a.moment s.files request s.writer.cache) p.writer.cache reply
+pub lookup_lone : (a : Answering) (request : Request) (l : Loaded) (s p : Cached) (reply : List ℕ) → IsMissed a request l s p → p.settings.enabled ≡ false → reply ≡ l.answer.bytes → CompletesWith (lookup s.settings a.moment s.files request s.writer.cache) s.writer p.writer reply
 lookup_lone a request l s p reply m off said_is =
     let enabled = sym (ap (λ (x : Cached). x.settings.enabled) m.rest) ∙ off in
-    lookup_turns s.settings a.moment s.files request s.writer p.writer p.writer reply m.none m.passes (ap (λ (b : Bool). (cond b (tried_all s.settings a.moment (candidates_of request) p.writer.cache) (unchanged p.writer.cache)).cache) enabled) (answer_is a request l s p reply m said_is)
+    let kept : KeepsAnswer s.settings a.moment request p.writer p.writer = sym (ap (λ (b : Bool). counted_as p.writer (passed_by (cond b (tried_all s.settings a.moment (candidates_of request) p.writer.cache) (unchanged p.writer.cache)) p.writer)) enabled) in
+    lookup_completes s.settings a.moment s.files request s.writer p.writer p.writer reply m.none m.completes kept (answer_is a request l s p reply m said_is)

@@ -9,7 +9,7 @@ use Rattle.nsc_model.specs.Fronts.{Finds}
 use Rattle.nsc_model.proofs.Parsers.{Parser, then, chunk_finds, chunk_partial, finds_then, refuses_then, partial_then, refuses_first, partial_first, finds_now}
 use Rattle.nsc_replay.specs.declared.halt.Halt.{Halt}
 use Rattle.nsc_replay.specs.declared.halt.Halt.TheVariants as halts
-use Rattle.nsc_replay.specs.Reading.{Stops, Halts, Gets, Reads}
+use Rattle.nsc_replay.specs.Reading.{StopsParsing, Halts, Gets, Reads}
 
 abbrev pub Told : Type 0
 Told = Option (List ℕ)
@@ -19,14 +19,14 @@ pub nothing : (b : Told) → Moves b b []
 nothing None = refl
 nothing (Some left) = (left, refl, refl)
 
-stops_first : {A B : Type 0} (p : Parser A) (q : A → Parser B) (after : Told) (front : List ℕ) (halt : Halt) → Stops p after front halt → Stops (then p q) after front halt
+stops_first : {A B : Type 0} (p : Parser A) (q : A → Parser B) (after : Told) (front : List ℕ) (halt : Halt) → StopsParsing p after front halt → StopsParsing (then p q) after front halt
 stops_first p q after front halts.Ended s = (partial_first p q front s.0, s.1)
 stops_first p q after front halts.NoFrame s = refuses_first p q front NoFrame s
 stops_first p q after front (halts.LongFile size) s = refuses_first p q front (LongFile size) s
 stops_first p q after front halts.ReadFault s = partial_first p q front s
 stops_first p q after front halts.NoMemory s = partial_first p q front s
 
-stops_then : {A B : Type 0} (p : Parser A) (q : A → Parser B) (after : Told) (f g : List ℕ) (x : A) (halt : Halt) → Finds p f x → Stops (q x) after g halt → Stops (then p q) after (f ++ g) halt
+stops_then : {A B : Type 0} (p : Parser A) (q : A → Parser B) (after : Told) (f g : List ℕ) (x : A) (halt : Halt) → Finds p f x → StopsParsing (q x) after g halt → StopsParsing (then p q) after (f ++ g) halt
 stops_then p q after f g x halts.Ended a s = (partial_then p q f g x a s.0, s.1)
 stops_then p q after f g x halts.NoFrame a s = refuses_then p q f g x NoFrame a s
 stops_then p q after f g x (halts.LongFile size) a s = refuses_then p q f g x (LongFile size) a s

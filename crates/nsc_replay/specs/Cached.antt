@@ -1,13 +1,12 @@
 -- A database of a replay.
-use Rattle.std.specs.Prelude.{◌≡◌, ℕ, Option, Result}
+use Rattle.std.specs.Prelude.{◌≡◌, ◌⊎◌, ℕ, Option, Result}
 use Rattle.nsc_model.specs.declared.conf.DbConf.{DbConf}
 use Rattle.nsc_model.specs.declared.fault.CacheFault.{CacheFault}
 use Rattle.nsc_model.specs.declared.fault.CacheFault.TheVariants as faults
 use Rattle.nsc_model.specs.Content.{Content}
-use Rattle.nsc_model.specs.Events.{StopsAt}
 use Rattle.nsc_model.specs.History.{PolledSince}
-use Rattle.nsc_model.specs.Machine.{Cache, Passed, Stopped}
-use Rattle.nsc_turns.specs.Turns.{Stops}
+use Rattle.nsc_model.specs.Machine.{Passed, Stopped, polled}
+use Rattle.nsc_turns.specs.Turns.{Completes, Stops}
 use Rattle.nsc_writer.specs.declared.loaded.Stamp.{Stamp}
 use Rattle.nsc_writer.specs.Writer.{Writer}
 
@@ -26,12 +25,26 @@ pub record IsFresh (files : Content) (stamp : Stamp) (w : Writer) : Type 0 where
   pub sources : w.cache.sources ≡ files
   pub polled : PolledSince w.seen stamp.version stamp.epoch
 
--- an event gave up: memory was wanting, or the machine stops there
+-- a part of an event gave up: memory was wanting, and the writer is as before; or the machine stops there
 abbrev pub GivesUp : Result Passed Stopped → Writer → Writer → CacheFault → Type 0
-GivesUp event before after faults.NoMemory = Unit {0}
-GivesUp event before after (faults.Spent count) = Stops event count before after
+GivesUp part before after faults.NoMemory = after ≡ before
+GivesUp part before after (faults.Spent count) = Stops part count before after
 
--- the same of the cache alone
-abbrev pub Faults : {A : Type 0} → Result A Stopped → Cache → CacheFault → Type 0
-Faults event after faults.NoMemory = Unit {0}
-Faults event after (faults.Spent count) = StopsAt event after count
+-- the writer is as before, or a poll was made and nothing else
+abbrev pub IsPolledAtMost : Content → Writer → Writer → Type 0
+IsPolledAtMost files before after = (after ≡ before) ⊎ Completes (polled files before.cache) before after
+
+-- an event gave up: memory was wanting, and at most a poll was made; or the machine stops there
+abbrev pub Faults : {A : Type 0} → Result A Stopped → Content → Writer → Writer → CacheFault → Type 0
+Faults event files before after faults.NoMemory = IsPolledAtMost files before after
+Faults event files before after (faults.Spent count) = Stops event count before after
+
+-- an event that takes no memory gave up: the machine stops there
+abbrev pub OnlyStops : Result Passed Stopped → Writer → Writer → CacheFault → Type 0
+OnlyStops event before after faults.NoMemory = ⊥
+OnlyStops event before after (faults.Spent count) = Stops event count before after
+
+-- the version that a tick keeps which gave up: where memory was wanting, that of the last tick
+abbrev pub ticked_at : CacheFault → ℕ → ℕ → ℕ
+ticked_at faults.NoMemory ticked kept = ticked
+ticked_at (faults.Spent count) ticked kept = kept

@@ -10,18 +10,18 @@ use Rattle.nsc_replay.specs.declared.halt.Halt.{Halt}
 use Rattle.nsc_replay.specs.declared.halt.Halt.TheVariants as halts
 
 -- why a parser stops after this front
-abbrev pub Stops : {A : Type 0} → (List ℕ → Result (A × List ℕ) frames.Fault) → Option (List ℕ) → List ℕ → Halt → Type 0
-Stops parser after front halts.Ended = IsPartial parser front × IsDrained after
-Stops parser after front halts.NoFrame = Refuses parser front frames.NoFrame
-Stops parser after front (halts.LongFile size) = Refuses parser front (frames.LongFile size)
-Stops parser after front halts.ReadFault = IsPartial parser front
-Stops parser after front halts.NoMemory = IsPartial parser front
+abbrev pub StopsParsing : {A : Type 0} → (List ℕ → Result (A × List ℕ) frames.Fault) → Option (List ℕ) → List ℕ → Halt → Type 0
+StopsParsing parser after front halts.Ended = IsPartial parser front × IsDrained after
+StopsParsing parser after front halts.NoFrame = Refuses parser front frames.NoFrame
+StopsParsing parser after front (halts.LongFile size) = Refuses parser front (frames.LongFile size)
+StopsParsing parser after front halts.ReadFault = IsPartial parser front
+StopsParsing parser after front halts.NoMemory = IsPartial parser front
 
 -- a reader read a front of what was left, and stopped there
 pub record Halts {A : Type 0} (parser : List ℕ → Result (A × List ℕ) frames.Fault) (before after : Option (List ℕ)) (halt : Halt) : Type 0 where
   pub front : List ℕ
   pub moved : Moves before after front
-  pub stops : Stops parser after front halt
+  pub stops : StopsParsing parser after front halt
 
 -- a reader read a front of what was left, in which the parser finds this, whatever follows
 pub record Gets {A : Type 0} (parser : List ℕ → Result (A × List ℕ) frames.Fault) (before after : Option (List ℕ)) (piece : A) : Type 0 where

@@ -1,15 +1,15 @@
-ghost use Rattle.std.specs.Prelude.{◌≡◌, ℕ, ◌≤◌, ◌<◌, ◌^◌, None, length, map, unwrap_or, option_map, IfNone, IfSome, IfOk, IfErr, OnOk};
+ghost use Rattle.std.specs.Prelude.{◌≡◌, ℕ, ◌≤◌, ◌<◌, ◌^◌, [], ◌∷◌, None, Ok, length, map, unwrap_or, option_map, IfNone, IfSome, IfOk, IfErr, OnErr, OnOk};
 ghost use Rattle.std.specs.Arc.{arc_value};
 ghost use Rattle.nsc_model.specs.Files.{no_files};
 ghost use Rattle.nsc_model.specs.Entry.{key_limit};
 ghost use Rattle.nsc_model.specs.Answer.{reply_limit};
-ghost use Rattle.nsc_model.specs.Machine.{new_cache, cached, lookup, tick, checked, polled, pruned, ticked_by, invalidated, due_of, room_of};
-ghost use Rattle.nsc_model.specs.Events.{ComesTo, TurnsTo};
+ghost use Rattle.nsc_model.specs.Machine.{new_cache, cached, lookup, tick, checked, polled, pruned, ticked_after, ticked_by, invalidated, due_of, room_of, unchanged};
+ghost use Rattle.nsc_model.specs.declared.record.Record.TheVariants.{Change};
 ghost use Rattle.nsc_model.specs.Sizes.{SizeFits};
 ghost use Rattle.nsc_pruner.specs.Due.{due_from};
 ghost use Rattle.nsc_turns.specs.Loads.{loaded_of};
-ghost use Rattle.nsc_turns.specs.Turns.{Passes};
-ghost use Rattle.nsc_replay.specs.Cached.{Faults, GivesUp, IsFresh};
+ghost use Rattle.nsc_turns.specs.Turns.{Completes, CompletesWith};
+ghost use Rattle.nsc_replay.specs.Cached.{Faults, GivesUp, IsFresh, OnlyStops, ticked_at};
 
 use crate::prepared::Prepared;
 use nsc_base::{Buf, Bytes, NoMemory};
@@ -58,6 +58,7 @@ impl<A: Answerer> Cached<A> {
         ensures files { IfOk result (λ cached. cached.files ≡ no_files) }
         ensures settings { IfOk result (λ cached. (cached.settings ≡ settings) × (cached.reloads ≡ reloads)) }
         ensures cache { IfOk result (λ cached. cached.writer.cache ≡ new_cache no_files) }
+        ensures history { IfOk result (λ cached. cached.writer.seen ≡ Change 0 no_files ∷ []) }
         ensures ticked { IfOk result (λ cached. cached.ticked ≡ 0) }
     {
         let layout = Layout {
@@ -100,8 +101,8 @@ impl<A: Answerer> Cached<A> {
         requires moment { now < 2 ^ 62 }
         ensures rest { self.new ≡ record self.old { writer = self.new.writer } }
         ensures bound { IfOk result (λ reply. length reply ≤ reply_limit) }
-        ensures turn { IfOk result (λ reply. TurnsTo (lookup self.old.settings now self.old.files (record { kind = kind; key = key.now }) self.old.writer.cache) self.new.writer.cache reply) }
-        ensures fault { IfErr result (Faults (lookup self.old.settings now self.old.files (record { kind = kind; key = key.now }) self.old.writer.cache) self.new.writer.cache) }
+        ensures turn { IfOk result (CompletesWith (lookup self.old.settings now self.old.files (record { kind = kind; key = key.now }) self.old.writer.cache) self.old.writer self.new.writer) }
+        ensures fault { IfErr result (Faults (lookup self.old.settings now self.old.files (record { kind = kind; key = key.now }) self.old.writer.cache) self.old.files self.old.writer self.new.writer) }
     {
         if let Some(reply) = self.hit(alloc, kind, key)? {
             return Ok(reply);
@@ -119,19 +120,23 @@ impl<A: Answerer> Cached<A> {
         Ok(loaded.into_reply())
     }
 
-    // The reply of the live entry of the request, where the database is cached, if there is one.
+    // The reply of the live entry of the request, where the database is cached, if there is one. The memory of its copy is taken before
+    // the entry is looked for, so that an entry whose reply cannot be handed out is not used.
     fn hit(&mut self, alloc: Global, kind: Kind, key: &[u8]) -> Result<Option<Bytes>, NoMemory>
         ensures rest { self.new ≡ record self.old { writer = self.new.writer } }
         ensures bound { IfOk result (λ hit. IfSome hit (λ reply. length reply ≤ reply_limit)) }
-        ensures hit { IfOk result (λ hit. IfSome hit (λ reply. (now : ℕ) → TurnsTo (lookup self.old.settings now self.old.files (record { kind = kind; key = key.now }) self.old.writer.cache) self.new.writer.cache reply)) }
+        ensures hit { IfOk result (λ hit. IfSome hit (λ reply. (now : ℕ) → CompletesWith (lookup self.old.settings now self.old.files (record { kind = kind; key = key.now }) self.old.writer.cache) self.old.writer self.new.writer reply)) }
         ensures none { IfOk result (λ hit. IfNone hit (cached self.old.settings (record { kind = kind; key = key.now }) self.old.writer.cache ≡ None)) }
         ensures same { IfOk result (λ hit. IfNone hit (self.new ≡ self.old)) }
+        ensures unused { OnErr result (self.new ≡ self.old) }
     {
         if !self.settings.enabled {
             return Ok(None);
         }
+        let mut copy = Vec::with_capacity(alloc, KEPT_LIMIT)?;
         if let HitOrMiss::Hit(_) = look(&mut self.writer, kind, key, &mut self.reply) {
-            return Ok(Some(Bytes::copy(alloc, self.reply.bytes())?));
+            copy.extend_from_slice(self.reply.bytes()).unwrap();
+            return Ok(Some(Bytes::from_vec(copy)));
         }
         Ok(None)
     }
@@ -139,7 +144,7 @@ impl<A: Answerer> Cached<A> {
     // Polls the files; where the writer is known to have polled them, nothing is compared.
     fn poll(&mut self) -> Result<Stamp, CacheFault>
         ensures rest { self.new ≡ record self.old { writer = self.new.writer } }
-        ensures polled { OnOk result (Passes (polled self.old.files self.old.writer.cache) self.old.writer self.new.writer) }
+        ensures polled { OnOk result (Completes (polled self.old.files self.old.writer.cache) self.old.writer self.new.writer) }
         ensures fresh { IfOk result (λ stamp. IsFresh self.old.files stamp self.new.writer) }
         ensures fault { IfErr result (GivesUp (polled self.old.files self.old.writer.cache) self.old.writer self.new.writer) }
     {
@@ -189,8 +194,9 @@ impl<A: Answerer> Cached<A> {
         ensures files { self.new.files ≡ self.old.files }
         ensures settings { (self.new.settings ≡ self.old.settings) × (self.new.reloads ≡ self.old.reloads) }
         ensures ticked { OnOk result (self.new.ticked ≡ ticked_by self.old.settings self.old.ticked self.new.writer.cache) }
-        ensures turn { OnOk result (ComesTo (tick self.old.settings self.old.reloads now self.old.files self.old.ticked self.old.writer.cache) self.new.writer.cache) }
-        ensures fault { IfErr result (Faults (tick self.old.settings self.old.reloads now self.old.files self.old.ticked self.old.writer.cache) self.new.writer.cache) }
+        ensures kept { IfErr result (λ fault. self.new.ticked ≡ ticked_at fault self.old.ticked (ticked_after self.old.settings self.old.ticked (polled self.old.files self.old.writer.cache))) }
+        ensures turn { OnOk result (Completes (tick self.old.settings self.old.reloads now self.old.files self.old.ticked self.old.writer.cache) self.old.writer self.new.writer) }
+        ensures fault { IfErr result (Faults (tick self.old.settings self.old.reloads now self.old.files self.old.ticked self.old.writer.cache) self.old.files self.old.writer self.new.writer) }
     {
         if !self.settings.enabled {
             return Ok(());
@@ -199,12 +205,29 @@ impl<A: Answerer> Cached<A> {
             Ok(stamp) => stamp,
             Err(fault) => return Err(fault),
         };
+        let kept = self.ticked_after();
         match self.check(alloc, answers, stamp, now) {
             Ok(()) => {
                 self.ticked = self.writer.version();
                 Ok(())
             }
-            Err(fault) => Err(fault),
+            Err(CacheFault::NoMemory) => Err(CacheFault::NoMemory),
+            Err(CacheFault::Spent { count }) => {
+                self.ticked = kept;
+                Err(CacheFault::Spent { count })
+            }
+        }
+    }
+
+    // The version that a tick keeps which stops from here on: its pruning comes once the newest version is kept.
+    fn ticked_after(&self) -> u64
+        ensures { result ≡ ticked_after self.now.settings self.now.ticked (Ok (unchanged self.now.writer.cache)) }
+    {
+        let newest = self.writer.version();
+        if self.settings.is_outdated(newest, self.ticked) {
+            self.ticked
+        } else {
+            newest
         }
     }
 
@@ -220,7 +243,7 @@ impl<A: Answerer> Cached<A> {
         requires moment { now < 2 ^ 62 }
         requires fresh { IsFresh self.old.files stamp self.old.writer }
         ensures rest { self.new ≡ record self.old { writer = self.new.writer } }
-        ensures turn { OnOk result (Passes (checked self.old.settings self.old.reloads now self.old.ticked self.old.writer.cache) self.old.writer self.new.writer) }
+        ensures turn { OnOk result (Completes (checked self.old.settings self.old.reloads now self.old.ticked self.old.writer.cache) self.old.writer self.new.writer) }
         ensures fault { IfErr result (GivesUp (checked self.old.settings self.old.reloads now self.old.ticked self.old.writer.cache) self.old.writer self.new.writer) }
     {
         let (settings, reloads, ticked) = (self.settings, self.reloads, self.ticked);
@@ -244,7 +267,7 @@ impl<A: Answerer> Cached<A> {
         requires fresh { IsFresh self.old.files stamp self.old.writer }
         requires due { due.items ≡ map (due_from self.old.reloads) (due_of now self.old.writer.cache.entries) }
         ensures rest { self.new ≡ record self.old { writer = self.new.writer } }
-        ensures turn { OnOk result (Passes (pruned self.old.settings self.old.reloads now self.old.writer.cache) self.old.writer self.new.writer) }
+        ensures turn { OnOk result (Completes (pruned self.old.settings self.old.reloads now self.old.writer.cache) self.old.writer self.new.writer) }
         ensures fault { IfErr result (GivesUp (pruned self.old.settings self.old.reloads now self.old.writer.cache) self.old.writer self.new.writer) }
     {
         let answering = Answering {
@@ -266,8 +289,8 @@ impl<A: Answerer> Cached<A> {
     /// An invalidation.
     pub fn invalidate(&mut self) -> Result<(), CacheFault>
         ensures rest { self.new ≡ record self.old { writer = self.new.writer } }
-        ensures turn { OnOk result (ComesTo (invalidated self.old.writer.cache) self.new.writer.cache) }
-        ensures fault { IfErr result (Faults (invalidated self.old.writer.cache) self.new.writer.cache) }
+        ensures turn { OnOk result (Completes (invalidated self.old.writer.cache) self.old.writer self.new.writer) }
+        ensures fault { IfErr result (OnlyStops (invalidated self.old.writer.cache) self.old.writer self.new.writer) }
     {
         match invalidate(&mut self.writer) {
             Ok(_) => Ok(()),

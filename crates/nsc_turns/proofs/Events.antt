@@ -8,7 +8,7 @@ use Rattle.nsc_writer.specs.declared.loaded.Inserted.{Inserted}
 use Rattle.nsc_writer.specs.declared.loaded.Inserted.TheVariants as inserted
 use Rattle.nsc_writer.specs.Loaded.{Loaded, kept_of}
 use Rattle.nsc_writer.specs.Writer.{Inserts, Writer, passed_by, refusal_of}
-use Rattle.nsc_turns.specs.Turns.{Passes, Stops, tried_on}
+use Rattle.nsc_turns.specs.Turns.{Completes, Stops, tried_on}
 
 -- ---- a number below its end
 
@@ -28,20 +28,20 @@ compacted_spent cache high = ap (λ (b : Bool). cond b (Ok (unchanged (record ca
 
 -- ---- one event after the other
 
-pub passes_after : (r : Result Passed Stopped) (first : Passed) (w mid after : Writer) → mid ≡ passed_by first w → Passes r mid after → Passes (after_adds first.adds r) w after
-passes_after (Ok passed) first w mid after is p = p ∙ ap (λ (x : Writer). passed_by passed x) is ∙ ap (λ (h : List Record). record w { cache = passed.cache; seen = h }) (sym (append_assoc passed.adds first.adds w.seen))
-passes_after (Err stop) first w mid after is p = p
+pub completes_after : (r : Result Passed Stopped) (first : Passed) (w mid after : Writer) → mid ≡ passed_by first w → Completes r mid after → Completes (after_adds first.adds r) w after
+completes_after (Ok passed) first w mid after is p = p ∙ ap (λ (x : Writer). passed_by passed x) is ∙ ap (λ (h : List Record). record w { cache = passed.cache; seen = h }) (sym (append_assoc passed.adds first.adds w.seen))
+completes_after (Err stop) first w mid after is p = p
 
 pub stops_after : (r : Result Passed Stopped) (first : Passed) (count : ℕ) (w mid after : Writer) → mid ≡ passed_by first w → Stops r count mid after → Stops (after_adds first.adds r) count w after
 stops_after (Ok passed) first count w mid after is s = s
 stops_after (Err stop) first count w mid after is s =
     (s.0, s.1 ∙ ap (λ (x : Writer). passed_by (record { cache = stop.cache; adds = stop.adds }) x) is ∙ ap (λ (h : List Record). record w { cache = stop.cache; seen = h }) (sym (append_assoc stop.adds first.adds w.seen)))
 
-pub passes_then : (r : Result Passed Stopped) (next : Cache → Result Passed Stopped) (w mid after : Writer) → Passes r w mid → Passes (next mid.cache) mid after → Passes (r >>= next) w after
-passes_then (Ok first) next w mid after p q = passes_after (next first.cache) first w mid after p (subst (λ (c : Cache). Passes (next c) mid after) (ap (λ (x : Writer). x.cache) p) q)
-passes_then (Err stop) next w mid after p q = p
+pub completes_then : (r : Result Passed Stopped) (next : Cache → Result Passed Stopped) (w mid after : Writer) → Completes r w mid → Completes (next mid.cache) mid after → Completes (r >>= next) w after
+completes_then (Ok first) next w mid after p q = completes_after (next first.cache) first w mid after p (subst (λ (c : Cache). Completes (next c) mid after) (ap (λ (x : Writer). x.cache) p) q)
+completes_then (Err stop) next w mid after p q = p
 
-pub stops_then : (r : Result Passed Stopped) (next : Cache → Result Passed Stopped) (count : ℕ) (w mid after : Writer) → Passes r w mid → Stops (next mid.cache) count mid after → Stops (r >>= next) count w after
+pub stops_then : (r : Result Passed Stopped) (next : Cache → Result Passed Stopped) (count : ℕ) (w mid after : Writer) → Completes r w mid → Stops (next mid.cache) count mid after → Stops (r >>= next) count w after
 stops_then (Ok first) next count w mid after p s = stops_after (next first.cache) first count w mid after p (subst (λ (c : Cache). Stops (next c) count mid after) (ap (λ (x : Writer). x.cache) p) s)
 stops_then (Err stop) next count w mid after p s = absurd p
 
@@ -50,7 +50,7 @@ stops_first (Ok first) next count w after s = absurd s
 stops_first (Err stop) next count w after s = s
 
 -- the cache alone
-pub comes_to : (r : Result Passed Stopped) (w after : Writer) → Passes r w after → ComesTo r after.cache
+pub comes_to : (r : Result Passed Stopped) (w after : Writer) → Completes r w after → ComesTo r after.cache
 comes_to (Ok passed) w after p = sym (ap (λ (x : Writer). x.cache) p)
 comes_to (Err stop) w after p = p
 

@@ -19,8 +19,8 @@ use Rattle.nsc_writer.specs.Writer.{Inserts, IsAnswered, Writer, passed_by, refu
 use Rattle.nsc_turns.specs.declared.answering.Answering.{Answering}
 use Rattle.nsc_turns.specs.Loads.{anew_of, loaded_of}
 use Rattle.nsc_turns.specs.Ticks.{Reloads, ReloadsOne, Renews, compacted_for, ended_of}
-use Rattle.nsc_turns.specs.Turns.{Passes, Stops, missed, tried_on}
-use Rattle.nsc_turns.proofs.Events.{inserts_tried, passes_after, passes_then, stops_after, stops_first}
+use Rattle.nsc_turns.specs.Turns.{Completes, Stops, missed, tried_on}
+use Rattle.nsc_turns.proofs.Events.{inserts_tried, completes_after, completes_then, stops_after, stops_first}
 use Rattle.nsc_turns.proofs.Pruned.{due_end, gone_from}
 
 -- what is answered is over the newest version, polled since the last invalidation, and the words are those of the settings
@@ -87,25 +87,25 @@ swept_as limit now w P t p =
     (subst (λ (x : List Due × Writer). P (compacted_for (ended_of x.0) x.1.cache) x.1) (λ i. (e.marked i, e.pruned i)) p)
 
 -- ends and a compaction leave what is newest
-alone_swept : (a : Answering) (files : Content) (limit : Option ℕ) (now : ℕ) (ks : List Kept) (w swept : Writer) → IsAlone a files w → Passes (compacted_after ks (due_ended limit now w.cache).cache) (passed_by (due_ended limit now w.cache) w) swept → IsAlone a files swept
+alone_swept : (a : Answering) (files : Content) (limit : Option ℕ) (now : ℕ) (ks : List Kept) (w swept : Writer) → IsAlone a files w → Completes (compacted_after ks (due_ended limit now w.cache).cache) (passed_by (due_ended limit now w.cache) w) swept → IsAlone a files swept
 alone_swept a files limit now [] w swept s p = subst (IsAlone a files) (sym p) (record { room = s.room; version = s.version; epoch = s.epoch; sources = s.sources })
 alone_swept a files limit now (k ∷ ks) w swept s p = by_cycle (ltb w.cache.cycle last_count) p where
   ends : Cache
   ends = (due_ended limit now w.cache).cache
 
-  by_cycle : (b : Bool) → Passes (cond b (Ok (unchanged (record ends { cycle = ends.cycle + 2; used = all_words ends.entries }))) (Err (stopped ends))) (passed_by (due_ended limit now w.cache) w) swept → IsAlone a files swept
+  by_cycle : (b : Bool) → Completes (cond b (Ok (unchanged (record ends { cycle = ends.cycle + 2; used = all_words ends.entries }))) (Err (stopped ends))) (passed_by (due_ended limit now w.cache) w) swept → IsAlone a files swept
   by_cycle true q = subst (IsAlone a files) (sym q) (record { room = s.room; version = s.version; epoch = s.epoch; sources = s.sources })
   by_cycle false q = absurd q
 
-pub renews_pruned : (a : Answering) (files : Content) (limit : Option ℕ) (w w' : Writer) → Tells w.seen w.cache → IsAlone a files w → Renews a.moment (map (due_from limit) (due_of a.moment w.cache.entries)) (map (anew_of a files) (map (due_from limit) (due_of a.moment w.cache.entries))) w w' → Passes (pruned a.settings limit a.moment w.cache) w w'
+pub renews_pruned : (a : Answering) (files : Content) (limit : Option ℕ) (w w' : Writer) → Tells w.seen w.cache → IsAlone a files w → Renews a.moment (map (due_from limit) (due_of a.moment w.cache.entries)) (map (anew_of a files) (map (due_from limit) (due_of a.moment w.cache.entries))) w w' → Completes (pruned a.settings limit a.moment w.cache) w w'
 renews_pruned a files limit w w' t s r =
     let ends = due_ended limit a.moment w.cache in
     let due = due_of a.moment w.cache.entries in
     let swept : Writer = r.0 in
-    let sweeps = swept_as limit a.moment w (λ (result : Result Passed Stopped) (e : Writer). Passes result e swept) t r.1 in
+    let sweeps = swept_as limit a.moment w (λ (result : Result Passed Stopped) (e : Writer). Completes result e swept) t r.1 in
     let reloads = subst (λ (marked : List Due). Reloads marked (map (anew_of a files) (map (due_from limit) due)) swept w') (due_end limit a.moment w t.entries_are.rising).marked r.2 in
     let last = reloads_tried a files limit due swept w' (alone_swept a files limit a.moment due w swept s sweeps) reloads in
-    passes_after _ ends w (passed_by ends w) w' refl (passes_then (compacted_after due ends.cache) (λ after. Ok (reloaded a.settings a.moment (reloaded_of limit due) after)) (passed_by ends w) swept w' sweeps last)
+    completes_after _ ends w (passed_by ends w) w' refl (completes_then (compacted_after due ends.cache) (λ after. Ok (reloaded a.settings a.moment (reloaded_of limit due) after)) (passed_by ends w) swept w' sweeps last)
 
 pub renewal_stops : (a : Answering) (limit : Option ℕ) (count : ℕ) (w w' : Writer) → Tells w.seen w.cache
     → Stops (compacted_for (ended_of (marked_by a.moment (map (due_from limit) (due_of a.moment w.cache.entries)) w)) (pruned_by a.moment (map (due_from limit) (due_of a.moment w.cache.entries)) w).cache) count (pruned_by a.moment (map (due_from limit) (due_of a.moment w.cache.entries)) w) w'
@@ -135,12 +135,13 @@ tick_off settings limit now files ticked cache off = ap (λ (b : Bool). cond b (
 
 -- ---- the insertion of a lookup
 
-pub kept_by_insert : (a : Answering) (files : Content) (request : Request) (said : Inserted) (l : Loaded) (w w' : Writer) → a.settings.enabled ≡ true → IsAlone a files w → l ≡ loaded_of a files request 0 → Inserts said l (missed l w) w' → (kept_answer a.settings a.moment request w.cache).cache ≡ w'.cache
+pub kept_by_insert : (a : Answering) (files : Content) (request : Request) (said : Inserted) (l : Loaded) (w w' : Writer) → a.settings.enabled ≡ true → IsAlone a files w → l ≡ loaded_of a files request 0 → Inserts said l (missed l w) w' → w' ≡ missed (loaded_of a files request 0) (passed_by (kept_answer a.settings a.moment request w.cache) w)
 kept_by_insert a files request said l w w' on s is i =
-    let w1 = missed (loaded_of a files request 0) w in
+    let answered = loaded_of a files request 0 in
+    let w1 = missed answered w in
     let alone : IsAlone a files w1 = record { room = s.room; version = s.version; epoch = s.epoch; sources = s.sources } in
-    let tries : w' ≡ tried_on (loaded_of a files request 0) w1 = subst (λ (x : Loaded). w' ≡ tried_on x (missed x w)) is (inserts_tried said l (missed l w) w' i) in
-    ap (λ (b : Bool). (cond b (tried_all a.settings a.moment (candidates_of request) w.cache) (unchanged w.cache)).cache) on ∙ sym (ap (λ (x : Writer). x.cache) (tries ∙ tried_is a files request 0 w1 alone))
+    let tries : w' ≡ tried_on answered w1 = subst (λ (x : Loaded). w' ≡ tried_on x (missed x w)) is (inserts_tried said l (missed l w) w' i) in
+    tries ∙ tried_is a files request 0 w1 alone ∙ sym (ap (λ (b : Bool). missed answered (passed_by (cond b (tried_all a.settings a.moment (candidates_of request) w.cache) (unchanged w.cache)) w)) on)
 
 -- ---- what is due, and what is answered for it
 

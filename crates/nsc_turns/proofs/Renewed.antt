@@ -16,7 +16,7 @@ use Rattle.nsc_writer.specs.declared.loaded.Inserted.TheVariants as inserted
 use Rattle.nsc_writer.specs.Loaded.{Loaded, kept_of}
 use Rattle.nsc_writer.specs.Writer.{Inserts, IsAnswered, IsRefused, Writer, ending_of, without_entry}
 use Rattle.nsc_writer.proofs.Later.{polled_on, prefix_through, version_on}
-use Rattle.nsc_turns.specs.Turns.{Passes, Stops}
+use Rattle.nsc_turns.specs.Turns.{Completes, Stops}
 use Rattle.nsc_turns.specs.Ticks.{Reloads, ReloadsOne, Renews, compacted_for, ended_of}
 
 -- ---- what is answered stays so
@@ -78,10 +78,10 @@ pub some_ended : (ended : List Due) (cache : Cache) → (length ended ≡ 0 → 
 some_ended [] cache e = absurd (e refl)
 some_ended (d ∷ ended) cache e = refl
 
-pub leaves_compacted : (ended : List Due) (w w' : Writer) → Passes (compacted_for ended w.cache) w w' → Leaves w w'
+pub leaves_compacted : (ended : List Due) (w w' : Writer) → Completes (compacted_for ended w.cache) w w' → Leaves w w'
 leaves_compacted [] w w' p = leaves_same w w' p
 leaves_compacted (d ∷ ended) w w' p = by_cycle (ltb w.cache.cycle last_count) p where
-  by_cycle : (b : Bool) → Passes (cond b (Ok (unchanged (record w.cache { cycle = w.cache.cycle + 2; used = all_words w.cache.entries }))) (Err (stopped w.cache))) w w' → Leaves w w'
+  by_cycle : (b : Bool) → Completes (cond b (Ok (unchanged (record w.cache { cycle = w.cache.cycle + 2; used = all_words w.cache.entries }))) (Err (stopped w.cache))) w w' → Leaves w w'
   by_cycle true q = subst (Leaves w) (sym q) (record { on = ([], refl); slide = refl; layout = refl; sources = refl })
   by_cycle false q = absurd q
 

@@ -11,11 +11,11 @@ use Rattle.nsc_writer.specs.Loaded.{Loaded}
 use Rattle.nsc_writer.specs.Writer.{Inserts, IsRefused, Writer}
 use Rattle.nsc_turns.specs.declared.ticks.Checked.{Checked}
 use Rattle.nsc_turns.specs.declared.ticks.Checked.TheVariants as checked
-use Rattle.nsc_turns.specs.Turns.{Passes, Stops}
+use Rattle.nsc_turns.specs.Turns.{Completes, Stops}
 
 -- where the newest version is outdated every entry ends, and else it is said which are due
 abbrev pub Checks : Bool → Option ℕ → ℕ → Writer → Writer → Result Checked CacheFault → Type 0
-Checks outdated limit now before after (Ok checked.Emptied) = (outdated ≡ true) × Passes (invalidated before.cache) before after
+Checks outdated limit now before after (Ok checked.Emptied) = (outdated ≡ true) × Completes (invalidated before.cache) before after
 Checks outdated limit now before after (Ok (checked.Listed due)) = (outdated ≡ false) × (due.items ≡ map (due_from limit) (due_of now before.cache.entries)) × (after ≡ before)
 Checks outdated limit now before after (Err fault.NoMemory) = (outdated ≡ false) × (after ≡ before)
 Checks outdated limit now before after (Err (fault.Spent count)) = (outdated ≡ true) × Stops (invalidated before.cache) count before after
@@ -43,4 +43,4 @@ Reloads (d ∷ due) (load ∷ loads) before after = (mid : Writer) × ReloadsOne
 -- those that are due end, there is a compaction where any did, and what was made for those that ended is inserted
 abbrev pub Renews : ℕ → List Due → List (Option Loaded) → Writer → Writer → Type 0
 Renews now due loads before after =
-    (swept : Writer) × Passes (compacted_for (ended_of (marked_by now due before)) (pruned_by now due before).cache) (pruned_by now due before) swept × Reloads (marked_by now due before) loads swept after
+    (swept : Writer) × Completes (compacted_for (ended_of (marked_by now due before)) (pruned_by now due before).cache) (pruned_by now due before) swept × Reloads (marked_by now due before) loads swept after

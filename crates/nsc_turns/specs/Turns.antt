@@ -1,7 +1,7 @@
 -- What turns make of a writer: what the machine makes of its cache, with the records that go to the history.
-use Rattle.std.specs.Prelude.{◌≡◌, ℕ, List, Option, Some, None, Result, Ok, Err}
+use Rattle.std.specs.Prelude.{◌≡◌, ℕ, List, ◌++◌, Option, Some, None, Result, Ok, Err}
 use Rattle.nsc_model.specs.declared.answer.Request.{Request}
-use Rattle.nsc_model.specs.Machine.{Kept, Passed, Stopped, tried_by, used_now}
+use Rattle.nsc_model.specs.Machine.{Kept, Passed, Stopped, Turn, tried_by, used_now}
 use Rattle.nsc_shelf.specs.Shelf.{GivesHit}
 use Rattle.nsc_writer.specs.Loaded.{Loaded, kept_of}
 use Rattle.nsc_shelf.specs.Uses.{counted}
@@ -9,15 +9,20 @@ use Rattle.nsc_writer.specs.Writer.{Writer, passed_by, refusal_of}
 use Rattle.nsc_turns.specs.declared.entries.HitOrMiss.{HitOrMiss}
 use Rattle.nsc_turns.specs.declared.entries.HitOrMiss.TheVariants as looked
 
--- an event passes
-abbrev pub Passes : Result Passed Stopped → Writer → Writer → Type 0
-Passes (Ok passed) before after = after ≡ passed_by passed before
-Passes (Err stop) before after = ⊥
+-- an event completes: the machine's cache, and its records in the history
+abbrev pub Completes : Result Passed Stopped → Writer → Writer → Type 0
+Completes (Ok passed) before after = after ≡ passed_by passed before
+Completes (Err stop) before after = ⊥
 
 -- an event stops, at this count
-abbrev pub Stops : Result Passed Stopped → ℕ → Writer → Writer → Type 0
-Stops (Ok passed) count before after = ⊥
+abbrev pub Stops : {A : Type 0} → Result A Stopped → ℕ → Writer → Writer → Type 0
+Stops (Ok done) count before after = ⊥
 Stops (Err stop) count before after = (count ≡ stop.count) × (after ≡ passed_by (record { cache = stop.cache; adds = stop.adds }) before)
+
+-- a lookup completes with this reply; hits and misses may have been counted
+abbrev pub CompletesWith : Result Turn Stopped → Writer → Writer → List ℕ → Type 0
+CompletesWith (Ok turn) before after reply = (after ≡ record before { cache = turn.cache; seen = turn.adds ++ before.seen; hits = after.hits; misses = after.misses }) × (turn.reply ≡ reply)
+CompletesWith (Err stop) before after reply = ⊥
 
 -- a look for the live entry that answers a request: its reply, and its count of reloads begins anew; or the number of invalidations
 abbrev pub Looks : Option Kept → Request → HitOrMiss → Writer → Writer → List ℕ → Type 0

@@ -3,7 +3,7 @@ ghost use Rattle.std.specs.Prelude.{◌≡◌, ◌≤◌, None, IfOk, IfErr};
 ghost use Rattle.nsc_model.specs.Entry.{kept_limit};
 ghost use Rattle.nsc_model.specs.Machine.{invalidated, live_entry};
 ghost use Rattle.nsc_writer.specs.Writer.{Inserts, IsAnswered, IsRefused};
-ghost use Rattle.nsc_turns.specs.Turns.{Looks, Passes, Stops, missed};
+ghost use Rattle.nsc_turns.specs.Turns.{Looks, Completes, Stops, missed};
 
 use nsc_base::Buf;
 use nsc_compactor::compact;
@@ -55,7 +55,7 @@ pub fn insert(writer: &mut Writer, loaded: Loaded) -> (Inserted, Loaded)
 /// stands at its end; or every entry ended, and the count of the beginnings and the ends of slides does.
 pub fn invalidate(writer: &mut Writer) -> Result<u64, Spent>
     requires { writer.old.slide ≡ None }
-    ensures passes { IfOk result (λ epoch. Passes (invalidated writer.old.cache) writer.old writer.new) }
+    ensures completes { IfOk result (λ epoch. Completes (invalidated writer.old.cache) writer.old writer.new) }
     ensures epoch { IfOk result (λ epoch. epoch ≡ writer.new.cache.epoch) }
     ensures stops { IfErr result (λ spent. Stops (invalidated writer.old.cache) spent.count writer.old writer.new) }
 {

@@ -4,7 +4,7 @@ ghost use Rattle.nsc_model.specs.Machine.{is_outdated};
 ghost use Rattle.nsc_pruner.specs.Due.{IsOver, marked_by, pruned_by};
 ghost use Rattle.nsc_writer.specs.Writer.{IsAnswered};
 ghost use Rattle.nsc_turns.specs.Ticks.{Checks, Reloads, Renews, compacted_for, ended_of};
-ghost use Rattle.nsc_turns.specs.Turns.{Passes, Stops};
+ghost use Rattle.nsc_turns.specs.Turns.{Completes, Stops};
 
 use crate::entries::invalidate;
 use nsc_compactor::compact;
@@ -48,9 +48,9 @@ pub fn check(
     }
 }
 
-/// Ends those that are due and live still, compacts where any was, and loads those again that were ended and are to be, one after
-/// the other; one whose insertion is refused is gone. At `Spent` the count of the beginnings and the ends of slides stands at its end,
-/// and the ended ones are not loaded again.
+/// Ends those that are due and live still, and compacts where any was. Then it goes over those that it ended, one after the other:
+/// what `loads` has at the place that one has in `due` is inserted, and with `None` there nothing is. One whose insertion is refused is
+/// gone. At `Spent` the count of the beginnings and the ends of slides stands at its end, and nothing was inserted.
 pub fn renew(
     writer: &mut Writer,
     due: &mut [Due],
@@ -80,7 +80,7 @@ fn end_due(writer: &mut Writer, due: &mut [Due], now: u64) -> Result<(), Spent>
     requires over { All (IsOver writer.old.seen now) due.old }
     requires still { writer.old.slide ≡ None }
     ensures marked { due.new ≡ marked_by now due.old writer.old }
-    ensures passes { OnOk result (Passes (compacted_for (ended_of (marked_by now due.old writer.old)) (pruned_by now due.old writer.old).cache) (pruned_by now due.old writer.old) writer.new) }
+    ensures completes { OnOk result (Completes (compacted_for (ended_of (marked_by now due.old writer.old)) (pruned_by now due.old writer.old).cache) (pruned_by now due.old writer.old) writer.new) }
     ensures stops { IfErr result (λ spent. Stops (compacted_for (ended_of (marked_by now due.old writer.old)) (pruned_by now due.old writer.old).cache) spent.count (pruned_by now due.old writer.old) writer.new) }
 {
     let ended = prune_ends(writer, due, now);

@@ -7,13 +7,13 @@ use Rattle.nsc_turns.proofs.entries.invalidate.Goals as goal
 pub compact-requires : goal.compact-requires
 compact-requires c = ap (λ (x : Writer). x.slide) c.in-Ok.ensures.done.1 ∙ c.requires
 
-pub returns-then-is_empty-clause-passes : goal.returns-then-is_empty-clause-passes
-returns-then-is_empty-clause-passes c =
+pub returns-then-is_empty-clause-completes : goal.returns-then-is_empty-clause-completes
+returns-then-is_empty-clause-completes c =
     let none = eqb-true (length c.args.writer.now.cache.entries) 0 (sym c.is_empty-is_empty.ensures ∙ c.if-is_empty.true) in
     empties c.args.writer.now c.invalidate.new.self c.in-Ok.ensures.below c.in-Ok.ensures.done.1 none
 
-pub returns-in-Ok-compact-clause-passes : goal.returns-in-Ok-compact-clause-passes
-returns-in-Ok-compact-clause-passes c =
+pub returns-in-Ok-compact-clause-completes : goal.returns-in-Ok-compact-clause-completes
+returns-in-Ok-compact-clause-completes c =
     let some = eqb-false (length c.args.writer.now.cache.entries) 0 (sym c.is_empty-is_empty.ensures ∙ c.if-is_empty.false) in
     empties_some c.args.writer.now c.invalidate.new.self c.compact.new.writer c.in-Ok.ensures.below c.in-Ok.ensures.done.1 some c.in-Ok-compact.ensures.done.0 c.in-Ok-compact.ensures.done.2
 

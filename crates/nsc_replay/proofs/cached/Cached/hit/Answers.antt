@@ -1,7 +1,7 @@
 use Rattle.std.proofs.Common.{◌∙◌, ℕ, List, subst, sym}
 use Rattle.nsc_model.specs.declared.answer.Request.{Request}
-use Rattle.nsc_model.specs.Events.{TurnsTo}
 use Rattle.nsc_model.specs.Machine.{lookup}
+use Rattle.nsc_turns.specs.Turns.{CompletesWith}
 use Rattle.nsc_turns.proofs.Polled.{lookup_hits}
 use Rattle.nsc_replay.specs.Cached.{Cached}
 use Rattle.nsc_replay.proofs.cached.Cached.hit.Goals as goal
@@ -11,6 +11,6 @@ returns-in-Hit-clause-hit g c now =
     let d = c.self.inside in
     let request : Request = record { kind = c.args.kind; key = c.args.key.now } in
     let w' = c.look.new.writer in
-    subst (λ (x : Cached). TurnsTo (lookup x.settings now x.files request x.writer.cache) w'.cache c.in_ok-copy.field-0) c.self.view_is
-    (subst (λ (reply : List ℕ). TurnsTo (lookup d.settings now d.files request d.writer.cache) w'.cache reply) (sym (c.in_ok-copy.ensures ∙ c.bytes.ensures.content))
+    subst (λ (x : Cached). CompletesWith (lookup x.settings now x.files request x.writer.cache) x.writer w' c.from_vec.result) c.self.view_is
+    (subst (λ (reply : List ℕ). CompletesWith (lookup d.settings now d.files request d.writer.cache) d.writer w' reply) (sym (c.in_ok-copy.ensures ∙ c.bytes.ensures.content))
     (lookup_hits d.settings now d.files request c.in-Hit.field-0 d.writer w' c.look.new.reply.content c.if-not-self.false c.in-Hit.ensures.looks))

@@ -1,11 +1,10 @@
 use Rattle.std.proofs.Common.{◌≡◌, ◌∙◌, ap, refl, subst, sym}
 use Rattle.nsc_model.specs.declared.answer.Request.{Request}
 use Rattle.nsc_model.specs.Content.{Content}
-use Rattle.nsc_model.specs.Events.{TurnsTo}
 use Rattle.nsc_model.specs.Machine.{lookup, polled, room_of}
 use Rattle.nsc_laws.specs.Calls.{Tells}
 use Rattle.nsc_turns.specs.declared.answering.Answering.{Answering}
-use Rattle.nsc_turns.specs.Turns.{Passes, missed}
+use Rattle.nsc_turns.specs.Turns.{Completes, CompletesWith, missed}
 use Rattle.nsc_writer.specs.Loaded.{Loaded}
 use Rattle.nsc_writer.specs.Writer.{Inserts, IsAnswered, Writer}
 use Rattle.nsc_replay.specs.Cached.{Cached, GivesUp, IsFresh}
@@ -41,7 +40,7 @@ returns-then-self-clause-turn g c =
     let view = c.self.view_is ∙ c.load.ensures.same in
     let missed_all : IsMissed a request c.in_ok-loaded.loaded s p = record {
       none = rw c.in_default.is at c.in_ok-reply.ensures.none;
-      passes = subst (λ (x : Cached). Passes (polled x.files x.writer.cache) x.writer p.writer) same c.in-Ok.ensures.polled;
+      completes = subst (λ (x : Cached). Completes (polled x.files x.writer.cache) x.writer p.writer) same c.in-Ok.ensures.polled;
       fresh = subst (λ (x : Cached). IsFresh x.files c.in-Ok.stamp p.writer) same c.in-Ok.ensures.fresh;
       rest = c.poll.ensures.rest ∙ ap (λ (x : Cached). let y : Cached = record x { writer = p.writer } in y) same;
       settings = refl;
@@ -60,11 +59,11 @@ returns-clause-turn g c =
     let view = c.self.view_is ∙ c.load.ensures.same in
     let missed_all : IsMissed a request c.in_ok-loaded.loaded s p = record {
       none = rw c.in_default.is at c.in_ok-reply.ensures.none;
-      passes = subst (λ (x : Cached). Passes (polled x.files x.writer.cache) x.writer p.writer) same c.in-Ok.ensures.polled;
+      completes = subst (λ (x : Cached). Completes (polled x.files x.writer.cache) x.writer p.writer) same c.in-Ok.ensures.polled;
       fresh = subst (λ (x : Cached). IsFresh x.files c.in-Ok.stamp p.writer) same c.in-Ok.ensures.fresh;
       rest = c.poll.ensures.rest ∙ ap (λ (x : Cached). let y : Cached = record x { writer = p.writer } in y) same;
       settings = refl;
       loaded = c.in_ok-loaded.ensures.loaded;
     } in
-    subst (λ (x : Cached). TurnsTo (lookup s.settings c.args.now s.files request s.writer.cache) x.writer.cache c.into_reply-2.result) (sym c.load.ensures.same)
+    subst (λ (x : Cached). CompletesWith (lookup s.settings c.args.now s.files request s.writer.cache) s.writer x.writer c.into_reply-2.result) (sym c.load.ensures.same)
     (lookup_lone a request c.in_ok-loaded.loaded s p c.into_reply-2.result missed_all (sym (ap (λ (x : Cached). x.settings.enabled) view) ∙ c.if-self.false) c.into_reply-2.ensures)

@@ -9,10 +9,10 @@ use Rattle.nsc_writer.specs.Writer.{IsAnswered}
 use Rattle.nsc_turns.specs.declared.answering.Answering.{Answering}
 use Rattle.nsc_turns.specs.Loads.{anew_of}
 use Rattle.nsc_turns.specs.Ticks.{compacted_for, ended_of}
-use Rattle.nsc_turns.specs.Turns.{Passes, Stops}
+use Rattle.nsc_turns.specs.Turns.{Completes, Stops}
 use Rattle.nsc_turns.proofs.Machines.{all_answered, all_over, renewal_stops}
 use Rattle.nsc_replay.specs.Cached.{Cached, IsFresh}
-use Rattle.nsc_replay.proofs.Cacheds.{IsMade, alone_fresh, kept_renewed, kept_spent, renewed_passes, version_fresh}
+use Rattle.nsc_replay.proofs.Cacheds.{IsMade, alone_fresh, kept_renewed, kept_spent, renewed_completes, version_fresh}
 use Rattle.nsc_replay.proofs.cached.Cached.renew.Goals as goal
 
 pub renew-requires-clause-over : goal.renew-requires-clause-over
@@ -45,8 +45,8 @@ returns-in-Ok-clause-turn g c =
     let loads : c.deref-2.result.now ≡ map (anew_of a d.files) c.deref_mut.result.now = c.deref-2.ensures.value ∙ c.in_ok-anew.ensures ∙ ap (λ (f : Content). map (anew_of a f) c.deref.result.now) c.in_ok-ready.ensures.ready ∙ ap (map (anew_of a d.files)) (c.deref.ensures.value ∙ sym c.deref_mut.ensures.value) in
     let made : IsMade a d.files d.reloads c.deref_mut.result.now c.deref-2.result.now w = record { due_are = due; loads_are = loads } in
     let fresh = subst (λ (x : Cached). IsFresh x.files c.args.stamp x.writer) (sym c.self.view_is) c.requires.fresh in
-    subst (λ (x : Cached). Passes (pruned x.settings x.reloads c.args.now x.writer.cache) x.writer c.renew.new.writer) c.self.view_is
-    (renewed_passes a d.files d.reloads c.deref_mut.result.now c.deref-2.result.now w c.renew.new.writer made c.learn.ensures.told (alone_fresh a d.files w fresh c.self.invariant.1) c.in-Ok.ensures.renews)
+    subst (λ (x : Cached). Completes (pruned x.settings x.reloads c.args.now x.writer.cache) x.writer c.renew.new.writer) c.self.view_is
+    (renewed_completes a d.files d.reloads c.deref_mut.result.now c.deref-2.result.now w c.renew.new.writer made c.learn.ensures.told (alone_fresh a d.files w fresh c.self.invariant.1) c.in-Ok.ensures.renews)
 
 pub invariant_of-self-2 : goal.invariant_of-self-2
 invariant_of-self-2 g c =

@@ -1,8 +1,7 @@
 use Rattle.std.proofs.Common.{◌∙◌, Result, ap, refl, subst, sym}
-use Rattle.nsc_model.specs.Events.{ComesTo}
 use Rattle.nsc_model.specs.Machine.{◌>>=◌, Passed, Stopped, checked, polled, tick}
-use Rattle.nsc_turns.specs.Turns.{Passes}
-use Rattle.nsc_turns.proofs.Events.{comes_to, passes_then}
+use Rattle.nsc_turns.specs.Turns.{Completes}
+use Rattle.nsc_turns.proofs.Events.{completes_then}
 use Rattle.nsc_turns.proofs.Machines.{tick_off, tick_on}
 use Rattle.nsc_replay.specs.Cached.{Cached, Faults, GivesUp}
 use Rattle.nsc_replay.proofs.Cacheds.{faults_first, faults_then}
@@ -12,14 +11,14 @@ pub returns-then-not-self-clause-turn : goal.returns-then-not-self-clause-turn
 returns-then-not-self-clause-turn g c =
     let s = c.args.self.now in
     let off = sym (ap (λ (x : Cached). x.settings.enabled) c.self.view_is) ∙ c.if-not-self.true in
-    subst (λ (r : Result Passed Stopped). ComesTo r s.writer.cache) (sym (tick_off s.settings s.reloads c.args.now s.files s.ticked s.writer.cache off)) refl
+    subst (λ (r : Result Passed Stopped). Completes r s.writer s.writer) (sym (tick_off s.settings s.reloads c.args.now s.files s.ticked s.writer.cache off)) refl
 
 pub returns-in-Err-clause-fault : goal.returns-in-Err-clause-fault
 returns-in-Err-clause-fault g c =
     let s = c.args.self.now in
     let on = sym (ap (λ (x : Cached). x.settings.enabled) c.self.view_is) ∙ c.if-not-self.false in
-    tick_on (λ (r : Result Passed Stopped). Faults r c.poll.new.self.writer.cache c.in-Err.fault) s.settings s.reloads c.args.now s.files s.ticked s.writer.cache on
-    (faults_first (polled s.files s.writer.cache) (checked s.settings s.reloads c.args.now s.ticked) s.writer c.poll.new.self.writer c.in-Err.fault c.in-Err.ensures.fault)
+    tick_on (λ (r : Result Passed Stopped). Faults r s.files s.writer c.poll.new.self.writer c.in-Err.fault) s.settings s.reloads c.args.now s.files s.ticked s.writer.cache on
+    (faults_first s.files (checked s.settings s.reloads c.args.now s.ticked) s.writer c.poll.new.self.writer c.in-Err.fault c.in-Err.ensures.fault)
 
 pub returns-in-Ok-check-clause-turn : goal.returns-in-Ok-check-clause-turn
 returns-in-Ok-check-clause-turn g c =
@@ -27,10 +26,10 @@ returns-in-Ok-check-clause-turn g c =
     let p = c.poll.new.self in
     let w' = c.check.new.self.writer in
     let on = sym (ap (λ (x : Cached). x.settings.enabled) c.self.view_is) ∙ c.if-not-self.false in
-    let turn = subst (λ (x : Cached). Passes (checked x.settings x.reloads c.args.now x.ticked p.writer.cache) p.writer w') c.poll.ensures.rest c.in-Ok-check.ensures.turn in
-    let whole = passes_then (polled s.files s.writer.cache) (checked s.settings s.reloads c.args.now s.ticked) s.writer p.writer w' c.in-Ok.ensures.polled turn in
-    subst (λ (x : Cached). ComesTo (tick s.settings s.reloads c.args.now s.files s.ticked s.writer.cache) x.writer.cache) (sym c.self-2.view_is)
-    (tick_on (λ (r : Result Passed Stopped). ComesTo r w'.cache) s.settings s.reloads c.args.now s.files s.ticked s.writer.cache on (comes_to (polled s.files s.writer.cache >>= checked s.settings s.reloads c.args.now s.ticked) s.writer w' whole))
+    let turn = subst (λ (x : Cached). Completes (checked x.settings x.reloads c.args.now x.ticked p.writer.cache) p.writer w') c.poll.ensures.rest c.in-Ok-check.ensures.turn in
+    let whole = completes_then (polled s.files s.writer.cache) (checked s.settings s.reloads c.args.now s.ticked) s.writer p.writer w' c.in-Ok.ensures.polled turn in
+    subst (λ (x : Cached). Completes (tick s.settings s.reloads c.args.now s.files s.ticked s.writer.cache) s.writer x.writer) (sym c.self-2.view_is)
+    (tick_on (λ (r : Result Passed Stopped). Completes r s.writer w') s.settings s.reloads c.args.now s.files s.ticked s.writer.cache on whole)
 
 pub returns-in-Err-check-clause-fault : goal.returns-in-Err-check-clause-fault
 returns-in-Err-check-clause-fault g c =
