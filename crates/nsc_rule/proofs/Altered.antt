@@ -18,8 +18,8 @@ use Rattle.nsc_rule.specs.declared.view.Plan.{Plan}
 use Rattle.nsc_model.specs.Kinds.{type_number}
 use Rattle.nsc_rule.specs.Entries.{entry_of, kind_of}
 use Rattle.nsc_rule.specs.Plans.{Grows, IsEven, Later, Shows, Sits, Sound, filled}
-use Rattle.nsc_rule.specs.Strokes.{HasNode, MayEnd, cleared, reloaded}
-use Rattle.nsc_rule.proofs.Filled.{filled_at, filled_set, later_at, sound_at}
+use Rattle.nsc_rule.specs.Strokes.{HasNode, MayEnd, cleared, reloads_stored}
+use Rattle.nsc_rule.proofs.Filled.{filled_at, filled_set, later_at, sound_above}
 
 -- a node of a sound plan stands within the words, behind the buckets
 pub node_inside : (p : Plan) (q : Placed) → IsEven p → Sound p → Among q p.nodes → (16 ≤ q.place) × (q.place + 8 ≤ table_words p.layout)
@@ -85,12 +85,16 @@ counted_shows p place n even node sound =
       sits = sits_map p.seen f p.nodes (counted_entry place n) (counted_usable place n) (at_one place (with_reloads n) (λ r q. r.node.kind ≡ q.node.kind) (λ q. refl) (λ q. refl)) shows.sits;
     }
 
-pub sound_reloaded : (p : Plan) (place n : ℕ) → IsEven p → HasNode p place → Sound p → Sound (reloaded place n p)
-sound_reloaded p place n even node sound = sound_at p p.seen (place + 5) n (changed_at place (with_reloads n) p.nodes) (omega arith) sound sound.legal refl refl (λ still. counted_shows p place n even node sound)
+pub sound_reloaded : (p : Plan) (place n : ℕ) → IsEven p → HasNode p place → Sound p → Sound (reloads_stored place n p)
+sound_reloaded p place n even node sound =
+    let inside = node_inside p node.0 even sound node.1 in
+    let is = node.2 in
+    sound_above p p.seen (place + 5) n (changed_at place (with_reloads n) p.nodes) (omega arith) (λ i low less. omega (arith, inside.0)) sound sound.legal refl refl refl
+    (same_end (at_place place (with_reloads n)) (arena_start p.layout) p.nodes (change_at place (with_reloads n) (reloads_is n))) (λ still. counted_shows p place n even node sound)
 
-pub later_reloaded : (p : Plan) (place n : ℕ) → p.retired ≡ false → Later p (reloaded place n p)
+pub later_reloaded : (p : Plan) (place n : ℕ) → p.retired ≡ false → Later p (reloads_stored place n p)
 later_reloaded p place n active =
-    later_at p p.seen (place + 5) n (changed_at place (with_reloads n) p.nodes) (omega arith) active (prefix_all p.seen)
+    later_at p p.seen (place + 5) n (changed_at place (with_reloads n) p.nodes) p.counted (omega arith) active (prefix_all p.seen)
     (λ even. grows_map (loads p.seen) (at_place place (with_reloads n)) p.nodes (change_at place (with_reloads n) (reloads_is n)) (counted_entry place n))
 
 -- ---- a node ends
@@ -164,10 +168,13 @@ legal_ended p place cause even may sound = (sound.legal, entry_of may.0, (sound.
 
 pub sound_cleared : (p : Plan) (place : ℕ) (cause : Ending) → IsEven p → MayEnd p place cause → Sound p → Sound (cleared place cause p)
 sound_cleared p place cause even may sound =
-    sound_at p (End (slice_index p.words place) cause ∷ p.seen) (place + 6) 0 (changed_at place ended p.nodes) (omega arith) sound (legal_ended p place cause even may sound) refl refl (λ still. ended_shows p place cause even may sound)
+    let inside = node_inside p may.0 even sound may.1 in
+    let is = may.2 in
+    sound_above p (End (slice_index p.words place) cause ∷ p.seen) (place + 6) 0 (changed_at place ended p.nodes) (omega arith) (λ i low less. omega (arith, inside.0)) sound (legal_ended p place cause even may sound) refl refl refl
+    (same_end (at_place place ended) (arena_start p.layout) p.nodes (change_at place ended ended_is)) (λ still. ended_shows p place cause even may sound)
 
 pub later_cleared : (p : Plan) (place : ℕ) (cause : Ending) → p.retired ≡ false → Later p (cleared place cause p)
 later_cleared p place cause active =
     let r : Record = End (slice_index p.words place) cause in
-    later_at p (r ∷ p.seen) (place + 6) 0 (changed_at place ended p.nodes) (omega arith) active (prefix_more r p.seen p.seen (prefix_all p.seen))
+    later_at p (r ∷ p.seen) (place + 6) 0 (changed_at place ended p.nodes) p.counted (omega arith) active (prefix_more r p.seen p.seen (prefix_all p.seen))
     (λ even. grows_map (loads p.seen) (at_place place ended) p.nodes (change_at place ended ended_is) (ended_entry place))

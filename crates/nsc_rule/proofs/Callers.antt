@@ -3,7 +3,7 @@ use Rattle.std.proofs.Common.{◌≡◌, ◌∙◌, ℕ, ◌+◌, ◌<◌, ◌�
 use Rattle.nsc_words.specs.declared.node.Node.{Node}
 use Rattle.nsc_words.specs.declared.node.Placed.{Placed}
 use Rattle.nsc_words.specs.Laid.{Among, Laid, Stands, bucket_in, end_of, slid, words_in}
-use Rattle.nsc_words.specs.Layout.{table_words}
+use Rattle.nsc_words.specs.Layout.{arena_start, table_words}
 use Rattle.nsc_arena.specs.ReadBack.{nodes_in, placed_in}
 use Rattle.nsc_arena.proofs.ReadBack.{node_back, read_back}
 use Rattle.nsc_model.specs.declared.record.Record.{Record}
@@ -14,18 +14,19 @@ use Rattle.nsc_model.specs.Machine.{Kept}
 use Rattle.nsc_rule.specs.declared.view.Plan.{Plan}
 use Rattle.nsc_rule.specs.Entries.{entries_in, entry_of, kept_in, kind_of}
 use Rattle.nsc_rule.specs.Plans.{IsEven, Shows, Sits, Sound, end_in}
-use Rattle.nsc_rule.specs.Strokes.{IsReady, IsSlid}
+use Rattle.nsc_rule.specs.Strokes.{IsReady, ShowsAgain}
 use Rattle.nsc_rule.proofs.Filled.{filled_same}
 
 -- while no insertion is under way, the words hold the nodes as they stand
-pub whole : (p : Plan) → Sound p → IsEven p → slice_index p.words 3 ≡ end_in p → Laid p.words p.layout p.nodes
-whole p sound even first = subst (λ (ws : List ℕ). Laid ws p.layout p.nodes) (filled_same p.layout p.words p.nodes first) (sound.shows even).laid
+pub whole : (p : Plan) → Sound p → p.counted ≡ true → IsEven p → Laid p.words p.layout p.nodes
+whole p sound on even = subst (λ (ws : List ℕ). Laid ws p.layout p.nodes) (filled_same p.layout p.words p.nodes (sound.first_free on even)) (sound.shows even).laid
 
 -- ---- an insertion
 
 -- a node that was written behind the others
 pub record IsWrittenNode (p : Plan) (link : ℕ) (n : Placed) : Type 0 where
   pub even : IsEven p
+  pub counted : p.counted ≡ true
   pub place : n.place ≡ end_in p
   pub room : n.place + words_in n.node ≤ table_words p.layout
   pub stands : Stands p.words n
@@ -42,6 +43,7 @@ ready_by p link n is =
       back,
       record {
         even = is.even;
+        counted = is.counted;
         place = is.place;
         room = subst (λ (q : Placed). n.place + words_in q.node ≤ table_words p.layout) there is.room;
         stands = subst (Stands p.words) there is.stands;
@@ -56,11 +58,11 @@ ready_by p link n is =
 -- ---- the end of a compaction
 
 -- words that hold nodes of the live entries
-pub slid_by : (p : Plan) (nodes : List Placed) → Laid p.words p.layout nodes → Sits p.seen nodes → IsSlid p
+pub slid_by : (p : Plan) (nodes : List Placed) → Laid p.words p.layout nodes → Sits p.seen nodes → ShowsAgain p
 slid_by p nodes laid sits =
     let same : nodes_in p.words p.layout ≡ nodes = read_back p.words p.layout nodes laid in
     let shows : Shows p.layout p.words p.seen nodes = record { laid = subst (λ (ws : List ℕ). Laid ws p.layout nodes) (sym (filled_same p.layout p.words nodes laid.first_free)) laid; sits = sits } in
-    subst (Shows p.layout p.words p.seen) (sym same) shows
+    record { shows = subst (Shows p.layout p.words p.seen) (sym same) shows; first_free = laid.first_free ∙ sym (ap (end_of (arena_start p.layout)) same) }
 
 -- a kept entry is one of these
 abbrev Has : Kept → List Kept → Type 0

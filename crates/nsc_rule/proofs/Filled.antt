@@ -1,5 +1,5 @@
 -- Words with FIRST_FREE put right, once another word was set; and plans of which one word was set.
-use Rattle.std.proofs.Common.{◌≡◌, ◌≢◌, ◌∙◌, ℕ, zero, suc, ◌+◌, ◌%◌, ◌<◌, ◌≤◌, false, inr, List, [], ◌∷◌, length-set, set, slice_index, refl, sym, ap, arith, get_or-set_other}
+use Rattle.std.proofs.Common.{◌≡◌, ◌≢◌, ◌∙◌, ℕ, zero, suc, ◌+◌, ◌%◌, ◌<◌, ◌≤◌, Bool, true, false, inr, List, [], ◌∷◌, length-set, set, slice_index, refl, sym, ap, arith, get_or-set_other}
 use Rattle.std.proofs.lemmas.List.{set-get_or, set_comm}
 use Rattle.nsc_words.specs.declared.layout.Layout.{Layout}
 use Rattle.nsc_words.specs.declared.node.Placed.{Placed}
@@ -40,10 +40,23 @@ head_set layout words nodes at word low other laid = set_head (filled layout wor
 
 -- ---- one word was set
 
+-- the head words behind the counts stay
+pub zeros_stay : (p : Plan) (at word : ℕ) → ((i : ℕ) → 10 ≤ i → i < 16 → i ≢ at) → Sound p → (i : ℕ) → 10 ≤ i → i < 16 → slice_index (set p.words at word) i ≡ 0
+zeros_stay p at word apart sound i low high = get_or-set_other p.words at i word 0 (apart i low high) ∙ sound.zeros i low high
+
+-- and so does LOADS
+pub number_stays : (p : Plan) (seen : List Record) (at word : ℕ) → 4 ≢ at → loads seen ≡ loads p.seen → Sound p → p.counted ≡ true → slice_index (set p.words at word) 4 ≡ loads seen
+number_stays p seen at word apart same sound on = get_or-set_other p.words at 4 word 0 apart ∙ sound.next_number on ∙ sym same
+
+-- and FIRST_FREE
+pub first_stays : (p : Plan) (at word : ℕ) (nodes : List Placed) → 3 ≢ at → end_of (arena_start p.layout) nodes ≡ end_of (arena_start p.layout) p.nodes → Sound p → p.counted ≡ true → IsEven p → slice_index (set p.words at word) 3 ≡ end_of (arena_start p.layout) nodes
+first_stays p at word nodes apart same sound on even = get_or-set_other p.words at 3 word 0 apart ∙ sound.first_free on even ∙ sym same
+
 -- one from 3 on
-pub sound_at : (p : Plan) (seen : List Record) (at word : ℕ) (nodes : List Placed) → 3 ≤ at → Sound p → Legal seen → invalidations seen ≡ invalidations p.seen → changes seen ≡ changes p.seen → (IsEven p → Shows p.layout (set p.words at word) seen nodes)
-    → Sound (record { layout = p.layout; seen = seen; words = set p.words at word; nodes = nodes; retired = p.retired })
-sound_at p seen at word nodes high sound legal invalid change shows =
+pub sound_at : (p : Plan) (seen : List Record) (at word : ℕ) (nodes : List Placed) (counted : Bool) → 3 ≤ at → ((i : ℕ) → 10 ≤ i → i < 16 → i ≢ at) → Sound p → Legal seen → invalidations seen ≡ invalidations p.seen → changes seen ≡ changes p.seen → (IsEven p → Shows p.layout (set p.words at word) seen nodes)
+    → (counted ≡ true → slice_index (set p.words at word) 4 ≡ loads seen) → (counted ≡ true → IsEven p → slice_index (set p.words at word) 3 ≡ end_of (arena_start p.layout) nodes)
+    → Sound (record { layout = p.layout; seen = seen; words = set p.words at word; nodes = nodes; counted = counted; retired = p.retired })
+sound_at p seen at word nodes counted high apart sound legal invalid change shows number first =
     let same : (i : ℕ) → i < 3 → slice_index (set p.words at word) i ≡ slice_index p.words i = λ i low. let other : i ≢ at = omega arith in get_or-set_other p.words at i word 0 other in
     let zero_is = same 0 (omega arith) in
     let one_is = same 1 (omega arith) in
@@ -61,12 +74,24 @@ sound_at p seen at word nodes high sound legal invalid change shows =
       source = ap (λ (n : ℕ). n + 1) two_is ∙ source ∙ sym change;
       last_epoch = omega arith;
       last_version = omega arith;
+      zeros = zeros_stay p at word apart sound;
+      next_number = number;
+      first_free = λ on even. first on (ap (λ (n : ℕ). n % 2) (sym zero_is) ∙ even);
       shows = λ even. shows (ap (λ (n : ℕ). n % 2) (sym zero_is) ∙ even);
     }
 
-pub later_at : (p : Plan) (seen : List Record) (at word : ℕ) (nodes : List Placed) → 1 ≤ at → p.retired ≡ false → IsPrefix p.seen seen → (IsEven p → Grows (loads p.seen) p.nodes nodes)
-    → Later p (record { layout = p.layout; seen = seen; words = set p.words at word; nodes = nodes; retired = p.retired })
-later_at p seen at word nodes high active grown grows =
+-- one from 5 on
+pub sound_above : (p : Plan) (seen : List Record) (at word : ℕ) (nodes : List Placed) → 5 ≤ at → ((i : ℕ) → 10 ≤ i → i < 16 → i ≢ at) → Sound p → Legal seen → invalidations seen ≡ invalidations p.seen → changes seen ≡ changes p.seen → loads seen ≡ loads p.seen
+    → end_of (arena_start p.layout) nodes ≡ end_of (arena_start p.layout) p.nodes → (IsEven p → Shows p.layout (set p.words at word) seen nodes)
+    → Sound (record { layout = p.layout; seen = seen; words = set p.words at word; nodes = nodes; counted = p.counted; retired = p.retired })
+sound_above p seen at word nodes high apart sound legal invalid change loaded end shows =
+    let four : 4 ≢ at = omega arith in
+    let three : 3 ≢ at = omega arith in
+    sound_at p seen at word nodes p.counted (omega arith) apart sound legal invalid change shows (number_stays p seen at word four loaded sound) (first_stays p at word nodes three end sound)
+
+pub later_at : (p : Plan) (seen : List Record) (at word : ℕ) (nodes : List Placed) (counted : Bool) → 1 ≤ at → p.retired ≡ false → IsPrefix p.seen seen → (IsEven p → Grows (loads p.seen) p.nodes nodes)
+    → Later p (record { layout = p.layout; seen = seen; words = set p.words at word; nodes = nodes; counted = counted; retired = p.retired })
+later_at p seen at word nodes counted high active grown grows =
     let other : 0 ≢ at = omega arith in
     let zero_is = get_or-set_other p.words at 0 word 0 other in
     record { active = active; layout = refl; grown = grown; forward = omega arith; same = λ is even. grows even }

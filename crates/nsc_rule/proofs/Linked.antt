@@ -1,5 +1,5 @@
 -- A node is linked, and its entry inserted.
-use Rattle.std.proofs.Common.{◌≡◌, ◌≢◌, ◌∙◌, ℕ, ◌+◌, ◌%◌, ◌<◌, ◌≤◌, true, false, inl, inr, ⊎_elim, List, ◌∷◌, set, slice_index, refl, sym, ap, subst, arith}
+use Rattle.std.proofs.Common.{◌≡◌, ◌≢◌, ◌∙◌, ℕ, ◌+◌, ◌%◌, ◌<◌, ◌≤◌, true, false, true≢false, inl, inr, ⊎_elim, List, ◌∷◌, set, slice_index, refl, sym, ap, subst, arith}
 use Rattle.std.proofs.lemmas.List.{set-get_or}
 use Rattle.nsc_words.specs.declared.layout.Layout.{Layout}
 use Rattle.nsc_words.specs.declared.node.Placed.{Placed}
@@ -94,8 +94,8 @@ grows_linked k nodes n new = record {
       among;
 }
 
-link_high : (p : Plan) (link at : ℕ) → Sound p → IsReady p link at → 3 ≤ link
-link_high p link at sound ready = let low = bucket_low p.layout (placed_in p.words at) sound.sizes in let bucket = ready.bucket in omega arith
+link_high : (p : Plan) (link at : ℕ) → Sound p → IsReady p link at → 16 ≤ link
+link_high p link at sound ready = let low = (bucket_low p.layout (placed_in p.words at) sound.sizes).0 in let bucket = ready.bucket in omega arith
 
 pub link_inside : (p : Plan) (link at : ℕ) → Sound p → IsReady p link at → link < table_words p.layout
 link_inside p link at sound ready = let low = bucket_low p.layout (placed_in p.words at) sound.sizes in let bucket = ready.bucket in omega arith
@@ -103,12 +103,14 @@ link_inside p link at sound ready = let low = bucket_low p.layout (placed_in p.w
 pub sound_linked : (p : Plan) (link at : ℕ) → IsReady p link at → Sound p → Sound (published link at p)
 sound_linked p link at ready sound =
     let n : Placed = placed_in p.words at in
-    sound_at p (Load (entry_of n) ∷ p.seen) link at (n ∷ p.nodes) (link_high p link at sound ready) sound ready.legal refl refl
+    let high = link_high p link at sound ready in
+    sound_at p (Load (entry_of n) ∷ p.seen) link at (n ∷ p.nodes) false (omega arith) (λ i low less. omega arith) sound ready.legal refl refl
     (λ even. record { laid = linked_laid p link at sound ready; sits = sits_linked p.seen p.nodes n ready.legal ready.usable ready.kind (sound.shows even).sits })
+    (λ on. absurd (true≢false (sym on))) (λ on even. absurd (true≢false (sym on)))
 
 pub later_linked : (p : Plan) (link at : ℕ) → p.retired ≡ false → IsReady p link at → Sound p → Later p (published link at p)
 later_linked p link at active ready sound =
     let n : Placed = placed_in p.words at in
     let high = link_high p link at sound ready in
     let own : n.node.number ≡ loads p.seen = ready.legal.1 in
-    later_at p (Load (entry_of n) ∷ p.seen) link at (n ∷ p.nodes) (omega arith) active (prefix_more (Load (entry_of n)) p.seen p.seen (prefix_all p.seen)) (λ even. grows_linked (loads p.seen) p.nodes n (omega arith))
+    later_at p (Load (entry_of n) ∷ p.seen) link at (n ∷ p.nodes) false (omega arith) active (prefix_more (Load (entry_of n)) p.seen p.seen (prefix_all p.seen)) (λ even. grows_linked (loads p.seen) p.nodes n (omega arith))

@@ -1,5 +1,5 @@
 -- A table at its start keeps the rule.
-use Rattle.std.proofs.Common.{◌≡◌, ◌≢◌, ◌∙◌, ℕ, zero, suc, ◌<◌, List, [], ◌∷◌, length, length-set, replicate, slice_index, refl, sym, subst, arith, get_or-set_other}
+use Rattle.std.proofs.Common.{◌≡◌, ◌≢◌, ◌∙◌, ℕ, zero, suc, ◌<◌, List, [], ◌∷◌, length, length-set, replicate, slice_index, refl, sym, subst, arith, get_or-set_other, get_or-set_same}
 use Rattle.std.proofs.lemmas.List.{get_or-replicate, length-replicate}
 use mathlib.Core.Option.{some, some-ne-none, some-injective}
 use lib.ListN.{get_elem?}
@@ -39,6 +39,9 @@ sound_first layout content sizes =
       source = omega arith;
       last_epoch = omega arith;
       last_version = omega arith;
+      zeros = λ i low high. let other : i ≢ 3 = omega arith in zero_at layout i (omega arith) other;
+      next_number = λ on. let other : 4 ≢ 3 = omega arith in zero_at layout 4 (omega arith) other;
+      first_free = λ on even. get_or-set_same (replicate (table_words layout) 0) 3 (arena_start layout) 0 (omega (arith, length-replicate {A = ℕ} (table_words layout) 0));
       shows = λ even. record {
         laid = clear.cleared (no_nodes layout) (filled layout (no_nodes layout) []) layout (arena_start layout) (size layout) refl refl (λ i low high. let other : i ≢ 3 = omega arith in zero_at layout i (omega arith) other);
         sits = sits_none content;

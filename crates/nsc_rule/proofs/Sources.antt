@@ -11,9 +11,9 @@ use Rattle.nsc_model.specs.History.{changes, invalidations, loads, newest, IsLiv
 use Rattle.nsc_model.proofs.Beginnings.{prefix_all, prefix_more}
 use Rattle.nsc_rule.specs.declared.view.Plan.{Plan}
 use Rattle.nsc_rule.specs.Plans.{Later, Shows, Sits, Sound}
-use Rattle.nsc_rule.specs.Strokes.{after, changed, invalidated, polled}
+use Rattle.nsc_rule.specs.Strokes.{after, changed, invalidation_added, poll_added}
 use Rattle.nsc_rule.specs.declared.view.Stroke.TheVariants as stroke
-use Rattle.nsc_rule.proofs.Filled.{grows_same, head_set, later_at, sits_on}
+use Rattle.nsc_rule.proofs.Filled.{first_stays, grows_same, head_set, later_at, number_stays, sits_on, zeros_stay}
 
 -- ---- the live entries stay
 
@@ -23,12 +23,12 @@ sits_said r h nodes = sits_on h (r ∷ h) nodes
 head_shows : (p : Plan) (r : Record) (at word : ℕ) → at < 3 → Sits (r ∷ p.seen) p.nodes → Shows p.layout p.words p.seen p.nodes → Shows p.layout (set p.words at word) (r ∷ p.seen) p.nodes
 head_shows p r at word low sits shows = let other : at ≢ 3 = omega arith in record { laid = head_set p.layout p.words p.nodes at word (omega arith) other shows.laid; sits = sits }
 
-later_said : (p : Plan) (r : Record) (at word : ℕ) → 1 ≤ at → p.retired ≡ false → Later p (record { layout = p.layout; seen = r ∷ p.seen; words = set p.words at word; nodes = p.nodes; retired = p.retired })
-later_said p r at word high active = later_at p (r ∷ p.seen) at word p.nodes high active (prefix_more r p.seen p.seen (prefix_all p.seen)) (λ even. grows_same _ p.nodes)
+later_said : (p : Plan) (r : Record) (at word : ℕ) → 1 ≤ at → p.retired ≡ false → Later p (record { layout = p.layout; seen = r ∷ p.seen; words = set p.words at word; nodes = p.nodes; counted = p.counted; retired = p.retired })
+later_said p r at word high active = later_at p (r ∷ p.seen) at word p.nodes p.counted high active (prefix_more r p.seen p.seen (prefix_all p.seen)) (λ even. grows_same _ p.nodes)
 
 -- ---- an invalidation
 
-pub sound_invalidated : (p : Plan) → NoneLive p.seen → slice_index p.words 1 < last_count → Sound p → Sound (invalidated p)
+pub sound_invalidated : (p : Plan) → NoneLive p.seen → slice_index p.words 1 < last_count → Sound p → Sound (invalidation_added p)
 sound_invalidated p none room sound =
     let word : ℕ = slice_index p.words 1 + 1 in
     let r : Record = Invalid word in
@@ -48,19 +48,22 @@ sound_invalidated p none room sound =
       source = ap (λ (n : ℕ). n + 1) two_is ∙ sound.source;
       last_epoch = omega arith;
       last_version = omega arith;
+      zeros = zeros_stay p 1 word (λ i low high. omega arith) sound;
+      next_number = number_stays p (r ∷ p.seen) 1 word (omega arith) refl sound;
+      first_free = λ on even. first_stays p 1 word p.nodes (omega arith) refl sound on (ap (λ (n : ℕ). n % 2) (sym zero_is) ∙ even);
       shows = λ even.
           let shows = sound.shows (ap (λ (n : ℕ). n % 2) (sym zero_is) ∙ even) in
           head_shows p r 1 word (omega arith) (sits_said r p.seen p.nodes (λ e l. record { inserted = l.inserted; not_ended = l.not_ended }) (λ e l. record { inserted = l.inserted; not_ended = l.not_ended }) refl shows.sits) shows;
     }
 
-pub later_invalidated : (p : Plan) → p.retired ≡ false → Later p (invalidated p)
+pub later_invalidated : (p : Plan) → p.retired ≡ false → Later p (invalidation_added p)
 later_invalidated p active = later_said p (Invalid (slice_index p.words 1 + 1)) 1 (slice_index p.words 1 + 1) (omega arith) active
 
 -- ---- a poll, and a new version
 
-sound_source : (p : Plan) (r : Record) (word : ℕ) → Legal (r ∷ p.seen) → invalidations (r ∷ p.seen) ≡ invalidations p.seen → word + 1 ≡ changes (r ∷ p.seen) → word ≤ last_count → (Sits p.seen p.nodes → Sits (r ∷ p.seen) p.nodes) → Sound p
-    → Sound (record { layout = p.layout; seen = r ∷ p.seen; words = set p.words 2 word; nodes = p.nodes; retired = p.retired })
-sound_source p r word legal invalid change room sits sound =
+sound_source : (p : Plan) (r : Record) (word : ℕ) → Legal (r ∷ p.seen) → invalidations (r ∷ p.seen) ≡ invalidations p.seen → loads (r ∷ p.seen) ≡ loads p.seen → word + 1 ≡ changes (r ∷ p.seen) → word ≤ last_count → (Sits p.seen p.nodes → Sits (r ∷ p.seen) p.nodes) → Sound p
+    → Sound (record { layout = p.layout; seen = r ∷ p.seen; words = set p.words 2 word; nodes = p.nodes; counted = p.counted; retired = p.retired })
+sound_source p r word legal invalid loaded change room sits sound =
     let wide = sound.wide in
     let here : slice_index (set p.words 2 word) 2 ≡ word = get_or-set_same p.words 2 word 0 (omega arith) in
     let zero_is : slice_index (set p.words 2 word) 0 ≡ slice_index p.words 0 = get_or-set_other p.words 2 0 word 0 (omega arith) in
@@ -76,6 +79,9 @@ sound_source p r word legal invalid change room sits sound =
       source = ap (λ (n : ℕ). n + 1) here ∙ change;
       last_epoch = omega arith;
       last_version = omega arith;
+      zeros = zeros_stay p 2 word (λ i low high. omega arith) sound;
+      next_number = number_stays p (r ∷ p.seen) 2 word (omega arith) loaded sound;
+      first_free = λ on even. first_stays p 2 word p.nodes (omega arith) refl sound on (ap (λ (n : ℕ). n % 2) (sym zero_is) ∙ even);
       shows = λ even. let shows = sound.shows (ap (λ (n : ℕ). n % 2) (sym zero_is) ∙ even) in head_shows p r 2 word (omega arith) (sits shows.sits) shows;
     }
 
@@ -84,14 +90,14 @@ sound_polled p word is sound =
     let source = sound.source in
     let last = sound.last_version in
     let same : word + 1 ≡ changes p.seen = omega arith in
-    sound_source p (Poll word) word (sound.legal, same) refl same (omega arith) (sits_said (Poll word) p.seen p.nodes (λ e l. record { inserted = l.inserted; not_ended = l.not_ended }) (λ e l. record { inserted = l.inserted; not_ended = l.not_ended }) refl) sound
+    sound_source p (Poll word) word (sound.legal, same) refl refl same (omega arith) (sits_said (Poll word) p.seen p.nodes (λ e l. record { inserted = l.inserted; not_ended = l.not_ended }) (λ e l. record { inserted = l.inserted; not_ended = l.not_ended }) refl) sound
 
 pub later_polled : (p : Plan) (word : ℕ) → p.retired ≡ false → Later p (after stroke.Poll 2 word p)
 later_polled p word active = later_said p (Poll word) 2 word (omega arith) active
 
 -- the word that stands there is written again
-pub polled_is : (p : Plan) (word : ℕ) → word ≡ slice_index p.words 2 → after stroke.Poll 2 word p ≡ polled p
-polled_is p word is = λ i. record { layout = p.layout; seen = Poll (is i) ∷ p.seen; words = same i; nodes = p.nodes; retired = p.retired } where
+pub polled_is : (p : Plan) (word : ℕ) → word ≡ slice_index p.words 2 → after stroke.Poll 2 word p ≡ poll_added p
+polled_is p word is = λ i. record { layout = p.layout; seen = Poll (is i) ∷ p.seen; words = same i; nodes = p.nodes; counted = p.counted; retired = p.retired } where
   same : set p.words 2 word ≡ p.words
   same = ap (λ (w : ℕ). set p.words 2 w) is ∙ set-get_or p.words 2 0
 
@@ -102,7 +108,7 @@ legal_change (r ∷ h) version content legal is new = (legal, is, new)
 pub sound_changed : (p : Plan) (content : Content) → newest p.seen ≢ Some content → slice_index p.words 2 < last_count → Sound p → Sound (changed content p)
 sound_changed p content new room sound =
     let word : ℕ = slice_index p.words 2 + 1 in
-    sound_source p (Change word content) word (legal_change p.seen word content sound.legal sound.source new) refl (ap (λ (n : ℕ). n + 1) sound.source) (omega arith)
+    sound_source p (Change word content) word (legal_change p.seen word content sound.legal sound.source new) refl refl (ap (λ (n : ℕ). n + 1) sound.source) (omega arith)
     (sits_said (Change word content) p.seen p.nodes (λ e l. record { inserted = l.inserted; not_ended = l.not_ended }) (λ e l. record { inserted = l.inserted; not_ended = l.not_ended }) refl) sound
 
 pub later_changed : (p : Plan) (content : Content) → p.retired ≡ false → Later p (changed content p)

@@ -1,17 +1,18 @@
 -- Steps of the pen that leave the history as it is.
-use Rattle.std.proofs.Common.{◌≡◌, ◌≢◌, ◌∙◌, ℕ, ◌+◌, ◌%◌, ◌^◌, ◌<◌, ◌≤◌, false, ◌⊎◌, ⊎_elim, List, length-set, set, slice_index, refl, sym, ap, subst, arith, get_or-set_other, get_or-set_same}
+use Rattle.std.proofs.Common.{◌≡◌, ◌≢◌, ◌∙◌, ℕ, ◌+◌, ◌%◌, ◌^◌, ◌<◌, ◌≤◌, true, false, ◌⊎◌, ⊎_elim, List, length-set, set, slice_index, refl, sym, ap, subst, arith, get_or-set_other, get_or-set_same}
 use Rattle.std.proofs.lemmas.Bool.{cases_eq}
 use Rattle.nsc_words.specs.declared.node.Placed.{Placed}
-use Rattle.nsc_words.specs.Laid.{Laid}
+use Rattle.nsc_words.specs.Laid.{Laid, end_of}
 use Rattle.nsc_words.specs.Layout.{arena_start}
 use Rattle.nsc_arena.proofs.Rows.{end_after, same_below}
 use Rattle.nsc_arena.specs.ReadBack.{nodes_in}
+use Rattle.nsc_model.specs.History.{loads}
 use Rattle.nsc_model.specs.Machine.{last_count}
 use Rattle.nsc_model.proofs.Beginnings.{prefix_all}
 use Rattle.nsc_rule.specs.declared.view.Plan.{Plan}
-use Rattle.nsc_rule.specs.Plans.{IsEven, IsOdd, Later, Shows, Sound, cycle_of, filled}
-use Rattle.nsc_rule.specs.Strokes.{IsFree, IsSlid, begun, finished, stored}
-use Rattle.nsc_rule.proofs.Filled.{filled_again, filled_set, grows_same, head_set, later_at, sound_at}
+use Rattle.nsc_rule.specs.Plans.{IsEven, IsOdd, Later, Shows, Sound, cycle_of, end_in, filled}
+use Rattle.nsc_rule.specs.Strokes.{IsFree, ShowsAgain, begun, finished, node_counted, stored}
+use Rattle.nsc_rule.proofs.Filled.{filled_again, filled_set, grows_same, head_set, later_at, number_stays, sound_above, sound_at, zeros_stay}
 
 -- ---- a word behind the nodes
 
@@ -25,14 +26,14 @@ free_shows p at word free shows =
     let laid : Laid new p.layout p.nodes = same_below words new p.layout p.nodes shows.laid (record { size = length-set words at word; below = λ i low. let apart : i ≢ at = omega arith in get_or-set_other words at i word 0 apart }) in
     record { laid = subst (λ (ws : List ℕ). Laid ws p.layout p.nodes) (sym (filled_set p.layout p.words p.nodes at word other)) laid; sits = shows.sits }
 
-free_high : (p : Plan) (at : ℕ) → IsFree p at → Sound p → 3 ≤ at
+free_high : (p : Plan) (at : ℕ) → IsFree p at → Sound p → 16 ≤ at
 free_high p at free sound = let after = end_after (arena_start p.layout) p.nodes (sound.shows free.even).laid.row in let behind = free.behind in omega arith
 
 pub sound_free : (p : Plan) (at word : ℕ) → IsFree p at → Sound p → Sound (stored at word p)
-sound_free p at word free sound = sound_at p p.seen at word p.nodes (free_high p at free sound) sound sound.legal refl refl (λ even. free_shows p at word free (sound.shows even))
+sound_free p at word free sound = let high = free_high p at free sound in sound_above p p.seen at word p.nodes (omega arith) (λ i low less. omega arith) sound sound.legal refl refl refl refl (λ even. free_shows p at word free (sound.shows even))
 
 pub later_free : (p : Plan) (at word : ℕ) → p.retired ≡ false → IsFree p at → Sound p → Later p (stored at word p)
-later_free p at word active free sound = let high = free_high p at free sound in later_at p p.seen at word p.nodes (omega arith) active (prefix_all p.seen) (λ even. grows_same _ p.nodes)
+later_free p at word active free sound = let high = free_high p at free sound in later_at p p.seen at word p.nodes p.counted (omega arith) active (prefix_all p.seen) (λ even. grows_same _ p.nodes)
 
 -- ---- a head word that counts
 
@@ -45,19 +46,41 @@ count_shows p at word high shows = record { laid = laid; sits = shows.sits } whe
       (λ (other : at ≢ 3). head_set p.layout p.words p.nodes at word (omega arith) other shows.laid)
       (cases_eq at 3)
 
-pub sound_count : (p : Plan) (at word : ℕ) → 3 ≤ at → at ≤ 9 → Sound p → Sound (stored at word p)
-sound_count p at word low high sound = sound_at p p.seen at word p.nodes low sound sound.legal refl refl (λ even. count_shows p at word high (sound.shows even))
+pub sound_count : (p : Plan) (at word : ℕ) → 5 ≤ at → at ≤ 9 → Sound p → Sound (stored at word p)
+sound_count p at word low high sound = sound_above p p.seen at word p.nodes low (λ i more less. omega arith) sound sound.legal refl refl refl refl (λ even. count_shows p at word high (sound.shows even))
+
+-- FIRST_FREE is put right
+pub sound_first_free : (p : Plan) (word : ℕ) → word ≡ end_in p → Sound p → Sound (stored 3 word p)
+sound_first_free p word is sound =
+    let wide = sound.wide in
+    sound_at p p.seen 3 word p.nodes p.counted (omega arith) (λ i more less. omega arith) sound sound.legal refl refl (λ even. count_shows p 3 word (omega arith) (sound.shows even))
+    (number_stays p p.seen 3 word (omega arith) refl sound) (λ on even. get_or-set_same p.words 3 word 0 (omega arith) ∙ is)
+
+-- and LOADS
+pub sound_node_counted : (p : Plan) (word : ℕ) → slice_index p.words 3 ≡ end_in p → word ≡ loads p.seen → Sound p → Sound (node_counted word p)
+sound_node_counted p word first is sound =
+    let wide = sound.wide in
+    sound_at p p.seen 4 word p.nodes true (omega arith) (λ i more less. omega arith) sound sound.legal refl refl (λ even. count_shows p 4 word (omega arith) (sound.shows even))
+    (λ on. get_or-set_same p.words 4 word 0 (omega arith) ∙ is) (λ on even. get_or-set_other p.words 4 3 word 0 (omega arith) ∙ first)
+
+pub later_node_counted : (p : Plan) (word : ℕ) → p.retired ≡ false → Later p (node_counted word p)
+later_node_counted p word active = later_at p p.seen 4 word p.nodes true (omega arith) active (prefix_all p.seen) (λ even. grows_same _ p.nodes)
 
 pub later_stored : (p : Plan) (at word : ℕ) → 1 ≤ at → p.retired ≡ false → Later p (stored at word p)
-later_stored p at word low active = later_at p p.seen at word p.nodes low active (prefix_all p.seen) (λ even. grows_same _ p.nodes)
+later_stored p at word low active = later_at p p.seen at word p.nodes p.counted low active (prefix_all p.seen) (λ even. grows_same _ p.nodes)
 
 -- ---- a word of a compaction
 
 not_both : (p : Plan) → IsEven p → IsOdd p → ⊥
 not_both p even odd = omega arith
 
-pub sound_slide : (p : Plan) (at word : ℕ) → 3 ≤ at → IsOdd p → Sound p → Sound (stored at word p)
-sound_slide p at word low odd sound = sound_at p p.seen at word p.nodes low sound sound.legal refl refl (λ even. absurd (not_both p even odd))
+pub sound_slide : (p : Plan) (at word : ℕ) → (at ≡ 3) ⊎ (16 ≤ at) → IsOdd p → Sound p → Sound (stored at word p)
+sound_slide p at word place odd sound = ⊎_elim
+    (λ (e : at ≡ 3). sound_slid (omega arith) (λ i more less. omega arith) (omega arith))
+    (λ (h : 16 ≤ at). sound_slid (omega arith) (λ i more less. omega arith) (omega arith))
+    place where
+      sound_slid : 3 ≤ at → ((i : ℕ) → 10 ≤ i → i < 16 → i ≢ at) → 4 ≢ at → Sound (stored at word p)
+      sound_slid low apart four = sound_at p p.seen at word p.nodes p.counted low apart sound sound.legal refl refl (λ even. absurd (not_both p even odd)) (number_stays p p.seen at word four refl sound) (λ on even. absurd (not_both p even odd))
 
 -- ---- CYCLE goes on
 
@@ -65,14 +88,14 @@ sound_slide p at word low odd sound = sound_at p p.seen at word p.nodes low soun
 next_cycle : (p : Plan) → Sound p → slice_index (set p.words 0 (slice_index p.words 0 + 1)) 0 ≡ slice_index p.words 0 + 1
 next_cycle p sound = let wide = sound.wide in get_or-set_same p.words 0 (slice_index p.words 0 + 1) 0 (omega arith)
 
-later_cycle : (p : Plan) (nodes : List Placed) → p.retired ≡ false → Sound p → Later p (record { layout = p.layout; seen = p.seen; words = set p.words 0 (slice_index p.words 0 + 1); nodes = nodes; retired = p.retired })
+later_cycle : (p : Plan) (nodes : List Placed) → p.retired ≡ false → Sound p → Later p (record { layout = p.layout; seen = p.seen; words = set p.words 0 (slice_index p.words 0 + 1); nodes = nodes; counted = p.counted; retired = p.retired })
 later_cycle p nodes active sound =
     let next = next_cycle p sound in
     record { active = active; layout = refl; grown = prefix_all p.seen; forward = omega arith; same = λ is even. absurd (omega arith) }
 
-sound_cycle : (p : Plan) (nodes : List Placed) → cycle_of p < 2 ^ 62 → Sound p → ((slice_index p.words 0 + 1) % 2 ≡ 0 → Shows p.layout (set p.words 0 (slice_index p.words 0 + 1)) p.seen nodes)
-    → Sound (record { layout = p.layout; seen = p.seen; words = set p.words 0 (slice_index p.words 0 + 1); nodes = nodes; retired = p.retired })
-sound_cycle p nodes room sound shows =
+sound_cycle : (p : Plan) (nodes : List Placed) → cycle_of p < 2 ^ 62 → Sound p → ((slice_index p.words 0 + 1) % 2 ≡ 0 → Shows p.layout (set p.words 0 (slice_index p.words 0 + 1)) p.seen nodes) → ((slice_index p.words 0 + 1) % 2 ≡ 0 → slice_index p.words 3 ≡ end_of (arena_start p.layout) nodes)
+    → Sound (record { layout = p.layout; seen = p.seen; words = set p.words 0 (slice_index p.words 0 + 1); nodes = nodes; counted = p.counted; retired = p.retired })
+sound_cycle p nodes room sound shows first =
     let word : ℕ = slice_index p.words 0 + 1 in
     let next = next_cycle p sound in
     let same : (i : ℕ) → 0 < i → slice_index (set p.words 0 word) i ≡ slice_index p.words i = λ i low. let other : i ≢ 0 = omega arith in get_or-set_other p.words 0 i word 0 other in
@@ -90,11 +113,14 @@ sound_cycle p nodes room sound shows =
       source = ap (λ (n : ℕ). n + 1) two_is ∙ source;
       last_epoch = omega arith;
       last_version = omega arith;
+      zeros = zeros_stay p 0 word (λ i low high. omega arith) sound;
+      next_number = number_stays p p.seen 0 word (omega arith) refl sound;
+      first_free = λ on even. same 3 (omega arith) ∙ first (ap (λ (n : ℕ). n % 2) (sym next) ∙ even);
       shows = λ even. shows (ap (λ (n : ℕ). n % 2) (sym next) ∙ even);
     }
 
 pub sound_begun : (p : Plan) → IsEven p → cycle_of p < last_count → Sound p → Sound (begun p)
-sound_begun p even room sound = sound_cycle p p.nodes room sound (λ again. absurd (omega arith))
+sound_begun p even room sound = sound_cycle p p.nodes room sound (λ again. absurd (omega arith)) (λ again. absurd (omega arith))
 
 pub later_begun : (p : Plan) → p.retired ≡ false → Sound p → Later p (begun p)
 later_begun p active sound = later_cycle p p.nodes active sound
@@ -104,8 +130,8 @@ odd_room p odd sound = let cycle = sound.cycle in let differs : cycle_of p ≢ 2
   two_parts : (n : ℕ) → n % 2 ≡ 1 → n ≡ 2 ^ 62 → ⊥
   two_parts n odd e = omega arith
 
-pub sound_finished : (p : Plan) → IsOdd p → IsSlid p → Sound p → Sound (finished p)
-sound_finished p odd slid sound = sound_cycle p (nodes_in p.words p.layout) (odd_room p odd sound) sound (λ even. record { laid = head_set p.layout p.words (nodes_in p.words p.layout) 0 (slice_index p.words 0 + 1) (omega arith) (omega arith) slid.laid; sits = slid.sits })
+pub sound_finished : (p : Plan) → IsOdd p → ShowsAgain p → Sound p → Sound (finished p)
+sound_finished p odd slid sound = sound_cycle p (nodes_in p.words p.layout) (odd_room p odd sound) sound (λ even. record { laid = head_set p.layout p.words (nodes_in p.words p.layout) 0 (slice_index p.words 0 + 1) (omega arith) (omega arith) slid.shows.laid; sits = slid.shows.sits }) (λ even. slid.first_free)
 
 pub later_finished : (p : Plan) → p.retired ≡ false → Sound p → Later p (finished p)
 later_finished p active sound = later_cycle p (nodes_in p.words p.layout) active sound

@@ -9,7 +9,7 @@ use Rattle.nsc_arena.proofs.Rows.{apart, end_after, kept, same_place, within}
 use Rattle.nsc_rule.specs.declared.view.Plan.{Plan}
 use Rattle.nsc_rule.specs.Plans.{IsEven, Shows, Sound, filled}
 use Rattle.nsc_rule.specs.Strokes.{IsLink, MayUnlink, stored}
-use Rattle.nsc_rule.proofs.Filled.{filled_at, filled_set, sound_at}
+use Rattle.nsc_rule.proofs.Filled.{filled_at, filled_set, sound_above}
 
 -- what led to an ended node may lead where that one leads
 leads_past : (start : ℕ) (layout : Layout) (nodes : List Placed) (g : Placed) (bucket below to : ℕ) → InRow start nodes → Among g nodes → g.usable ≡ false → 0 < g.place → Leads layout nodes bucket below g.place → Leads layout nodes (bucket_in layout g) g.place to → Leads layout nodes bucket below to
@@ -102,4 +102,4 @@ unlinked_shows p from to may sound =
     }
 
 pub sound_unlinked : (p : Plan) (from to : ℕ) → MayUnlink p from to → Sound p → Sound (stored from to p)
-sound_unlinked p from to may sound = let at = link_within p from may.even may.link sound in sound_at p p.seen from to p.nodes (omega arith) sound sound.legal refl refl (λ even. unlinked_shows p from to may sound)
+sound_unlinked p from to may sound = let at = link_within p from may.even may.link sound in sound_above p p.seen from to p.nodes (omega arith) (λ i low less. omega (arith, at.0)) sound sound.legal refl refl refl refl (λ even. unlinked_shows p from to may sound)

@@ -29,7 +29,7 @@ IsOdd p = cycle_of p % 2 ≡ 1
 abbrev pub end_in : Plan → ℕ
 end_in p = end_of (arena_start p.layout) p.nodes
 
--- the words with FIRST_FREE put right, which an insertion counts after it has linked its node
+-- the words with FIRST_FREE put right: an insertion sets it after it has linked its node
 abbrev pub filled : Layout → List ℕ → List Placed → List ℕ
 filled layout words nodes = slice_set words 3 (end_of (arena_start layout) nodes)
 
@@ -45,7 +45,8 @@ pub record Shows (layout : Layout) (words : List ℕ) (history : List Record) (n
   pub laid : Laid (filled layout words nodes) layout nodes
   pub sits : Sits history nodes
 
--- what holds of a plan between any two steps. Nothing is said of its nodes while a compaction is under way
+-- what holds of a plan between any two steps. Nothing is said of its nodes while a compaction is under way, and nothing of FIRST_FREE
+-- and LOADS while an insertion is. The head words behind the counts are 0
 pub record Sound (p : Plan) : Type 0 where
   pub sizes : IsLayout p.layout
   pub legal : Legal p.seen
@@ -55,6 +56,9 @@ pub record Sound (p : Plan) : Type 0 where
   pub source : slice_index p.words 2 + 1 ≡ changes p.seen
   pub last_epoch : slice_index p.words 1 ≤ last_count
   pub last_version : slice_index p.words 2 ≤ last_count
+  pub zeros : (i : ℕ) → 10 ≤ i → i < 16 → slice_index p.words i ≡ 0
+  pub next_number : p.counted ≡ true → slice_index p.words 4 ≡ loads p.seen
+  pub first_free : p.counted ≡ true → IsEven p → slice_index p.words 3 ≡ end_in p
   pub shows : IsEven p → Shows p.layout p.words p.seen p.nodes
 
 -- ---- a plan goes on
@@ -80,4 +84,4 @@ no_nodes layout = slice_set (replicate (table_words layout) 0) 3 (arena_start la
 
 -- the history is this content as version 0
 abbrev pub first_plan : Layout → Content → Plan
-first_plan layout content = record { layout = layout; seen = record_of.Change 0 content ∷ []; words = no_nodes layout; nodes = []; retired = false }
+first_plan layout content = record { layout = layout; seen = record_of.Change 0 content ∷ []; words = no_nodes layout; nodes = []; counted = true; retired = false }

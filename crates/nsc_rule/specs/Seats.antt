@@ -58,7 +58,7 @@ walk_by (Reads seen told retired walk) = walk
 
 -- no plan
 abbrev pub no_plan : Plan
-no_plan = record { layout = record { buckets = 0; arena = 0 }; seen = []; words = []; nodes = []; retired = false }
+no_plan = record { layout = record { buckets = 0; arena = 0 }; seen = []; words = []; nodes = []; counted = true; retired = false }
 
 -- the plan of the seat that writes
 abbrev pub plan_by : View → Plan

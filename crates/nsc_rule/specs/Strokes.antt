@@ -1,7 +1,7 @@
 -- What each step of the pen makes of its plan, and what it asks.
-use Rattle.std.specs.Prelude.{◌≡◌, ℕ, ◌+◌, ◌<◌, ◌≤◌, true, false, ◌⊎◌, List, ◌∷◌, slice_index, slice_set}
+use Rattle.std.specs.Prelude.{◌≡◌, ℕ, ◌+◌, ◌<◌, ◌≤◌, Bool, true, false, ◌⊎◌, List, ◌∷◌, slice_index, slice_set}
 use Rattle.nsc_words.specs.declared.node.Placed.{Placed}
-use Rattle.nsc_words.specs.Laid.{Among, Stands, bucket_in, words_in}
+use Rattle.nsc_words.specs.Laid.{Among, Stands, bucket_in, end_of, words_in}
 use Rattle.nsc_words.specs.Layout.{arena_start, table_words}
 use Rattle.nsc_arena.specs.Changes.{changed_at, ended, with_reloads}
 use Rattle.nsc_arena.specs.ReadBack.{nodes_in, placed_in}
@@ -23,6 +23,7 @@ abbrev pub seen_after : Stroke → ℕ → Plan → List Record
 seen_after stroke.Plain word p = p.seen
 seen_after (stroke.Reloads place) word p = p.seen
 seen_after stroke.Publish word p = record_of.Load (entry_of (placed_in p.words word)) ∷ p.seen
+seen_after stroke.Counted word p = p.seen
 seen_after (stroke.End place cause) word p = record_of.End (slice_index p.words place) cause ∷ p.seen
 seen_after stroke.Even word p = p.seen
 seen_after stroke.Invalid word p = record_of.Invalid word ∷ p.seen
@@ -33,14 +34,27 @@ abbrev pub nodes_after : Stroke → ℕ → Plan → List Placed
 nodes_after stroke.Plain word p = p.nodes
 nodes_after (stroke.Reloads place) word p = changed_at place (with_reloads word) p.nodes
 nodes_after stroke.Publish word p = placed_in p.words word ∷ p.nodes
+nodes_after stroke.Counted word p = p.nodes
 nodes_after (stroke.End place cause) word p = changed_at place ended p.nodes
 nodes_after stroke.Even word p = nodes_in p.words p.layout
 nodes_after stroke.Invalid word p = p.nodes
 nodes_after stroke.Poll word p = p.nodes
 nodes_after (stroke.Change content) word p = p.nodes
 
+-- an insertion is under way from the link of its node on until the node is counted
+abbrev pub counted_after : Stroke → Bool → Bool
+counted_after stroke.Plain counted = counted
+counted_after (stroke.Reloads place) counted = counted
+counted_after stroke.Publish counted = false
+counted_after stroke.Counted counted = true
+counted_after (stroke.End place cause) counted = counted
+counted_after stroke.Even counted = counted
+counted_after stroke.Invalid counted = counted
+counted_after stroke.Poll counted = counted
+counted_after (stroke.Change content) counted = counted
+
 abbrev pub after : Stroke → ℕ → ℕ → Plan → Plan
-after s at word p = record { layout = p.layout; seen = seen_after s word p; words = slice_set p.words at word; nodes = nodes_after s word p; retired = p.retired }
+after s at word p = record { layout = p.layout; seen = seen_after s word p; words = slice_set p.words at word; nodes = nodes_after s word p; counted = counted_after s p.counted; retired = p.retired }
 
 -- ---- each step by its name
 
@@ -49,12 +63,16 @@ abbrev pub stored : ℕ → ℕ → Plan → Plan
 stored at word p = after stroke.Plain at word p
 
 -- the node at a place has this count of reloads
-abbrev pub reloaded : ℕ → ℕ → Plan → Plan
-reloaded place count p = after (stroke.Reloads place) (place + 5) count p
+abbrev pub reloads_stored : ℕ → ℕ → Plan → Plan
+reloads_stored place count p = after (stroke.Reloads place) (place + 5) count p
 
 -- the node that was written at a place is the newest one, linked in its bucket
 abbrev pub published : ℕ → ℕ → Plan → Plan
 published bucket at p = after stroke.Publish bucket at p
+
+-- LOADS counts the newest node
+abbrev pub node_counted : ℕ → Plan → Plan
+node_counted count p = after stroke.Counted 4 count p
 
 -- the node at a place ended
 abbrev pub cleared : ℕ → Ending → Plan → Plan
@@ -69,12 +87,12 @@ abbrev pub finished : Plan → Plan
 finished p = after stroke.Even 0 (slice_index p.words 0 + 1) p
 
 -- the database was invalidated once more
-abbrev pub invalidated : Plan → Plan
-invalidated p = after stroke.Invalid 1 (slice_index p.words 1 + 1) p
+abbrev pub invalidation_added : Plan → Plan
+invalidation_added p = after stroke.Invalid 1 (slice_index p.words 1 + 1) p
 
 -- the newest version was confirmed
-abbrev pub polled : Plan → Plan
-polled p = record p { seen = record_of.Poll (slice_index p.words 2) ∷ p.seen }
+abbrev pub poll_added : Plan → Plan
+poll_added p = record p { seen = record_of.Poll (slice_index p.words 2) ∷ p.seen }
 
 -- the files have this content now
 abbrev pub changed : Content → Plan → Plan
@@ -96,9 +114,10 @@ HasNode p place = (q : Placed) × Among q p.nodes × (q.place ≡ place)
 abbrev pub MayEnd : Plan → ℕ → Ending → Type 0
 MayEnd p place cause = (q : Placed) × Among q p.nodes × (q.place ≡ place) × (q.usable ≡ true) × Allows cause (entry_of q)
 
--- the words behind the nodes hold a usable node that may be inserted, and its NEXT leads where its bucket does
+-- no insertion is under way, the words behind the nodes hold a usable node that may be inserted, and its NEXT leads where its bucket does
 pub record IsReady (p : Plan) (link at : ℕ) : Type 0 where
   pub even : IsEven p
+  pub counted : p.counted ≡ true
   pub place : at ≡ end_in p
   pub room : at + words_in (placed_in p.words at).node ≤ table_words p.layout
   pub stands : Stands p.words (placed_in p.words at)
@@ -123,5 +142,6 @@ pub record MayUnlink (p : Plan) (from to : ℕ) : Type 0 where
   pub past : to ≡ slice_index p.words (gone.place + 7)
 
 -- the words show the live entries again, by the nodes that they hold
-abbrev pub IsSlid : Plan → Type 0
-IsSlid p = Shows p.layout p.words p.seen (nodes_in p.words p.layout)
+pub record ShowsAgain (p : Plan) : Type 0 where
+  pub shows : Shows p.layout p.words p.seen (nodes_in p.words p.layout)
+  pub first_free : slice_index p.words 3 ≡ end_of (arena_start p.layout) (nodes_in p.words p.layout)

@@ -18,7 +18,7 @@ use Rattle.nsc_rule.specs.declared.view.View.{View}
 use Rattle.nsc_rule.specs.Entries.{entry_of}
 use Rattle.nsc_rule.specs.Seats.{is_retired, reading, seen_by, walk_by}
 
--- CYCLE was at the latest step what the search began with, and even
+-- CYCLE was at the latest step of the search what it was when it began, and even
 abbrev pub IsSteady : Walk → Type 0
 IsSteady w = (w.known ≡ w.first) × (w.first % 2 ≡ 0)
 

@@ -61,7 +61,7 @@ impl Pass {
         Pass::new(map.words().split_seat::<Copies>(&mut self.seat))
     }
 
-    // It has seen what another one has seen, of which it knows that it begins with what it had seen. Its search stays.
+    // It has seen what another one has seen. Its search stays.
     pub(crate) fn take(&mut self, map: &Map, whole: Pass)
         requires map { map.now.table ≡ self.old.table }
         requires whole { map.now.table ≡ whole.table }

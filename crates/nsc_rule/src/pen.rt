@@ -1,7 +1,8 @@
-ghost use Rattle.std.specs.Prelude.{◌≡◌, ℕ, ◌<◌, ◌≤◌, [], slice_index, slice_set};
+ghost use Rattle.std.specs.Prelude.{◌≡◌, ℕ, ◌<◌, ◌≤◌, true, [], slice_index, slice_set};
 ghost use Rattle.nsc_model.specs.History.{IsPrefix};
+ghost use Rattle.nsc_words.specs.Laid.{Laid};
 ghost use Rattle.nsc_words.specs.Layout.{table_words};
-ghost use Rattle.nsc_rule.specs.Plans.{Later, Sound, no_nodes};
+ghost use Rattle.nsc_rule.specs.Plans.{IsEven, Later, Sound, no_nodes};
 ghost use Rattle.nsc_rule.specs.Strokes.{after};
 ghost use Rattle.nsc_rule.specs.Seats.{plan_by, resting, writing};
 
@@ -50,10 +51,12 @@ impl Pen {
         Pen { seat, heads }
     }
 
-    /// What holds of its plan between any two steps.
+    /// What holds of its plan between any two steps. Where neither an insertion nor a compaction is under way, the words as they stand
+    /// hold its nodes.
     pub fn learn(&self)
         ensures sound { Sound self.now.plan }
         ensures table { self.now.table.words ≡ table_words self.now.plan.layout }
+        ensures laid { self.now.plan.counted ≡ true → IsEven self.now.plan → Laid self.now.plan.words self.now.plan.layout self.now.plan.nodes }
     {
         let _ = &self.seat;
     }

@@ -14,6 +14,8 @@ pub struct Plan {
     pub words: [u64; 0],
     /// The nodes, the newest first. While a compaction is under way, those before it.
     pub nodes: LinkedList<Placed>,
+    /// Whether FIRST_FREE and LOADS count the newest node too: no insertion is under way.
+    pub counted: bool,
     /// Whether another table goes on in place of this one.
     pub retired: bool,
 }
@@ -30,9 +32,9 @@ pub struct Walk {
     pub began: LinkedList<Record>,
     /// What is searched for.
     pub request: Request,
-    /// What CYCLE was at the latest step.
+    /// What CYCLE was at the latest step of a search.
     pub known: u64,
-    /// Where it stands: a node's place, or 0.
+    /// Where it stands: a node's place, 0 at the end of a chain, or the end of the words where it begins.
     pub place: u64,
     /// The entry of the node on which it stands.
     pub on: Option<Entry>,
@@ -83,6 +85,8 @@ pub enum Stroke {
     },
     /// The node at the place that the word names is linked, and its entry inserted.
     Publish,
+    /// The newest node is counted: its insertion is over.
+    Counted,
     /// The node at this place ends.
     End {
         /// The place.

@@ -1,16 +1,16 @@
 // The steps of the pen that write a word.
-ghost use Rattle.std.specs.Prelude.{◌≡◌, ◌≢◌, ℕ, ◌+◌, ◌<◌, ◌≤◌, false, Some, ◌⊎◌, slice_index};
-ghost use Rattle.nsc_model.specs.History.{NoneLive, newest};
+ghost use Rattle.std.specs.Prelude.{◌≡◌, ◌≢◌, ℕ, ◌+◌, ◌<◌, ◌≤◌, false, true, Some, ◌⊎◌, slice_index};
+ghost use Rattle.nsc_model.specs.History.{NoneLive, loads, newest};
 ghost use Rattle.nsc_model.specs.Machine.{last_count};
 ghost use Rattle.nsc_words.specs.Layout.{table_words};
-ghost use Rattle.nsc_rule.specs.Plans.{IsEven, IsOdd};
-ghost use Rattle.nsc_rule.specs.Strokes.{HasNode, IsFree, IsReady, IsSlid, MayEnd, MayUnlink, begun, changed, cleared, finished, invalidated, polled, published, reloaded, stored};
+ghost use Rattle.nsc_rule.specs.Plans.{IsEven, IsOdd, end_in};
+ghost use Rattle.nsc_rule.specs.Strokes.{HasNode, IsFree, IsReady, MayEnd, MayUnlink, ShowsAgain, begun, changed, cleared, finished, invalidation_added, node_counted, poll_added, published, reloads_stored, stored};
 
 use crate::map::Map;
 use crate::pen::Pen;
 use crate::view::Stroke;
 use nsc_model::{Content, Ending};
-use nsc_words::{CYCLE, EPOCH, RELOADS, SOURCE, STATE};
+use nsc_words::{CYCLE, EPOCH, FIRST_FREE, LOADS, RELOADS, SOURCE, STATE};
 use std::snapshot::Snapshot;
 
 impl Pen {
@@ -25,11 +25,11 @@ impl Pen {
         self.write(map, at, word, &Stroke::Plain);
     }
 
-    /// Stores a head word that counts, or FIRST_FREE: one of the places 3 to 9.
+    /// Stores a count of lookups or of insertions that found no room: one of the places 5 to 9.
     pub fn count(&mut self, map: &Map, at: usize, word: u64)
         requires map { map.now.table ≡ self.old.table }
         requires active { self.old.plan.retired ≡ false }
-        requires low { 3 ≤ at }
+        requires low { 5 ≤ at }
         requires high { at ≤ 9 }
         ensures { self.new ≡ record self.old { plan = stored at word self.old.plan } }
     {
@@ -43,7 +43,7 @@ impl Pen {
         requires active { self.old.plan.retired ≡ false }
         requires even { IsEven self.old.plan }
         requires node { HasNode self.old.plan place }
-        ensures { self.new ≡ record self.old { plan = reloaded place count self.old.plan } }
+        ensures { self.new ≡ record self.old { plan = reloads_stored place count self.old.plan } }
     {
         self.learn();
         self.write(map, place + RELOADS, count, &Stroke::Reloads { place });
@@ -58,6 +58,29 @@ impl Pen {
     {
         self.learn();
         self.write(map, bucket, at as u64, &Stroke::Publish);
+    }
+
+    /// Puts FIRST_FREE right behind the newest node.
+    pub fn first_free(&mut self, map: &Map, end: u64)
+        requires map { map.now.table ≡ self.old.table }
+        requires active { self.old.plan.retired ≡ false }
+        requires behind { end ≡ end_in self.old.plan }
+        ensures { self.new ≡ record self.old { plan = stored 3 end self.old.plan } }
+    {
+        self.learn();
+        self.write(map, FIRST_FREE, end, &Stroke::Plain);
+    }
+
+    /// Makes LOADS count the newest node: its insertion is over. FIRST_FREE was put right before.
+    pub fn loads(&mut self, map: &Map, count: u64)
+        requires map { map.now.table ≡ self.old.table }
+        requires active { self.old.plan.retired ≡ false }
+        requires behind { slice_index self.old.plan.words 3 ≡ end_in self.old.plan }
+        requires all { count ≡ loads self.old.plan.seen }
+        ensures { self.new ≡ record self.old { plan = node_counted count self.old.plan } }
+    {
+        self.learn();
+        self.write(map, LOADS, count, &Stroke::Counted);
     }
 
     /// Ends the usable node at a place. That adds the record of its end.
@@ -83,11 +106,12 @@ impl Pen {
         self.write(map, from, to, &Stroke::Plain);
     }
 
-    /// Begins a compaction.
+    /// Begins a compaction. No insertion is under way.
     pub fn odd(&mut self, map: &Map)
         requires map { map.now.table ≡ self.old.table }
         requires active { self.old.plan.retired ≡ false }
         requires even { IsEven self.old.plan }
+        requires counted { self.old.plan.counted ≡ true }
         requires room { slice_index self.old.plan.words 0 < last_count }
         ensures { self.new ≡ record self.old { plan = begun self.old.plan } }
     {
@@ -114,7 +138,7 @@ impl Pen {
         requires map { map.now.table ≡ self.old.table }
         requires active { self.old.plan.retired ≡ false }
         requires odd { IsOdd self.old.plan }
-        requires slid { IsSlid self.old.plan }
+        requires slid { ShowsAgain self.old.plan }
         ensures { self.new ≡ record self.old { plan = finished self.old.plan } }
     {
         self.learn();
@@ -128,7 +152,7 @@ impl Pen {
         requires active { self.old.plan.retired ≡ false }
         requires ended { NoneLive self.old.plan.seen }
         requires room { slice_index self.old.plan.words 1 < last_count }
-        ensures { self.new ≡ record self.old { plan = invalidated self.old.plan } }
+        ensures { self.new ≡ record self.old { plan = invalidation_added self.old.plan } }
     {
         self.learn();
         let epoch = self.head(EPOCH);
@@ -139,7 +163,7 @@ impl Pen {
     pub fn poll(&mut self, map: &Map)
         requires map { map.now.table ≡ self.old.table }
         requires active { self.old.plan.retired ≡ false }
-        ensures { self.new ≡ record self.old { plan = polled self.old.plan } }
+        ensures { self.new ≡ record self.old { plan = poll_added self.old.plan } }
     {
         self.learn();
         let version = self.head(SOURCE);
