@@ -33,7 +33,7 @@ within_is p q shows among =
     let at = within (arena_start p.layout) p.nodes q shows.laid.row among in
     let room = shows.laid.room in
     let node = (shows.laid.stands q among).node in
-    record { low = at.0; high = omega arith; key = node.key; reply = node.reply }
+    record { low = at.0; high = omega arith; key = node.key; reply = node.reply; key_bytes = node.key_bytes; reply_bytes = node.reply_bytes }
 
 -- ---- the entry where a word leads
 

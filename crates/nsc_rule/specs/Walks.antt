@@ -1,6 +1,6 @@
 -- What the steps of a search tell. Each speaks of the moment of its own load, and holds where CYCLE was then still what the search
 -- began with, and even: the last load tells that of all steps at once.
-use Rattle.std.specs.Prelude.{◌≡◌, ◌≢◌, ℕ, ◌+◌, ◌%◌, ◌<◌, ◌≤◌, ◌==◌, not, true, false, ◌⊎◌, if◌then◌else◌, List, length, Option, Some, None}
+use Rattle.std.specs.Prelude.{◌≡◌, ◌≢◌, ℕ, ◌+◌, ◌%◌, ◌<◌, ◌≤◌, ◌==◌, not, true, false, ◌⊎◌, if◌then◌else◌, All, List, length, Option, Some, None}
 use Rattle.nsc_base.specs.Nodes.{node_words, words_for}
 use Rattle.nsc_words.specs.declared.layout.Layout.{Layout}
 use Rattle.nsc_words.specs.Layout.{arena_start, table_words}
@@ -36,12 +36,14 @@ pub record IsFixed (e : Entry) (index word : ℕ) : Type 0 where
   pub key : (i : ℕ) → i < words_for (length e.request.key) → index ≡ 8 + i → word ≡ word_of e.request.key i
   pub reply : (i : ℕ) → i < words_for (length e.answer.bytes) → index ≡ 8 + words_for (length e.request.key) + i → word ≡ word_of e.answer.bytes i
 
--- the node of an entry stands at a place, within the arena
+-- the node of an entry stands at a place, within the arena, and its key and its reply are bytes
 pub record IsWithin (layout : Layout) (place : ℕ) (e : Entry) : Type 0 where
   pub low : arena_start layout ≤ place
   pub high : place + node_words (length e.request.key) (length e.answer.bytes) ≤ table_words layout
   pub key : length e.request.key ≤ key_limit
   pub reply : length e.answer.bytes ≤ kept_limit
+  pub key_bytes : All (λ b. b < 256) e.request.key
+  pub reply_bytes : All (λ b. b < 256) e.answer.bytes
 
 -- a walk goes to the place that a word of a chain had
 pub record Lands (layout : Layout) (old new : Walk) (found : ℕ) : Type 0 where
