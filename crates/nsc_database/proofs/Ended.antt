@@ -1,18 +1,16 @@
 -- Ends of entries keep what holds of a writer while its lock is free.
-use Rattle.std.proofs.Common.{◌≡◌, ℕ, zero, suc, ◌+◌, ◌*◌, ◌≤◌, Bool, true, false, cond, eqb, ◌||◌, ◌⊎◌, not, All, List, [], ◌∷◌, ◌++◌, filter, get_or, length, Option, refl, sym, ap, subst, ◌∙◌, arith, inl, inr}
+use Rattle.std.proofs.Common.{◌≡◌, ℕ, zero, suc, ◌+◌, ◌*◌, ◌≤◌, Bool, true, false, cond, eqb, ◌||◌, ◌⊎◌, not, All, List, [], ◌∷◌, filter, get_or, length, Option, refl, sym, ap, subst, ◌∙◌, arith, inl, inr}
 use Rattle.std.proofs.lemmas.Bool.{eq-eqb}
 use Rattle.std.specs.Bool.{OnTrue}
-use Rattle.nsc_model.specs.declared.answer.Request.{Request}
 use Rattle.nsc_model.specs.declared.conf.DbConf.{DbConf}
 use Rattle.nsc_model.specs.declared.record.Ending.{Ending}
-use Rattle.nsc_model.specs.declared.record.Ending.TheVariants.{Expired, Invalidated, Replaced}
 use Rattle.nsc_model.specs.declared.record.Record.{Record}
-use Rattle.nsc_model.specs.declared.record.Record.TheVariants.{Change, Poll, Load, End, Invalid}
+use Rattle.nsc_model.specs.declared.record.Record.TheVariants.{End}
 use Rattle.nsc_model.specs.Entry.{Entry}
 use Rattle.nsc_model.specs.Live.{Among}
-use Rattle.nsc_model.specs.History.{HasEnd, HasLoad, IsLive, IsPrefix, changes, load_of}
+use Rattle.nsc_model.specs.History.{HasEnd, HasLoad, IsLive, changes}
 use Rattle.nsc_model.specs.Machine.{Kept, Cache, all_words, by_invalidation, ends_of, last_count}
-use Rattle.nsc_model.specs.Reloads.{AreDropped, IsDropped, Reloaded, ends, invalidated_at, replaced}
+use Rattle.nsc_model.specs.Reloads.{ends, invalidated_at}
 use Rattle.nsc_laws.specs.Calls.{Tells, entries_of}
 use Rattle.nsc_laws.proofs.CoreLawRecords.{ended_or_not}
 use Rattle.nsc_laws.proofs.MachineLawEnds.{changes_ends}

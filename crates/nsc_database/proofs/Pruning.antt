@@ -1,5 +1,5 @@
 -- The ends of a tick, one after the other.
-use Rattle.std.proofs.Common.{◌≡◌, ℕ, zero, suc, ◌+◌, ◌≤◌, ◌⊎◌, Bool, true, false, cond, All, List, [], ◌∷◌, get_or, length, Option, Some, None, refl, sym, ap, subst, ◌∙◌, arith, inl, inr}
+use Rattle.std.proofs.Common.{◌≡◌, ℕ, zero, suc, ◌+◌, ◌≤◌, ◌⊎◌, Bool, true, false, cond, All, List, [], ◌∷◌, get_or, length, Option, Some, refl, sym, ap, subst, ◌∙◌, arith, inl, inr}
 use Rattle.std.specs.Bool.{OnTrue}
 use Rattle.nsc_model.specs.declared.conf.DbConf.{DbConf}
 use Rattle.nsc_model.specs.declared.record.Ending.{Ending}
@@ -44,9 +44,6 @@ pub record Leaves (settings : DbConf) (limit : Option ℕ) (ticked : ℕ) (due :
   pub keeps : Keeps settings limit ticked w'
   pub told : Tells w'.seen w'.cache
   pub on : IsPrefix w.seen w'.seen
-  pub table : w'.table ≡ w.table
-  pub layout : w'.layout ≡ w.layout
-  pub slide : w'.slide ≡ w.slide
   pub cycle : w'.cache.cycle ≡ w.cache.cycle
   pub used : w'.cache.used ≡ w.cache.used
   pub gone : (n : ℕ) → HasNumber due n → HasEnd w'.seen n
@@ -91,9 +88,6 @@ one_leaves settings limit now ticked d w due t k = by_live (has_number d.number 
     keeps = keeps_ended settings limit ticked d.number cause w (right_cause limit now w.seen d t.legal due) k;
     told = ended_tells w.seen w.cache d.number cause t there (due_over limit now w.seen d t.legal due);
     on = (End d.number cause ∷ [], refl);
-    table = refl;
-    layout = refl;
-    slide = refl;
     cycle = refl;
     used = refl;
     gone = λ n has. elim has [ inl same ↦ inl same | inr none ↦ absurd none ];
@@ -102,16 +96,13 @@ one_leaves settings limit now ticked d w due t k = by_live (has_number d.number 
     keeps = k;
     told = t;
     on = ([], refl);
-    table = refl;
-    layout = refl;
-    slide = refl;
     cycle = refl;
     used = refl;
     gone = λ n has. elim has [ inl same ↦ subst (HasEnd w.seen) same (gone_ended w.seen w.cache d.number due.entry t due.inserted due.numbered there) | inr none ↦ absurd none ];
   }
 
 pub all_leave : (settings : DbConf) (limit : Option ℕ) (now ticked : ℕ) (due : List Due) (w : Writer) → All (IsDue limit now w.seen) due → Tells w.seen w.cache → Keeps settings limit ticked w → Leaves settings limit ticked due w (pruned_by now due w)
-all_leave settings limit now ticked [] w all t k = record { keeps = k; told = t; on = ([], refl); table = refl; layout = refl; slide = refl; cycle = refl; used = refl; gone = λ n has. absurd has }
+all_leave settings limit now ticked [] w all t k = record { keeps = k; told = t; on = ([], refl); cycle = refl; used = refl; gone = λ n has. absurd has }
 all_leave settings limit now ticked (d ∷ due) w all t k =
     let first = one_leaves settings limit now ticked d w (head_of (IsDue limit now w.seen) d due all) t k in
     let w1 = pruned_one now d w in
@@ -120,9 +111,6 @@ all_leave settings limit now ticked (d ∷ due) w all t k =
       keeps = rest.keeps;
       told = rest.told;
       on = prefix_through w.seen w1.seen (pruned_by now due w1).seen first.on rest.on;
-      table = rest.table ∙ first.table;
-      layout = rest.layout ∙ first.layout;
-      slide = rest.slide ∙ first.slide;
       cycle = rest.cycle ∙ first.cycle;
       used = rest.used ∙ first.used;
       gone = λ n has. elim has [ inl same ↦ end_on w1.seen (pruned_by now due w1).seen n rest.on (first.gone n (inl same)) | inr more ↦ rest.gone n more ];

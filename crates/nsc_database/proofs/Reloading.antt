@@ -26,7 +26,8 @@ use Rattle.nsc_database.specs.Rests.{IsPacked, Keeps}
 use Rattle.nsc_database.specs.Ticks.{IsDue, IsPending, LoadsBut}
 use Rattle.nsc_database.proofs.Again.{again_on, but_more, but_none, but_wider, content_on, end_before, live_later, load_of_is, unmoved_on, version_has}
 use Rattle.nsc_database.proofs.Pruning.{all_due_on, one_leaves}
-use Rattle.nsc_database.proofs.Shown.{inserts_on, is_inserted}
+use Rattle.nsc_turns.proofs.Renewed.{leaves_inserted}
+use Rattle.nsc_database.proofs.Shown.{is_inserted}
 
 -- ---- ends
 
@@ -156,7 +157,7 @@ pend_inserted said l d due w w' t packed i r answered stamp asked waits = by_fin
   is = is_inserted said l w w' t packed i r
 
   on : IsPrefix w.seen w'.seen
-  on = (inserts_on said l w w' i).on
+  on = (leaves_inserted said l w w' i).on
 
   by_fine : IsFine w.layout.arena said w'.seen ⊎ MayBeUnmoved w'.seen → LoadsBut w.layout.arena (IsPending (d ∷ due)) w.seen → LoadsBut w.layout.arena (IsPending due) w'.seen
   by_fine (inr many) before = inr many

@@ -1,5 +1,5 @@
 -- The ends of a tick with their compaction, and what is loaded again after them.
-use Rattle.std.proofs.Common.{◌≡◌, ◌∙◌, drop, ℕ, zero, suc, ◌+◌, ◌<◌, ◌≤◌, ◌⊎◌, Bool, true, false, All, List, [], ◌∷◌, cond, ltb, get_or, length, map, Option, Some, None, Result, Ok, Err, refl, sym, ap, subst, arith, inl, inr}
+use Rattle.std.proofs.Common.{◌≡◌, ◌∙◌, ℕ, ◌+◌, ◌≤◌, Bool, true, false, All, List, [], ◌∷◌, cond, ltb, length, map, Option, Some, None, Result, Ok, Err, refl, sym, ap, subst, arith, inr}
 use Rattle.std.proofs.Math.Nat.{min-le_left}
 use Rattle.std.proofs.lemmas.List.{length-map}
 use Rattle.std.specs.Bool.{OnFalse, OnTrue}
@@ -12,23 +12,20 @@ use Rattle.nsc_model.specs.Content.{Content}
 use Rattle.nsc_model.specs.declared.record.Record.{Record}
 use Rattle.nsc_model.specs.History.{HasEnd, IsPrefix, Legal, PolledSince, version_in}
 use Rattle.nsc_model.specs.Machine.{all_words, last_count, next_count, stopped, unchanged}
-use Rattle.nsc_model.specs.Reloads.{replaced}
 use Rattle.nsc_model.specs.Stores.{IsUnmoved, LoadsAgain}
 use Rattle.nsc_laws.specs.Calls.{Tells}
 use Rattle.nsc_writer.specs.declared.loaded.Inserted.{Inserted}
-use Rattle.nsc_writer.specs.declared.loaded.Inserted.TheVariants as inserted
-use Rattle.nsc_shelf.specs.Shelf.{has_number}
 use Rattle.nsc_words.specs.declared.layout.Layout.{Layout}
-use Rattle.nsc_pruner.specs.Due.{Due, IsOver, due_cause_of, marked_by, pruned_by, pruned_one}
+use Rattle.nsc_pruner.specs.Due.{Due, IsOver, marked_by, pruned_by, pruned_one}
 use Rattle.nsc_writer.specs.Loaded.{Loaded}
-use Rattle.nsc_writer.specs.Writer.{Inserts, IsAnswered, IsRefused, Writer, ending_of, without_entry}
+use Rattle.nsc_writer.specs.Writer.{Inserts, IsAnswered, IsRefused, Writer}
 use Rattle.nsc_pruner.proofs.Pruned.{head_of, tail_of}
 use Rattle.nsc_turns.specs.declared.answering.Answering.{Answering}
 use Rattle.nsc_turns.specs.Loads.{anew_of, loaded_of}
 use Rattle.nsc_turns.specs.Ticks.{Reloads, ReloadsOne, Renews, compacted_for, ended_of}
 use Rattle.nsc_turns.specs.Turns.{Completes, Stops}
 use Rattle.nsc_turns.proofs.Machines.{all_answered}
-use Rattle.nsc_turns.proofs.Renewed.{answered_on, spends}
+use Rattle.nsc_turns.proofs.Renewed.{answered_on, leaves_inserted, leaves_pruned, spends}
 use Rattle.nsc_writer.proofs.Later.{end_on, polled_on, version_on}
 use Rattle.nsc_database.specs.Rests.{IsPacked, Keeps, Rests, IsAtRest}
 use Rattle.nsc_database.specs.Steady.{KeepsVersion}
@@ -40,15 +37,7 @@ use Rattle.nsc_laws.proofs.Reloads.{replaced_on}
 use Rattle.nsc_database.proofs.Pruning.{all_count, all_leave}
 use Rattle.nsc_database.proofs.Reloading.{pend_inserted, pend_past, pends}
 use Rattle.nsc_database.proofs.Rests.{rests_inserted, rests_same, rests_through}
-use Rattle.nsc_database.proofs.Steady.{keeps_through, still_kept, version_pruned}
-
--- ends leave the count of invalidations
-epoch_pruned : (now : ℕ) (due : List Due) (w : Writer) → (pruned_by now due w).cache.epoch ≡ w.cache.epoch
-epoch_pruned now [] w = refl
-epoch_pruned now (d ∷ due) w = epoch_pruned now due (pruned_one now d w) ∙ one (has_number d.number w.cache.entries) where
-  one : (b : Bool) → (cond b (without_entry d.number (ending_of (due_cause_of now d)) w) w).cache.epoch ≡ w.cache.epoch
-  one true = refl
-  one false = refl
+use Rattle.nsc_database.proofs.Steady.{keeps_through, still_kept}
 
 -- what is known of the writer after them
 pub record Swept (settings : DbConf) (limit : Option ℕ) (now ticked : ℕ) (due : List Due) (w w' : Writer) : Type 0 where
@@ -77,7 +66,8 @@ swept_none settings limit now ticked due w all t k p none =
     let l = all_leave settings limit now ticked due w all t k in
     let c = all_count settings limit now ticked due w all t k in
     let same = c.same (ap (λ (ds : List Due). length ds) none) in
-    record { legal = l.told.legal; on = l.on; table = l.table; layout = l.layout; slide = l.slide; keeps = l.keeps; packed = subst IsPacked (sym same) p; gone = l.gone; renewed = c.renewed; epoch = epoch_pruned now due w; waits = waits_of settings limit now ticked due w all t k l.layout; version = version_pruned now due w }
+    let v = leaves_pruned now due w in
+    record { legal = l.told.legal; on = v.on; table = v.table; layout = v.layout; slide = v.slide; keeps = l.keeps; packed = subst IsPacked (sym same) p; gone = l.gone; renewed = c.renewed; epoch = v.epoch; waits = waits_of settings limit now ticked due w all t k v.layout; version = record { version = v.version; sources = v.sources } }
 
 -- some ended, and there was a compaction
 swept_some : (settings : DbConf) (limit : Option ℕ) (now ticked : ℕ) (due : List Due) (w : Writer) → All (IsDue limit now w.seen) due → Tells w.seen w.cache → Keeps settings limit ticked w → IsPacked w → 1 ≤ length (ended_of (marked_by now due w)) → Swept settings limit now ticked due w (compacted_by (pruned_by now due w))
@@ -88,19 +78,19 @@ swept_some settings limit now ticked due w all t k p some =
     let low = p.cycles in
     let cycle = l.cycle in
     let more = c.ended in
-    let v = version_pruned now due w in
+    let v = leaves_pruned now due w in
     record {
       legal = l.told.legal;
-      on = l.on;
-      table = l.table;
-      layout = l.layout;
-      slide = l.slide;
+      on = v.on;
+      table = v.table;
+      layout = v.layout;
+      slide = v.slide;
       keeps = keeps_compacted settings limit ticked (all_words w1.cache.entries) (w1.cache.cycle + 2) w1 (compacted_by w1) refl l.keeps;
       packed = packed_compacted w1 (compacted_by w1) refl (omega arith);
       gone = l.gone;
       renewed = c.renewed;
-      epoch = epoch_pruned now due w;
-      waits = waits_of settings limit now ticked due w all t k l.layout;
+      epoch = v.epoch;
+      waits = waits_of settings limit now ticked due w all t k v.layout;
       version = record { version = v.version; sources = v.sources };
     }
 
@@ -127,9 +117,10 @@ swept_spent settings limit now ticked due w w' all t k p is high =
     let low = p.cycles in
     let cycle = l.cycle in
     let more = c.ended in
+    let v = leaves_pruned now due w in
     let high1 : last_count ≤ w1.cache.cycle = subst (λ (x : Writer). last_count ≤ x.cache.cycle) is high in
     subst (Swept settings limit now ticked due w) (sym is)
-    (record { legal = l.told.legal; on = l.on; table = l.table; layout = l.layout; slide = l.slide; keeps = l.keeps; packed = packed_spent w1 w1 refl high1 (omega arith); gone = l.gone; renewed = c.renewed; epoch = epoch_pruned now due w; waits = waits_of settings limit now ticked due w all t k l.layout; version = version_pruned now due w })
+    (record { legal = l.told.legal; on = v.on; table = v.table; layout = v.layout; slide = v.slide; keeps = l.keeps; packed = packed_spent w1 w1 refl high1 (omega arith); gone = l.gone; renewed = c.renewed; epoch = v.epoch; waits = waits_of settings limit now ticked due w all t k v.layout; version = record { version = v.version; sources = v.sources } })
 
 pub all_over : (limit : Option ℕ) (now : ℕ) (h : List Record) (due : List Due) → All (IsDue limit now h) due → All (IsOver h now) due
 all_over limit now h due all i d low = let x = all i d low in (x.entry, x.inserted, x.numbered, x.over)
@@ -170,14 +161,6 @@ at_rest_swept {settings} {limit} {held} {which} {ticked} {now} {due} w w' w'' s 
 next_low : (n : ℕ) → next_count n ≤ n + 1
 next_low n = min-le_left (n + 1) last_count
 
-pub epoch_inserted : (said : Inserted) (l : Loaded) (w w' : Writer) → Inserts said l w w' → w'.cache.epoch ≡ w.cache.epoch
-epoch_inserted (inserted.Done number) l w w' i = ap (λ (x : Writer). x.cache.epoch) i.2
-epoch_inserted (inserted.TooLarge size) l w w' i = ap (λ (x : Writer). x.cache.epoch) i.1
-epoch_inserted (inserted.Discarded noted epoch) l w w' i = ap (λ (x : Writer). x.cache.epoch) i.1
-epoch_inserted (inserted.Present number) l w w' i = ap (λ (x : Writer). x.cache.epoch) i.1
-epoch_inserted (inserted.Spent count) l w w' i = ap (λ (x : Writer). x.cache.epoch) i.1
-epoch_inserted (inserted.Full need free) l w w' i = ap (λ (x : Writer). x.cache.epoch) i.1
-
 -- ---- what waits, one after the other
 
 -- the writer goes on, keeps the count of invalidations, and these wait still
@@ -200,7 +183,7 @@ one_waits a files d due w0 w mid legal packed renewed answered stamp waits one =
       let few = next_low d.reloads in
       let rise = replaced_on w0.seen w.seen d.request waits.0.on in (
         rests_through w0 w mid waits.0 (rests_inserted said l w mid i (omega arith)),
-        epoch_inserted said l w mid i ∙ waits.1,
+        (leaves_inserted said l w mid i).epoch ∙ waits.1,
         subst (λ (n : ℕ). LoadsBut n (IsPending due) mid.seen) room
             (pend_inserted said l d due w mid told (waits.0.packed packed) i why (answered_on w0.seen w.seen l told.legal legal waits.0.on answered) (stamp ∙ sym waits.1) refl (subst (λ (n : ℕ). LoadsBut n (IsPending (d ∷ due)) w.seen) (sym room) waits.2)),
       )

@@ -1,5 +1,5 @@
 -- What holds of a writer while its lock is free stays so through each of its calls.
-use Rattle.std.proofs.Common.{◌≡◌, ℕ, zero, suc, ◌+◌, ◌<◌, ◌≤◌, Bool, true, false, not, ◌&&◌, cond, eqb, All, List, [], ◌∷◌, ◌++◌, get_or, sum_by, add-zero, Option, Some, None, Ok, Err, refl, sym, ap, subst, ◌∙◌, arith, inl, inr}
+use Rattle.std.proofs.Common.{◌≡◌, ℕ, zero, suc, ◌+◌, ◌<◌, ◌≤◌, Bool, true, false, not, ◌&&◌, cond, eqb, All, List, [], ◌∷◌, ◌++◌, get_or, sum_by, add-zero, Option, Ok, Err, refl, sym, ap, subst, ◌∙◌, arith, inl, inr}
 use Rattle.std.specs.Bool.{OnTrue}
 use Rattle.std.proofs.lemmas.Bool.{eqb-true, false≢true}
 use Rattle.std.proofs.lemmas.List.Elements.{All-append}
@@ -28,8 +28,8 @@ use Rattle.nsc_writer.proofs.Later.{prefix_through}
 use Rattle.nsc_model.specs.Stores.{LoadsAgain}
 use Rattle.nsc_database.specs.Rests.{IsPacked, IsReloaded, Keeps, Rests}
 use Rattle.nsc_database.proofs.Again.{again_more}
-use Rattle.nsc_database.proofs.Shown.{inserts_on}
-use Rattle.nsc_database.proofs.Steady.{keeps_through, version_inserted}
+use Rattle.nsc_turns.proofs.Renewed.{leaves_inserted}
+use Rattle.nsc_database.proofs.Steady.{keeps_through}
 
 -- ---- versions of a legal history
 
@@ -276,7 +276,7 @@ rests_looked found request (looked.Hit hit) w w' reply l = subst (Rests w) (sym 
 
 pub rests_inserted : (said : Inserted) (loaded : Loaded) (w w' : Writer) → Inserts said loaded w w' → loaded.reloads ≤ replaced w.seen loaded.request → Rests w w'
 rests_inserted said loaded w w' i low =
-    let goes = inserts_on said loaded w w' i in
+    let goes = leaves_inserted said loaded w w' i in
     record {
       on = goes.on;
       table = goes.table;
@@ -285,5 +285,5 @@ rests_inserted said loaded w w' i low =
       keeps = λ settings limit ticked k. keeps_insert settings limit ticked said loaded w w' i low k;
       packed = λ q. packed_insert said loaded w w' i q;
       again = λ l. again_insert said loaded w w' i l;
-      version = version_inserted said loaded w w' i;
+      version = record { version = goes.version; sources = goes.sources };
     }

@@ -26,11 +26,11 @@ use Rattle.nsc_writer.specs.declared.loaded.Stamp.{Stamp}
 use Rattle.nsc_shelf.specs.declared.entry.Hit.{Hit}
 use Rattle.nsc_writer.specs.Loaded.{Loaded, kept_of}
 use Rattle.nsc_shelf.specs.Shelf.{GivesHit, number_of}
-use Rattle.nsc_writer.specs.Writer.{Writer, Inserts, IsAnswered, IsNewest, IsRefused, Polls, emptied_by}
+use Rattle.nsc_writer.specs.Writer.{Writer, Inserts, IsNewest, IsRefused, Polls, emptied_by}
 use Rattle.nsc_sourcebook.specs.Book.{Fetched, Polled, PollsBook, SourceBook}
 use Rattle.nsc_sourcebook.proofs.Newest.{newest_held}
 use Rattle.nsc_writer.proofs.Told.{asked_none, invalidations_rise}
-use Rattle.nsc_writer.proofs.Later.{prefix_through, version_on, polled_on}
+use Rattle.nsc_writer.proofs.Later.{prefix_through}
 use Rattle.nsc_turns.specs.declared.entries.HitOrMiss.{HitOrMiss}
 use Rattle.nsc_turns.specs.declared.entries.HitOrMiss.TheVariants as looked
 use Rattle.nsc_turns.specs.Turns.{Looks as LooksUp}
@@ -171,14 +171,6 @@ polls_on fetched epoch b b' w w' (Ok p) q = (polls_looks fetched.content epoch w
 polls_on fetched epoch b b' w w' (Err spent) q = same_writer w w' (polls_spent fetched.content epoch w w' spent q.0).2
 
 -- ---- an insertion
-
-pub inserts_on : (said : Inserted) (loaded : Loaded) (w w' : Writer) → Inserts said loaded w w' → GoesOn w w'
-inserts_on (inserted.Done number) loaded w w' i = subst (GoesOn w) (sym i.2) (record { on = (Load (kept_of loaded w.cache.inserted).entry ∷ [], refl); table = refl; layout = refl; slide = refl })
-inserts_on (inserted.TooLarge size) loaded w w' i = same_writer w w' i.1
-inserts_on (inserted.Discarded noted epoch) loaded w w' i = same_writer w w' i.1
-inserts_on (inserted.Present number) loaded w w' i = same_writer w w' i.1
-inserts_on (inserted.Spent count) loaded w w' i = same_writer w w' i.1
-inserts_on (inserted.Full need free) loaded w w' i = subst (GoesOn w) (sym i.1) (record { on = ([], refl); table = refl; layout = refl; slide = refl })
 
 loads_rise : (more h : List Record) → loads h ≤ loads (more ++ h)
 loads_rise [] h = omega arith

@@ -15,13 +15,8 @@ use Rattle.nsc_model.specs.Reads.{IsOfHeld}
 use Rattle.nsc_model.proofs.Contents.{content_same}
 use Rattle.nsc_laws.specs.Calls.{Tells}
 use Rattle.nsc_laws.proofs.SpelledHistories.{version_below}
-use Rattle.nsc_writer.specs.declared.loaded.Inserted.{Inserted}
-use Rattle.nsc_writer.specs.declared.loaded.Inserted.TheVariants as inserted
 use Rattle.nsc_writer.specs.declared.loaded.Stamp.{Stamp}
-use Rattle.nsc_pruner.specs.Due.{Due, due_cause_of, pruned_by, pruned_one}
-use Rattle.nsc_shelf.specs.Shelf.{has_number}
-use Rattle.nsc_writer.specs.Loaded.{Loaded}
-use Rattle.nsc_writer.specs.Writer.{Writer, Inserts, Polls, emptied_by, ending_of, without_entry}
+use Rattle.nsc_writer.specs.Writer.{Writer, Polls, emptied_by}
 use Rattle.nsc_writer.proofs.Later.{version_on}
 use Rattle.nsc_database.specs.Steady.{HasOne, IsSteady, IsStill, KeepsVersion}
 
@@ -30,32 +25,11 @@ use Rattle.nsc_database.specs.Steady.{HasOne, IsSteady, IsStill, KeepsVersion}
 pub still_kept : (files : Content) (which : Db) (before after : Cache) → KeepsVersion before after → IsStill files which before → IsStill files which after
 still_kept files which before after k s = record { first = k.version ∙ s.first; part = k.sources ∙ s.part }
 
-pub keeps_same : (w w' : Writer) → w' ≡ w → KeepsVersion w.cache w'.cache
-keeps_same w w' is = record { version = ap (λ (x : Writer). x.cache.newest_version) is; sources = ap (λ (x : Writer). x.cache.sources) is }
-
 pub keeps_through : (a b c : Cache) → KeepsVersion a b → KeepsVersion b c → KeepsVersion a c
 keeps_through a b c k l = record { version = l.version ∙ k.version; sources = l.sources ∙ k.sources }
 
-pub version_inserted : (said : Inserted) (loaded : Loaded) (w w' : Writer) → Inserts said loaded w w' → KeepsVersion w.cache w'.cache
-version_inserted (inserted.Done number) loaded w w' i = subst (λ (x : Writer). KeepsVersion w.cache x.cache) (sym i.2) (record { version = refl; sources = refl })
-version_inserted (inserted.TooLarge size) loaded w w' i = keeps_same w w' i.1
-version_inserted (inserted.Discarded noted epoch) loaded w w' i = keeps_same w w' i.1
-version_inserted (inserted.Present number) loaded w w' i = keeps_same w w' i.1
-version_inserted (inserted.Spent count) loaded w w' i = keeps_same w w' i.1
-version_inserted (inserted.Full need free) loaded w w' i = subst (λ (x : Writer). KeepsVersion w.cache x.cache) (sym i.1) (record { version = refl; sources = refl })
-
 pub version_emptied : (w w' : Writer) → w' ≡ emptied_by w → KeepsVersion w.cache w'.cache
 version_emptied w w' is = subst (λ (x : Writer). KeepsVersion w.cache x.cache) (sym is) (record { version = refl; sources = refl })
-
-version_pruned_one : (now : ℕ) (d : Due) (w : Writer) → KeepsVersion w.cache (pruned_one now d w).cache
-version_pruned_one now d w = by_test (has_number d.number w.cache.entries) where
-  by_test : (b : Bool) → KeepsVersion w.cache (cond b (without_entry d.number (ending_of (due_cause_of now d)) w) w).cache
-  by_test true = record { version = refl; sources = refl }
-  by_test false = record { version = refl; sources = refl }
-
-pub version_pruned : (now : ℕ) (due : List Due) (w : Writer) → KeepsVersion w.cache (pruned_by now due w).cache
-version_pruned now [] w = record { version = refl; sources = refl }
-version_pruned now (d ∷ due) w = keeps_through w.cache (pruned_one now d w).cache (pruned_by now due (pruned_one now d w)).cache (version_pruned_one now d w) (version_pruned now due (pruned_one now d w))
 
 -- a poll of the database's part of the files confirms the version
 pub still_polled : (files : Content) (all : Content) (which : Db) (epoch : ℕ) (w w' : Writer) (stamp : Stamp) → Polls (polled files w.cache) epoch w w' (Ok stamp) → IsStill all which w.cache → files ≡ part_of which all → IsStill all which w'.cache

@@ -38,26 +38,38 @@ all_on seen h loads legal legal_seen p all i d low = some_on seen h (get_or load
 
 -- ---- ends
 
--- what turns leave of a writer: its history goes on, and it has the same words and the same newest content
+-- what the ends, the compaction and the insertions of a tick leave of a writer: its history goes on, and it has the same words, the same
+-- newest version and the same count of invalidations
 pub record Leaves (w w' : Writer) : Type 0 where
   pub on : IsPrefix w.seen w'.seen
+  pub table : w'.table ≡ w.table
   pub slide : w'.slide ≡ w.slide
   pub layout : w'.layout ≡ w.layout
+  pub version : w'.cache.newest_version ≡ w.cache.newest_version
   pub sources : w'.cache.sources ≡ w.cache.sources
+  pub epoch : w'.cache.epoch ≡ w.cache.epoch
 
 leaves_all : (w : Writer) → Leaves w w
-leaves_all w = record { on = ([], refl); slide = refl; layout = refl; sources = refl }
+leaves_all w = record { on = ([], refl); table = refl; slide = refl; layout = refl; version = refl; sources = refl; epoch = refl }
 
 pub leaves_same : (w w' : Writer) → w' ≡ w → Leaves w w'
 leaves_same w w' is = subst (Leaves w) (sym is) (leaves_all w)
 
 pub leaves_through : (a b c : Writer) → Leaves a b → Leaves b c → Leaves a c
-leaves_through a b c l m = record { on = prefix_through a.seen b.seen c.seen l.on m.on; slide = m.slide ∙ l.slide; layout = m.layout ∙ l.layout; sources = m.sources ∙ l.sources }
+leaves_through a b c l m = record {
+  on = prefix_through a.seen b.seen c.seen l.on m.on;
+  table = m.table ∙ l.table;
+  slide = m.slide ∙ l.slide;
+  layout = m.layout ∙ l.layout;
+  version = m.version ∙ l.version;
+  sources = m.sources ∙ l.sources;
+  epoch = m.epoch ∙ l.epoch;
+}
 
 leaves_one : (now : ℕ) (d : Due) (w : Writer) → Leaves w (pruned_one now d w)
 leaves_one now d w = by_test (has_number d.number w.cache.entries) where
   by_test : (b : Bool) → Leaves w (cond b (without_entry d.number (ending_of (due_cause_of now d)) w) w)
-  by_test true = record { on = (End d.number (ending_of (due_cause_of now d)) ∷ [], refl); slide = refl; layout = refl; sources = refl }
+  by_test true = record { on = (End d.number (ending_of (due_cause_of now d)) ∷ [], refl); table = refl; slide = refl; layout = refl; version = refl; sources = refl; epoch = refl }
   by_test false = leaves_all w
 
 pub leaves_pruned : (now : ℕ) (due : List Due) (w : Writer) → Leaves w (pruned_by now due w)
@@ -82,7 +94,7 @@ pub leaves_compacted : (ended : List Due) (w w' : Writer) → Completes (compact
 leaves_compacted [] w w' p = leaves_same w w' p
 leaves_compacted (d ∷ ended) w w' p = by_cycle (ltb w.cache.cycle last_count) p where
   by_cycle : (b : Bool) → Completes (cond b (Ok (unchanged (record w.cache { cycle = w.cache.cycle + 2; used = all_words w.cache.entries }))) (Err (stopped w.cache))) w w' → Leaves w w'
-  by_cycle true q = subst (Leaves w) (sym q) (record { on = ([], refl); slide = refl; layout = refl; sources = refl })
+  by_cycle true q = subst (Leaves w) (sym q) (record { on = ([], refl); table = refl; slide = refl; layout = refl; version = refl; sources = refl; epoch = refl })
   by_cycle false q = absurd q
 
 -- where it stops, the count of the beginnings and the ends of slides stands at its end
@@ -113,12 +125,12 @@ last_reloaded [] w = refl
 last_reloaded (d ∷ due) w = refl
 
 pub leaves_inserted : (said : Inserted) (l : Loaded) (w w' : Writer) → Inserts said l w w' → Leaves w w'
-leaves_inserted (inserted.Done number) l w w' i = subst (Leaves w) (sym i.2) (record { on = (Load (kept_of l w.cache.inserted).entry ∷ [], refl); slide = refl; layout = refl; sources = refl })
+leaves_inserted (inserted.Done number) l w w' i = subst (Leaves w) (sym i.2) (record { on = (Load (kept_of l w.cache.inserted).entry ∷ [], refl); table = refl; slide = refl; layout = refl; version = refl; sources = refl; epoch = refl })
 leaves_inserted (inserted.TooLarge size) l w w' i = leaves_same w w' i.1
 leaves_inserted (inserted.Discarded noted epoch) l w w' i = leaves_same w w' i.1
 leaves_inserted (inserted.Present number) l w w' i = leaves_same w w' i.1
 leaves_inserted (inserted.Spent count) l w w' i = leaves_same w w' i.1
-leaves_inserted (inserted.Full need free) l w w' i = subst (Leaves w) (sym i.1) (record { on = ([], refl); slide = refl; layout = refl; sources = refl })
+leaves_inserted (inserted.Full need free) l w w' i = subst (Leaves w) (sym i.1) (record { on = ([], refl); table = refl; slide = refl; layout = refl; version = refl; sources = refl; epoch = refl })
 
 -- one that was ended, and one that was not
 pub one_ended : (said : Inserted) (l : Loaded) (d : Due) (w w' : Writer) → d.ended ≡ true → Inserts said l w w' → IsRefused said l w → Tells w.seen w.cache → ReloadsOne d (Some l) w w'

@@ -1,4 +1,4 @@
-use Rattle.std.proofs.Common.{◌≡◌, ◌∙◌, ℕ, All, List, Option, ap, arith, map, subst, sym}
+use Rattle.std.proofs.Common.{◌∙◌, ℕ, All, List, Option, ap, arith, subst, sym}
 use Rattle.nsc_model.specs.declared.conf.DbConf.{DbConf}
 use Rattle.nsc_model.specs.declared.record.Record.{Record}
 use Rattle.nsc_model.specs.History.{IsPrefix}

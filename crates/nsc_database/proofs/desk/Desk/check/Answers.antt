@@ -1,4 +1,4 @@
-use Rattle.std.proofs.Common.{ℕ, Option, Ok, ap, subst, sym}
+use Rattle.std.proofs.Common.{ℕ, Option, Ok, subst, sym}
 use Rattle.nsc_model.specs.declared.conf.DbConf.{DbConf}
 use Rattle.nsc_model.specs.History.{NoneLive}
 use Rattle.nsc_model.specs.Machine.{is_outdated}

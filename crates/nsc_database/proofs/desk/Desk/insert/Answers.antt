@@ -1,6 +1,5 @@
 use Rattle.std.proofs.Common.{ℕ, List, ap, arith, refl, subst}
 use Rattle.nsc_model.specs.declared.record.Record.{Record}
-use Rattle.nsc_writer.specs.Writer.{Writer}
 use Rattle.nsc_shelf.specs.Uses.{counted}
 use Rattle.nsc_turns.specs.Turns.{missed}
 use Rattle.nsc_database.specs.Holds.{IsInserted}

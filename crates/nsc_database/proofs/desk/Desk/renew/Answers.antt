@@ -1,7 +1,5 @@
 use Rattle.std.proofs.Common.{◌∙◌, All, ap, subst, sym}
 use Rattle.nsc_words.specs.declared.layout.Layout.{Layout}
-use Rattle.nsc_model.specs.Settings.{settings_of}
-use Rattle.nsc_pruner.specs.Due.{Due}
 use Rattle.nsc_database.specs.Rests.{Desk}
 use Rattle.nsc_database.specs.Ticks.{AreAnew, IsDue}
 use Rattle.nsc_database.proofs.Renewed.{all_over, answered_anew, as_many, renewal}
