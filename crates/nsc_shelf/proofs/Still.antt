@@ -43,6 +43,7 @@ some_odd words held going = by (eqb (slice_index words 0 % 2) 0) refl going wher
 pub record Rests (plan : Plan) (layout : Layout) (count : ℕ) (mark : Mark) (hints : List ℕ) : Type 0 where
   pub even : IsEven plan
   pub laid_out : plan.layout ≡ layout
+  pub settled : plan.counted ≡ true
   pub back : nodes_in plan.words layout ≡ plan.nodes
   pub laid : Laid plan.words layout plan.nodes
   pub shelf : IsShelf plan.words layout count mark
@@ -55,6 +56,7 @@ still {plan} {layout} {count} {mark} {hints} none held =
     record {
       even = even;
       laid_out = held.laid_out;
+      settled = held.settled;
       back = read_back plan.words layout plan.nodes laid;
       laid = laid;
       shelf = shelf_by plan.words layout plan.nodes (slice_index plan.words 4) count mark held.sizes laid held.entries refl held.counted held.live held.marked;
@@ -72,12 +74,13 @@ pub record Moved (plan plan' : Plan) (layout : Layout) (count : ℕ) (mark : Mar
   pub epoch : slice_index plan'.words 1 ≡ slice_index plan.words 1
   pub source : slice_index plan'.words 2 ≡ slice_index plan.words 2
 
-pub moved : {plan plan' : Plan} {layout : Layout} {count count' : ℕ} {mark mark' : Mark} {hints : List ℕ} (hints' : List ℕ) (change : Shelf → Shelf) → Rests plan layout count mark hints → plan'.layout ≡ plan.layout → Laid plan'.words layout plan'.nodes → Altered plan.words plan'.words layout count' mark' (change (shelf_of plan.words layout)) → AreHints hints' layout plan'.nodes → Moved plan plan' layout count' mark' hints' change
-moved {plan} {plan'} {layout} {count' = count'} {mark' = mark'} hints' change rests same laid now hinted =
+pub moved : {plan plan' : Plan} {layout : Layout} {count count' : ℕ} {mark mark' : Mark} {hints : List ℕ} (hints' : List ℕ) (change : Shelf → Shelf) → Rests plan layout count mark hints → plan'.layout ≡ plan.layout → plan'.counted ≡ true → Laid plan'.words layout plan'.nodes → Altered plan.words plan'.words layout count' mark' (change (shelf_of plan.words layout)) → AreHints hints' layout plan'.nodes → Moved plan plan' layout count' mark' hints' change
+moved {plan} {plan'} {layout} {count' = count'} {mark' = mark'} hints' change rests same settled laid now hinted =
     let back = read_back plan'.words layout plan'.nodes laid in
     record {
       held = record {
         laid_out = same ∙ rests.laid_out;
+        settled = settled;
         sizes = rests.shelf.sizes;
         laid = λ even. laid;
         entries = subst (λ (ps : List Placed). AreEntries ps (slice_index plan'.words 4)) back now.shelf.entries;
@@ -94,7 +97,7 @@ moved {plan} {plan'} {layout} {count' = count'} {mark' = mark'} hints' change re
 
 -- a count was set
 pub counted_moved : {plan : Plan} {layout : Layout} {count : ℕ} {mark : Mark} {hints : List ℕ} (at word : ℕ) (change : Shelf → Shelf) → Rests plan layout count mark hints → Counted plan.words (set plan.words at word) layout count mark (change (shelf_of plan.words layout)) → Moved plan (stored at word plan) layout count mark hints change
-counted_moved {plan} {layout} {hints = hints} at word change rests now = moved hints change rests refl (subst (Laid (set plan.words at word) layout) rests.back now.laid) now.altered rests.hinted
+counted_moved {plan} {layout} {hints = hints} at word change rests now = moved hints change rests refl rests.settled (subst (Laid (set plan.words at word) layout) rests.back now.laid) now.altered rests.hinted
 
 -- the number of the newest version was set, or that of the invalidations
 pub record Numbered (plan : Plan) (words : List ℕ) (seen : List Record) (layout : Layout) (count : ℕ) (mark : Mark) (hints : List ℕ) : Type 0 where
@@ -116,6 +119,7 @@ numbered {plan} {layout} k word seen low high rests held =
     record {
       held = record {
         laid_out = held.laid_out;
+        settled = held.settled;
         sizes = held.sizes;
         laid = λ even. set_head plan.words new layout plan.nodes k word (omega arith) (omega arith) refl rests.laid;
         entries = subst (AreEntries plan.nodes) (sym e4) held.entries;
@@ -130,7 +134,7 @@ numbered {plan} {layout} k word seen low high rests held =
 
 -- another mark
 pub marked : {plan : Plan} {layout : Layout} {count : ℕ} {mark mark' : Mark} {hints : List ℕ} → Rests plan layout count mark hints → IsHeld plan layout count mark hints → ((nodes : List Placed) → Laid plan.words layout nodes → IsMark layout nodes mark.place mark.number → IsMark layout nodes mark'.place mark'.number) → IsHeld plan layout count mark' hints
-marked {plan} rests held marks = record { laid_out = held.laid_out; sizes = held.sizes; laid = held.laid; entries = held.entries; counted = held.counted; live = held.live; marked = marks plan.nodes rests.laid held.marked; hinted = held.hinted }
+marked {plan} rests held marks = record { laid_out = held.laid_out; settled = held.settled; sizes = held.sizes; laid = held.laid; entries = held.entries; counted = held.counted; live = held.live; marked = marks plan.nodes rests.laid held.marked; hinted = held.hinted }
 
 -- ---- its entries by number
 

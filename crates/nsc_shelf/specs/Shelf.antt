@@ -59,10 +59,11 @@ pub record IsShelf (words : List ℕ) (map : Layout) (count : ℕ) (mark : Mark)
   pub live : count ≡ length (entries_in (nodes_in words map))
   pub marked : IsMark map (nodes_in words map) mark.place mark.number
 
--- what is known of a plan apart from its history: its words hold its nodes while no slide is under way, and these are entries, with their
--- count, the mark from which a search by number goes on, and hints that are places of nodes
+-- what is known of a plan apart from its history: no insertion is under way, its words hold its nodes while no slide is either, and
+-- these are entries, with their count, the mark from which a search by number goes on, and hints that are places of nodes
 pub record IsHeld (plan : Plan) (layout : Layout) (count : ℕ) (mark : Mark) (hints : List ℕ) : Type 0 where
   pub laid_out : plan.layout ≡ layout
+  pub settled : plan.counted ≡ true
   pub sizes : IsLayout layout
   pub laid : IsEven plan → Laid plan.words layout plan.nodes
   pub entries : AreEntries plan.nodes (slice_index plan.words 4)

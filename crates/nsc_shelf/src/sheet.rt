@@ -1,10 +1,10 @@
 // The words of a table, as its one pen writes them.
-ghost use Rattle.std.specs.Prelude.{◌≡◌, ◌≢◌, ◌⊎◌, ◌+◌, ◌<◌, ◌≤◌, ◌==◌, if◌then◌else◌, Some, length, slice_index};
-ghost use Rattle.nsc_model.specs.History.{IsPrefix, NoneLive, newest};
+ghost use Rattle.std.specs.Prelude.{◌≡◌, ◌≢◌, ◌⊎◌, ◌+◌, ◌<◌, ◌≤◌, ◌==◌, if◌then◌else◌, true, Some, length, slice_index};
+ghost use Rattle.nsc_model.specs.History.{IsPrefix, NoneLive, loads, newest};
 ghost use Rattle.nsc_model.specs.Machine.{last_count, next_count};
-ghost use Rattle.nsc_rule.specs.Plans.{IsEven, IsOdd, Sound};
+ghost use Rattle.nsc_rule.specs.Plans.{IsEven, IsOdd, Sound, end_in};
 ghost use Rattle.nsc_rule.specs.Seats.{resting};
-ghost use Rattle.nsc_rule.specs.Strokes.{HasNode, IsReady, IsSlid, MayEnd, begun, changed, cleared, finished, invalidated, polled, published, reloaded, stored};
+ghost use Rattle.nsc_rule.specs.Strokes.{HasNode, IsReady, MayEnd, ShowsAgain, begun, changed, cleared, finished, invalidation_added, node_counted, poll_added, published, reloads_stored, stored};
 
 use crate::finding::Found;
 use nsc_arena::Words;
@@ -83,9 +83,9 @@ impl Sheet {
         self.pen.show(&self.map, pass);
     }
 
-    /// Sets a count at the head, or FIRST_FREE: one of the places 3 to 9.
+    /// Sets a count of lookups or of insertions that found no room: one of the places 5 to 9.
     pub fn set_count(&mut self, at: usize, count: u64)
-        requires low { 3 ≤ at }
+        requires low { 5 ≤ at }
         requires high { at ≤ 9 }
         ensures { self.new ≡ record self.old { plan = stored at count self.old.plan } }
     {
@@ -94,7 +94,7 @@ impl Sheet {
 
     /// Counts one more of what the word at a place counts. A count stays at its end.
     pub fn count(&mut self, at: usize)
-        requires low { 3 ≤ at }
+        requires low { 5 ≤ at }
         requires high { at ≤ 9 }
         ensures { self.new ≡ record self.old { plan = stored at (next_count (slice_index self.old.plan.words at)) self.old.plan } }
     {
@@ -104,7 +104,7 @@ impl Sheet {
 
     /// Counts a lookup by the word at a place, or by the one behind it where its reply is a not-found one.
     pub fn count_use(&mut self, at: usize, not_found: bool)
-        requires low { 3 ≤ at }
+        requires low { 5 ≤ at }
         requires high { at ≤ 8 }
         ensures { let place = (if not_found then at + 1 else at) in self.new ≡ record self.old { plan = stored place (next_count (slice_index self.old.plan.words place)) self.old.plan } }
     {
@@ -119,7 +119,7 @@ impl Sheet {
     pub fn count_anew(&mut self, found: Found)
         requires even { IsEven self.old.plan }
         requires node { HasNode self.old.plan found.at }
-        ensures { self.new ≡ (if found.head.reloads == 0 then self.old else record self.old { plan = reloaded found.at 0 self.old.plan }) }
+        ensures { self.new ≡ (if found.head.reloads == 0 then self.old else record self.old { plan = reloads_stored found.at 0 self.old.plan }) }
     {
         if found.head.reloads != 0 {
             self.pen.reloads(&self.map, found.at, 0);
@@ -134,6 +134,23 @@ impl Sheet {
         self.pen.publish(&self.map, bucket, at);
     }
 
+    /// Puts FIRST_FREE right behind the newest node.
+    pub fn set_first_free(&mut self, end: u64)
+        requires { end ≡ end_in self.old.plan }
+        ensures { self.new ≡ record self.old { plan = stored 3 end self.old.plan } }
+    {
+        self.pen.first_free(&self.map, end);
+    }
+
+    /// Makes LOADS count the newest node: its insertion is over. FIRST_FREE was put right before.
+    pub fn set_loads(&mut self, count: u64)
+        requires behind { slice_index self.old.plan.words 3 ≡ end_in self.old.plan }
+        requires all { count ≡ loads self.old.plan.seen }
+        ensures { self.new ≡ record self.old { plan = node_counted count self.old.plan } }
+    {
+        self.pen.loads(&self.map, count);
+    }
+
     /// Ends the usable node at a place, which adds the record of its end.
     pub fn end(&mut self, place: usize, cause: Ending)
         requires even { IsEven self.old.plan }
@@ -143,9 +160,10 @@ impl Sheet {
         self.pen.clear_state(&self.map, place, cause);
     }
 
-    /// Begins a slide.
+    /// Begins a slide. No insertion is under way.
     pub fn begin(&mut self)
         requires even { IsEven self.old.plan }
+        requires counted { self.old.plan.counted ≡ true }
         requires room { slice_index self.old.plan.words 0 < last_count }
         ensures { self.new ≡ record self.old { plan = begun self.old.plan } }
     {
@@ -166,7 +184,7 @@ impl Sheet {
     /// Ends a slide, once the words show the live entries again.
     pub fn finish(&mut self)
         requires odd { IsOdd self.old.plan }
-        requires slid { IsSlid self.old.plan }
+        requires slid { ShowsAgain self.old.plan }
         ensures { self.new ≡ record self.old { plan = finished self.old.plan } }
     {
         self.pen.even(&self.map);
@@ -176,14 +194,14 @@ impl Sheet {
     pub fn invalidate(&mut self)
         requires ended { NoneLive self.old.plan.seen }
         requires room { slice_index self.old.plan.words 1 < last_count }
-        ensures { self.new ≡ record self.old { plan = invalidated self.old.plan } }
+        ensures { self.new ≡ record self.old { plan = invalidation_added self.old.plan } }
     {
         self.pen.epoch(&self.map);
     }
 
     /// Adds the record of a poll that confirms the newest version.
     pub fn poll(&mut self)
-        ensures { self.new ≡ record self.old { plan = polled self.old.plan } }
+        ensures { self.new ≡ record self.old { plan = poll_added self.old.plan } }
     {
         self.pen.poll(&self.map);
     }

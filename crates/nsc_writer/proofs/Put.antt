@@ -89,7 +89,7 @@ put {plan} {layout} {mid} {n} {bucket} {end} {number} is =
 
 -- the plan then
 abbrev pub put_plan : Plan → List Record → List ℕ → Placed → Plan
-put_plan plan seen words n = record { layout = plan.layout; seen = seen; words = words; nodes = n ∷ plan.nodes; retired = plan.retired }
+put_plan plan seen words n = record { layout = plan.layout; seen = seen; words = words; nodes = n ∷ plan.nodes; counted = true; retired = plan.retired }
 
 pub put_moved : {plan : Plan} {layout : Layout} {count : ℕ} {mark : Mark} {hints : List ℕ} {mid : List ℕ} {n : Placed} {bucket end number : ℕ} (seen : List Record) (hints' : List ℕ) (kind : Kind) (k : Kept) → Rests plan layout count mark hints → IsHeld plan layout count mark hints → IsWrittenAt plan layout mid n bucket end number → kept_in n ≡ k → n.usable ≡ true → n.node.kind ≡ type_number kind → live_entry k.entry.request (entries_in plan.nodes) ≡ None → slice_index plan.words 4 < last_count → AreHints hints' layout (n ∷ plan.nodes)
     → Moved plan (put_plan plan seen (put_words mid n.place bucket end number) n) layout (count + 1) mark hints' (λ s. record s { entries = s.entries ++ k ∷ []; used = s.used + entry_words k.entry; inserted = s.inserted + 1 })
@@ -112,6 +112,6 @@ put_moved {plan} {layout} {count} {mark} {hints} {mid} {n} {bucket} {end} {numbe
     let view : shelf_of words layout ≡ change (shelf_of plan.words layout) =
     view_by words layout (n ∷ nodes) (slice_index plan.words 4 + 1) (slice_index plan.words 0) plan.words done.laid done.inserted (done.other 0 (omega arith) (omega arith) (omega arith)) (λ i above high. done.other i (omega arith) (omega arith) (omega arith))
     ∙ (λ i. record (shelf_in nodes plan.words layout) { entries = taken i; used = used i; inserted = slice_index plan.words 4 + 1 }) ∙ ap change (sym (still_view plan layout rests.back)) in
-    moved hints' change rests refl done.laid
+    moved hints' change rests refl refl done.laid
     (record { cycle = done.other 0 (omega arith) (omega arith) (omega arith); epoch = done.other 1 (omega arith) (omega arith) (omega arith); source = done.other 2 (omega arith) (omega arith) (omega arith); shelf = shelf; view = view })
     hinted

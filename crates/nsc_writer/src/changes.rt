@@ -15,7 +15,7 @@ use crate::writer::{Cause, Writer};
 use nsc_arena::{Fixed, lead, place_bytes};
 use nsc_model::{Content, Ending, KEPT_LIMIT, LAST_COUNT, Spent};
 use nsc_shelf::{find_from, note};
-use nsc_words::{ADD_FAILED, FIRST_FREE, LOADS, hash, node_words};
+use nsc_words::{ADD_FAILED, hash, node_words};
 use std::sync::Arc;
 
 impl Writer {
@@ -159,8 +159,8 @@ impl Writer {
             let hash = hash(fixed.kind, key);
             let (bucket, end) = lead(&mut self.sheet, self.layout, at, hash);
             self.sheet.publish(bucket, at);
-            self.sheet.set_count(FIRST_FREE, end as u64);
-            self.sheet.set_count(LOADS, number + 1);
+            self.sheet.set_first_free(end as u64);
+            self.sheet.set_loads(number + 1);
             self.live += 1;
             note(self.layout, &mut self.hints, hash, at);
         }

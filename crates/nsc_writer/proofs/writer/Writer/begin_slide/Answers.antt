@@ -20,6 +20,9 @@ begins c =
     let none : slide_of w.sheet.plan.words ≡ None = ap (λ (v : Writer). v.slide) c.self.view_is ∙ c.requires in
     begun w.sheet.plan.words (begun_plan w.sheet.plan).words w.layout w.sheet.plan.nodes (still none c.self.invariant.held).laid refl
 
+pub begin-requires-clause-counted : goal.begin-requires-clause-counted
+begin-requires-clause-counted c = c.self.invariant.held.settled
+
 pub invariant_of-self : goal.invariant_of-self
 invariant_of-self c =
     let w = c.self.inside in
@@ -33,6 +36,7 @@ invariant_of-self c =
     written w.sheet.plan.seen (slice_index w.sheet.plan.words 2) (slice_index w.sheet.plan.words 1) (record s { cycle = s.cycle + 1 })
     (record {
       laid_out = held.laid_out;
+      settled = held.settled;
       sizes = held.sizes;
       laid = λ even. b.laid;
       entries = subst (AreEntries w.sheet.plan.nodes) (sym four) held.entries;

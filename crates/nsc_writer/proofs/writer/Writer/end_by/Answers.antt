@@ -66,7 +66,7 @@ taken_out c r n =
     let now_marked = marked_anew words words w.layout w.live w.mark c.find_from.new.mark refl r.shelf c.find_from.ensures.marked in
     let here = within (arena_start w.layout) w.sheet.plan.nodes n.node r.laid.row n.among in
     let place = n.place in
-    moved w.hints.items (λ (s : Shelf). record s { entries = others_than c.args.number s.entries }) r refl
+    moved w.hints.items (λ (s : Shelf). record s { entries = others_than c.args.number s.entries }) r refl r.settled
     (end_laid words new w.layout w.sheet.plan.nodes n.node at r.shelf.sizes r.laid n.among n.place refl)
     (taken words new w.layout w.live c.find_from.new.mark n.node at c.args.number now_marked (end_laid words new w.layout nodes n.node at r.shelf.sizes r.shelf.laid among n.place refl)
     (λ i low other. get_or-set_other words (at + 6) i 0 0 (let start = here.0 in omega arith)) among n.place n.usable n.numbered)

@@ -78,6 +78,7 @@ invariant_of-self c =
     written w.sheet.plan.seen (slice_index w.sheet.plan.words 2) (slice_index w.sheet.plan.words 1) (record v { used = all_words v.entries; cycle = v.cycle + 1 })
     (record {
       laid_out = held.laid_out;
+      settled = held.settled;
       sizes = held.sizes;
       laid = λ even. subst (Laid new w.layout) (sym s.back) e.laid;
       entries = subst (λ (ps : List Placed). AreEntries ps (slice_index new 4)) (sym s.back) e.entries;

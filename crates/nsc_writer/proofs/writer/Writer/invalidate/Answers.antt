@@ -5,7 +5,7 @@ use Rattle.nsc_model.specs.declared.record.Record.TheVariants.{Invalid}
 use Rattle.nsc_model.specs.Machine.{Cache, Kept, by_invalidation, emptied, ends_of}
 use Rattle.nsc_laws.specs.Calls.{Tells}
 use Rattle.nsc_rule.specs.Pen.{Pen}
-use Rattle.nsc_rule.specs.Strokes.{invalidated as invalidated_plan}
+use Rattle.nsc_rule.specs.Strokes.{invalidation_added}
 use Rattle.nsc_shelf.specs.Shelf.{Shelf, shelf_in, slide_of}
 use Rattle.nsc_shelf.proofs.Still.{numbered, still}
 use Rattle.nsc_writer.specs.Writer.{IsWriter, Writer, cache_of, writer_of}
@@ -51,7 +51,7 @@ invariant_of-self c =
     let n = numbered 1 (slice_index words 1 + 1) seen (omega arith) (omega arith) (still none c.self-2.invariant.held) c.self-2.invariant.held in
     let table = (still none c.self-2.invariant.held).laid.table in
     let told = invalidated w.sheet.plan.seen (cache_of (arc_value w.content) (slice_index words 2) (slice_index words 1) s) empty c.self-2.invariant.tells in
-    let now : IsWriter (record w.sheet { plan = invalidated_plan w.sheet.plan }) w.layout (arc_value w.content) w.live w.mark w.hints.items =
+    let now : IsWriter (record w.sheet { plan = invalidation_added w.sheet.plan }) w.layout (arc_value w.content) w.live w.mark w.hints.items =
     written seen (slice_index words 2) (slice_index words 1 + 1) (record s { entries = [] }) n.held refl (get_or-set_other words 1 2 (slice_index words 1 + 1) 0 (omega arith)) (get_or-set_same words 1 (slice_index words 1 + 1) 0 (omega arith)) (n.view ∙ (λ i. record s { entries = empty i })) told in
     subst (λ (p : Pen). IsWriter p w.layout (arc_value w.content) w.live w.mark w.hints.items) (sym c.invalidate.ensures) now
 

@@ -1,9 +1,8 @@
-use Rattle.std.proofs.Common.{◌≡◌, ℕ, ◌-◌, ◌/◌, ◌%◌, ◌<◌, [], ◌∷◌, replicate, slice_index, refl, sym, ap, subst, ◌∙◌, arith, rules, get_or-set_same}
+use Rattle.std.proofs.Common.{◌≡◌, ℕ, ◌-◌, ◌/◌, ◌%◌, ◌<◌, [], ◌∷◌, slice_index, refl, sym, ap, subst, ◌∙◌, arith, rules}
 use Rattle.std.specs.Arc.{arc_value}
-use Rattle.std.proofs.lemmas.List.{length-replicate}
 use Rattle.nsc_words.specs.declared.layout.Layout.{Layout}
 use Rattle.nsc_words.specs.Laid.{Laid}
-use Rattle.nsc_words.specs.Layout.{IsLayout, arena_start, table_words}
+use Rattle.nsc_words.specs.Layout.{IsLayout, arena_start}
 use Rattle.nsc_arena.proofs.Passed.{mark_at_start}
 use Rattle.nsc_model.specs.declared.record.Record.TheVariants.{Change}
 use Rattle.nsc_model.specs.Content.{Content}
@@ -51,8 +50,7 @@ no_node : (layout : Layout) (content : Content) → IsLayout layout → Laid (no
 no_node layout content sizes =
     let z = zeros layout in
     let even : slice_index (no_nodes layout) 0 % 2 ≡ 0 = ap (λ (n : ℕ). n % 2) (z.zero 0 (omega arith)) in
-    let first : slice_index (no_nodes layout) 3 ≡ arena_start layout = get_or-set_same (replicate (table_words layout) 0) 3 (arena_start layout) 0 (omega (arith, length-replicate {A = ℕ} (table_words layout) 0)) in
-    whole (first_plan layout content) (sound_first layout content sizes) even first
+    whole (first_plan layout content) (sound_first layout content sizes) refl even
 
 pub invariant_of-writer : goal.invariant_of-writer
 invariant_of-writer c =
@@ -67,6 +65,7 @@ invariant_of-writer c =
     let is : IsWriter (record { table = c.in_ok-map.map.table; plan = first_plan m content }) m content 0 c.start-2.result c.in_ok-hints.hints.items = record {
       held = record {
         laid_out = refl;
+        settled = refl;
         sizes = c.requires;
         laid = λ even. no_node m content c.requires;
         entries = none (slice_index (no_nodes m) 4);

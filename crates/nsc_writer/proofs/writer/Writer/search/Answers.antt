@@ -17,7 +17,7 @@ use Rattle.nsc_model.specs.Machine.{Kept, live_entry, next_count, used_now}
 use Rattle.nsc_rule.specs.declared.view.Plan.{Plan}
 use Rattle.nsc_rule.specs.Entries.{kept_in}
 use Rattle.nsc_rule.specs.Pen.{Pen}
-use Rattle.nsc_rule.specs.Strokes.{HasNode, reloaded, stored}
+use Rattle.nsc_rule.specs.Strokes.{HasNode, reloads_stored, stored}
 use Rattle.nsc_shelf.specs.declared.entry.Hit.{Hit as HitOf}
 use Rattle.nsc_shelf.specs.declared.finding.Mark.{Mark}
 use Rattle.nsc_shelf.specs.Hints.{AreHints, IsAlone}
@@ -70,7 +70,7 @@ record Hit (pen pen' : Pen) (layout : Layout) (live : ℕ) (mark : Mark) (hints 
   seen : plan.seen ≡ pen.plan.seen
   moved : Moved pen.plan plan layout live mark hints (λ s. record s { entries = used_now r s.entries; hits = counted not_found s.hits })
 
-hit : (pen mid pen' : Pen) (layout : Layout) (live : ℕ) (mark : Mark) (old_hints hints : List ℕ) (kind : Kind) (key : List ℕ) (at : ℕ) (h : Head) (n : Answering pen.plan.words layout kind key at) → Rests pen.plan layout live mark old_hints → h ≡ head_of n.node → mid ≡ cond (eqb h.reloads 0) pen (record pen { plan = reloaded at 0 pen.plan })
+hit : (pen mid pen' : Pen) (layout : Layout) (live : ℕ) (mark : Mark) (old_hints hints : List ℕ) (kind : Kind) (key : List ℕ) (at : ℕ) (h : Head) (n : Answering pen.plan.words layout kind key at) → Rests pen.plan layout live mark old_hints → h ≡ head_of n.node → mid ≡ cond (eqb h.reloads 0) pen (record pen { plan = reloads_stored at 0 pen.plan })
     → pen' ≡ record mid { plan = stored (cond h.not_found 6 5) (next_count (slice_index mid.plan.words (cond h.not_found 6 5))) mid.plan } → AreHints hints layout (nodes_in pen.plan.words layout) → Hit pen pen' layout live mark hints (record { kind = kind; key = key }) h.not_found
 hit pen mid pen' layout live mark old_hints hints kind key at h n r head used counts hinted =
     let nodes : List Placed = nodes_in pen.plan.words layout in
@@ -87,7 +87,7 @@ hit pen mid pen' layout live mark old_hints hints kind key at h n r head used co
       plan = stored place word plan';
       is = counts ∙ ap (λ (q : Pen). record q { plan = stored place (next_count (slice_index q.plan.words place)) q.plan }) u.1;
       seen = a.seen;
-      moved = moved hints (λ (s : Shelf). record s { entries = used_now (record { kind = kind; key = key }) s.entries; hits = counted h.not_found s.hits }) r a.layout_is (subst (Laid (stored place word plan').words layout) back c.laid)
+      moved = moved hints (λ (s : Shelf). record s { entries = used_now (record { kind = kind; key = key }) s.entries; hits = counted h.not_found s.hits }) r a.layout_is (a.counted_is ∙ r.settled) (subst (Laid (stored place word plan').words layout) back c.laid)
           (record { cycle = both.cycle; epoch = both.epoch; source = both.source; shelf = both.shelf; view = both.view ∙ ap (λ (s : Shelf). record s { hits = counted h.not_found s.hits }) was.view })
           (subst (AreHints hints layout) (sym a.nodes_are) (hints_changed_at at (with_reloads 0) hints nodes (reloads_is 0) hinted));
     }
@@ -98,7 +98,7 @@ hit_by c r n head stays =
     let w = c.self.inside in
     let size : length c.find.new.hints ≡ w.hints.len = omega (arith, c.deref_mut.ensures.len, w.hints.ok.0) in
     hit w.sheet c.count_anew.new.self c.count_use.new.self w.layout w.live w.mark w.hints.items (with_items w.hints c.find.new.hints).items c.args.kind c.args.key.now c.in-Some.at c.head_at-head.result n r head
-    (c.count_anew.ensures ∙ ap (λ (q : Pen). cond (eqb c.head_at-head.result.reloads 0) q (record q { plan = reloaded c.in-Some.at 0 q.plan })) stays) c.count_use.ensures
+    (c.count_anew.ensures ∙ ap (λ (q : Pen). cond (eqb c.head_at-head.result.reloads 0) q (record q { plan = reloads_stored c.in-Some.at 0 q.plan })) stays) c.count_use.ensures
     (subst (λ (hs : List ℕ). AreHints hs w.layout (nodes_in w.sheet.plan.words w.layout)) (sym (with_items_is w.hints c.find.new.hints size)) c.find.ensures.hinted)
 
 pub find-requires-clause-laid : goal.find-requires-clause-laid
@@ -144,7 +144,7 @@ invariant_of-self c =
     let size : length c.find.new.hints ≡ w.hints.len = omega (arith, c.deref_mut.ensures.len, w.hints.ok.0) in
     let hints : List ℕ = (with_items w.hints c.find.new.hints).items in
     let hinted : AreHints hints w.layout w.sheet.plan.nodes = subst (λ (hs : List ℕ). AreHints hs w.layout w.sheet.plan.nodes) (sym (with_items_is w.hints c.find.new.hints size)) (subst (AreHints c.find.new.hints w.layout) r.back c.find.ensures.hinted) in
-    let now : IsWriter w.sheet w.layout (arc_value w.content) w.live w.mark hints = record { held = record { laid_out = held.laid_out; sizes = held.sizes; laid = held.laid; entries = held.entries; counted = held.counted; live = held.live; marked = held.marked; hinted = hinted }; tells = c.self.invariant.tells } in
+    let now : IsWriter w.sheet w.layout (arc_value w.content) w.live w.mark hints = record { held = record { laid_out = held.laid_out; settled = held.settled; sizes = held.sizes; laid = held.laid; entries = held.entries; counted = held.counted; live = held.live; marked = held.marked; hinted = hinted }; tells = c.self.invariant.tells } in
     subst (λ (q : Pen). IsWriter q w.layout (arc_value w.content) w.live w.mark hints) (sym (sheet_same w.sheet c.find.new.words c.find.ensures.same c.find.ensures.rest)) now
 
 pub invariant_of-self-2 : goal.invariant_of-self-2
