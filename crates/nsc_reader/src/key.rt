@@ -1,0 +1,86 @@
+// Whether a node is of the request: its kind, the length of its key, and the key's words.
+ghost use Rattle.std.specs.Prelude.{◌≡◌, ℕ, ◌+◌, ◌-◌, ◌*◌, ◌≤◌, List, length};
+ghost use Rattle.nsc_model.specs.Entry.{key_limit};
+ghost use Rattle.nsc_words.specs.Layout.{table_words};
+ghost use Rattle.nsc_reader.specs.Stages.{AtFirstWord, AtKeyWord, AtShape, Goes, asked};
+
+use crate::in_place::InPlace;
+use crate::stage::Stage;
+use nsc_model::Kind;
+use nsc_rule::{Map, Pass};
+use nsc_words::{KEY, SHAPE, shape, word_of};
+
+// Loads the first word of the key.
+pub(crate) fn load_first_word(pass: &mut Pass, map: &Map, key: &[u8], place: usize) -> Stage
+    requires map { map.now.table ≡ pass.old.table }
+    requires key { pass.old.walk.request.key ≡ key.now }
+    requires at { AtFirstWord map.now.layout place pass.old }
+    ensures goes { (content : List ℕ) → Goes map.now.layout pass.old pass.new content (20000 * place + 9500) result }
+{
+    map.layout();
+    if pass.fixed(map, place + KEY) == word_of(key, 0) {
+        Stage::Shape { place, compared: 1 }
+    } else {
+        Stage::Next { place }
+    }
+}
+
+// Loads SHAPE.
+pub(crate) fn load_shape(
+    kind: Kind,
+    pass: &mut Pass,
+    map: &Map,
+    key: &[u8],
+    place: usize,
+    compared: usize,
+) -> Stage
+    requires map { map.now.table ≡ pass.old.table }
+    requires request { pass.old.walk.request ≡ asked kind key.now }
+    requires size { length key.now ≤ key_limit }
+    requires at { AtShape map.now.layout place compared pass.old }
+    ensures goes { (content : List ℕ) → Goes map.now.layout pass.old pass.new content (20000 * place + 9400) result }
+{
+    let words = map.layout().words();
+    if pass.fixed(map, place + SHAPE) != shape(kind.number(), key.len() as u32) {
+        return Stage::Next { place };
+    }
+    let count = key.len().div_ceil(8);
+    if count > words - place - KEY {
+        return Stage::Last {
+            answer: InPlace::NoEntry,
+        };
+    }
+    if compared < count {
+        Stage::KeyWord { place, compared }
+    } else {
+        Stage::State { place }
+    }
+}
+
+// Loads the next word of the key.
+pub(crate) fn load_key_word(
+    pass: &mut Pass,
+    map: &Map,
+    key: &[u8],
+    place: usize,
+    compared: usize,
+) -> Stage
+    requires map { map.now.table ≡ pass.old.table }
+    requires key { pass.old.walk.request.key ≡ key.now }
+    requires size { length key.now ≤ key_limit }
+    requires at { AtKeyWord map.now.layout place compared pass.old }
+    ensures goes { (content : List ℕ) → Goes map.now.layout pass.old pass.new content (20000 * place + 9300 - compared) result }
+{
+    map.layout();
+    if pass.fixed(map, place + KEY + compared) != word_of(key, compared) {
+        return Stage::Next { place };
+    }
+    if compared + 1 < key.len().div_ceil(8) {
+        Stage::KeyWord {
+            place,
+            compared: compared + 1,
+        }
+    } else {
+        Stage::State { place }
+    }
+}

@@ -1,0 +1,16 @@
+//! Searches in the words of a database that take no lock, no memory and no runtime: a walk along a bucket's chain, step by step, while
+//! the one who writes goes on.
+#![tactic(auto)]
+
+mod chain;
+mod ends;
+mod in_place;
+mod key;
+mod reply;
+mod searching;
+mod stage;
+mod walk;
+
+pub use in_place::InPlace;
+pub use searching::search;
+pub use walk::Walk;

@@ -1,0 +1,139 @@
+// Whether a node of the request is usable, and its reply.
+ghost use Rattle.std.specs.Prelude.{◌≡◌, ℕ, ◌+◌, ◌-◌, ◌*◌, ◌≤◌, List, length};
+ghost use Rattle.nsc_model.specs.Entry.{kept_limit};
+ghost use Rattle.nsc_words.specs.Layout.{table_words};
+ghost use Rattle.nsc_reader.specs.Stages.{AtNumber, AtReply, AtSize, AtStage, AtState, AtVersion, Goes, asked, left_at, reply_in};
+
+use crate::in_place::InPlace;
+use crate::stage::Stage;
+use nsc_base::Buf;
+use nsc_rule::{Map, Pass};
+use nsc_words::{KEY, NUMBER, SIZE, STATE, VERSION, size_len, size_not_found};
+
+// How many bytes of a reply are kept at most.
+const KEPT_LIMIT: usize = 65_536;
+
+// Loads STATE.
+pub(crate) fn load_state(pass: &mut Pass, map: &Map, place: usize) -> Stage
+    requires map { map.now.table ≡ pass.old.table }
+    requires at { AtState map.now.layout place pass.old }
+    ensures goes { (content : List ℕ) → Goes map.now.layout pass.old pass.new content (20000 * place + 9004) result }
+{
+    map.layout();
+    if pass.state(map, place + STATE) == 1 {
+        Stage::Size { place }
+    } else {
+        Stage::Next { place }
+    }
+}
+
+// Loads SIZE.
+pub(crate) fn load_size(pass: &mut Pass, map: &Map, key: &[u8], place: usize) -> Stage
+    requires map { map.now.table ≡ pass.old.table }
+    requires key { pass.old.walk.request.key ≡ key.now }
+    requires at { AtSize map.now.layout place pass.old }
+    ensures goes { (content : List ℕ) → Goes map.now.layout pass.old pass.new content (20000 * place + 9003) result }
+{
+    let words = map.layout().words();
+    let size = pass.fixed(map, place + SIZE);
+    let len = size_len(size) as usize;
+    if len > KEPT_LIMIT || len.div_ceil(8) > words - place - KEY - key.len().div_ceil(8) {
+        return Stage::Last {
+            answer: InPlace::NoEntry,
+        };
+    }
+    Stage::Number { place, size }
+}
+
+// Loads NUMBER.
+pub(crate) fn load_number(pass: &mut Pass, map: &Map, place: usize, size: u64) -> Stage
+    requires map { map.now.table ≡ pass.old.table }
+    requires at { AtNumber map.now.layout place size pass.old }
+    ensures goes { (content : List ℕ) → Goes map.now.layout pass.old pass.new content (20000 * place + 9002) result }
+{
+    map.layout();
+    let number = pass.fixed(map, place + NUMBER);
+    Stage::Version {
+        place,
+        size,
+        number,
+    }
+}
+
+// Loads VERSION, and empties the buffer.
+pub(crate) fn load_version(
+    pass: &mut Pass,
+    map: &Map,
+    out: &mut Buf,
+    place: usize,
+    size: u64,
+    number: u64,
+) -> Stage
+    requires map { map.now.table ≡ pass.old.table }
+    requires at { AtVersion map.now.layout place size number pass.old }
+    ensures goes { Goes map.now.layout pass.old pass.new out.new.content (20000 * place + 9001) result }
+    ensures limit { out.new.limit ≡ out.old.limit }
+{
+    map.layout();
+    let version = pass.fixed(map, place + VERSION);
+    out.clear();
+    if size_len(size) == 0 {
+        return Stage::Last {
+            answer: InPlace::Hit {
+                number,
+                version,
+                not_found: size_not_found(size),
+            },
+        };
+    }
+    Stage::Reply {
+        place,
+        size,
+        number,
+        version,
+        copied: 0,
+    }
+}
+
+// Loads the next word of the reply, and puts its bytes into the buffer.
+pub(crate) fn load_reply(
+    pass: &mut Pass,
+    map: &Map,
+    key: &[u8],
+    out: &mut Buf,
+    place: usize,
+    size: u64,
+    number: u64,
+    version: u64,
+    copied: usize,
+) -> Stage
+    requires map { map.now.table ≡ pass.old.table }
+    requires key { pass.old.walk.request.key ≡ key.now }
+    requires limit { out.old.limit ≡ kept_limit }
+    requires at { AtReply map.now.layout place size number version copied out.old.content pass.old }
+    ensures goes { Goes map.now.layout pass.old pass.new out.new.content (20000 * place + 9000 - copied) result }
+    ensures limit { out.new.limit ≡ out.old.limit }
+{
+    map.layout();
+    let len = size_len(size) as usize;
+    let word = pass.fixed(map, place + KEY + key.len().div_ceil(8) + copied);
+    let count = (len - 8 * copied).min(8);
+    out.push(&word.to_le_bytes()[..count]);
+    if copied + 1 < len.div_ceil(8) {
+        Stage::Reply {
+            place,
+            size,
+            number,
+            version,
+            copied: copied + 1,
+        }
+    } else {
+        Stage::Last {
+            answer: InPlace::Hit {
+                number,
+                version,
+                not_found: size_not_found(size),
+            },
+        }
+    }
+}

@@ -1,0 +1,115 @@
+ghost use Rattle.std.specs.Prelude.{◌≡◌, ◌≤◌, length};
+ghost use Rattle.nsc_model.specs.Entry.{key_limit, kept_limit};
+ghost use Rattle.nsc_reader.specs.Stages.{AtStage, IsOpen, Stands, Steps, answer_in, asked};
+
+use crate::chain::{load_bucket, load_next};
+use crate::ends::{load_first, load_last};
+use crate::in_place::InPlace;
+use crate::key::{load_first_word, load_key_word, load_shape};
+use crate::reply::{load_number, load_reply, load_size, load_state, load_version};
+use crate::stage::{Progress, Stage};
+use nsc_base::Buf;
+use nsc_model::Kind;
+use nsc_rule::{Map, Pass};
+
+/// A search without a lock, step by step. It walks the chain of the request's bucket from the newest entry on, and copies the reply of the
+/// first usable one that has its kind and its key.
+#[derive(Clone, Copy, Debug, PartialEq, Eq)]
+pub struct Walk {
+    // What is asked.
+    kind: Kind,
+    // How far it has come.
+    progress: Progress,
+}
+
+impl Walk {
+    /// A walk that has taken no step.
+    pub fn new(kind: Kind) -> Walk
+        ensures { result ≡ record { kind = kind; progress = Progress.New } }
+    {
+        Walk {
+            kind,
+            progress: Progress::New,
+        }
+    }
+
+    /// Takes one step, which loads one word. Gives the answer where this was the last one. The pass, the key and the buffer are those of the
+    /// steps before, as these left them. It takes no memory.
+    pub fn step(&mut self, pass: &mut Pass, map: &Map, key: &[u8], out: &mut Buf) -> Option<InPlace>
+        requires map { map.now.table ≡ pass.old.table }
+        requires key { length key.now ≤ key_limit }
+        requires limit { out.old.limit ≡ kept_limit }
+        requires open { IsOpen self.old.progress }
+        requires stands { Stands map.now.layout (asked self.old.kind key.now) out.old.content pass.old self.old.progress }
+        ensures kind { self.new.kind ≡ self.old.kind }
+        ensures limit { out.new.limit ≡ out.old.limit }
+        ensures steps { Steps map.now.layout (asked self.old.kind key.now) self.old.progress pass.old pass.new out.new.content self.new.progress }
+        ensures answer { result ≡ answer_in self.new.progress }
+    {
+        self.progress = match self.progress {
+            Progress::New => load_first(self.kind, key, pass, map, out),
+            Progress::Under { first, stage } => go_on(self.kind, first, stage, pass, map, key, out),
+            Progress::Answered { answer } => Progress::Answered { answer },
+        };
+        answer_of(self.progress)
+    }
+}
+
+// The answer, where there is one.
+fn answer_of(progress: Progress) -> Option<InPlace>
+    ensures { result ≡ answer_in progress }
+{
+    match progress {
+        Progress::New => None,
+        Progress::Under { .. } => None,
+        Progress::Answered { answer } => Some(answer),
+    }
+}
+
+// Takes one step of a search under way.
+fn go_on(
+    kind: Kind,
+    first: u64,
+    stage: Stage,
+    pass: &mut Pass,
+    map: &Map,
+    key: &[u8],
+    out: &mut Buf,
+) -> Progress
+    requires map { map.now.table ≡ pass.old.table }
+    requires key { length key.now ≤ key_limit }
+    requires limit { out.old.limit ≡ kept_limit }
+    requires first { pass.old.walk.first ≡ first }
+    requires request { pass.old.walk.request ≡ asked kind key.now }
+    requires at { AtStage map.now.layout out.old.content stage pass.old }
+    ensures limit { out.new.limit ≡ out.old.limit }
+    ensures steps { Steps map.now.layout (asked kind key.now) (Progress.Under first stage) pass.old pass.new out.new.content result }
+{
+    let stage = match stage {
+        Stage::Bucket { bucket } => load_bucket(pass, map, key, bucket),
+        Stage::FirstWord { place } => load_first_word(pass, map, key, place),
+        Stage::Shape { place, compared } => load_shape(kind, pass, map, key, place, compared),
+        Stage::KeyWord { place, compared } => load_key_word(pass, map, key, place, compared),
+        Stage::State { place } => load_state(pass, map, place),
+        Stage::Next { place } => load_next(pass, map, key, place),
+        Stage::Size { place } => load_size(pass, map, key, place),
+        Stage::Number { place, size } => load_number(pass, map, place, size),
+        Stage::Version {
+            place,
+            size,
+            number,
+        } => load_version(pass, map, out, place, size, number),
+        Stage::Reply {
+            place,
+            size,
+            number,
+            version,
+            copied,
+        } => load_reply(pass, map, key, out, place, size, number, version, copied),
+        Stage::Last { answer } => {
+            let answer = load_last(pass, map, out, first, answer);
+            return Progress::Answered { answer };
+        }
+    };
+    Progress::Under { first, stage }
+}
