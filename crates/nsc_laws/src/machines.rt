@@ -32,9 +32,9 @@ pub fn runs_are_answered()
         EachAnswered db settings reloads events 0 (new_cache (part_of db files)) (Change 0 (part_of db files) ∷ []) }
 {}
 
-/// In every run of events from a new cache, whatever the files are at each of them, entries end for good only as ticks and
-/// invalidations end them: one that is not loaded again gave a not-found reply, or as many entries of its request ended before to be
-/// loaded again as the limit says. So of the machine is known what is known of a tick of many threads.
+/// In every run of events from a new cache, whatever the files are at each of them: an entry that ended as expired gave a not-found
+/// reply, or as many entries of its request as the limit says had ended before as replaced; and after each end as invalidated the
+/// invalidation itself stands. Of the entries that ended as replaced it does not say that they were loaded again.
 pub fn runs_are_reloaded()
     ensures { (db : Db) (settings : DbConf) (reloads : Option ℕ) (files : Content) (events : List Event) →
         EachReloaded db settings reloads events 0 (new_cache (part_of db files)) (Change 0 (part_of db files) ∷ []) }
