@@ -89,6 +89,8 @@ impl<A: Answerer> Cached<A> {
     }
 
     /// A lookup over the files as they are, at this moment in seconds. The reply has at most 2^30 bytes.
+    ///
+    /// At `NoMemory` a poll was made, or nothing at all: no entry was used, and none inserted.
     pub fn lookup(
         &mut self,
         alloc: Global,
@@ -189,6 +191,9 @@ impl<A: Answerer> Cached<A> {
     }
 
     /// A tick over the files as they are, at this moment in seconds.
+    ///
+    /// At `NoMemory` a poll was made, or nothing at all: no entry ended. At `Spent` a tick whose pruning stopped still keeps the
+    /// version that it found.
     pub fn tick(&mut self, alloc: Global, answers: &A, now: u64) -> Result<(), CacheFault>
         requires { now < 2 ^ 62 }
         ensures files { self.new.files ≡ self.old.files }
@@ -286,7 +291,7 @@ impl<A: Answerer> Cached<A> {
         }
     }
 
-    /// An invalidation.
+    /// An invalidation. It takes no memory, so it never gives `NoMemory`.
     pub fn invalidate(&mut self) -> Result<(), CacheFault>
         ensures rest { self.new ≡ record self.old { writer = self.new.writer } }
         ensures turn { OnOk result (Completes (invalidated self.old.writer.cache) self.old.writer self.new.writer) }

@@ -2,7 +2,6 @@
 use Rattle.std.proofs.Common.{◌≡◌, ℕ, ◌<◌, ◌≤◌, ◌+◌, Bool, true, false, cond, eqb, List, append_assoc, Option, Some, Result, Ok, Err, refl, sym, ap, subst, ◌∙◌, arith}
 use Rattle.std.proofs.lemmas.Bool.{eqb-true, le-ltb, lt-ltb}
 use Rattle.nsc_model.specs.declared.record.Record.{Record}
-use Rattle.nsc_model.specs.Events.{ComesTo, StopsAt}
 use Rattle.nsc_model.specs.Machine.{Cache, Passed, Refusal, Stopped, ◌>>=◌, after_adds, all_words, compacted, last_count, stopped, tried_by, unchanged}
 use Rattle.nsc_writer.specs.declared.loaded.Inserted.{Inserted}
 use Rattle.nsc_writer.specs.declared.loaded.Inserted.TheVariants as inserted
@@ -48,15 +47,6 @@ stops_then (Err stop) next count w mid after p s = absurd p
 pub stops_first : (r : Result Passed Stopped) (next : Cache → Result Passed Stopped) (count : ℕ) (w after : Writer) → Stops r count w after → Stops (r >>= next) count w after
 stops_first (Ok first) next count w after s = absurd s
 stops_first (Err stop) next count w after s = s
-
--- the cache alone
-pub comes_to : (r : Result Passed Stopped) (w after : Writer) → Completes r w after → ComesTo r after.cache
-comes_to (Ok passed) w after p = sym (ap (λ (x : Writer). x.cache) p)
-comes_to (Err stop) w after p = p
-
-pub stops_at : (r : Result Passed Stopped) (count : ℕ) (w after : Writer) → Stops r count w after → StopsAt r after.cache count
-stops_at (Ok passed) count w after s = s
-stops_at (Err stop) count w after s = (sym (ap (λ (x : Writer). x.cache) s.1), sym s.0)
 
 -- ---- insertions
 

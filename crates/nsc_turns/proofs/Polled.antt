@@ -52,9 +52,10 @@ lookup_completes settings now files request w w1 w2 reply none p kept said =
     subst (λ (o : Option Kept). CompletesWith (hit_or_load o settings now files request w.cache) w w2 reply) (sym none) (by_poll (polled files w.cache) p) where
       by_poll : (r : Result Passed Stopped) → Completes r w w1 → CompletesWith (loaded settings now request r) w w2 reply
       by_poll (Ok poll) q =
-          let after = kept_answer settings now request poll.cache in
-          (kept ∙ ap (λ (x : Writer). counted_as w2 (passed_by (kept_answer settings now request x.cache) x)) q ∙ ap (λ (h : List Record). record w { cache = after.cache; seen = h; hits = w2.hits; misses = w2.misses }) (sym (append_assoc after.adds poll.adds w.seen)),
-           sym (ap (λ (x : Writer). (answer_of x.cache.sources request).bytes) q) ∙ said)
+          let after = kept_answer settings now request poll.cache in (
+            kept ∙ ap (λ (x : Writer). counted_as w2 (passed_by (kept_answer settings now request x.cache) x)) q ∙ ap (λ (h : List Record). record w { cache = after.cache; seen = h; hits = w2.hits; misses = w2.misses }) (sym (append_assoc after.adds poll.adds w.seen)),
+            sym (ap (λ (x : Writer). (answer_of x.cache.sources request).bytes) q) ∙ said,
+          )
       by_poll (Err stop) q = absurd q
 
 pub lookup_stops : (settings : DbConf) (now : ℕ) (files : Content) (request : Request) (count : ℕ) (w w' : Writer) → cached settings request w.cache ≡ None → Stops (polled files w.cache) count w w' → Stops (lookup settings now files request w.cache) count w w'

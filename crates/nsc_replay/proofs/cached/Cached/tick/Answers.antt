@@ -1,6 +1,6 @@
 use Rattle.std.proofs.Common.{◌≡◌, ◌∙◌, Ok, Result, ap, refl, subst, sym}
 use Rattle.nsc_model.specs.declared.fault.CacheFault.TheVariants as faults
-use Rattle.nsc_model.specs.Machine.{◌>>=◌, Passed, Stopped, checked, polled, tick, ticked_after, unchanged}
+use Rattle.nsc_model.specs.Machine.{Passed, Stopped, checked, polled, tick, ticked_after, unchanged}
 use Rattle.nsc_turns.specs.Turns.{Completes, Stops}
 use Rattle.nsc_turns.proofs.Events.{completes_then}
 use Rattle.nsc_turns.proofs.Machines.{tick_off, tick_on}
