@@ -5,7 +5,7 @@ use crate::files::{USERS, files_of, name_of};
 use nsc_answer::Plain;
 use nsc_base::{Buf, NoMemory};
 use nsc_compactor::compact;
-use nsc_model::{Answerer, Conf, Content, DbConf, KEPT_LIMIT, Kind};
+use nsc_model::{Answerer, Conf, Content, DbConf, KEPT_LIMIT, KEY_LIMIT, Kind};
 use nsc_turns::{Answering, insert, load};
 use nsc_words::Layout;
 use nsc_writer::{Cause, Inserted, Writer};
@@ -104,6 +104,10 @@ impl Calls {
         reloads: u64,
     ) -> Result<Option<Inserted>, NoMemory> {
         let name = name_of(alloc, user)?;
+        let key = name.as_bytes();
+        if key.len() > KEY_LIMIT {
+            return Ok(None);
+        }
         self.writer.learn();
         let epoch = self.writer.epoch();
         let Ok(stamp) = self.writer.record_poll(self.files.clone()?, epoch) else {
@@ -121,7 +125,7 @@ impl Calls {
             &ready,
             &answering,
             Kind::PwName,
-            name.as_bytes(),
+            key,
             reloads,
         )?;
         self.writer.learn();

@@ -1,3 +1,5 @@
+ghost use Rattle.std.specs.Prelude.{◌≡◌, None};
+
 // The words of a table, as a slide finds them.
 
 use nsc_arena::Words;
