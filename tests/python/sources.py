@@ -30,7 +30,7 @@ def exchanging(path, *targets):
 
 def exchanged_file():
     """A terminal, whose reads wait for ever, takes the place of a file again and again, also between two looks at it."""
-    count, answered = 500, 0
+    count, answered = 40_000, 0
     with daemon("-t", "2") as run:
         real = run.folder / "passwd"
         real.write_bytes(FILES["passwd"])
