@@ -1,4 +1,4 @@
-use Rattle.std.proofs.Common.{◌≡◌, ◌∙◌, Option, None, Ok}
+use Rattle.std.proofs.Common.{◌∙◌, Ok}
 use Rattle.std.specs.Arc.{arc_value}
 use Rattle.nsc_model.specs.Machine.{polled}
 use Rattle.nsc_writer.specs.Writer.{refusal_of}
