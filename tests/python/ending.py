@@ -118,6 +118,8 @@ def orders_without_patience():
             peer.sendall(ASK_BIG)
             took = run.is_well("beside an administrator that does not read", 2 * PATIENCE)
             check(took <= LOAD, f"beside an administrator that does not read a reply took {took:.1f} s")
+            # It may be served after the other, and has five milliseconds then.
+            time.sleep(0.2)
             check(len(read_all(peer)) < size, "who does not read at the socket of the administrator gets all")
         check(run.command("-g")[2] == 0, "-g afterwards")
         return f"beside an administrator that does not read its reply another takes {took * 1000:.1f} ms"
