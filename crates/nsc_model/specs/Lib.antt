@@ -28,5 +28,7 @@ pub mod Frames
 pub mod Replay
 pub mod Fronts
 pub mod Reads
+pub mod InPlace
+pub mod Steady
 pub mod Stores
 pub mod Exits

@@ -5,9 +5,9 @@ use Rattle.nsc_model.specs.Entry.{Entry}
 use Rattle.nsc_model.specs.History.{IsLive}
 
 -- the entry is in the list
-abbrev pub Among : List Entry → Entry → Type 0
-Among [] e = ⊥
-Among (entry ∷ entries) e = (entry ≡ e) ⊎ Among entries e
+abbrev pub HasEntry : List Entry → Entry → Type 0
+HasEntry [] e = ⊥
+HasEntry (entry ∷ entries) e = (entry ≡ e) ⊎ HasEntry entries e
 
 -- the numbers of the entries rise
 abbrev pub Rise : List Entry → Type 0
@@ -17,6 +17,6 @@ Rise (e ∷ f ∷ entries) = (e.number < f.number) × Rise (f ∷ entries)
 
 -- the live entries, each once, in rising number
 pub record AreLive (history : List Record) (entries : List Entry) : Type 0 where
-  pub live : (e : Entry) → Among entries e → IsLive history e
-  pub all : (e : Entry) → IsLive history e → Among entries e
+  pub live : (e : Entry) → HasEntry entries e → IsLive history e
+  pub all : (e : Entry) → IsLive history e → HasEntry entries e
   pub rising : Rise entries

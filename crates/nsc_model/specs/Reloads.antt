@@ -8,15 +8,6 @@ use Rattle.nsc_model.specs.Entry.{Entry}
 use Rattle.nsc_model.specs.Kinds.{is_request}
 use Rattle.nsc_model.specs.History.{changes, load_of}
 
--- how many entries ended
-abbrev pub ends : List Record → ℕ
-ends [] = 0
-ends (Change version content ∷ before) = ends before
-ends (Poll version ∷ before) = ends before
-ends (Load entry ∷ before) = ends before
-ends (End number cause ∷ before) = ends before + 1
-ends (Invalid epoch ∷ before) = ends before
-
 -- how many entries of the request ended to be loaded again
 abbrev pub one_of : Request → Option Entry → ℕ
 one_of request None = 0

@@ -26,7 +26,7 @@ use Rattle.nsc_model.specs.Entry.{Entry, kept_limit}
 use Rattle.nsc_model.specs.History.{Answered, HasLoad, HasEnd, IsLive, EndedAfter, IsPrefix, Legal, LookedBetween, NoneLive, invalidations, load_of, loads, version_in}
 use Rattle.nsc_model.specs.Live.{AreLive}
 use Rattle.nsc_model.specs.Reads.{FaultsStay, FileFailed, IsLookedUp, IsMade, IsOfHeld}
-use Rattle.nsc_model.specs.Reloads.{Reloaded, ends}
+use Rattle.nsc_model.specs.Reloads.{Reloaded}
 use Rattle.nsc_model.specs.Machine.{entry_words, last_count, life_of, room_of}
 
 -- what a call leaves of what its caller has seen: it goes on from what was seen before, and is legal
@@ -62,9 +62,10 @@ pub record IsLoaded (settings : DbConf) (now : ℕ) (seen after : List Record) (
 abbrev pub words_of : List Entry → ℕ
 words_of entries = sum_by entry_words entries
 
--- so many entries ended that there may be no further compaction
-abbrev pub MayBeUnmoved : List Record → Type 0
-MayBeUnmoved history = 2 ^ 61 ≤ ends history
+-- a call loaded CYCLE as 2^62, at which there are no more compactions: by how often the pass has begun a search in place, and by the
+-- CYCLE that it loaded last
+abbrev pub FoundLastCycle : ℕ → ℕ → ℕ → Type 0
+FoundLastCycle before_searches after_searches last = (before_searches < after_searches) × (last ≡ last_count)
 
 -- ---- entries that ended to be loaded again
 
@@ -96,12 +97,9 @@ pub record FoundNoRoom (arena : ℕ) (ended : List Record) (request : Request) (
 abbrev pub IsLoadedAgain : ℕ → List Record → Request → List Record → Type 0
 IsLoadedAgain arena ended request history = IsLoadedAfter ended request history ⊎ ((last_count ≤ loads history) ⊎ (IsTooLongToKeep request history ⊎ FoundNoRoom arena ended request history))
 
--- so of each entry that ended to be loaded again, unless the words of ended entries may not be free again
+-- so of each entry that ended to be loaded again
 abbrev pub AreLoadedAgain : ℕ → List Record → Type 0
 AreLoadedAgain arena history = (number : ℕ) (before : List Record) (e : Entry) → IsPrefix (End number Replaced ∷ before) history → load_of before number ≡ Some e → IsLoadedAgain arena (End number Replaced ∷ before) e.request history
-
-abbrev pub LoadsAgain : ℕ → List Record → Type 0
-LoadsAgain arena history = AreLoadedAgain arena history ⊎ MayBeUnmoved history
 
 -- the words that are free are those of the arena that no live entry takes
 pub record HasFree (arena free : ℕ) (history : List Record) : Type 0 where
@@ -109,20 +107,20 @@ pub record HasFree (arena free : ℕ) (history : List Record) : Type 0 where
   pub live : AreLive history entries
   pub rest : free + words_of entries ≡ arena
 
--- an entry needs more words than are free
-pub record IsFull (arena : ℕ) (history : List Record) (request : Request) (bytes : List ℕ) (need free : ℕ) : Type 0 where
+-- an entry needs more words than are free, which are those that no live entry takes unless there are no more compactions
+pub record IsFull (arena : ℕ) (history : List Record) (last_cycle : Type 0) (request : Request) (bytes : List ℕ) (need free : ℕ) : Type 0 where
   pub needed : need ≡ node_words (length request.key) (length bytes)
   pub less : free < need
-  pub left : HasFree arena free history ⊎ MayBeUnmoved history
+  pub left : HasFree arena free history ⊎ last_cycle
 
 -- why a reply that was made anew is not kept
-abbrev pub IsWhy : Why → DbConf → List Record → List Record → Request → List ℕ → Type 0
-IsWhy why.Disabled settings seen after request bytes = settings.enabled ≡ false
-IsWhy (why.TooLarge size) settings seen after request bytes = (size ≡ length bytes) × (kept_limit < size)
-IsWhy (why.Discarded loaded epoch) settings seen after request bytes = (invalidations seen ≤ loaded) × (loaded < epoch) × (epoch ≤ invalidations after)
-IsWhy (why.Present number) settings seen after request bytes = (e : Entry) × IsLive after e × (e.number ≡ number) × (e.request ≡ request) × (HasLoad seen e → ⊥)
-IsWhy (why.Spent count) settings seen after request bytes = (count ≡ last_count) × (loads after ≡ count)
-IsWhy (why.Full need free) settings seen after request bytes = IsFull (room_of settings) after request bytes need free
+abbrev pub IsWhy : Why → DbConf → List Record → List Record → Type 0 → Request → List ℕ → Type 0
+IsWhy why.Disabled settings seen after last_cycle request bytes = settings.enabled ≡ false
+IsWhy (why.TooLarge size) settings seen after last_cycle request bytes = (size ≡ length bytes) × (kept_limit < size)
+IsWhy (why.Discarded loaded epoch) settings seen after last_cycle request bytes = (invalidations seen ≤ loaded) × (loaded < epoch) × (epoch ≤ invalidations after)
+IsWhy (why.Present number) settings seen after last_cycle request bytes = (e : Entry) × IsLive after e × (e.number ≡ number) × (e.request ≡ request) × (HasLoad seen e → ⊥)
+IsWhy (why.Spent count) settings seen after last_cycle request bytes = (count ≡ last_count) × (loads after ≡ count)
+IsWhy (why.Full need free) settings seen after last_cycle request bytes = IsFull (room_of settings) after last_cycle request bytes need free
 
 -- a new version was needed, and the count of versions stands at its end
 pub record IsSpent (after : List Record) (count : ℕ) : Type 0 where
@@ -148,10 +146,10 @@ IsMissedAt fault.NoMemory settings seen after request = Unit {0}
 IsMissedAt _ settings seen after request = IsMissed settings seen after request
 
 -- which entry gave the reply of a lookup, or why none did
-abbrev pub IsGiven : Given → DbConf → ℕ → List Record → List Record → Request → Type 0
-IsGiven (given.Hit bytes number) settings now seen after request = IsHit after request bytes number
-IsGiven (given.Loaded bytes number) settings now seen after request = IsLoaded settings now seen after request bytes number × EndedAfter seen after request
-IsGiven (given.Fresh bytes why) settings now seen after request = IsWhy why settings seen after request bytes × IsMissed settings seen after request
+abbrev pub IsGiven : Given → DbConf → ℕ → List Record → List Record → Type 0 → Request → Type 0
+IsGiven (given.Hit bytes number) settings now seen after last_cycle request = IsHit after request bytes number
+IsGiven (given.Loaded bytes number) settings now seen after last_cycle request = IsLoaded settings now seen after request bytes number × EndedAfter seen after request
+IsGiven (given.Fresh bytes why) settings now seen after last_cycle request = IsWhy why settings seen after last_cycle request bytes × IsMissed settings seen after request
 
 -- a lookup gave up, for this cause, and no entry answers, unless memory was wanting
 pub record GivesUp (settings : DbConf) (seen after : List Record) (request : Request) (before_faults after_faults : ℕ) (before_each after_each : FileId → ℕ) (cause : LookupFault) : Type 0 where
@@ -159,9 +157,9 @@ pub record GivesUp (settings : DbConf) (seen after : List Record) (request : Req
   pub fault : IsFault cause after before_faults after_faults before_each after_each
 
 -- a lookup gave this, by what its caller has seen: its reply answers the request, and is not kept where the database is not cached
-pub record GivesAnswer (settings : DbConf) (now : ℕ) (seen after : List Record) (request : Request) (g : Given) : Type 0 where
+pub record GivesAnswer (settings : DbConf) (now : ℕ) (seen after : List Record) (last_cycle : Type 0) (request : Request) (g : Given) : Type 0 where
   pub answered : Answered seen after request (reply_of g)
-  pub source : IsGiven g settings now seen after request
+  pub source : IsGiven g settings now seen after last_cycle request
   pub uncached : OnFalse settings.enabled (g ≡ given.Fresh (reply_of g) why.Disabled)
 
 -- a lookup gave this, by its files: by what it read of them, and by those that are held
@@ -177,16 +175,16 @@ pub record IsEmptied (seen after : List Record) (epoch : ℕ) : Type 0 where
   pub new : invalidations seen < epoch
   pub none : NoneLive after
 
--- a count stands at its end: that of the invalidations; or that of the compactions, so that the words of ended entries are not free,
--- though the entries ended that were to end
-pub record IsUnmoved (after : List Record) (count : ℕ) (ended : Type 0) : Type 0 where
+-- a count stands at its end: that of the invalidations; or CYCLE, so that the words of ended entries are not free, though the entries
+-- ended that were to end
+pub record IsUnmoved (after : List Record) (last_cycle : Type 0) (count : ℕ) (ended : Type 0) : Type 0 where
   pub last : count ≡ last_count
-  pub cause : (invalidations after ≡ count) ⊎ (MayBeUnmoved after × ended)
+  pub cause : (invalidations after ≡ count) ⊎ (last_cycle × ended)
 
 -- why an invalidation gave up
-abbrev pub IsInvalidateFault : CacheFault → List Record → Type 0
-IsInvalidateFault cache_fault.NoMemory after = Unit {0}
-IsInvalidateFault (cache_fault.Spent count) after = IsUnmoved after count (NoneLive after)
+abbrev pub IsInvalidateFault : CacheFault → List Record → Type 0 → Type 0
+IsInvalidateFault cache_fault.NoMemory after last_cycle = Unit {0}
+IsInvalidateFault (cache_fault.Spent count) after last_cycle = IsUnmoved after last_cycle count (NoneLive after)
 
 -- the counts are those of this history, and the words those of its live entries
 pub record IsCounted (arena : ℕ) (after : List Record) (stats : Stats) : Type 0 where
@@ -206,16 +204,16 @@ pub record EndsStale (settings : DbConf) (now : ℕ) (seen after : List Record) 
   pub outdated : OnTrue settings.check_files ((e : Entry) → HasLoad seen e → e.version ≢ version → HasEnd after e.number)
 
 -- a tick at this moment read the files, looked at the version that they are, and ended what was stale
-pub record IsTicked (which : Db) (before_reads after_reads : FileId → ℕ) (latest : FileId → Option (Option (List ℕ))) (settings : DbConf) (limit : Option ℕ) (now : ℕ) (seen after : List Record) : Type 0 where
+pub record IsTicked (which : Db) (before_reads after_reads : FileId → ℕ) (latest : FileId → Option (Option (List ℕ))) (settings : DbConf) (limit : Option ℕ) (now : ℕ) (seen after : List Record) (last_cycle : Type 0) : Type 0 where
   pub ends : EndsStale settings now seen after
   pub content : Content
   pub version_is : version_in after ends.version ≡ Some content
   pub files : IsLookedUp which before_reads after_reads latest content
   pub reloaded : Reloaded limit after
-  pub again : LoadsAgain (room_of settings) after
+  pub again : AreLoadedAgain (room_of settings) after ⊎ last_cycle
 
 -- why a tick gave up: as a lookup does; or no count of faults changed, and one that its ends need stands at its end
-abbrev pub IsTickFault : LookupFault → DbConf → ℕ → List Record → List Record → ℕ → ℕ → (FileId → ℕ) → (FileId → ℕ) → Type 0
-IsTickFault (fault.Spent count) settings now seen after before_faults after_faults before_each after_each =
-    (IsSpent after count ⊎ IsUnmoved after count (EndsStale settings now seen after)) × FaultsStay before_faults after_faults before_each after_each
-IsTickFault other settings now seen after before_faults after_faults before_each after_each = IsFault other after before_faults after_faults before_each after_each
+abbrev pub IsTickFault : LookupFault → DbConf → ℕ → List Record → List Record → Type 0 → ℕ → ℕ → (FileId → ℕ) → (FileId → ℕ) → Type 0
+IsTickFault (fault.Spent count) settings now seen after last_cycle before_faults after_faults before_each after_each =
+    (IsSpent after count ⊎ IsUnmoved after last_cycle count (EndsStale settings now seen after)) × FaultsStay before_faults after_faults before_each after_each
+IsTickFault other settings now seen after last_cycle before_faults after_faults before_each after_each = IsFault other after before_faults after_faults before_each after_each

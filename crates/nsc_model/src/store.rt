@@ -1,20 +1,23 @@
-ghost use Rattle.std.specs.Prelude.{◌≡◌, ◌<◌, ◌^◌, ◌≤◌, ℕ, List, Option, IsOk, length, IfOk, IfErr, OnOk};
+ghost use Rattle.std.specs.Prelude.{◌≡◌, ◌+◌, ◌<◌, ◌^◌, ◌≤◌, ℕ, List, Option, IsOk, length, IfOk, IfErr, OnOk};
 ghost use Rattle.std.specs.Bool.{OnFalse, OnTrue};
 ghost use Rattle.nsc_model.specs.declared.kind.Db.{Db};
 ghost use Rattle.nsc_model.specs.declared.kind.FileId.{FileId};
 ghost use Rattle.nsc_model.specs.declared.conf.DbConf.{DbConf};
 ghost use Rattle.nsc_model.specs.Content.{Content};
 ghost use Rattle.nsc_model.specs.declared.record.Record.{Record};
-ghost use Rattle.nsc_model.specs.Entry.{key_limit};
+ghost use Rattle.nsc_model.specs.Entry.{key_limit, kept_limit};
+ghost use Rattle.nsc_model.specs.InPlace.{InPlaceClause};
 ghost use Rattle.nsc_model.specs.Kinds.{database_of};
 ghost use Rattle.nsc_model.specs.History.{IsPrefix, Legal};
 ghost use Rattle.nsc_model.specs.Machine.{room_of};
 ghost use Rattle.nsc_model.specs.Reads.{FaultsStay};
-ghost use Rattle.nsc_model.specs.Stores.{Continues, GivesAnswer, GivesUp, IsCounted, IsEmptied, IsInvalidateFault, IsOfFiles, IsTicked, IsTickFault};
+ghost use Rattle.nsc_model.specs.Steady.{IsSteady};
+ghost use Rattle.nsc_model.specs.Stores.{Continues, FoundLastCycle, GivesAnswer, GivesUp, IsCounted, IsEmptied, IsInvalidateFault, IsOfFiles, IsTicked, IsTickFault};
 
 use crate::fault::CacheFault;
+use crate::in_place::InPlace;
 use crate::kind::{FileId, Kind};
-use nsc_base::{Bytes, NoMemory};
+use nsc_base::{Buf, Bytes, NoMemory};
 use std::alloc::Global;
 use std::sync::Wait;
 use thiserror::Error;
@@ -195,13 +198,21 @@ pub trait Store {
 
     ghost latest: { Self.Pass → FileId → Option (Option (List ℕ)) };
 
+    // How often a pass has begun a search in place, and what CYCLE was at the first and at the last load of its latest search.
+    ghost searches: { Self.Pass → ℕ };
+
+    ghost first: { Self.Pass → ℕ };
+
+    ghost last: { Self.Pass → ℕ };
+
     // The files that every read of the store gives, where these are told.
     ghost held: { Self → Option Content };
 
     /// A new pass. Fails only for want of memory.
     fn attach<R: Wait>(&self, rt: &R, alloc: Global) -> Result<Self::Pass, NoMemory>
         ensures pass { IfOk result (λ pass. is_pass self.now pass) }
-        ensures legal { IfOk result (λ pass. Legal (seen pass)) };
+        ensures legal { IfOk result (λ pass. Legal (seen pass)) }
+        ensures steady { IfOk result (λ pass. IsSteady (held self.now) (db self.now) (seen pass)) };
 
     /// Looks up the request of this kind and key at this moment, in seconds: the reply of its live entry, or else the answer
     /// over the files as they are read in this call, which is then kept where nothing refuses it.
@@ -220,7 +231,9 @@ pub trait Store {
         requires moment { now < 2 ^ 62 }
         ensures pass { is_pass self.now pass.new }
         ensures seen { Continues (seen pass.old) (seen pass.new) }
-        ensures answer { IfOk result (GivesAnswer (settings self.now) now (seen pass.old) (seen pass.new) (record { kind = kind; key = key.now })) }
+        ensures steady { IsSteady (held self.now) (db self.now) (seen pass.new) }
+        ensures searches { searches pass.old ≤ searches pass.new }
+        ensures answer { IfOk result (GivesAnswer (settings self.now) now (seen pass.old) (seen pass.new) (FoundLastCycle (searches pass.old) (searches pass.new) (last pass.new)) (record { kind = kind; key = key.now })) }
         ensures files { IfOk result (IsOfFiles (db self.now) (reads pass.old) (reads pass.new) (latest pass.new) (held self.now) (record { kind = kind; key = key.now })) }
         ensures fault { IfErr result (GivesUp (settings self.now) (seen pass.old) (seen pass.new) (record { kind = kind; key = key.now }) (faults pass.old) (faults pass.new) (file_faults pass.old) (file_faults pass.new)) }
         ensures no_fault { OnOk result (FaultsStay (faults pass.old) (faults pass.new) (file_faults pass.old) (file_faults pass.new)) };
@@ -241,9 +254,11 @@ pub trait Store {
         requires moment { now < 2 ^ 62 }
         ensures pass { is_pass self.now pass.new }
         ensures seen { Continues (seen pass.old) (seen pass.new) }
-        ensures ticked { OnOk result (OnTrue (settings self.now).enabled (IsTicked (db self.now) (reads pass.old) (reads pass.new) (latest pass.new) (settings self.now) (reloads self.now) now (seen pass.old) (seen pass.new))) }
+        ensures steady { OnTrue (settings self.now).enabled (IsSteady (held self.now) (db self.now) (seen pass.new)) }
+        ensures searches { searches pass.old ≤ searches pass.new }
+        ensures ticked { OnOk result (OnTrue (settings self.now).enabled (IsTicked (db self.now) (reads pass.old) (reads pass.new) (latest pass.new) (settings self.now) (reloads self.now) now (seen pass.old) (seen pass.new) (FoundLastCycle (searches pass.old) (searches pass.new) (last pass.new)))) }
         ensures uncached { OnFalse (settings self.now).enabled (IsOk result × (pass.new ≡ pass.old)) }
-        ensures fault { IfErr result (λ fault. IsTickFault fault (settings self.now) now (seen pass.old) (seen pass.new) (faults pass.old) (faults pass.new) (file_faults pass.old) (file_faults pass.new)) }
+        ensures fault { IfErr result (λ fault. IsTickFault fault (settings self.now) now (seen pass.old) (seen pass.new) (FoundLastCycle (searches pass.old) (searches pass.new) (last pass.new)) (faults pass.old) (faults pass.new) (file_faults pass.old) (file_faults pass.new)) }
         ensures no_fault { OnOk result (FaultsStay (faults pass.old) (faults pass.new) (file_faults pass.old) (file_faults pass.new)) };
 
     /// Ends every live entry as invalidated, and gives the new number of invalidations.
@@ -251,8 +266,25 @@ pub trait Store {
         requires { is_pass self.now pass.old }
         ensures pass { is_pass self.now pass.new }
         ensures seen { Continues (seen pass.old) (seen pass.new) }
+        ensures steady { IsSteady (held self.now) (db self.now) (seen pass.new) }
+        ensures searches { searches pass.old ≤ searches pass.new }
         ensures done { IfOk result (λ epoch. IsEmptied (seen pass.old) (seen pass.new) epoch) }
-        ensures fault { IfErr result (λ fault. IsInvalidateFault fault (seen pass.new)) }
+        ensures fault { IfErr result (λ fault. IsInvalidateFault fault (seen pass.new) (FoundLastCycle (searches pass.old) (searches pass.new) (last pass.new))) }
+        ensures no_fault { FaultsStay (faults pass.old) (faults pass.new) (file_faults pass.old) (file_faults pass.new) };
+
+    /// Searches for the live entry of the request of this kind and key while others go on, and puts its reply into the buffer of 65,536
+    /// bytes, which is empty at any other answer. It takes no lock, no memory and no runtime, and writes nothing. A database that is
+    /// not cached has no entries.
+    fn in_place(&self, pass: &mut Self::Pass, kind: Kind, key: &[u8], out: &mut Buf) -> InPlace
+        requires pass { is_pass self.now pass.old }
+        requires kind { database_of kind ≡ db self.now }
+        requires key { length key.now ≤ key_limit }
+        requires limit { out.old.limit ≡ kept_limit }
+        ensures pass { is_pass self.now pass.new }
+        ensures limit { out.new.limit ≡ out.old.limit }
+        ensures seen { Continues (seen pass.old) (seen pass.new) }
+        ensures searches { searches pass.new ≡ searches pass.old + 1 }
+        ensures answer { InPlaceClause (seen pass.old) (seen pass.new) (record { kind = kind; key = key.now }) (first pass.new) (last pass.new) out.new.content result }
         ensures no_fault { FaultsStay (faults pass.old) (faults pass.new) (file_faults pass.old) (file_faults pass.new) };
 
     /// What the database counts. Fails only for want of memory.
@@ -260,6 +292,8 @@ pub trait Store {
         requires { is_pass self.now pass.old }
         ensures pass { is_pass self.now pass.new }
         ensures seen { Continues (seen pass.old) (seen pass.new) }
+        ensures steady { IsSteady (held self.now) (db self.now) (seen pass.new) }
+        ensures searches { searches pass.old ≤ searches pass.new }
         ensures counted { IfOk result (λ stats. IsCounted (room_of (settings self.now)) (seen pass.new) stats) }
         ensures enabled { IfOk result (λ stats. stats.enabled ≡ (settings self.now).enabled) }
         ensures no_fault { FaultsStay (faults pass.old) (faults pass.new) (file_faults pass.old) (file_faults pass.new) };
@@ -270,6 +304,7 @@ pub trait Store {
         requires other { is_pass self.now other }
         ensures pass { is_pass self.now pass.new }
         ensures seen { Continues (seen pass.old) (seen pass.new) }
+        ensures searches { searches pass.old ≤ searches pass.new }
         ensures other { IsPrefix (seen other) (seen pass.new) }
         ensures no_fault { FaultsStay (faults pass.old) (faults pass.new) (file_faults pass.old) (file_faults pass.new) };
 }

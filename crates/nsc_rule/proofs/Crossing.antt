@@ -12,8 +12,8 @@ use Rattle.atomic_table.proofs.shared.Shared.TheSendSync as shareds
 use Rattle.atomic_table.proofs.send_lease.SendLease.TheSendSync as leases
 use Rattle.nsc_rule.specs.contracts.view.About as about
 use Rattle.nsc_rule.specs.contracts.view.View as view
-use Rattle.nsc_rule.specs.contracts.plays.Kept as kept
-use Rattle.nsc_rule.specs.contracts.plays.KeptTableRuleUnitViewAbout.TheImpl as rule
+use Rattle.nsc_rule.specs.contracts.plays.Rule as rule
+use Rattle.nsc_rule.specs.contracts.plays.RuleTableRuleUnitViewAbout.TheImpl as ruled
 use Rattle.nsc_rule.specs.contracts.pass.Pass as pass
 use Rattle.nsc_rule.specs.contracts.pen.Pen as pen
 use Rattle.nsc_rule.specs.contracts.map.Map as map
@@ -25,7 +25,7 @@ pub pen-send : IsSend pen.the_row
 pen-send = search (sendable, crosses, seats.the_send) depth 30
 
 abbrev words : RattleType
-words = table.the_row unit view.the_row about.the_row kept.the_row Heap.the_row rule.ghosts memory.ghosts
+words = table.the_row unit view.the_row about.the_row rule.the_row Heap.the_row ruled.ghosts memory.ghosts
 
 words-send : IsSend words
 words-send = search (sendable, crosses, shareds.the_send, leases.the_send, heap.send, heap.frees) depth 30

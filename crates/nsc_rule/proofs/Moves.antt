@@ -1,5 +1,5 @@
 -- Each step of a seat keeps the rule.
-use Rattle.std.proofs.Common.{◌≡◌, ◌≢◌, ◌∙◌, ℕ, ◌<◌, ◌≤◌, cond, Bool, true, false, List, [], ◌++◌, length, length-append, set, slice_index, refl, sym, ap, subst, ⊎_elim, arith}
+use Rattle.std.proofs.Common.{◌≡◌, ◌≢◌, ◌∙◌, ℕ, ◌+◌, ◌<◌, ◌≤◌, cond, Bool, true, false, List, [], ◌++◌, length, length-append, set, slice_index, refl, sym, ap, subst, ⊎_elim, arith}
 use Rattle.std.specs.Prelude.{nat_lt}
 use Rattle.std.proofs.lemmas.Bool.Decides.{nat_tests}
 use Rattle.std.proofs.lemmas.List.{set-get_or}
@@ -12,12 +12,12 @@ use Rattle.nsc_model.specs.History.{IsPrefix}
 use Rattle.nsc_model.specs.declared.record.Record.{Record}
 use Rattle.nsc_model.proofs.Beginnings.{prefix_all, prefix_none, prefix_between}
 use Rattle.nsc_rule.specs.declared.view.Plan.{Plan}
-use Rattle.nsc_rule.specs.declared.view.Walk.{Walk}
+use Rattle.nsc_rule.specs.declared.view.Search.{Search}
 use Rattle.nsc_rule.specs.declared.view.View.{View}
 use Rattle.nsc_rule.specs.declared.view.View.TheVariants.{Writes, Reads}
 use Rattle.nsc_rule.specs.Plans.{Later, Sound}
-use Rattle.nsc_rule.specs.Seats.{Fits, Follows, IsKept, LearnTells, LoadTells, MeetTells, WriteTells, is_retired, longer, nobody, plan_by, reader_of, reading, seen_by, shown, told_of, walk_by, writing}
-use Rattle.nsc_rule.proofs.Onward.{follows_on, nobody_fits, reader_fits, shown_fits, told_fits}
+use Rattle.nsc_rule.specs.Seats.{Fits, Follows, IsKept, LearnTells, LoadTells, MeetTells, WriteTells, absorbed, is_retired, longer, nobody, plan_by, reader_of, reading, seen_by, shown, told_of, searching_by, writing}
+use Rattle.nsc_rule.proofs.Onward.{absorbed_fits, follows_on, nobody_fits, reader_fits, shown_fits, told_fits}
 
 -- the views once one seat has another one
 fits_set : (p : Plan) (views : List View) (seat : ℕ) (w : View) → ((j : ℕ) (u : View) → j ≢ seat → get_elem? views j ≡ some u → Fits p j u) → Fits p seat w
@@ -34,7 +34,7 @@ kept_set p views seat w all mine = fits_set p views seat w (λ j u apart e. all 
 -- another seat than the one that writes follows a later plan
 others_on : (p p' k : Plan) (id j : ℕ) (u : View) → p ≡ k → id ≡ 0 → Later p p' → j ≢ id → Fits k j u → Fits p' j u
 others_on p p' k id j (Writes plan told) same mine later apart fits = absurd (apart (fits.0 ∙ sym mine))
-others_on p p' k id j (Reads seen told retired walk) same mine later apart fits = follows_on p p' (Reads seen told retired walk) later (subst (λ (q : Plan). Follows q (Reads seen told retired walk)) (sym same) fits)
+others_on p p' k id j (Reads seen told retired searching) same mine later apart fits = follows_on p p' (Reads seen told retired searching) later (subst (λ (q : Plan). Follows q (Reads seen told retired searching)) (sym same) fits)
 
 -- ---- a step of the pen
 
@@ -122,16 +122,16 @@ longest a b h p q = by_test (nat_lt (length a) (length b)) refl where
   by_test false t = record { first = prefix_all a; second = prefix_between b a h q p (high t); of_all = p; whole = λ e. e }
 
 -- the longer one of what a seat had seen and what it was told of
-meets : (key : Layout) (slots id at : ℕ) (seen told : List Record) (retired : Bool) (w : Walk)
+meets : (key : Layout) (slots id at : ℕ) (seen told : List Record) (retired : Bool) (w : Search)
     → Allows (IsKept key) slots id (Reads seen told retired w, []) at (λ n. n) (MeetTells (step slots at 0 0 none) (Reads seen told retired w, []))
 meets key slots id at seen told retired w = looks key slots id at (Reads seen told retired w) (MeetTells (step slots at 0 0 none) (Reads seen told retired w, [])) (λ k sound layout was.
     let both = longest seen told k.seen was.seen was.told in (
       reading (longer seen told) retired w,
       record { seen = both.of_all; told = prefix_none k.seen; began = was.began; first = was.first; known = was.known; retired = λ is. ((was.retired is).0, both.whole (was.retired is).1); reaches = was.reaches },
-      (both.first, both.second, refl),
+      (both.first, both.second, λ is. let all = (was.retired is).1 in both.whole all ∙ sym all, refl),
     ))
 
-pub meets_as : (key : Layout) (slots id at : ℕ) (me : Me (Unit {0}) View) (seen told : List Record) (retired : Bool) (w : Walk) → me ≡ (Reads seen told retired w, []) → Allows (IsKept key) slots id me at (λ n. n) (MeetTells (step slots at 0 0 none) me)
+pub meets_as : (key : Layout) (slots id at : ℕ) (me : Me (Unit {0}) View) (seen told : List Record) (retired : Bool) (w : Search) → me ≡ (Reads seen told retired w, []) → Allows (IsKept key) slots id me at (λ n. n) (MeetTells (step slots at 0 0 none) me)
 meets_as key slots id at me seen told retired w is = let P : Me (Unit {0}) View → Type 0 = λ m. Allows (IsKept key) slots id m at (λ n. n) (MeetTells (step slots at 0 0 none) m) in subst P (sym is) (meets key slots id at seen told retired w)
 
 -- ---- splits and joins
@@ -167,11 +167,23 @@ tells key id other v w s kept at apart there = joins key s id other v w (told_of
 pub shows : (key : Layout) (id other : ℕ) (v w : View) → Joins (IsKept key) id v other w (shown v w) nobody
 shows key id other v w s kept at apart there = joins key s id other v w (shown v w) kept at apart there (shown_fits kept.plan id other v w)
 
+pub absorbs : (key : Layout) (id other : ℕ) (v w : View) → Joins (IsKept key) id v other w (absorbed v w) nobody
+absorbs key id other v w s kept at apart there = joins key s id other v w (absorbed v w) kept at apart there (absorbed_fits kept.plan id other v w)
+
 -- ---- what a seat knows once it was told
 
-pub told_reader : (me other new : Me (Unit {0}) View) (heard : List Record) → me ≡ (reading (seen_by me.0) (is_retired me.0) (walk_by me.0), []) → new ≡ (told_of me.0 other.0, me.1) → seen_by other.0 ≡ heard
-    → new ≡ (Reads (seen_by me.0) heard (is_retired me.0) (walk_by me.0), [])
-told_reader me other new heard is joined said = joined ∙ (λ i. (told_of (is i).0 other.0, (is i).1)) ∙ (λ i. (Reads (seen_by me.0) (said i) (is_retired me.0) (walk_by me.0), []))
+-- a search that counts so many more
+abbrev pub with_searches : ℕ → Search → Search
+with_searches more w = record w { searches = w.searches + more }
+
+pub told_reader : (me other new : Me (Unit {0}) View) (heard : List Record) → me ≡ (reading (seen_by me.0) (is_retired me.0) (searching_by me.0), []) → new ≡ (told_of me.0 other.0, me.1) → seen_by other.0 ≡ heard
+    → new ≡ (Reads (seen_by me.0) heard (is_retired me.0) (searching_by me.0), [])
+told_reader me other new heard is joined said = joined ∙ (λ i. (told_of (is i).0 other.0, (is i).1)) ∙ (λ i. (Reads (seen_by me.0) (said i) (is_retired me.0) (searching_by me.0), []))
+
+-- the same, with the searches of the other one
+pub absorbed_reader : (me other new : Me (Unit {0}) View) (heard : List Record) (more : ℕ) → me ≡ (reading (seen_by me.0) (is_retired me.0) (searching_by me.0), []) → new ≡ (absorbed me.0 other.0, me.1) → seen_by other.0 ≡ heard → (searching_by other.0).searches ≡ more
+    → new ≡ (Reads (seen_by me.0) heard (is_retired me.0) (with_searches more (searching_by me.0)), [])
+absorbed_reader me other new heard more is joined said counted = joined ∙ (λ i. (absorbed (is i).0 other.0, (is i).1)) ∙ (λ i. (Reads (seen_by me.0) (said i) (is_retired me.0) (with_searches (counted i) (searching_by me.0)), []))
 
 pub told_writer : (me other new : Me (Unit {0}) View) (heard : List Record) → me ≡ (writing (plan_by me.0), []) → new ≡ (told_of me.0 other.0, me.1) → seen_by other.0 ≡ heard → new ≡ (Writes (plan_by me.0) heard, [])
 told_writer me other new heard is joined said = joined ∙ (λ i. (told_of (is i).0 other.0, (is i).1)) ∙ (λ i. (Writes (plan_by me.0) (said i), []))

@@ -11,7 +11,7 @@ use Rattle.nsc_model.specs.Entry.{Entry}
 use Rattle.nsc_rule.specs.declared.view.Plan.{Plan}
 use Rattle.nsc_rule.specs.Entries.{entry_of, request_bucket, request_in}
 use Rattle.nsc_rule.specs.Plans.{Shows, filled}
-use Rattle.nsc_rule.specs.Walks.{IsWithin, entry_at}
+use Rattle.nsc_rule.specs.Searches.{IsWithin, entry_at}
 use Rattle.nsc_rule.proofs.Filled.{filled_at}
 
 -- a node of the plan stands in its words

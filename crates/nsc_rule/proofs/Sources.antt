@@ -1,6 +1,5 @@
 -- The database is invalidated, or its files are looked at.
 use Rattle.std.proofs.Common.{◌≡◌, ◌≢◌, ◌∙◌, ℕ, ◌+◌, ◌%◌, ◌<◌, ◌≤◌, false, List, [], ◌∷◌, Some, length-set, set, slice_index, refl, sym, ap, arith, get_or-set_other, get_or-set_same}
-use Rattle.std.proofs.lemmas.List.{set-get_or}
 use Rattle.nsc_words.specs.declared.node.Placed.{Placed}
 use Rattle.nsc_model.specs.Content.{Content}
 use Rattle.nsc_model.specs.Entry.{Entry}
@@ -11,7 +10,7 @@ use Rattle.nsc_model.specs.History.{changes, invalidations, loads, newest, IsLiv
 use Rattle.nsc_model.proofs.Beginnings.{prefix_all, prefix_more}
 use Rattle.nsc_rule.specs.declared.view.Plan.{Plan}
 use Rattle.nsc_rule.specs.Plans.{Later, Shows, Sits, Sound}
-use Rattle.nsc_rule.specs.Strokes.{after, changed, invalidation_added, poll_added}
+use Rattle.nsc_rule.specs.Strokes.{after, changed, invalidation_added}
 use Rattle.nsc_rule.specs.declared.view.Stroke.TheVariants as stroke
 use Rattle.nsc_rule.proofs.Filled.{first_stays, grows_same, head_set, later_at, number_stays, sits_on, zeros_stay}
 
@@ -94,12 +93,6 @@ sound_polled p word is sound =
 
 pub later_polled : (p : Plan) (word : ℕ) → p.retired ≡ false → Later p (after stroke.Poll 2 word p)
 later_polled p word active = later_said p (Poll word) 2 word (omega arith) active
-
--- the word that stands there is written again
-pub polled_is : (p : Plan) (word : ℕ) → word ≡ slice_index p.words 2 → after stroke.Poll 2 word p ≡ poll_added p
-polled_is p word is = λ i. record { layout = p.layout; seen = Poll (is i) ∷ p.seen; words = same i; nodes = p.nodes; counted = p.counted; retired = p.retired } where
-  same : set p.words 2 word ≡ p.words
-  same = ap (λ (w : ℕ). set p.words 2 w) is ∙ set-get_or p.words 2 0
 
 legal_change : (h : List Record) (version : ℕ) (content : Content) → Legal h → version ≡ changes h → newest h ≢ Some content → Legal (Change version content ∷ h)
 legal_change [] version content legal is new = absurd legal

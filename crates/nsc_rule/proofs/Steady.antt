@@ -1,5 +1,5 @@
 -- Steps of the pen that leave the history as it is.
-use Rattle.std.proofs.Common.{◌≡◌, ◌≢◌, ◌∙◌, ℕ, ◌+◌, ◌%◌, ◌^◌, ◌<◌, ◌≤◌, true, false, ◌⊎◌, ⊎_elim, List, length-set, set, slice_index, refl, sym, ap, subst, arith, get_or-set_other, get_or-set_same}
+use Rattle.std.proofs.Common.{◌≡◌, ◌≢◌, ◌∙◌, ℕ, ◌+◌, ◌%◌, ◌^◌, ◌<◌, ◌≤◌, Bool, true, false, ◌⊎◌, ⊎_elim, List, length-set, set, slice_index, refl, sym, ap, subst, arith, get_or-set_other, get_or-set_same}
 use Rattle.std.proofs.lemmas.Bool.{cases_eq}
 use Rattle.nsc_words.specs.declared.node.Placed.{Placed}
 use Rattle.nsc_words.specs.Laid.{Laid, end_of}
@@ -11,7 +11,7 @@ use Rattle.nsc_model.specs.Machine.{last_count}
 use Rattle.nsc_model.proofs.Beginnings.{prefix_all}
 use Rattle.nsc_rule.specs.declared.view.Plan.{Plan}
 use Rattle.nsc_rule.specs.Plans.{IsEven, IsOdd, Later, Shows, Sound, cycle_of, end_in, filled}
-use Rattle.nsc_rule.specs.Strokes.{IsFree, ShowsAgain, begun, finished, node_counted, stored}
+use Rattle.nsc_rule.specs.Strokes.{IsFree, ShowsAgain, begun, finished, left, node_counted, stored}
 use Rattle.nsc_rule.proofs.Filled.{filled_again, filled_set, grows_same, head_set, later_at, number_stays, sound_above, sound_at, zeros_stay}
 
 -- ---- a word behind the nodes
@@ -88,14 +88,14 @@ sound_slide p at word place odd sound = ⊎_elim
 next_cycle : (p : Plan) → Sound p → slice_index (set p.words 0 (slice_index p.words 0 + 1)) 0 ≡ slice_index p.words 0 + 1
 next_cycle p sound = let wide = sound.wide in get_or-set_same p.words 0 (slice_index p.words 0 + 1) 0 (omega arith)
 
-later_cycle : (p : Plan) (nodes : List Placed) → p.retired ≡ false → Sound p → Later p (record { layout = p.layout; seen = p.seen; words = set p.words 0 (slice_index p.words 0 + 1); nodes = nodes; counted = p.counted; retired = p.retired })
-later_cycle p nodes active sound =
+later_cycle : (p : Plan) (nodes : List Placed) (retired : Bool) → p.retired ≡ false → Sound p → Later p (record { layout = p.layout; seen = p.seen; words = set p.words 0 (slice_index p.words 0 + 1); nodes = nodes; counted = p.counted; retired = retired })
+later_cycle p nodes retired active sound =
     let next = next_cycle p sound in
     record { active = active; layout = refl; grown = prefix_all p.seen; forward = omega arith; same = λ is even. absurd (omega arith) }
 
-sound_cycle : (p : Plan) (nodes : List Placed) → cycle_of p < 2 ^ 62 → Sound p → ((slice_index p.words 0 + 1) % 2 ≡ 0 → Shows p.layout (set p.words 0 (slice_index p.words 0 + 1)) p.seen nodes) → ((slice_index p.words 0 + 1) % 2 ≡ 0 → slice_index p.words 3 ≡ end_of (arena_start p.layout) nodes)
-    → Sound (record { layout = p.layout; seen = p.seen; words = set p.words 0 (slice_index p.words 0 + 1); nodes = nodes; counted = p.counted; retired = p.retired })
-sound_cycle p nodes room sound shows first =
+sound_cycle : (p : Plan) (nodes : List Placed) (retired : Bool) → cycle_of p < 2 ^ 62 → Sound p → ((slice_index p.words 0 + 1) % 2 ≡ 0 → Shows p.layout (set p.words 0 (slice_index p.words 0 + 1)) p.seen nodes) → ((slice_index p.words 0 + 1) % 2 ≡ 0 → slice_index p.words 3 ≡ end_of (arena_start p.layout) nodes)
+    → Sound (record { layout = p.layout; seen = p.seen; words = set p.words 0 (slice_index p.words 0 + 1); nodes = nodes; counted = p.counted; retired = retired })
+sound_cycle p nodes retired room sound shows first =
     let word : ℕ = slice_index p.words 0 + 1 in
     let next = next_cycle p sound in
     let same : (i : ℕ) → 0 < i → slice_index (set p.words 0 word) i ≡ slice_index p.words i = λ i low. let other : i ≢ 0 = omega arith in get_or-set_other p.words 0 i word 0 other in
@@ -120,10 +120,16 @@ sound_cycle p nodes room sound shows first =
     }
 
 pub sound_begun : (p : Plan) → IsEven p → cycle_of p < last_count → Sound p → Sound (begun p)
-sound_begun p even room sound = sound_cycle p p.nodes room sound (λ again. absurd (omega arith)) (λ again. absurd (omega arith))
+sound_begun p even room sound = sound_cycle p p.nodes p.retired room sound (λ again. absurd (omega arith)) (λ again. absurd (omega arith))
 
 pub later_begun : (p : Plan) → p.retired ≡ false → Sound p → Later p (begun p)
-later_begun p active sound = later_cycle p p.nodes active sound
+later_begun p active sound = later_cycle p p.nodes p.retired active sound
+
+pub sound_left : (p : Plan) → IsEven p → cycle_of p < last_count → Sound p → Sound (left p)
+sound_left p even room sound = sound_cycle p p.nodes true room sound (λ again. absurd (omega arith)) (λ again. absurd (omega arith))
+
+pub later_left : (p : Plan) → p.retired ≡ false → Sound p → Later p (left p)
+later_left p active sound = later_cycle p p.nodes true active sound
 
 pub odd_room : (p : Plan) → IsOdd p → Sound p → cycle_of p < last_count
 odd_room p odd sound = let cycle = sound.cycle in let differs : cycle_of p ≢ 2 ^ 62 = λ e. absurd (two_parts (cycle_of p) odd e) in omega arith where
@@ -131,10 +137,10 @@ odd_room p odd sound = let cycle = sound.cycle in let differs : cycle_of p ≢ 2
   two_parts n odd e = omega arith
 
 pub sound_finished : (p : Plan) → IsOdd p → ShowsAgain p → Sound p → Sound (finished p)
-sound_finished p odd slid sound = sound_cycle p (nodes_in p.words p.layout) (odd_room p odd sound) sound (λ even. record { laid = head_set p.layout p.words (nodes_in p.words p.layout) 0 (slice_index p.words 0 + 1) (omega arith) (omega arith) slid.shows.laid; sits = slid.shows.sits }) (λ even. slid.first_free)
+sound_finished p odd slid sound = sound_cycle p (nodes_in p.words p.layout) p.retired (odd_room p odd sound) sound (λ even. record { laid = head_set p.layout p.words (nodes_in p.words p.layout) 0 (slice_index p.words 0 + 1) (omega arith) (omega arith) slid.shows.laid; sits = slid.shows.sits }) (λ even. slid.first_free)
 
 pub later_finished : (p : Plan) → p.retired ≡ false → Sound p → Later p (finished p)
-later_finished p active sound = later_cycle p (nodes_in p.words p.layout) active sound
+later_finished p active sound = later_cycle p (nodes_in p.words p.layout) p.retired active sound
 
 -- ---- places
 

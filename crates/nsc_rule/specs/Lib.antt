@@ -5,4 +5,4 @@ pub mod Strokes
 pub mod Seats
 pub mod Pen
 pub mod Pass
-pub mod Walks
+pub mod Searches

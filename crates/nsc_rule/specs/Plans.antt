@@ -1,5 +1,5 @@
 -- What the pen knows of a table, and what holds of it between any two steps.
-use Rattle.std.specs.Prelude.{◌≡◌, ℕ, ◌+◌, ◌%◌, ◌^◌, ◌<◌, ◌≤◌, true, false, ◌⊎◌, List, [], ◌∷◌, length, replicate, slice_index, slice_set}
+use Rattle.std.specs.Prelude.{◌≡◌, ℕ, ◌+◌, ◌-◌, ◌%◌, ◌^◌, ◌<◌, ◌≤◌, true, false, ◌⊎◌, List, [], ◌∷◌, ◌++◌, length, replicate, slice_index, slice_set}
 use Rattle.nsc_words.specs.declared.layout.Layout.{Layout}
 use Rattle.nsc_words.specs.declared.node.Placed.{Placed}
 use Rattle.nsc_words.specs.Laid.{Among, Laid, end_of}
@@ -85,3 +85,28 @@ no_nodes layout = slice_set (replicate (table_words layout) 0) 3 (arena_start la
 -- the history is this content as version 0
 abbrev pub first_plan : Layout → Content → Plan
 first_plan layout content = record { layout = layout; seen = record_of.Change 0 content ∷ []; words = no_nodes layout; nodes = []; counted = true; retired = false }
+
+-- ---- the plan of a table that goes on in place of another one
+
+-- CYCLE goes on by one, and so is odd, and all that is counted goes on. There is no node, so FIRST_FREE is 0
+abbrev pub heads_after : List ℕ → List ℕ
+heads_after words =
+    (slice_index words 0 + 1)
+    ∷ slice_index words 1
+    ∷ slice_index words 2
+    ∷ 0
+    ∷ slice_index words 4
+    ∷ slice_index words 5
+    ∷ slice_index words 6
+    ∷ slice_index words 7
+    ∷ slice_index words 8
+    ∷ slice_index words 9
+    ∷ []
+
+-- all other words are 0
+abbrev pub words_after : Layout → List ℕ → List ℕ
+words_after layout words = heads_after words ++ replicate (table_words layout - 10) 0
+
+-- the history goes on
+abbrev pub succeeding : Layout → Plan → Plan
+succeeding layout p = record { layout = layout; seen = p.seen; words = words_after layout p.words; nodes = []; counted = p.counted; retired = false }

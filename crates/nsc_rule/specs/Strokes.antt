@@ -29,6 +29,7 @@ seen_after stroke.Even word p = p.seen
 seen_after stroke.Invalid word p = record_of.Invalid word ∷ p.seen
 seen_after stroke.Poll word p = record_of.Poll word ∷ p.seen
 seen_after (stroke.Change content) word p = record_of.Change word content.value ∷ p.seen
+seen_after stroke.Retire word p = p.seen
 
 abbrev pub nodes_after : Stroke → ℕ → Plan → List Placed
 nodes_after stroke.Plain word p = p.nodes
@@ -40,6 +41,7 @@ nodes_after stroke.Even word p = nodes_in p.words p.layout
 nodes_after stroke.Invalid word p = p.nodes
 nodes_after stroke.Poll word p = p.nodes
 nodes_after (stroke.Change content) word p = p.nodes
+nodes_after stroke.Retire word p = p.nodes
 
 -- an insertion is under way from the link of its node on until the node is counted
 abbrev pub counted_after : Stroke → Bool → Bool
@@ -52,9 +54,23 @@ counted_after stroke.Even counted = counted
 counted_after stroke.Invalid counted = counted
 counted_after stroke.Poll counted = counted
 counted_after (stroke.Change content) counted = counted
+counted_after stroke.Retire counted = counted
+
+-- another table goes on in place of this one, from then on
+abbrev pub retired_after : Stroke → Bool → Bool
+retired_after stroke.Plain retired = retired
+retired_after (stroke.Reloads place) retired = retired
+retired_after stroke.Publish retired = retired
+retired_after stroke.Counted retired = retired
+retired_after (stroke.End place cause) retired = retired
+retired_after stroke.Even retired = retired
+retired_after stroke.Invalid retired = retired
+retired_after stroke.Poll retired = retired
+retired_after (stroke.Change content) retired = retired
+retired_after stroke.Retire retired = true
 
 abbrev pub after : Stroke → ℕ → ℕ → Plan → Plan
-after s at word p = record { layout = p.layout; seen = seen_after s word p; words = slice_set p.words at word; nodes = nodes_after s word p; counted = counted_after s p.counted; retired = p.retired }
+after s at word p = record { layout = p.layout; seen = seen_after s word p; words = slice_set p.words at word; nodes = nodes_after s word p; counted = counted_after s p.counted; retired = retired_after s p.retired }
 
 -- ---- each step by its name
 
@@ -85,6 +101,10 @@ begun p = after stroke.Plain 0 (slice_index p.words 0 + 1) p
 -- CYCLE goes on by one: a compaction is over, and the nodes are those that the words have now
 abbrev pub finished : Plan → Plan
 finished p = after stroke.Even 0 (slice_index p.words 0 + 1) p
+
+-- CYCLE goes on by one for good: another table goes on in place of this one
+abbrev pub left : Plan → Plan
+left p = after stroke.Retire 0 (slice_index p.words 0 + 1) p
 
 -- the database was invalidated once more
 abbrev pub invalidation_added : Plan → Plan

@@ -7,9 +7,11 @@ mod pass;
 mod pen;
 mod plays;
 mod steps;
+mod succession;
 mod view;
 mod writing;
 
 pub use map::{Map, start};
 pub use pass::Pass;
 pub use pen::Pen;
+pub use succession::{carry, succeed};

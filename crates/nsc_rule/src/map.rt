@@ -1,12 +1,12 @@
-ghost use Rattle.std.specs.Prelude.{◌≡◌, IfOk};
+ghost use Rattle.std.specs.Prelude.{◌≡◌, false, IfOk};
 ghost use Rattle.nsc_words.specs.Layout.{IsLayout, table_words};
-ghost use Rattle.nsc_rule.specs.Plans.{first_plan, no_nodes};
-ghost use Rattle.nsc_rule.specs.Seats.{resting};
+ghost use Rattle.nsc_rule.specs.Plans.{Sound, cycle_of, first_plan, no_nodes};
+ghost use Rattle.nsc_rule.specs.Seats.{opening_plan, rested};
 
 use crate::pass::Pass;
 use crate::pen::Pen;
-use crate::plays::Kept;
-use crate::view::{About, View};
+use crate::plays::Rule;
+use crate::view::{About, Origin, View};
 use atomic_table::{Shared, Table};
 use nsc_base::NoMemory;
 use nsc_model::Content;
@@ -17,7 +17,7 @@ use std::snapshot::Snapshot;
 use std::sync::Arc;
 
 // The words, with the memory that they stand in.
-type Words = Table<(), View, About, Kept, Global>;
+type Words = Table<(), View, About, Rule, Global>;
 
 /// A handle on the words that the threads of one database share.
 #[derive(Drop)]
@@ -59,7 +59,7 @@ impl Map {
     }
 
     // The words.
-    pub(crate) fn words(&self) -> &Shared<(), View, About, Kept>
+    pub(crate) fn words(&self) -> &Shared<(), View, About, Rule>
         ensures words { result.now.table_id ≡ self.now.table }
         ensures count { result.now.table_id.words ≡ table_words self.now.layout }
         ensures key { result.now.key.layout ≡ self.now.layout }
@@ -74,19 +74,34 @@ pub fn start(alloc: Global, layout: Layout, content: &Content) -> Result<(Map, P
     requires { IsLayout layout }
     ensures map { IfOk result (λ r. r.0.layout ≡ layout) }
     ensures pen { IfOk result (λ r. r.1 ≡ record { table = r.0.table; plan = first_plan layout content.now }) }
-    ensures pass { IfOk result (λ r. r.2 ≡ record { table = r.0.table; seen = (first_plan layout content.now).seen; walk = resting }) }
+    ensures pass { IfOk result (λ r. r.2 ≡ record { table = r.0.table; seen = (first_plan layout content.now).seen; retired = false; searching = rested (cycle_of (first_plan layout content.now)) }) }
 {
     let words = first_words(alloc, layout)?;
-    let about = About {
-        layout,
-        content: Snapshot::of(content),
-    };
-    let (table, seat) = Words::of_words(alloc, words.as_slice(), &about)?;
+    let origin = Origin::Fresh(Snapshot::of(content));
+    begin(alloc, layout, origin, words.as_slice())
+}
+
+// A table that begins with these words, with its pen and a first pass. Fails only for want of memory.
+pub(crate) fn begin(
+    alloc: Global,
+    layout: Layout,
+    origin: Origin,
+    words: &[u64],
+) -> Result<(Map, Pen, Pass), NoMemory>
+    requires layout { (opening_plan layout origin).layout ≡ layout }
+    requires words { words.now ≡ (opening_plan layout origin).words }
+    requires sound { Sound (opening_plan layout origin) }
+    ensures map { IfOk result (λ r. r.0.layout ≡ layout) }
+    ensures pen { IfOk result (λ r. r.1 ≡ record { table = r.0.table; plan = opening_plan layout origin }) }
+    ensures pass { IfOk result (λ r. r.2 ≡ record { table = r.0.table; seen = (opening_plan layout origin).seen; retired = (opening_plan layout origin).retired; searching = rested (cycle_of (opening_plan layout origin)) }) }
+{
+    let about = About { layout, origin };
+    let (table, seat) = Words::of_words(alloc, words, &about)?;
     let map = Map {
         layout,
         words: Arc::new(alloc, table)?,
     };
-    let mut pen = Pen::new(seat, layout);
+    let mut pen = Pen::new(seat, words);
     let pass = pen.pass(&map);
     Ok((map, pen, pass))
 }

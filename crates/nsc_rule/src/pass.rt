@@ -1,15 +1,16 @@
-ghost use Rattle.std.specs.Prelude.{◌≡◌, ◌⊎◌, [], ◌∷◌};
+ghost use Rattle.std.specs.Prelude.{◌≡◌, ◌+◌, ◌⊎◌, true, [], ◌∷◌};
 ghost use Rattle.nsc_model.specs.History.{Legal, IsPrefix};
-ghost use Rattle.nsc_rule.specs.Seats.{is_retired, reading, seen_by, walk_by};
+ghost use Rattle.nsc_rule.specs.Seats.{informed, is_retired, reading, seen_by, searching_by};
 
 use crate::map::Map;
-use crate::plays::{Copies, Hears, Meets, Shows};
+use crate::plays::{Absorbs, Copies, Hears, Meets, Shows};
 use crate::view::View;
 use atomic_table::Seat;
 use nsc_words::CYCLE;
 use std::marker::Model;
 
-/// A seat at the words of a database that only reads, with what it has seen of the history, and how far its search has come.
+/// A seat at the words of a database that only reads, with what it has seen of the history, whether it has seen that another table goes
+/// on in place of these words, and how far its search has come.
 #[derive(Drop)]
 pub struct Pass {
     pub(crate) seat: Seat<(), View>,
@@ -19,27 +20,27 @@ impl Model for Pass {
     ghost use Rattle.std.specs.Prelude.{◌≡◌, []};
     ghost use Rattle.nsc_model.specs.History.{Legal};
     ghost use Rattle.nsc_rule.specs.Pass.{Pass};
-    ghost use Rattle.nsc_rule.specs.Seats.{is_retired, reading, seen_by, walk_by};
+    ghost use Rattle.nsc_rule.specs.Seats.{is_retired, reading, seen_by, searching_by};
 
     ghost Value = { Pass };
 
-    ghost view = { λ p. record { table = p.seat.table_id; seen = seen_by p.seat.me.0; walk = walk_by p.seat.me.0 } };
+    ghost view = { λ p. record { table = p.seat.table_id; seen = seen_by p.seat.me.0; retired = is_retired p.seat.me.0; searching = searching_by p.seat.me.0 } };
 
-    ghost invariant = { λ p. (p.seat.me ≡ (reading (seen_by p.seat.me.0) (is_retired p.seat.me.0) (walk_by p.seat.me.0), [])) × Legal (seen_by p.seat.me.0) };
+    ghost invariant = { λ p. (p.seat.me ≡ (reading (seen_by p.seat.me.0) (is_retired p.seat.me.0) (searching_by p.seat.me.0), [])) × Legal (seen_by p.seat.me.0) };
 }
 
 impl Pass {
     // The pass of a seat that has seen this.
     pub(crate) fn new(seat: Seat<(), View>) -> Pass
-        requires { (seat.me ≡ (reading (seen_by seat.me.0) (is_retired seat.me.0) (walk_by seat.me.0), [])) × Legal (seen_by seat.me.0) }
-        ensures { result ≡ record { table = seat.table_id; seen = seen_by seat.me.0; walk = walk_by seat.me.0 } }
+        requires { (seat.me ≡ (reading (seen_by seat.me.0) (is_retired seat.me.0) (searching_by seat.me.0), [])) × Legal (seen_by seat.me.0) }
+        ensures { result ≡ record { table = seat.table_id; seen = seen_by seat.me.0; retired = is_retired seat.me.0; searching = searching_by seat.me.0 } }
     {
         Pass { seat }
     }
 
     // Its seat.
     pub(crate) fn into_seat(self) -> Seat<(), View>
-        ensures seat { (result.table_id ≡ self.table) × (result.me ≡ (reading self.seen (is_retired result.me.0) self.walk, [])) }
+        ensures seat { (result.table_id ≡ self.table) × (result.me ≡ (reading self.seen self.retired self.searching, [])) }
         ensures legal { Legal self.seen }
     {
         self.seat
@@ -61,17 +62,18 @@ impl Pass {
         Pass::new(map.words().split_seat::<Copies>(&mut self.seat))
     }
 
-    // It has seen what another one has seen. Its search stays.
+    // It has seen what another one has seen, also whether another table goes on, and knows the later CYCLE of the two. Its search stays.
     pub(crate) fn take(&mut self, map: &Map, whole: Pass)
         requires map { map.now.table ≡ self.old.table }
         requires whole { map.now.table ≡ whole.table }
-        ensures { self.new ≡ record self.old { seen = whole.seen } }
+        ensures { self.new ≡ record self.old { seen = whole.seen; retired = whole.retired; searching = informed self.old.searching whole.searching.known } }
     {
         let whole = whole.into_seat();
         map.words().join_seat::<Shows>(&mut self.seat, whole);
     }
 
-    /// It has seen the longer one of what it and the other one had seen. Both begin that. Its search stays.
+    /// It has seen the longer one of what it and the other one had seen. Both begin that. Its search stays, and where it has seen that
+    /// another table goes on, so does what it has seen.
     pub fn meet(&mut self, map: &Map, other: Pass)
         requires map { map.now.table ≡ self.old.table }
         requires other { map.now.table ≡ other.table }
@@ -79,11 +81,27 @@ impl Pass {
         ensures before { IsPrefix self.old.seen self.new.seen }
         ensures other { IsPrefix other.seen self.new.seen }
         ensures either { (self.new.seen ≡ self.old.seen) ⊎ (self.new.seen ≡ other.seen) }
-        ensures walk { self.new.walk ≡ self.old.walk }
+        ensures retired { self.new.retired ≡ self.old.retired }
+        ensures whole { self.old.retired ≡ true → self.new.seen ≡ self.old.seen }
+        ensures searching { self.new.searching ≡ self.old.searching }
     {
         let words = map.words();
         let other = other.into_seat();
         words.join_seat::<Hears>(&mut self.seat, other);
+        words.load::<Meets>(&mut self.seat, CYCLE);
+    }
+
+    /// It counts the searches of the other one too, and has seen already what that had seen: it has seen that another table goes on.
+    pub fn absorb(&mut self, map: &Map, other: Pass)
+        requires map { map.now.table ≡ self.old.table }
+        requires other { map.now.table ≡ other.table }
+        requires retired { self.old.retired ≡ true }
+        ensures pass { self.new ≡ record self.old { searching = record self.old.searching { searches = self.old.searching.searches + other.searching.searches } } }
+        ensures other { IsPrefix other.seen self.old.seen }
+    {
+        let words = map.words();
+        let other = other.into_seat();
+        words.join_seat::<Absorbs>(&mut self.seat, other);
         words.load::<Meets>(&mut self.seat, CYCLE);
     }
 }

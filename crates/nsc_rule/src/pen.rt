@@ -1,18 +1,20 @@
-ghost use Rattle.std.specs.Prelude.{◌≡◌, ℕ, ◌<◌, ◌≤◌, true, [], slice_index, slice_set};
+ghost use Rattle.std.specs.Prelude.{◌≡◌, ℕ, ◌<◌, ◌≤◌, true, [], length, slice_index, slice_set, take};
 ghost use Rattle.nsc_model.specs.History.{IsPrefix};
 ghost use Rattle.nsc_words.specs.Laid.{Laid};
 ghost use Rattle.nsc_words.specs.Layout.{table_words};
-ghost use Rattle.nsc_rule.specs.Plans.{IsEven, Later, Sound, no_nodes};
+ghost use Rattle.nsc_words.specs.declared.layout.Layout.{Layout};
+ghost use Rattle.nsc_rule.specs.Plans.{IsEven, Later, Sound, cycle_of, succeeding};
 ghost use Rattle.nsc_rule.specs.Strokes.{after};
-ghost use Rattle.nsc_rule.specs.Seats.{plan_by, resting, writing};
+ghost use Rattle.nsc_rule.specs.Seats.{informed, opening_plan, plan_by, rested, writing};
 
 use crate::map::Map;
 use crate::pass::Pass;
 use crate::plays::{Becomes, Copies, Hears, Learns, Looks, Moves};
-use crate::view::{Stroke, View};
+use crate::view::{Origin, Stroke, View};
 use atomic_table::Seat;
-use nsc_words::{CYCLE, FIRST_FREE, HEAD_WORDS, Layout};
+use nsc_words::{CYCLE, HEAD_WORDS};
 use std::marker::{Brand, Model};
+use std::snapshot::Snapshot;
 
 /// The one seat that writes the words of a database. It has seen the whole history, and knows every word.
 #[derive(Drop)]
@@ -38,17 +40,24 @@ impl Model for Pen {
 
 impl Pen {
     // The pen of a seat that has just been dealt.
-    pub(crate) fn new(seat: Seat<(), View>, layout: Layout) -> Pen
+    pub(crate) fn new(seat: Seat<(), View>, words: &[u64]) -> Pen
         requires seat { seat.me ≡ (writing (plan_by seat.me.0), []) }
         requires sound { Sound (plan_by seat.me.0) }
-        requires table { seat.table_id.words ≡ table_words layout }
-        requires layout { (plan_by seat.me.0).layout ≡ layout }
-        requires words { (plan_by seat.me.0).words ≡ no_nodes layout }
+        requires table { seat.table_id.words ≡ table_words (plan_by seat.me.0).layout }
+        requires words { words.now ≡ (plan_by seat.me.0).words }
         ensures { result ≡ record { table = seat.table_id; plan = plan_by seat.me.0 } }
     {
-        let mut heads = [0; 16];
-        heads[FIRST_FREE] = layout.arena_start() as u64;
-        Pen { seat, heads }
+        Pen {
+            seat,
+            heads: heads_of(words),
+        }
+    }
+
+    // A table may go on from what it knows.
+    pub(crate) fn origin(&self) -> Origin
+        ensures { (layout : Layout) → opening_plan layout result ≡ succeeding layout self.now.plan }
+    {
+        Origin::After(Snapshot::of(&self.seat))
     }
 
     /// What holds of its plan between any two steps. Where neither an insertion nor a compaction is under way, the words as they stand
@@ -79,21 +88,22 @@ impl Pen {
         map.words().load::<Looks>(&mut self.seat, at)
     }
 
-    /// A pass that has seen the whole history, with no search.
+    /// A pass that has seen the whole history, and knows CYCLE, with no search.
     pub fn pass(&mut self, map: &Map) -> Pass
         requires { map.now.table ≡ self.old.table }
         ensures same { self.new ≡ self.old }
-        ensures pass { result ≡ record { table = self.old.table; seen = self.old.plan.seen; walk = resting } }
+        ensures pass { result ≡ record { table = self.old.table; seen = self.old.plan.seen; retired = self.old.plan.retired; searching = rested (cycle_of self.old.plan) } }
     {
         Pass::new(map.words().split_seat::<Copies>(&mut self.seat))
     }
 
-    /// The pass has seen the whole history then, which begins with what it had seen. Its search stays.
+    /// The pass has seen the whole history then, which begins with what it had seen, also whether another table goes on in place of this
+    /// one, and knows CYCLE. Its search stays.
     pub fn show(&mut self, map: &Map, pass: &mut Pass)
         requires pen { map.now.table ≡ self.old.table }
         requires pass { map.now.table ≡ pass.old.table }
         ensures same { self.new ≡ self.old }
-        ensures pass { pass.new ≡ record pass.old { seen = self.old.plan.seen } }
+        ensures pass { pass.new ≡ record pass.old { seen = self.old.plan.seen; retired = self.old.plan.retired; searching = informed pass.old.searching (cycle_of self.old.plan) } }
         ensures before { IsPrefix pass.old.seen self.old.plan.seen }
     {
         self.hear(map, pass);
@@ -128,6 +138,16 @@ impl Pen {
             self.heads[at] = word;
         }
     }
+}
+
+// The head words of a table.
+fn heads_of(words: &[u64]) -> [u64; 16]
+    requires { 16 ≤ length words.now }
+    ensures { result ≡ take 16 words.now }
+{
+    let mut heads = [0; 16];
+    heads.copy_from_slice(&words[..HEAD_WORDS]);
+    heads
 }
 
 // Writes a word as the plan that is picked wants it.

@@ -4,14 +4,14 @@ use atomic_table::{Join, Play, Split, TableRule};
 use std::marker::{Brand, PhantomData};
 
 /// The rule of the words. Its first seat writes.
-pub struct Kept;
+pub struct Rule;
 
-impl TableRule<(), View, About> for Kept {
+impl TableRule<(), View, About> for Rule {
     ghost use Rattle.nsc_rule.specs.Seats.{IsKept, opening_view};
 
     ghost holds = { λ key s. IsKept key.layout s };
 
-    ghost first = { λ key. opening_view key.layout key.content.value };
+    ghost first = { λ key. opening_view key.layout key.origin };
 }
 
 /// Which plan a step of the pen makes.
@@ -103,6 +103,17 @@ impl Join<View> for Hears {
     ghost use Rattle.nsc_rule.specs.Seats.{told_of, nobody};
 
     ghost both = { told_of };
+
+    ghost spent = { nobody };
+}
+
+/// A seat is told what another one has seen, and counts its searches too.
+pub struct Absorbs;
+
+impl Join<View> for Absorbs {
+    ghost use Rattle.nsc_rule.specs.Seats.{absorbed, nobody};
+
+    ghost both = { absorbed };
 
     ghost spent = { nobody };
 }

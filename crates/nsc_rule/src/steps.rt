@@ -12,7 +12,7 @@ ghost use Rattle.nsc_rule.specs.declared.view.View.{View};
 ghost use Rattle.nsc_rule.specs.Entries.{request_bucket};
 ghost use Rattle.nsc_rule.specs.Plans.{Sound};
 ghost use Rattle.nsc_rule.specs.Seats.{Fits};
-ghost use Rattle.nsc_rule.specs.Walks.{IsFixed, IsSteady, Lands, MayPass, NoneOlder, begun_walk};
+ghost use Rattle.nsc_rule.specs.Searches.{IsFixed, IsSteady, Lands, MayPass, NoneOlder, begun_search};
 
 use crate::map::Map;
 use crate::pass::Pass;
@@ -28,8 +28,10 @@ impl Pass {
         ghost request: { Request }
         requires { map.now.table ≡ self.old.table }
         ensures table { self.new.table ≡ self.old.table }
+        ensures retired { self.new.retired ≡ self.old.retired }
         ensures before { IsPrefix self.old.seen self.new.seen }
-        ensures walk { self.new.walk ≡ begun_walk map.now.layout request self.new.seen result self.old.walk }
+        ensures searching { self.new.searching ≡ begun_search map.now.layout request self.new.seen result self.old.searching }
+        ensures known { self.old.searching.known ≤ result }
         ensures most { result ≤ last_count }
     {
         look::<Brand>(&mut self.seat, map, CYCLE)
@@ -38,66 +40,70 @@ impl Pass {
     /// Loads the word of the request's bucket, and goes to the node to which it leads.
     pub fn bucket(&mut self, map: &Map, bucket: usize) -> u64
         requires map { map.now.table ≡ self.old.table }
-        requires bucket { bucket ≡ request_bucket map.now.layout self.old.walk.request }
+        requires bucket { bucket ≡ request_bucket map.now.layout self.old.searching.request }
         ensures table { self.new.table ≡ self.old.table }
+        ensures retired { self.new.retired ≡ self.old.retired }
         ensures seen { self.new.seen ≡ self.old.seen }
-        ensures lands { Lands map.now.layout self.old.walk self.new.walk result }
+        ensures lands { Lands map.now.layout self.old.searching self.new.searching result }
     {
         map.layout();
         look::<Brand>(&mut self.seat, map, bucket)
     }
 
-    /// Loads a word, which is a fixed one of the node where the walk stands.
+    /// Loads a word, which is a fixed one of the node where the search stands.
     pub fn fixed(&mut self, map: &Map, at: usize) -> u64
         requires map { map.now.table ≡ self.old.table }
         requires inside { at < table_words map.now.layout }
-        ensures pass { self.new ≡ record self.old { walk = record self.old.walk { known = self.new.walk.known } } }
-        ensures known { self.old.walk.known ≤ self.new.walk.known }
-        ensures fixed { IsSteady self.new.walk → (e : Entry) (index : ℕ) → self.old.walk.on ≡ Some e → at ≡ self.old.walk.place + index → IsFixed e index result }
+        ensures pass { self.new ≡ record self.old { searching = record self.old.searching { steps = self.old.searching.steps + 1; known = self.new.searching.known } } }
+        ensures known { self.old.searching.known ≤ self.new.searching.known }
+        ensures fixed { IsSteady self.new.searching → (e : Entry) (index : ℕ) → self.old.searching.on ≡ Some e → at ≡ self.old.searching.place + index → IsFixed e index result }
     {
         look::<Brand>(&mut self.seat, map, at)
     }
 
-    /// Loads the NEXT of the node where the walk stands, and goes to the node to which it leads. Its entry is of another request, or was
+    /// Loads the NEXT of the node where the search stands, and goes to the node to which it leads. Its entry is of another request, or was
     /// found ended.
     pub fn next(&mut self, map: &Map, at: usize) -> u64
         requires map { map.now.table ≡ self.old.table }
-        requires place { at ≡ self.old.walk.place + 7 }
+        requires place { at ≡ self.old.searching.place + 7 }
         requires inside { at < table_words map.now.layout }
-        requires passed { MayPass self.old.walk }
+        requires passed { MayPass self.old.searching }
         ensures table { self.new.table ≡ self.old.table }
+        ensures retired { self.new.retired ≡ self.old.retired }
         ensures seen { self.new.seen ≡ self.old.seen }
-        ensures lands { Lands map.now.layout self.old.walk self.new.walk result }
-        ensures lower { IsSteady self.new.walk → result < self.old.walk.place }
+        ensures lands { Lands map.now.layout self.old.searching self.new.searching result }
+        ensures lower { IsSteady self.new.searching → result < self.old.searching.place }
     {
         look::<Brand>(&mut self.seat, map, at)
     }
 
-    /// Loads the STATE of the node where the walk stands, and has seen the whole history: where it is 1, the entry is live in that.
+    /// Loads the STATE of the node where the search stands, and has seen the whole history: where it is 1, the entry is live in that.
     pub fn state(&mut self, map: &Map, at: usize) -> u64
         requires map { map.now.table ≡ self.old.table }
-        requires place { at ≡ self.old.walk.place + 6 }
+        requires place { at ≡ self.old.searching.place + 6 }
         requires inside { at < table_words map.now.layout }
         ensures table { self.new.table ≡ self.old.table }
+        ensures retired { self.new.retired ≡ self.old.retired }
         ensures before { IsPrefix self.old.seen self.new.seen }
-        ensures walk { self.new.walk ≡ record self.old.walk { known = self.new.walk.known; gone = not (result == 1) } }
-        ensures known { self.old.walk.known ≤ self.new.walk.known }
-        ensures live { IsSteady self.new.walk → (e : Entry) → self.old.walk.on ≡ Some e → result ≡ 1 → IsLive self.new.seen e }
+        ensures searching { self.new.searching ≡ record self.old.searching { steps = self.old.searching.steps + 1; known = self.new.searching.known; gone = not (result == 1) } }
+        ensures known { self.old.searching.known ≤ self.new.searching.known }
+        ensures live { IsSteady self.new.searching → (e : Entry) → self.old.searching.on ≡ Some e → result ≡ 1 → IsLive self.new.seen e }
     {
         look::<Brand>(&mut self.seat, map, at)
     }
 
-    /// Ends a search: loads CYCLE, and has seen the whole history. Where the walk has come to 0, no live entry of the request is older
+    /// Ends a search: loads CYCLE, and has seen the whole history. Where the search has come to 0, no live entry of the request is older
     /// than the search.
     pub fn last_cycle(&mut self, map: &Map) -> u64
         requires { map.now.table ≡ self.old.table }
         ensures table { self.new.table ≡ self.old.table }
+        ensures retired { self.new.retired ≡ self.old.retired }
         ensures before { IsPrefix self.old.seen self.new.seen }
-        ensures walk { self.new.walk ≡ record self.old.walk { known = result; last = result } }
-        ensures first { self.old.walk.first ≤ self.old.walk.known }
-        ensures known { self.old.walk.known ≤ result }
+        ensures searching { self.new.searching ≡ record self.old.searching { steps = self.old.searching.steps + 1; known = result; last = result } }
+        ensures first { self.old.searching.first ≤ self.old.searching.known }
+        ensures known { self.old.searching.known ≤ result }
         ensures most { result ≤ last_count }
-        ensures none { IsSteady self.new.walk → self.old.walk.place ≡ 0 → NoneOlder self.new.seen self.old.walk }
+        ensures none { IsSteady self.new.searching → self.old.searching.place ≡ 0 → NoneOlder self.new.seen self.old.searching }
     {
         look::<Brand>(&mut self.seat, map, CYCLE)
     }

@@ -1,4 +1,5 @@
 // What the seats at the words know.
+use atomic_table::Seat;
 use nsc_model::{Content, Ending, Entry, Record, Request};
 use nsc_words::{Layout, Placed};
 use std::collections::LinkedList;
@@ -21,18 +22,20 @@ pub struct Plan {
 }
 
 /// How far the search of a seat that reads has come. No value of it is made.
-pub struct Walk {
+pub struct Search {
+    /// How many words it has loaded for searches.
+    pub steps: u64,
     /// How many searches it has begun.
     pub searches: u64,
     /// What CYCLE was when the latest search began.
     pub first: u64,
-    /// What CYCLE was at the latest end of a search.
+    /// What CYCLE was at the end of the latest search, or at its beginning until it has come to its end.
     pub last: u64,
     /// The history when the search began.
     pub began: LinkedList<Record>,
     /// What is searched for.
     pub request: Request,
-    /// What CYCLE was at the latest step of a search.
+    /// What CYCLE has been at least: what it was at the latest step of a search, or when the history was shown last.
     pub known: u64,
     /// Where it stands: a node's place, 0 at the end of a chain, or the end of the words where it begins.
     pub place: u64,
@@ -60,7 +63,7 @@ pub enum View {
         /// Whether it has seen that another table goes on in place of this one.
         retired: bool,
         /// Its search.
-        walk: Walk,
+        searching: Search,
     },
 }
 
@@ -69,8 +72,17 @@ pub enum View {
 pub struct About {
     /// How the words are laid out.
     pub layout: Layout,
-    /// The content of version 0.
-    pub content: Snapshot<Content>,
+    /// From what it goes on.
+    pub origin: Origin,
+}
+
+/// From what a table goes on.
+#[derive(Drop)]
+pub enum Origin {
+    /// From a content, which is version 0.
+    Fresh(Snapshot<Content>),
+    /// From what the pen of another table knows, in place of which this one goes on.
+    After(Snapshot<Seat<(), View>>),
 }
 
 /// What a step of the pen comes to, beside the word that it writes.
@@ -105,4 +117,6 @@ pub enum Stroke {
         /// The content.
         content: Snapshot<Content>,
     },
+    /// Another table goes on in place of this one.
+    Retire,
 }

@@ -4,7 +4,7 @@ ghost use Rattle.nsc_model.specs.History.{NoneLive, loads, newest};
 ghost use Rattle.nsc_model.specs.Machine.{last_count};
 ghost use Rattle.nsc_words.specs.Layout.{table_words};
 ghost use Rattle.nsc_rule.specs.Plans.{IsEven, IsOdd, end_in};
-ghost use Rattle.nsc_rule.specs.Strokes.{HasNode, IsFree, IsReady, MayEnd, MayUnlink, ShowsAgain, begun, changed, cleared, finished, invalidation_added, node_counted, poll_added, published, reloads_stored, stored};
+ghost use Rattle.nsc_rule.specs.Strokes.{HasNode, IsFree, IsReady, MayEnd, MayUnlink, ShowsAgain, begun, changed, cleared, finished, invalidation_added, left, node_counted, poll_added, published, reloads_stored, stored};
 
 use crate::map::Map;
 use crate::pen::Pen;
@@ -118,6 +118,20 @@ impl Pen {
         self.learn();
         let cycle = self.head(CYCLE);
         self.write(map, CYCLE, cycle + 1, &Stroke::Plain);
+    }
+
+    /// Another table goes on in place of this one: CYCLE stays odd for good, and no further step writes. No insertion is under way.
+    pub fn retire(&mut self, map: &Map)
+        requires map { map.now.table ≡ self.old.table }
+        requires active { self.old.plan.retired ≡ false }
+        requires even { IsEven self.old.plan }
+        requires counted { self.old.plan.counted ≡ true }
+        requires room { slice_index self.old.plan.words 0 < last_count }
+        ensures { self.new ≡ record self.old { plan = left self.old.plan } }
+    {
+        self.learn();
+        let cycle = self.head(CYCLE);
+        self.write(map, CYCLE, cycle + 1, &Stroke::Retire);
     }
 
     /// Stores a word of a compaction: FIRST_FREE, a bucket's, or one of the arena.

@@ -1,4 +1,4 @@
-use Rattle.nsc_rule.specs.Walks.{BucketTells}
+use Rattle.nsc_rule.specs.Searches.{BucketTells}
 use Rattle.nsc_rule.proofs.pass.Pass.bucket.Given as goal
 
 abbrev pub ghosts-look : goal.ghosts-look

@@ -1,4 +1,4 @@
-use Rattle.nsc_rule.specs.Walks.{BeginTells}
+use Rattle.nsc_rule.specs.Searches.{BeginTells}
 use Rattle.nsc_rule.proofs.pass.Pass.first_cycle.Given as goal
 
 abbrev pub ghosts-look : goal.ghosts-look

@@ -1,4 +1,4 @@
-use Rattle.nsc_rule.specs.Walks.{FixedTells}
+use Rattle.nsc_rule.specs.Searches.{FixedTells}
 use Rattle.nsc_rule.proofs.pass.Pass.fixed.Given as goal
 
 abbrev pub ghosts-look : goal.ghosts-look

@@ -1,4 +1,4 @@
-use Rattle.nsc_rule.specs.Walks.{LastTells}
+use Rattle.nsc_rule.specs.Searches.{LastTells}
 use Rattle.nsc_rule.proofs.pass.Pass.last_cycle.Given as goal
 
 abbrev pub ghosts-look : goal.ghosts-look

@@ -1,4 +1,4 @@
-use Rattle.nsc_rule.specs.Walks.{NextTells}
+use Rattle.nsc_rule.specs.Searches.{NextTells}
 use Rattle.nsc_rule.proofs.pass.Pass.next.Given as goal
 
 abbrev pub ghosts-look : goal.ghosts-look

@@ -1,4 +1,4 @@
-use Rattle.nsc_rule.specs.Walks.{StateTells}
+use Rattle.nsc_rule.specs.Searches.{StateTells}
 use Rattle.nsc_rule.proofs.pass.Pass.state.Given as goal
 
 abbrev pub ghosts-look : goal.ghosts-look

@@ -12,19 +12,19 @@ use Rattle.nsc_model.specs.Kinds.{type_number}
 use Rattle.nsc_model.specs.Machine.{last_count}
 use Rattle.nsc_model.specs.declared.answer.Request.{Request}
 use Rattle.nsc_model.specs.declared.record.Record.{Record}
-use Rattle.nsc_rule.specs.declared.view.Walk.{Walk}
+use Rattle.nsc_rule.specs.declared.view.Search.{Search}
 use Rattle.nsc_arena.specs.ReadBack.{placed_in}
 use Rattle.nsc_rule.specs.declared.view.View.{View}
 use Rattle.nsc_rule.specs.Entries.{entry_of}
-use Rattle.nsc_rule.specs.Seats.{is_retired, reading, seen_by, walk_by}
+use Rattle.nsc_rule.specs.Seats.{is_retired, reading, seen_by, searching_by}
 
 -- CYCLE was at the latest step of the search what it was when it began, and even
-abbrev pub IsSteady : Walk → Type 0
+abbrev pub IsSteady : Search → Type 0
 IsSteady w = (w.known ≡ w.first) × (w.first % 2 ≡ 0)
 
 -- a search begins, behind all words
-abbrev pub begun_walk : Layout → Request → List Record → ℕ → Walk → Walk
-begun_walk layout request seen cycle w = record { searches = w.searches + 1; first = cycle; last = w.last; began = seen; request = request; known = cycle; place = table_words layout; on = None; gone = false }
+abbrev pub begun_search : Layout → Request → List Record → ℕ → Search → Search
+begun_search layout request seen cycle w = record { steps = w.steps + 1; searches = w.searches + 1; first = cycle; last = cycle; began = seen; request = request; known = cycle; place = table_words layout; on = None; gone = false }
 
 -- the fixed words of the node of an entry: all but its RELOADS, STATE and NEXT, by their numbers in the node
 pub record IsFixed (e : Entry) (index word : ℕ) : Type 0 where
@@ -45,15 +45,15 @@ pub record IsWithin (layout : Layout) (place : ℕ) (e : Entry) : Type 0 where
   pub key_bytes : All (λ b. b < 256) e.request.key
   pub reply_bytes : All (λ b. b < 256) e.answer.bytes
 
--- a walk goes to the place that a word of a chain had
-pub record Lands (layout : Layout) (old new : Walk) (found : ℕ) : Type 0 where
-  pub walk : new ≡ record old { known = new.known; place = found; on = new.on; gone = false }
+-- a search goes to the place that a word of a chain had
+pub record Lands (layout : Layout) (old new : Search) (found : ℕ) : Type 0 where
+  pub searching : new ≡ record old { steps = old.steps + 1; known = new.known; place = found; on = new.on; gone = false }
   pub known : old.known ≤ new.known
   pub on : found ≢ 0 → (e : Entry) × (new.on ≡ Some e)
   pub within : IsSteady new → (e : Entry) → new.on ≡ Some e → found ≢ 0 → IsWithin layout found e
 
--- the entry on which a walk stands is of another request, or was found ended
-abbrev pub MayPass : Walk → Type 0
+-- the entry on which a search stands is of another request, or was found ended
+abbrev pub MayPass : Search → Type 0
 MayPass w = (e : Entry) × (w.on ≡ Some e) × (IsSteady w → (e.request ≢ w.request) ⊎ (w.gone ≡ true))
 
 -- what a place leads to: the entry of the node there, or none at 0
@@ -61,49 +61,50 @@ abbrev pub entry_at : List ℕ → ℕ → Option Entry
 entry_at words place = if place == 0 then None else Some (entry_of (placed_in words place))
 
 -- each live entry of the request was inserted since the search began
-abbrev pub NoneOlder : List Record → Walk → Type 0
+abbrev pub NoneOlder : List Record → Search → Type 0
 NoneOlder seen w = (e : Entry) → IsLive seen e → e.request ≡ w.request → loads w.began ≤ e.number
 
 -- ---- what the loads tell: of the view before, the word, and the view after
 
 -- CYCLE, where a search begins
 pub record BeginTells (layout : Layout) (request : Request) (v : View) (found : ℕ) (w : View) : Type 0 where
-  pub view : w ≡ reading (seen_by w) (is_retired v) (begun_walk layout request (seen_by w) found (walk_by v))
+  pub view : w ≡ reading (seen_by w) (is_retired v) (begun_search layout request (seen_by w) found (searching_by v))
   pub legal : Legal (seen_by w)
   pub before : IsPrefix (seen_by v) (seen_by w)
+  pub known : (searching_by v).known ≤ found
   pub most : found ≤ last_count
 
 -- a bucket's word
 pub record BucketTells (layout : Layout) (v : View) (found : ℕ) (w : View) : Type 0 where
-  pub view : w ≡ reading (seen_by v) (is_retired v) (walk_by w)
-  pub lands : Lands layout (walk_by v) (walk_by w) found
+  pub view : w ≡ reading (seen_by v) (is_retired v) (searching_by w)
+  pub lands : Lands layout (searching_by v) (searching_by w) found
 
 -- a node's NEXT
 pub record NextTells (layout : Layout) (v : View) (found : ℕ) (w : View) : Type 0 where
-  pub view : w ≡ reading (seen_by v) (is_retired v) (walk_by w)
-  pub lands : Lands layout (walk_by v) (walk_by w) found
-  pub lower : IsSteady (walk_by w) → found < (walk_by v).place
+  pub view : w ≡ reading (seen_by v) (is_retired v) (searching_by w)
+  pub lands : Lands layout (searching_by v) (searching_by w) found
+  pub lower : IsSteady (searching_by w) → found < (searching_by v).place
 
 -- any word
 pub record FixedTells (at : ℕ) (v : View) (found : ℕ) (w : View) : Type 0 where
-  pub view : w ≡ reading (seen_by v) (is_retired v) (record (walk_by v) { known = (walk_by w).known })
-  pub known : (walk_by v).known ≤ (walk_by w).known
-  pub fixed : IsSteady (walk_by w) → (e : Entry) (index : ℕ) → (walk_by v).on ≡ Some e → at ≡ (walk_by v).place + index → IsFixed e index found
+  pub view : w ≡ reading (seen_by v) (is_retired v) (record (searching_by v) { steps = (searching_by v).steps + 1; known = (searching_by w).known })
+  pub known : (searching_by v).known ≤ (searching_by w).known
+  pub fixed : IsSteady (searching_by w) → (e : Entry) (index : ℕ) → (searching_by v).on ≡ Some e → at ≡ (searching_by v).place + index → IsFixed e index found
 
 -- a node's STATE
 pub record StateTells (v : View) (found : ℕ) (w : View) : Type 0 where
-  pub view : w ≡ reading (seen_by w) (is_retired v) (record (walk_by v) { known = (walk_by w).known; gone = not (found == 1) })
+  pub view : w ≡ reading (seen_by w) (is_retired v) (record (searching_by v) { steps = (searching_by v).steps + 1; known = (searching_by w).known; gone = not (found == 1) })
   pub legal : Legal (seen_by w)
   pub before : IsPrefix (seen_by v) (seen_by w)
-  pub known : (walk_by v).known ≤ (walk_by w).known
-  pub live : IsSteady (walk_by w) → (e : Entry) → (walk_by v).on ≡ Some e → found ≡ 1 → IsLive (seen_by w) e
+  pub known : (searching_by v).known ≤ (searching_by w).known
+  pub live : IsSteady (searching_by w) → (e : Entry) → (searching_by v).on ≡ Some e → found ≡ 1 → IsLive (seen_by w) e
 
 -- CYCLE, where a search ends
 pub record LastTells (v : View) (found : ℕ) (w : View) : Type 0 where
-  pub view : w ≡ reading (seen_by w) (is_retired v) (record (walk_by v) { known = found; last = found })
+  pub view : w ≡ reading (seen_by w) (is_retired v) (record (searching_by v) { steps = (searching_by v).steps + 1; known = found; last = found })
   pub legal : Legal (seen_by w)
   pub before : IsPrefix (seen_by v) (seen_by w)
-  pub first : (walk_by v).first ≤ (walk_by v).known
-  pub known : (walk_by v).known ≤ found
+  pub first : (searching_by v).first ≤ (searching_by v).known
+  pub known : (searching_by v).known ≤ found
   pub most : found ≤ last_count
-  pub none_older : IsSteady (walk_by w) → (walk_by v).place ≡ 0 → NoneOlder (seen_by w) (walk_by v)
+  pub none_older : IsSteady (searching_by w) → (searching_by v).place ≡ 0 → NoneOlder (seen_by w) (searching_by v)
