@@ -1,5 +1,5 @@
 -- What becomes of entries that ended to be loaded again.
-use Rattle.std.proofs.Common.{◌≡◌, ℕ, ◌⊎◌, inl, inr, Bool, true, false, cond, eqb, List, [], ◌∷◌, ◌++◌, Some, refl, sym, ap, subst, ◌∙◌, arith}
+use Rattle.std.proofs.Common.{◌≡◌, ℕ, ◌≤◌, ◌⊎◌, inl, inr, Bool, true, false, cond, eqb, List, [], ◌∷◌, ◌++◌, Some, refl, sym, ap, subst, ◌∙◌, arith}
 use Rattle.std.proofs.lemmas.Bool.{eqb-true, eqb-false}
 use Rattle.nsc_model.specs.declared.answer.Request.{Request}
 use Rattle.nsc_model.specs.declared.record.Ending.TheVariants.{Expired, Invalidated, Replaced}
@@ -9,10 +9,11 @@ use Rattle.nsc_model.specs.Content.{Content}
 use Rattle.nsc_model.specs.Entry.{Entry}
 use Rattle.nsc_model.specs.History.{HasLoad, IsLive, IsPrefix, Legal, load_of, version_in}
 use Rattle.nsc_model.specs.Machine.{Kept, by_invalidation, ends_of}
-use Rattle.nsc_model.specs.Stores.{HasContent, IsLoadedAfter, IsLoadedAgain, LoadsAgain, MayBeUnmoved}
+use Rattle.nsc_model.specs.Stores.{HasContent, IsLoadedAfter, IsLoadedAgain}
 use Rattle.nsc_laws.proofs.MachineLawLists.{one_live, same_load}
 use Rattle.nsc_laws.proofs.Prefixes.{prefix_legal}
 use Rattle.nsc_writer.proofs.Later.{end_on, prefix_through}
+use Rattle.nsc_database.specs.Rests.{LoadsAgain}
 use Rattle.nsc_database.specs.Ticks.{LoadsBut}
 use Rattle.nsc_database.proofs.Shown.{loads_on}
 
@@ -65,52 +66,48 @@ end_before r h number before other p = by p.0 p.1 where
   by [] is = let same : r ≡ End number Replaced = cc in absurd (subst IsOther same other)
   by (m ∷ more) is = (more, (let rest : h ≡ more ++ (End number Replaced ∷ before) = cc in rest))
 
-unmoved_more : (r : Record) (h : List Record) → MayBeUnmoved h → MayBeUnmoved (r ∷ h)
-unmoved_more (Change v c) h many = many
-unmoved_more (Poll v) h many = many
-unmoved_more (Load e) h many = many
-unmoved_more (End n cause) h many = omega arith
-unmoved_more (Invalid n) h many = many
-
-pub unmoved_on : (a b : List Record) → IsPrefix a b → MayBeUnmoved a → MayBeUnmoved b
-unmoved_on a b p many = subst MayBeUnmoved (sym p.1) (by p.0) where
-  by : (more : List Record) → MayBeUnmoved (more ++ a)
-  by [] = many
-  by (r ∷ more) = unmoved_more r (more ++ a) (by more)
-
-pub but_more : (arena : ℕ) (those : Request → Type 0) (r : Record) (h : List Record) → IsOther r → LoadsBut arena those h → LoadsBut arena those (r ∷ h)
-but_more arena those r h other (inl all) = inl (λ number before e p is. elim (all number before e (end_before r h number before other p) is) [
+pub but_more : (arena cycle : ℕ) (those : Request → Type 0) (r : Record) (h : List Record) → IsOther r → LoadsBut arena cycle those h → LoadsBut arena cycle those (r ∷ h)
+but_more arena cycle those r h other (inl all) = inl (λ number before e p is. elim (all number before e (end_before r h number before other p) is) [
   | inl again ↦ inl (again_on arena (End number Replaced ∷ before) e.request h (r ∷ h) (r ∷ [], refl) again)
   | inr waits ↦ inr waits
 ])
-but_more arena those r h other (inr many) = inr (unmoved_more r h many)
+but_more arena cycle those r h other (inr last) = inr last
 
-pub but_none : (arena : ℕ) (h : List Record) → LoadsAgain arena h → LoadsBut arena (λ r. ⊥) h
-but_none arena h (inl all) = inl (λ number before e p is. inl (all number before e p is))
-but_none arena h (inr many) = inr many
+pub but_none : (arena cycle : ℕ) (h : List Record) → LoadsAgain arena cycle h → LoadsBut arena cycle (λ r. ⊥) h
+but_none arena cycle h (inl all) = inl (λ number before e p is. inl (all number before e p is))
+but_none arena cycle h (inr last) = inr last
 
-pub none_but : (arena : ℕ) (those : Request → Type 0) (h : List Record) → ((r : Request) → those r → ⊥) → LoadsBut arena those h → LoadsAgain arena h
-none_but arena those h none (inl all) = inl (λ number before e p is. elim (all number before e p is) [ inl again ↦ again | inr waits ↦ absurd (none e.request waits) ])
-none_but arena those h none (inr many) = inr many
+pub none_but : (arena cycle : ℕ) (those : Request → Type 0) (h : List Record) → ((r : Request) → those r → ⊥) → LoadsBut arena cycle those h → LoadsAgain arena cycle h
+none_but arena cycle those h none (inl all) = inl (λ number before e p is. elim (all number before e p is) [ inl again ↦ again | inr waits ↦ absurd (none e.request waits) ])
+none_but arena cycle those h none (inr last) = inr last
 
-pub but_wider : (arena : ℕ) (those these : Request → Type 0) (h : List Record) → ((r : Request) → those r → these r) → LoadsBut arena those h → LoadsBut arena these h
-but_wider arena those these h all (inl loaded) = inl (λ number before e p is. elim (loaded number before e p is) [ inl again ↦ inl again | inr waits ↦ inr (all e.request waits) ])
-but_wider arena those these h all (inr many) = inr many
+pub but_wider : (arena cycle : ℕ) (those these : Request → Type 0) (h : List Record) → ((r : Request) → those r → these r) → LoadsBut arena cycle those h → LoadsBut arena cycle these h
+but_wider arena cycle those these h all (inl loaded) = inl (λ number before e p is. elim (loaded number before e p is) [ inl again ↦ inl again | inr waits ↦ inr (all e.request waits) ])
+but_wider arena cycle those these h all (inr last) = inr last
 
-pub again_more : (arena : ℕ) (r : Record) (h : List Record) → IsOther r → LoadsAgain arena h → LoadsAgain arena (r ∷ h)
-again_more arena r h other l = none_but arena (λ x. ⊥) (r ∷ h) (λ x none. none) (but_more arena (λ x. ⊥) r h other (but_none arena h l))
+-- the count of compactions goes on
+pub again_later : (arena cycle cycle' : ℕ) (h : List Record) → cycle ≤ cycle' → LoadsAgain arena cycle h → LoadsAgain arena cycle' h
+again_later arena cycle cycle' h on (inl all) = inl all
+again_later arena cycle cycle' h on (inr last) = inr (omega arith)
+
+pub but_later : (arena cycle cycle' : ℕ) (those : Request → Type 0) (h : List Record) → cycle ≤ cycle' → LoadsBut arena cycle those h → LoadsBut arena cycle' those h
+but_later arena cycle cycle' those h on (inl all) = inl all
+but_later arena cycle cycle' those h on (inr last) = inr (omega arith)
+
+pub again_more : (arena cycle : ℕ) (r : Record) (h : List Record) → IsOther r → LoadsAgain arena cycle h → LoadsAgain arena cycle (r ∷ h)
+again_more arena cycle r h other l = none_but arena cycle (λ x. ⊥) (r ∷ h) (λ x none. none) (but_more arena cycle (λ x. ⊥) r h other (but_none arena cycle h l))
 
 -- a history that begins
-pub again_first : (arena : ℕ) (files : Content) → LoadsAgain arena (Change 0 files ∷ [])
-again_first arena files = again_more arena (Change 0 files) [] tt (inl (λ number before e p is. absurd (by number before p.0 p.1))) where
+pub again_first : (arena cycle : ℕ) (files : Content) → LoadsAgain arena cycle (Change 0 files ∷ [])
+again_first arena cycle files = again_more arena cycle (Change 0 files) [] tt (inl (λ number before e p is. absurd (by number before p.0 p.1))) where
   by : (number : ℕ) (before more : List Record) → [] ≡ more ++ (End number Replaced ∷ before) → ⊥
   by number before [] at = absurd cc
   by number before (m ∷ more) at = absurd cc
 
 -- entries that end as invalidated, one after the other
-pub again_ends : (arena : ℕ) (ks : List Kept) (h : List Record) → LoadsAgain arena h → LoadsAgain arena (ends_of by_invalidation ks h)
-again_ends arena [] h l = l
-again_ends arena (k ∷ ks) h l = again_ends arena ks (End k.entry.number Invalidated ∷ h) (again_more arena (End k.entry.number Invalidated) h tt l)
+pub again_ends : (arena cycle : ℕ) (ks : List Kept) (h : List Record) → LoadsAgain arena cycle h → LoadsAgain arena cycle (ends_of by_invalidation ks h)
+again_ends arena cycle [] h l = l
+again_ends arena cycle (k ∷ ks) h l = again_ends arena cycle ks (End k.entry.number Invalidated ∷ h) (again_more arena cycle (End k.entry.number Invalidated) h tt l)
 
 -- ---- a live entry of the request was inserted later
 

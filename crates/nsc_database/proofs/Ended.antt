@@ -1,5 +1,5 @@
 -- Ends of entries keep what holds of a writer while its lock is free.
-use Rattle.std.proofs.Common.{◌≡◌, ℕ, zero, suc, ◌+◌, ◌*◌, ◌≤◌, Bool, true, false, cond, eqb, ◌||◌, ◌⊎◌, not, All, List, [], ◌∷◌, filter, get_or, length, Option, refl, sym, ap, subst, ◌∙◌, arith, inl, inr}
+use Rattle.std.proofs.Common.{◌≡◌, ℕ, zero, suc, ◌+◌, ◌≤◌, Bool, true, false, cond, eqb, ◌||◌, ◌⊎◌, not, All, List, [], ◌∷◌, filter, get_or, Option, refl, sym, ap, subst, ◌∙◌, arith, inl, inr}
 use Rattle.std.proofs.lemmas.Bool.{eq-eqb}
 use Rattle.std.specs.Bool.{OnTrue}
 use Rattle.nsc_model.specs.declared.conf.DbConf.{DbConf}
@@ -7,10 +7,10 @@ use Rattle.nsc_model.specs.declared.record.Ending.{Ending}
 use Rattle.nsc_model.specs.declared.record.Record.{Record}
 use Rattle.nsc_model.specs.declared.record.Record.TheVariants.{End}
 use Rattle.nsc_model.specs.Entry.{Entry}
-use Rattle.nsc_model.specs.Live.{Among}
+use Rattle.nsc_model.specs.Live.{HasEntry}
 use Rattle.nsc_model.specs.History.{HasEnd, HasLoad, IsLive, changes}
 use Rattle.nsc_model.specs.Machine.{Kept, Cache, all_words, by_invalidation, ends_of, last_count}
-use Rattle.nsc_model.specs.Reloads.{ends, invalidated_at}
+use Rattle.nsc_model.specs.Reloads.{invalidated_at}
 use Rattle.nsc_laws.specs.Calls.{Tells, entries_of}
 use Rattle.nsc_laws.proofs.CoreLawRecords.{ended_or_not}
 use Rattle.nsc_laws.proofs.MachineLawEnds.{changes_ends}
@@ -25,10 +25,6 @@ on_true true A B f a = f a
 on_true false A B f a = a
 
 -- ---- an invalidation
-
-pub ends_through : (cause : Kept → Ending) (ks : List Kept) (h : List Record) → ends (ends_of cause ks h) ≡ ends h + length ks
-ends_through cause [] h = omega arith
-ends_through cause (k ∷ ks) h = let rest : ends (ends_of cause ks (End k.entry.number (cause k) ∷ h)) ≡ ends h + 1 + length ks = ends_through cause ks (End k.entry.number (cause k) ∷ h) in omega arith
 
 pub keeps_emptied : (settings : DbConf) (limit : Option ℕ) (ticked : ℕ) (w w' : Writer) → w' ≡ emptied_by w → Tells w.seen w.cache → Keeps settings limit ticked w → Keeps settings limit ticked w'
 keeps_emptied settings limit ticked w w' is t k = subst (Keeps settings limit ticked) (sym is) (record {
@@ -55,11 +51,11 @@ keeps_newest settings limit ticked newest w w' is t n k =
 
 -- ---- compactions
 
-pub packed_compacted : (w w' : Writer) → w' ≡ record w { cache = record w.cache { cycle = w.cache.cycle + 2; used = all_words w.cache.entries } } → w.cache.cycle + 2 ≤ 2 * ends w.seen → IsPacked w'
-packed_compacted w w' is low = subst IsPacked (sym is) (record { taken = λ l. refl; cycles = low })
+pub packed_compacted : (w w' : Writer) → w' ≡ record w { cache = record w.cache { cycle = w.cache.cycle + 2; used = all_words w.cache.entries } } → IsPacked w'
+packed_compacted w w' is = subst IsPacked (sym is) (λ low. refl)
 
-pub packed_spent : (w w' : Writer) → w' ≡ w → last_count ≤ w.cache.cycle → w.cache.cycle ≤ 2 * ends w.seen → IsPacked w'
-packed_spent w w' is high low = subst IsPacked (sym is) (record { taken = λ l. absurd (omega arith); cycles = low })
+pub packed_spent : (w w' : Writer) → w' ≡ w → last_count ≤ w.cache.cycle → IsPacked w'
+packed_spent w w' is high = subst IsPacked (sym is) (λ low. absurd (omega arith))
 
 pub keeps_compacted : (settings : DbConf) (limit : Option ℕ) (ticked used cycle : ℕ) (w w' : Writer) → w' ≡ record w { cache = record w.cache { cycle = cycle; used = used } } → Keeps settings limit ticked w → Keeps settings limit ticked w'
 keeps_compacted settings limit ticked used cycle w w' is k = subst (Keeps settings limit ticked) (sym is) (record { reloaded = k.reloaded; counted = k.counted; found = k.found })
@@ -86,7 +82,7 @@ keeps_ended settings limit ticked n cause w right k = record {
 
 -- ---- what ended
 
-has_among : (n : ℕ) (ks : List Kept) (e : Entry) → Among (entries_of ks) e → e.number ≡ n → has_number n ks ≡ true
+has_among : (n : ℕ) (ks : List Kept) (e : Entry) → HasEntry (entries_of ks) e → e.number ≡ n → has_number n ks ≡ true
 has_among n [] e a is = absurd a
 has_among n (k ∷ ks) e (inl same) is = ap (λ (b : Bool). b || has_number n ks) (eq-eqb k.entry.number n (ap (λ (x : Entry). x.number) same ∙ is))
 has_among n (k ∷ ks) e (inr a) is = by_test (eqb k.entry.number n) (has_among n ks e a is) where

@@ -5,29 +5,24 @@ use Rattle.nsc_model.specs.declared.record.Record.{Record}
 use Rattle.nsc_model.specs.declared.store.Spent.{Spent}
 use Rattle.nsc_model.specs.History.{NoneLive, invalidations}
 use Rattle.nsc_model.specs.Machine.{Kept, all_words, by_invalidation, ends_of, invalidated, last_count}
-use Rattle.nsc_model.specs.Reloads.{ends}
 use Rattle.nsc_model.specs.Stores.{IsEmptied, IsUnmoved}
 use Rattle.nsc_laws.specs.Calls.{Tells}
 use Rattle.nsc_writer.specs.Writer.{Writer, emptied_by}
 use Rattle.nsc_writer.proofs.Told.{emptied_tells}
 use Rattle.nsc_turns.specs.Turns.{Completes, Stops}
 use Rattle.nsc_turns.proofs.Emptied.{IsStopped, completes_left, stops_left}
-use Rattle.nsc_database.specs.Rests.{FindsNewest, IsPacked, Rests}
+use Rattle.nsc_database.specs.Rests.{FindsNewest, IsPacked, LoadsAgain, Rests}
 use Rattle.nsc_database.specs.Ticks.{compacted_by}
-use Rattle.nsc_model.specs.Stores.{LoadsAgain}
 use Rattle.nsc_model.specs.declared.record.Record.TheVariants.{Invalid}
-use Rattle.nsc_database.proofs.Again.{again_ends, again_more}
+use Rattle.nsc_database.proofs.Again.{again_ends, again_later, again_more}
 use Rattle.nsc_database.proofs.Rests.{rests_same}
 use Rattle.nsc_database.proofs.Shown.{emptied_on, is_emptied}
 use Rattle.nsc_database.proofs.Steady.{version_emptied}
-use Rattle.nsc_database.proofs.Ended.{ends_through, keeps_compacted, keeps_emptied, keeps_newest, packed_compacted, packed_spent}
+use Rattle.nsc_database.proofs.Ended.{keeps_compacted, keeps_emptied, keeps_newest, packed_compacted, packed_spent}
 
--- the count of ends after it
-left_ends : (w w' : Writer) → w' ≡ emptied_by w → ends w'.seen ≡ ends w.seen + length w.cache.entries
-left_ends w w' is = ap (λ (x : Writer). ends x.seen) is ∙ ends_through by_invalidation w.cache.entries w.seen
-
-again_emptied : (w w' : Writer) → w' ≡ emptied_by w → LoadsAgain w.layout.arena w.seen → LoadsAgain w'.layout.arena w'.seen
-again_emptied w w' is l = subst (λ (x : Writer). LoadsAgain x.layout.arena x.seen) (sym is) (again_more w.layout.arena (Invalid (w.cache.epoch + 1)) (ends_of by_invalidation w.cache.entries w.seen) tt (again_ends w.layout.arena w.cache.entries w.seen l))
+again_emptied : (w w' : Writer) → w' ≡ emptied_by w → LoadsAgain w.layout.arena w.cache.cycle w.seen → LoadsAgain w'.layout.arena w'.cache.cycle w'.seen
+again_emptied w w' is l =
+    subst (λ (x : Writer). LoadsAgain x.layout.arena x.cache.cycle x.seen) (sym is) (again_more w.layout.arena w.cache.cycle (Invalid (w.cache.epoch + 1)) (ends_of by_invalidation w.cache.entries w.seen) tt (again_ends w.layout.arena w.cache.cycle w.cache.entries w.seen l))
 
 rests_from : (w w' : Writer) → w' ≡ emptied_by w → Tells w.seen w.cache → (IsPacked w → IsPacked w') → Rests w w'
 rests_from w w' is t packed =
@@ -40,14 +35,11 @@ no_entries (k ∷ ks) e = absurd (omega arith)
 
 -- where no entry was live
 pub rests_left : (w w' : Writer) → w' ≡ emptied_by w → Tells w.seen w.cache → length w.cache.entries ≡ 0 → Rests w w'
-rests_left w w' is t none = rests_from w w' is t (λ p. subst IsPacked (sym is) (record {
-  taken = λ low. p.taken low ∙ ap all_words (no_entries w.cache.entries none);
-  cycles = let same : ends (emptied_by w).seen ≡ ends w.seen + length w.cache.entries = left_ends w (emptied_by w) refl in let low = p.cycles in omega arith;
-}))
+rests_left w w' is t none = rests_from w w' is t (λ p. subst IsPacked (sym is) (λ low. p low ∙ ap all_words (no_entries w.cache.entries none)))
 
 -- where it was compacted
-pub rests_compacted : (w w' w'' : Writer) → w' ≡ emptied_by w → Tells w.seen w.cache → 1 ≤ length w.cache.entries → w'' ≡ compacted_by w' → Rests w w''
-rests_compacted w w' w'' empty t some is =
+pub rests_compacted : (w w' w'' : Writer) → w' ≡ emptied_by w → Tells w.seen w.cache → w'' ≡ compacted_by w' → Rests w w''
+rests_compacted w w' w'' empty t is =
     let goes = emptied_on w w' empty in
     let version = version_emptied w w' empty in
     subst (Rests w) (sym is) (record {
@@ -56,19 +48,17 @@ rests_compacted w w' w'' empty t some is =
       layout = goes.layout;
       slide = goes.slide;
       keeps = λ settings limit ticked k. keeps_compacted settings limit ticked (all_words w'.cache.entries) (w'.cache.cycle + 2) w' (compacted_by w') refl (keeps_emptied settings limit ticked w w' empty t k);
-      packed = λ p. packed_compacted w' (compacted_by w') refl
-          (let more = left_ends w w' empty in let low = p.cycles in let cycle : w'.cache.cycle ≡ w.cache.cycle = ap (λ (x : Writer). x.cache.cycle) empty in omega arith);
-      again = again_emptied w w' empty;
+      packed = λ p. packed_compacted w' (compacted_by w') refl;
+      again = λ l. again_later w'.layout.arena w'.cache.cycle (w'.cache.cycle + 2) w'.seen (omega arith) (again_emptied w w' empty l);
       version = record { version = version.version; sources = version.sources };
     })
 
 -- where the count of the beginnings and the ends of slides stands at its end
 pub rests_spent : (w w' w'' : Writer) → w' ≡ emptied_by w → Tells w.seen w.cache → last_count ≤ w'.cache.cycle → w'' ≡ w' → Rests w w''
-rests_spent w w' w'' empty t last is = subst (Rests w) (sym is) (rests_from w w' empty t (λ p. packed_spent w' w' refl (omega arith)
-    (let more = left_ends w w' empty in let low = p.cycles in let cycle : w'.cache.cycle ≡ w.cache.cycle = ap (λ (x : Writer). x.cache.cycle) empty in omega arith)))
+rests_spent w w' w'' empty t last is = subst (Rests w) (sym is) (rests_from w w' empty t (λ p. packed_spent w' w' refl last))
 
-pub packed_unmoved : (w : Writer) (count : ℕ) (ended : Type 0) → IsPacked w → last_count ≤ w.cache.cycle → count ≡ last_count → ended → IsUnmoved w.seen count ended
-packed_unmoved w count ended p high is made = record { last = is; cause = inr ((let low = p.cycles in omega arith), made) }
+pub is_unmoved : (w : Writer) (count : ℕ) (ended : Type 0) → last_count ≤ w.cache.cycle → count ≡ last_count → ended → IsUnmoved w.seen (last_count ≤ w.cache.cycle) count ended
+is_unmoved w count ended high is made = record { last = is; cause = inr (high, made) }
 
 pub finds_left : (w w' : Writer) → w' ≡ emptied_by w → Tells w.seen w.cache → FindsNewest w w'
 finds_left w w' is t settings limit ticked k = keeps_newest settings limit ticked w.cache.newest_version w w' is t refl k
@@ -80,7 +70,7 @@ finds_compacted w w' w'' empty t is settings limit ticked k =
 -- ---- the turn
 
 pub rests_emptied : (w w' : Writer) → Completes (invalidated w.cache) w w' → Tells w.seen w.cache → Rests w w'
-rests_emptied w w' p t = elim (completes_left w w' p) [ inl (none, is) ↦ rests_left w w' is t none | inr (some, is) ↦ rests_compacted w (emptied_by w) w' refl t some is ]
+rests_emptied w w' p t = elim (completes_left w w' p) [ inl (none, is) ↦ rests_left w w' is t none | inr (some, is) ↦ rests_compacted w (emptied_by w) w' refl t is ]
 
 pub finds_emptied : (w w' : Writer) → Completes (invalidated w.cache) w w' → Tells w.seen w.cache → FindsNewest w w'
 finds_emptied w w' p t = elim (completes_left w w' p) [ inl (none, is) ↦ finds_left w w' is t | inr (some, is) ↦ finds_compacted w (emptied_by w) w' refl t is ]
@@ -93,13 +83,13 @@ completes_emptied w w' epoch p t counted =
 pub rests_stopped : (w w' : Writer) (count : ℕ) → Stops (invalidated w.cache) count w w' → Tells w.seen w.cache → Rests w w'
 rests_stopped w w' count s t = elim (stops_left w w' count s).1 [ inl (last, is) ↦ rests_same w w' is | inr (high, is) ↦ rests_spent w (emptied_by w) w' refl t high is ]
 
-pub stops_unmoved : (w w' : Writer) (count : ℕ) → Stops (invalidated w.cache) count w w' → Tells w.seen w.cache → IsPacked w → IsUnmoved w'.seen count (NoneLive w'.seen)
-stops_unmoved w w' count s t packed = by_cause (stops_left w w' count s) where
-  by_cause : IsStopped w count w' → IsUnmoved w'.seen count (NoneLive w'.seen)
+pub stops_unmoved : (w w' : Writer) (count : ℕ) → Stops (invalidated w.cache) count w w' → Tells w.seen w.cache → IsUnmoved w'.seen (last_count ≤ w'.cache.cycle) count (NoneLive w'.seen)
+stops_unmoved w w' count s t = by_cause (stops_left w w' count s) where
+  by_cause : IsStopped w count w' → IsUnmoved w'.seen (last_count ≤ w'.cache.cycle) count (NoneLive w'.seen)
   by_cause (at, inl (last, is)) = record { last = at; cause = inl (ap (λ (x : Writer). invalidations x.seen) is ∙ t.epochs_are ∙ last ∙ sym at) }
   by_cause (at, inr (high, is)) =
       let none = (is_emptied w (emptied_by w) (w.cache.epoch + 1) t (emptied_tells w.seen w.cache t) refl refl).none in
-      packed_unmoved w' count (NoneLive w'.seen) ((rests_stopped w w' count s t).packed packed) (subst (λ (x : Writer). last_count ≤ x.cache.cycle) (sym is) high) at (subst (λ (x : Writer). NoneLive x.seen) (sym is) none)
+      is_unmoved w' count (NoneLive w'.seen) (subst (λ (x : Writer). last_count ≤ x.cache.cycle) (sym is) high) at (subst (λ (x : Writer). NoneLive x.seen) (sym is) none)
 
 pub rests_invalidated : (r : Result ℕ Spent) (w w' : Writer) → IfOk r (λ epoch. Completes (invalidated w.cache) w w') → IfErr r (λ spent. Stops (invalidated w.cache) spent.count w w') → Tells w.seen w.cache → Rests w w'
 rests_invalidated (Ok epoch) w w' p s t = rests_emptied w w' p t

@@ -5,7 +5,7 @@ use Rattle.std.specs.Bool.{OnTrue}
 use Rattle.nsc_model.specs.declared.conf.DbConf.{DbConf}
 use Rattle.nsc_model.specs.declared.record.Record.{Record}
 use Rattle.nsc_model.specs.Entry.{Entry}
-use Rattle.nsc_model.specs.Live.{Among}
+use Rattle.nsc_model.specs.Live.{HasEntry}
 use Rattle.nsc_model.specs.History.{HasEnd, IsLive, changes}
 use Rattle.nsc_model.specs.Machine.{Kept, Cache, due_of, is_due, is_dropped, is_outdated, reached}
 use Rattle.nsc_laws.specs.Calls.{Tells, entries_of}
@@ -47,17 +47,17 @@ why_dropped limit k = by_test k.entry.answer.not_found refl where
 one_due : (limit : Option ℕ) (now : ℕ) (h : List Record) (k : Kept) → IsLive h k.entry → IsReloaded h k → is_due now k ≡ true → IsDue limit now h (due_from limit k)
 one_due limit now h k live counted over = record { entry = k.entry; inserted = live.inserted; numbered = refl; asked = refl; over = ltb-true k.entry.timeout now over; counted = counted; dropped = why_dropped limit k }
 
-due_are : (limit : Option ℕ) (now : ℕ) (h : List Record) (ks : List Kept) → ((e : Entry) → Among (entries_of ks) e → IsLive h e) → All (IsReloaded h) ks → All (IsDue limit now h) (map (due_from limit) (due_of now ks))
+due_are : (limit : Option ℕ) (now : ℕ) (h : List Record) (ks : List Kept) → ((e : Entry) → HasEntry (entries_of ks) e → IsLive h e) → All (IsReloaded h) ks → All (IsDue limit now h) (map (due_from limit) (due_of now ks))
 due_are limit now h [] live counted = λ i d low. absurd (omega arith)
 due_are limit now h (k ∷ ks) live counted = by_test (is_due now k) refl (due_are limit now h ks (λ e a. live e (inr a)) (λ i d low. counted (suc i) d (omega arith))) where
   by_test : (b : Bool) → is_due now k ≡ b → All (IsDue limit now h) (map (due_from limit) (due_of now ks)) → All (IsDue limit now h) (map (due_from limit) (cond b (k ∷ due_of now ks) (due_of now ks)))
   by_test true over rest = all_cons (IsDue limit now h) (due_from limit k) (map (due_from limit) (due_of now ks)) (one_due limit now h k (live k.entry (inl refl)) (counted 0 k (omega arith)) over) rest
   by_test false later rest = rest
 
-due_numbered : (limit : Option ℕ) (now : ℕ) (ks : List Kept) (e : Entry) → Among (entries_of ks) e → e.timeout < now → HasNumber (map (due_from limit) (due_of now ks)) e.number
+due_numbered : (limit : Option ℕ) (now : ℕ) (ks : List Kept) (e : Entry) → HasEntry (entries_of ks) e → e.timeout < now → HasNumber (map (due_from limit) (due_of now ks)) e.number
 due_numbered limit now [] e a over = absurd a
 due_numbered limit now (k ∷ ks) e a over = by_test (is_due now k) refl a (λ more. due_numbered limit now ks e more over) where
-  by_test : (b : Bool) → is_due now k ≡ b → Among (entries_of (k ∷ ks)) e → (Among (entries_of ks) e → HasNumber (map (due_from limit) (due_of now ks)) e.number) → HasNumber (map (due_from limit) (cond b (k ∷ due_of now ks) (due_of now ks))) e.number
+  by_test : (b : Bool) → is_due now k ≡ b → HasEntry (entries_of (k ∷ ks)) e → (HasEntry (entries_of ks) e → HasNumber (map (due_from limit) (due_of now ks)) e.number) → HasNumber (map (due_from limit) (cond b (k ∷ due_of now ks) (due_of now ks))) e.number
   by_test true is (inl same) rest = inl (ap (λ (x : Entry). x.number) same)
   by_test true is (inr more) rest = inr (rest more)
   by_test false is (inl same) rest = absurd (not_due (subst (λ (x : Entry). x.timeout < now) (sym same) over)) where

@@ -8,7 +8,7 @@ use Rattle.nsc_model.specs.declared.record.Record.TheVariants.{End}
 use Rattle.nsc_model.specs.Entry.{Entry}
 use Rattle.nsc_model.specs.History.{Allows, HasEnd, IsLive, IsPrefix, Legal, load_of}
 use Rattle.nsc_model.specs.Kinds.{is_request}
-use Rattle.nsc_model.specs.Reloads.{IsDropped, ends, one_of, replaced}
+use Rattle.nsc_model.specs.Reloads.{IsDropped, one_of, replaced}
 use Rattle.nsc_laws.specs.Calls.{Tells}
 use Rattle.nsc_laws.proofs.Requests.{request_same}
 use Rattle.nsc_pruner.specs.Due.{Due, due_cause_of, marked_by, pruned_by, pruned_one}
@@ -126,11 +126,10 @@ all_cons P x xs first rest (suc i) d low = rest i d (omega arith)
 -- what is marked as ended is counted; where none is, nothing changed
 pub record Counts (marked : List Due) (w w' : Writer) : Type 0 where
   pub renewed : All (IsRenewed w'.seen) marked
-  pub ended : ends w.seen + length (ended_of marked) ≡ ends w'.seen
   pub same : length (ended_of marked) ≡ 0 → w' ≡ w
 
 pub all_count : (settings : DbConf) (limit : Option ℕ) (now ticked : ℕ) (due : List Due) (w : Writer) → All (IsDue limit now w.seen) due → Tells w.seen w.cache → Keeps settings limit ticked w → Counts (marked_by now due w) w (pruned_by now due w)
-all_count settings limit now ticked [] w all t k = record { renewed = λ i d low. absurd (omega arith); ended = omega arith; same = λ none. refl }
+all_count settings limit now ticked [] w all t k = record { renewed = λ i d low. absurd (omega arith); same = λ none. refl }
 all_count settings limit now ticked (d ∷ due) w all t k =
     by_live (has_number d.number w.cache.entries) refl (λ w1 on told keeps. all_count settings limit now ticked due w1 (all_due_on limit now w.seen w1.seen due on (tail_of (IsDue limit now w.seen) d due all)) told keeps)
     (λ w1 on told keeps. (all_leave settings limit now ticked due w1 (all_due_on limit now w.seen w1.seen due on (tail_of (IsDue limit now w.seen) d due all)) told keeps).on) where
@@ -144,17 +143,14 @@ all_count settings limit now ticked (d ∷ due) w all t k =
           let keeps = keeps_ended settings limit ticked d.number (ending_of (due_cause_of now d)) w (right_cause limit now w.seen d t.legal due_here) k in
           let on : IsPrefix w.seen w1.seen = (End d.number (ending_of (due_cause_of now d)) ∷ [], refl) in
           let rest = counted w1 on told keeps in
-          let more = rest.ended in
           record {
             renewed = all_cons (IsRenewed (pruned_by now due w1).seen) (record d { ended = true }) (marked_by now due w1)
                 (renewed_on w1.seen (pruned_by now due w1).seen (record d { ended = true }) (after w1 on told keeps) (λ marked kept. counts_one limit now w.seen d t.legal due_here kept)) rest.renewed;
-            ended = omega arith;
             same = λ none. absurd (omega arith);
           }
       by_live false there counted after =
           let rest = counted w ([], refl) t k in
           record {
             renewed = all_cons (IsRenewed (pruned_by now due w).seen) (record d { ended = false }) (marked_by now due w) (λ marked kept. absurd cc) rest.renewed;
-            ended = rest.ended;
             same = rest.same;
           }

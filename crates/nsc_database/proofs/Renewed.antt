@@ -12,7 +12,7 @@ use Rattle.nsc_model.specs.Content.{Content}
 use Rattle.nsc_model.specs.declared.record.Record.{Record}
 use Rattle.nsc_model.specs.History.{HasEnd, IsPrefix, Legal, PolledSince, version_in}
 use Rattle.nsc_model.specs.Machine.{all_words, last_count, next_count, stopped, unchanged}
-use Rattle.nsc_model.specs.Stores.{IsUnmoved, LoadsAgain}
+use Rattle.nsc_model.specs.Stores.{IsUnmoved}
 use Rattle.nsc_laws.specs.Calls.{Tells}
 use Rattle.nsc_writer.specs.declared.loaded.Inserted.{Inserted}
 use Rattle.nsc_words.specs.declared.layout.Layout.{Layout}
@@ -27,11 +27,11 @@ use Rattle.nsc_turns.specs.Turns.{Completes, Stops}
 use Rattle.nsc_turns.proofs.Machines.{all_answered}
 use Rattle.nsc_turns.proofs.Renewed.{answered_on, leaves_inserted, leaves_pruned, spends}
 use Rattle.nsc_writer.proofs.Later.{end_on, polled_on, version_on}
-use Rattle.nsc_database.specs.Rests.{IsPacked, Keeps, Rests, IsAtRest}
+use Rattle.nsc_database.specs.Rests.{IsAtRest, IsPacked, Keeps, LoadsAgain, Rests}
 use Rattle.nsc_database.specs.Steady.{KeepsVersion}
 use Rattle.nsc_database.specs.Ticks.{AreAnew, AreOver, HasNumber, IsDue, IsPending, IsRenewed, LoadsBut, compacted_by}
-use Rattle.nsc_database.proofs.Again.{none_but}
-use Rattle.nsc_database.proofs.Invalidations.{packed_unmoved}
+use Rattle.nsc_database.proofs.Again.{but_later, none_but}
+use Rattle.nsc_database.proofs.Invalidations.{is_unmoved}
 use Rattle.nsc_database.proofs.Ended.{keeps_compacted, packed_compacted, packed_spent}
 use Rattle.nsc_laws.proofs.Reloads.{replaced_on}
 use Rattle.nsc_database.proofs.Pruning.{all_count, all_leave}
@@ -51,14 +51,14 @@ pub record Swept (settings : DbConf) (limit : Option ℕ) (now ticked : ℕ) (du
   pub gone : (n : ℕ) → HasNumber due n → HasEnd w'.seen n
   pub renewed : All (IsRenewed w'.seen) (marked_by now due w)
   pub epoch : w'.cache.epoch ≡ w.cache.epoch
-  pub waits : LoadsAgain w.layout.arena w.seen → LoadsBut w'.layout.arena (IsPending (marked_by now due w)) w'.seen
+  pub waits : LoadsAgain w.layout.arena w.cache.cycle w.seen → LoadsBut w'.layout.arena w'.cache.cycle (IsPending (marked_by now due w)) w'.seen
   pub version : KeepsVersion w.cache w'.cache
 
 -- what waits after the ends
-waits_of : (settings : DbConf) (limit : Option ℕ) (now ticked : ℕ) (due : List Due) (w : Writer) → All (IsDue limit now w.seen) due → Tells w.seen w.cache → Keeps settings limit ticked w → (pruned_by now due w).layout ≡ w.layout
-    → LoadsAgain w.layout.arena w.seen → LoadsBut (pruned_by now due w).layout.arena (IsPending (marked_by now due w)) (pruned_by now due w).seen
-waits_of settings limit now ticked due w all t k layout again =
-    subst (λ (n : ℕ). LoadsBut n (IsPending (marked_by now due w)) (pruned_by now due w).seen) (sym (ap (λ (x : Layout). x.arena) layout)) (pends settings limit now ticked w.layout.arena due w all t k again)
+waits_of : (settings : DbConf) (limit : Option ℕ) (now ticked : ℕ) (due : List Due) (w : Writer) → All (IsDue limit now w.seen) due → Tells w.seen w.cache → Keeps settings limit ticked w → (pruned_by now due w).layout ≡ w.layout → (pruned_by now due w).cache.cycle ≡ w.cache.cycle
+    → LoadsAgain w.layout.arena w.cache.cycle w.seen → LoadsBut (pruned_by now due w).layout.arena (pruned_by now due w).cache.cycle (IsPending (marked_by now due w)) (pruned_by now due w).seen
+waits_of settings limit now ticked due w all t k layout cycle again =
+    subst (λ (x : ℕ × ℕ). LoadsBut x.0 x.1 (IsPending (marked_by now due w)) (pruned_by now due w).seen) (λ i. (sym (ap (λ (x : Layout). x.arena) layout) i, sym cycle i)) (pends settings limit now ticked w.layout.arena w.cache.cycle due w all t k again)
 
 -- nothing ended, and nothing was compacted
 swept_none : (settings : DbConf) (limit : Option ℕ) (now ticked : ℕ) (due : List Due) (w : Writer) → All (IsDue limit now w.seen) due → Tells w.seen w.cache → Keeps settings limit ticked w → IsPacked w → ended_of (marked_by now due w) ≡ [] → Swept settings limit now ticked due w (pruned_by now due w)
@@ -67,17 +67,14 @@ swept_none settings limit now ticked due w all t k p none =
     let c = all_count settings limit now ticked due w all t k in
     let same = c.same (ap (λ (ds : List Due). length ds) none) in
     let v = leaves_pruned now due w in
-    record { legal = l.told.legal; on = v.on; table = v.table; layout = v.layout; slide = v.slide; keeps = l.keeps; packed = subst IsPacked (sym same) p; gone = l.gone; renewed = c.renewed; epoch = v.epoch; waits = waits_of settings limit now ticked due w all t k v.layout; version = record { version = v.version; sources = v.sources } }
+    record { legal = l.told.legal; on = v.on; table = v.table; layout = v.layout; slide = v.slide; keeps = l.keeps; packed = subst IsPacked (sym same) p; gone = l.gone; renewed = c.renewed; epoch = v.epoch; waits = waits_of settings limit now ticked due w all t k v.layout l.cycle; version = record { version = v.version; sources = v.sources } }
 
 -- some ended, and there was a compaction
-swept_some : (settings : DbConf) (limit : Option ℕ) (now ticked : ℕ) (due : List Due) (w : Writer) → All (IsDue limit now w.seen) due → Tells w.seen w.cache → Keeps settings limit ticked w → IsPacked w → 1 ≤ length (ended_of (marked_by now due w)) → Swept settings limit now ticked due w (compacted_by (pruned_by now due w))
-swept_some settings limit now ticked due w all t k p some =
+swept_some : (settings : DbConf) (limit : Option ℕ) (now ticked : ℕ) (due : List Due) (w : Writer) → All (IsDue limit now w.seen) due → Tells w.seen w.cache → Keeps settings limit ticked w → Swept settings limit now ticked due w (compacted_by (pruned_by now due w))
+swept_some settings limit now ticked due w all t k =
     let l = all_leave settings limit now ticked due w all t k in
     let c = all_count settings limit now ticked due w all t k in
     let w1 = pruned_by now due w in
-    let low = p.cycles in
-    let cycle = l.cycle in
-    let more = c.ended in
     let v = leaves_pruned now due w in
     record {
       legal = l.told.legal;
@@ -86,11 +83,11 @@ swept_some settings limit now ticked due w all t k p some =
       layout = v.layout;
       slide = v.slide;
       keeps = keeps_compacted settings limit ticked (all_words w1.cache.entries) (w1.cache.cycle + 2) w1 (compacted_by w1) refl l.keeps;
-      packed = packed_compacted w1 (compacted_by w1) refl (omega arith);
+      packed = packed_compacted w1 (compacted_by w1) refl;
       gone = l.gone;
       renewed = c.renewed;
       epoch = v.epoch;
-      waits = waits_of settings limit now ticked due w all t k v.layout;
+      waits = λ again. but_later w1.layout.arena w1.cache.cycle (w1.cache.cycle + 2) (IsPending (marked_by now due w)) w1.seen (omega arith) (waits_of settings limit now ticked due w all t k v.layout l.cycle again);
       version = record { version = v.version; sources = v.sources };
     }
 
@@ -99,28 +96,24 @@ swept_leaves settings limit now ticked due w w' all t k p s = by_ended (ended_of
   w1 : Writer
   w1 = pruned_by now due w
 
-  by_cycle : (b : Bool) → 1 ≤ length (ended_of (marked_by now due w)) → Completes (cond b (Ok (unchanged (record w1.cache { cycle = w1.cache.cycle + 2; used = all_words w1.cache.entries }))) (Err (stopped w1.cache))) w1 w' → Swept settings limit now ticked due w w'
-  by_cycle true some q = subst (Swept settings limit now ticked due w) (sym q) (swept_some settings limit now ticked due w all t k p some)
-  by_cycle false some q = absurd q
+  by_cycle : (b : Bool) → Completes (cond b (Ok (unchanged (record w1.cache { cycle = w1.cache.cycle + 2; used = all_words w1.cache.entries }))) (Err (stopped w1.cache))) w1 w' → Swept settings limit now ticked due w w'
+  by_cycle true q = subst (Swept settings limit now ticked due w) (sym q) (swept_some settings limit now ticked due w all t k)
+  by_cycle false q = absurd q
 
   by_ended : (ended : List Due) → ended_of (marked_by now due w) ≡ ended → Completes (compacted_for ended w1.cache) w1 w' → Swept settings limit now ticked due w w'
   by_ended [] none q = subst (Swept settings limit now ticked due w) (sym q) (swept_none settings limit now ticked due w all t k p none)
-  by_ended (d ∷ ended) some q = by_cycle (ltb w1.cache.cycle last_count) (let count = ap (λ (ds : List Due). length ds) some in omega arith) q
+  by_ended (d ∷ ended) some q = by_cycle (ltb w1.cache.cycle last_count) q
 
 -- where the count of the beginnings and the ends of slides stands at its end
-pub swept_spent : (settings : DbConf) (limit : Option ℕ) (now ticked : ℕ) (due : List Due) (w w' : Writer) → All (IsDue limit now w.seen) due → Tells w.seen w.cache → Keeps settings limit ticked w → IsPacked w → w' ≡ pruned_by now due w → last_count ≤ w'.cache.cycle
-    → Swept settings limit now ticked due w w'
-swept_spent settings limit now ticked due w w' all t k p is high =
+pub swept_spent : (settings : DbConf) (limit : Option ℕ) (now ticked : ℕ) (due : List Due) (w w' : Writer) → All (IsDue limit now w.seen) due → Tells w.seen w.cache → Keeps settings limit ticked w → w' ≡ pruned_by now due w → last_count ≤ w'.cache.cycle → Swept settings limit now ticked due w w'
+swept_spent settings limit now ticked due w w' all t k is high =
     let l = all_leave settings limit now ticked due w all t k in
     let c = all_count settings limit now ticked due w all t k in
     let w1 = pruned_by now due w in
-    let low = p.cycles in
-    let cycle = l.cycle in
-    let more = c.ended in
     let v = leaves_pruned now due w in
     let high1 : last_count ≤ w1.cache.cycle = subst (λ (x : Writer). last_count ≤ x.cache.cycle) is high in
     subst (Swept settings limit now ticked due w) (sym is)
-    (record { legal = l.told.legal; on = v.on; table = v.table; layout = v.layout; slide = v.slide; keeps = l.keeps; packed = packed_spent w1 w1 refl high1 (omega arith); gone = l.gone; renewed = c.renewed; epoch = v.epoch; waits = waits_of settings limit now ticked due w all t k v.layout; version = record { version = v.version; sources = v.sources } })
+    (record { legal = l.told.legal; on = v.on; table = v.table; layout = v.layout; slide = v.slide; keeps = l.keeps; packed = packed_spent w1 w1 refl high1; gone = l.gone; renewed = c.renewed; epoch = v.epoch; waits = waits_of settings limit now ticked due w all t k v.layout l.cycle; version = record { version = v.version; sources = v.sources } })
 
 pub all_over : (limit : Option ℕ) (now : ℕ) (h : List Record) (due : List Due) → All (IsDue limit now h) due → All (IsOver h now) due
 all_over limit now h due all i d low = let x = all i d low in (x.entry, x.inserted, x.numbered, x.over)
@@ -149,7 +142,7 @@ anew_marked a files now [] w = refl
 anew_marked a files now (d ∷ due) w = ap (λ (l : List (Option Loaded)). anew_of a files d ∷ l) (anew_marked a files now due (pruned_one now d w))
 
 -- the lock's writer after it
-pub at_rest_swept : {settings : DbConf} {limit : Option ℕ} {held : Option Content} {which : Db} {ticked : ℕ} {now : ℕ} {due : List Due} (w w' w'' : Writer) → Swept settings limit now ticked due w w' → Rests w' w'' → LoadsAgain w''.layout.arena w''.seen → IsAtRest settings limit held which ticked w → IsAtRest settings limit held which ticked w''
+pub at_rest_swept : {settings : DbConf} {limit : Option ℕ} {held : Option Content} {which : Db} {ticked : ℕ} {now : ℕ} {due : List Due} (w w' w'' : Writer) → Swept settings limit now ticked due w w' → Rests w' w'' → LoadsAgain w''.layout.arena w''.cache.cycle w''.seen → IsAtRest settings limit held which ticked w → IsAtRest settings limit held which ticked w''
 at_rest_swept {settings} {limit} {held} {which} {ticked} {now} {due} w w' w'' s r again st = (
   r.keeps settings limit ticked s.keeps,
   r.packed s.packed,
@@ -165,7 +158,7 @@ next_low n = min-le_left (n + 1) last_count
 
 -- the writer goes on, keeps the count of invalidations, and these wait still
 abbrev Waits : List Due → Writer → Writer → Type 0
-Waits due w0 w = Rests w0 w × (w.cache.epoch ≡ w0.cache.epoch) × LoadsBut w0.layout.arena (IsPending due) w.seen
+Waits due w0 w = Rests w0 w × (w.cache.epoch ≡ w0.cache.epoch) × LoadsBut w0.layout.arena w.cache.cycle (IsPending due) w.seen
 
 -- one of them, whose answer was made over the history of the first writer
 one_waits : (a : Answering) (files : Content) (d : Due) (due : List Due) (w0 w mid : Writer) → Legal w0.seen → IsPacked w0 → IsRenewed w0.seen d → IsAnswered w0.seen (loaded_of a files d.request (next_count d.reloads)) → a.stamp.epoch ≡ w0.cache.epoch → Waits (d ∷ due) w0 w → ReloadsOne d (anew_of a files d) w mid → Waits due w0 mid
@@ -174,7 +167,7 @@ one_waits a files d due w0 w mid legal packed renewed answered stamp waits one =
   l = loaded_of a files d.request (next_count d.reloads)
 
   passed : (d.ended ≡ true → d.dropped ≡ false → ⊥) → mid ≡ w → Waits due w0 mid
-  passed none same = subst (Waits due w0) (sym same) (waits.0, waits.1, pend_past w0.layout.arena d due w.seen none waits.2)
+  passed none same = subst (Waits due w0) (sym same) (waits.0, waits.1, pend_past w0.layout.arena w.cache.cycle d due w.seen none waits.2)
 
   by_ended : (b : Bool) → d.ended ≡ b → d.dropped ≡ false → OnTrue b ((said : Inserted) × Inserts said l w mid × IsRefused said l w × Tells w.seen w.cache) × OnFalse b (mid ≡ w) → Waits due w0 mid
   by_ended true e kept ((said, i, why, told), none) =
@@ -184,8 +177,8 @@ one_waits a files d due w0 w mid legal packed renewed answered stamp waits one =
       let rise = replaced_on w0.seen w.seen d.request waits.0.on in (
         rests_through w0 w mid waits.0 (rests_inserted said l w mid i (omega arith)),
         (leaves_inserted said l w mid i).epoch ∙ waits.1,
-        subst (λ (n : ℕ). LoadsBut n (IsPending due) mid.seen) room
-            (pend_inserted said l d due w mid told (waits.0.packed packed) i why (answered_on w0.seen w.seen l told.legal legal waits.0.on answered) (stamp ∙ sym waits.1) refl (subst (λ (n : ℕ). LoadsBut n (IsPending (d ∷ due)) w.seen) (sym room) waits.2)),
+        subst (λ (n : ℕ). LoadsBut n mid.cache.cycle (IsPending due) mid.seen) room
+            (pend_inserted said l d due w mid told (waits.0.packed packed) i why (answered_on w0.seen w.seen l told.legal legal waits.0.on answered) (stamp ∙ sym waits.1) refl (subst (λ (n : ℕ). LoadsBut n w.cache.cycle (IsPending (d ∷ due)) w.seen) (sym room) waits.2)),
       )
   by_ended false e kept (none, same) = passed (λ ended k. false≢true (sym e ∙ ended)) same
 
@@ -193,17 +186,17 @@ one_waits a files d due w0 w mid legal packed renewed answered stamp waits one =
   by_drop true e same = passed (λ ended kept. false≢true (sym kept ∙ e)) same
   by_drop false e r = by_ended d.ended refl e r
 
-all_reloaded : (a : Answering) (files : Content) (due : List Due) (w0 w w' : Writer) → Legal w0.seen → IsPacked w0 → All (IsRenewed w0.seen) due → version_in w0.seen a.stamp.version ≡ Some files → PolledSince w0.seen a.stamp.version a.stamp.epoch → a.stamp.epoch ≡ w0.cache.epoch → Waits due w0 w → Reloads due (map (anew_of a files) due) w w' → Rests w0 w' × LoadsAgain w'.layout.arena w'.seen
-all_reloaded a files [] w0 w w' legal packed renewed version since stamp waits same = subst (λ (x : Writer). Rests w0 x × LoadsAgain x.layout.arena x.seen) (sym same)
-    (waits.0, subst (λ (n : ℕ). LoadsAgain n w.seen) (sym (ap (λ (x : Layout). x.arena) waits.0.layout)) (none_but w0.layout.arena (IsPending []) w.seen (λ r x. x) waits.2))
+all_reloaded : (a : Answering) (files : Content) (due : List Due) (w0 w w' : Writer) → Legal w0.seen → IsPacked w0 → All (IsRenewed w0.seen) due → version_in w0.seen a.stamp.version ≡ Some files → PolledSince w0.seen a.stamp.version a.stamp.epoch → a.stamp.epoch ≡ w0.cache.epoch → Waits due w0 w → Reloads due (map (anew_of a files) due) w w' → Rests w0 w' × LoadsAgain w'.layout.arena w'.cache.cycle w'.seen
+all_reloaded a files [] w0 w w' legal packed renewed version since stamp waits same = subst (λ (x : Writer). Rests w0 x × LoadsAgain x.layout.arena x.cache.cycle x.seen) (sym same)
+    (waits.0, subst (λ (n : ℕ). LoadsAgain n w.cache.cycle w.seen) (sym (ap (λ (x : Layout). x.arena) waits.0.layout)) (none_but w0.layout.arena w.cache.cycle (IsPending []) w.seen (λ r x. x) waits.2))
 all_reloaded a files (d ∷ due) w0 w w' legal packed renewed version since stamp waits r =
     let answered : IsAnswered w0.seen (loaded_of a files d.request (next_count d.reloads)) = record { files = files; version = version; answer = refl; polled = since } in
     let one = one_waits a files d due w0 w r.0 legal packed (head_of (IsRenewed w0.seen) d due renewed) answered stamp waits r.1 in
     all_reloaded a files due w0 r.0 w' legal packed (tail_of (IsRenewed w0.seen) d due renewed) version since stamp one r.2
 
 -- a renewal of a tick, whose lock is free after it
-renewed_rests : (settings : DbConf) (limit : Option ℕ) (now ticked epoch : ℕ) (due : List Due) (loads : List (Option Loaded)) (w swept w' : Writer) (s : Swept settings limit now ticked due w swept) → Legal w.seen → LoadsAgain w.layout.arena w.seen → AreAnew w.seen epoch due loads → w.cache.epoch ≡ epoch → Reloads (marked_by now due w) loads swept w'
-    → Rests swept w' × LoadsAgain w'.layout.arena w'.seen
+renewed_rests : (settings : DbConf) (limit : Option ℕ) (now ticked epoch : ℕ) (due : List Due) (loads : List (Option Loaded)) (w swept w' : Writer) (s : Swept settings limit now ticked due w swept) → Legal w.seen → LoadsAgain w.layout.arena w.cache.cycle w.seen → AreAnew w.seen epoch due loads → w.cache.epoch ≡ epoch → Reloads (marked_by now due w) loads swept w'
+    → Rests swept w' × LoadsAgain w'.layout.arena w'.cache.cycle w'.seen
 renewed_rests settings limit now ticked epoch due loads w swept w' s legal again anew same r =
     let n = anew_on w.seen swept.seen epoch due loads legal s.legal s.on anew in
     let made = n.made ∙ sym (anew_marked n.answering n.files now due w) in
@@ -215,7 +208,7 @@ pub record Renewal (settings : DbConf) (limit : Option ℕ) (held : Option Conte
   pub table : w'.table ≡ w.table
   pub layout : w'.layout ≡ w.layout
   pub over : OnOk r (AreOver epoch w'.seen due)
-  pub spent : IfErr r (λ s. IsUnmoved w'.seen s.count (AreOver epoch w'.seen due))
+  pub spent : IfErr r (λ s. IsUnmoved w'.seen (last_count ≤ w'.cache.cycle) s.count (AreOver epoch w'.seen due))
 
 pub renewal : {settings : DbConf} {limit : Option ℕ} {held : Option Content} {which : Db} {ticked : ℕ} (now epoch : ℕ) (due : List Due) (loads : List (Option Loaded)) (w w' : Writer) (r : Result (Unit {0}) Spent) → All (IsDue limit now w.seen) due → AreAnew w.seen epoch due loads → w.cache.epoch ≡ epoch
     → Tells w.seen w.cache → OnOk r (Renews now due loads w w') → IfErr r (λ s. Stops (compacted_for (ended_of (marked_by now due w)) (pruned_by now due w).cache) s.count (pruned_by now due w) w') → IsAtRest settings limit held which ticked w → Renewal settings limit held which ticked epoch due w w' r
@@ -231,13 +224,11 @@ renewal {settings} {limit} {held} {which} {ticked} now epoch due loads w w' (Ok 
     }
 renewal {settings} {limit} {held} {which} {ticked} now epoch due loads w w' (Err spent) all anew same t r stops rest =
     let e = spends (ended_of (marked_by now due w)) spent.count (pruned_by now due w) w' stops in
-    let s = swept_spent settings limit now ticked due w w' all t rest.0 rest.1 e.same e.high in
-    let low = s.packed.cycles in
-    let high = e.high in
+    let s = swept_spent settings limit now ticked due w w' all t rest.0 e.same e.high in
     record {
-      rest = at_rest_swept w w' w' s (rests_same w' w' refl) (inr (omega arith)) rest;
+      rest = at_rest_swept w w' w' s (rests_same w' w' refl) (inr e.high) rest;
       table = s.table;
       layout = s.layout;
       over = tt;
-      spent = packed_unmoved w' spent.count (AreOver epoch w'.seen due) s.packed e.high e.at (inr s.gone);
+      spent = is_unmoved w' spent.count (AreOver epoch w'.seen due) e.high e.at (inr s.gone);
     }

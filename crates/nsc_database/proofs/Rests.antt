@@ -14,7 +14,7 @@ use Rattle.nsc_model.specs.Files.{same_files}
 use Rattle.nsc_model.specs.History.{HasLoad, IsLive, Legal, WasPolled, changes}
 use Rattle.nsc_model.specs.Machine.{Kept, all_words, entry_words, is_outdated, last_count, polled, used_by, used_now}
 use Rattle.nsc_model.specs.Kinds.{is_request}
-use Rattle.nsc_model.specs.Reloads.{Reloaded, ends, invalidated_at, replaced}
+use Rattle.nsc_model.specs.Reloads.{Reloaded, invalidated_at, replaced}
 use Rattle.nsc_writer.specs.declared.loaded.Inserted.{Inserted}
 use Rattle.nsc_writer.specs.declared.loaded.Inserted.TheVariants as inserted
 use Rattle.nsc_writer.specs.declared.loaded.Stamp.{Stamp}
@@ -25,8 +25,7 @@ use Rattle.nsc_turns.specs.declared.entries.HitOrMiss.TheVariants as looked
 use Rattle.nsc_turns.specs.Turns.{Looks}
 use Rattle.nsc_shelf.specs.Uses.{Uses}
 use Rattle.nsc_writer.proofs.Later.{prefix_through}
-use Rattle.nsc_model.specs.Stores.{LoadsAgain}
-use Rattle.nsc_database.specs.Rests.{IsPacked, IsReloaded, Keeps, Rests}
+use Rattle.nsc_database.specs.Rests.{IsPacked, IsReloaded, Keeps, LoadsAgain, Rests}
 use Rattle.nsc_database.proofs.Again.{again_more}
 use Rattle.nsc_turns.proofs.Renewed.{leaves_inserted}
 use Rattle.nsc_database.proofs.Steady.{keeps_through}
@@ -95,14 +94,13 @@ pub record AddsNone (h h' : List Record) : Type 0 where
   pub reloaded : (limit : Option ℕ) → Reloaded limit h → Reloaded limit h'
   pub replaced_is : (request : Request) → replaced h' request ≡ replaced h request
   pub invalidated_is : invalidated_at h' ≡ invalidated_at h
-  pub ends_are : ends h' ≡ ends h
-  pub again : (arena : ℕ) → LoadsAgain arena h → LoadsAgain arena h'
+  pub again : (arena cycle : ℕ) → LoadsAgain arena cycle h → LoadsAgain arena cycle h'
 
 poll_adds_none : (v : ℕ) (h : List Record) → AddsNone h (Poll v ∷ h)
-poll_adds_none v h = record { reloaded = λ limit r. record { dropped = r.dropped; invalidated = r.invalidated }; replaced_is = λ request. refl; invalidated_is = refl; ends_are = refl; again = λ arena l. again_more arena (Poll v) h tt l }
+poll_adds_none v h = record { reloaded = λ limit r. record { dropped = r.dropped; invalidated = r.invalidated }; replaced_is = λ request. refl; invalidated_is = refl; again = λ arena cycle l. again_more arena cycle (Poll v) h tt l }
 
 change_adds_none : (v : ℕ) (c : Content) (h : List Record) → AddsNone h (Change v c ∷ h)
-change_adds_none v c h = record { reloaded = λ limit r. record { dropped = r.dropped; invalidated = r.invalidated }; replaced_is = λ request. refl; invalidated_is = refl; ends_are = refl; again = λ arena l. again_more arena (Change v c) h tt l }
+change_adds_none v c h = record { reloaded = λ limit r. record { dropped = r.dropped; invalidated = r.invalidated }; replaced_is = λ request. refl; invalidated_is = refl; again = λ arena cycle l. again_more arena cycle (Change v c) h tt l }
 
 -- a writer with such a history, and the same entries in as many words
 pub keeps_with : (settings : DbConf) (limit : Option ℕ) (ticked : ℕ) (w w' : Writer) → AddsNone w.seen w'.seen → w'.cache.entries ≡ w.cache.entries → Keeps settings limit ticked w → Keeps settings limit ticked w'
@@ -112,11 +110,8 @@ keeps_with settings limit ticked w w' adds same k = record {
   found = subst (λ (n : ℕ). OnTrue settings.check_files (ticked ≤ n)) (sym adds.invalidated_is) k.found;
 }
 
-pub packed_with : (w w' : Writer) → ends w'.seen ≡ ends w.seen → w'.cache.entries ≡ w.cache.entries → w'.cache.used ≡ w.cache.used → w'.cache.cycle ≡ w.cache.cycle → IsPacked w → IsPacked w'
-packed_with w w' more same used cycle p = record {
-  taken = λ low. used ∙ p.taken (subst (λ (n : ℕ). n < last_count) cycle low) ∙ sym (ap all_words same);
-  cycles = let high = p.cycles in let e : ends w'.seen ≡ ends w.seen = more in let c : w'.cache.cycle ≡ w.cache.cycle = cycle in omega arith;
-}
+pub packed_with : (w w' : Writer) → w'.cache.entries ≡ w.cache.entries → w'.cache.used ≡ w.cache.used → w'.cache.cycle ≡ w.cache.cycle → IsPacked w → IsPacked w'
+packed_with w w' same used cycle p low = used ∙ p (subst (λ (n : ℕ). n < last_count) cycle low) ∙ sym (ap all_words same)
 
 -- what a call leaves as it was
 pub record Stays (w w' : Writer) : Type 0 where
@@ -131,7 +126,7 @@ pub keeps_stays : (settings : DbConf) (limit : Option ℕ) (ticked : ℕ) (w w' 
 keeps_stays settings limit ticked w w' s k = keeps_with settings limit ticked w w' s.adds s.entries k
 
 pub packed_stays : (w w' : Writer) → Stays w w' → IsPacked w → IsPacked w'
-packed_stays w w' s p = packed_with w w' s.adds.ends_are s.entries s.used s.cycle p
+packed_stays w w' s p = packed_with w w' s.entries s.used s.cycle p
 
 -- where the newest version is the one that the last tick found, or that does not count, it may stand for that
 pub keeps_current : (settings : DbConf) (limit : Option ℕ) (ticked newest : ℕ) (w : Writer) → is_outdated settings newest ticked ≡ false → Keeps settings limit ticked w → Keeps settings limit newest w
@@ -186,7 +181,7 @@ keeps_used : (settings : DbConf) (limit : Option ℕ) (ticked : ℕ) (request : 
 keeps_used settings limit ticked request w k = record { reloaded = k.reloaded; counted = reloaded_used w.seen request w.cache.entries k.counted; found = k.found }
 
 packed_used : (request : Request) (w : Writer) → IsPacked w → IsPacked (record w { cache = record w.cache { entries = used_now request w.cache.entries } })
-packed_used request w p = record { taken = λ low. p.taken low ∙ sym (words_used request w.cache.entries); cycles = p.cycles }
+packed_used request w p low = p low ∙ sym (words_used request w.cache.entries)
 
 -- ---- insertions
 
@@ -206,7 +201,7 @@ keeps_entry settings limit ticked k w low keeps = record {
   one (suc i) d l = absurd (omega arith)
 
 packed_entry : (k : Kept) (w : Writer) → IsPacked w → IsPacked (with_entry k w)
-packed_entry k w p = record { taken = λ low. ap (λ (n : ℕ). n + entry_words k.entry) (p.taken low) ∙ sym (words_one w.cache.entries k); cycles = p.cycles }
+packed_entry k w p low = ap (λ (n : ℕ). n + entry_words k.entry) (p low) ∙ sym (words_one w.cache.entries k)
 
 pub keeps_insert : (settings : DbConf) (limit : Option ℕ) (ticked : ℕ) (said : Inserted) (loaded : Loaded) (w w' : Writer) → Inserts said loaded w w' → loaded.reloads ≤ replaced w.seen loaded.request → Keeps settings limit ticked w → Keeps settings limit ticked w'
 keeps_insert settings limit ticked (inserted.Done number) loaded w w' i low k = subst (Keeps settings limit ticked) (sym i.2) (keeps_entry settings limit ticked (kept_of loaded w.cache.inserted) w low k)
@@ -222,15 +217,15 @@ packed_insert (inserted.TooLarge size) loaded w w' i p = subst IsPacked (sym i.1
 packed_insert (inserted.Discarded noted epoch) loaded w w' i p = subst IsPacked (sym i.1) p
 packed_insert (inserted.Present number) loaded w w' i p = subst IsPacked (sym i.1) p
 packed_insert (inserted.Spent count) loaded w w' i p = subst IsPacked (sym i.1) p
-packed_insert (inserted.Full need free) loaded w w' i p = subst IsPacked (sym i.1) (record { taken = p.taken; cycles = p.cycles })
+packed_insert (inserted.Full need free) loaded w w' i p = subst IsPacked (sym i.1) (λ low. p low)
 
-again_insert : (said : Inserted) (loaded : Loaded) (w w' : Writer) → Inserts said loaded w w' → LoadsAgain w.layout.arena w.seen → LoadsAgain w'.layout.arena w'.seen
-again_insert (inserted.Done number) loaded w w' i l = subst (λ (x : Writer). LoadsAgain x.layout.arena x.seen) (sym i.2) (again_more w.layout.arena (Load (kept_of loaded w.cache.inserted).entry) w.seen tt l)
-again_insert (inserted.TooLarge size) loaded w w' i l = subst (λ (x : Writer). LoadsAgain x.layout.arena x.seen) (sym i.1) l
-again_insert (inserted.Discarded noted epoch) loaded w w' i l = subst (λ (x : Writer). LoadsAgain x.layout.arena x.seen) (sym i.1) l
-again_insert (inserted.Present number) loaded w w' i l = subst (λ (x : Writer). LoadsAgain x.layout.arena x.seen) (sym i.1) l
-again_insert (inserted.Spent count) loaded w w' i l = subst (λ (x : Writer). LoadsAgain x.layout.arena x.seen) (sym i.1) l
-again_insert (inserted.Full need free) loaded w w' i l = subst (λ (x : Writer). LoadsAgain x.layout.arena x.seen) (sym i.1) l
+again_insert : (said : Inserted) (loaded : Loaded) (w w' : Writer) → Inserts said loaded w w' → LoadsAgain w.layout.arena w.cache.cycle w.seen → LoadsAgain w'.layout.arena w'.cache.cycle w'.seen
+again_insert (inserted.Done number) loaded w w' i l = subst (λ (x : Writer). LoadsAgain x.layout.arena x.cache.cycle x.seen) (sym i.2) (again_more w.layout.arena w.cache.cycle (Load (kept_of loaded w.cache.inserted).entry) w.seen tt l)
+again_insert (inserted.TooLarge size) loaded w w' i l = subst (λ (x : Writer). LoadsAgain x.layout.arena x.cache.cycle x.seen) (sym i.1) l
+again_insert (inserted.Discarded noted epoch) loaded w w' i l = subst (λ (x : Writer). LoadsAgain x.layout.arena x.cache.cycle x.seen) (sym i.1) l
+again_insert (inserted.Present number) loaded w w' i l = subst (λ (x : Writer). LoadsAgain x.layout.arena x.cache.cycle x.seen) (sym i.1) l
+again_insert (inserted.Spent count) loaded w w' i l = subst (λ (x : Writer). LoadsAgain x.layout.arena x.cache.cycle x.seen) (sym i.1) l
+again_insert (inserted.Full need free) loaded w w' i l = subst (λ (x : Writer). LoadsAgain x.layout.arena x.cache.cycle x.seen) (sym i.1) l
 
 -- ---- whole calls
 
@@ -256,7 +251,7 @@ rests_missed m w w' is = subst (Rests w) (sym is) (record {
   layout = refl;
   slide = refl;
   keeps = λ settings limit ticked k. record { reloaded = k.reloaded; counted = k.counted; found = k.found };
-  packed = λ p. record { taken = p.taken; cycles = p.cycles };
+  packed = λ p. λ low. p low;
   again = λ l. l;
   version = record { version = refl; sources = refl };
 })
@@ -269,7 +264,7 @@ rests_looked found request (looked.Hit hit) w w' reply l = subst (Rests w) (sym 
   layout = refl;
   slide = refl;
   keeps = λ settings limit ticked k. let u = keeps_used settings limit ticked request w k in record { reloaded = u.reloaded; counted = u.counted; found = u.found };
-  packed = λ p. let u = packed_used request w p in record { taken = u.taken; cycles = u.cycles };
+  packed = λ p. λ low. packed_used request w p low;
   again = λ l. l;
   version = record { version = refl; sources = refl };
 })

@@ -1,6 +1,7 @@
 -- What holds of the writer's lock show.
-use Rattle.std.proofs.Common.{◌≡◌, ◌∙◌, ℕ, suc, ◌+◌, ◌/◌, ◌^◌, ◌<◌, ◌≤◌, ◌⊎◌, Bool, true, false, cond, eqb, ltb, List, [], ◌∷◌, ◌++◌, length, length-append, Option, Some, None, Result, Ok, Err, refl, sym, ap, subst, arith, inl, inr}
+use Rattle.std.proofs.Common.{◌≡◌, ◌∙◌, ℕ, suc, ◌+◌, ◌/◌, ◌^◌, ◌<◌, ◌≤◌, ◌⊎◌, Bool, true, false, cond, eqb, ltb, List, [], ◌∷◌, ◌++◌, length, length-append, max, Option, Some, None, Result, Ok, Err, refl, sym, ap, subst, arith, inl, inr}
 use Rattle.std.specs.Prelude.{IfErr, IfOk}
+use Rattle.std.proofs.Math.Nat.{le-max_right}
 use Rattle.std.proofs.lemmas.Bool.{eqb-true, ltb-false, ltb-true}
 use Rattle.std.proofs.lemmas.List.Sums.{sum_by-cons}
 use Rattle.nsc_model.specs.declared.answer.Request.{Request}
@@ -15,8 +16,11 @@ use Rattle.nsc_model.specs.Entry.{Entry}
 use Rattle.nsc_model.specs.Files.{same_files}
 use Rattle.nsc_model.specs.History.{HasLoad, IsLive, IsPrefix, Legal, LookedBetween, NoneLive, NoneLiveOf, PolledSince, LooksAt, invalidations, loads, version_in}
 use Rattle.nsc_model.specs.Machine.{Kept, Cache, all_words, entry_words, last_count, by_invalidation, ends_of, live_entry, polled}
-use Rattle.nsc_model.specs.Reloads.{ends}
-use Rattle.nsc_model.specs.Stores.{IsCounted, IsEmptied, HasFree, IsFull, IsHit, IsSpent, MayBeUnmoved, words_of}
+use Rattle.nsc_model.specs.declared.fault.CacheFault.{CacheFault}
+use Rattle.nsc_model.specs.declared.fault.CacheFault.TheVariants as cache_fault
+use Rattle.nsc_model.specs.Stores.{FoundLastCycle, IsCounted, IsEmptied, HasFree, IsFull, IsHit, IsInvalidateFault, IsSpent, IsUnmoved, words_of}
+use Rattle.nsc_rule.specs.declared.view.Search.{Search}
+use Rattle.nsc_rule.specs.Seats.{informed}
 use Rattle.nsc_laws.specs.Calls.{Tells, entries_of}
 use Rattle.nsc_laws.proofs.Requests.{same_request}
 use Rattle.nsc_laws.proofs.MachineLawLists.{found}
@@ -64,6 +68,18 @@ looked_none h cache request reply t gives = by_entry (live_entry request cache.e
 pub is_looked : (r : HitOrMiss) (request : Request) (w w' : Writer) (reply : List ℕ) → Tells w.seen w.cache → LooksUp (live_entry request w.cache.entries) request r w w' reply → IsLooked r w.seen request reply
 is_looked (looked.Hit hit) request w w' reply t l = looked_hit w.seen w.cache request hit reply t l.0
 is_looked (looked.Missed epoch) request w w' reply t l = (l.1 ∙ sym t.epochs_are, looked_none w.seen w.cache request reply t l.0)
+
+-- ---- CYCLE
+
+-- a pass that was shown CYCLE as 2^62 finds it there, and keeps that as it is shown the history again
+pub found_last : (s0 s1 s2 s3 : Search) (cycle cycle' : ℕ) → s1 ≡ informed s0 cycle → s2.searches ≡ s1.searches + 1 → s1.known ≤ s2.last → s2.last ≤ last_count → s3 ≡ informed s2 cycle' → last_count ≤ cycle → FoundLastCycle s0.searches s3.searches s3.last
+found_last s0 s1 s2 s3 cycle cycle' first more low most after high =
+    let begun : s1.searches ≡ s0.searches = ap (λ (s : Search). s.searches) first in
+    let known : s1.known ≡ max s0.known cycle = ap (λ (s : Search). s.known) first in
+    let ended : s3.searches ≡ s2.searches = ap (λ (s : Search). s.searches) after in
+    let found : s3.last ≡ s2.last = ap (λ (s : Search). s.last) after in
+    let rise = le-max_right s0.known cycle in
+    (omega arith, omega arith)
 
 -- ---- a poll
 
@@ -199,13 +215,13 @@ words_live (k ∷ ks) =
     sum_by-cons entry_words k.entry (entries_of ks) ∙ ap (λ (n : ℕ). entry_words k.entry + n) (words_live ks) ∙ sym (sum_by-cons f k ks)
 
 -- what is free, by what the writer counts
-pub is_free : (h : List Record) (w : Writer) (free : ℕ) → Tells h w.cache → w.seen ≡ h → IsPacked w → free + w.cache.used ≡ w.layout.arena → HasFree w.layout.arena free h ⊎ MayBeUnmoved h
-is_free h w free t seen p rest = by_cycle (ltb w.cache.cycle last_count) refl where
-  by_cycle : (b : Bool) → ltb w.cache.cycle last_count ≡ b → HasFree w.layout.arena free h ⊎ MayBeUnmoved h
-  by_cycle false is = inr (let high = ltb-false w.cache.cycle last_count is in let low = p.cycles in let same : ends w.seen ≡ ends h = ap ends seen in omega arith)
-  by_cycle true is = let low = ltb-true w.cache.cycle last_count is in inl (record { entries = entries_of w.cache.entries; live = t.entries_are; rest = ap (λ (n : ℕ). free + n) (words_live w.cache.entries ∙ sym (p.taken low)) ∙ rest })
+pub is_free : (w : Writer) (free : ℕ) → Tells w.seen w.cache → IsPacked w → free + w.cache.used ≡ w.layout.arena → HasFree w.layout.arena free w.seen ⊎ (last_count ≤ w.cache.cycle)
+is_free w free t p rest = by_cycle (ltb w.cache.cycle last_count) refl where
+  by_cycle : (b : Bool) → ltb w.cache.cycle last_count ≡ b → HasFree w.layout.arena free w.seen ⊎ (last_count ≤ w.cache.cycle)
+  by_cycle false is = inr (ltb-false w.cache.cycle last_count is)
+  by_cycle true is = let low = ltb-true w.cache.cycle last_count is in inl (record { entries = entries_of w.cache.entries; live = t.entries_are; rest = ap (λ (n : ℕ). free + n) (words_live w.cache.entries ∙ sym (p low)) ∙ rest })
 
-pub is_inserted : (said : Inserted) (loaded : Loaded) (w w' : Writer) → Tells w.seen w.cache → IsPacked w → Inserts said loaded w w' → IsRefused said loaded w → IsInserted w.layout.arena said loaded w.seen w'.seen
+pub is_inserted : (said : Inserted) (loaded : Loaded) (w w' : Writer) → Tells w.seen w.cache → IsPacked w → Inserts said loaded w w' → IsRefused said loaded w → IsInserted w.layout.arena (last_count ≤ w'.cache.cycle) said loaded w.seen w'.seen
 is_inserted (inserted.Done number) loaded w w' t packed i r =
     let counted = t.loads_are in
     let is = i.1 in (subst (λ (x : Writer). HasLoad x.seen (kept_of loaded number).entry) (sym i.2) (inl (ap (λ (n : ℕ). (kept_of loaded n).entry) (sym is))), omega arith)
@@ -216,16 +232,16 @@ is_inserted (inserted.Present number) loaded w w' t packed i r =
     (e.0, subst (λ (x : Writer). IsLive x.seen e.0) (sym i.1) e.1, e.2, e.3)
 is_inserted (inserted.Spent count) loaded w w' t packed i r = (r.0, ap (λ (x : Writer). loads x.seen) i.1 ∙ t.loads_are ∙ r.1)
 is_inserted (inserted.Full need free) loaded w w' t packed i r =
-    let same : w'.seen ≡ w.seen = ap (λ (x : Writer). x.seen) i.1 in
-    subst (λ (h : List Record). IsFull w.layout.arena h loaded.request loaded.answer.bytes need free) (sym same) (record { needed = r.0; less = r.2; left = is_free w.seen w free t refl packed r.1 })
+    subst (λ (x : Writer). IsFull w.layout.arena x.seen (last_count ≤ x.cache.cycle) loaded.request loaded.answer.bytes need free) (sym i.1) (record { needed = r.0; less = r.2; left = is_free w free t packed r.1 })
 
-pub inserted_since : (arena : ℕ) (said : Inserted) (loaded : Loaded) (seen h after : List Record) → IsPrefix seen h → IsInserted arena said loaded h after → IsInserted arena said loaded seen after
-inserted_since arena (inserted.Done number) loaded seen h after on i = let low = loads_on seen h on in let more = i.1 in (i.0, omega arith)
-inserted_since arena (inserted.TooLarge size) loaded seen h after on i = i
-inserted_since arena (inserted.Discarded noted epoch) loaded seen h after on i = i
-inserted_since arena (inserted.Present number) loaded seen h after on i = i
-inserted_since arena (inserted.Spent count) loaded seen h after on i = i
-inserted_since arena (inserted.Full need free) loaded seen h after on i = i
+-- by a pass that had seen less than the writer, and that loads CYCLE as 2^62 where it stands there
+pub inserted_since : (arena : ℕ) (lesser last_cycle : Type 0) (said : Inserted) (loaded : Loaded) (seen h after : List Record) → IsPrefix seen h → (lesser → last_cycle) → IsInserted arena lesser said loaded h after → IsInserted arena last_cycle said loaded seen after
+inserted_since arena lesser last_cycle (inserted.Done number) loaded seen h after on to i = let low = loads_on seen h on in let more = i.1 in (i.0, omega arith)
+inserted_since arena lesser last_cycle (inserted.TooLarge size) loaded seen h after on to i = i
+inserted_since arena lesser last_cycle (inserted.Discarded noted epoch) loaded seen h after on to i = i
+inserted_since arena lesser last_cycle (inserted.Present number) loaded seen h after on to i = i
+inserted_since arena lesser last_cycle (inserted.Spent count) loaded seen h after on to i = i
+inserted_since arena lesser last_cycle (inserted.Full need free) loaded seen h after on to i = record { needed = i.needed; less = i.less; left = elim i.left [ inl left ↦ inl left | inr last ↦ inr (to last) ] }
 
 -- ---- an invalidation, and counts
 
@@ -238,6 +254,14 @@ is_emptied w w' epoch t t' next is =
       new = omega arith;
       none = subst (λ (x : Writer). NoneLive x.seen) (sym is) legal.2;
     }
+
+-- why a call gave up, by a pass that loads CYCLE as 2^62 where it stands there
+pub unmoved_to : (after : List Record) (lesser last_cycle : Type 0) (count : ℕ) (ended : Type 0) → (lesser → last_cycle) → IsUnmoved after lesser count ended → IsUnmoved after last_cycle count ended
+unmoved_to after lesser last_cycle count ended to u = record { last = u.last; cause = elim u.cause [ inl all ↦ inl all | inr unmoved ↦ inr (to unmoved.0, unmoved.1) ] }
+
+pub fault_to : (f : CacheFault) (after : List Record) (lesser last_cycle : Type 0) → (lesser → last_cycle) → IsInvalidateFault f after lesser → IsInvalidateFault f after last_cycle
+fault_to cache_fault.NoMemory after lesser last_cycle to f = f
+fault_to (cache_fault.Spent count) after lesser last_cycle to f = unmoved_to after lesser last_cycle count (NoneLive after) to f
 
 pub emptied_since : (seen h after : List Record) (epoch : ℕ) → IsPrefix seen h → IsEmptied h after epoch → IsEmptied seen after epoch
 emptied_since seen h after epoch on e = record { last = e.last; new = (let low = invalidations_on seen h on in let more = e.new in omega arith); none = e.none }
@@ -271,7 +295,7 @@ is_counted w stats t p c = record {
   entries = entries_of w.cache.entries;
   live = t.entries_are;
   counted = c.entries ∙ sym (entries_length w.cache.entries);
-  taken = λ low. c.used ∙ p.taken (half_below w.cache.cycle (subst (λ (n : ℕ). n < 2 ^ 61) c.compactions low)) ∙ sym (words_live w.cache.entries);
+  taken = λ low. c.used ∙ p (half_below w.cache.cycle (subst (λ (n : ℕ). n < 2 ^ 61) c.compactions low)) ∙ sym (words_live w.cache.entries);
   invalidations_are = c.invalidations_are ∙ sym t.epochs_are;
   arena_is = c.arena;
 } where

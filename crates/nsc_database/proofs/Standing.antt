@@ -1,20 +1,20 @@
 -- What holds of a desk while its lock is free stays so, and what passes see under holds of the lock.
-use Rattle.std.proofs.Common.{◌≡◌, ◌∙◌, ℕ, false, Option, Result, Ok, Err, ap, subst, sym}
+use Rattle.std.proofs.Common.{◌≡◌, ◌∙◌, ℕ, ◌≤◌, ◌⊎◌, false, Option, Result, Ok, Err, ap, arith, inl, inr, subst, sym}
 use Rattle.nsc_outside.specs.declared.files.FileSet as file_set
 use Rattle.nsc_words.specs.declared.layout.Layout.{Layout}
 use Rattle.nsc_model.specs.declared.conf.DbConf.{DbConf}
 use Rattle.nsc_model.specs.declared.kind.Db.{Db}
 use Rattle.nsc_model.specs.Content.{Content}
 use Rattle.nsc_model.specs.Machine.{is_outdated}
-use Rattle.nsc_model.specs.Stores.{LoadsAgain}
+use Rattle.nsc_model.specs.Stores.{AreLoadedAgain}
 use Rattle.nsc_model.specs.declared.store.Spent.{Spent as SpentCount}
 use Rattle.nsc_writer.specs.Writer.{Writer}
 use Rattle.nsc_sourcebook.specs.Book.{Fetched, Polled, PollsBook, SourceBook}
 use Rattle.nsc_writer.proofs.Later.{prefix_through}
 use Rattle.nsc_database.specs.declared.pass.DbPass.{DbPass}
 use Rattle.nsc_database.specs.declared.room.Room as room
-use Rattle.nsc_database.specs.Frames.{Goes, Held}
-use Rattle.nsc_database.specs.Rests.{Rests, IsAtRest}
+use Rattle.nsc_database.specs.Frames.{Goes, Held, LoadedLastCycle}
+use Rattle.nsc_database.specs.Rests.{IsAtRest, LoadsAgain, Rests}
 use Rattle.nsc_sourcebook.specs.Reads.{IsPart}
 use Rattle.nsc_database.proofs.Rests.{keeps_current, keeps_stays, packed_stays, polls_stay, rests_same}
 use Rattle.nsc_database.proofs.Shown.{polls_spent}
@@ -33,7 +33,7 @@ at_rest_polled {settings} {limit} {held} {which} {ticked} fetched epoch b b' w w
       keeps_stays settings limit ticked w w' stays s.0,
       packed_stays w w' stays s.1,
       λ all e. still_polled fetched.content all which epoch w w' p.stamp q.0 (s.2 all e) (part all e),
-      subst (λ (n : ℕ). LoadsAgain n w'.seen) (sym (ap (λ (x : Layout). x.arena) stays.layout)) (stays.adds.again w.layout.arena s.3),
+      subst (λ (x : ℕ × ℕ). LoadsAgain x.0 x.1 w'.seen) (λ i. (sym (ap (λ (x : Layout). x.arena) stays.layout) i, sym stays.cycle i)) (stays.adds.again w.layout.arena w.cache.cycle s.3),
       stays.slide ∙ s.4,
     )
 at_rest_polled {settings} {limit} {held} {which} {ticked} fetched epoch b b' w w' (Err spent) q part s = at_rest_same w w' (polls_spent fetched.content epoch w w' spent q.0).2 s
@@ -46,10 +46,18 @@ at_rest_current {settings} {limit} {held} {which} {ticked} newest w w' same is c
 
 -- one hold after the other
 pub held_through : {F B : Type 0} {G : file_set.Ghosts F} {R : room.Ghosts B} (a b c : DbPass F B G R) → Held a b → Held b c → Held a c
-held_through a b c h i = record { db = i.db ∙ h.db; files = i.files ∙ h.files; before = prefix_through a.pass.seen b.pass.seen c.pass.seen h.before i.before; legal = i.legal }
+held_through a b c h i = record { db = i.db ∙ h.db; files = i.files ∙ h.files; before = prefix_through a.pass.seen b.pass.seen c.pass.seen h.before i.before; legal = i.legal; searches = let low = h.searches in let more = i.searches in omega arith }
 
 pub goes_after : {F B : Type 0} {G : file_set.Ghosts F} {R : room.Ghosts B} (a b c : DbPass F B G R) → Held a b → Goes b c → Goes a c
-goes_after a b c h i = record { db = i.db ∙ h.db; before = prefix_through a.pass.seen b.pass.seen c.pass.seen h.before i.before; legal = i.legal }
+goes_after a b c h i = record { db = i.db ∙ h.db; before = prefix_through a.pass.seen b.pass.seen c.pass.seen h.before i.before; legal = i.legal; searches = let low = h.searches in let more = i.searches in omega arith }
 
 pub goes_on : {F B : Type 0} {G : file_set.Ghosts F} {R : room.Ghosts B} (a b c : DbPass F B G R) → Goes a b → Held b c → Goes a c
-goes_on a b c h i = record { db = i.db ∙ h.db; before = prefix_through a.pass.seen b.pass.seen c.pass.seen h.before i.before; legal = i.legal }
+goes_on a b c h i = record { db = i.db ∙ h.db; before = prefix_through a.pass.seen b.pass.seen c.pass.seen h.before i.before; legal = i.legal; searches = let low = h.searches in let more = i.searches in omega arith }
+
+-- CYCLE was loaded as 2^62 in a call that began earlier
+pub loaded_before : {F B : Type 0} {G : file_set.Ghosts F} {R : room.Ghosts B} (a b c : DbPass F B G R) → a.pass.searching.searches ≤ b.pass.searching.searches → LoadedLastCycle b c → LoadedLastCycle a c
+loaded_before a b c on l = ((let more = l.0 in omega arith), l.1)
+
+pub again_before : {F B : Type 0} {G : file_set.Ghosts F} {R : room.Ghosts B} (arena : ℕ) (a b c : DbPass F B G R) → a.pass.searching.searches ≤ b.pass.searching.searches → AreLoadedAgain arena c.pass.seen ⊎ LoadedLastCycle b c → AreLoadedAgain arena c.pass.seen ⊎ LoadedLastCycle a c
+again_before arena a b c on (inl all) = inl all
+again_before arena a b c on (inr found) = inr (loaded_before a b c on found)

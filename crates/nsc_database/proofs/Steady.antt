@@ -18,7 +18,8 @@ use Rattle.nsc_laws.proofs.SpelledHistories.{version_below}
 use Rattle.nsc_writer.specs.declared.loaded.Stamp.{Stamp}
 use Rattle.nsc_writer.specs.Writer.{Writer, Polls, emptied_by}
 use Rattle.nsc_writer.proofs.Later.{version_on}
-use Rattle.nsc_database.specs.Steady.{HasOne, IsSteady, IsStill, KeepsVersion}
+use Rattle.nsc_model.specs.Steady.{HasOne, IsSteady}
+use Rattle.nsc_database.specs.Steady.{IsStill, KeepsVersion}
 
 -- ---- a cache that keeps its version
 

@@ -1,5 +1,5 @@
 -- What a tick comes to, hold after hold.
-use Rattle.std.proofs.Common.{◌≡◌, ◌≢◌, ℕ, ◌+◌, ◌<◌, ◌≤◌, List, [], ◌∷◌, ◌++◌, Option, Some, refl, sym, ap, subst, arith, inl, inr}
+use Rattle.std.proofs.Common.{◌≡◌, ◌≢◌, ℕ, ◌+◌, ◌<◌, ◌≤◌, ◌⊎◌, List, [], ◌∷◌, ◌++◌, Option, Some, refl, sym, ap, subst, arith, inl, inr}
 use Rattle.std.specs.Bool.{OnTrue}
 use Rattle.std.proofs.lemmas.Bool.{OnTrue_at, OnTrue_from}
 use Rattle.nsc_model.specs.declared.conf.DbConf.{DbConf}
@@ -13,7 +13,7 @@ use Rattle.nsc_model.specs.Entry.{Entry}
 use Rattle.nsc_model.specs.History.{HasEnd, HasLoad, IsPrefix, Legal, LookedBetween, NoneLive, PolledSince, changes, invalidations, version_in}
 use Rattle.nsc_model.specs.Reloads.{Reloaded}
 use Rattle.nsc_model.specs.Reads.{FaultsStay, IsLookedUp}
-use Rattle.nsc_model.specs.Stores.{EndsStale, IsTickFault, IsTicked, LoadsAgain}
+use Rattle.nsc_model.specs.Stores.{AreLoadedAgain, EndsStale, IsTickFault, IsTicked}
 use Rattle.nsc_model.specs.Machine.{room_of}
 use Rattle.nsc_laws.proofs.CoreLawRecords.{ended_or_not}
 use Rattle.nsc_laws.proofs.Prefixes.{more_after, prefix_legal}
@@ -26,7 +26,7 @@ use Rattle.nsc_database.specs.declared.room.Room as room
 use Rattle.nsc_database.specs.Frames.{Goes, Held}
 use Rattle.nsc_database.specs.Holds.{IsPolled, IsPolledVersion}
 use Rattle.nsc_database.specs.Ticks.{AreListed, AreOver, IsHoldFault}
-use Rattle.nsc_database.proofs.Shown.{invalidations_on, prefix_length}
+use Rattle.nsc_database.proofs.Shown.{invalidations_on, prefix_length, unmoved_to}
 use Rattle.nsc_database.proofs.Rests.{version_within}
 
 not_empty : (h : List Record) (e : Entry) → HasLoad h e → h ≢ []
@@ -102,10 +102,10 @@ emptied_stale settings now seen noted mid after epoch polled t none =
       outdated = OnTrue_from settings.check_files _ (λ on' e a other. none e (load_on seen after e on a));
     }
 
-pub emptied_ticked : (which : Db) (m n : FileId → ℕ) (latest : FileId → Option (Option (List ℕ))) (settings : DbConf) (limit : Option ℕ) (now : ℕ) (seen noted mid after : List Record) (epoch : ℕ) (polled : Polled) → Ticking seen noted mid after epoch polled → IsLookedUp which m n latest polled.content → NoneLive after → Reloaded limit after
-    → LoadsAgain (room_of settings) after → IsTicked which m n latest settings limit now seen after
+pub emptied_ticked : (which : Db) (m n : FileId → ℕ) (latest : FileId → Option (Option (List ℕ))) (settings : DbConf) (limit : Option ℕ) (now : ℕ) (seen noted mid after : List Record) (last_cycle : Type 0) (epoch : ℕ) (polled : Polled) → Ticking seen noted mid after epoch polled → IsLookedUp which m n latest polled.content → NoneLive after → Reloaded limit after
+    → AreLoadedAgain (room_of settings) after ⊎ last_cycle → IsTicked which m n latest settings limit now seen after last_cycle
 unfolding emptied_stale
-emptied_ticked which m n latest settings limit now seen noted mid after epoch polled t files none r l = record {
+emptied_ticked which m n latest settings limit now seen noted mid after last_cycle epoch polled t files none r l = record {
   ends = emptied_stale settings now seen noted mid after epoch polled t none;
   content = polled.content;
   version_is = polled_still seen noted mid after after epoch polled t ([], refl) t.legal_after;
@@ -153,10 +153,10 @@ listed_stale settings limit now seen noted mid after last epoch polled due t lis
   outdated = listed_outdated settings limit now seen noted mid after last epoch polled due t listed p legal over;
 }
 
-pub listed_ticked : (which : Db) (m n : FileId → ℕ) (latest : FileId → Option (Option (List ℕ))) (settings : DbConf) (limit : Option ℕ) (now : ℕ) (seen noted mid after last : List Record) (epoch : ℕ) (polled : Polled) (due : List Due) → Ticking seen noted mid after epoch polled → IsLookedUp which m n latest polled.content
-    → AreListed settings limit now after due → IsPrefix after last → Legal last → AreOver epoch last due → Reloaded limit last → LoadsAgain (room_of settings) last → IsTicked which m n latest settings limit now seen last
+pub listed_ticked : (which : Db) (m n : FileId → ℕ) (latest : FileId → Option (Option (List ℕ))) (settings : DbConf) (limit : Option ℕ) (now : ℕ) (seen noted mid after last : List Record) (last_cycle : Type 0) (epoch : ℕ) (polled : Polled) (due : List Due) → Ticking seen noted mid after epoch polled → IsLookedUp which m n latest polled.content
+    → AreListed settings limit now after due → IsPrefix after last → Legal last → AreOver epoch last due → Reloaded limit last → AreLoadedAgain (room_of settings) last ⊎ last_cycle → IsTicked which m n latest settings limit now seen last last_cycle
 unfolding listed_stale
-listed_ticked which m n latest settings limit now seen noted mid after last epoch polled due t files listed p legal over r l = record {
+listed_ticked which m n latest settings limit now seen noted mid after last last_cycle epoch polled due t files listed p legal over r l = record {
   ends = listed_stale settings limit now seen noted mid after last epoch polled due t listed p legal over;
   content = polled.content;
   version_is = polled_still seen noted mid after last epoch polled t p legal;
@@ -168,12 +168,19 @@ listed_ticked which m n latest settings limit now seen noted mid after last epoc
 -- ---- faults
 
 -- a hold gave up, and the stale entries are ended where its ends were made
-pub hold_fault : (cause : LookupFault) (settings : DbConf) (now : ℕ) (seen after : List Record) (before_faults after_faults : ℕ) (before_each after_each : FileId → ℕ) (ended : Type 0) → (ended → EndsStale settings now seen after) → FaultsStay before_faults after_faults before_each after_each → IsHoldFault cause after ended
-    → IsTickFault cause settings now seen after before_faults after_faults before_each after_each
-hold_fault fault.NoMemory settings now seen after m n m' n' ended to same f = same
-hold_fault (fault.Spent count) settings now seen after m n m' n' ended to same f = (inr (record { last = f.last; cause = elim f.cause [ inl last ↦ inl last | inr unmoved ↦ inr (unmoved.0, to unmoved.1) ] }), same)
-hold_fault (fault.SourceFault file) settings now seen after m n m' n' ended to same f = absurd f
-hold_fault (fault.TooLong file size) settings now seen after m n m' n' ended to same f = absurd f
+pub hold_fault : (cause : LookupFault) (settings : DbConf) (now : ℕ) (seen after : List Record) (lesser last_cycle : Type 0) (before_faults after_faults : ℕ) (before_each after_each : FileId → ℕ) (ended : Type 0) → (lesser → last_cycle) → (ended → EndsStale settings now seen after) → FaultsStay before_faults after_faults before_each after_each → IsHoldFault cause after lesser ended
+    → IsTickFault cause settings now seen after last_cycle before_faults after_faults before_each after_each
+hold_fault fault.NoMemory settings now seen after lesser last_cycle m n m' n' ended found to same f = same
+hold_fault (fault.Spent count) settings now seen after lesser last_cycle m n m' n' ended found to same f = (inr (record { last = f.last; cause = elim f.cause [ inl last ↦ inl last | inr unmoved ↦ inr (found unmoved.0, to unmoved.1) ] }), same)
+hold_fault (fault.SourceFault file) settings now seen after lesser last_cycle m n m' n' ended found to same f = absurd f
+hold_fault (fault.TooLong file size) settings now seen after lesser last_cycle m n m' n' ended found to same f = absurd f
+
+-- by a pass that loads CYCLE as 2^62 where it stands there
+pub held_to : (cause : LookupFault) (after : List Record) (lesser last_cycle : Type 0) (ended : Type 0) → (lesser → last_cycle) → IsHoldFault cause after lesser ended → IsHoldFault cause after last_cycle ended
+held_to fault.NoMemory after lesser last_cycle ended to f = f
+held_to (fault.Spent count) after lesser last_cycle ended to f = unmoved_to after lesser last_cycle count ended to f
+held_to (fault.SourceFault file) after lesser last_cycle ended to f = f
+held_to (fault.TooLong file size) after lesser last_cycle ended to f = f
 
 -- ---- before the last hold
 

@@ -32,11 +32,11 @@ pub record IsPolled (seen after : List Record) (epoch : ℕ) (polled : Polled) :
   pub newest : changes after ≡ polled.stamp.version + 1
   pub looked : LookedBetween seen after polled.stamp.version
 
--- what became of an insertion into an arena of so many words
-abbrev pub IsInserted : ℕ → Inserted → Loaded → List Record → List Record → Type 0
-IsInserted arena (inserted.Done number) loaded seen after = HasLoad after (kept_of loaded number).entry × (loads seen ≤ number)
-IsInserted arena (inserted.TooLarge size) loaded seen after = (size ≡ length loaded.answer.bytes) × (kept_limit < size)
-IsInserted arena (inserted.Discarded noted epoch) loaded seen after = (noted ≡ loaded.stamp.epoch) × (epoch ≡ invalidations after) × (noted < epoch)
-IsInserted arena (inserted.Present number) loaded seen after = (e : Entry) × IsLive after e × (e.number ≡ number) × (e.request ≡ loaded.request)
-IsInserted arena (inserted.Spent count) loaded seen after = (count ≡ last_count) × (loads after ≡ count)
-IsInserted arena (inserted.Full need free) loaded seen after = IsFull arena after loaded.request loaded.answer.bytes need free
+-- what became of an insertion into an arena of so many words; there may be no more compactions
+abbrev pub IsInserted : ℕ → Type 0 → Inserted → Loaded → List Record → List Record → Type 0
+IsInserted arena last_cycle (inserted.Done number) loaded seen after = HasLoad after (kept_of loaded number).entry × (loads seen ≤ number)
+IsInserted arena last_cycle (inserted.TooLarge size) loaded seen after = (size ≡ length loaded.answer.bytes) × (kept_limit < size)
+IsInserted arena last_cycle (inserted.Discarded noted epoch) loaded seen after = (noted ≡ loaded.stamp.epoch) × (epoch ≡ invalidations after) × (noted < epoch)
+IsInserted arena last_cycle (inserted.Present number) loaded seen after = (e : Entry) × IsLive after e × (e.number ≡ number) × (e.request ≡ loaded.request)
+IsInserted arena last_cycle (inserted.Spent count) loaded seen after = (count ≡ last_count) × (loads after ≡ count)
+IsInserted arena last_cycle (inserted.Full need free) loaded seen after = IsFull arena after last_cycle loaded.request loaded.answer.bytes need free

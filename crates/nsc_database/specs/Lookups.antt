@@ -29,8 +29,8 @@ given_by (inserted.Present number) bytes = given.Fresh bytes (why.Present number
 given_by (inserted.Spent count) bytes = given.Fresh bytes (why.Spent count)
 given_by (inserted.Full need free) bytes = given.Fresh bytes (why.Full need free)
 
--- an insertion into an arena of so many words was tried, and the lookup gives this
-pub record IsTried (arena : ℕ) (loaded : Loaded) (seen after : List Record) (g : Given) : Type 0 where
+-- an insertion into an arena of so many words was tried, where there may be no more compactions, and the lookup gives this
+pub record IsTried (arena : ℕ) (last_cycle : Type 0) (loaded : Loaded) (seen after : List Record) (g : Given) : Type 0 where
   pub said : Inserted
-  pub inserted : IsInserted arena said loaded seen after
+  pub inserted : IsInserted arena last_cycle said loaded seen after
   pub gives : g ≡ given_by said loaded.answer.bytes

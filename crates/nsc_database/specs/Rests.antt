@@ -1,5 +1,5 @@
 -- What holds of the writer of a database while its lock is free.
-use Rattle.std.specs.Prelude.{◌≡◌, ℕ, ◌+◌, ◌*◌, ◌<◌, ◌≤◌, All, List, [], ◌∷◌, Option, None}
+use Rattle.std.specs.Prelude.{◌≡◌, ℕ, ◌+◌, ◌<◌, ◌≤◌, ◌⊎◌, All, List, [], ◌∷◌, Option, None}
 use Rattle.std.specs.Bool.{OnTrue}
 use Rattle.nsc_model.specs.declared.conf.DbConf.{DbConf}
 use Rattle.nsc_model.specs.declared.record.Record.{Record}
@@ -8,8 +8,8 @@ use Rattle.nsc_model.specs.Content.{Content}
 use Rattle.nsc_model.specs.Entry.{Entry}
 use Rattle.nsc_model.specs.History.{IsLive, IsPrefix, changes}
 use Rattle.nsc_model.specs.Machine.{Kept, all_words, last_count, new_cache}
-use Rattle.nsc_model.specs.Reloads.{Reloaded, ends, invalidated_at, replaced}
-use Rattle.nsc_model.specs.Stores.{LoadsAgain}
+use Rattle.nsc_model.specs.Reloads.{Reloaded, invalidated_at, replaced}
+use Rattle.nsc_model.specs.Stores.{AreLoadedAgain}
 use Rattle.nsc_model.specs.declared.kind.Db.{Db}
 use Rattle.nsc_writer.specs.Writer.{Writer}
 use Rattle.nsc_database.specs.Steady.{KeepsVersion, StaysStill}
@@ -30,15 +30,17 @@ pub record Keeps (settings : DbConf) (limit : Option ℕ) (ticked : ℕ) (w : Wr
   pub counted : All (IsReloaded w.seen) w.cache.entries
   pub found : OnTrue settings.check_files (ticked ≤ invalidated_at w.seen)
 
--- only live entries take words, unless the count of the beginnings and the ends of slides stands at its end; and entries ended
--- before each compaction, at which that count goes on by two
-pub record IsPacked (w : Writer) : Type 0 where
-  pub taken : w.cache.cycle < last_count → w.cache.used ≡ all_words w.cache.entries
-  pub cycles : w.cache.cycle ≤ 2 * ends w.seen
+-- only live entries take words, unless there are no more compactions: the count of their beginnings and ends stands at its end
+abbrev pub IsPacked : Writer → Type 0
+IsPacked w = w.cache.cycle < last_count → w.cache.used ≡ all_words w.cache.entries
+
+-- each entry that ended to be loaded again was, or there is a reason, unless there are no more compactions, by that count
+abbrev pub LoadsAgain : ℕ → ℕ → List Record → Type 0
+LoadsAgain arena cycle history = AreLoadedAgain arena history ⊎ (last_count ≤ cycle)
 
 -- what holds of a writer while its lock is free
 abbrev pub IsAtRest : DbConf → Option ℕ → Option Content → Db → ℕ → Writer → Type 0
-IsAtRest settings limit held which ticked w = Keeps settings limit ticked w × IsPacked w × StaysStill held which w.cache × LoadsAgain w.layout.arena w.seen × (w.slide ≡ None)
+IsAtRest settings limit held which ticked w = Keeps settings limit ticked w × IsPacked w × StaysStill held which w.cache × LoadsAgain w.layout.arena w.cache.cycle w.seen × (w.slide ≡ None)
 
 -- a writer of an empty cache over this content as its first version, in an arena of so many words, with no slide under way
 pub record IsNew (w : Writer) (content : Content) (arena : ℕ) : Type 0 where
@@ -55,7 +57,7 @@ pub record Rests (w w' : Writer) : Type 0 where
   pub slide : w'.slide ≡ w.slide
   pub keeps : (settings : DbConf) (limit : Option ℕ) (ticked : ℕ) → Keeps settings limit ticked w → Keeps settings limit ticked w'
   pub packed : IsPacked w → IsPacked w'
-  pub again : LoadsAgain w.layout.arena w.seen → LoadsAgain w'.layout.arena w'.seen
+  pub again : LoadsAgain w.layout.arena w.cache.cycle w.seen → LoadsAgain w'.layout.arena w'.cache.cycle w'.seen
   pub version : KeepsVersion w.cache w'.cache
 
 -- the newest version is known to be there when the database was last invalidated, where changes of the files count

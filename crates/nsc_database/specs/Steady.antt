@@ -4,8 +4,8 @@ use Rattle.nsc_model.specs.declared.kind.Db.{Db}
 use Rattle.nsc_model.specs.declared.record.Record.{Record}
 use Rattle.nsc_model.specs.Content.{Content}
 use Rattle.nsc_model.specs.Files.{part_of}
-use Rattle.nsc_model.specs.History.{changes, version_in}
 use Rattle.nsc_model.specs.Machine.{Cache}
+use Rattle.nsc_model.specs.Steady.{IsSteady}
 
 -- the newest version of a cache is its first one, and is the database's part of these files
 pub record IsStill (files : Content) (which : Db) (cache : Cache) : Type 0 where
@@ -15,13 +15,9 @@ pub record IsStill (files : Content) (which : Db) (cache : Cache) : Type 0 where
 abbrev pub StaysStill : Option Content → Db → Cache → Type 0
 StaysStill held which cache = (files : Content) → held ≡ Some files → IsStill files which cache
 
--- a history has one version, which is the database's part of these files
-pub record HasOne (files : Content) (which : Db) (history : List Record) : Type 0 where
-  pub one : changes history ≡ 1
-  pub part : version_in history 0 ≡ Some (part_of which files)
-
-abbrev pub IsSteady : Option Content → Db → List Record → Type 0
-IsSteady held which history = (files : Content) → held ≡ Some files → HasOne files which history
+-- what was steady stays so: it has one version
+abbrev pub StaysSteady : Option Content → Db → List Record → List Record → Type 0
+StaysSteady held which seen after = IsSteady held which seen → IsSteady held which after
 
 -- no version was added, and none replaced
 pub record KeepsVersion (before after : Cache) : Type 0 where

@@ -11,9 +11,9 @@ use Rattle.nsc_model.specs.declared.store.LookupFault.TheVariants as fault
 use Rattle.nsc_model.specs.Entry.{Entry}
 use Rattle.nsc_model.specs.Content.{Content}
 use Rattle.nsc_model.specs.History.{HasEnd, HasLoad, IsPrefix, NoneLive, PolledSince, invalidations, load_of, version_in}
-use Rattle.nsc_model.specs.Machine.{all_words}
+use Rattle.nsc_model.specs.Machine.{all_words, last_count}
 use Rattle.nsc_model.specs.Reloads.{replaced}
-use Rattle.nsc_model.specs.Stores.{IsLoadedAgain, IsUnmoved, MayBeUnmoved}
+use Rattle.nsc_model.specs.Stores.{IsLoadedAgain, IsUnmoved}
 use Rattle.nsc_pruner.specs.Due.{Due}
 use Rattle.nsc_turns.specs.declared.answering.Answering.{Answering}
 use Rattle.nsc_turns.specs.Loads.{anew_of}
@@ -60,11 +60,11 @@ EmptiesOutdated checked.Emptied outdated = outdated ≡ true
 EmptiesOutdated (checked.Listed due) outdated = outdated ≡ false
 
 -- why a hold gave up: memory was wanting, or a count stands at its end, and the ends were made all the same
-abbrev pub IsHoldFault : LookupFault → List Record → Type 0 → Type 0
-IsHoldFault fault.NoMemory after ended = Unit {0}
-IsHoldFault (fault.Spent count) after ended = IsUnmoved after count ended
-IsHoldFault (fault.SourceFault file) after ended = ⊥
-IsHoldFault (fault.TooLong file size) after ended = ⊥
+abbrev pub IsHoldFault : LookupFault → List Record → Type 0 → Type 0 → Type 0
+IsHoldFault fault.NoMemory after last_cycle ended = Unit {0}
+IsHoldFault (fault.Spent count) after last_cycle ended = IsUnmoved after last_cycle count ended
+IsHoldFault (fault.SourceFault file) after last_cycle ended = ⊥
+IsHoldFault (fault.TooLong file size) after last_cycle ended = ⊥
 
 -- what is to be loaded again for those that are due, over one version, polled after so many invalidations
 pub record AreAnew (history : List Record) (epoch : ℕ) (due : List Due) (loads : List (Option Loaded)) : Type 0 where
@@ -84,8 +84,9 @@ IsPending (d ∷ due) request = ((d.ended ≡ true) × (d.dropped ≡ false) × 
 abbrev pub AreLoadedBut : ℕ → (Request → Type 0) → List Record → Type 0
 AreLoadedBut arena those history = (number : ℕ) (before : List Record) (e : Entry) → IsPrefix (End number Replaced ∷ before) history → load_of before number ≡ Some e → IsLoadedAgain arena (End number Replaced ∷ before) e.request history ⊎ those e.request
 
-abbrev pub LoadsBut : ℕ → (Request → Type 0) → List Record → Type 0
-LoadsBut arena those history = AreLoadedBut arena those history ⊎ MayBeUnmoved history
+-- and that, unless there are no more compactions, by the count of their beginnings and ends
+abbrev pub LoadsBut : ℕ → ℕ → (Request → Type 0) → List Record → Type 0
+LoadsBut arena cycle those history = AreLoadedBut arena those history ⊎ (last_count ≤ cycle)
 
 -- it is ended to be loaded again, and counted as such
 abbrev pub IsRenewed : List Record → Due → Type 0

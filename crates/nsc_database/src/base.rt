@@ -10,17 +10,17 @@ ghost use Rattle.nsc_model.specs.Stores.{IsCounted, IsEmptied, IsFault, IsInvali
 ghost use Rattle.nsc_sourcebook.specs.Book.{FitsBook};
 ghost use Rattle.nsc_sourcebook.specs.Reads.{IsPart, NoneFailed};
 ghost use Rattle.nsc_turns.specs.Loads.{loaded_of};
-ghost use Rattle.nsc_database.specs.Frames.{Goes, Held};
+ghost use Rattle.nsc_database.specs.Frames.{Goes, Held, LoadedLastCycle};
 ghost use Rattle.nsc_database.specs.Holds.{IsLooked, IsPolled};
 ghost use Rattle.nsc_database.specs.Lookups.{IsTried, given_by};
+ghost use Rattle.nsc_model.specs.Steady.{IsSteady};
+ghost use Rattle.nsc_database.specs.Steady.{StaysSteady};
 
 use crate::desk::{Desk, Shelved};
 use crate::pass::DbPass;
 use crate::room::{OfDb, Room};
 use nsc_base::{Buf, Bytes, NoMemory};
-use nsc_model::{
-    Answerer, Db, DbConf, Given, InvalidateFault, Kind, LookupFault, Spent, Stats, Why,
-};
+use nsc_model::{Answerer, CacheFault, Db, DbConf, Given, Kind, LookupFault, Spent, Stats, Why};
 use nsc_outside::FileSet;
 use nsc_rule::Map;
 use nsc_sourcebook::{Fetched, Polled};
@@ -49,6 +49,7 @@ impl<D: OfDb, F: FileSet + Drop, A: Answerer + Drop, B: Room> Base<D, F, A, B> {
     pub fn attach<R: Wait>(&self, rt: &R, alloc: Global) -> Result<DbPass<F, B>, NoMemory>
         ensures db { IfOk result (λ pass. pass.db ≡ D.db) }
         ensures legal { IfOk result (λ pass. Legal pass.pass.seen) }
+        ensures steady { IfOk result (λ pass. IsSteady B.held D.db pass.pass.seen) }
         ensures calm { IfOk result (λ pass. F.faults pass.files ≡ 0) }
     {
         let reply = Buf::new(alloc, 65_536)?;
@@ -76,6 +77,7 @@ impl<D: OfDb, F: FileSet + Drop, A: Answerer + Drop, B: Room> Base<D, F, A, B> {
         requires { pass.old.db ≡ D.db }
         ensures frame { Held pass.old pass.new }
         ensures looked { IsLooked result pass.new.pass.seen (record { kind = kind; key = key.now }) pass.new.reply.content }
+        ensures steady { IsSteady B.held D.db pass.new.pass.seen }
     {
         let mut lock = self.desk.lock(rt);
         let desk = &mut *lock;
@@ -95,6 +97,7 @@ impl<D: OfDb, F: FileSet + Drop, A: Answerer + Drop, B: Room> Base<D, F, A, B> {
         requires epoch { epoch ≤ invalidations pass.old.pass.seen }
         ensures frame { Goes pass.old pass.new }
         ensures polled { IfOk result (λ polled. IsPolled pass.old.pass.seen pass.new.pass.seen epoch polled) }
+        ensures steady { StaysSteady B.held D.db pass.old.pass.seen pass.new.pass.seen }
         ensures files { IfOk result (λ polled. IsLookedUp D.db (F.reads pass.old.files) (F.reads pass.new.files) (F.latest pass.new.files) polled.content) }
         ensures fault { IfErr result (λ fault. IsFault fault pass.new.pass.seen (F.faults pass.old.files) (F.faults pass.new.files) (F.file_faults pass.old.files) (F.file_faults pass.new.files)) }
         ensures no_fault { OnOk result (NoneFailed F.FileSet pass.old.files pass.new.files) }
@@ -126,6 +129,7 @@ impl<D: OfDb, F: FileSet + Drop, A: Answerer + Drop, B: Room> Base<D, F, A, B> {
         ensures frame { Held pass.old pass.new }
         ensures content { IfOk result (λ polled. polled.content ≡ fetched.content) }
         ensures polled { IfOk result (λ polled. IsPolled pass.old.pass.seen pass.new.pass.seen epoch polled) }
+        ensures steady { IsSteady B.held D.db pass.new.pass.seen }
         ensures spent { IfErr result (λ spent. IsSpent pass.new.pass.seen spent.count) }
     {
         let mut lock = self.desk.lock(rt);
@@ -142,14 +146,15 @@ impl<D: OfDb, F: FileSet + Drop, A: Answerer + Drop, B: Room> Base<D, F, A, B> {
         requires answered { IsAnswered pass.old.pass.seen loaded }
         requires new { loaded.reloads ≡ 0 }
         ensures frame { Held pass.old pass.new }
-        ensures kept { IsTried (room_of self.now.settings) loaded pass.old.pass.seen pass.new.pass.seen result }
+        ensures kept { IsTried (room_of self.now.settings) (LoadedLastCycle pass.old pass.new) loaded pass.old.pass.seen pass.new.pass.seen result }
+        ensures steady { IsSteady B.held D.db pass.new.pass.seen }
     {
         pass.pass.learn();
         let mut lock = self.desk.lock(rt);
         let desk = &mut *lock;
         desk.show(pass);
         let (said, loaded) = desk.insert(loaded);
-        desk.show(pass);
+        desk.show_cycle(pass);
         given_after(said, loaded.into_reply())
     }
 
@@ -192,21 +197,18 @@ impl<D: OfDb, F: FileSet + Drop, A: Answerer + Drop, B: Room> Base<D, F, A, B> {
 
 impl<D: OfDb, F: FileSet + Drop, A: Answerer + Drop, B: Room> Base<D, F, A, B> {
     /// Ends every entry, and gives the new number of invalidations.
-    pub fn invalidate<R: Wait>(
-        &self,
-        rt: &R,
-        pass: &mut DbPass<F, B>,
-    ) -> Result<u64, InvalidateFault>
+    pub fn invalidate<R: Wait>(&self, rt: &R, pass: &mut DbPass<F, B>) -> Result<u64, CacheFault>
         requires { pass.old.db ≡ D.db }
         ensures frame { Held pass.old pass.new }
+        ensures steady { IsSteady B.held D.db pass.new.pass.seen }
         ensures done { IfOk result (λ epoch. IsEmptied pass.old.pass.seen pass.new.pass.seen epoch) }
-        ensures fault { IfErr result (λ fault. IsInvalidateFault fault pass.new.pass.seen) }
+        ensures fault { IfErr result (λ fault. IsInvalidateFault fault pass.new.pass.seen (LoadedLastCycle pass.old pass.new)) }
     {
         let mut lock = self.desk.lock(rt);
         let desk = &mut *lock;
         desk.show(pass);
         let ended = desk.invalidate();
-        desk.show(pass);
+        desk.show_cycle(pass);
         ended
     }
 
@@ -214,6 +216,7 @@ impl<D: OfDb, F: FileSet + Drop, A: Answerer + Drop, B: Room> Base<D, F, A, B> {
     pub fn note<R: Wait>(&self, rt: &R, pass: &mut DbPass<F, B>) -> u64
         requires { pass.old.db ≡ D.db }
         ensures frame { Held pass.old pass.new }
+        ensures steady { IsSteady B.held D.db pass.new.pass.seen }
         ensures noted { result ≡ invalidations pass.new.pass.seen }
     {
         let mut lock = self.desk.lock(rt);
@@ -226,6 +229,7 @@ impl<D: OfDb, F: FileSet + Drop, A: Answerer + Drop, B: Room> Base<D, F, A, B> {
     pub fn stats<R: Wait>(&self, rt: &R, pass: &mut DbPass<F, B>) -> Stats
         requires { pass.old.db ≡ D.db }
         ensures frame { Held pass.old pass.new }
+        ensures steady { IsSteady B.held D.db pass.new.pass.seen }
         ensures counted { IsCounted (room_of self.now.settings) pass.new.pass.seen result }
         ensures enabled { result.enabled ≡ self.now.settings.enabled }
     {

@@ -3,8 +3,8 @@ ghost use Rattle.std.specs.Prelude.{◌≡◌};
 use crate::base::Base;
 use crate::pass::DbPass;
 use crate::room::{OfGroup, OfHosts, OfPasswd, OfServices, Room};
-use nsc_base::NoMemory;
-use nsc_model::{Answerer, Given, InvalidateFault, Kind, LookupFault, Stats, Store};
+use nsc_base::{Buf, NoMemory};
+use nsc_model::{Answerer, CacheFault, Given, InPlace, Kind, LookupFault, Stats, Store};
 use nsc_outside::FileSet;
 use std::alloc::Global;
 use std::marker::Model;
@@ -56,6 +56,12 @@ impl<F: FileSet + Drop, A: Answerer + Drop, B: Room> Store for Database<F, A, B>
 
     ghost latest = { λ p. F.latest p.files };
 
+    ghost searches = { λ p. p.pass.searching.searches };
+
+    ghost first = { λ p. p.pass.searching.first };
+
+    ghost last = { λ p. p.pass.searching.last };
+
     ghost held = { λ d. B.held };
 
     fn attach<R: Wait>(&self, rt: &R, alloc: Global) -> Result<DbPass<F, B>, NoMemory> {
@@ -99,13 +105,17 @@ impl<F: FileSet + Drop, A: Answerer + Drop, B: Room> Store for Database<F, A, B>
         }
     }
 
-    fn invalidate<R: Wait>(&self, rt: &R, pass: &mut DbPass<F, B>) -> Result<u64, InvalidateFault> {
+    fn invalidate<R: Wait>(&self, rt: &R, pass: &mut DbPass<F, B>) -> Result<u64, CacheFault> {
         match &self.bases {
             Bases::Passwd(base) => base.invalidate(rt, pass),
             Bases::Group(base) => base.invalidate(rt, pass),
             Bases::Hosts(base) => base.invalidate(rt, pass),
             Bases::Services(base) => base.invalidate(rt, pass),
         }
+    }
+
+    fn in_place(&self, pass: &mut DbPass<F, B>, kind: Kind, key: &[u8], out: &mut Buf) -> InPlace {
+        pass.in_place(kind, key, out)
     }
 
     fn stats<R: Wait>(&self, rt: &R, pass: &mut DbPass<F, B>) -> Result<Stats, NoMemory> {

@@ -1,24 +1,26 @@
 // What the locks of a database keep.
-ghost use Rattle.std.specs.Prelude.{◌≡◌, ◌≤◌, false, All, IfOk, IfErr, OnOk};
+ghost use Rattle.std.specs.Prelude.{◌≡◌, ◌≤◌, ◌⊎◌, All, IfOk, IfErr, OnOk};
 ghost use Rattle.nsc_model.specs.Entry.{kept_limit};
 ghost use Rattle.nsc_model.specs.History.{Legal, NoneLive, invalidations};
 ghost use Rattle.nsc_writer.specs.Writer.{IsAnswered};
 ghost use Rattle.nsc_sourcebook.specs.Book.{FitsBook};
 ghost use Rattle.nsc_sourcebook.specs.Reads.{IsFetched, IsPart, NoneFailed, NotFetched};
-ghost use Rattle.nsc_model.specs.Machine.{is_outdated, room_of};
+ghost use Rattle.nsc_model.specs.Machine.{is_outdated, last_count, room_of};
 ghost use Rattle.nsc_model.specs.Reloads.{Reloaded};
 ghost use Rattle.nsc_model.specs.Settings.{settings_of};
-ghost use Rattle.nsc_model.specs.Stores.{IsCounted, IsEmptied, IsInvalidateFault, IsSpent, IsUnmoved, LoadsAgain};
+ghost use Rattle.nsc_model.specs.Stores.{AreLoadedAgain, IsCounted, IsEmptied, IsInvalidateFault, IsSpent, IsUnmoved};
+ghost use Rattle.nsc_rule.specs.Seats.{informed};
 ghost use Rattle.nsc_shelf.specs.Uses.{counted};
-ghost use Rattle.nsc_database.specs.Frames.{Held};
+ghost use Rattle.nsc_database.specs.Frames.{Held, LoadedLastCycle};
 ghost use Rattle.nsc_database.specs.Holds.{IsInserted, IsLooked, IsPolled};
-ghost use Rattle.nsc_database.specs.Steady.{IsSteady};
+ghost use Rattle.nsc_database.specs.Rests.{LoadsAgain};
+ghost use Rattle.nsc_model.specs.Steady.{IsSteady};
 ghost use Rattle.nsc_database.specs.Ticks.{AreAnew, AreOver, EmptiesOutdated, IsChecked, IsDue, IsHoldFault};
 
 use crate::pass::DbPass;
 use crate::room::{OfDb, Room};
 use nsc_base::{Buf, NoMemory};
-use nsc_model::{Answerer, CacheFault, DbConf, InvalidateFault, Kind, LookupFault, Spent, Stats};
+use nsc_model::{Answerer, CacheFault, DbConf, Kind, LookupFault, Spent, Stats};
 use nsc_outside::FileSet;
 use nsc_pruner::Due;
 use nsc_rule::Pass;
@@ -76,19 +78,38 @@ impl<D: OfDb, B: Room> Desk<D, B> {
         self.writer.miss(not_found);
     }
 
-    /// The pass has seen the whole history then, which begins with what it had seen. This is the one place where a pass learns of
-    /// it: what is done under a hold of the lock knows no pass.
+    /// The pass has seen the whole history then, which begins with what it had seen, and knows CYCLE. What else is done under a hold of
+    /// the lock knows no pass.
     pub fn show<F: FileSet + Drop>(&mut self, pass: &mut DbPass<F, B>)
         requires { pass.old.db ≡ D.db }
         ensures same { self.new ≡ self.old }
         ensures frame { Held pass.old pass.new }
         ensures seen { pass.new.pass.seen ≡ self.old.writer.seen }
+        ensures searching { pass.new.pass.searching ≡ informed pass.old.pass.searching self.old.writer.cache.cycle }
+        ensures steady { IsSteady B.held D.db pass.new.pass.seen }
         ensures reloaded { Reloaded B.conf.reloads pass.new.pass.seen }
-        ensures again { LoadsAgain (room_of (settings_of B.conf D.db)) pass.new.pass.seen }
+        ensures again { LoadsAgain (room_of (settings_of B.conf D.db)) self.old.writer.cache.cycle pass.new.pass.seen }
         ensures reply { pass.new.reply ≡ pass.old.reply }
     {
         self.writer.learn();
         self.writer.show(&mut pass.pass);
+    }
+
+    /// The same, and the pass has loaded CYCLE. It is shown the history again after that, since a load without the lock may show more
+    /// than the lock tells of.
+    pub fn show_cycle<F: FileSet + Drop>(&mut self, pass: &mut DbPass<F, B>)
+        requires { pass.old.db ≡ D.db }
+        ensures same { self.new ≡ self.old }
+        ensures frame { Held pass.old pass.new }
+        ensures seen { pass.new.pass.seen ≡ self.old.writer.seen }
+        ensures cycle { last_count ≤ self.old.writer.cache.cycle → LoadedLastCycle pass.old pass.new }
+        ensures steady { IsSteady B.held D.db pass.new.pass.seen }
+        ensures reloaded { Reloaded B.conf.reloads pass.new.pass.seen }
+        ensures again { AreLoadedAgain (room_of (settings_of B.conf D.db)) pass.new.pass.seen ⊎ LoadedLastCycle pass.old pass.new }
+    {
+        self.show(pass);
+        pass.look_at_cycle();
+        self.show(pass);
     }
 
     /// The number of invalidations.
@@ -143,7 +164,7 @@ impl<D: OfDb, B: Room> Desk<D, B> {
     pub fn insert(&mut self, loaded: Loaded) -> (Inserted, Loaded)
         requires answered { IsAnswered self.old.writer.seen loaded }
         requires new { loaded.reloads ≡ 0 }
-        ensures inserted { IsInserted (room_of (settings_of B.conf D.db)) result.0 loaded self.old.writer.seen self.new.writer.seen }
+        ensures inserted { IsInserted (room_of (settings_of B.conf D.db)) (last_count ≤ self.new.writer.cache.cycle) result.0 loaded self.old.writer.seen self.new.writer.seen }
         ensures back { result.1 ≡ loaded }
     {
         self.writer.learn();
@@ -152,14 +173,14 @@ impl<D: OfDb, B: Room> Desk<D, B> {
 
     /// Ends every entry, and gives the new number of invalidations. At `Spent` that number stands at its end; or every entry
     /// ended, and the count of the beginnings and the ends of slides does.
-    pub fn invalidate(&mut self) -> Result<u64, InvalidateFault>
+    pub fn invalidate(&mut self) -> Result<u64, CacheFault>
         ensures done { IfOk result (λ epoch. IsEmptied self.old.writer.seen self.new.writer.seen epoch) }
-        ensures fault { IfErr result (λ fault. IsInvalidateFault fault self.new.writer.seen) }
+        ensures fault { IfErr result (λ fault. IsInvalidateFault fault self.new.writer.seen (last_count ≤ self.new.writer.cache.cycle)) }
     {
         self.writer.learn();
         match invalidate(&mut self.writer) {
             Ok(epoch) => Ok(epoch),
-            Err(spent) => Err(InvalidateFault::Spent { count: spent.count }),
+            Err(spent) => Err(CacheFault::Spent { count: spent.count }),
         }
     }
 }
@@ -178,7 +199,7 @@ impl<D: OfDb, B: Room> Desk<D, B> {
         requires limit { limit ≡ B.conf.reloads }
         ensures checked { IfOk result (λ checked. IsChecked checked settings.now limit now self.new.writer.seen) }
         ensures cause { IfOk result (λ checked. EmptiesOutdated checked (is_outdated settings.now self.old.writer.cache.newest_version self.old.ticked)) }
-        ensures fault { IfErr result (λ fault. IsHoldFault fault self.new.writer.seen (NoneLive self.new.writer.seen)) }
+        ensures fault { IfErr result (λ fault. IsHoldFault fault self.new.writer.seen (last_count ≤ self.new.writer.cache.cycle) (NoneLive self.new.writer.seen)) }
     {
         self.writer.learn();
         let newest = self.writer.version();
@@ -206,7 +227,7 @@ impl<D: OfDb, B: Room> Desk<D, B> {
         requires due { All (IsDue B.conf.reloads now self.old.writer.seen) due.old }
         requires loads { AreAnew self.old.writer.seen epoch due.old loads.now }
         ensures over { OnOk result (AreOver epoch self.new.writer.seen due.old) }
-        ensures spent { IfErr result (λ spent. IsUnmoved self.new.writer.seen spent.count (AreOver epoch self.new.writer.seen due.old)) }
+        ensures spent { IfErr result (λ spent. IsUnmoved self.new.writer.seen (last_count ≤ self.new.writer.cache.cycle) spent.count (AreOver epoch self.new.writer.seen due.old)) }
     {
         self.writer.learn();
         if self.writer.epoch() != epoch {

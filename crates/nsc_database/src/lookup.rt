@@ -4,8 +4,9 @@ ghost use Rattle.nsc_model.specs.Answers.{answer_of};
 ghost use Rattle.nsc_model.specs.Entry.{key_limit};
 ghost use Rattle.nsc_model.specs.Stores.{GivesAnswer, GivesUp, IsOfFiles};
 ghost use Rattle.nsc_sourcebook.specs.Reads.{NoneFailed};
-ghost use Rattle.nsc_database.specs.Frames.{Goes, Held};
+ghost use Rattle.nsc_database.specs.Frames.{Goes, Held, LoadedLastCycle};
 ghost use Rattle.nsc_database.specs.Lookups.{IsFoundIfCached};
+ghost use Rattle.nsc_model.specs.Steady.{IsSteady};
 
 use crate::base::Base;
 use crate::pass::DbPass;
@@ -33,7 +34,8 @@ impl<D: OfDb, F: FileSet + Drop, A: Answerer + Drop, B: Room> Base<D, F, A, B> {
         requires key { length key.now ≤ key_limit }
         requires moment { now < 2 ^ 62 }
         ensures frame { Goes pass.old pass.new }
-        ensures answer { IfOk result (GivesAnswer self.now.settings now pass.old.pass.seen pass.new.pass.seen (record { kind = kind; key = key.now })) }
+        ensures steady { IsSteady B.held D.db pass.new.pass.seen }
+        ensures answer { IfOk result (GivesAnswer self.now.settings now pass.old.pass.seen pass.new.pass.seen (LoadedLastCycle pass.old pass.new) (record { kind = kind; key = key.now })) }
         ensures files { IfOk result (IsOfFiles D.db (F.reads pass.old.files) (F.reads pass.new.files) (F.latest pass.new.files) B.held (record { kind = kind; key = key.now })) }
         ensures fault { IfErr result (GivesUp self.now.settings pass.old.pass.seen pass.new.pass.seen (record { kind = kind; key = key.now }) (F.faults pass.old.files) (F.faults pass.new.files) (F.file_faults pass.old.files) (F.file_faults pass.new.files)) }
         ensures no_fault { OnOk result (NoneFailed F.FileSet pass.old.files pass.new.files) }
@@ -71,16 +73,17 @@ impl<D: OfDb, F: FileSet + Drop, A: Answerer + Drop, B: Room> Base<D, F, A, B> {
         Ok(self.keep(rt, pass, loaded))
     }
 
-    // Looks for the live entry of the request, where the database is cached.
+    // Looks for the live entry of the request, where the database is cached. The pass has seen the whole history in either case.
     fn find<R: Wait>(&self, rt: &R, pass: &mut DbPass<F, B>, kind: Kind, key: &[u8]) -> HitOrMiss
         requires { pass.old.db ≡ D.db }
         ensures frame { Held pass.old pass.new }
         ensures found { IsFoundIfCached self.now.settings result pass.new.pass.seen (record { kind = kind; key = key.now }) pass.new.reply.content }
+        ensures steady { IsSteady B.held D.db pass.new.pass.seen }
     {
         if self.settings.enabled {
             return self.look(rt, pass, kind, key);
         }
-        pass.learn();
+        let _epoch = self.note(rt, pass);
         HitOrMiss::Missed { epoch: 0 }
     }
 

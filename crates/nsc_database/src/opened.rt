@@ -5,6 +5,7 @@ ghost use Rattle.nsc_model.specs.Machine.{room_of};
 ghost use Rattle.nsc_model.specs.Settings.{settings_of};
 ghost use Rattle.nsc_model.specs.Sizes.{SizeFits};
 ghost use Rattle.nsc_database.specs.Rests.{IsNew};
+ghost use Rattle.nsc_model.specs.Steady.{IsSteady};
 ghost use Rattle.nsc_sourcebook.specs.Reads.{IsFetched, IsPart, NoneFailed, NotFetched};
 
 use crate::base::Base;
@@ -90,6 +91,7 @@ impl<F: FileSet + Drop, A: Answerer + Drop> Opened<F, A> {
         requires held { F.held self.files ≡ B.held }
         ensures database { IfOk result (λ r. r.0 ≡ record { db = self.db; settings = self.settings; reloads = self.reloads }) }
         ensures pass { IfOk result (λ r. (r.1.db ≡ self.db) × (r.1.pass.seen ≡ self.pass.seen)) }
+        ensures steady { IfOk result (λ r. IsSteady B.held self.db r.1.pass.seen) }
     {
         let Opened {
             book,

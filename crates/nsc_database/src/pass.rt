@@ -1,12 +1,15 @@
-ghost use Rattle.std.specs.Prelude.{◌≡◌};
-ghost use Rattle.nsc_model.specs.Entry.{kept_limit};
+ghost use Rattle.std.specs.Prelude.{◌≡◌, ◌+◌, ◌≤◌, length};
+ghost use Rattle.nsc_model.specs.Entry.{key_limit, kept_limit};
 ghost use Rattle.nsc_model.specs.History.{IsPrefix, Legal};
-ghost use Rattle.nsc_database.specs.Steady.{IsSteady};
+ghost use Rattle.nsc_model.specs.InPlace.{InPlaceClause};
+ghost use Rattle.nsc_model.specs.Machine.{last_count};
+ghost use Rattle.nsc_model.specs.Stores.{Continues};
 
 use crate::room::Room;
 use nsc_base::Buf;
-use nsc_model::Db;
+use nsc_model::{Db, InPlace, Kind};
 use nsc_outside::FileSet;
+use nsc_reader::search;
 use nsc_rule::{Map, Pass};
 use std::marker::PhantomData;
 
@@ -22,16 +25,44 @@ pub struct DbPass<F: FileSet + Drop, B: Room> {
     pub ghost own: { (pass.table ≡ B.table db) × (map.table ≡ B.table db) },
     pub ghost buffer: { reply.limit ≡ kept_limit },
     pub ghost held: { F.held files ≡ B.held },
-    pub ghost steady: { IsSteady B.held db pass.seen },
 }
 
 impl<F: FileSet + Drop, B: Room> DbPass<F, B> {
-    /// What it has seen is legal; and where the file sets of the room tell what they hold, that has one version, its database's
-    /// part of it.
+    ghost use Rattle.nsc_database.specs.Frames.{Held};
+
+    /// What it has seen is legal.
     pub fn learn(&self)
-        ensures legal { Legal self.now.pass.seen }
-        ensures steady { IsSteady B.held self.now.db self.now.pass.seen }
+        ensures { Legal self.now.pass.seen }
     {
+        self.pass.learn();
+    }
+
+    /// Searches for the live entry of the request of this kind and key while others go on, and puts its reply into the buffer. It
+    /// takes no lock, no memory and no runtime.
+    pub(crate) fn in_place(&mut self, kind: Kind, key: &[u8], out: &mut Buf) -> InPlace
+        requires key { length key.now ≤ key_limit }
+        requires limit { out.old.limit ≡ kept_limit }
+        ensures db { self.new.db ≡ self.old.db }
+        ensures files { self.new.files ≡ self.old.files }
+        ensures limit { out.new.limit ≡ out.old.limit }
+        ensures seen { Continues self.old.pass.seen self.new.pass.seen }
+        ensures searches { self.new.pass.searching.searches ≡ self.old.pass.searching.searches + 1 }
+        ensures answer { InPlaceClause self.old.pass.seen self.new.pass.seen (record { kind = kind; key = key.now }) self.new.pass.searching.first self.new.pass.searching.last out.new.content result }
+    {
+        let answer = search(&mut self.pass, &self.map, kind, key, out);
+        self.pass.learn();
+        answer
+    }
+
+    /// Loads CYCLE, so that it is known whether there are more compactions.
+    pub(crate) fn look_at_cycle(&mut self)
+        ensures frame { Held self.old self.new }
+        ensures reply { self.new.reply ≡ self.old.reply }
+        ensures searches { self.new.pass.searching.searches ≡ self.old.pass.searching.searches + 1 }
+        ensures known { self.old.pass.searching.known ≤ self.new.pass.searching.last }
+        ensures most { self.new.pass.searching.last ≤ last_count }
+    {
+        let _cycle = self.pass.first_cycle(&self.map);
         self.pass.learn();
     }
 
@@ -40,6 +71,7 @@ impl<F: FileSet + Drop, B: Room> DbPass<F, B> {
         requires { other.db ≡ self.old.db }
         ensures db { self.new.db ≡ self.old.db }
         ensures files { self.new.files ≡ self.old.files }
+        ensures searching { self.new.pass.searching ≡ self.old.pass.searching }
         ensures before { IsPrefix self.old.pass.seen self.new.pass.seen }
         ensures other { IsPrefix other.pass.seen self.new.pass.seen }
         ensures legal { Legal self.new.pass.seen }

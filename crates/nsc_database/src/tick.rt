@@ -1,12 +1,14 @@
-ghost use Rattle.std.specs.Prelude.{◌≡◌, ◌<◌, ◌≤◌, ◌^◌, All, Some, map, IsOk, IfOk, IfErr, IfSome, OnOk};
+ghost use Rattle.std.specs.Prelude.{◌≡◌, ◌<◌, ◌≤◌, ◌⊎◌, ◌^◌, All, map, IsOk, IfOk, IfErr, IfSome, OnOk};
 ghost use Rattle.std.specs.Bool.{OnFalse, OnTrue};
 ghost use Rattle.nsc_model.specs.History.{NoneLive, invalidations};
 ghost use Rattle.nsc_model.specs.Reloads.{Reloaded};
 ghost use Rattle.nsc_model.specs.Machine.{room_of};
-ghost use Rattle.nsc_model.specs.Stores.{IsTickFault, IsTicked, LoadsAgain};
+ghost use Rattle.nsc_model.specs.Stores.{AreLoadedAgain, IsTickFault, IsTicked};
 ghost use Rattle.nsc_sourcebook.specs.Reads.{NoneFailed};
-ghost use Rattle.nsc_database.specs.Frames.{Goes, Held};
+ghost use Rattle.nsc_database.specs.Frames.{Goes, Held, LoadedLastCycle};
 ghost use Rattle.nsc_database.specs.Holds.{IsPolledVersion};
+ghost use Rattle.nsc_model.specs.Steady.{IsSteady};
+ghost use Rattle.nsc_database.specs.Steady.{StaysSteady};
 ghost use Rattle.nsc_turns.specs.Loads.{anew_of};
 ghost use Rattle.nsc_database.specs.Ticks.{AreOver, IsChecked, IsDue, IsHoldFault};
 
@@ -35,9 +37,10 @@ impl<D: OfDb, F: FileSet + Drop, A: Answerer + Drop, B: Room> Base<D, F, A, B> {
         requires db { pass.old.db ≡ D.db }
         requires moment { now < 2 ^ 62 }
         ensures frame { Goes pass.old pass.new }
-        ensures ticked { OnOk result (OnTrue self.now.settings.enabled (IsTicked D.db (F.reads pass.old.files) (F.reads pass.new.files) (F.latest pass.new.files) self.now.settings self.now.reloads now pass.old.pass.seen pass.new.pass.seen)) }
+        ensures steady { OnTrue self.now.settings.enabled (IsSteady B.held D.db pass.new.pass.seen) }
+        ensures ticked { OnOk result (OnTrue self.now.settings.enabled (IsTicked D.db (F.reads pass.old.files) (F.reads pass.new.files) (F.latest pass.new.files) self.now.settings self.now.reloads now pass.old.pass.seen pass.new.pass.seen (LoadedLastCycle pass.old pass.new))) }
         ensures uncached { OnFalse self.now.settings.enabled (IsOk result × (pass.new ≡ pass.old)) }
-        ensures fault { IfErr result (λ fault. IsTickFault fault self.now.settings now pass.old.pass.seen pass.new.pass.seen (F.faults pass.old.files) (F.faults pass.new.files) (F.file_faults pass.old.files) (F.file_faults pass.new.files)) }
+        ensures fault { IfErr result (λ fault. IsTickFault fault self.now.settings now pass.old.pass.seen pass.new.pass.seen (LoadedLastCycle pass.old pass.new) (F.faults pass.old.files) (F.faults pass.new.files) (F.file_faults pass.old.files) (F.file_faults pass.new.files)) }
         ensures no_fault { OnOk result (NoneFailed F.FileSet pass.old.files pass.new.files) }
     {
         if !self.settings.enabled {
@@ -74,15 +77,16 @@ impl<D: OfDb, F: FileSet + Drop, A: Answerer + Drop, B: Room> Base<D, F, A, B> {
     ) -> Result<Checked, LookupFault>
         requires { pass.old.db ≡ D.db }
         ensures frame { Held pass.old pass.new }
+        ensures steady { IsSteady B.held D.db pass.new.pass.seen }
         ensures checked { IfOk result (λ checked. IsChecked checked self.now.settings self.now.reloads now pass.new.pass.seen) }
         ensures reloaded { Reloaded self.now.reloads pass.new.pass.seen }
-        ensures again { LoadsAgain (room_of self.now.settings) pass.new.pass.seen }
-        ensures fault { IfErr result (λ fault. IsHoldFault fault pass.new.pass.seen (NoneLive pass.new.pass.seen)) }
+        ensures again { AreLoadedAgain (room_of self.now.settings) pass.new.pass.seen ⊎ LoadedLastCycle pass.old pass.new }
+        ensures fault { IfErr result (λ fault. IsHoldFault fault pass.new.pass.seen (LoadedLastCycle pass.old pass.new) (NoneLive pass.new.pass.seen)) }
     {
         let mut lock = self.desk.lock(rt);
         let desk = &mut *lock;
         let checked = desk.check(alloc, &self.settings, self.reloads, now);
-        desk.show(pass);
+        desk.show_cycle(pass);
         checked
     }
 
@@ -103,10 +107,11 @@ impl<D: OfDb, F: FileSet + Drop, A: Answerer + Drop, B: Room> Base<D, F, A, B> {
         requires due { All (IsDue self.now.reloads now pass.old.pass.seen) due.items }
         requires polled { IsPolledVersion pass.old.pass.seen epoch polled.now }
         ensures frame { Held pass.old pass.new }
+        ensures steady { StaysSteady B.held D.db pass.old.pass.seen pass.new.pass.seen }
         ensures over { OnOk result (AreOver epoch pass.new.pass.seen due.items) }
         ensures reloaded { OnOk result (Reloaded self.now.reloads pass.new.pass.seen) }
-        ensures again { OnOk result (LoadsAgain (room_of self.now.settings) pass.new.pass.seen) }
-        ensures fault { IfErr result (λ fault. IsHoldFault fault pass.new.pass.seen (AreOver epoch pass.new.pass.seen due.items)) }
+        ensures again { OnOk result (AreLoadedAgain (room_of self.now.settings) pass.new.pass.seen ⊎ LoadedLastCycle pass.old pass.new) }
+        ensures fault { IfErr result (λ fault. IsHoldFault fault pass.new.pass.seen (LoadedLastCycle pass.old pass.new) (AreOver epoch pass.new.pass.seen due.items)) }
     {
         pass.learn();
         let loads = match self.loads(alloc, polled, &due, now) {
@@ -117,7 +122,7 @@ impl<D: OfDb, F: FileSet + Drop, A: Answerer + Drop, B: Room> Base<D, F, A, B> {
         let desk = &mut *lock;
         desk.show(pass);
         let renewed = desk.renew(epoch, &mut due, &loads, now);
-        desk.show(pass);
+        desk.show_cycle(pass);
         match renewed {
             Ok(()) => Ok(()),
             Err(spent) => Err(LookupFault::Spent { count: spent.count }),

@@ -10,33 +10,33 @@ use Rattle.nsc_model.specs.Content.{Content}
 use Rattle.nsc_model.specs.Entry.{Entry}
 use Rattle.nsc_model.specs.History.{loads, invalidations, IsLive, Legal}
 use Rattle.nsc_laws.specs.Core.{Core, opening, ended_all, Move, Empty, IsMove, AreMoves}
-use Rattle.nsc_model.specs.Live.{Among, Rise, AreLive}
+use Rattle.nsc_model.specs.Live.{HasEntry, Rise, AreLive}
 use Rattle.nsc_laws.proofs.Prefixes.{load_below, end_below}
 use Rattle.nsc_laws.proofs.CoreLawRecords.{rise_tail, first_least}
 use Rattle.nsc_laws.proofs.CoreLaw.{legal_law}
 
 -- ---- lists of entries in rising number
 
-pub among_more : (entries : List Entry) (f e : Entry) → Among (entries ++ f ∷ []) e → Among entries e ⊎ (f ≡ e)
+pub among_more : (entries : List Entry) (f e : Entry) → HasEntry (entries ++ f ∷ []) e → HasEntry entries e ⊎ (f ≡ e)
 among_more [] f e (inl same) = inr same
 among_more [] f e (inr a) = absurd a
 among_more (x ∷ entries) f e (inl same) = inl (inl same)
 among_more (x ∷ entries) f e (inr a) = elim (among_more entries f e a) [ inl b ↦ inl (inr b) | inr same ↦ inr same ]
 
-pub among_first : (entries : List Entry) (f e : Entry) → Among entries e → Among (entries ++ f ∷ []) e
+pub among_first : (entries : List Entry) (f e : Entry) → HasEntry entries e → HasEntry (entries ++ f ∷ []) e
 among_first [] f e a = absurd a
 among_first (x ∷ entries) f e (inl same) = inl same
 among_first (x ∷ entries) f e (inr a) = inr (among_first entries f e a)
 
-pub among_last : (entries : List Entry) (f : Entry) → Among (entries ++ f ∷ []) f
+pub among_last : (entries : List Entry) (f : Entry) → HasEntry (entries ++ f ∷ []) f
 among_last [] f = inl refl
 among_last (x ∷ entries) f = inr (among_last entries f)
 
-pub rise_first : (e : Entry) (entries : List Entry) → ((f : Entry) → Among entries f → e.number < f.number) → Rise entries → Rise (e ∷ entries)
+pub rise_first : (e : Entry) (entries : List Entry) → ((f : Entry) → HasEntry entries f → e.number < f.number) → Rise entries → Rise (e ∷ entries)
 rise_first e [] low r = tt
 rise_first e (f ∷ entries) low r = (low f (inl refl), r)
 
-pub rise_last : (entries : List Entry) (f : Entry) → ((e : Entry) → Among entries e → e.number < f.number) → Rise entries → Rise (entries ++ f ∷ [])
+pub rise_last : (entries : List Entry) (f : Entry) → ((e : Entry) → HasEntry entries e → e.number < f.number) → Rise entries → Rise (entries ++ f ∷ [])
 rise_last [] f low r = tt
 rise_last (e ∷ []) f low r = (low e (inl refl), tt)
 rise_last (e ∷ g ∷ entries) f low r = (r.0, rise_last (g ∷ entries) f (λ x a. low x (inr a)) r.1)
@@ -46,20 +46,20 @@ without : List Entry → ℕ → List Entry
 without [] k = []
 without (e ∷ entries) k = cond (eqb e.number k) (without entries k) (e ∷ without entries k)
 
-without_among : (entries : List Entry) (k : ℕ) (e : Entry) → Among (without entries k) e → Among entries e × (e.number ≢ k)
+without_among : (entries : List Entry) (k : ℕ) (e : Entry) → HasEntry (without entries k) e → HasEntry entries e × (e.number ≢ k)
 unfolding without
 without_among [] k e a = absurd a
 without_among (x ∷ entries) k e a = by_test (eqb x.number k) refl a (without_among entries k e) where
-  by_test : (b : Bool) → eqb x.number k ≡ b → Among (cond b (without entries k) (x ∷ without entries k)) e → (Among (without entries k) e → Among entries e × (e.number ≢ k)) → Among (x ∷ entries) e × (e.number ≢ k)
+  by_test : (b : Bool) → eqb x.number k ≡ b → HasEntry (cond b (without entries k) (x ∷ without entries k)) e → (HasEntry (without entries k) e → HasEntry entries e × (e.number ≢ k)) → HasEntry (x ∷ entries) e × (e.number ≢ k)
   by_test true t a others = let rest = others a in (inr rest.0, rest.1)
   by_test false t (inl same) others = (inl same, subst (λ (y : Entry). y.number ≢ k) same (eqb-false x.number k t))
   by_test false t (inr a) others = let rest = others a in (inr rest.0, rest.1)
 
-among_without : (entries : List Entry) (k : ℕ) (e : Entry) → Among entries e → e.number ≢ k → Among (without entries k) e
+among_without : (entries : List Entry) (k : ℕ) (e : Entry) → HasEntry entries e → e.number ≢ k → HasEntry (without entries k) e
 unfolding without
 among_without [] k e a other = absurd a
 among_without (x ∷ entries) k e a other = by_test (eqb x.number k) refl a (λ among. among_without entries k e among other) where
-  by_test : (b : Bool) → eqb x.number k ≡ b → Among (x ∷ entries) e → (Among entries e → Among (without entries k) e) → Among (cond b (without entries k) (x ∷ without entries k)) e
+  by_test : (b : Bool) → eqb x.number k ≡ b → HasEntry (x ∷ entries) e → (HasEntry entries e → HasEntry (without entries k) e) → HasEntry (cond b (without entries k) (x ∷ without entries k)) e
   by_test true t (inl same) others = absurd (other (sym (ap (λ (y : Entry). y.number) same) ∙ eqb-true x.number k t))
   by_test true t (inr a) others = others a
   by_test false t (inl same) others = inl same
@@ -124,7 +124,7 @@ after_load f h legal is s = record {
       | inr same ↦ subst (IsLive (Load f ∷ h)) same (new_live h f legal is)
     ];
     all = λ e l. elim l.inserted [
-      | inl same ↦ subst (Among (s.entries ++ f ∷ [])) same (among_last s.entries f)
+      | inl same ↦ subst (HasEntry (s.entries ++ f ∷ [])) same (among_last s.entries f)
       | inr before ↦ among_first s.entries f e (s.are.all e (record { inserted = before; not_ended = l.not_ended }))
     ];
     rising = rise_last s.entries f (λ e a. let below : e.number < loads h = load_below h e legal (s.are.live e a).inserted in omega arith) s.are.rising;

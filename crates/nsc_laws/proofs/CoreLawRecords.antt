@@ -9,7 +9,7 @@ use Rattle.nsc_model.specs.Content.{Content}
 use Rattle.nsc_model.specs.Entry.{Entry}
 use Rattle.nsc_model.specs.History.{changes, invalidations, version_in, HasLoad, HasEnd, IsLive, NoneLive, WasPolled, Legal, IsPrefix}
 use Rattle.nsc_laws.specs.Core.{ended_all}
-use Rattle.nsc_model.specs.Live.{Among, Rise, AreLive}
+use Rattle.nsc_model.specs.Live.{HasEntry, Rise, AreLive}
 
 -- ---- one more record
 
@@ -94,7 +94,7 @@ end_stays : (entries : List Entry) (h : List Record) (n : ℕ) → HasEnd h n �
 end_stays [] h n a = a
 end_stays (x ∷ entries) h n a = end_stays entries (End x.number Invalidated ∷ h) n (inr a)
 
-each_ends : (entries : List Entry) (h : List Record) (e : Entry) → Among entries e → HasEnd (ended_all entries h) e.number
+each_ends : (entries : List Entry) (h : List Record) (e : Entry) → HasEntry entries e → HasEnd (ended_all entries h) e.number
 each_ends [] h e a = absurd a
 each_ends (x ∷ entries) h e (inl same) = end_stays entries (End x.number Invalidated ∷ h) e.number (inl (ap (λ (y : Entry). y.number) same))
 each_ends (x ∷ entries) h e (inr a) = each_ends entries (End x.number Invalidated ∷ h) e a
@@ -103,7 +103,7 @@ pub rise_tail : (e : Entry) (entries : List Entry) → Rise (e ∷ entries) → 
 rise_tail e [] r = tt
 rise_tail e (f ∷ entries) r = r.1
 
-pub first_least : (e : Entry) (entries : List Entry) (f : Entry) → Rise (e ∷ entries) → Among entries f → e.number < f.number
+pub first_least : (e : Entry) (entries : List Entry) (f : Entry) → Rise (e ∷ entries) → HasEntry entries f → e.number < f.number
 first_least e [] f r a = absurd a
 first_least e (g ∷ entries) f r (inl same) = let n : g.number ≡ f.number = ap (λ (y : Entry). y.number) same in let low : e.number < g.number = r.0 in omega arith
 first_least e (g ∷ entries) f r (inr a) = let low : e.number < g.number = r.0 in let more : g.number < f.number = first_least g entries f r.1 a in omega arith
@@ -115,7 +115,7 @@ lives_on h e f low live = record {
   not_ended = λ ended. elim ended [ inl same ↦ (let n : e.number ≡ f.number = same in omega arith) | inr before ↦ live.not_ended before ];
 }
 
-pub all_ended : (entries : List Entry) (h : List Record) → Legal h → ((e : Entry) → Among entries e → IsLive h e) → Rise entries → Legal (ended_all entries h)
+pub all_ended : (entries : List Entry) (h : List Record) → Legal h → ((e : Entry) → HasEntry entries e → IsLive h e) → Rise entries → Legal (ended_all entries h)
 all_ended [] h l live r = l
 all_ended (e ∷ entries) h l live r =
     all_ended entries (End e.number Invalidated ∷ h) (l, e, live e (inl refl), refl, tt) (λ f a. lives_on h e f (first_least e entries f r a) (live f (inr a))) (rise_tail e entries r)

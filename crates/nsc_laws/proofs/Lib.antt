@@ -15,7 +15,11 @@ pub mod MachineLawParts
 pub mod MachineLaw
 pub mod MachineLawRuns
 pub mod Reloads
+pub mod LoadedAgain
+pub mod MachineLawPasses
 pub mod MachineLawReloads
+pub mod MachineLawAgain
+pub mod MachineLawSettled
 pub mod MachineLawCores
 pub mod MachineLawReplays
 pub mod Grammar

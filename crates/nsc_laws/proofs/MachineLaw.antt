@@ -15,14 +15,14 @@ use Rattle.nsc_model.specs.declared.conf.DbConf.{DbConf}
 use Rattle.nsc_model.specs.Answers.{answer_of}
 use Rattle.nsc_model.specs.History.{version_in, IsLive, Answered}
 use Rattle.nsc_laws.specs.Core.{Caller, Core, opening, Files, Look, Replies}
-use Rattle.nsc_model.specs.Live.{Among}
+use Rattle.nsc_model.specs.Live.{HasEntry}
 use Rattle.nsc_model.specs.Machine.{Kept, Cache, new_cache, Passed, Stopped, unchanged, ◌>>=◌, polled, Candidate, tried, tried_all, candidates_of, kept_answer, cached, used_now, loaded, hit_or_load, lookup, invalidated, compacted_after, ends_of, due_cause, candidate_again, reloaded, due_of, others_of, reloaded_of, pruned, is_outdated, checked, tick}
 use Rattle.nsc_laws.specs.Calls.{entries_of, Drives, IsTurned, PassesBy, TurnsBy}
 use Rattle.nsc_laws.proofs.Requests.{same_request}
 use Rattle.nsc_laws.proofs.CoreLaw.{changed, begun, taking, answered_law}
 use Rattle.nsc_laws.proofs.MachineLawLists.{found, used_entries}
 use Rattle.nsc_laws.proofs.MachineLawEnds.{ends_after, invalidations_ends, polled_ends, finishes, finishes_own, ended, ends_run, due_allowed, due_live, due_rise, pruned_tells}
-use Rattle.nsc_laws.proofs.MachineLawSteps.{Step, one_step, then_step, silent_step, runs_append, Stands, Looked, retold, gains_on, caller_on, begin_step, begin_stands, Went, Nothing, Comes, comes_after, comes_then, stays, moved, passes, driven}
+use Rattle.nsc_laws.proofs.MachineLawSteps.{Step, one_step, then_step, silent_step, runs_append, CallerStands, Looked, retold, gains_on, caller_on, begin_step, begin_stands, Went, Nothing, Comes, comes_after, comes_then, stays, moved, passes, driven}
 use Rattle.nsc_laws.proofs.MachineLawParts.{Polled, poll_comes, Tried, tries, tries_all, compacts, invalid_comes}
 
 abbrev given : ℕ → Option ℕ
@@ -34,7 +34,7 @@ asking r = Some r
 -- ---- reloads
 
 -- each in a call of its own
-reloads : (db : Db) (a : ℕ) (event : List Record) (settings : DbConf) (now : ℕ) (all : List Candidate) (core : Core) (c : Caller) (cache : Cache) → Stands a event core c cache → Looked core.history c cache
+reloads : (db : Db) (a : ℕ) (event : List Record) (settings : DbConf) (now : ℕ) (all : List Candidate) (core : Core) (c : Caller) (cache : Cache) → CallerStands a event core c cache → Looked core.history c cache
     → Went db a event core Nothing (tried_all settings now all cache).adds (tried_all settings now all cache).cache
 reloads db a event settings now [] core c cache s l = stays db a event core c Nothing cache s tt
 reloads db a event settings now (one ∷ others) core c cache s l =
@@ -54,7 +54,7 @@ reloads db a event settings now (one ∷ others) core c cache s l =
 
 -- ---- a tick
 
-prune_comes : (db : Db) (a : ℕ) (event : List Record) (settings : DbConf) (options : Option ℕ) (now : ℕ) (core : Core) (c : Caller) (cache : Cache) → Stands a event core c cache → Looked core.history c cache → Comes db a event core Nothing (pruned settings options now cache)
+prune_comes : (db : Db) (a : ℕ) (event : List Record) (settings : DbConf) (options : Option ℕ) (now : ℕ) (core : Core) (c : Caller) (cache : Cache) → CallerStands a event core c cache → Looked core.history c cache → Comes db a event core Nothing (pruned settings options now cache)
 prune_comes db a event settings options now core c cache s l =
     let h = core.history in
     let cause = due_cause options now in
@@ -76,13 +76,13 @@ prune_comes db a event settings options now core c cache s l =
     (λ cycle used. record { version_is = l.version_is; noted_is = l.noted_is ∙ ap (λ (n : ℕ). given n) (sym (invalidations_ends cause due h)); was = polled_ends cause due h cache.newest_version l.was }))
     (λ mid d x sources t looked. reloads db a event settings now (map candidate_again rest) mid d x t looked))
 
-check_comes : (db : Db) (a : ℕ) (event : List Record) (settings : DbConf) (options : Option ℕ) (now ticked : ℕ) (core : Core) (c : Caller) (cache : Cache) → Stands a event core c cache → Looked core.history c cache → Comes db a event core Nothing (checked settings options now ticked cache)
+check_comes : (db : Db) (a : ℕ) (event : List Record) (settings : DbConf) (options : Option ℕ) (now ticked : ℕ) (core : Core) (c : Caller) (cache : Cache) → CallerStands a event core c cache → Looked core.history c cache → Comes db a event core Nothing (checked settings options now ticked cache)
 check_comes db a event settings options now ticked core c cache s l = by_test (is_outdated settings cache.newest_version ticked) where
   by_test : (b : Bool) → Comes db a event core Nothing (cond b (invalidated cache) (pruned settings options now cache))
   by_test true = invalid_comes db a event core c cache s
   by_test false = prune_comes db a event settings options now core c cache s l
 
-tick_comes : (db : Db) (a : ℕ) (event : List Record) (settings : DbConf) (options : Option ℕ) (now ticked : ℕ) (core : Core) (c : Caller) (cache : Cache) → Stands a event core c cache → Comes db a event core Nothing (tick settings options now (part_of db core.sources) ticked cache)
+tick_comes : (db : Db) (a : ℕ) (event : List Record) (settings : DbConf) (options : Option ℕ) (now ticked : ℕ) (core : Core) (c : Caller) (cache : Cache) → CallerStands a event core c cache → Comes db a event core Nothing (tick settings options now (part_of db core.sources) ticked cache)
 unfolding tick
 tick_comes db a event settings options now ticked core c cache s = by_test settings.enabled where
   by_test : (b : Bool) → Comes db a event core Nothing (cond b (polled (part_of db core.sources) cache >>= checked settings options now ticked) (Ok (unchanged cache)))
@@ -97,7 +97,7 @@ record Gets (db : Db) (a : ℕ) (old : Core) (request : Request) (adds : List Re
   new : Core
   caller : Caller
   step : Step db a old.history old adds new
-  stands : Stands a old.history new caller after
+  stands : CallerStands a old.history new caller after
   request_is : caller.request ≡ Some request
   seen_is : caller.seen ≡ old.history
   live : (e : Entry) → caller.taken ≡ Some e → IsLive new.history e
@@ -118,7 +118,7 @@ gets_turned db a old cache request adds reply after d g =
       answered = subst (λ (h : List Record). Answered h g.new.history request reply) seen (answered_law db m.drives.first m.drives.moves g.new m.drives.runs a reply replies);
     }
 
-hits : (db : Db) (a : ℕ) (old : Core) (request : Request) (cache : Cache) (k : Kept) → Stands a old.history old (old.callers a) cache → Among (entries_of cache.entries) k.entry → request ≡ k.entry.request
+hits : (db : Db) (a : ℕ) (old : Core) (request : Request) (cache : Cache) (k : Kept) → CallerStands a old.history old (old.callers a) cache → HasEntry (entries_of cache.entries) k.entry → request ≡ k.entry.request
     → Gets db a old request [] k.entry.answer.bytes (record cache { entries = used_now request cache.entries })
 hits db a old request cache k s among same =
     let c1 = begun (old.callers a) (Some request) old.history in
@@ -140,7 +140,7 @@ hits db a old request cache k s among same =
       source = inl (k.entry, ap (λ (x : Caller). x.taken) s2.caller_is, refl);
     }
 
-keeps : (db : Db) (a : ℕ) (event : List Record) (core : Core) (c : Caller) (settings : DbConf) (now : ℕ) (request : Request) (cache : Cache) → Stands a event core c cache → Looked core.history c cache → c.request ≡ Some request
+keeps : (db : Db) (a : ℕ) (event : List Record) (core : Core) (c : Caller) (settings : DbConf) (now : ℕ) (request : Request) (cache : Cache) → CallerStands a event core c cache → Looked core.history c cache → c.request ≡ Some request
     → Tried db a event core c cache (kept_answer settings now request cache).adds (kept_answer settings now request cache).cache
 keeps db a event core c settings now request cache s l is = by_test settings.enabled where
   by_test : (b : Bool) → Tried db a event core c cache (cond b (tried_all settings now (candidates_of request) cache) (unchanged cache)).adds (cond b (tried_all settings now (candidates_of request) cache) (unchanged cache)).cache

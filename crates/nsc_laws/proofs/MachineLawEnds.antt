@@ -11,7 +11,7 @@ use Rattle.nsc_model.specs.declared.record.Record.TheVariants.{End}
 use Rattle.nsc_model.specs.Entry.{Entry}
 use Rattle.nsc_model.specs.History.{changes, loads, invalidations, newest, version_in, HasLoad, HasEnd, IsLive, WasPolled, Allows, Legal}
 use Rattle.nsc_laws.specs.Core.{Core, ended_all, Move, Finish, AreMoves}
-use Rattle.nsc_model.specs.Live.{Among, Rise, AreLive}
+use Rattle.nsc_model.specs.Live.{HasEntry, Rise, AreLive}
 use Rattle.nsc_model.specs.Machine.{Kept, Cache, ends_of, by_invalidation, is_dropped, due_cause, due_of, others_of}
 use Rattle.nsc_laws.specs.Calls.{entries_of, Tells, IsOwn}
 use Rattle.nsc_laws.proofs.CoreLawRecords.{rise_tail, first_least}
@@ -66,13 +66,13 @@ end_to : (cause : Kept → Ending) (ks : List Kept) (h : List Record) (n : ℕ) 
 end_to cause [] h n a = a
 end_to cause (k ∷ ks) h n a = end_to cause ks (End k.entry.number (cause k) ∷ h) n (inr a)
 
-each_ends : (cause : Kept → Ending) (ks : List Kept) (h : List Record) (e : Entry) → Among (entries_of ks) e → HasEnd (ends_of cause ks h) e.number
+each_ends : (cause : Kept → Ending) (ks : List Kept) (h : List Record) (e : Entry) → HasEntry (entries_of ks) e → HasEnd (ends_of cause ks h) e.number
 each_ends cause [] h e a = absurd a
 each_ends cause (k ∷ ks) h e (inl same) = end_to cause ks (End k.entry.number (cause k) ∷ h) e.number (inl (ap (λ (y : Entry). y.number) same))
 each_ends cause (k ∷ ks) h e (inr a) = each_ends cause ks (End k.entry.number (cause k) ∷ h) e a
 
 -- what ended had ended before, or is one of these
-end_from : (cause : Kept → Ending) (ks : List Kept) (h : List Record) (n : ℕ) → HasEnd (ends_of cause ks h) n → HasEnd h n ⊎ ((e : Entry) × Among (entries_of ks) e × (e.number ≡ n))
+end_from : (cause : Kept → Ending) (ks : List Kept) (h : List Record) (n : ℕ) → HasEnd (ends_of cause ks h) n → HasEnd h n ⊎ ((e : Entry) × HasEntry (entries_of ks) e × (e.number ≡ n))
 end_from cause [] h n a = inl a
 end_from cause (k ∷ ks) h n a = elim (end_from cause ks (End k.entry.number (cause k) ∷ h) n a) [
   | inl before ↦ elim before [ inl same ↦ inr (k.entry, inl refl, same) | inr old ↦ inl old ]
@@ -105,7 +105,7 @@ lives_on h e f cause low live = record {
   not_ended = λ gone. elim gone [ inl same ↦ (let n : e.number ≡ f.number = same in omega arith) | inr before ↦ live.not_ended before ];
 }
 
-pub ends_run : (db : Db) (cause : Kept → Ending) (ks : List Kept) (core : Core) → ((e : Entry) → Among (entries_of ks) e → IsLive core.history e) → Allowed cause ks → Rise (entries_of ks) → AreMoves db (finishes cause ks) core (ended core cause ks)
+pub ends_run : (db : Db) (cause : Kept → Ending) (ks : List Kept) (core : Core) → ((e : Entry) → HasEntry (entries_of ks) e → IsLive core.history e) → Allowed cause ks → Rise (entries_of ks) → AreMoves db (finishes cause ks) core (ended core cause ks)
 unfolding finishes
 ends_run db cause [] core live allowed r = refl
 ends_run db cause (k ∷ ks) core live allowed r =
@@ -115,7 +115,7 @@ ends_run db cause (k ∷ ks) core live allowed r =
       ends_run db cause ks next (λ f a. lives_on core.history k.entry f (cause k) (first_least k.entry (entries_of ks) f r a) (live f (inr a))) allowed.1 (rise_tail k.entry (entries_of ks) r),
     )
 
-ends_legal : (cause : Kept → Ending) (ks : List Kept) (h : List Record) → Legal h → ((e : Entry) → Among (entries_of ks) e → IsLive h e) → Allowed cause ks → Rise (entries_of ks) → Legal (ends_of cause ks h)
+ends_legal : (cause : Kept → Ending) (ks : List Kept) (h : List Record) → Legal h → ((e : Entry) → HasEntry (entries_of ks) e → IsLive h e) → Allowed cause ks → Rise (entries_of ks) → Legal (ends_of cause ks h)
 ends_legal cause [] h l live allowed r = l
 ends_legal cause (k ∷ ks) h l live allowed r =
     ends_legal cause ks (End k.entry.number (cause k) ∷ h) (l, k.entry, live k.entry (inl refl), refl, allowed.0)
@@ -135,16 +135,16 @@ due_allowed reloads now (k ∷ ks) = by_test (ltb k.entry.timeout now) refl (due
   by_test false t rest = rest
 
 -- an entry is due, and one of the others is not
-pub due_is : (now : ℕ) (ks : List Kept) (e : Entry) → Among (entries_of (due_of now ks)) e → Among (entries_of ks) e × (ltb e.timeout now ≡ true)
+pub due_is : (now : ℕ) (ks : List Kept) (e : Entry) → HasEntry (entries_of (due_of now ks)) e → HasEntry (entries_of ks) e × (ltb e.timeout now ≡ true)
 due_is now ks e a = let f = filter_from (λ k. ltb k.entry.timeout now) ks e a in (f.0, subst (λ (y : Entry). ltb y.timeout now ≡ true) f.1.1 f.1.2)
 
-pub other_is : (now : ℕ) (ks : List Kept) (e : Entry) → Among (entries_of (others_of now ks)) e → Among (entries_of ks) e × (ltb e.timeout now ≡ false)
+pub other_is : (now : ℕ) (ks : List Kept) (e : Entry) → HasEntry (entries_of (others_of now ks)) e → HasEntry (entries_of ks) e × (ltb e.timeout now ≡ false)
 other_is now ks e a = let f = filter_from (λ k. not (ltb k.entry.timeout now)) ks e a in (f.0, subst (λ (y : Entry). ltb y.timeout now ≡ false) f.1.1 (not-true (ltb f.1.0.entry.timeout now) f.1.2))
 
 -- after the ends of what is due, the others are the live entries
 others_live : (cause : Kept → Ending) (now : ℕ) (ks : List Kept) (h : List Record) → Legal h → AreLive h (entries_of ks) → AreLive (ends_of cause (due_of now ks) h) (entries_of (others_of now ks))
 others_live cause now ks h l are = record { live = live; all = all; rising = rise_filter (λ k. not (ltb k.entry.timeout now)) ks are.rising } where
-  live : (e : Entry) → Among (entries_of (others_of now ks)) e → IsLive (ends_of cause (due_of now ks) h) e
+  live : (e : Entry) → HasEntry (entries_of (others_of now ks)) e → IsLive (ends_of cause (due_of now ks) h) e
   live e a =
       let other = other_is now ks e a in
       let was = are.live e other.0 in
@@ -160,15 +160,15 @@ others_live cause now ks h l are = record { live = live; all = all; rising = ris
         ];
       }
 
-  by_due : (e : Entry) → IsLive (ends_of cause (due_of now ks) h) e → Among (entries_of ks) e → (b : Bool) → ltb e.timeout now ≡ b → Among (entries_of (others_of now ks)) e
+  by_due : (e : Entry) → IsLive (ends_of cause (due_of now ks) h) e → HasEntry (entries_of ks) e → (b : Bool) → ltb e.timeout now ≡ b → HasEntry (entries_of (others_of now ks)) e
   by_due e lives a true t = absurd (lives.not_ended (each_ends cause (due_of now ks) h e (filter_to (λ y. ltb y.timeout now) ks e a t)))
   by_due e lives a false t = filter_to (λ y. not (ltb y.timeout now)) ks e a (ap not t)
 
-  all : (e : Entry) → IsLive (ends_of cause (due_of now ks) h) e → Among (entries_of (others_of now ks)) e
+  all : (e : Entry) → IsLive (ends_of cause (due_of now ks) h) e → HasEntry (entries_of (others_of now ks)) e
   all e lives =
       by_due e lives (are.all e (record { inserted = load_from cause (due_of now ks) h e lives.inserted; not_ended = λ gone. lives.not_ended (end_to cause (due_of now ks) h e.number gone) })) (ltb e.timeout now) refl
 
-pub due_live : (now : ℕ) (ks : List Kept) (h : List Record) → AreLive h (entries_of ks) → (e : Entry) → Among (entries_of (due_of now ks)) e → IsLive h e
+pub due_live : (now : ℕ) (ks : List Kept) (h : List Record) → AreLive h (entries_of ks) → (e : Entry) → HasEntry (entries_of (due_of now ks)) e → IsLive h e
 due_live now ks h are e a = are.live e (due_is now ks e a).0
 
 pub due_rise : (now : ℕ) (ks : List Kept) (h : List Record) → AreLive h (entries_of ks) → Rise (entries_of (due_of now ks))

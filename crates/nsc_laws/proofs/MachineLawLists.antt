@@ -7,7 +7,7 @@ use Rattle.nsc_model.specs.declared.record.Record.TheVariants.{Change, Poll, Loa
 use Rattle.nsc_model.specs.Kinds.{is_request}
 use Rattle.nsc_model.specs.Entry.{Entry}
 use Rattle.nsc_model.specs.History.{loads, HasLoad, HasEnd, IsLive, Legal}
-use Rattle.nsc_model.specs.Live.{Among, Rise}
+use Rattle.nsc_model.specs.Live.{HasEntry, Rise}
 use Rattle.nsc_model.specs.Machine.{Kept, used_now}
 use Rattle.nsc_laws.specs.Calls.{entries_of}
 use Rattle.nsc_laws.proofs.Prefixes.{load_below}
@@ -17,21 +17,21 @@ use Rattle.nsc_laws.proofs.CoreLawLive.{rise_first}
 -- ---- filters
 
 -- what a filter keeps was there, and passes the test
-pub filter_from : (test : Kept → Bool) (ks : List Kept) (e : Entry) → Among (entries_of (filter test ks)) e → Among (entries_of ks) e × ((k : Kept) × (k.entry ≡ e) × (test k ≡ true))
+pub filter_from : (test : Kept → Bool) (ks : List Kept) (e : Entry) → HasEntry (entries_of (filter test ks)) e → HasEntry (entries_of ks) e × ((k : Kept) × (k.entry ≡ e) × (test k ≡ true))
 filter_from test [] e a = absurd a
 filter_from test (x ∷ ks) e a = by_test (test x) refl a (filter_from test ks e) where
-  by_test : (b : Bool) → test x ≡ b → Among (entries_of (cond b (x ∷ filter test ks) (filter test ks))) e → (Among (entries_of (filter test ks)) e → Among (entries_of ks) e × ((k : Kept) × (k.entry ≡ e) × (test k ≡ true)))
-      → Among (entries_of (x ∷ ks)) e × ((k : Kept) × (k.entry ≡ e) × (test k ≡ true))
+  by_test : (b : Bool) → test x ≡ b → HasEntry (entries_of (cond b (x ∷ filter test ks) (filter test ks))) e → (HasEntry (entries_of (filter test ks)) e → HasEntry (entries_of ks) e × ((k : Kept) × (k.entry ≡ e) × (test k ≡ true)))
+      → HasEntry (entries_of (x ∷ ks)) e × ((k : Kept) × (k.entry ≡ e) × (test k ≡ true))
   by_test true t (inl same) others = (inl same, (x, same, t))
   by_test true t (inr a) others = let f = others a in (inr f.0, f.1)
   by_test false t a others = let f = others a in (inr f.0, f.1)
 
 -- a filter by a test of the entries keeps what passes it
-pub filter_to : (test : Entry → Bool) (ks : List Kept) (e : Entry) → Among (entries_of ks) e → test e ≡ true → Among (entries_of (filter (λ k. test k.entry) ks)) e
+pub filter_to : (test : Entry → Bool) (ks : List Kept) (e : Entry) → HasEntry (entries_of ks) e → test e ≡ true → HasEntry (entries_of (filter (λ k. test k.entry) ks)) e
 filter_to test [] e a t = absurd a
 filter_to test (x ∷ ks) e a t = by_test (test x.entry) refl a (λ among. filter_to test ks e among t) where
-  by_test : (b : Bool) → test x.entry ≡ b → Among (entries_of (x ∷ ks)) e → (Among (entries_of ks) e → Among (entries_of (filter (λ k. test k.entry) ks)) e)
-      → Among (entries_of (cond b (x ∷ filter (λ k. test k.entry) ks) (filter (λ k. test k.entry) ks))) e
+  by_test : (b : Bool) → test x.entry ≡ b → HasEntry (entries_of (x ∷ ks)) e → (HasEntry (entries_of ks) e → HasEntry (entries_of (filter (λ k. test k.entry) ks)) e)
+      → HasEntry (entries_of (cond b (x ∷ filter (λ k. test k.entry) ks) (filter (λ k. test k.entry) ks))) e
   by_test true u (inl same) others = inl same
   by_test true u (inr a) others = inr (others a)
   by_test false u (inl same) others = let both : true ≡ false = sym t ∙ (sym (ap test same) ∙ u) in absurd cc
@@ -52,17 +52,17 @@ some k = Some k
 some_is : (a b : Kept) → some a ≡ some b → a ≡ b
 some_is a b e = cc
 
-pub found : (test : Kept → Bool) (ks : List Kept) (k : Kept) → find test ks ≡ Some k → Among (entries_of ks) k.entry × (test k ≡ true)
+pub found : (test : Kept → Bool) (ks : List Kept) (k : Kept) → find test ks ≡ Some k → HasEntry (entries_of ks) k.entry × (test k ≡ true)
 found test [] k h = absurd cc
 found test (x ∷ ks) k h = by_test (test x) refl h (found test ks k) where
-  by_test : (b : Bool) → test x ≡ b → cond b (Some x) (find test ks) ≡ Some k → (find test ks ≡ Some k → Among (entries_of ks) k.entry × (test k ≡ true)) → Among (entries_of (x ∷ ks)) k.entry × (test k ≡ true)
+  by_test : (b : Bool) → test x ≡ b → cond b (Some x) (find test ks) ≡ Some k → (find test ks ≡ Some k → HasEntry (entries_of ks) k.entry × (test k ≡ true)) → HasEntry (entries_of (x ∷ ks)) k.entry × (test k ≡ true)
   by_test true t h others = let same : x ≡ k = some_is x k h in (inl (ap (λ (y : Kept). y.entry) same), subst (λ y. test y ≡ true) same t)
   by_test false t h others = let f = others h in (inr f.0, f.1)
 
-pub missed : (test : Entry → Bool) (ks : List Kept) (e : Entry) → find (λ k. test k.entry) ks ≡ None → Among (entries_of ks) e → test e ≡ false
+pub missed : (test : Entry → Bool) (ks : List Kept) (e : Entry) → find (λ k. test k.entry) ks ≡ None → HasEntry (entries_of ks) e → test e ≡ false
 missed test [] e h a = absurd a
 missed test (x ∷ ks) e h a = by_test (test x.entry) refl h a (missed test ks e) where
-  by_test : (b : Bool) → test x.entry ≡ b → cond b (Some x) (find (λ k. test k.entry) ks) ≡ None → Among (entries_of (x ∷ ks)) e → (find (λ k. test k.entry) ks ≡ None → Among (entries_of ks) e → test e ≡ false) → test e ≡ false
+  by_test : (b : Bool) → test x.entry ≡ b → cond b (Some x) (find (λ k. test k.entry) ks) ≡ None → HasEntry (entries_of (x ∷ ks)) e → (find (λ k. test k.entry) ks ≡ None → HasEntry (entries_of ks) e → test e ≡ false) → test e ≡ false
   by_test true t h a others = absurd cc
   by_test false t h (inl same) others = subst (λ y. test y ≡ false) same t
   by_test false t h (inr a) others = others h a

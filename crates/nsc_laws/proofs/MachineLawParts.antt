@@ -13,7 +13,7 @@ use Rattle.nsc_model.specs.Entry.{Entry, kept_limit}
 use Rattle.nsc_model.specs.declared.conf.DbConf.{DbConf}
 use Rattle.nsc_model.specs.History.{loads, invalidations, newest, HasEnd, IsLive, NoneLiveOf, IsTrueAnswer, WasPolled, Legal}
 use Rattle.nsc_laws.specs.Core.{Caller, Core, Insert, Empty, IsPoll, MayInsert, ended_all}
-use Rattle.nsc_model.specs.Live.{Among, AreLive}
+use Rattle.nsc_model.specs.Live.{HasEntry, AreLive}
 use Rattle.nsc_model.specs.Machine.{last_count, Kept, Cache, unchanged, stopped, after_adds, polled, live_entry, Candidate, new_entry, Refusal, TooLarge, Discarded, Present, Spent, Full, or_later, present_cause, overtaken, refusal, room_of, tried_by, tried, tried_all, entry_words, all_words, compacted_after, emptied, by_invalidation, invalidated}
 use Rattle.nsc_laws.specs.Calls.{entries_of, Tells}
 use Rattle.nsc_model.proofs.Contents.{one_content}
@@ -25,7 +25,7 @@ use Rattle.nsc_laws.proofs.CoreLawLive.{among_more, among_first, among_last, ris
 use Rattle.nsc_laws.proofs.CoreLaw.{changed, noting, fetching, polling, change_legal}
 use Rattle.nsc_laws.proofs.MachineLawLists.{missed}
 use Rattle.nsc_laws.proofs.MachineLawEnds.{ends_after, ended_same, changes_ends, loads_ends, newest_ends, version_ends}
-use Rattle.nsc_laws.proofs.MachineLawSteps.{Step, no_step, one_step, then_step, silent_step, Stands, Looked, retold, gains_on, note_step, note_stands, fetch_step, fetch_stands, polled_core, poll_step, poll_stands, Went, Nothing, Comes, comes_after, stays}
+use Rattle.nsc_laws.proofs.MachineLawSteps.{Step, no_step, one_step, then_step, silent_step, CallerStands, Looked, retold, gains_on, note_step, note_stands, fetch_step, fetch_stands, polled_core, poll_step, poll_stands, Went, Nothing, Comes, comes_after, stays}
 
 -- ---- a poll
 
@@ -48,7 +48,7 @@ pub record Finds (h : List Record) (content : Content) (poll : Record) (after : 
 abbrev given : ℕ → Option ℕ
 given n = Some n
 
-poll_went : (db : Db) (a : ℕ) (event : List Record) (core : Core) (c : Caller) (cache after : Cache) (poll : Record) → after.entries ≡ cache.entries → Stands a event core c cache → Finds core.history (part_of db core.sources) poll after
+poll_went : (db : Db) (a : ℕ) (event : List Record) (core : Core) (c : Caller) (cache after : Cache) (poll : Record) → after.entries ≡ cache.entries → CallerStands a event core c cache → Finds core.history (part_of db core.sources) poll after
     → Went db a event core (Polled c.request c.seen c.taken cache.entries) (poll ∷ []) after
 poll_went db a event core c cache after poll same s f =
     let k = invalidations core.history in
@@ -128,7 +128,7 @@ turns h content cache t other = record {
   same = refl;
 }
 
-pub poll_comes : (db : Db) (a : ℕ) (event : List Record) (core : Core) (c : Caller) (cache : Cache) → Stands a event core c cache → Comes db a event core (Polled c.request c.seen c.taken cache.entries) (polled (part_of db core.sources) cache)
+pub poll_comes : (db : Db) (a : ℕ) (event : List Record) (core : Core) (c : Caller) (cache : Cache) → CallerStands a event core c cache → Comes db a event core (Polled c.request c.seen c.taken cache.entries) (polled (part_of db core.sources) cache)
 poll_comes db a event core c cache s = by_test (same_files (part_of db core.sources) cache.sources) refl where
   by_count : (b : Bool) → same_files (part_of db core.sources) cache.sources ≡ false
       → Comes db a event core (Polled c.request c.seen c.taken cache.entries) (cond b (Err (stopped cache)) (Ok (record { cache = turned cache (part_of db core.sources); adds = Change (cache.newest_version + 1) (part_of db core.sources) ∷ [] })))
@@ -147,12 +147,12 @@ poll_comes db a event core c cache s = by_test (same_files (part_of db core.sour
 pub record Tried (db : Db) (a : ℕ) (event : List Record) (old : Core) (c : Caller) (before : Cache) (adds : List Record) (after : Cache) : Type 0 where
   pub new : Core
   pub step : Step db a event old adds new
-  pub stands : Stands a event new c after
+  pub stands : CallerStands a event new c after
   pub looked : Looked new.history c after
   pub same_version : after.newest_version ≡ before.newest_version
   pub same_sources : after.sources ≡ before.sources
 
-pub none_of : (h : List Record) (es : List Entry) (request : Request) → AreLive h es → ((e : Entry) → Among es e → e.request ≢ request) → NoneLiveOf h request
+pub none_of : (h : List Record) (es : List Entry) (request : Request) → AreLive h es → ((e : Entry) → HasEntry es e → e.request ≢ request) → NoneLiveOf h request
 none_of h es request are others e loaded same = by_end (ended_or_not h e.number) where
   by_end : HasEnd h e.number ⊎ (HasEnd h e.number → ⊥) → HasEnd h e.number
   by_end (inl gone) = gone
@@ -172,7 +172,7 @@ load_live h es f l is are = record {
     | inr same ↦ subst (IsLive (Load f ∷ h)) same (new_live h f l is)
   ];
   all = λ e lives. elim lives.inserted [
-    | inl same ↦ subst (Among (es ++ f ∷ [])) same (among_last es f)
+    | inl same ↦ subst (HasEntry (es ++ f ∷ [])) same (among_last es f)
     | inr before ↦ among_first es f e (are.all e (record { inserted = before; not_ended = lives.not_ended }))
   ];
   rising = rise_last es f (λ e a. let below : e.number < loads h = load_below h e l (are.live e a).inserted in omega arith) are.rising;
@@ -213,7 +213,7 @@ asked_none h cache request t none =
     none_of h (entries_of cache.entries) request t.entries_are
     (λ e a same. false≢true (sym (missed (λ (x : Entry). is_request request x.request) cache.entries e none a) ∙ subst (λ (x : Request). is_request request x ≡ true) (sym same) (request_same request)))
 
-refused : (db : Db) (a : ℕ) (event : List Record) (core : Core) (c : Caller) (cache : Cache) (failed : ℕ) → Stands a event core c cache → Looked core.history c cache → Tried db a event core c cache [] (record cache { add_failed = failed })
+refused : (db : Db) (a : ℕ) (event : List Record) (core : Core) (c : Caller) (cache : Cache) (failed : ℕ) → CallerStands a event core c cache → Looked core.history c cache → Tried db a event core c cache [] (record cache { add_failed = failed })
 refused db a event core c cache failed s l = record {
   new = core;
   step = no_step db a event core;
@@ -223,7 +223,7 @@ refused db a event core c cache failed s l = record {
   same_sources = refl;
 }
 
-inserts : (db : Db) (a : ℕ) (event : List Record) (core : Core) (c : Caller) (settings : DbConf) (now : ℕ) (one : Candidate) (cache : Cache) → Stands a event core c cache → Looked core.history c cache → MayInsert c one.request
+inserts : (db : Db) (a : ℕ) (event : List Record) (core : Core) (c : Caller) (settings : DbConf) (now : ℕ) (one : Candidate) (cache : Cache) → CallerStands a event core c cache → Looked core.history c cache → MayInsert c one.request
     → live_entry one.request cache.entries ≡ None → Tried db a event core c cache (Load (new_entry settings now one cache).entry ∷ []) (inserted_by (new_entry settings now one cache) cache)
 inserts db a event core c settings now one cache s l may absent =
     let h = core.history in
@@ -255,7 +255,7 @@ inserts db a event core c settings now one cache s l may absent =
       same_sources = refl;
     }
 
-pub tries : (db : Db) (a : ℕ) (event : List Record) (core : Core) (c : Caller) (settings : DbConf) (now : ℕ) (one : Candidate) (cache : Cache) → Stands a event core c cache → Looked core.history c cache → MayInsert c one.request
+pub tries : (db : Db) (a : ℕ) (event : List Record) (core : Core) (c : Caller) (settings : DbConf) (now : ℕ) (one : Candidate) (cache : Cache) → CallerStands a event core c cache → Looked core.history c cache → MayInsert c one.request
     → Tried db a event core c cache (tried settings now one cache).adds (tried settings now one cache).cache
 tries db a event core c settings now one cache s l may = by_cause (refusal (room_of settings) cache.epoch (new_entry settings now one cache).entry cache) refl where
   by_cause : (o : Option Refusal) → refusal (room_of settings) cache.epoch (new_entry settings now one cache).entry cache ≡ o
@@ -272,7 +272,7 @@ abbrev pub MayInsertAll : Caller → List Candidate → Type 0
 MayInsertAll c [] = Unit {0}
 MayInsertAll c (one ∷ others) = MayInsert c one.request × MayInsertAll c others
 
-pub tries_all : (db : Db) (a : ℕ) (event : List Record) (core : Core) (c : Caller) (settings : DbConf) (now : ℕ) (all : List Candidate) (cache : Cache) → Stands a event core c cache → Looked core.history c cache → MayInsertAll c all
+pub tries_all : (db : Db) (a : ℕ) (event : List Record) (core : Core) (c : Caller) (settings : DbConf) (now : ℕ) (all : List Candidate) (cache : Cache) → CallerStands a event core c cache → Looked core.history c cache → MayInsertAll c all
     → Tried db a event core c cache (tried_all settings now all cache).adds (tried_all settings now all cache).cache
 tries_all db a event core c settings now [] cache s l may = record { new = core; step = no_step db a event core; stands = s; looked = l; same_version = refl; same_sources = refl }
 tries_all db a event core c settings now (one ∷ others) cache s l may =
@@ -290,7 +290,7 @@ tries_all db a event core c settings now (one ∷ others) cache s l may =
 
 -- ---- a compaction and an invalidation
 
-pub compacts : (db : Db) (a : ℕ) (event : List Record) (core : Core) (c : Caller) (also : List Record → Caller → Cache → Type 0) (ks : List Kept) (cache : Cache) → Stands a event core c cache → ((cycle used : ℕ) → also core.history c (record cache { cycle = cycle; used = used }))
+pub compacts : (db : Db) (a : ℕ) (event : List Record) (core : Core) (c : Caller) (also : List Record → Caller → Cache → Type 0) (ks : List Kept) (cache : Cache) → CallerStands a event core c cache → ((cycle used : ℕ) → also core.history c (record cache { cycle = cycle; used = used }))
     → Comes db a event core also (compacted_after ks cache)
 compacts db a event core c also [] cache s holds = stays db a event core c also cache s (holds cache.cycle cache.used)
 compacts db a event core c also (k ∷ ks) cache s holds = by_test (ltb cache.cycle last_count) where
@@ -314,13 +314,17 @@ invalid_tells h cache t =
       entries_are = record { live = λ e a. absurd a; all = λ e l. absurd (l.not_ended (none e l.inserted)); rising = tt };
     }
 
-pub invalid_comes : (db : Db) (a : ℕ) (event : List Record) (core : Core) (c : Caller) (cache : Cache) → Stands a event core c cache → Comes db a event core Nothing (invalidated cache)
+-- the records of an invalidation are those of the core's
+pub emptied_is : (h : List Record) (cache : Cache) → Tells h cache → Invalid (invalidations h + 1) ∷ ended_all (entries_of cache.entries) h ≡ (emptied cache).adds ++ h
+emptied_is h cache t =
+    ap (λ (n : ℕ). Invalid (n + 1) ∷ ended_all (entries_of cache.entries) h) t.epochs_are
+    ∙ ap (λ (l : List Record). Invalid (cache.epoch + 1) ∷ l) (ended_same cache.entries h ∙ sym (ends_after by_invalidation cache.entries [] h))
+
+pub invalid_comes : (db : Db) (a : ℕ) (event : List Record) (core : Core) (c : Caller) (cache : Cache) → CallerStands a event core c cache → Comes db a event core Nothing (invalidated cache)
 unfolding invalidated
 invalid_comes db a event core c cache s = by_test (eqb cache.epoch last_count) where
   history_is : Invalid (invalidations core.history + 1) ∷ ended_all (entries_of cache.entries) core.history ≡ (emptied cache).adds ++ core.history
-  history_is =
-      ap (λ (n : ℕ). Invalid (n + 1) ∷ ended_all (entries_of cache.entries) core.history) s.tells.epochs_are
-      ∙ ap (λ (h : List Record). Invalid (cache.epoch + 1) ∷ h) (ended_same cache.entries core.history ∙ sym (ends_after by_invalidation cache.entries [] core.history))
+  history_is = emptied_is core.history cache s.tells
 
   by_test : (b : Bool) → Comes db a event core Nothing (cond b (Err (stopped cache)) (after_adds (emptied cache).adds (compacted_after cache.entries (emptied cache).cache)))
   by_test true = stays db a event core c Nothing cache s tt

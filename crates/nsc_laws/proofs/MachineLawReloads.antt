@@ -1,36 +1,35 @@
--- The law of reloads: in each run of the machine entries end for good only as ticks and invalidations end them.
+-- In each event of the machine entries end for good only as ticks and invalidations end them.
 use Rattle.std.proofs.Common.{◌≡◌, ℕ, ◌+◌, ◌<◌, ◌≤◌, inl, inr, Bool, true, false, cond, eqb, ltb, not, ◌||◌, List, [], ◌∷◌, ◌++◌, append_assoc, filter, map, Option, Some, None, Result, Ok, Err, refl, sym, ap, subst, ◌∙◌, arith}
 use Rattle.std.proofs.Math.Nat.{min-le_left}
 use Rattle.std.proofs.lemmas.Bool.{eq-eqb, eqb-true, leb-true}
 use Rattle.nsc_model.specs.declared.answer.Request.{Request}
 use Rattle.nsc_model.specs.declared.conf.DbConf.{DbConf}
-use Rattle.nsc_model.specs.declared.kind.Db.{Db}
 use Rattle.nsc_model.specs.declared.record.Ending.{Ending}
 use Rattle.nsc_model.specs.declared.record.Ending.TheVariants.{Expired, Replaced}
 use Rattle.nsc_model.specs.declared.record.Record.{Record}
 use Rattle.nsc_model.specs.declared.record.Record.TheVariants.{Change, Poll, Load, End, Invalid}
 use Rattle.nsc_model.specs.Content.{Content}
 use Rattle.nsc_model.specs.Entry.{Entry}
-use Rattle.nsc_model.specs.Files.{part_of, same_files}
+use Rattle.nsc_model.specs.Files.{same_files}
 use Rattle.nsc_model.specs.History.{load_of}
 use Rattle.nsc_model.specs.Kinds.{is_request}
-use Rattle.nsc_model.specs.Machine.{◌>>=◌, Cache, Candidate, Kept, Passed, Refusal, Stopped, Turn, after_adds, all_words, by_invalidation, cached, candidate_again, candidates_of, checked, compacted_after, due_cause, due_ended, due_of, emptied, ends_of, hit_or_load, invalidated, is_dropped, is_outdated, kept_answer, last_count, loaded, lookup, new_cache, new_entry, next_count, others_of, polled, pruned, reached, refusal, reloaded, reloaded_of, room_of, stopped, tick, ticked_by, tried, tried_all, tried_by, unchanged, used_now}
+use Rattle.nsc_model.specs.Machine.{◌>>=◌, Cache, Candidate, Kept, Passed, Refusal, Stopped, after_adds, all_words, by_invalidation, cached, candidate_again, candidates_of, checked, compacted_after, due_cause, due_ended, due_of, emptied, ends_of, hit_or_load, invalidated, is_dropped, is_outdated, kept_answer, last_count, loaded, lookup, new_entry, next_count, others_of, polled, pruned, reached, refusal, reloaded, reloaded_of, room_of, stopped, tick, tried, tried_all, tried_by, unchanged, used_now}
 use Rattle.nsc_model.specs.Reloads.{IsDropped, Reloaded, one_of, replaced}
-use Rattle.nsc_laws.specs.Calls.{Event, Lookup, Tick, Invalidation}
-use Rattle.nsc_laws.specs.Reloading.{EachReloaded, PassesThen, TurnsThen}
+use Rattle.nsc_laws.specs.Reloading.{PassesThen, TurnsThen}
 use Rattle.nsc_laws.proofs.MachineLawEnds.{ends_after}
+use Rattle.nsc_laws.proofs.MachineLawPasses.{passes_after, passes_then}
 use Rattle.nsc_laws.proofs.Reloads.{IsRight, dropped_through, reloaded_ended, replaced_on}
 use Rattle.nsc_laws.proofs.Requests.{request_same}
 
 -- ---- entries with their counts
 
 -- an entry was inserted, and was reloaded at most as often as entries of its request ended for that
-record IsCounted (h : List Record) (inserted : ℕ) (k : Kept) : Type 0 where
-  counted : k.reloads ≤ replaced h k.entry.request
-  loaded_is : load_of h k.entry.number ≡ Some k.entry
-  numbered : k.entry.number < inserted
+pub record IsCounted (h : List Record) (inserted : ℕ) (k : Kept) : Type 0 where
+  pub counted : k.reloads ≤ replaced h k.entry.request
+  pub loaded_is : load_of h k.entry.number ≡ Some k.entry
+  pub numbered : k.entry.number < inserted
 
-abbrev AllCounted : List Record → ℕ → List Kept → Type 0
+abbrev pub AllCounted : List Record → ℕ → List Kept → Type 0
 AllCounted h n [] = Unit {0}
 AllCounted h n (k ∷ ks) = IsCounted h n k × AllCounted h n ks
 
@@ -72,21 +71,17 @@ counted_used request h n (k ∷ ks) a = (by_test (is_request request k.entry.req
 -- ---- caches
 
 -- entries ended for good only as ticks and invalidations end them, and each live one is counted
-record Meets (limit : Option ℕ) (cache : Cache) (h : List Record) : Type 0 where
-  ended : Reloaded limit h
-  entries_are : AllCounted h cache.inserted cache.entries
+pub record Meets (limit : Option ℕ) (cache : Cache) (h : List Record) : Type 0 where
+  pub ended : Reloaded limit h
+  pub entries_are : AllCounted h cache.inserted cache.entries
 
-meets_after : (others : Cache → List Record → Type 0) (limit : Option ℕ) (adds h : List Record) (r : Result Passed Stopped) → PassesThen others limit (adds ++ h) r → PassesThen others limit h (after_adds adds r)
-meets_after others limit adds h (Ok passed) m = subst (others passed.cache) (sym (append_assoc passed.adds adds h)) m
-meets_after others limit adds h (Err stop) m = subst (Reloaded limit) (sym (append_assoc stop.adds adds h)) m
+-- what is known where an event stops
+abbrev pub Ends : Option ℕ → Cache → List Record → Type 0
+Ends limit cache h = Reloaded limit h
 
-meets_then : (first others : Cache → List Record → Type 0) (limit : Option ℕ) (h : List Record) (r : Result Passed Stopped) (next : Cache → Result Passed Stopped) → PassesThen first limit h r → ((cache : Cache) (before : List Record) → first cache before → PassesThen others limit before (next cache)) → PassesThen others limit h (r >>= next)
-meets_then first others limit h (Ok passed) next m on = meets_after others limit passed.adds h (next passed.cache) (on passed.cache (passed.adds ++ h) m)
-meets_then first others limit h (Err stop) next m on = m
-
-meets_polled : (limit : Option ℕ) (files : Content) (cache : Cache) (h : List Record) → Meets limit cache h → PassesThen (Meets limit) limit h (polled files cache)
+meets_polled : (limit : Option ℕ) (files : Content) (cache : Cache) (h : List Record) → Meets limit cache h → PassesThen (Meets limit) (Ends limit) h (polled files cache)
 meets_polled limit files cache h m = by_same (same_files files cache.sources) (eqb cache.newest_version last_count) where
-  by_same : (same last : Bool) → PassesThen (Meets limit) limit h (cond same (Ok (record { cache = cache; adds = Poll cache.newest_version ∷ [] })) (cond last (Err (stopped cache)) (Ok (record { cache = record cache { sources = files; newest_version = cache.newest_version + 1 }; adds = Change (cache.newest_version + 1) files ∷ [] }))))
+  by_same : (same last : Bool) → PassesThen (Meets limit) (Ends limit) h (cond same (Ok (record { cache = cache; adds = Poll cache.newest_version ∷ [] })) (cond last (Err (stopped cache)) (Ok (record { cache = record cache { sources = files; newest_version = cache.newest_version + 1 }; adds = Change (cache.newest_version + 1) files ∷ [] }))))
   by_same true last = record {
     ended = record { dropped = m.ended.dropped; invalidated = m.ended.invalidated };
     entries_are = counted_on h (Poll cache.newest_version ∷ h) cache.inserted cache.inserted cache.entries (record { counts = λ request. omega arith; loads_are = λ n low. refl; more = omega arith }) m.entries_are;
@@ -98,10 +93,10 @@ meets_polled limit files cache h m = by_same (same_files files cache.sources) (e
   }
 
 -- a compaction, where there is one, leaves entries and history
-meets_compacted : (others : Cache → List Record → Type 0) (limit : Option ℕ) (ks : List Kept) (cache : Cache) (h : List Record) → Reloaded limit h → ((used cycle : ℕ) → others (record cache { used = used; cycle = cycle }) h) → PassesThen others limit h (compacted_after ks cache)
+meets_compacted : (others : Cache → List Record → Type 0) (limit : Option ℕ) (ks : List Kept) (cache : Cache) (h : List Record) → Reloaded limit h → ((used cycle : ℕ) → others (record cache { used = used; cycle = cycle }) h) → PassesThen others (Ends limit) h (compacted_after ks cache)
 meets_compacted others limit [] cache h ended on = on cache.used cache.cycle
 meets_compacted others limit (k ∷ ks) cache h ended on = by_cycle (ltb cache.cycle last_count) where
-  by_cycle : (b : Bool) → PassesThen others limit h (cond b (Ok (unchanged (record cache { cycle = cache.cycle + 2; used = all_words cache.entries }))) (Err (stopped cache)))
+  by_cycle : (b : Bool) → PassesThen others (Ends limit) h (cond b (Ok (unchanged (record cache { cycle = cache.cycle + 2; used = all_words cache.entries }))) (Err (stopped cache)))
   by_cycle true = on (all_words cache.entries) (cache.cycle + 2)
   by_cycle false = ended
 
@@ -111,14 +106,14 @@ reloaded_emptied : (limit : Option ℕ) (cache : Cache) (h : List Record) → Re
 reloaded_emptied limit cache h r =
     subst (λ (l : List Record). Reloaded limit (Invalid (cache.epoch + 1) ∷ l)) (sym (ends_after by_invalidation cache.entries [] h)) (record { dropped = dropped_through limit cache.entries h r.dropped; invalidated = tt })
 
-meets_invalidated : (limit : Option ℕ) (cache : Cache) (h : List Record) → Meets limit cache h → PassesThen (Meets limit) limit h (invalidated cache)
+pub meets_invalidated : (limit : Option ℕ) (cache : Cache) (h : List Record) → Meets limit cache h → PassesThen (Meets limit) (Ends limit) h (invalidated cache)
 unfolding invalidated
 meets_invalidated limit cache h m = by_epoch (eqb cache.epoch last_count) where
-  by_epoch : (b : Bool) → PassesThen (Meets limit) limit h (cond b (Err (stopped cache)) (after_adds (emptied cache).adds (compacted_after cache.entries (emptied cache).cache)))
+  by_epoch : (b : Bool) → PassesThen (Meets limit) (Ends limit) h (cond b (Err (stopped cache)) (after_adds (emptied cache).adds (compacted_after cache.entries (emptied cache).cache)))
   by_epoch true = m.ended
   by_epoch false =
       let ended = reloaded_emptied limit cache h m.ended in
-      meets_after (Meets limit) limit (emptied cache).adds h (compacted_after cache.entries (emptied cache).cache)
+      passes_after (Meets limit) (Ends limit) (emptied cache).adds h (compacted_after cache.entries (emptied cache).cache)
       (meets_compacted (Meets limit) limit cache.entries (emptied cache).cache ((emptied cache).adds ++ h) ended (λ used cycle. record { ended = ended; entries_are = tt }))
 
 -- ---- insertions
@@ -221,7 +216,7 @@ few_again limit now n (k ∷ ks) h a = by_drop (is_dropped limit k) (λ cause. f
       let on = (ends_onward (due_cause limit now) ks h' n).counts k.entry.request in
       (omega arith, rest Replaced)
 
-meets_pruned : (limit : Option ℕ) (settings : DbConf) (now : ℕ) (cache : Cache) (h : List Record) → Meets limit cache h → PassesThen (Meets limit) limit h (pruned settings limit now cache)
+meets_pruned : (limit : Option ℕ) (settings : DbConf) (now : ℕ) (cache : Cache) (h : List Record) → Meets limit cache h → PassesThen (Meets limit) (Ends limit) h (pruned settings limit now cache)
 meets_pruned limit settings now cache h m =
     let due = due_of now cache.entries in
     let ends = due_ended limit now cache in
@@ -234,59 +229,34 @@ meets_pruned limit settings now cache h m =
     (counted_on h (ends_of (due_cause limit now) due h) cache.inserted cache.inserted (others_of now cache.entries) (ends_onward (due_cause limit now) due h cache.inserted) (counted_filter (λ (k : Kept). not (ltb k.entry.timeout now)) h cache.inserted cache.entries m.entries_are)) in
     let few = subst (λ (l : List Record). AllFew l (map candidate_again all)) (sym seen) (few_again limit now cache.inserted due h counted) in
     let first : Cache → List Record → Type 0 = λ c l. Meets limit c l × AllFew l (map candidate_again all) in
-    meets_after (Meets limit) limit ends.adds h (compacted_after due ends.cache >>= λ after. Ok (reloaded settings now all after))
-    (meets_then first (Meets limit) limit h' (compacted_after due ends.cache) (λ after. Ok (reloaded settings now all after)) (meets_compacted first limit due ends.cache h' ended (λ used cycle. (record { ended = ended; entries_are = left }, few)))
+    passes_after (Meets limit) (Ends limit) ends.adds h (compacted_after due ends.cache >>= λ after. Ok (reloaded settings now all after))
+    (passes_then first (Meets limit) (Ends limit) h' (compacted_after due ends.cache) (λ after. Ok (reloaded settings now all after)) (meets_compacted first limit due ends.cache h' ended (λ used cycle. (record { ended = ended; entries_are = left }, few)))
     (λ c l a. meets_tried limit settings now (map candidate_again all) c l a.1 a.0))
 
 -- ---- events
 
-meets_ticked : (limit : Option ℕ) (settings : DbConf) (now : ℕ) (files : Content) (ticked : ℕ) (cache : Cache) (h : List Record) → Meets limit cache h → PassesThen (Meets limit) limit h (tick settings limit now files ticked cache)
+pub meets_ticked : (limit : Option ℕ) (settings : DbConf) (now : ℕ) (files : Content) (ticked : ℕ) (cache : Cache) (h : List Record) → Meets limit cache h → PassesThen (Meets limit) (Ends limit) h (tick settings limit now files ticked cache)
 unfolding tick
 meets_ticked limit settings now files ticked cache h m = by_enabled settings.enabled where
-  by_checks : (c : Cache) (l : List Record) → Meets limit c l → (b : Bool) → PassesThen (Meets limit) limit l (cond b (invalidated c) (pruned settings limit now c))
+  by_checks : (c : Cache) (l : List Record) → Meets limit c l → (b : Bool) → PassesThen (Meets limit) (Ends limit) l (cond b (invalidated c) (pruned settings limit now c))
   by_checks c l a true = meets_invalidated limit c l a
   by_checks c l a false = meets_pruned limit settings now c l a
 
-  by_enabled : (b : Bool) → PassesThen (Meets limit) limit h (cond b (polled files cache >>= checked settings limit now ticked) (Ok (unchanged cache)))
-  by_enabled true = meets_then (Meets limit) (Meets limit) limit h (polled files cache) (checked settings limit now ticked) (meets_polled limit files cache h m) (λ c l a. by_checks c l a (is_outdated settings c.newest_version ticked))
+  by_enabled : (b : Bool) → PassesThen (Meets limit) (Ends limit) h (cond b (polled files cache >>= checked settings limit now ticked) (Ok (unchanged cache)))
+  by_enabled true = passes_then (Meets limit) (Meets limit) (Ends limit) h (polled files cache) (checked settings limit now ticked) (meets_polled limit files cache h m) (λ c l a. by_checks c l a (is_outdated settings c.newest_version ticked))
   by_enabled false = m
 
-meets_looked : (limit : Option ℕ) (settings : DbConf) (now : ℕ) (files : Content) (request : Request) (cache : Cache) (h : List Record) → Meets limit cache h → TurnsThen (Meets limit) limit h (lookup settings now files request cache)
+pub meets_looked : (limit : Option ℕ) (settings : DbConf) (now : ℕ) (files : Content) (request : Request) (cache : Cache) (h : List Record) → Meets limit cache h → TurnsThen (Meets limit) (Ends limit) h (lookup settings now files request cache)
 unfolding lookup
 meets_looked limit settings now files request cache h m = by_entry (cached settings request cache) where
   by_kept : (c : Cache) (l : List Record) → Meets limit c l → (b : Bool) → let after : Passed = cond b (tried_all settings now (candidates_of request) c) (unchanged c) in Meets limit after.cache (after.adds ++ l)
   by_kept c l a true = meets_tried limit settings now (candidates_of request) c l (omega arith, tt) a
   by_kept c l a false = a
 
-  by_poll : (r : Result Passed Stopped) → PassesThen (Meets limit) limit h r → TurnsThen (Meets limit) limit h (loaded settings now request r)
+  by_poll : (r : Result Passed Stopped) → PassesThen (Meets limit) (Ends limit) h r → TurnsThen (Meets limit) (Ends limit) h (loaded settings now request r)
   by_poll (Ok poll) p = subst (Meets limit (kept_answer settings now request poll.cache).cache) (sym (append_assoc (kept_answer settings now request poll.cache).adds poll.adds h)) (by_kept poll.cache (poll.adds ++ h) p settings.enabled)
   by_poll (Err stop) p = p
 
-  by_entry : (o : Option Kept) → TurnsThen (Meets limit) limit h (hit_or_load o settings now files request cache)
+  by_entry : (o : Option Kept) → TurnsThen (Meets limit) (Ends limit) h (hit_or_load o settings now files request cache)
   by_entry (Some k) = record { ended = m.ended; entries_are = counted_used request h cache.inserted cache.entries m.entries_are }
   by_entry None = by_poll (polled files cache) (meets_polled limit files cache h m)
-
--- ---- whole runs
-
-passes_weaker : (first others : Cache → List Record → Type 0) (limit : Option ℕ) (h : List Record) (r : Result Passed Stopped) → ((c : Cache) (l : List Record) → first c l → others c l) → PassesThen first limit h r → PassesThen others limit h r
-passes_weaker first others limit h (Ok passed) on m = on passed.cache (passed.adds ++ h) m
-passes_weaker first others limit h (Err stop) on m = m
-
-turns_weaker : (first others : Cache → List Record → Type 0) (limit : Option ℕ) (h : List Record) (r : Result Turn Stopped) → ((c : Cache) (l : List Record) → first c l → others c l) → TurnsThen first limit h r → TurnsThen others limit h r
-turns_weaker first others limit h (Ok turn) on m = on turn.cache (turn.adds ++ h) m
-turns_weaker first others limit h (Err stop) on m = m
-
-each_reloaded : (db : Db) (settings : DbConf) (limit : Option ℕ) (events : List Event) (ticked : ℕ) (cache : Cache) (h : List Record) → Meets limit cache h → EachReloaded db settings limit events ticked cache h
-each_reloaded db settings limit [] ticked cache h m = m.ended
-each_reloaded db settings limit (Lookup content now request ∷ events) ticked cache h m =
-    (m.ended, turns_weaker (Meets limit) (EachReloaded db settings limit events ticked) limit h (lookup settings now (part_of db content) request cache) (λ c l a. each_reloaded db settings limit events ticked c l a) (meets_looked limit settings now (part_of db content) request cache h m))
-each_reloaded db settings limit (Tick content now ∷ events) ticked cache h m = (
-  m.ended,
-  passes_weaker (Meets limit) (λ after. EachReloaded db settings limit events (ticked_by settings ticked after) after) limit h (tick settings limit now (part_of db content) ticked cache) (λ c l a. each_reloaded db settings limit events (ticked_by settings ticked c) c l a)
-      (meets_ticked limit settings now (part_of db content) ticked cache h m),
-)
-each_reloaded db settings limit (Invalidation ∷ events) ticked cache h m =
-    (m.ended, passes_weaker (Meets limit) (EachReloaded db settings limit events ticked) limit h (invalidated cache) (λ c l a. each_reloaded db settings limit events ticked c l a) (meets_invalidated limit cache h m))
-
-pub reloads_law : (db : Db) (settings : DbConf) (limit : Option ℕ) (files : Content) (events : List Event) → EachReloaded db settings limit events 0 (new_cache (part_of db files)) (Change 0 (part_of db files) ∷ [])
-reloads_law db settings limit files events = each_reloaded db settings limit events 0 (new_cache (part_of db files)) (Change 0 (part_of db files) ∷ []) (record { ended = record { dropped = tt; invalidated = tt }; entries_are = tt })

@@ -86,7 +86,7 @@ both_prefix a b c p q = longer_prefix a b q.0 c p q.1
 -- ---- what is known between steps
 
 -- a caller whose calls begin at this history, and the cache that tells the history as it is now
-pub record Stands (a : ℕ) (event : List Record) (core : Core) (c : Caller) (cache : Cache) : Type 0 where
+pub record CallerStands (a : ℕ) (event : List Record) (core : Core) (c : Caller) (cache : Cache) : Type 0 where
   pub caller_is : core.callers a ≡ c
   pub seen_before : IsPrefix c.seen event
   pub onward : IsPrefix event core.history
@@ -110,8 +110,8 @@ retells h c entries used cycle failed same t = record {
   entries_are = rw same t.entries_are;
 }
 
-pub retold : (a : ℕ) (event : List Record) (core : Core) (c : Caller) (cache : Cache) (entries : List Kept) (used cycle failed : ℕ) → entries_of entries ≡ entries_of cache.entries → Stands a event core c cache
-    → Stands a event core c (record cache { entries = entries; used = used; cycle = cycle; add_failed = failed })
+pub retold : (a : ℕ) (event : List Record) (core : Core) (c : Caller) (cache : Cache) (entries : List Kept) (used cycle failed : ℕ) → entries_of entries ≡ entries_of cache.entries → CallerStands a event core c cache
+    → CallerStands a event core c (record cache { entries = entries; used = used; cycle = cycle; add_failed = failed })
 retold a event core c cache entries used cycle failed same s = record {
   caller_is = s.caller_is;
   seen_before = s.seen_before;
@@ -120,7 +120,7 @@ retold a event core c cache entries used cycle failed same s = record {
 }
 
 -- the core gains records, and its callers stay
-pub gains_on : (a : ℕ) (event : List Record) (core : Core) (h more : List Record) (c : Caller) (cache after : Cache) → h ≡ more ++ core.history → Tells h after → Stands a event core c cache → Stands a event (record core { history = h }) c after
+pub gains_on : (a : ℕ) (event : List Record) (core : Core) (h more : List Record) (c : Caller) (cache after : Cache) → h ≡ more ++ core.history → Tells h after → CallerStands a event core c cache → CallerStands a event (record core { history = h }) c after
 gains_on a event core h more c cache after e t s = record {
   caller_is = s.caller_is;
   seen_before = s.seen_before;
@@ -136,44 +136,44 @@ eqb_same n = search rules
 pub at_own : (callers : ℕ → Caller) (a : ℕ) (c : Caller) → with_caller callers a c a ≡ c
 at_own callers a c = rw (eqb_same a) refl
 
-pub caller_on : (a : ℕ) (event : List Record) (core : Core) (c d : Caller) (cache : Cache) → IsPrefix d.seen event → Stands a event core c cache → Stands a event (changed core a d) d cache
+pub caller_on : (a : ℕ) (event : List Record) (core : Core) (c d : Caller) (cache : Cache) → IsPrefix d.seen event → CallerStands a event core c cache → CallerStands a event (changed core a d) d cache
 caller_on a event core c d cache p s = record { caller_is = at_own core.callers a d; seen_before = p; onward = s.onward; tells = s.tells }
 
-pub begin_step : (db : Db) (a : ℕ) (event : List Record) (core : Core) (c : Caller) (cache : Cache) (request : Request) → Stands a event core c cache → Step db a event core [] (changed core a (begun c (Some request) event))
+pub begin_step : (db : Db) (a : ℕ) (event : List Record) (core : Core) (c : Caller) (cache : Cache) (request : Request) → CallerStands a event core c cache → Step db a event core [] (changed core a (begun c (Some request) event))
 begin_step db a event core c cache request s =
     one_step db a event (Begin a (Some request) event) core [] (changed core a (begun c (Some request) event)) (refl, refl)
     (subst (λ (x : Caller). IsPrefix x.seen event) (sym s.caller_is) s.seen_before, s.onward, ap (λ (x : Caller). changed core a (begun x (Some request) event)) (sym s.caller_is))
     refl refl
 
-pub begin_stands : (a : ℕ) (event : List Record) (core : Core) (c : Caller) (cache : Cache) (request : Request) → Stands a event core c cache → Stands a event (changed core a (begun c (Some request) event)) (begun c (Some request) event) cache
+pub begin_stands : (a : ℕ) (event : List Record) (core : Core) (c : Caller) (cache : Cache) (request : Request) → CallerStands a event core c cache → CallerStands a event (changed core a (begun c (Some request) event)) (begun c (Some request) event) cache
 begin_stands a event core c cache request s = caller_on a event core c (begun c (Some request) event) cache (same_prefix event) s
 
-pub note_step : (db : Db) (a : ℕ) (event : List Record) (core : Core) (c : Caller) (cache : Cache) → Stands a event core c cache → Step db a event core [] (changed core a (noting c (invalidations core.history)))
+pub note_step : (db : Db) (a : ℕ) (event : List Record) (core : Core) (c : Caller) (cache : Cache) → CallerStands a event core c cache → Step db a event core [] (changed core a (noting c (invalidations core.history)))
 note_step db a event core c cache s =
     one_step db a event (Note a) core [] (changed core a (noting c (invalidations core.history))) refl
     (ap (λ (x : Caller). changed core a (noting x (invalidations core.history))) (sym s.caller_is)) refl refl
 
-pub note_stands : (a : ℕ) (event : List Record) (core : Core) (c : Caller) (cache : Cache) → Stands a event core c cache → Stands a event (changed core a (noting c (invalidations core.history))) (noting c (invalidations core.history)) cache
+pub note_stands : (a : ℕ) (event : List Record) (core : Core) (c : Caller) (cache : Cache) → CallerStands a event core c cache → CallerStands a event (changed core a (noting c (invalidations core.history))) (noting c (invalidations core.history)) cache
 note_stands a event core c cache s = caller_on a event core c (noting c (invalidations core.history)) cache s.seen_before s
 
-pub fetch_step : (db : Db) (a : ℕ) (event : List Record) (core : Core) (c : Caller) (cache : Cache) (epoch : ℕ) → c.noted ≡ Some epoch → Stands a event core c cache → Step db a event core [] (changed core a (fetching c (part_of db core.sources)))
+pub fetch_step : (db : Db) (a : ℕ) (event : List Record) (core : Core) (c : Caller) (cache : Cache) (epoch : ℕ) → c.noted ≡ Some epoch → CallerStands a event core c cache → Step db a event core [] (changed core a (fetching c (part_of db core.sources)))
 fetch_step db a event core c cache epoch n s =
     one_step db a event (Fetch a) core [] (changed core a (fetching c (part_of db core.sources))) refl
     ((epoch, ap (λ (x : Caller). x.noted) s.caller_is ∙ n), ap (λ (x : Caller). changed core a (fetching x (part_of db core.sources))) (sym s.caller_is)) refl refl
 
-pub fetch_stands : (a : ℕ) (event : List Record) (core : Core) (c : Caller) (cache : Cache) (content : Content) → Stands a event core c cache → Stands a event (changed core a (fetching c content)) (fetching c content) cache
+pub fetch_stands : (a : ℕ) (event : List Record) (core : Core) (c : Caller) (cache : Cache) (content : Content) → CallerStands a event core c cache → CallerStands a event (changed core a (fetching c content)) (fetching c content) cache
 fetch_stands a event core c cache content s = caller_on a event core c (fetching c content) cache s.seen_before s
 
 abbrev pub polled_core : Core → ℕ → Caller → Record → ℕ → Core
 polled_core core a c poll n = record core { history = poll ∷ core.history; callers = with_caller core.callers a (polling c n) }
 
-pub poll_step : (db : Db) (a : ℕ) (event : List Record) (core : Core) (c : Caller) (cache : Cache) (content : Content) (poll : Record) (n : ℕ) → c.fetched ≡ Some content → IsPoll core.history content poll n → Stands a event core c cache
+pub poll_step : (db : Db) (a : ℕ) (event : List Record) (core : Core) (c : Caller) (cache : Cache) (content : Content) (poll : Record) (n : ℕ) → c.fetched ≡ Some content → IsPoll core.history content poll n → CallerStands a event core c cache
     → Step db a event core (poll ∷ []) (polled_core core a c poll n)
 poll_step db a event core c cache content poll n f is s =
     one_step db a event (PollStep a) core (poll ∷ []) (polled_core core a c poll n) refl
     (content, poll, n, ap (λ (x : Caller). x.fetched) s.caller_is ∙ f, is, ap (λ (x : Caller). polled_core core a x poll n) (sym s.caller_is)) refl refl
 
-pub poll_stands : (a : ℕ) (event : List Record) (core : Core) (c : Caller) (cache after : Cache) (poll : Record) (n : ℕ) → Tells (poll ∷ core.history) after → Stands a event core c cache → Stands a event (polled_core core a c poll n) (polling c n) after
+pub poll_stands : (a : ℕ) (event : List Record) (core : Core) (c : Caller) (cache after : Cache) (poll : Record) (n : ℕ) → Tells (poll ∷ core.history) after → CallerStands a event core c cache → CallerStands a event (polled_core core a c poll n) (polling c n) after
 poll_stands a event core c cache after poll n t s = record {
   caller_is = at_own core.callers a (polling c n);
   seen_before = s.seen_before;
@@ -188,7 +188,7 @@ pub record Went (db : Db) (a : ℕ) (event : List Record) (old : Core) (also : L
   pub new : Core
   pub caller : Caller
   pub step : Step db a event old adds new
-  pub stands : Stands a event new caller after
+  pub stands : CallerStands a event new caller after
   pub holds : also new.history caller after
 
 abbrev pub Nothing : List Record → Caller → Cache → Type 0
@@ -207,17 +207,17 @@ comes_after db a event old mid also adds (Ok passed) s w = went_after db a event
 comes_after db a event old mid also adds (Err stop) s w = went_after db a event old mid Nothing adds stop.adds stop.cache s w
 
 pub comes_then : (db : Db) (a : ℕ) (event : List Record) (old : Core) (also also_then : List Record → Caller → Cache → Type 0) (r : Result Passed Stopped) (next : Cache → Result Passed Stopped)
-    → Comes db a event old also r → ((mid : Core) (c : Caller) (cache : Cache) → mid.sources ≡ old.sources → Stands a event mid c cache → also mid.history c cache → Comes db a event mid also_then (next cache)) → Comes db a event old also_then (r >>= next)
+    → Comes db a event old also r → ((mid : Core) (c : Caller) (cache : Cache) → mid.sources ≡ old.sources → CallerStands a event mid c cache → also mid.history c cache → Comes db a event mid also_then (next cache)) → Comes db a event old also_then (r >>= next)
 comes_then db a event old also also_then (Ok passed) next w f =
     comes_after db a event old w.new also_then passed.adds (next passed.cache) w.step (f w.new w.caller passed.cache w.step.sources_stay w.stands w.holds)
 comes_then db a event old also also_then (Err stop) next w f = w
 
-pub stays : (db : Db) (a : ℕ) (event : List Record) (core : Core) (c : Caller) (also : List Record → Caller → Cache → Type 0) (cache : Cache) → Stands a event core c cache → also core.history c cache → Went db a event core also [] cache
+pub stays : (db : Db) (a : ℕ) (event : List Record) (core : Core) (c : Caller) (also : List Record → Caller → Cache → Type 0) (cache : Cache) → CallerStands a event core c cache → also core.history c cache → Went db a event core also [] cache
 stays db a event core c also cache s holds = record { new = core; caller = c; step = no_step db a event core; stands = s; holds = holds }
 
 -- ---- whole events
 
-pub drive_on : (db : Db) (a : ℕ) (old : Core) (cache : Cache) (event adds : List Record) (new : Core) (c : Caller) (after : Cache) → Drives db a old cache → Step db a event old adds new → Stands a event new c after → Drives db a new after
+pub drive_on : (db : Db) (a : ℕ) (old : Core) (cache : Cache) (event adds : List Record) (new : Core) (c : Caller) (after : Cache) → Drives db a old cache → Step db a event old adds new → CallerStands a event new c after → Drives db a new after
 drive_on db a old cache event adds new c after d step s = record {
   first = d.first;
   moves = d.moves ++ step.moves;
@@ -226,7 +226,7 @@ drive_on db a old cache event adds new c after d step s = record {
   tells = s.tells;
 }
 
-pub moved : (db : Db) (a : ℕ) (old : Core) (cache : Cache) (adds : List Record) (new : Core) (c : Caller) (after : Cache) → Drives db a old cache → Step db a old.history old adds new → Stands a old.history new c after → IsMoved db a old adds after new
+pub moved : (db : Db) (a : ℕ) (old : Core) (cache : Cache) (adds : List Record) (new : Core) (c : Caller) (after : Cache) → Drives db a old cache → Step db a old.history old adds new → CallerStands a old.history new c after → IsMoved db a old adds after new
 moved db a old cache adds new c after d step s = record {
   moves = step.moves;
   own = step.own;
@@ -241,5 +241,5 @@ passes db a old cache also (Ok passed) d w = (w.new, moved db a old cache passed
 passes db a old cache also (Err stop) d w = (w.new, moved db a old cache stop.adds w.new w.caller stop.cache d w.step w.stands)
 
 -- what is known of the caller that drives a core, before an event
-pub driven : (db : Db) (a : ℕ) (core : Core) (cache : Cache) → Drives db a core cache → Stands a core.history core (core.callers a) cache
+pub driven : (db : Db) (a : ℕ) (core : Core) (cache : Cache) → Drives db a core cache → CallerStands a core.history core (core.callers a) cache
 driven db a core cache d = record { caller_is = refl; seen_before = d.seen_before; onward = same_prefix core.history; tells = d.tells }

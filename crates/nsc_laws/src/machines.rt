@@ -33,8 +33,11 @@ pub fn runs_are_answered()
 {}
 
 /// In every run of events from a new cache, whatever the files are at each of them: an entry that ended as expired gave a not-found
-/// reply, or as many entries of its request as the limit says had ended before as replaced; and after each end as invalidated the
-/// invalidation itself stands. Of the entries that ended as replaced it does not say that they were loaded again.
+/// reply, or as many entries of its request as the limit says had ended before as replaced; after each end as invalidated the
+/// invalidation itself stands; and after each end as replaced an entry of its request was inserted, or no more entries can be counted,
+/// or its answer over some version is too long to be kept, or at some moment after that end its answer over some version wanted more
+/// words than the live entries left of the room. So also where an event stopped, but that nothing is said of ends as replaced where no
+/// more compactions can be counted.
 pub fn runs_are_reloaded()
     ensures { (db : Db) (settings : DbConf) (reloads : Option ℕ) (files : Content) (events : List Event) →
         EachReloaded db settings reloads events 0 (new_cache (part_of db files)) (Change 0 (part_of db files) ∷ []) }

@@ -1,19 +1,19 @@
 -- What a search answers at its end.
-use Rattle.std.proofs.Common.{◌≡◌, ◌≢◌, ◌∙◌, ℕ, ◌%◌, ◌<◌, ◌≤◌, Bool, ⊎_elim, List, [], ◌∷◌, ◌++◌, refl, sym, ap, subst, arith}
+use Rattle.std.proofs.Common.{◌≡◌, ◌∙◌, ℕ, ◌+◌, ◌<◌, ◌≤◌, Bool, ⊎_elim, List, [], ◌∷◌, ◌++◌, refl, sym, ap, subst, arith}
 use Rattle.nsc_model.specs.Entry.{Entry}
 use Rattle.nsc_model.specs.History.{EndedAfter, HasEnd, HasLoad, IsPrefix, Legal, loads}
 use Rattle.nsc_model.specs.declared.answer.Request.{Request}
 use Rattle.nsc_model.specs.declared.record.Record.{Record}
 use Rattle.nsc_laws.proofs.CoreLawRecords.{ended_or_not, load_more, not_ended_before}
 use Rattle.nsc_laws.proofs.Prefixes.{prefix_legal}
-use Rattle.nsc_rule.specs.declared.view.Walk.{Walk}
+use Rattle.nsc_rule.specs.declared.view.Search.{Search}
 use Rattle.nsc_rule.specs.Pass.{Pass}
-use Rattle.nsc_rule.specs.Walks.{IsSteady, NoneOlder}
+use Rattle.nsc_rule.specs.Searches.{IsSteady, NoneOlder}
 use Rattle.nsc_rule.proofs.Numbers.{load_below, prefix_through}
-use Rattle.nsc_reader.specs.declared.in_place.InPlace.{InPlace}
-use Rattle.nsc_reader.specs.declared.in_place.InPlace.TheVariants.{Hit, Odd, Moved, NoEntry}
-use Rattle.nsc_reader.specs.InPlace.{InPlaceClause}
-use Rattle.nsc_reader.specs.Stages.{AtLast, Begun, Keeps}
+use Rattle.nsc_model.specs.declared.in_place.InPlace.{InPlace}
+use Rattle.nsc_model.specs.declared.in_place.InPlace.TheVariants.{Hit, Odd, Moved, NoEntry}
+use Rattle.nsc_model.specs.InPlace.{InPlaceClause}
+use Rattle.nsc_reader.specs.Stages.{AtLast, Keeps}
 
 -- ---- histories that go on
 
@@ -45,46 +45,47 @@ ended_all began h request p legal older e a is =
 pub record Loaded (p new : Pass) (last : ℕ) : Type 0 where
   pub table : new.table ≡ p.table
   pub before : IsPrefix p.seen new.seen
-  pub walk : new.walk ≡ record p.walk { known = last; last = last }
-  pub later : p.walk.known ≤ last
+  pub searching : new.searching ≡ record p.searching { steps = p.searching.steps + 1; known = last; last = last }
+  pub later : p.searching.known ≤ last
   pub legal : Legal new.seen
-  pub none : IsSteady new.walk → p.walk.place ≡ 0 → NoneOlder new.seen p.walk
+  pub none : IsSteady new.searching → p.searching.place ≡ 0 → NoneOlder new.seen p.searching
 
 pub keeps_last : (p new : Pass) (last : ℕ) → Loaded p new last → Keeps p new
 keeps_last p new last is = record {
   table = is.table;
   before = is.before;
-  began = ap (λ (w : Walk). w.began) is.walk;
-  searches = ap (λ (w : Walk). w.searches) is.walk;
-  first = ap (λ (w : Walk). w.first) is.walk;
-  request = ap (λ (w : Walk). w.request) is.walk;
+  began = ap (λ (w : Search). w.began) is.searching;
+  steps = ap (λ (w : Search). w.steps) is.searching;
+  searches = ap (λ (w : Search). w.searches) is.searching;
+  first = ap (λ (w : Search). w.first) is.searching;
+  request = ap (λ (w : Search). w.request) is.searching;
 }
 
 abbrev pub Answers : Pass → List ℕ → InPlace → Type 0
-Answers p content answer = InPlaceClause p.walk.began p.seen p.walk.request p.walk.first p.walk.last content answer
+Answers p content answer = InPlaceClause p.searching.began p.seen p.searching.request p.searching.first p.searching.last content answer
 
-pub no_entry : (p new : Pass) (last first : ℕ) (content : List ℕ) → Loaded p new last → AtLast content NoEntry p → p.walk.first ≡ first → last ≡ first → Answers new [] NoEntry
+pub no_entry : (p new : Pass) (last first : ℕ) (content : List ℕ) → Loaded p new last → AtLast content NoEntry p → p.searching.first ≡ first → last ≡ first → Answers new [] NoEntry
 no_entry p new last first content is at same unmoved =
     let b = at.begun in
     let low = b.known in
     let later = is.later in
-    let all : last ≡ p.walk.first = unmoved ∙ sym same in
-    let was : IsSteady p.walk = (omega arith, b.even) in
-    let now : IsSteady new.walk = subst (λ (w : Walk). IsSteady w) (sym is.walk) (all, b.even) in
+    let all : last ≡ p.searching.first = unmoved ∙ sym same in
+    let was : IsSteady p.searching = (omega arith, b.even) in
+    let now : IsSteady new.searching = subst (λ (w : Search). IsSteady w) (sym is.searching) (all, b.even) in
     let older = is.none now (at.may was) in
-    subst (λ (w : Walk). InPlaceClause w.began new.seen w.request w.first w.last [] NoEntry) (sym is.walk)
-    (sym all, b.even, ended_all p.walk.began new.seen p.walk.request (prefix_through p.walk.began p.seen new.seen b.began is.before) is.legal (λ e a never of. older e (record { inserted = a; not_ended = never }) of), refl)
+    subst (λ (w : Search). InPlaceClause w.began new.seen w.request w.first w.last [] NoEntry) (sym is.searching)
+    (sym all, b.even, ended_all p.searching.began new.seen p.searching.request (prefix_through p.searching.began p.seen new.seen b.began is.before) is.legal (λ e a never of. older e (record { inserted = a; not_ended = never }) of), refl)
 
-pub hit : (p new : Pass) (last first : ℕ) (content : List ℕ) (number version : ℕ) (not_found : Bool) → Loaded p new last → AtLast content (Hit number version not_found) p → p.walk.first ≡ first → last ≡ first → Answers new content (Hit number version not_found)
+pub hit : (p new : Pass) (last first : ℕ) (content : List ℕ) (number version : ℕ) (not_found : Bool) → Loaded p new last → AtLast content (Hit number version not_found) p → p.searching.first ≡ first → last ≡ first → Answers new content (Hit number version not_found)
 hit p new last first content number version not_found is at same unmoved =
     let b = at.begun in
     let low = b.known in
     let later = is.later in
-    let all : last ≡ p.walk.first = unmoved ∙ sym same in
-    let was : IsSteady p.walk = (omega arith, b.even) in
+    let all : last ≡ p.searching.first = unmoved ∙ sym same in
+    let was : IsSteady p.searching = (omega arith, b.even) in
     let e = at.may.0.0 in
     let copied = at.may.1 was e at.may.0.1 in
-    subst (λ (w : Walk). InPlaceClause w.began new.seen w.request w.first w.last content (Hit number version not_found)) (sym is.walk) (
+    subst (λ (w : Search). InPlaceClause w.began new.seen w.request w.first w.last content (Hit number version not_found)) (sym is.searching) (
       sym all,
       b.even,
       record {
@@ -95,12 +96,12 @@ hit p new last first content number version not_found is at same unmoved =
         of_version = copied.of_version;
         said = copied.said;
         marked = copied.marked;
-        not_seen_to_end = subst (λ (n : ℕ). HasEnd p.walk.began n → ⊥) copied.numbered (not_ended_before p.walk.began p.seen e.number b.began copied.live.not_ended);
+        not_seen_to_end = subst (λ (n : ℕ). HasEnd p.searching.began n → ⊥) copied.numbered (not_ended_before p.searching.began p.seen e.number b.began copied.live.not_ended);
       },
     )
 
 -- what it was to answer where the chain was not at its end
-pub held : (p new : Pass) (last first : ℕ) (content : List ℕ) (answer : InPlace) → (answer ≡ NoEntry → ⊥) → Loaded p new last → AtLast content answer p → p.walk.first ≡ first → last ≡ first → Answers new content answer
+pub held : (p new : Pass) (last first : ℕ) (content : List ℕ) (answer : InPlace) → (answer ≡ NoEntry → ⊥) → Loaded p new last → AtLast content answer p → p.searching.first ≡ first → last ≡ first → Answers new content answer
 held p new last first content (Hit number version not_found) other is at same unmoved = hit p new last first content number version not_found is at same unmoved
 held p new last first content (Odd cycle) other is at same unmoved = absurd at.may
 held p new last first content (Moved from to) other is at same unmoved = absurd at.may

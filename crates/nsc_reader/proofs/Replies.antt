@@ -14,16 +14,16 @@ use Rattle.nsc_model.specs.Entry.{Entry, kept_limit}
 use Rattle.nsc_model.specs.History.{IsLive, IsPrefix}
 use Rattle.nsc_model.specs.declared.record.Record.{Record}
 use Rattle.nsc_model.proofs.Beginnings.{prefix_all}
-use Rattle.nsc_rule.specs.declared.view.Walk.{Walk}
+use Rattle.nsc_rule.specs.declared.view.Search.{Search}
 use Rattle.nsc_rule.specs.Pass.{Pass}
-use Rattle.nsc_rule.specs.Walks.{IsSteady}
+use Rattle.nsc_rule.specs.Searches.{IsSteady}
 use Rattle.nsc_reader.specs.Stages.{AtLast, AtNext, AtNumber, AtReply, AtSize, AtState, AtVersion, Tells, key_words, reply_in}
-use Rattle.nsc_reader.specs.declared.in_place.InPlace.TheVariants.{Hit, NoEntry}
+use Rattle.nsc_model.specs.declared.in_place.InPlace.TheVariants.{Hit, NoEntry}
 use Rattle.nsc_reader.proofs.Tellings.{Read, fixed_at, node_at, begun_at, stays, steady_before}
 
 -- ---- STATE
 
-pub usable_at : (layout : Layout) (place : ℕ) (seen : List Record) (known : ℕ) (gone : Bool) (p : Pass) → IsPrefix p.seen seen → p.walk.known ≤ known → AtState layout place p
+pub usable_at : (layout : Layout) (place : ℕ) (seen : List Record) (known : ℕ) (gone : Bool) (p : Pass) → IsPrefix p.seen seen → p.searching.known ≤ known → AtState layout place p
     → Tells (stays seen known gone p) (λ e. IsLive seen e) → AtSize layout place (stays seen known gone p)
 usable_at layout place seen known gone p more later at live = record {
   node = node_at layout place seen known gone p more later at.node;
@@ -33,10 +33,10 @@ usable_at layout place seen known gone p more later at live = record {
 }
 
 -- the entry was live then, as a load of STATE told
-pub live_at : (p new : Pass) (gone : Bool) → new.table ≡ p.table → new.walk ≡ record p.walk { known = new.walk.known; gone = gone } → (IsSteady new.walk → (e : Entry) → p.walk.on ≡ Some e → IsLive new.seen e) → Tells (stays new.seen new.walk.known gone p) (λ e. IsLive new.seen e)
-live_at p new gone table walk live steady e on = live (subst (λ (w : Walk). IsSteady w) (sym walk) steady) e on
+pub live_at : (p new : Pass) (gone : Bool) → new.table ≡ p.table → new.searching ≡ record p.searching { steps = p.searching.steps + 1; known = new.searching.known; gone = gone } → (IsSteady new.searching → (e : Entry) → p.searching.on ≡ Some e → IsLive new.seen e) → Tells (stays new.seen new.searching.known gone p) (λ e. IsLive new.seen e)
+live_at p new gone table is live steady e on = live (subst (λ (w : Search). IsSteady w) (sym is) steady) e on
 
-pub ended_at : (layout : Layout) (place : ℕ) (seen : List Record) (known : ℕ) (gone : Bool) (p : Pass) → IsPrefix p.seen seen → p.walk.known ≤ known → AtState layout place p → gone ≡ true → AtNext layout place (stays seen known gone p)
+pub ended_at : (layout : Layout) (place : ℕ) (seen : List Record) (known : ℕ) (gone : Bool) (p : Pass) → IsPrefix p.seen seen → p.searching.known ≤ known → AtState layout place p → gone ≡ true → AtNext layout place (stays seen known gone p)
 ended_at layout place seen known gone p more later at is = record {
   node = node_at layout place seen known gone p more later at.node;
   passed = (at.node.on.0, at.node.on.1, λ steady. inr is);
@@ -44,28 +44,28 @@ ended_at layout place seen known gone p more later at is = record {
 
 -- ---- what is known of a node that answers stays
 
-size_at : (layout : Layout) (place known : ℕ) (p : Pass) → p.walk.known ≤ known → AtSize layout place p → AtSize layout place (fixed_at known p)
+size_at : (layout : Layout) (place known : ℕ) (p : Pass) → p.searching.known ≤ known → AtSize layout place p → AtSize layout place (fixed_at known p)
 size_at layout place known p later at =
-    let before = steady_before p.seen known p.walk.gone p later at.node.begun in
+    let before = steady_before p.seen known p.searching.gone p later at.node.begun in
     record {
-      node = node_at layout place p.seen known p.walk.gone p (prefix_all p.seen) later at.node;
+      node = node_at layout place p.seen known p.searching.gone p (prefix_all p.seen) later at.node;
       room = at.room;
       answers = λ steady e on. at.answers (before steady) e on;
       live = λ steady e on. at.live (before steady) e on;
     }
 
-number_at : (layout : Layout) (place size known : ℕ) (p : Pass) → p.walk.known ≤ known → AtNumber layout place size p → AtNumber layout place size (fixed_at known p)
+number_at : (layout : Layout) (place size known : ℕ) (p : Pass) → p.searching.known ≤ known → AtNumber layout place size p → AtNumber layout place size (fixed_at known p)
 number_at layout place size known p later at = record {
   found = size_at layout place known p later at.found;
   short = at.short;
   fits = at.fits;
-  sized = λ steady e on. at.sized (steady_before p.seen known p.walk.gone p later at.found.node.begun steady) e on;
+  sized = λ steady e on. at.sized (steady_before p.seen known p.searching.gone p later at.found.node.begun steady) e on;
 }
 
-version_at : (layout : Layout) (place size number known : ℕ) (p : Pass) → p.walk.known ≤ known → AtVersion layout place size number p → AtVersion layout place size number (fixed_at known p)
+version_at : (layout : Layout) (place size number known : ℕ) (p : Pass) → p.searching.known ≤ known → AtVersion layout place size number p → AtVersion layout place size number (fixed_at known p)
 version_at layout place size number known p later at = record {
   found = number_at layout place size known p later at.found;
-  numbered = λ steady e on. at.numbered (steady_before p.seen known p.walk.gone p later at.found.found.node.begun steady) e on;
+  numbered = λ steady e on. at.numbered (steady_before p.seen known p.searching.gone p later at.found.found.node.begun steady) e on;
 }
 
 -- ---- SIZE
@@ -74,7 +74,7 @@ length_of : (size reply : ℕ) (not_found : Bool) → reply ≤ kept_limit → s
 length_of size reply true low is = omega arith
 length_of size reply false low is = omega arith
 
-pub size_read : (layout : Layout) (place known word : ℕ) (p : Pass) → p.walk.known ≤ known → AtSize layout place p → Read p known 2 word → reply_in word ≤ kept_limit → place + 8 + key_words p + words_for (reply_in word) ≤ table_words layout → AtNumber layout place word (fixed_at known p)
+pub size_read : (layout : Layout) (place known word : ℕ) (p : Pass) → p.searching.known ≤ known → AtSize layout place p → Read p known 2 word → reply_in word ≤ kept_limit → place + 8 + key_words p + words_for (reply_in word) ≤ table_words layout → AtNumber layout place word (fixed_at known p)
 size_read layout place known word p later at read short fits = record {
   found = size_at layout place known p later at;
   short = short;
@@ -83,16 +83,16 @@ size_read layout place known word p later at read short fits = record {
 }
 
 -- a reply that does not fit was read of no node
-pub size_wrong : (layout : Layout) (place known word : ℕ) (content : List ℕ) (p : Pass) → p.walk.known ≤ known → AtSize layout place p → Read p known 2 word
+pub size_wrong : (layout : Layout) (place known word : ℕ) (content : List ℕ) (p : Pass) → p.searching.known ≤ known → AtSize layout place p → Read p known 2 word
     → (reply_in word ≤ kept_limit → place + 8 + key_words p + words_for (reply_in word) ≤ table_words layout → ⊥) → AtLast content NoEntry (fixed_at known p)
 size_wrong layout place known word content p later at read wrong = record {
-  begun = begun_at p.seen known p.walk.gone p (prefix_all p.seen) later at.node.begun;
+  begun = begun_at p.seen known p.searching.gone p (prefix_all p.seen) later at.node.begun;
   may = λ steady.
       let e = at.node.on.0 in
-      let before = steady_before p.seen known p.walk.gone p later at.node.begun steady in
+      let before = steady_before p.seen known p.searching.gone p later at.node.begun steady in
       let within = at.node.within before e at.node.on.1 in
       let is : reply_in word ≡ length e.answer.bytes = length_of word (length e.answer.bytes) e.answer.not_found within.reply ((read steady e at.node.on.1).size refl) in
-      let key : length e.request.key ≡ length p.walk.request.key = ap (λ r. length r.key) (at.answers before e at.node.on.1) in
+      let key : length e.request.key ≡ length p.searching.request.key = ap (λ r. length r.key) (at.answers before e at.node.on.1) in
       let low = within.reply in
       let high = within.high in
       absurd (wrong (omega arith) (omega arith));
@@ -100,13 +100,13 @@ size_wrong layout place known word content p later at read wrong = record {
 
 -- ---- NUMBER and VERSION
 
-pub number_read : (layout : Layout) (place size known word : ℕ) (p : Pass) → p.walk.known ≤ known → AtNumber layout place size p → Read p known 0 word → AtVersion layout place size word (fixed_at known p)
+pub number_read : (layout : Layout) (place size known word : ℕ) (p : Pass) → p.searching.known ≤ known → AtNumber layout place size p → Read p known 0 word → AtVersion layout place size word (fixed_at known p)
 number_read layout place size known word p later at read = record {
   found = number_at layout place size known p later at;
   numbered = λ steady e on. sym ((read steady e on).number refl);
 }
 
-pub version_read : (layout : Layout) (place size number known word : ℕ) (p : Pass) → p.walk.known ≤ known → AtVersion layout place size number p → Read p known 3 word → 0 < words_for (reply_in size) → AtReply layout place size number word 0 [] (fixed_at known p)
+pub version_read : (layout : Layout) (place size number known word : ℕ) (p : Pass) → p.searching.known ≤ known → AtVersion layout place size number p → Read p known 3 word → 0 < words_for (reply_in size) → AtReply layout place size number word 0 [] (fixed_at known p)
 version_read layout place size number known word p later at read some = record {
   found = version_at layout place size number known p later at;
   of_version = λ steady e on. sym ((read steady e on).version refl);
@@ -120,13 +120,13 @@ mark_of size reply true is = let odd : size % 2 ≡ 1 = omega arith in sym (ap (
 mark_of size reply false is = let even : size % 2 ≡ 0 = omega arith in sym (ap (λ (n : ℕ). eqb n 1) even)
 
 -- all of a reply is copied
-copied_all : (layout : Layout) (place size number version known : ℕ) (content : List ℕ) (not_found : Bool) (p : Pass) → p.walk.known ≤ known → AtVersion layout place size number p → not_found ≡ eqb (size % 2) 1
+copied_all : (layout : Layout) (place size number version known : ℕ) (content : List ℕ) (not_found : Bool) (p : Pass) → p.searching.known ≤ known → AtVersion layout place size number p → not_found ≡ eqb (size % 2) 1
     → Tells (fixed_at known p) (λ e. e.version ≡ version) → Tells (fixed_at known p) (λ e. length e.answer.bytes ≡ reply_in size → e.answer.bytes ≡ content) → AtLast content (Hit number version not_found) (fixed_at known p)
 copied_all layout place size number version known content not_found p later at mark of said =
     let node = at.found.found.node in
-    let before = steady_before p.seen known p.walk.gone p later node.begun in
+    let before = steady_before p.seen known p.searching.gone p later node.begun in
     record {
-      begun = begun_at p.seen known p.walk.gone p (prefix_all p.seen) later node.begun;
+      begun = begun_at p.seen known p.searching.gone p (prefix_all p.seen) later node.begun;
       may = (
         node.on,
         λ steady e on.
@@ -148,7 +148,7 @@ empty_is [] e = refl
 empty_is (b ∷ bytes) e = absurd (omega arith)
 
 -- a reply of no bytes
-pub version_last : (layout : Layout) (place size number known word : ℕ) (not_found : Bool) (p : Pass) → p.walk.known ≤ known → AtVersion layout place size number p → Read p known 3 word → reply_in size ≡ 0 → not_found ≡ eqb (size % 2) 1 → AtLast [] (Hit number word not_found) (fixed_at known p)
+pub version_last : (layout : Layout) (place size number known word : ℕ) (not_found : Bool) (p : Pass) → p.searching.known ≤ known → AtVersion layout place size number p → Read p known 3 word → reply_in size ≡ 0 → not_found ≡ eqb (size % 2) 1 → AtLast [] (Hit number word not_found) (fixed_at known p)
 version_last layout place size number known word not_found p later at read none mark =
     copied_all layout place size number word known [] not_found p later at mark (λ steady e on. sym ((read steady e on).version refl)) (λ steady e on is. empty_is e.answer.bytes (is ∙ none))
 
@@ -165,7 +165,7 @@ word_said bytes content copied count word all more is holds said =
 
 -- a word of the reply was read
 record Copies (layout : Layout) (place size number version copied known : ℕ) (content : List ℕ) (count word : ℕ) (p : Pass) : Type 0 where
-  later : p.walk.known ≤ known
+  later : p.searching.known ≤ known
   at : AtReply layout place size number version copied content p
   count_is : count ≡ min (reply_in size - 8 * copied) 8
   read : Read p known (8 + key_words p + copied) word
@@ -174,10 +174,10 @@ said_more : (layout : Layout) (place size number version copied known : ℕ) (co
     → Tells (fixed_at known p) (λ e. (length e.answer.bytes ≡ reply_in size) × (take (8 * (copied + 1)) e.answer.bytes ≡ with_word content count word))
 said_more layout place size number version copied known content count word p c steady e on =
     let node = c.at.found.found.found.node in
-    let before = steady_before p.seen known p.walk.gone p c.later node.begun steady in
+    let before = steady_before p.seen known p.searching.gone p c.later node.begun steady in
     let within = node.within before e on in
     let is : reply_in size ≡ length e.answer.bytes = length_of size (length e.answer.bytes) e.answer.not_found within.reply (c.at.found.found.sized before e on) in
-    let key : length e.request.key ≡ length p.walk.request.key = ap (λ r. length r.key) (c.at.found.found.found.answers before e on) in
+    let key : length e.request.key ≡ length p.searching.request.key = ap (λ r. length r.key) (c.at.found.found.found.answers before e on) in
     let few : copied < words_for (reply_in size) = c.at.few in
     let inside : copied < words_for (length e.answer.bytes) = omega arith in
     let index : 8 + key_words p + copied ≡ 8 + words_for (length e.request.key) + copied = ap (λ (n : ℕ). 8 + words_for n + copied) (sym key) in
@@ -186,7 +186,7 @@ said_more layout place size number version copied known content count word p c s
     let count_is : count ≡ min (length e.answer.bytes - 8 * copied) 8 = c.count_is ∙ ap (λ (n : ℕ). min (n - 8 * copied) 8) is in
     (sym is, word_said e.answer.bytes content copied count word within.reply_bytes more count_is holds (c.at.said before e on))
 
-pub reply_more : (layout : Layout) (place size number version copied known : ℕ) (content : List ℕ) (count word : ℕ) (p : Pass) → p.walk.known ≤ known → AtReply layout place size number version copied content p → count ≡ min (reply_in size - 8 * copied) 8 → Read p known (8 + key_words p + copied) word
+pub reply_more : (layout : Layout) (place size number version copied known : ℕ) (content : List ℕ) (count word : ℕ) (p : Pass) → p.searching.known ≤ known → AtReply layout place size number version copied content p → count ≡ min (reply_in size - 8 * copied) 8 → Read p known (8 + key_words p + copied) word
     → copied + 1 < words_for (reply_in size) → AtReply layout place size number version (copied + 1) (with_word content count word) (fixed_at known p)
 reply_more layout place size number version copied known content count word p later at is read more =
     let c : Copies layout place size number version copied known content count word p = record { later = later; at = at; count_is = is; read = read } in
@@ -196,16 +196,16 @@ reply_more layout place size number version copied known content count word p la
     let eight : length (little_bytes 8 word) ≡ 8 = length-bytes_low_first 0 8 word in
     record {
       found = version_at layout place size number known p later at.found;
-      of_version = λ steady e on. at.of_version (steady_before p.seen known p.walk.gone p later at.found.found.found.node.begun steady) e on;
+      of_version = λ steady e on. at.of_version (steady_before p.seen known p.searching.gone p later at.found.found.found.node.begun steady) e on;
       few = more;
       filled = omega arith;
       said = λ steady e on. (said_more layout place size number version copied known content count word p c steady e on).1;
     }
 
-pub reply_last : (layout : Layout) (place size number version copied known : ℕ) (content : List ℕ) (count word : ℕ) (not_found : Bool) (p : Pass) → p.walk.known ≤ known → AtReply layout place size number version copied content p → count ≡ min (reply_in size - 8 * copied) 8 → Read p known (8 + key_words p + copied) word
+pub reply_last : (layout : Layout) (place size number version copied known : ℕ) (content : List ℕ) (count word : ℕ) (not_found : Bool) (p : Pass) → p.searching.known ≤ known → AtReply layout place size number version copied content p → count ≡ min (reply_in size - 8 * copied) 8 → Read p known (8 + key_words p + copied) word
     → words_for (reply_in size) ≤ copied + 1 → not_found ≡ eqb (size % 2) 1 → AtLast (with_word content count word) (Hit number version not_found) (fixed_at known p)
 reply_last layout place size number version copied known content count word not_found p later at is read last mark =
     let c : Copies layout place size number version copied known content count word p = record { later = later; at = at; count_is = is; read = read } in
     copied_all layout place size number version known (with_word content count word) not_found p later at.found mark
-    (λ steady e on. at.of_version (steady_before p.seen known p.walk.gone p later at.found.found.found.node.begun steady) e on)
+    (λ steady e on. at.of_version (steady_before p.seen known p.searching.gone p later at.found.found.found.node.begun steady) e on)
     (λ steady e on same. let said = said_more layout place size number version copied known content count word p c steady e on in let short : length e.answer.bytes ≤ 8 * (copied + 1) = omega arith in sym (take_all (8 * (copied + 1)) e.answer.bytes short) ∙ said.1)

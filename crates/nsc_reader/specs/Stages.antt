@@ -13,14 +13,14 @@ use Rattle.nsc_model.specs.declared.kind.Kind.{Kind}
 use Rattle.nsc_model.specs.declared.record.Record.{Record}
 use Rattle.nsc_rule.specs.Entries.{request_bucket}
 use Rattle.nsc_rule.specs.Pass.{Pass}
-use Rattle.nsc_rule.specs.Walks.{IsSteady, IsWithin, MayPass}
-use Rattle.nsc_reader.specs.declared.in_place.InPlace.{InPlace}
-use Rattle.nsc_reader.specs.declared.in_place.InPlace.TheVariants.{Hit, Odd, Moved, NoEntry}
+use Rattle.nsc_rule.specs.Searches.{IsSteady, IsWithin, MayPass}
+use Rattle.nsc_model.specs.declared.in_place.InPlace.{InPlace}
+use Rattle.nsc_model.specs.declared.in_place.InPlace.TheVariants.{Hit, Odd, Moved, NoEntry}
 use Rattle.nsc_reader.specs.declared.stage.Progress.{Progress}
 use Rattle.nsc_reader.specs.declared.stage.Progress.TheVariants.{New, Under, Answered}
 use Rattle.nsc_reader.specs.declared.stage.Stage.{Stage}
 use Rattle.nsc_reader.specs.declared.stage.Stage.TheVariants.{Bucket, FirstWord, Shape, KeyWord, State, Next, Size, Number, Version, Reply, Last}
-use Rattle.nsc_reader.specs.InPlace.{InPlaceClause}
+use Rattle.nsc_model.specs.InPlace.{InPlaceClause}
 
 abbrev pub asked : Kind → List ℕ → Request
 asked kind key = record { kind = kind; key = key }
@@ -29,48 +29,48 @@ asked kind key = record { kind = kind; key = key }
 
 -- a search began while CYCLE was even
 pub record Begun (p : Pass) : Type 0 where
-  pub even : p.walk.first % 2 ≡ 0
-  pub known : p.walk.first ≤ p.walk.known
-  pub began : IsPrefix p.walk.began p.seen
+  pub even : p.searching.first % 2 ≡ 0
+  pub known : p.searching.first ≤ p.searching.known
+  pub began : IsPrefix p.searching.began p.seen
 
 -- the entry on which the pass stands is such a one, if its search is steady
 abbrev pub Tells : Pass → (Entry → Type 0) → Type 0
-Tells p P = IsSteady p.walk → (e : Entry) → p.walk.on ≡ Some e → P e
+Tells p P = IsSteady p.searching → (e : Entry) → p.searching.on ≡ Some e → P e
 
 -- a word of the chain led to a place: to no node, or to one
 pub record Arrives (layout : Layout) (found : ℕ) (p : Pass) : Type 0 where
   pub begun : Begun p
-  pub place_is : p.walk.place ≡ found
-  pub on : found ≢ 0 → (e : Entry) × (p.walk.on ≡ Some e)
+  pub place_is : p.searching.place ≡ found
+  pub on : found ≢ 0 → (e : Entry) × (p.searching.on ≡ Some e)
   pub within : found ≢ 0 → Tells p (λ e. IsWithin layout found e)
 
 -- the search stands on a node at a place, whose first eight words can be loaded
 pub record OnNode (layout : Layout) (place : ℕ) (p : Pass) : Type 0 where
   pub begun : Begun p
-  pub place_is : p.walk.place ≡ place
+  pub place_is : p.searching.place ≡ place
   pub inside : place + 8 ≤ table_words layout
-  pub on : (e : Entry) × (p.walk.on ≡ Some e)
+  pub on : (e : Entry) × (p.searching.on ≡ Some e)
   pub within : Tells p (λ e. IsWithin layout place e)
 
 -- how many words the key takes that is searched for
 abbrev pub key_words : Pass → ℕ
-key_words p = words_for (length p.walk.request.key)
+key_words p = words_for (length p.searching.request.key)
 
 -- so many words of an entry's key are those of the key that is searched for
 abbrev pub HasWords : Pass → ℕ → Entry → Type 0
-HasWords p compared e = (i : ℕ) → i < compared → i < words_for (length e.request.key) → word_of e.request.key i ≡ word_of p.walk.request.key i
+HasWords p compared e = (i : ℕ) → i < compared → i < words_for (length e.request.key) → word_of e.request.key i ≡ word_of p.searching.request.key i
 
 -- ---- the stages
 
 -- the bucket's word
 pub record AtBucket (layout : Layout) (bucket : ℕ) (p : Pass) : Type 0 where
   pub begun : Begun p
-  pub bucket_is : bucket ≡ request_bucket layout p.walk.request
+  pub bucket_is : bucket ≡ request_bucket layout p.searching.request
 
 -- the first word of the key
 pub record AtFirstWord (layout : Layout) (place : ℕ) (p : Pass) : Type 0 where
   pub node : OnNode layout place p
-  pub some : 0 < length p.walk.request.key
+  pub some : 0 < length p.searching.request.key
   pub room : place + 8 < table_words layout
 
 -- SHAPE
@@ -84,26 +84,26 @@ pub record AtKeyWord (layout : Layout) (place compared : ℕ) (p : Pass) : Type 
   pub node : OnNode layout place p
   pub few : compared < key_words p
   pub room : place + 8 + key_words p ≤ table_words layout
-  pub kind : Tells p (λ e. e.request.kind ≡ p.walk.request.kind)
-  pub size : Tells p (λ e. length e.request.key ≡ length p.walk.request.key)
+  pub kind : Tells p (λ e. e.request.kind ≡ p.searching.request.kind)
+  pub size : Tells p (λ e. length e.request.key ≡ length p.searching.request.key)
   pub same : Tells p (HasWords p compared)
 
 -- STATE
 pub record AtState (layout : Layout) (place : ℕ) (p : Pass) : Type 0 where
   pub node : OnNode layout place p
   pub room : place + 8 + key_words p ≤ table_words layout
-  pub answers : Tells p (λ e. e.request ≡ p.walk.request)
+  pub answers : Tells p (λ e. e.request ≡ p.searching.request)
 
 -- NEXT
 pub record AtNext (layout : Layout) (place : ℕ) (p : Pass) : Type 0 where
   pub node : OnNode layout place p
-  pub passed : MayPass p.walk
+  pub passed : MayPass p.searching
 
 -- SIZE: the entry answers, and was usable
 pub record AtSize (layout : Layout) (place : ℕ) (p : Pass) : Type 0 where
   pub node : OnNode layout place p
   pub room : place + 8 + key_words p ≤ table_words layout
-  pub answers : Tells p (λ e. e.request ≡ p.walk.request)
+  pub answers : Tells p (λ e. e.request ≡ p.searching.request)
   pub live : Tells p (λ e. IsLive p.seen e)
 
 -- the length of a reply in a SIZE, whatever word that is
@@ -132,7 +132,7 @@ pub record AtReply (layout : Layout) (place size number version copied : ℕ) (c
 
 -- the entry answers and was usable, and has this number, version and mark, and the reply that the buffer holds
 pub record IsCopied (p : Pass) (content : List ℕ) (number version : ℕ) (not_found : Bool) (e : Entry) : Type 0 where
-  pub answers : e.request ≡ p.walk.request
+  pub answers : e.request ≡ p.searching.request
   pub live : IsLive p.seen e
   pub numbered : e.number ≡ number
   pub of_version : e.version ≡ version
@@ -141,10 +141,10 @@ pub record IsCopied (p : Pass) (content : List ℕ) (number version : ℕ) (not_
 
 -- what it may answer at its end: a hit, or that the chain is at its end
 abbrev pub MayAnswer : List ℕ → Pass → InPlace → Type 0
-MayAnswer content p (Hit number version not_found) = ((e : Entry) × (p.walk.on ≡ Some e)) × Tells p (IsCopied p content number version not_found)
+MayAnswer content p (Hit number version not_found) = ((e : Entry) × (p.searching.on ≡ Some e)) × Tells p (IsCopied p content number version not_found)
 MayAnswer content p (Odd cycle) = ⊥
 MayAnswer content p (Moved from to) = ⊥
-MayAnswer content p NoEntry = IsSteady p.walk → p.walk.place ≡ 0
+MayAnswer content p NoEntry = IsSteady p.searching → p.searching.place ≡ 0
 
 -- CYCLE, for the last time
 pub record AtLast (content : List ℕ) (answer : InPlace) (p : Pass) : Type 0 where
@@ -186,14 +186,15 @@ left layout New = 20000 * table_words layout + 1
 left layout (Under first stage) = left_at layout stage
 left layout (Answered answer) = 0
 
--- what a search under way keeps at each step
+-- what a search under way keeps at each step, which loads one word
 pub record Keeps (old new : Pass) : Type 0 where
   pub table : new.table ≡ old.table
   pub before : IsPrefix old.seen new.seen
-  pub began : new.walk.began ≡ old.walk.began
-  pub searches : new.walk.searches ≡ old.walk.searches
-  pub first : new.walk.first ≡ old.walk.first
-  pub request : new.walk.request ≡ old.walk.request
+  pub began : new.searching.began ≡ old.searching.began
+  pub steps : new.searching.steps ≡ old.searching.steps + 1
+  pub searches : new.searching.searches ≡ old.searching.searches
+  pub first : new.searching.first ≡ old.searching.first
+  pub request : new.searching.request ≡ old.searching.request
 
 -- a step of a search under way, which then comes to a stage with fewer steps left
 pub record Goes (layout : Layout) (old new : Pass) (content : List ℕ) (most : ℕ) (stage : Stage) : Type 0 where
@@ -204,10 +205,10 @@ pub record Goes (layout : Layout) (old new : Pass) (content : List ℕ) (most : 
 -- ---- whole searches
 
 -- how far it has come, with what the pass and the buffer have then
-abbrev pub Stands : Layout → Request → List ℕ → Pass → Progress → Type 0
-Stands layout request content p New = Unit {0}
-Stands layout request content p (Under first stage) = (p.walk.first ≡ first) × (p.walk.request ≡ request) × AtStage layout content stage p
-Stands layout request content p (Answered answer) = InPlaceClause p.walk.began p.seen request p.walk.first p.walk.last content answer
+abbrev pub HasCome : Layout → Request → List ℕ → Pass → Progress → Type 0
+HasCome layout request content p New = Unit {0}
+HasCome layout request content p (Under first stage) = (p.searching.first ≡ first) × (p.searching.request ≡ request) × AtStage layout content stage p
+HasCome layout request content p (Answered answer) = InPlaceClause p.searching.began p.seen request p.searching.first p.searching.last content answer
 
 -- it has not answered
 abbrev pub IsOpen : Progress → Type 0
@@ -229,21 +230,22 @@ answer_in (Answered answer) = Some answer
 -- what the pass had seen when the search began
 abbrev pub seen_before : Progress → Pass → List Record
 seen_before New p = p.seen
-seen_before (Under first stage) p = p.walk.began
-seen_before (Answered answer) p = p.walk.began
+seen_before (Under first stage) p = p.searching.began
+seen_before (Answered answer) p = p.searching.began
 
 -- how many searches it has begun, once this one has
 abbrev pub searches_with : Progress → Pass → ℕ
-searches_with New p = p.walk.searches + 1
-searches_with (Under first stage) p = p.walk.searches
-searches_with (Answered answer) p = p.walk.searches
+searches_with New p = p.searching.searches + 1
+searches_with (Under first stage) p = p.searching.searches
+searches_with (Answered answer) p = p.searching.searches
 
--- one step
+-- one step, which loads one word
 pub record Steps (layout : Layout) (request : Request) (was : Progress) (old new : Pass) (content : List ℕ) (progress : Progress) : Type 0 where
   pub table : new.table ≡ old.table
   pub before : IsPrefix old.seen new.seen
-  pub began : IsPrefix (seen_before was old) new.walk.began
-  pub searches : new.walk.searches ≡ searches_with was old
-  pub stands : Stands layout request content new progress
+  pub began : IsPrefix (seen_before was old) new.searching.began
+  pub steps : new.searching.steps ≡ old.searching.steps + 1
+  pub searches : new.searching.searches ≡ searches_with was old
+  pub stands : HasCome layout request content new progress
   pub has_begun : HasBegun progress
   pub fewer : left layout progress < left layout was

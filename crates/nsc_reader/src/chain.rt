@@ -4,15 +4,15 @@ ghost use Rattle.nsc_words.specs.Layout.{IsLayout, table_words};
 ghost use Rattle.nsc_rule.specs.Pass.{Pass};
 ghost use Rattle.nsc_reader.specs.Stages.{Arrives, AtBucket, AtNext, AtStage, Goes, left_at};
 
-use crate::in_place::InPlace;
 use crate::stage::Stage;
+use nsc_model::InPlace;
 use nsc_rule::{Map, Pass};
 use nsc_words::{KEY, Layout, NEXT};
 
 // Loads the word of the bucket.
 pub(crate) fn load_bucket(pass: &mut Pass, map: &Map, key: &[u8], bucket: usize) -> Stage
     requires map { map.now.table ≡ pass.old.table }
-    requires key { pass.old.walk.request.key ≡ key.now }
+    requires key { pass.old.searching.request.key ≡ key.now }
     requires at { AtBucket map.now.layout bucket pass.old }
     ensures goes { (content : List ℕ) → Goes map.now.layout pass.old pass.new content (20000 * table_words map.now.layout) result }
 {
@@ -24,7 +24,7 @@ pub(crate) fn load_bucket(pass: &mut Pass, map: &Map, key: &[u8], bucket: usize)
 // Loads NEXT. It must be below the place of the node.
 pub(crate) fn load_next(pass: &mut Pass, map: &Map, key: &[u8], place: usize) -> Stage
     requires map { map.now.table ≡ pass.old.table }
-    requires key { pass.old.walk.request.key ≡ key.now }
+    requires key { pass.old.searching.request.key ≡ key.now }
     requires at { AtNext map.now.layout place pass.old }
     ensures goes { (content : List ℕ) → Goes map.now.layout pass.old pass.new content (20000 * place + 2) result }
 {
@@ -41,7 +41,7 @@ pub(crate) fn load_next(pass: &mut Pass, map: &Map, key: &[u8], place: usize) ->
 // What is loaded first where a word of a chain leads.
 fn arrive(layout: Layout, found: u64, key: &[u8]) -> Stage
     requires { IsLayout layout }
-    ensures at { (content : List ℕ) (p : Pass) → p.walk.request.key ≡ key.now → Arrives layout found p → AtStage layout content result p }
+    ensures at { (content : List ℕ) (p : Pass) → p.searching.request.key ≡ key.now → Arrives layout found p → AtStage layout content result p }
     ensures fewer { left_at layout result < 20000 * table_words layout }
     ensures lower { (place : ℕ) → found < place → left_at layout result < 20000 * place + 2 }
 {

@@ -1,13 +1,12 @@
 // The first and the last load of a search.
 ghost use Rattle.std.specs.Prelude.{◌≡◌};
 ghost use Rattle.nsc_model.specs.declared.answer.Request.{Request};
-ghost use Rattle.nsc_reader.specs.InPlace.{InPlaceClause};
+ghost use Rattle.nsc_model.specs.InPlace.{InPlaceClause};
 ghost use Rattle.nsc_reader.specs.Stages.{AtLast, Keeps, Steps, asked};
 
-use crate::in_place::InPlace;
 use crate::stage::{Progress, Stage};
 use nsc_base::Buf;
-use nsc_model::Kind;
+use nsc_model::{InPlace, Kind};
 use nsc_rule::{Map, Pass};
 use nsc_words::hash;
 
@@ -48,10 +47,10 @@ pub(crate) fn load_last(
     answer: InPlace,
 ) -> InPlace
     requires map { map.now.table ≡ pass.old.table }
-    requires first { pass.old.walk.first ≡ first }
+    requires first { pass.old.searching.first ≡ first }
     requires at { AtLast out.old.content answer pass.old }
     ensures keeps { Keeps pass.old pass.new }
-    ensures answer { InPlaceClause pass.new.walk.began pass.new.seen pass.new.walk.request pass.new.walk.first pass.new.walk.last out.new.content result }
+    ensures answer { InPlaceClause pass.new.searching.began pass.new.seen pass.new.searching.request pass.new.searching.first pass.new.searching.last out.new.content result }
     ensures limit { out.new.limit ≡ out.old.limit }
 {
     let last = pass.last_cycle(map);

@@ -4,16 +4,15 @@ ghost use Rattle.nsc_model.specs.Entry.{key_limit};
 ghost use Rattle.nsc_words.specs.Layout.{table_words};
 ghost use Rattle.nsc_reader.specs.Stages.{AtFirstWord, AtKeyWord, AtShape, Goes, asked};
 
-use crate::in_place::InPlace;
 use crate::stage::Stage;
-use nsc_model::Kind;
+use nsc_model::{InPlace, Kind};
 use nsc_rule::{Map, Pass};
 use nsc_words::{KEY, SHAPE, shape, word_of};
 
 // Loads the first word of the key.
 pub(crate) fn load_first_word(pass: &mut Pass, map: &Map, key: &[u8], place: usize) -> Stage
     requires map { map.now.table ≡ pass.old.table }
-    requires key { pass.old.walk.request.key ≡ key.now }
+    requires key { pass.old.searching.request.key ≡ key.now }
     requires at { AtFirstWord map.now.layout place pass.old }
     ensures goes { (content : List ℕ) → Goes map.now.layout pass.old pass.new content (20000 * place + 9500) result }
 {
@@ -35,7 +34,7 @@ pub(crate) fn load_shape(
     compared: usize,
 ) -> Stage
     requires map { map.now.table ≡ pass.old.table }
-    requires request { pass.old.walk.request ≡ asked kind key.now }
+    requires request { pass.old.searching.request ≡ asked kind key.now }
     requires size { length key.now ≤ key_limit }
     requires at { AtShape map.now.layout place compared pass.old }
     ensures goes { (content : List ℕ) → Goes map.now.layout pass.old pass.new content (20000 * place + 9400) result }
@@ -66,7 +65,7 @@ pub(crate) fn load_key_word(
     compared: usize,
 ) -> Stage
     requires map { map.now.table ≡ pass.old.table }
-    requires key { pass.old.walk.request.key ≡ key.now }
+    requires key { pass.old.searching.request.key ≡ key.now }
     requires size { length key.now ≤ key_limit }
     requires at { AtKeyWord map.now.layout place compared pass.old }
     ensures goes { (content : List ℕ) → Goes map.now.layout pass.old pass.new content (20000 * place + 9300 - compared) result }

@@ -4,13 +4,11 @@
 
 mod chain;
 mod ends;
-mod in_place;
 mod key;
 mod reply;
 mod searching;
 mod stage;
 mod walk;
 
-pub use in_place::InPlace;
 pub use searching::search;
 pub use walk::Walk;

@@ -4,14 +4,11 @@ ghost use Rattle.nsc_model.specs.Entry.{kept_limit};
 ghost use Rattle.nsc_words.specs.Layout.{table_words};
 ghost use Rattle.nsc_reader.specs.Stages.{AtNumber, AtReply, AtSize, AtStage, AtState, AtVersion, Goes, asked, left_at, reply_in};
 
-use crate::in_place::InPlace;
 use crate::stage::Stage;
 use nsc_base::Buf;
+use nsc_model::{InPlace, KEPT_LIMIT};
 use nsc_rule::{Map, Pass};
 use nsc_words::{KEY, NUMBER, SIZE, STATE, VERSION, size_len, size_not_found};
-
-// How many bytes of a reply are kept at most.
-const KEPT_LIMIT: usize = 65_536;
 
 // Loads STATE.
 pub(crate) fn load_state(pass: &mut Pass, map: &Map, place: usize) -> Stage
@@ -30,7 +27,7 @@ pub(crate) fn load_state(pass: &mut Pass, map: &Map, place: usize) -> Stage
 // Loads SIZE.
 pub(crate) fn load_size(pass: &mut Pass, map: &Map, key: &[u8], place: usize) -> Stage
     requires map { map.now.table ≡ pass.old.table }
-    requires key { pass.old.walk.request.key ≡ key.now }
+    requires key { pass.old.searching.request.key ≡ key.now }
     requires at { AtSize map.now.layout place pass.old }
     ensures goes { (content : List ℕ) → Goes map.now.layout pass.old pass.new content (20000 * place + 9003) result }
 {
@@ -108,7 +105,7 @@ pub(crate) fn load_reply(
     copied: usize,
 ) -> Stage
     requires map { map.now.table ≡ pass.old.table }
-    requires key { pass.old.walk.request.key ≡ key.now }
+    requires key { pass.old.searching.request.key ≡ key.now }
     requires limit { out.old.limit ≡ kept_limit }
     requires at { AtReply map.now.layout place size number version copied out.old.content pass.old }
     ensures goes { Goes map.now.layout pass.old pass.new out.new.content (20000 * place + 9000 - copied) result }

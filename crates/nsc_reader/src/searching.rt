@@ -1,13 +1,12 @@
 ghost use Rattle.std.specs.Prelude.{◌≡◌, ◌+◌, ◌≤◌, length};
 ghost use Rattle.nsc_model.specs.Entry.{key_limit, kept_limit};
 ghost use Rattle.nsc_model.specs.History.{IsPrefix, Legal};
-ghost use Rattle.nsc_reader.specs.InPlace.{InPlaceClause};
+ghost use Rattle.nsc_model.specs.InPlace.{InPlaceClause};
 ghost use Rattle.nsc_reader.specs.Stages.{asked};
 
-use crate::in_place::InPlace;
 use crate::walk::Walk;
 use nsc_base::Buf;
-use nsc_model::Kind;
+use nsc_model::{InPlace, Kind};
 use nsc_rule::{Map, Pass};
 
 /// Searches for the newest usable entry of this kind and key while the one who writes goes on. It takes no lock, no memory and no runtime.
@@ -18,8 +17,8 @@ pub fn search(pass: &mut Pass, map: &Map, kind: Kind, key: &[u8], out: &mut Buf)
     ensures table { pass.new.table ≡ pass.old.table }
     ensures limit { out.new.limit ≡ out.old.limit }
     ensures before { IsPrefix pass.old.seen pass.new.seen }
-    ensures searches { pass.new.walk.searches ≡ pass.old.walk.searches + 1 }
-    ensures answer { InPlaceClause pass.old.seen pass.new.seen (asked kind key.now) pass.new.walk.first pass.new.walk.last out.new.content result }
+    ensures searches { pass.new.searching.searches ≡ pass.old.searching.searches + 1 }
+    ensures answer { InPlaceClause pass.old.seen pass.new.seen (asked kind key.now) pass.new.searching.first pass.new.searching.last out.new.content result }
 {
     let mut walk = Walk::new(kind);
     'walk: loop {

@@ -1,5 +1,5 @@
 // How far a search has come.
-use crate::in_place::InPlace;
+use nsc_model::InPlace;
 
 /// Which word a search loads next. A place is that of the node where it stands.
 #[derive(Clone, Copy, Debug, PartialEq, Eq)]

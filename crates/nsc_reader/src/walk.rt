@@ -1,15 +1,14 @@
 ghost use Rattle.std.specs.Prelude.{◌≡◌, ◌≤◌, length};
 ghost use Rattle.nsc_model.specs.Entry.{key_limit, kept_limit};
-ghost use Rattle.nsc_reader.specs.Stages.{AtStage, IsOpen, Stands, Steps, answer_in, asked};
+ghost use Rattle.nsc_reader.specs.Stages.{AtStage, IsOpen, HasCome, Steps, answer_in, asked};
 
 use crate::chain::{load_bucket, load_next};
 use crate::ends::{load_first, load_last};
-use crate::in_place::InPlace;
 use crate::key::{load_first_word, load_key_word, load_shape};
 use crate::reply::{load_number, load_reply, load_size, load_state, load_version};
 use crate::stage::{Progress, Stage};
 use nsc_base::Buf;
-use nsc_model::Kind;
+use nsc_model::{InPlace, Kind};
 use nsc_rule::{Map, Pass};
 
 /// A search without a lock, step by step. It walks the chain of the request's bucket from the newest entry on, and copies the reply of the
@@ -40,7 +39,7 @@ impl Walk {
         requires key { length key.now ≤ key_limit }
         requires limit { out.old.limit ≡ kept_limit }
         requires open { IsOpen self.old.progress }
-        requires stands { Stands map.now.layout (asked self.old.kind key.now) out.old.content pass.old self.old.progress }
+        requires stands { HasCome map.now.layout (asked self.old.kind key.now) out.old.content pass.old self.old.progress }
         ensures kind { self.new.kind ≡ self.old.kind }
         ensures limit { out.new.limit ≡ out.old.limit }
         ensures steps { Steps map.now.layout (asked self.old.kind key.now) self.old.progress pass.old pass.new out.new.content self.new.progress }
@@ -79,8 +78,8 @@ fn go_on(
     requires map { map.now.table ≡ pass.old.table }
     requires key { length key.now ≤ key_limit }
     requires limit { out.old.limit ≡ kept_limit }
-    requires first { pass.old.walk.first ≡ first }
-    requires request { pass.old.walk.request ≡ asked kind key.now }
+    requires first { pass.old.searching.first ≡ first }
+    requires request { pass.old.searching.request ≡ asked kind key.now }
     requires at { AtStage map.now.layout out.old.content stage pass.old }
     ensures limit { out.new.limit ≡ out.old.limit }
     ensures steps { Steps map.now.layout (asked kind key.now) (Progress.Under first stage) pass.old pass.new out.new.content result }

@@ -7,11 +7,10 @@ use Rattle.std.proofs.lemmas.Bool.Decides.{same_from_decides}
 use Rattle.std.proofs.lemmas.List.{length-map, map-append}
 use Rattle.std.proofs.lemmas.Slice.Eq.{bytes_eq-Decides}
 use Rattle.nsc_words.specs.declared.layout.Layout.{Layout}
-use Rattle.nsc_words.specs.declared.node.Node.{Node}
 use Rattle.nsc_words.specs.declared.node.Placed.{Placed}
 use Rattle.nsc_words.specs.Laid.{Among, Laid, Rising, answers, end_of, place_of}
 use Rattle.nsc_words.specs.Layout.{IsLayout, arena_start}
-use Rattle.nsc_arena.specs.Changes.{IsMark, IsNext, IsPlaced, changed_at, ended, usable_at, with_reloads}
+use Rattle.nsc_arena.specs.Changes.{IsMark, changed_at, ended, with_reloads}
 use Rattle.nsc_arena.specs.ReadBack.{nodes_in}
 use Rattle.nsc_arena.specs.Written.{IsSameHead}
 use Rattle.nsc_arena.proofs.ReadBack.{read_back}
@@ -266,11 +265,6 @@ kind_back Ai = refl
 kind_back InitGroups = refl
 kind_back ServName = refl
 kind_back ServPort = refl
-
--- the node that was written behind the others may be linked
-pub next_after : (old mid : List ℕ) (layout : Layout) (count : ℕ) (mark : Mark) (at : ℕ) (n : Node) → IsShelf old layout count mark → IsPlaced layout n old mid (Some at) → Laid mid layout (nodes_in old layout) → n.number ≡ slice_index old 4 → IsNext mid layout (nodes_in old layout) (usable_at at n)
-next_after old mid layout count mark at n is placed laid number =
-    record { laid = laid; place = placed.0 ∙ is.laid.first_free; room = placed.1; usable = refl; stands = placed.2; newest = λ q among. omega (arith, is.entries.numbers q among, number) }
 
 pub new_entries : (nodes : List Placed) (p : Placed) (inserted : ℕ) (kind : Kind) → AreEntries nodes inserted → p.node.kind ≡ type_number kind → p.node.number ≡ inserted → live_entry (request_in p) (entries_in nodes) ≡ None → AreEntries (p ∷ nodes) (inserted + 1)
 new_entries nodes p inserted kind are is number none =

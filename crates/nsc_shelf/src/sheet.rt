@@ -1,9 +1,9 @@
 // The words of a table, as its one pen writes them.
-ghost use Rattle.std.specs.Prelude.{◌≡◌, ◌≢◌, ◌⊎◌, ◌+◌, ◌<◌, ◌≤◌, ◌==◌, if◌then◌else◌, true, Some, length, slice_index};
+ghost use Rattle.std.specs.Prelude.{◌≡◌, ◌≢◌, ◌⊎◌, ◌+◌, ◌<◌, ◌≤◌, ◌==◌, if◌then◌else◌, false, true, Some, length, slice_index};
 ghost use Rattle.nsc_model.specs.History.{IsPrefix, NoneLive, loads, newest};
 ghost use Rattle.nsc_model.specs.Machine.{last_count, next_count};
-ghost use Rattle.nsc_rule.specs.Plans.{IsEven, IsOdd, Sound, end_in};
-ghost use Rattle.nsc_rule.specs.Seats.{resting};
+ghost use Rattle.nsc_rule.specs.Plans.{IsEven, IsOdd, Sound, cycle_of, end_in};
+ghost use Rattle.nsc_rule.specs.Seats.{informed, rested};
 ghost use Rattle.nsc_rule.specs.Strokes.{HasNode, IsReady, MayEnd, ShowsAgain, begun, changed, cleared, finished, invalidation_added, node_counted, poll_added, published, reloads_stored, stored};
 
 use crate::finding::Found;
@@ -65,19 +65,19 @@ impl Sheet {
         self.pen.head(at)
     }
 
-    /// A pass that has seen the whole history, with no search.
+    /// A pass that has seen the whole history, and knows CYCLE, with no search.
     pub fn pass(&mut self) -> Pass
         ensures same { self.new ≡ self.old }
-        ensures pass { result ≡ record { table = self.old.table; seen = self.old.plan.seen; walk = resting } }
+        ensures pass { result ≡ record { table = self.old.table; seen = self.old.plan.seen; retired = false; searching = rested (cycle_of self.old.plan) } }
     {
         self.pen.pass(&self.map)
     }
 
-    /// The pass has seen the whole history then, which begins with what it had seen. Its search stays.
+    /// The pass has seen the whole history then, which begins with what it had seen, and knows CYCLE. Its search stays.
     pub fn show(&mut self, pass: &mut Pass)
         requires { pass.old.table ≡ self.old.table }
         ensures same { self.new ≡ self.old }
-        ensures pass { pass.new ≡ record pass.old { seen = self.old.plan.seen } }
+        ensures pass { pass.new ≡ record pass.old { seen = self.old.plan.seen; retired = false; searching = informed pass.old.searching (cycle_of self.old.plan) } }
         ensures before { IsPrefix pass.old.seen self.old.plan.seen }
     {
         self.pen.show(&self.map, pass);
@@ -235,8 +235,11 @@ impl Words for Sheet {
         self.pen.load(&self.map, at)
     }
 
+    // A word that stands there already is not stored again: a store takes as long as many loads.
     fn set(&mut self, at: usize, value: u64) {
         self.pen.learn();
-        self.pen.store(&self.map, at, value);
+        if self.pen.load(&self.map, at) != value {
+            self.pen.store(&self.map, at, value);
+        }
     }
 }

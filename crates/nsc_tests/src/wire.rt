@@ -4,7 +4,7 @@ ghost use Rattle.nsc_model.specs.Wire.{IsReplyOf, spelled};
 
 use nsc_base::{Bytes, NoMemory, Span};
 use nsc_model::{Kind, Passwd, Row};
-use nsc_wire::{Reply, Wire, encode, read_request};
+use nsc_wire::{Reply, ReplyFault, Wire, decode_reply, encode, read_request};
 use std::alloc::Global;
 use std::test::Fail;
 
@@ -100,4 +100,93 @@ fn unanswered_requests(rt: HostRuntime) {
     for (bytes, wire) in &UNANSWERED {
         assert_eq!(rt; read_request(bytes), *wire, "at {bytes:?}");
     }
+}
+
+// The reply that has root, and the one on a user who is not there.
+const ROOT: &[u8] =
+    b"\x02\0\0\0\x01\0\0\0\x05\0\0\0\x02\0\0\0\0\0\0\0\0\0\0\0\x05\0\0\0\x06\0\0\0\x0a\0\0\0root\0x\0root\0/root\0/bin/bash\0";
+
+const NOBODY: &[u8] =
+    b"\x02\0\0\0\0\0\0\0\0\0\0\0\0\0\0\0\xff\xff\xff\xff\xff\xff\xff\xff\0\0\0\0\0\0\0\0\0\0\0\0";
+
+// A reply that is found, of each kind of row.
+const FOUND: [(Kind, &[u8]); 5] = [
+    (Kind::PwName, ROOT),
+    (
+        Kind::GrName,
+        b"\x02\0\0\0\x01\0\0\0\x04\0\0\0\x02\0\0\0\x04\0\0\0\x02\0\0\0\x07\0\0\0\x04\0\0\0adm\0x\0syslog\0ann\0",
+    ),
+    (
+        Kind::InitGroups,
+        b"\x02\0\0\0\x01\0\0\0\x02\0\0\0\x04\0\0\0\x64\0\0\0",
+    ),
+    (
+        Kind::HostName,
+        b"\x02\0\0\0\x01\0\0\0\x06\0\0\0\x01\0\0\0\x02\0\0\0\x04\0\0\0\x01\0\0\0\0\0\0\0alpha\0\x03\0\0\0\x0a\0\0\x01a1\0",
+    ),
+    (
+        Kind::ServPort,
+        b"\x02\0\0\0\x01\0\0\0\x04\0\0\0\x04\0\0\0\0\0\0\0\0\x16\0\0ssh\0tcp\0",
+    ),
+];
+
+// Two addresses of alpha, one of each family.
+const ALPHA: &[u8] =
+    b"\x02\0\0\0\x01\0\0\0\x02\0\0\0\x14\0\0\0\x06\0\0\0\0\0\0\0\x0a\0\0\x01\xfd\0\0\0\0\0\0\0\0\0\0\0\0\0\0\x01\x02\x0aalpha\0";
+
+// What was read of bytes, without the row.
+#[derive(Clone, Copy, Debug, PartialEq, Eq)]
+enum Decoded {
+    Row,
+    Absent,
+    Disabled,
+    Bad(usize),
+    NoMemory,
+}
+
+fn read(alloc: Global, kind: Kind, bytes: &[u8]) -> Decoded {
+    match decode_reply(alloc, kind, bytes) {
+        Ok(Reply::Found(_)) => Decoded::Row,
+        Ok(Reply::Absent) => Decoded::Absent,
+        Ok(Reply::Disabled) => Decoded::Disabled,
+        Err(ReplyFault::BadReply { at }) => Decoded::Bad(at),
+        Err(ReplyFault::NoMemory) => Decoded::NoMemory,
+    }
+}
+
+#[test]
+fn rows_read_back(rt: HostRuntime) {
+    for (kind, bytes) in &FOUND {
+        assert_eq!(rt; read(rt.alloc(), *kind, bytes), Decoded::Row, "of {kind:?}");
+    }
+    assert_eq!(rt; read(rt.alloc(), Kind::Ai, ALPHA), Decoded::Row);
+}
+
+#[test]
+fn absent_and_disabled_read_back(rt: HostRuntime) {
+    assert_eq!(rt; read(rt.alloc(), Kind::PwName, NOBODY), Decoded::Absent);
+    for (kind, bytes) in &DISABLED {
+        assert_eq!(rt;
+            read(rt.alloc(), *kind, bytes),
+            Decoded::Disabled,
+            "of {kind:?}"
+        );
+    }
+}
+
+// The places of faults: bytes that end early, one byte more, and a field or text that breaks the layout.
+#[test]
+fn bad_replies(rt: HostRuntime) -> Result<(), Fail> {
+    let mut cut = Vec::from_slice(rt.alloc(), ROOT)?;
+    cut.pop();
+    assert_eq!(rt; read(rt.alloc(), Kind::PwName, &cut), Decoded::Bad(63));
+    let mut more = Vec::from_slice(rt.alloc(), ROOT)?;
+    more.push(0)?;
+    assert_eq!(rt; read(rt.alloc(), Kind::PwName, &more), Decoded::Bad(64));
+    assert_eq!(rt; read(rt.alloc(), Kind::GrName, ROOT), Decoded::Bad(24));
+    assert_eq!(rt;
+        read(rt.alloc(), Kind::PwName, b"\x03\0\0\0"),
+        Decoded::Bad(0)
+    );
+    Ok(())
 }

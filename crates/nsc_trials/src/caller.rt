@@ -1,11 +1,11 @@
 ghost use Rattle.std.specs.Prelude.{◌≡◌, ◌≤◌, length};
 ghost use Rattle.nsc_model.specs.declared.kind.Db.TheVariants as db;
-ghost use Rattle.nsc_model.specs.Entry.{key_limit};
+ghost use Rattle.nsc_model.specs.Entry.{key_limit, kept_limit};
 ghost use Rattle.nsc_model.specs.Kinds.{database_of};
 
 use crate::asked::Asked;
-use nsc_base::NoMemory;
-use nsc_model::{Given, InvalidateFault, Kind, LookupFault, Stats, Store};
+use nsc_base::{Buf, NoMemory};
+use nsc_model::{CacheFault, Given, InPlace, Kind, LookupFault, Stats, Store};
 use std::alloc::Global;
 use std::marker::Model;
 use std::sync::Wait;
@@ -71,6 +71,16 @@ impl<'r, 's, S: Store, R: Wait> Caller<'r, 's, S, R> {
         )
     }
 
+    /// Searches for a user by a kind and a key, beside whoever writes.
+    pub fn read(&mut self, kind: Kind, key: &[u8], out: &mut Buf) -> InPlace
+        requires kind { database_of kind ≡ db.Passwd }
+        requires key { length key.now ≤ key_limit }
+        requires limit { out.old.limit ≡ kept_limit }
+        ensures limit { out.new.limit ≡ out.old.limit }
+    {
+        self.store.in_place(&mut self.pass, kind, key, out)
+    }
+
     /// A tick at this moment, in seconds.
     pub fn tick(&mut self, now: u32) -> Result<(), LookupFault> {
         self.store
@@ -78,7 +88,7 @@ impl<'r, 's, S: Store, R: Wait> Caller<'r, 's, S, R> {
     }
 
     /// Invalidates the database, and gives the new number of invalidations.
-    pub fn invalidate(&mut self) -> Result<u64, InvalidateFault> {
+    pub fn invalidate(&mut self) -> Result<u64, CacheFault> {
         self.store.invalidate(self.rt, &mut self.pass)
     }
 

@@ -1,6 +1,6 @@
 //! Trials of a database that many threads call, over a file that changes while they run. With no word each trial prints a line.
 //! With words the program makes calls for their time: `hits THREADS ENTRIES COUNT [ASKED]`, `misses USERS COUNT`, `ticks ENTRIES COUNT
-//! SECONDS`, `compactions ENTRIES COUNT`.
+//! SECONDS`, `compactions ENTRIES COUNT`; or `reads THREADS ENTRIES COUNT [RATE]`, which tells its time.
 #![tactic(auto)]
 
 mod asked;
@@ -11,6 +11,7 @@ mod loads;
 mod mode;
 mod opening;
 mod outcome;
+mod reads;
 mod room;
 mod script;
 mod scripts;
@@ -25,7 +26,7 @@ use mode::Mode;
 use std::alloc::AllocError;
 use std::process::ExitCode;
 use std::{env, io};
-use timing::run_load;
+use timing::{run_load, run_reads};
 use trials::run_trials;
 
 fn main(rt: HostRuntime) -> io::Result<ExitCode> {
@@ -36,6 +37,7 @@ fn main(rt: HostRuntime) -> io::Result<ExitCode> {
             true
         }
         Some(Mode::Load(load)) => run_load(&rt, rt.alloc(), load),
+        Some(Mode::Reads(reads)) => run_reads(&rt, rt.alloc(), reads)?,
         None => false,
     };
     Ok(ExitCode::from(if is_right { 0 } else { 1 }))

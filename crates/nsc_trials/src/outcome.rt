@@ -1,3 +1,4 @@
+use crate::reads::Took;
 use nsc_base::NoMemory;
 use std::fmt;
 use std::fmt::{Display, Formatter, Write};
@@ -9,6 +10,8 @@ pub enum Outcome {
     Right,
     /// Something did not: the number of the step, from 1 on, or of the interleaving, from 0 on.
     Wrong(usize),
+    /// Searches took this.
+    Took(Took),
     /// Memory was wanting.
     NoMemory,
 }
@@ -35,6 +38,11 @@ impl Display for Outcome {
         match self {
             Outcome::Right => f.write_str("ok"),
             Outcome::Wrong(place) => write!(f, "wrong at {place}"),
+            Outcome::Took(took) => write!(
+                f,
+                "{} nanoseconds, {} odd, {} moved, {} made",
+                took.nanos, took.odd, took.moved, took.made
+            ),
             Outcome::NoMemory => f.write_str("out of memory"),
         }
     }

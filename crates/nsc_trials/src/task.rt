@@ -5,6 +5,7 @@ use crate::caller::Caller;
 use crate::discarded::{Gates, discards};
 use crate::loads::Load;
 use crate::outcome::Outcome;
+use crate::reads::Reads;
 use crate::script::Script;
 use crate::workers::interleaves;
 use nsc_base::NoMemory;
@@ -26,6 +27,8 @@ pub enum Task {
     Interleaving(u64, Release),
     /// Many calls, for their time.
     Load(Load),
+    /// Searches in place, for their time.
+    Reads(Reads),
 }
 
 impl Task {
@@ -52,6 +55,7 @@ impl Task {
                 interleaves(rt, alloc, &mut caller, &mut changed, seed)?
             }
             Task::Load(load) => load.is_done(rt, alloc, caller)?,
+            Task::Reads(reads) => return Ok(Outcome::Took(reads.run(rt, alloc, caller)?)),
         };
         Ok(Outcome::of(is_right))
     }

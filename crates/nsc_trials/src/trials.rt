@@ -73,7 +73,7 @@ fn run_interleavings<R: Threads + Wait + Clock + Clone + Drop + Send + Sync>(
     for seed in 0..INTERLEAVINGS {
         match run_interleaving(rt, alloc, seed)? {
             Outcome::Right => {}
-            Outcome::Wrong(_) => return Ok(Outcome::Wrong(seed as usize)),
+            Outcome::Wrong(_) | Outcome::Took(_) => return Ok(Outcome::Wrong(seed as usize)),
             Outcome::NoMemory => return Ok(Outcome::NoMemory),
         }
     }

@@ -10,7 +10,7 @@ use Rattle.std.specs.Prelude.{IfSome}
 use Rattle.std.proofs.lemmas.Bool.{ltb-true}
 use Rattle.nsc_model.specs.Entry.{Entry}
 use Rattle.nsc_model.specs.History.{IsLive, PolledSince, version_in}
-use Rattle.nsc_model.specs.Live.{Among}
+use Rattle.nsc_model.specs.Live.{HasEntry}
 use Rattle.nsc_laws.specs.Calls.{Tells, entries_of}
 use Rattle.nsc_pruner.specs.Due.{Due, IsOver, due_from, marked_by, pruned_by}
 use Rattle.nsc_writer.specs.declared.loaded.Inserted.{Inserted}
@@ -149,7 +149,7 @@ all_cons : {A : Type 0} (P : A → Type 0) (x : A) (xs : List A) → P x → All
 all_cons P x xs first rest zero d low = first
 all_cons P x xs first rest (suc i) d low = rest i d (omega arith)
 
-pub all_over : (limit : Option ℕ) (now : ℕ) (h : List Record) (ks : List Kept) → ((e : Entry) → Among (entries_of ks) e → IsLive h e) → All (IsOver h now) (map (due_from limit) (due_of now ks))
+pub all_over : (limit : Option ℕ) (now : ℕ) (h : List Record) (ks : List Kept) → ((e : Entry) → HasEntry (entries_of ks) e → IsLive h e) → All (IsOver h now) (map (due_from limit) (due_of now ks))
 all_over limit now h [] live = λ i d low. absurd (omega arith)
 all_over limit now h (k ∷ ks) live = by_test (is_due now k) refl (all_over limit now h ks (λ e a. live e (inr a))) where
   by_test : (b : Bool) → is_due now k ≡ b → All (IsOver h now) (map (due_from limit) (due_of now ks)) → All (IsOver h now) (map (due_from limit) (cond b (k ∷ due_of now ks) (due_of now ks)))

@@ -5,7 +5,7 @@ use Rattle.nsc_model.specs.declared.record.Ending.TheVariants.{Expired, Replaced
 use Rattle.nsc_model.specs.declared.record.Record.{Record}
 use Rattle.nsc_model.specs.declared.record.Record.TheVariants.{End}
 use Rattle.nsc_model.specs.Entry.{Entry}
-use Rattle.nsc_model.specs.Live.{Among, Rise}
+use Rattle.nsc_model.specs.Live.{HasEntry, Rise}
 use Rattle.nsc_model.specs.Machine.{Kept, due_cause, due_ended, due_of, ends_of, is_due, is_dropped, others_of}
 use Rattle.nsc_laws.specs.Calls.{entries_of}
 use Rattle.nsc_laws.proofs.CoreLawRecords.{first_least, rise_tail}
@@ -23,7 +23,7 @@ eqb_off m n d = by_test (eqb m n) refl where
   by_test true e = absurd (d (eqb-true m n e))
   by_test false e = refl
 
-others_all : (n : ℕ) (ks : List Kept) → ((e : Entry) → Among (entries_of ks) e → n < e.number) → others_than n ks ≡ ks
+others_all : (n : ℕ) (ks : List Kept) → ((e : Entry) → HasEntry (entries_of ks) e → n < e.number) → others_than n ks ≡ ks
 others_all n [] low = refl
 others_all n (k ∷ ks) low =
     let first = low k.entry (inl refl) in
@@ -31,7 +31,7 @@ others_all n (k ∷ ks) low =
     ∙ ap (λ (l : List Kept). k ∷ l) (others_all n ks (λ e a. low e (inr a)))
 
 -- it stands among the others of a front and a rest
-last_among : (front ks : List Kept) (k : Kept) → Among (entries_of (front ++ k ∷ ks)) k.entry
+last_among : (front ks : List Kept) (k : Kept) → HasEntry (entries_of (front ++ k ∷ ks)) k.entry
 last_among [] ks k = inl refl
 last_among (f ∷ front) ks k = inr (last_among front ks k)
 

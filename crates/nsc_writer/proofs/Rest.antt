@@ -2,7 +2,7 @@
 use Rattle.std.proofs.Common.{◌≡◌, ℕ, ◌+◌, ◌<◌, ◌≤◌, inl, inr, Bool, true, false, cond, leb, List, [], ◌∷◌, Option, Some, None, refl, sym, ap, subst, ◌∙◌, arith}
 use Rattle.std.proofs.lemmas.Bool.{leb-true, leb-false, le-leb, lt-leb, le-ltb, lt-ltb}
 use Rattle.nsc_model.specs.Entry.{Entry}
-use Rattle.nsc_model.specs.Live.{Among, Rise}
+use Rattle.nsc_model.specs.Live.{HasEntry, Rise}
 use Rattle.nsc_model.specs.Machine.{Kept, due_of}
 use Rattle.nsc_laws.specs.Calls.{entries_of}
 use Rattle.nsc_laws.proofs.CoreLawRecords.{rise_tail, first_least}
@@ -15,7 +15,7 @@ rest_from n [] = []
 rest_from n (k ∷ ks) = cond (leb n k.entry.number) (k ∷ rest_from n ks) (rest_from n ks)
 
 -- all of them have at least this number
-rest_whole : (n : ℕ) (ks : List Kept) → ((e : Entry) → Among (entries_of ks) e → n ≤ e.number) → rest_from n ks ≡ ks
+rest_whole : (n : ℕ) (ks : List Kept) → ((e : Entry) → HasEntry (entries_of ks) e → n ≤ e.number) → rest_from n ks ≡ ks
 rest_whole n [] low = refl
 rest_whole n (k ∷ ks) low =
     ap (λ (b : Bool). cond b (k ∷ rest_from n ks) (rest_from n ks)) (le-leb n k.entry.number (low k.entry (inl refl)))
@@ -55,10 +55,10 @@ rest_next n (x ∷ xs) k rising e = by (leb n x.entry.number) refl e (rest_next 
       (r.0 ∙ ap (λ (l : List Kept). k ∷ l) (sym (gone (k.entry.number + 1) (omega arith))), low)
 
 -- it is one of the entries
-pub rest_among : (n : ℕ) (ks : List Kept) (k : Kept) → entry_from n ks ≡ Some k → Among (entries_of ks) k.entry
+pub rest_among : (n : ℕ) (ks : List Kept) (k : Kept) → entry_from n ks ≡ Some k → HasEntry (entries_of ks) k.entry
 rest_among n [] k e = absurd cc
 rest_among n (x ∷ xs) k e = by (leb n x.entry.number) e (rest_among n xs k) where
-  by : (b : Bool) → cond b (Some x) (entry_from n xs) ≡ Some k → (entry_from n xs ≡ Some k → Among (entries_of xs) k.entry) → Among (entries_of (x ∷ xs)) k.entry
+  by : (b : Bool) → cond b (Some x) (entry_from n xs) ≡ Some k → (entry_from n xs ≡ Some k → HasEntry (entries_of xs) k.entry) → HasEntry (entries_of (x ∷ xs)) k.entry
   by true same rest = let is : x ≡ k = cc in inl (ap (λ (y : Kept). y.entry) is)
   by false same rest = inr (rest same)
 

@@ -9,7 +9,7 @@ use Rattle.nsc_model.specs.Kinds.{is_request}
 use Rattle.nsc_model.specs.Entry.{Entry}
 use Rattle.nsc_model.specs.History.{invalidations, IsLive, NoneLiveOf, WasPolled, Allows, LooksAt, PolledSince}
 use Rattle.nsc_model.specs.Machine.{Kept, Cache, by_invalidation, emptied, ends_of, live_entry, used_now}
-use Rattle.nsc_model.specs.Live.{Among, AreLive}
+use Rattle.nsc_model.specs.Live.{HasEntry, AreLive}
 use Rattle.nsc_laws.specs.Calls.{Tells, entries_of}
 use Rattle.nsc_laws.proofs.Requests.{request_same}
 use Rattle.nsc_laws.proofs.MachineLawLists.{filter_from, filter_to, rise_filter, missed, used_entries}
@@ -76,10 +76,10 @@ loaded_tells h cache loaded t noted none answered =
 
 -- ---- ends
 
-any_entry : (n : ℕ) (ks : List Kept) → has_number n ks ≡ true → (e : Entry) × Among (entries_of ks) e × (e.number ≡ n)
+any_entry : (n : ℕ) (ks : List Kept) → has_number n ks ≡ true → (e : Entry) × HasEntry (entries_of ks) e × (e.number ≡ n)
 any_entry n [] e = absurd cc
 any_entry n (k ∷ ks) e = by_test (eqb k.entry.number n) refl e (any_entry n ks) where
-  by_test : (b : Bool) → eqb k.entry.number n ≡ b → (b || has_number n ks) ≡ true → (has_number n ks ≡ true → (x : Entry) × Among (entries_of ks) x × (x.number ≡ n)) → (x : Entry) × Among (entries_of (k ∷ ks)) x × (x.number ≡ n)
+  by_test : (b : Bool) → eqb k.entry.number n ≡ b → (b || has_number n ks) ≡ true → (has_number n ks ≡ true → (x : Entry) × HasEntry (entries_of ks) x × (x.number ≡ n)) → (x : Entry) × HasEntry (entries_of (k ∷ ks)) x × (x.number ≡ n)
   by_test true t h rest = (k.entry, inl refl, eqb-true k.entry.number n t)
   by_test false t h rest = let r = rest h in (r.0, inr r.1, r.2)
 
@@ -101,14 +101,14 @@ same_not m n apart = by_test (eqb m n) refl where
 
 others_live : (h : List Record) (ks : List Kept) (n : ℕ) (cause : Ending) → AreLive h (entries_of ks) → AreLive (End n cause ∷ h) (entries_of (others_than n ks))
 others_live h ks n cause are = record { live = live; all = all; rising = rise_filter (λ k. not (is_numbered n k)) ks are.rising } where
-  live : (e : Entry) → Among (entries_of (others_than n ks)) e → IsLive (End n cause ∷ h) e
+  live : (e : Entry) → HasEntry (entries_of (others_than n ks)) e → IsLive (End n cause ∷ h) e
   live e a =
       let f = filter_from (λ k. not (is_numbered n k)) ks e a in
       let was = are.live e f.0 in
       let other : not (eqb e.number n) ≡ true = subst (λ (x : Entry). not (eqb x.number n) ≡ true) f.1.1 f.1.2 in
       record { inserted = was.inserted; not_ended = λ gone. elim gone [ inl same ↦ not_same e.number n other (sym same) | inr before ↦ was.not_ended before ] }
 
-  all : (e : Entry) → IsLive (End n cause ∷ h) e → Among (entries_of (others_than n ks)) e
+  all : (e : Entry) → IsLive (End n cause ∷ h) e → HasEntry (entries_of (others_than n ks)) e
   all e lives =
       filter_to (λ (x : Entry). not (eqb x.number n)) ks e (are.all e (record { inserted = lives.inserted; not_ended = λ before. lives.not_ended (inr before) }))
       (same_not e.number n (λ same. lives.not_ended (inl (sym same))))

@@ -1,11 +1,11 @@
-ghost use Rattle.std.specs.Prelude.{◌≡◌, true, ◌≤◌, ◌*◌, ◌/◌, ◌==◌, [], ◌∷◌, None, length, IfOk};
+ghost use Rattle.std.specs.Prelude.{◌≡◌, false, true, ◌≤◌, ◌*◌, ◌/◌, ◌==◌, [], ◌∷◌, None, length, IfOk};
 ghost use Rattle.std.specs.Arc.{arc_value};
 ghost use Rattle.nsc_model.specs.declared.record.Record.TheVariants as record_of;
 ghost use Rattle.nsc_model.specs.History.{IsPrefix};
 ghost use Rattle.nsc_model.specs.Machine.{last_count, new_cache};
 ghost use Rattle.nsc_laws.specs.Calls.{Tells};
 ghost use Rattle.nsc_words.specs.Layout.{IsLayout};
-ghost use Rattle.nsc_rule.specs.Seats.{resting};
+ghost use Rattle.nsc_rule.specs.Seats.{informed, rested};
 ghost use Rattle.nsc_writer.specs.Writer.{most_words};
 
 use nsc_base::NoMemory;
@@ -54,7 +54,7 @@ impl Model for Writer {
 
 impl Writer {
     /// A writer of an empty database, and a pass that has seen its history: this content as version 0. All words that its entries
-    /// will ever take are taken here; no other call but the one that lists entries takes memory. Fails only for want of it.
+    /// will ever take are taken here; no other call takes memory. Fails only for want of it.
     pub fn new(
         alloc: Global,
         layout: Layout,
@@ -106,21 +106,21 @@ impl Writer {
         self.sheet.head(SOURCE)
     }
 
-    /// A pass that has seen the whole history.
+    /// A pass that has seen the whole history, and knows how often a compaction began or ended.
     pub fn pass(&mut self) -> Pass
         requires { self.old.slide ≡ None }
         ensures same { self.new ≡ self.old }
-        ensures pass { result ≡ record { table = self.old.table; seen = self.old.seen; walk = resting } }
+        ensures pass { result ≡ record { table = self.old.table; seen = self.old.seen; retired = false; searching = rested self.old.cache.cycle } }
     {
         self.sheet.pass()
     }
 
-    /// The pass has seen the whole history then, which begins with what it had seen.
+    /// The pass has seen the whole history then, which begins with what it had seen, and knows how often a compaction began or ended.
     pub fn show(&mut self, pass: &mut Pass)
         requires table { pass.old.table ≡ self.old.table }
         requires still { self.old.slide ≡ None }
         ensures same { self.new ≡ self.old }
-        ensures pass { pass.new ≡ record pass.old { seen = self.old.seen } }
+        ensures pass { pass.new ≡ record pass.old { seen = self.old.seen; retired = false; searching = informed pass.old.searching self.old.cache.cycle } }
         ensures before { IsPrefix pass.old.seen self.old.seen }
     {
         self.sheet.show(pass);

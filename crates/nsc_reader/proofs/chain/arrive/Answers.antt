@@ -23,5 +23,5 @@ returns-clause-at c = λ content p key at.
     let words = c.words-words.ensures in
     let near = c.if-place-words.false in
     let other : length c.args.key.now ≢ 0 = eqb-false (length c.args.key.now) 0 (sym c.is_empty.ensures ∙ c.if-is_empty.false) in
-    let size : length p.walk.request.key ≡ length c.args.key.now = ap (λ (k : List ℕ). length k) key in
+    let size : length p.searching.request.key ≡ length c.args.key.now = ap (λ (k : List ℕ). length k) key in
     first_there c.args.layout p c.args.found at c.if-found-eq0.false (omega arith) (omega arith)

@@ -1,7 +1,7 @@
 use Rattle.std.proofs.Common.{◌≡◌, ◌∙◌, ◌*◌, ◌<◌, sym, ap, subst}
 use Rattle.nsc_words.specs.declared.layout.Layout.{Layout}
 use Rattle.nsc_words.specs.Layout.{table_words}
-use Rattle.nsc_rule.specs.declared.view.Walk.{Walk}
+use Rattle.nsc_rule.specs.declared.view.Search.{Search}
 use Rattle.nsc_reader.specs.Stages.{Arrives, AtStage, left_at}
 use Rattle.nsc_reader.proofs.Chains.{arrives, keeps_went}
 use Rattle.nsc_reader.proofs.chain.load_bucket.Goals as goal
@@ -14,7 +14,7 @@ returns c =
     let told = c.bucket-found.ensures in
     let same : c.layout-layout.result ≡ layout = c.layout-layout.ensures.layout in
     let at = arrives layout p new c.bucket-found.result told.seen told.lands c.requires.at.begun in
-    let key : new.walk.request.key ≡ c.args.key.now = ap (λ (w : Walk). w.request.key) told.lands.walk ∙ c.requires.key in
+    let key : new.searching.request.key ≡ c.args.key.now = ap (λ (w : Search). w.request.key) told.lands.searching ∙ c.requires.key in
     record {
       goes = λ content. record {
         keeps = keeps_went layout p new c.bucket-found.result told.table told.seen told.lands;

@@ -1,7 +1,7 @@
 use Rattle.std.proofs.Common.{◌≡◌, ◌∙◌, ℕ, ◌+◌, ◌*◌, ◌<◌, sym, ap, subst, arith}
 use Rattle.nsc_words.specs.declared.layout.Layout.{Layout}
-use Rattle.nsc_rule.specs.declared.view.Walk.{Walk}
-use Rattle.nsc_rule.specs.Walks.{IsSteady}
+use Rattle.nsc_rule.specs.declared.view.Search.{Search}
+use Rattle.nsc_rule.specs.Searches.{IsSteady}
 use Rattle.nsc_reader.specs.Stages.{Arrives, AtStage, left_at}
 use Rattle.nsc_reader.proofs.Chains.{arrives, keeps_went, next_wrong}
 use Rattle.nsc_reader.proofs.chain.load_next.Goals as goal
@@ -16,7 +16,7 @@ returns-then-found-place c =
     record {
       goes = λ content. record {
         keeps = keeps_went layout p new c.next-found.result told.table told.seen told.lands;
-        at = next_wrong layout content p new c.args.place c.next-found.result at (subst (λ (n : ℕ). IsSteady new.walk → c.next-found.result < n) c.requires.at.node.place_is told.lower) c.if-found-place.true;
+        at = next_wrong layout content p new c.args.place c.next-found.result at (subst (λ (n : ℕ). IsSteady new.searching → c.next-found.result < n) c.requires.at.node.place_is told.lower) c.if-found-place.true;
         fewer = omega arith;
       };
     }
@@ -29,7 +29,7 @@ returns c =
     let told = c.next-found.ensures in
     let same : c.layout-layout.result ≡ layout = c.layout-layout.ensures.layout in
     let at = arrives layout p new c.next-found.result told.seen told.lands c.requires.at.node.begun in
-    let key : new.walk.request.key ≡ c.args.key.now = ap (λ (w : Walk). w.request.key) told.lands.walk ∙ c.requires.key in
+    let key : new.searching.request.key ≡ c.args.key.now = ap (λ (w : Search). w.request.key) told.lands.searching ∙ c.requires.key in
     record {
       goes = λ content. record {
         keeps = keeps_went layout p new c.next-found.result told.table told.seen told.lands;

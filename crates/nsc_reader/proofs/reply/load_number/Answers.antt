@@ -11,5 +11,5 @@ returns c =
     let told = c.fixed-number.ensures in
     let read = read_from p new c.args.place 0 (c.args.place + 0) c.fixed-number.result told.pass c.requires.at.found.node.place_is refl told.fixed in
     record {
-      goes = λ content. goes_fixed c.args.map.now.layout p new content (20000 * c.args.place + 9002) (Version c.args.place c.args.size c.fixed-number.result) told.pass (number_read c.args.map.now.layout c.args.place c.args.size new.walk.known c.fixed-number.result p told.known c.requires.at read) (omega arith);
+      goes = λ content. goes_fixed c.args.map.now.layout p new content (20000 * c.args.place + 9002) (Version c.args.place c.args.size c.fixed-number.result) told.pass (number_read c.args.map.now.layout c.args.place c.args.size new.searching.known c.fixed-number.result p told.known c.requires.at read) (omega arith);
     }

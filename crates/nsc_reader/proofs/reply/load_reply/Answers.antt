@@ -1,7 +1,7 @@
 use Rattle.std.proofs.Common.{◌≡◌, ◌∙◌, ℕ, ◌+◌, ◌-◌, ◌*◌, ◌<◌, ◌≤◌, ◌++◌, min, take, List, length, sym, ap, subst, arith}
 use Rattle.nsc_base.specs.Buf.{Buf}
 use Rattle.nsc_base.specs.Nodes.{words_for}
-use Rattle.nsc_reader.specs.declared.in_place.InPlace.TheVariants.{Hit}
+use Rattle.nsc_model.specs.declared.in_place.InPlace.TheVariants.{Hit}
 use Rattle.nsc_reader.specs.declared.stage.Stage.TheVariants.{Last, Reply}
 use Rattle.nsc_reader.specs.Stages.{Goes, key_words, reply_in}
 use Rattle.nsc_reader.proofs.Tellings.{goes_fixed, read_from}
@@ -14,8 +14,8 @@ returns-then-copied-div_ceil-clause-goes c =
     let layout = c.args.map.now.layout in
     let new = c.fixed-word.new.self in
     let told = c.fixed-word.ensures in
-    let key : p.walk.request.key ≡ c.args.key.now = c.requires.key in
-    let size : length p.walk.request.key ≡ length c.args.key.now = ap (λ (k : List ℕ). length k) key in
+    let key : p.searching.request.key ≡ c.args.key.now = c.requires.key in
+    let size : length p.searching.request.key ≡ length c.args.key.now = ap (λ (k : List ℕ). length k) key in
     let count_of : c.div_ceil.result ≡ key_words p = omega arith in
     let at_is : c.args.place + 8 + c.div_ceil.result + c.args.copied ≡ c.args.place + (8 + key_words p + c.args.copied) = omega arith in
     let read = read_from p new c.args.place (8 + key_words p + c.args.copied) (c.args.place + 8 + c.div_ceil.result + c.args.copied) c.fixed-word.result told.pass c.requires.at.found.found.found.node.place_is at_is told.fixed in
@@ -29,7 +29,7 @@ returns-then-copied-div_ceil-clause-goes c =
     let stage = Reply c.args.place c.args.size c.args.number c.args.version (c.args.copied + 1) in
     subst (λ (content : List ℕ). Goes layout p new content (20000 * c.args.place + 9000 - c.args.copied) stage) (sym pushed)
     (goes_fixed layout p new (with_word c.args.out.now.content c.min-count.result c.fixed-word.result) (20000 * c.args.place + 9000 - c.args.copied) stage told.pass
-    (reply_more layout c.args.place c.args.size c.args.number c.args.version c.args.copied new.walk.known c.args.out.now.content c.min-count.result c.fixed-word.result p told.known c.requires.at count read more) (omega arith))
+    (reply_more layout c.args.place c.args.size c.args.number c.args.version c.args.copied new.searching.known c.args.out.now.content c.min-count.result c.fixed-word.result p told.known c.requires.at count read more) (omega arith))
 
 pub returns-else-copied-div_ceil-clause-goes : goal.returns-else-copied-div_ceil-clause-goes
 returns-else-copied-div_ceil-clause-goes c =
@@ -37,8 +37,8 @@ returns-else-copied-div_ceil-clause-goes c =
     let layout = c.args.map.now.layout in
     let new = c.fixed-word.new.self in
     let told = c.fixed-word.ensures in
-    let key : p.walk.request.key ≡ c.args.key.now = c.requires.key in
-    let size : length p.walk.request.key ≡ length c.args.key.now = ap (λ (k : List ℕ). length k) key in
+    let key : p.searching.request.key ≡ c.args.key.now = c.requires.key in
+    let size : length p.searching.request.key ≡ length c.args.key.now = ap (λ (k : List ℕ). length k) key in
     let count_of : c.div_ceil.result ≡ key_words p = omega arith in
     let at_is : c.args.place + 8 + c.div_ceil.result + c.args.copied ≡ c.args.place + (8 + key_words p + c.args.copied) = omega arith in
     let read = read_from p new c.args.place (8 + key_words p + c.args.copied) (c.args.place + 8 + c.div_ceil.result + c.args.copied) c.fixed-word.result told.pass c.requires.at.found.found.found.node.place_is at_is told.fixed in
@@ -52,4 +52,4 @@ returns-else-copied-div_ceil-clause-goes c =
     let stage = Last (Hit c.args.number c.args.version c.size_not_found.result) in
     subst (λ (content : List ℕ). Goes layout p new content (20000 * c.args.place + 9000 - c.args.copied) stage) (sym pushed)
     (goes_fixed layout p new (with_word c.args.out.now.content c.min-count.result c.fixed-word.result) (20000 * c.args.place + 9000 - c.args.copied) stage told.pass
-    (reply_last layout c.args.place c.args.size c.args.number c.args.version c.args.copied new.walk.known c.args.out.now.content c.min-count.result c.fixed-word.result c.size_not_found.result p told.known c.requires.at count read last c.size_not_found.ensures.value) (omega arith))
+    (reply_last layout c.args.place c.args.size c.args.number c.args.version c.args.copied new.searching.known c.args.out.now.content c.min-count.result c.fixed-word.result c.size_not_found.result p told.known c.requires.at count read last c.size_not_found.ensures.value) (omega arith))

@@ -12,8 +12,8 @@ returns-then-state-eq1 c =
     let new = c.state.new.self in
     let told = c.state.ensures in
     let gone = not (eqb c.state.result 1) in
-    let live = live_at p new gone told.table told.walk (λ steady e on. told.live steady e on c.if-state-eq1.true) in
-    record { goes = λ content. goes_stays layout p new gone content (20000 * c.args.place + 9004) (Size c.args.place) told.table told.before told.walk (usable_at layout c.args.place new.seen new.walk.known gone p told.before told.known c.requires.at live) (omega arith) }
+    let live = live_at p new gone told.table told.searching (λ steady e on. told.live steady e on c.if-state-eq1.true) in
+    record { goes = λ content. goes_stays layout p new gone content (20000 * c.args.place + 9004) (Size c.args.place) told.table told.retired told.before told.searching (usable_at layout c.args.place new.seen new.searching.known gone p told.before told.known c.requires.at live) (omega arith) }
 
 pub returns-else-state-eq1 : goal.returns-else-state-eq1
 returns-else-state-eq1 c =
@@ -23,4 +23,4 @@ returns-else-state-eq1 c =
     let told = c.state.ensures in
     let gone = not (eqb c.state.result 1) in
     let is : gone ≡ true = ap not (ne_eqb c.state.result 1 c.if-state-eq1.false) in
-    record { goes = λ content. goes_stays layout p new gone content (20000 * c.args.place + 9004) (Next c.args.place) told.table told.before told.walk (ended_at layout c.args.place new.seen new.walk.known gone p told.before told.known c.requires.at is) (omega arith) }
+    record { goes = λ content. goes_stays layout p new gone content (20000 * c.args.place + 9004) (Next c.args.place) told.table told.retired told.before told.searching (ended_at layout c.args.place new.seen new.searching.known gone p told.before told.known c.requires.at is) (omega arith) }

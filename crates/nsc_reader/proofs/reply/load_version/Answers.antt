@@ -1,7 +1,7 @@
 use Rattle.std.proofs.Common.{◌≡◌, ◌∙◌, ℕ, ◌+◌, ◌*◌, ◌<◌, List, [], refl, sym, ap, subst, arith}
 use Rattle.nsc_base.specs.Buf.{Buf}
 use Rattle.nsc_base.specs.Nodes.{words_for}
-use Rattle.nsc_reader.specs.declared.in_place.InPlace.TheVariants.{Hit}
+use Rattle.nsc_model.specs.declared.in_place.InPlace.TheVariants.{Hit}
 use Rattle.nsc_reader.specs.declared.stage.Stage.TheVariants.{Last, Reply}
 use Rattle.nsc_reader.specs.Stages.{Goes, reply_in}
 use Rattle.nsc_reader.proofs.Tellings.{goes_fixed, read_from}
@@ -20,7 +20,7 @@ returns-then-size_len-eq0-clause-goes c =
     let none : reply_in c.args.size ≡ 0 = sym len ∙ c.if-size_len-eq0.true in
     let stage = Last (Hit c.args.number c.fixed-version.result c.size_not_found.result) in
     subst (λ (content : List ℕ). Goes layout p new content (20000 * c.args.place + 9001) stage) (sym empty)
-    (goes_fixed layout p new [] (20000 * c.args.place + 9001) stage told.pass (version_last layout c.args.place c.args.size c.args.number new.walk.known c.fixed-version.result c.size_not_found.result p told.known c.requires.at read none c.size_not_found.ensures.value) (omega arith))
+    (goes_fixed layout p new [] (20000 * c.args.place + 9001) stage told.pass (version_last layout c.args.place c.args.size c.args.number new.searching.known c.fixed-version.result c.size_not_found.result p told.known c.requires.at read none c.size_not_found.ensures.value) (omega arith))
 
 pub returns-clause-goes : goal.returns-clause-goes
 returns-clause-goes c =
@@ -35,4 +35,4 @@ returns-clause-goes c =
     let some : 0 < words_for (reply_in c.args.size) = omega arith in
     let stage = Reply c.args.place c.args.size c.args.number c.fixed-version.result 0 in
     subst (λ (content : List ℕ). Goes layout p new content (20000 * c.args.place + 9001) stage) (sym empty)
-    (goes_fixed layout p new [] (20000 * c.args.place + 9001) stage told.pass (version_read layout c.args.place c.args.size c.args.number new.walk.known c.fixed-version.result p told.known c.requires.at read some) (omega arith))
+    (goes_fixed layout p new [] (20000 * c.args.place + 9001) stage told.pass (version_read layout c.args.place c.args.size c.args.number new.searching.known c.fixed-version.result p told.known c.requires.at read some) (omega arith))

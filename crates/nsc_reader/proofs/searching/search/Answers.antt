@@ -1,12 +1,12 @@
 use Rattle.std.proofs.Common.{◌∙◌, sym, subst}
 use Rattle.nsc_model.specs.declared.kind.Kind.{Kind}
-use Rattle.nsc_reader.specs.Stages.{Stands, Steps, asked}
+use Rattle.nsc_reader.specs.Stages.{HasCome, Steps, asked}
 use Rattle.nsc_reader.proofs.Steps.{SoFar, last_step, one_step, open_still}
 use Rattle.nsc_reader.proofs.searching.search.Goals as goal
 
 pub step-requires-clause-stands : goal.step-requires-clause-stands
 step-requires-clause-stands c =
-    subst (λ (k : Kind). Stands c.args.map.now.layout (asked k c.args.key.now) c.walk.out.content c.walk.pass c.walk.walk.progress) (sym c.walk.invariant.kind) c.walk.invariant.so_far.stands
+    subst (λ (k : Kind). HasCome c.args.map.now.layout (asked k c.args.key.now) c.walk.out.content c.walk.pass c.walk.walk.progress) (sym c.walk.invariant.kind) c.walk.invariant.so_far.stands
 
 pub walk-preserved : goal.walk-preserved
 walk-preserved c =

@@ -1,15 +1,14 @@
 use Rattle.std.proofs.Common.{◌∙◌, ℕ, List, [], ap, inl, refl, rules, sym, subst}
 use Rattle.std.proofs.lemmas.Bool.{OnFalse_from, false≢true}
 use Rattle.nsc_model.specs.declared.answer.Request.{Request}
-use Rattle.nsc_model.specs.declared.kind.Db.{Db}
 use Rattle.nsc_model.specs.Machine.{room_of}
 use Rattle.nsc_model.specs.Stores.{IsHit, reply_of}
 use Rattle.nsc_writer.specs.Loaded.{Loaded}
 use Rattle.nsc_writer.specs.Writer.{IsAnswered}
+use Rattle.nsc_database.specs.Frames.{LoadedLastCycle}
 use Rattle.nsc_database.specs.Lookups.{IsTried}
-use Rattle.nsc_database.specs.Steady.{IsSteady}
-use Rattle.nsc_database.proofs.Lookups.{Anew, anew_answers, anew_given, answered_before, found_none, given_before, hit_answer, is_missed, kept_reply, missed_at, poll_answered}
-use Rattle.nsc_database.proofs.Standing.{goes_after, goes_on}
+use Rattle.nsc_database.proofs.Lookups.{Anew, anew_answers, anew_given, answered_before, found_none, given_before, hit_answer, is_missed, kept_reply, missed_at, poll_answered, tried_to}
+use Rattle.nsc_database.proofs.Standing.{goes_after, goes_on, loaded_before}
 use Rattle.nsc_database.proofs.Steady.{is_of_held}
 use Rattle.nsc_database.proofs.base.Base.lookup.Goals as goal
 
@@ -20,22 +19,24 @@ returns-in-Ok-clause-answer g c =
     let request : Request = record { kind = c.args.kind; key = c.args.key.now } in
     let seen = c.find.new.pass.pass.seen in
     let hit = subst (λ (bytes : List ℕ). IsHit seen request bytes c.in-Hit.hit.number) (sym (c.in-Ok.ensures ∙ c.bytes.ensures.content)) c.in-Hit.ensures.found.1 in
-    hit_answer c.args.self.now.settings c.args.now c.args.pass.now.pass.seen seen request c.in-Ok.bytes c.in-Hit.hit.number c.find.ensures.frame.before c.in-Hit.ensures.found.0 hit
+    hit_answer c.args.self.now.settings c.args.now c.args.pass.now.pass.seen seen _ request c.in-Ok.bytes c.in-Hit.hit.number c.find.ensures.frame.before c.in-Hit.ensures.found.0 hit
 
 pub returns-in-Ok-clause-files : goal.returns-in-Ok-clause-files
 returns-in-Ok-clause-files g c =
     let request : Request = record { kind = c.args.kind; key = c.args.key.now } in
     let seen = c.find.new.pass.pass.seen in
-    let steady = subst (λ (d : Db). IsSteady g.B.Room.held d seen) (c.find.ensures.frame.db ∙ c.requires.db) c.find.new.pass.steady in
     record {
       made = ap g.F.FileSet.reads c.find.ensures.frame.files;
-      of_held = is_of_held g.B.Room.held g.D.OfDb.db c.args.pass.now.pass.seen seen request _ c.find.ensures.frame.legal steady (returns-in-Ok-clause-answer g c).answered;
+      of_held = is_of_held g.B.Room.held g.D.OfDb.db c.args.pass.now.pass.seen seen request _ c.find.ensures.frame.legal c.find.ensures.steady (returns-in-Ok-clause-answer g c).answered;
     }
 
 -- ---- files that could not be read
 
 pub returns-in-Err-poll-clause-frame : goal.returns-in-Err-poll-clause-frame
 returns-in-Err-poll-clause-frame g c = goes_after _ _ _ c.find.ensures.frame c.poll.ensures.frame
+
+pub returns-in-Err-poll-clause-steady : goal.returns-in-Err-poll-clause-steady
+returns-in-Err-poll-clause-steady g c = c.poll.ensures.steady c.find.ensures.steady
 
 pub returns-in-Err-poll-clause-fault : goal.returns-in-Err-poll-clause-fault
 returns-in-Err-poll-clause-fault g c =
@@ -86,14 +87,17 @@ returns-clause-answer g c =
     let found = c.find.new.pass.pass.seen in
     let mid = c.poll.new.pass.pass.seen in
     let after = c.keep.new.pass.pass.seen in
-    let reply = kept_reply (room_of settings) c.in-Ok-load.loaded mid after c.keep.result c.keep.ensures.kept ∙ ap (λ (l : Loaded). l.answer.bytes) c.in-Ok-load.ensures in
+    let last_cycle : Type 0 = LoadedLastCycle c.args.pass.now c.keep.new.pass in
+    let begun = (goes_after _ _ _ c.find.ensures.frame c.poll.ensures.frame).searches in
+    let tried = tried_to (room_of settings) _ last_cycle c.in-Ok-load.loaded mid after c.keep.result (loaded_before c.args.pass.now c.poll.new.pass c.keep.new.pass begun) c.keep.ensures.kept in
+    let reply = kept_reply (room_of settings) last_cycle c.in-Ok-load.loaded mid after c.keep.result tried ∙ ap (λ (l : Loaded). l.answer.bytes) c.in-Ok-load.ensures in
     let none = found_none settings found request c.in-Missed.epoch c.find.new.pass.reply.content c.if-not-self.false c.in-Missed.ensures.found in
     let anew : Anew found mid request c.in-Missed.epoch c.in-Ok-poll.polled = record { legal = c.find.ensures.frame.legal; legal_mid = c.poll.ensures.frame.legal; on = c.poll.ensures.frame.before; none = none.1; noted = none.0; is_polled = c.in-Ok-poll.ensures.polled } in
     record {
       answered = answered_before c.args.pass.now.pass.seen found after request (reply_of c.keep.result) c.find.ensures.frame.before
           (poll_answered found mid after request c.in-Missed.epoch c.in-Ok-poll.polled _ c.keep.ensures.frame.legal c.poll.ensures.frame.legal c.poll.ensures.frame.before c.keep.ensures.frame.before c.in-Ok-poll.ensures.polled (sym reply));
-      source = given_before c.keep.result settings c.args.now c.args.pass.now.pass.seen found after request c.find.ensures.frame.before
-          (anew_given c.keep.result found mid after request c.in-Missed.epoch c.in-Ok-poll.polled settings c.args.now anew c.keep.ensures.frame.before
-          (subst (λ (l : Loaded). IsTried (room_of settings) l mid after c.keep.result) c.in-Ok-load.ensures c.keep.ensures.kept));
+      source = given_before c.keep.result settings c.args.now c.args.pass.now.pass.seen found after last_cycle request c.find.ensures.frame.before
+          (anew_given c.keep.result found mid after last_cycle request c.in-Missed.epoch c.in-Ok-poll.polled settings c.args.now anew c.keep.ensures.frame.before
+          (subst (λ (l : Loaded). IsTried (room_of settings) last_cycle l mid after c.keep.result) c.in-Ok-load.ensures tried));
       uncached = OnFalse_from settings.enabled _ (λ off. absurd (false≢true (sym off ∙ c.if-not-self.false)));
     }

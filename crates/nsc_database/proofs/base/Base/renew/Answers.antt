@@ -1,17 +1,19 @@
-use Rattle.std.proofs.Common.{◌∙◌, ℕ, All, List, Option, ap, arith, subst, sym}
+use Rattle.std.proofs.Common.{◌∙◌, ℕ, ◌⊎◌, All, List, Option, ap, arith, inl, inr, subst, sym}
 use Rattle.nsc_model.specs.declared.conf.DbConf.{DbConf}
 use Rattle.nsc_model.specs.declared.record.Record.{Record}
 use Rattle.nsc_model.specs.History.{IsPrefix}
 use Rattle.nsc_model.specs.Machine.{room_of}
-use Rattle.nsc_model.specs.Stores.{LoadsAgain}
+use Rattle.nsc_model.specs.Settings.{settings_of}
+use Rattle.nsc_model.specs.Stores.{AreLoadedAgain, IsUnmoved}
 use Rattle.nsc_pruner.specs.Due.{Due}
 use Rattle.nsc_database.specs.Rests.{Desk}
 use Rattle.nsc_turns.specs.declared.answering.Answering.{Answering}
-use Rattle.nsc_database.specs.Ticks.{AreAnew, IsDue}
+use Rattle.nsc_database.specs.Frames.{LoadedLastCycle}
+use Rattle.nsc_database.specs.Ticks.{AreAnew, AreOver, IsDue}
 use Rattle.nsc_database.proofs.Pruning.{all_due_on}
 use Rattle.nsc_database.proofs.Renewed.{anew_on}
-use Rattle.nsc_database.proofs.Shown.{invalidations_on}
-use Rattle.nsc_database.proofs.Standing.{held_through}
+use Rattle.nsc_database.proofs.Shown.{invalidations_on, unmoved_to}
+use Rattle.nsc_database.proofs.Standing.{held_through, loaded_before}
 use Rattle.nsc_database.proofs.base.Base.renew.Goals as goal
 
 pub renew-renewed-requires-clause-noted : goal.renew-renewed-requires-clause-noted
@@ -33,13 +35,23 @@ renew-renewed-requires-clause-loads g c =
     let a : Answering = record { settings = c.args.self.now.settings; stamp = c.args.polled.now.stamp; moment = c.args.now } in
     let anew : AreAnew c.args.pass.now.pass.seen c.args.epoch c.deref.result.now c.deref-2.result.now = record { answering = a; files = c.args.polled.now.content; version = c.requires.polled.version; since = c.requires.polled.since; stamped = c.requires.polled.epoch_is; made = c.deref-2.ensures.value ∙ c.in-Ok.ensures } in
     subst (λ (x : List Record × List Due). AreAnew x.0 c.args.epoch x.1 c.deref-2.result.now) (λ i. (seen i, (c.deref.ensures.value ∙ sym c.deref_mut.ensures.value) i))
-    (anew_on c.args.pass.now.pass.seen c.show.new.pass.pass.seen c.args.epoch c.deref.result.now c.deref-2.result.now c.learn.ensures.legal c.show.ensures.frame.legal c.show.ensures.frame.before anew)
+    (anew_on c.args.pass.now.pass.seen c.show.new.pass.pass.seen c.args.epoch c.deref.result.now c.deref-2.result.now c.learn.ensures c.show.ensures.frame.legal c.show.ensures.frame.before anew)
 
 pub returns-in-Ok-renewed-clause-frame : goal.returns-in-Ok-renewed-clause-frame
-returns-in-Ok-renewed-clause-frame g c = held_through _ _ _ c.show.ensures.frame c.show-2.ensures.frame
+returns-in-Ok-renewed-clause-frame g c = held_through _ _ _ c.show.ensures.frame c.show_cycle.ensures.frame
 
 pub returns-clause-frame : goal.returns-clause-frame
-returns-clause-frame g c = held_through _ _ _ c.show.ensures.frame c.show-2.ensures.frame
+returns-clause-frame g c = held_through _ _ _ c.show.ensures.frame c.show_cycle.ensures.frame
 
 pub returns-in-Ok-renewed-clause-again : goal.returns-in-Ok-renewed-clause-again
-returns-in-Ok-renewed-clause-again g c = subst (λ (s : DbConf). LoadsAgain (room_of s) c.show-2.new.pass.pass.seen) (sym c.args.self.now.conf.0) c.show-2.ensures.again
+returns-in-Ok-renewed-clause-again g c =
+    let last_cycle : Type 0 = LoadedLastCycle c.args.pass.now c.show_cycle.new.pass in
+    let again : AreLoadedAgain (room_of (settings_of g.B.Room.conf g.D.OfDb.db)) c.show_cycle.new.pass.pass.seen ⊎ last_cycle =
+    elim c.show_cycle.ensures.again [ inl all ↦ inl all | inr found ↦ inr (loaded_before c.args.pass.now c.show.new.pass c.show_cycle.new.pass c.show.ensures.frame.searches found) ] in
+    subst (λ (s : DbConf). AreLoadedAgain (room_of s) c.show_cycle.new.pass.pass.seen ⊎ last_cycle) (sym c.args.self.now.conf.0) again
+
+pub returns-clause-fault : goal.returns-clause-fault
+returns-clause-fault g c =
+    let last_cycle : Type 0 = LoadedLastCycle c.args.pass.now c.show_cycle.new.pass in
+    subst (λ (x : List Record × List Due). IsUnmoved x.0 last_cycle c.in-Err-renewed.spent.count (AreOver c.args.epoch x.0 x.1)) (λ i. (sym c.show_cycle.ensures.seen i, c.deref_mut.ensures.value i))
+    (unmoved_to _ _ last_cycle _ _ (λ high. loaded_before c.args.pass.now c.show.new.pass c.show_cycle.new.pass c.show.ensures.frame.searches (c.show_cycle.ensures.cycle high)) c.in-Err-renewed.ensures.spent)

@@ -4,12 +4,15 @@ use Rattle.nsc_model.specs.History.{NoneLive}
 use Rattle.nsc_model.specs.Reads.{IsLookedUp}
 use Rattle.nsc_sourcebook.specs.Reads.{NoneFailed}
 use Rattle.nsc_database.specs.Ticks.{AreListed, AreOver}
-use Rattle.nsc_database.proofs.Standing.{goes_after, goes_on, held_through}
+use Rattle.nsc_database.proofs.Standing.{again_before, goes_after, goes_on, held_through, loaded_before}
 use Rattle.nsc_database.proofs.Ticked.{emptied_stale, emptied_ticked, files_kept, hold_fault, listed_stale, listed_ticked, noted_low, ticking, was_polled}
 use Rattle.nsc_database.proofs.base.Base.tick.Goals as goal
 
 pub returns-in-Err-clause-frame : goal.returns-in-Err-clause-frame
 returns-in-Err-clause-frame g c = goes_after _ _ _ c.note-epoch.ensures.frame c.in-Err.ensures.frame
+
+pub returns-in-Err-clause-steady : goal.returns-in-Err-clause-steady
+returns-in-Err-clause-steady g c = OnTrue_from c.args.self.now.settings.enabled _ (λ on. c.in-Err.ensures.steady c.note-epoch.ensures.steady)
 
 pub returns-in-Err-check-clause-frame : goal.returns-in-Err-check-clause-frame
 returns-in-Err-check-clause-frame g c = goes_on _ _ _ (goes_after _ _ _ c.note-epoch.ensures.frame c.in-Ok.ensures.frame) c.in-Err-check.ensures.frame
@@ -18,7 +21,8 @@ pub returns-in-Err-check-clause-fault : goal.returns-in-Err-check-clause-fault
 returns-in-Err-check-clause-fault g c =
     let after = c.check.new.pass.pass.seen in
     let t = ticking _ _ _ _ _ _ c.note-epoch.ensures.frame c.note-epoch.ensures.noted c.in-Ok.ensures.frame c.in-Ok.ensures.polled c.in-Err-check.ensures.frame in
-    hold_fault c.in-Err-check.fault c.args.self.now.settings c.args.now c.args.pass.now.pass.seen after _ _ _ _ (NoneLive after) (emptied_stale _ _ _ _ _ _ _ _ t)
+    let begun = (goes_after _ _ _ c.note-epoch.ensures.frame c.in-Ok.ensures.frame).searches in
+    hold_fault c.in-Err-check.fault c.args.self.now.settings c.args.now c.args.pass.now.pass.seen after _ _ _ _ _ _ (NoneLive after) (loaded_before c.args.pass.now c.poll.new.pass c.check.new.pass begun) (emptied_stale _ _ _ _ _ _ _ _ t)
     (files_kept (NoneFailed g.F.FileSet) _ _ _ _ c.note-epoch.ensures.frame.files c.in-Err-check.ensures.frame.files c.in-Ok.ensures.no_fault) c.in-Err-check.ensures.fault
 
 pub returns-in-Emptied-clause-frame : goal.returns-in-Emptied-clause-frame
@@ -28,9 +32,10 @@ pub returns-in-Emptied-clause-ticked : goal.returns-in-Emptied-clause-ticked
 returns-in-Emptied-clause-ticked g c = OnTrue_from c.args.self.now.settings.enabled _ (λ on.
     let t = ticking _ _ _ _ _ _ c.note-epoch.ensures.frame c.note-epoch.ensures.noted c.in-Ok.ensures.frame c.in-Ok.ensures.polled c.in-Ok-check.ensures.frame in
     let none : NoneLive c.check.new.pass.pass.seen = rw c.in-Emptied.is at c.in-Ok-check.ensures.checked in
-    emptied_ticked _ _ _ _ _ _ _ _ _ _ _ _ _ t
+    let begun = (goes_after _ _ _ c.note-epoch.ensures.frame c.in-Ok.ensures.frame).searches in
+    emptied_ticked _ _ _ _ _ _ _ _ _ _ _ _ _ _ t
     (files_kept (λ a b. IsLookedUp g.D.OfDb.db (g.F.FileSet.reads a) (g.F.FileSet.reads b) (g.F.FileSet.latest b) c.in-Ok.polled.content) _ _ _ _ c.note-epoch.ensures.frame.files c.in-Ok-check.ensures.frame.files c.in-Ok.ensures.files)
-    none c.in-Ok-check.ensures.reloaded c.in-Ok-check.ensures.again)
+    none c.in-Ok-check.ensures.reloaded (again_before _ c.args.pass.now c.poll.new.pass c.check.new.pass begun c.in-Ok-check.ensures.again))
 
 pub renew-requires-clause-noted : goal.renew-requires-clause-noted
 renew-requires-clause-noted g c =
@@ -51,7 +56,8 @@ returns-clause-fault g c =
     let last = c.renew.new.pass.pass.seen in
     let t = ticking _ _ _ _ _ _ c.note-epoch.ensures.frame c.note-epoch.ensures.noted c.in-Ok.ensures.frame c.in-Ok.ensures.polled c.in-Ok-check.ensures.frame in
     let listed : AreListed c.args.self.now.settings c.args.self.now.reloads c.args.now c.check.new.pass.pass.seen c.in-Listed.due.items = rw c.in-Listed.is at c.in-Ok-check.ensures.checked in
-    hold_fault c.in-Err-renew.fault c.args.self.now.settings c.args.now c.args.pass.now.pass.seen last _ _ _ _ (AreOver c.note-epoch.result last c.in-Listed.due.items)
+    let begun = (goes_on _ _ _ (goes_after _ _ _ c.note-epoch.ensures.frame c.in-Ok.ensures.frame) c.in-Ok-check.ensures.frame).searches in
+    hold_fault c.in-Err-renew.fault c.args.self.now.settings c.args.now c.args.pass.now.pass.seen last _ _ _ _ _ _ (AreOver c.note-epoch.result last c.in-Listed.due.items) (loaded_before c.args.pass.now c.check.new.pass c.renew.new.pass begun)
     (listed_stale _ _ _ _ _ _ _ _ _ _ _ t listed c.renew.ensures.frame.before c.renew.ensures.frame.legal)
     (files_kept (NoneFailed g.F.FileSet) _ _ _ _ c.note-epoch.ensures.frame.files (c.renew.ensures.frame.files ∙ c.in-Ok-check.ensures.frame.files) c.in-Ok.ensures.no_fault) c.in-Err-renew.ensures.fault
 
@@ -59,6 +65,7 @@ pub returns-in-Ok-renew-clause-ticked : goal.returns-in-Ok-renew-clause-ticked
 returns-in-Ok-renew-clause-ticked g c = OnTrue_from c.args.self.now.settings.enabled _ (λ on.
     let t = ticking _ _ _ _ _ _ c.note-epoch.ensures.frame c.note-epoch.ensures.noted c.in-Ok.ensures.frame c.in-Ok.ensures.polled c.in-Ok-check.ensures.frame in
     let listed : AreListed c.args.self.now.settings c.args.self.now.reloads c.args.now c.check.new.pass.pass.seen c.in-Listed.due.items = rw c.in-Listed.is at c.in-Ok-check.ensures.checked in
-    listed_ticked _ _ _ _ _ _ _ _ _ _ _ _ _ _ _ t
+    let begun = (goes_on _ _ _ (goes_after _ _ _ c.note-epoch.ensures.frame c.in-Ok.ensures.frame) c.in-Ok-check.ensures.frame).searches in
+    listed_ticked _ _ _ _ _ _ _ _ _ _ _ _ _ _ _ _ t
     (files_kept (λ a b. IsLookedUp g.D.OfDb.db (g.F.FileSet.reads a) (g.F.FileSet.reads b) (g.F.FileSet.latest b) c.in-Ok.polled.content) _ _ _ _ c.note-epoch.ensures.frame.files (c.renew.ensures.frame.files ∙ c.in-Ok-check.ensures.frame.files) c.in-Ok.ensures.files) listed
-    c.renew.ensures.frame.before c.renew.ensures.frame.legal c.in-Ok-renew.ensures.over c.in-Ok-renew.ensures.reloaded c.in-Ok-renew.ensures.again)
+    c.renew.ensures.frame.before c.renew.ensures.frame.legal c.in-Ok-renew.ensures.over c.in-Ok-renew.ensures.reloaded (again_before _ c.args.pass.now c.check.new.pass c.renew.new.pass begun c.in-Ok-renew.ensures.again))

@@ -1,7 +1,7 @@
-use Rattle.std.proofs.Common.{ℕ, Option, Ok, subst, sym}
+use Rattle.std.proofs.Common.{ℕ, ◌≤◌, Option, Ok, subst, sym}
 use Rattle.nsc_model.specs.declared.conf.DbConf.{DbConf}
 use Rattle.nsc_model.specs.History.{NoneLive}
-use Rattle.nsc_model.specs.Machine.{is_outdated}
+use Rattle.nsc_model.specs.Machine.{is_outdated, last_count}
 use Rattle.nsc_model.specs.Stores.{IsUnmoved}
 use Rattle.nsc_turns.specs.Ticks.{Checks}
 use Rattle.nsc_database.specs.Rests.{Keeps}
@@ -36,5 +36,5 @@ returns-in-Ok-clause-checked g c =
 pub returns-in-Err-Spent-clause-fault : goal.returns-in-Err-Spent-clause-fault
 returns-in-Err-Spent-clause-fault g c =
     let stops = rw c.in-Err-Spent.field-0-is at c.in-Err-Spent.ensures in
-    subst (λ (n : ℕ). IsUnmoved c.check.new.writer.seen n (NoneLive c.check.new.writer.seen)) (sym c.in-Err-Spent.count-is)
-    (stops_unmoved c.self.inside.writer c.check.new.writer c.in-Err-Spent.count stops.1 c.learn.ensures.told c.self.invariant.1)
+    subst (λ (n : ℕ). IsUnmoved c.check.new.writer.seen (last_count ≤ c.check.new.writer.cache.cycle) n (NoneLive c.check.new.writer.seen)) (sym c.in-Err-Spent.count-is)
+    (stops_unmoved c.self.inside.writer c.check.new.writer c.in-Err-Spent.count stops.1 c.learn.ensures.told)

@@ -1,5 +1,6 @@
-use Rattle.std.proofs.Common.{ℕ, List, ap, arith, refl, subst}
+use Rattle.std.proofs.Common.{ℕ, ◌≤◌, List, ap, arith, refl, subst}
 use Rattle.nsc_model.specs.declared.record.Record.{Record}
+use Rattle.nsc_model.specs.Machine.{last_count}
 use Rattle.nsc_shelf.specs.Uses.{counted}
 use Rattle.nsc_turns.specs.Turns.{missed}
 use Rattle.nsc_database.specs.Holds.{IsInserted}
@@ -22,5 +23,5 @@ returns-clause-inserted g c =
     let w = c.self.inside.writer in
     let w1 = missed c.args.loaded w in
     let counts : Rests w w1 = rests_missed (counted c.args.loaded.answer.not_found w.misses) w w1 refl in
-    subst (λ (x : ℕ × List Record). IsInserted x.0 c.insert.result.0 c.args.loaded x.1 c.insert.new.writer.seen) (λ i. (c.self.inside.own.1 i, ap (λ (d : Desk). d.writer.seen) c.self.view_is i))
+    subst (λ (x : ℕ × List Record). IsInserted x.0 (last_count ≤ c.insert.new.writer.cache.cycle) c.insert.result.0 c.args.loaded x.1 c.insert.new.writer.seen) (λ i. (c.self.inside.own.1 i, ap (λ (d : Desk). d.writer.seen) c.self.view_is i))
     (is_inserted c.insert.result.0 c.args.loaded w1 c.insert.new.writer c.learn.ensures.told (counts.packed c.self.invariant.1) c.insert.ensures.inserted c.insert.ensures.why)

@@ -1,7 +1,8 @@
-use Rattle.std.proofs.Common.{ℕ, List, Result, ap, subst, sym}
+use Rattle.std.proofs.Common.{ℕ, ◌≤◌, List, Result, ap, subst, sym}
 use Rattle.std.specs.Prelude.{IfErr, IfOk}
 use Rattle.nsc_model.specs.declared.fault.CacheFault.{CacheFault}
 use Rattle.nsc_model.specs.declared.record.Record.{Record}
+use Rattle.nsc_model.specs.Machine.{last_count}
 use Rattle.nsc_model.specs.Stores.{IsEmptied, IsInvalidateFault}
 use Rattle.nsc_database.specs.Rests.{Desk}
 use Rattle.nsc_database.proofs.Invalidations.{completes_emptied, rests_invalidated, stops_unmoved}
@@ -29,6 +30,6 @@ returns-clause-fault g c =
     let w = c.self.inside.writer in
     let w' = c.invalidate.new.writer in
     elim c.match-invalidate.branch [
-      | in-Ok s ↦ subst (λ (r : Result ℕ CacheFault). IfErr r (λ fault. IsInvalidateFault fault w'.seen)) (sym s.result-is) tt
-      | in-Err s ↦ subst (λ (r : Result ℕ CacheFault). IfErr r (λ fault. IsInvalidateFault fault w'.seen)) (sym s.result-is) (stops_unmoved w w' s.in-Err.spent.count (rw s.in-Err.is at c.invalidate.ensures.stops) c.learn.ensures.told c.self.invariant.1)
+      | in-Ok s ↦ subst (λ (r : Result ℕ CacheFault). IfErr r (λ fault. IsInvalidateFault fault w'.seen (last_count ≤ w'.cache.cycle))) (sym s.result-is) tt
+      | in-Err s ↦ subst (λ (r : Result ℕ CacheFault). IfErr r (λ fault. IsInvalidateFault fault w'.seen (last_count ≤ w'.cache.cycle))) (sym s.result-is) (stops_unmoved w w' s.in-Err.spent.count (rw s.in-Err.is at c.invalidate.ensures.stops) c.learn.ensures.told)
     ]

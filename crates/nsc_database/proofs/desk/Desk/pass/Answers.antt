@@ -1,6 +1,6 @@
 use Rattle.std.proofs.Common.{ap, subst, sym}
 use Rattle.nsc_rule.specs.Pass.{Pass}
-use Rattle.nsc_database.specs.Steady.{HasOne}
+use Rattle.nsc_model.specs.Steady.{HasOne}
 use Rattle.nsc_database.proofs.Standing.{at_rest_same}
 use Rattle.nsc_database.proofs.Steady.{one_of_still}
 use Rattle.nsc_database.proofs.desk.Desk.pass.Goals as goal
