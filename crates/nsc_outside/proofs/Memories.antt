@@ -3,7 +3,7 @@ use Rattle.std.proofs.Common.{◌≡◌, ℕ, ◌+◌, ◌-◌, ◌≤◌, List,
 use Rattle.std.proofs.lemmas.List.{places, take-append-drop, take_at, drop-drop}
 use Rattle.nsc_outside.specs.Stream.{Moves}
 use Rattle.nsc_model.specs.Reads.{greatest, Rose}
-use Rattle.nsc_outside.specs.Plan.{risen}
+use Rattle.nsc_outside.specs.CallPlan.{risen}
 
 -- a count that is counted up rose
 pub rose_risen : (count : ℕ) → count ≤ greatest → Rose count (risen count)

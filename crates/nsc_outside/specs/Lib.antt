@@ -1,7 +1,7 @@
 pub mod Stream
 pub mod StreamAt
 pub mod StdStream
-pub mod Plan
+pub mod CallPlan
 pub mod MemSource
 pub mod MemSink
 pub mod FileSets

@@ -2,6 +2,7 @@
 //! standard library's.
 #![tactic(auto)]
 
+mod call_plan;
 mod comparing;
 mod files;
 mod held_files;
@@ -13,7 +14,6 @@ mod mem_source;
 mod notices;
 mod numbers;
 mod paths;
-mod plan;
 mod read_plan;
 mod reading;
 mod release;

@@ -2,9 +2,9 @@ ghost use Rattle.std.specs.Prelude.{◌≡◌, ◌-◌, ◌<◌, ◌≤◌, [], 
 ghost use Rattle.nsc_outside.specs.Stream.{Grows};
 ghost use Rattle.nsc_model.specs.Reads.{Rose};
 ghost use Rattle.nsc_outside.specs.MemSink.{MemSink};
-ghost use Rattle.nsc_outside.specs.Plan.{after_call, after_fault, is_next_failing};
+ghost use Rattle.nsc_outside.specs.CallPlan.{after_call, after_fault, is_next_failing};
 
-use crate::plan::Plan;
+use crate::call_plan::CallPlan;
 use crate::stream::{Failed, Sink};
 use nsc_base::NoMemory;
 use std::alloc::Global;
@@ -15,7 +15,7 @@ use std::marker::Model;
 pub struct MemSink {
     taken: Vec<u8>,
     room: usize,
-    plan: Plan,
+    plan: CallPlan,
 }
 
 impl Model for MemSink {
@@ -39,7 +39,7 @@ impl MemSink {
         Ok(MemSink {
             taken: Vec::with_capacity(alloc, room)?,
             room,
-            plan: Plan::new(alloc),
+            plan: CallPlan::new(alloc),
         })
     }
 

@@ -2,9 +2,9 @@ ghost use Rattle.std.specs.Prelude.{◌≡◌, ◌<◌, ◌≤◌, [], length, m
 ghost use Rattle.nsc_outside.specs.Stream.{Moves, IsDrained};
 ghost use Rattle.nsc_model.specs.Reads.{Rose};
 ghost use Rattle.nsc_outside.specs.MemSource.{MemSource};
-ghost use Rattle.nsc_outside.specs.Plan.{after_call, after_fault, is_next_failing};
+ghost use Rattle.nsc_outside.specs.CallPlan.{after_call, after_fault, is_next_failing};
 
-use crate::plan::Plan;
+use crate::call_plan::CallPlan;
 use crate::stream::{Failed, Source};
 use std::marker::Model;
 
@@ -13,7 +13,7 @@ use std::marker::Model;
 pub struct MemSource {
     bytes: Vec<u8>,
     next: usize,
-    plan: Plan,
+    plan: CallPlan,
 }
 
 impl Model for MemSource {
@@ -32,7 +32,7 @@ impl MemSource {
     pub fn new(bytes: Vec<u8>) -> MemSource
         ensures { result ≡ record { left = bytes.items; plan = record { step = usize.MAX; failing = []; calls = 0; faults = 0 } } }
     {
-        let plan = Plan::new(*bytes.allocator());
+        let plan = CallPlan::new(*bytes.allocator());
         MemSource {
             bytes,
             next: 0,

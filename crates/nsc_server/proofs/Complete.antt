@@ -8,8 +8,8 @@ use Rattle.nsc_model.specs.declared.conf.DbConf.{DbConf}
 use Rattle.nsc_model.specs.declared.databases.Databases.{Databases}
 use Rattle.nsc_model.specs.declared.store.LookupFault.{LookupFault}
 use Rattle.nsc_model.specs.declared.store.LookupFault.TheVariants as fault
-use Rattle.nsc_model.specs.declared.fault.CacheFault.{CacheFault as InvalidateFault}
-use Rattle.nsc_model.specs.declared.fault.CacheFault.TheVariants as invalidate_fault
+use Rattle.nsc_model.specs.declared.fault.CacheFault.{CacheFault}
+use Rattle.nsc_model.specs.declared.fault.CacheFault.TheVariants as cache_fault
 use Rattle.nsc_model.specs.Databases.{database_in}
 use Rattle.nsc_model.specs.Kinds.{database_of, db_named}
 use Rattle.nsc_model.specs.Stores.{IsFault, IsInvalidateFault}
@@ -18,7 +18,7 @@ use Rattle.nsc_sockets.specs.declared.role.Role.{Role}
 use Rattle.nsc_server.specs.declared.served.Served.{Served}
 use Rattle.nsc_server.specs.declared.served.Served.TheVariants as served
 use Rattle.nsc_server.specs.declared.served.Closing.{Closing}
-use Rattle.nsc_server.specs.Passes.{PassAt}
+use Rattle.nsc_server.specs.Passes.{PassAt, LoadedLastCycle}
 use Rattle.nsc_server.specs.Requests.{GetsShort, IsNeeded, closing_of}
 use Rattle.nsc_server.specs.Outcomes.{Answers, Completes, CountsInput, Ends, IsInvalidateRefusal, IsRefusal, NoInvalidateFault, NoLookFault, NoStoreFault, OthersStay, Serves, Side, replied_to, served_after, served_by}
 
@@ -29,13 +29,13 @@ look_lacked (fault.Spent count) before after is calm = absurd (calm.count_left c
 look_lacked (fault.SourceFault file) before after is calm = absurd (calm.calm is.all)
 look_lacked (fault.TooLong file size) before after is calm = absurd (calm.calm is.0.all)
 
-invalidate_lacked : (f : InvalidateFault) (after : PassAt) → IsInvalidateFault f after.seen → NoInvalidateFault after → served_after f ≡ served.NoMemory
-invalidate_lacked invalidate_fault.NoMemory after is calm = refl
-invalidate_lacked (invalidate_fault.Spent count) after is calm = absurd (calm count is)
+invalidate_lacked : (f : CacheFault) (before after : PassAt) → IsInvalidateFault f after.seen (LoadedLastCycle before after) → NoInvalidateFault before after → served_after f ≡ served.NoMemory
+invalidate_lacked cache_fault.NoMemory before after is calm = refl
+invalidate_lacked (cache_fault.Spent count) before after is calm = absurd (calm count is)
 
-named_lacked : (which : Option Db) (after : Databases PassAt) (by : Served) → IsInvalidateRefusal which after by → IfSome which (λ db. NoInvalidateFault (database_in after db)) → by ≡ served.NoMemory
-named_lacked (Some which) after by is calm = is.1 ∙ invalidate_lacked is.0 (database_in after which) is.3 calm
-named_lacked None after by is calm = absurd is
+named_lacked : (which : Option Db) (before after : Databases PassAt) (by : Served) → IsInvalidateRefusal which before after by → IfSome which (λ db. NoInvalidateFault (database_in before db) (database_in after db)) → by ≡ served.NoMemory
+named_lacked (Some which) before after by is calm = is.1 ∙ invalidate_lacked is.0 (database_in before which) (database_in after which) is.3 calm
+named_lacked None before after by is calm = absurd is
 
 -- a reply that is refused though no fault came is refused for want of memory
 lacked : (settings : Databases DbConf) (asked : Asked) (before after : Databases PassAt) (by : Served) → IsRefusal settings asked before after by → NoStoreFault asked before after → by ≡ served.NoMemory
@@ -43,7 +43,7 @@ lacked settings (Look request) before after by is calm =
     is.told ∙ look_lacked is.cause (database_in before (database_of request.kind)) (database_in after (database_of request.kind)) is.gives_up.fault calm
 lacked settings Shutdown before after by is calm = absurd is
 lacked settings Stat before after by is calm = is
-lacked settings (Invalidate name) before after by is calm = named_lacked (db_named name) after by is calm
+lacked settings (Invalidate name) before after by is calm = named_lacked (db_named name) before after by is calm
 lacked settings Descriptor before after by is calm = absurd is
 lacked settings Netgroup before after by is calm = absurd is
 lacked settings (Short have) before after by is calm = absurd is

@@ -8,8 +8,8 @@ use Rattle.nsc_model.specs.declared.answer.Request.{Request}
 use Rattle.nsc_model.specs.declared.databases.Databases.{Databases}
 use Rattle.nsc_model.specs.declared.store.LookupFault.{LookupFault}
 use Rattle.nsc_model.specs.declared.store.LookupFault.TheVariants as fault
-use Rattle.nsc_model.specs.declared.fault.CacheFault.{CacheFault as InvalidateFault}
-use Rattle.nsc_model.specs.declared.fault.CacheFault.TheVariants as invalidate_fault
+use Rattle.nsc_model.specs.declared.fault.CacheFault.{CacheFault}
+use Rattle.nsc_model.specs.declared.fault.CacheFault.TheVariants as cache_fault
 use Rattle.nsc_model.specs.declared.store.Given.{Given}
 use Rattle.nsc_model.specs.declared.store.Stats.{Stats}
 use Rattle.nsc_model.specs.Databases.{database_in}
@@ -23,7 +23,7 @@ use Rattle.nsc_sockets.specs.declared.role.Role.{Role}
 use Rattle.nsc_server.specs.declared.served.Served.{Served}
 use Rattle.nsc_server.specs.declared.served.Served.TheVariants as served
 use Rattle.nsc_server.specs.Requests.{IsNeeded, closing_of}
-use Rattle.nsc_server.specs.Passes.{PassAt, OthersThan, passes_at}
+use Rattle.nsc_server.specs.Passes.{PassAt, LoadedLastCycle, OthersThan, passes_at}
 use Rattle.nsc_outside.specs.declared.stream.Sink as sink
 use Rattle.nsc_model.specs.declared.store.Store as store
 use Rattle.nsc_server.specs.Stats.{stats_text}
@@ -37,9 +37,9 @@ served_by (fault.Spent count) = served.Spent count
 served_by (fault.SourceFault file) = served.SourceFault file
 served_by (fault.TooLong file size) = served.TooLong file size
 
-abbrev pub served_after : InvalidateFault → Served
-served_after invalidate_fault.NoMemory = served.NoMemory
-served_after (invalidate_fault.Spent count) = served.Spent count
+abbrev pub served_after : CacheFault → Served
+served_after cache_fault.NoMemory = served.NoMemory
+served_after (cache_fault.Spent count) = served.Spent count
 
 -- ---- replies
 
@@ -55,7 +55,7 @@ pub record IsLookReply (settings : DbConf) (moment : ℕ) (request : Request) (b
   pub legal : Legal after.seen
   pub given : Given
   pub says : reply_of given ≡ reply
-  pub gives : GivesAnswer settings moment before.seen after.seen request given
+  pub gives : GivesAnswer settings moment before.seen after.seen (LoadedLastCycle before after) request given
 
 -- a database was emptied, or none has the name
 abbrev pub IsInvalidateReply : Option Db → Databases PassAt → Databases PassAt → List ℕ → Type 0
@@ -99,14 +99,15 @@ pub record IsLookFault (settings : DbConf) (request : Request) (before after : P
   pub told : by ≡ served_by cause
   pub gives_up : GivesUp settings before.seen after.seen request before.faults after.faults before.file_faults after.file_faults cause
 
-abbrev pub IsInvalidateRefusal : Option Db → Databases PassAt → Served → Type 0
-IsInvalidateRefusal (Some which) after by = (f : InvalidateFault) × (by ≡ served_after f) × Legal (database_in after which).seen × IsInvalidateFault f (database_in after which).seen
-IsInvalidateRefusal None after by = ⊥
+abbrev pub IsInvalidateRefusal : Option Db → Databases PassAt → Databases PassAt → Served → Type 0
+IsInvalidateRefusal (Some which) before after by =
+    (f : CacheFault) × (by ≡ served_after f) × Legal (database_in after which).seen × IsInvalidateFault f (database_in after which).seen (LoadedLastCycle (database_in before which) (database_in after which))
+IsInvalidateRefusal None before after by = ⊥
 
 abbrev pub IsRefusal : Databases DbConf → Asked → Databases PassAt → Databases PassAt → Served → Type 0
 IsRefusal settings (Look request) before after by = IsLookFault (database_in settings (database_of request.kind)) request (database_in before (database_of request.kind)) (database_in after (database_of request.kind)) by
 IsRefusal settings Stat before after by = by ≡ served.NoMemory
-IsRefusal settings (Invalidate name) before after by = IsInvalidateRefusal (db_named name) after by
+IsRefusal settings (Invalidate name) before after by = IsInvalidateRefusal (db_named name) before after by
 IsRefusal settings _ before after by = ⊥
 
 -- the passes of the databases that what was asked does not concern are as before
@@ -188,13 +189,14 @@ pub record NoLookFault (before after : PassAt) : Type 0 where
   pub calm : Rose before.faults after.faults → ⊥
   pub count_left : (count : ℕ) → IsSpent after.seen count → ⊥
 
--- of an invalidation: no count that it needs is at its end
-abbrev pub NoInvalidateFault : PassAt → Type 0
-NoInvalidateFault after = (count : ℕ) → IsUnmoved after.seen count (NoneLive after.seen) → ⊥
+-- of an invalidation: no count that it needs is at its end: not that of the invalidations, nor was CYCLE loaded as 2^62 with every entry
+-- ended
+abbrev pub NoInvalidateFault : PassAt → PassAt → Type 0
+NoInvalidateFault before after = (count : ℕ) → IsUnmoved after.seen (LoadedLastCycle before after) count (NoneLive after.seen) → ⊥
 
 abbrev pub NoStoreFault : Asked → Databases PassAt → Databases PassAt → Type 0
 NoStoreFault (Look request) before after = NoLookFault (database_in before (database_of request.kind)) (database_in after (database_of request.kind))
-NoStoreFault (Invalidate name) before after = IfSome (db_named name) (λ which. NoInvalidateFault (database_in after which))
+NoStoreFault (Invalidate name) before after = IfSome (db_named name) (λ which. NoInvalidateFault (database_in before which) (database_in after which))
 NoStoreFault _ before after = Unit {0}
 
 -- nothing failed

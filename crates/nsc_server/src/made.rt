@@ -5,11 +5,11 @@ ghost use Rattle.nsc_model.specs.History.{Legal};
 ghost use Rattle.nsc_model.specs.Entry.{key_limit};
 ghost use Rattle.nsc_model.specs.Kinds.{database_of};
 ghost use Rattle.nsc_server.specs.Made.{bytes_of};
-ghost use Rattle.nsc_server.specs.Passes.{AreNamed, ArePasses, SawMore, OthersThan, passes_at, settings_of};
+ghost use Rattle.nsc_server.specs.Passes.{AreNamed, ArePasses, LoadedLastCycle, SawMore, OthersThan, passes_at, settings_of};
 
 use crate::served::Served;
 use nsc_base::Bytes;
-use nsc_model::{Databases, Db, Given, InvalidateFault, Kind, LookupFault, Store};
+use nsc_model::{CacheFault, Databases, Db, Given, Kind, LookupFault, Store};
 use std::alloc::Global;
 use std::sync::Wait;
 
@@ -73,7 +73,7 @@ pub(crate) fn look_up<R: Wait, S: Store>(
     ensures before { SawMore (passes_at S.Store passes.old) (passes_at S.Store passes.new) }
     ensures others { OthersThan db (passes_at S.Store passes.old) (passes_at S.Store passes.new) }
     ensures legal { Legal (database_in (passes_at S.Store passes.new) db).seen }
-    ensures answer { IfOk result (GivesAnswer (database_in (settings_of S.Store stores.now) db) now (database_in (passes_at S.Store passes.old) db).seen (database_in (passes_at S.Store passes.new) db).seen (record { kind = kind; key = key.now })) }
+    ensures answer { IfOk result (GivesAnswer (database_in (settings_of S.Store stores.now) db) now (database_in (passes_at S.Store passes.old) db).seen (database_in (passes_at S.Store passes.new) db).seen (LoadedLastCycle (database_in (passes_at S.Store passes.old) db) (database_in (passes_at S.Store passes.new) db)) (record { kind = kind; key = key.now })) }
     ensures fault { IfErr result (GivesUp (database_in (settings_of S.Store stores.now) db) (database_in (passes_at S.Store passes.old) db).seen (database_in (passes_at S.Store passes.new) db).seen (record { kind = kind; key = key.now }) (database_in (passes_at S.Store passes.old) db).faults (database_in (passes_at S.Store passes.new) db).faults (database_in (passes_at S.Store passes.old) db).file_faults (database_in (passes_at S.Store passes.new) db).file_faults) }
 {
     match db {
@@ -98,14 +98,14 @@ pub(crate) fn empty<R: Wait, S: Store>(
     stores: &Databases<S>,
     passes: &mut Databases<S::Pass>,
     db: Db,
-) -> Result<u64, InvalidateFault>
+) -> Result<u64, CacheFault>
     requires { ArePasses S.Store stores.now passes.old }
     ensures passes { ArePasses S.Store stores.now passes.new }
     ensures before { SawMore (passes_at S.Store passes.old) (passes_at S.Store passes.new) }
     ensures others { OthersThan db (passes_at S.Store passes.old) (passes_at S.Store passes.new) }
     ensures legal { Legal (database_in (passes_at S.Store passes.new) db).seen }
     ensures done { IfOk result (λ epoch. IsEmptied (database_in (passes_at S.Store passes.old) db).seen (database_in (passes_at S.Store passes.new) db).seen epoch) }
-    ensures fault { IfErr result (λ fault. IsInvalidateFault fault (database_in (passes_at S.Store passes.new) db).seen) }
+    ensures fault { IfErr result (λ fault. IsInvalidateFault fault (database_in (passes_at S.Store passes.new) db).seen (LoadedLastCycle (database_in (passes_at S.Store passes.old) db) (database_in (passes_at S.Store passes.new) db))) }
 {
     match db {
         Db::Passwd => stores.passwd.invalidate(rt, &mut passes.passwd),

@@ -153,7 +153,7 @@ fn emptied<RT: AllocGlobal + Wait, S: Store>(
     ensures before { SawMore (passes_at S.Store passes.old) (passes_at S.Store passes.new) }
     ensures others { OthersStay (Invalidate name.now) (passes_at S.Store passes.old) (passes_at S.Store passes.new) }
     ensures made { IfOk result (λ made. IsInvalidateReply (db_named name.now) (passes_at S.Store passes.old) (passes_at S.Store passes.new) (bytes_of made)) }
-    ensures refused { IfErr result (IsInvalidateRefusal (db_named name.now) (passes_at S.Store passes.new)) }
+    ensures refused { IfErr result (IsInvalidateRefusal (db_named name.now) (passes_at S.Store passes.old) (passes_at S.Store passes.new)) }
 {
     let Some(db) = Db::named(name) else {
         return Ok(Made::NoDatabase);

@@ -1,5 +1,5 @@
 use nsc_base::NoMemory;
-use nsc_model::{FileId, InvalidateFault, LookupFault};
+use nsc_model::{CacheFault, FileId, LookupFault};
 
 /// What came of one connection.
 #[derive(Clone, Copy, Debug, PartialEq, Eq)]
@@ -73,16 +73,16 @@ impl From<LookupFault> for Served {
     }
 }
 
-impl From<InvalidateFault> for Served {
+impl From<CacheFault> for Served {
     ghost use Rattle.std.specs.Prelude.{◌≡◌};
     ghost use Rattle.nsc_server.specs.Outcomes.{served_after};
 
     ghost from_gives = { λ fault served. served ≡ served_after fault };
 
-    fn from(fault: InvalidateFault) -> Served {
+    fn from(fault: CacheFault) -> Served {
         match fault {
-            InvalidateFault::NoMemory => Served::NoMemory,
-            InvalidateFault::Spent { count } => Served::Spent { count },
+            CacheFault::NoMemory => Served::NoMemory,
+            CacheFault::Spent { count } => Served::Spent { count },
         }
     }
 }

@@ -1,6 +1,6 @@
 ghost use Rattle.std.specs.Prelude.{◌≡◌, ◌≤◌, ◌<◌, drop, length, slice_get, is_err, is_none, Some, IfOk, IfErr, OnOk, OnErr};
 ghost use Rattle.nsc_model.specs.Reads.{Rose};
-ghost use Rattle.nsc_outside.specs.Plan.{risen};
+ghost use Rattle.nsc_outside.specs.CallPlan.{risen};
 ghost use Rattle.nsc_sockets.specs.Connections.{IsPeer};
 ghost use Rattle.nsc_sockets.specs.CalmListener.{CalmListener};
 

@@ -1,7 +1,7 @@
 ghost use Rattle.std.specs.Prelude.{◌≡◌, ◌∷◌, ◌<◌, ◌≤◌, [], drop, reverse, vec_len, slice_get, false, ◌+◌, is_err, is_none, option_map, None, Some, Ok, IfOk, IfErr, OnOk, OnErr, IfSome};
 ghost use Rattle.std.specs.Vec.{vec_capacity};
 ghost use Rattle.nsc_model.specs.Reads.{Rose};
-ghost use Rattle.nsc_outside.specs.Plan.{risen};
+ghost use Rattle.nsc_outside.specs.CallPlan.{risen};
 ghost use Rattle.nsc_sockets.specs.Connections.{Connection, Gives, IsPeer};
 ghost use Rattle.nsc_sockets.specs.MemListener.{MemListener, Wait, begun, given_after, FindsNext, Accepts};
 

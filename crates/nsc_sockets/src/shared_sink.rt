@@ -1,6 +1,6 @@
 ghost use Rattle.std.specs.Prelude.{◌≡◌, ◌-◌, ◌≤◌, ◌<◌, length, vec_len, nat_lt, is_err, None, Some, IfOk, OnOk, OnErr};
 ghost use Rattle.nsc_model.specs.Reads.{Rose};
-ghost use Rattle.nsc_outside.specs.Plan.{risen};
+ghost use Rattle.nsc_outside.specs.CallPlan.{risen};
 ghost use Rattle.nsc_sockets.specs.SharedSink.{known, signalled};
 
 use nsc_base::{Bytes, NoMemory};

@@ -3,10 +3,14 @@
 ghost use Rattle.std.specs.Prelude.{◌≡◌, ◌≤◌, ◌++◌, length, map, flat_map, IfOk, OnOk};
 ghost use Rattle.nsc_model.specs.Answer.{reply_limit};
 ghost use Rattle.nsc_model.specs.Wire.{addresses_found};
+ghost use Rattle.nsc_wire.specs.Replies.{Gives, addresses_at, found_at, founds_at};
 
+use crate::fault::Broken;
+use crate::hosts::address_size;
+use crate::reading::{fixed, number, piece, size, text};
 use crate::reply::{VERSION, put_fields, put_text, text_len};
 use nsc_base::{Bytes, NoMemory};
-use nsc_model::{Ai, Found6};
+use nsc_model::{Ai, Found6, Founds};
 use std::alloc::Global;
 
 // The six fields of a reply with addresses, in bytes.
@@ -60,4 +64,72 @@ fn put_families(out: &mut Vec<u8>, list: &[Found6]) -> Result<(), NoMemory>
         out.push(found.family)?;
     }
     Ok(())
+}
+
+// The addresses of a reply, after the fields version and found.
+#[tactic(auto, unfolding(crate::specs::Replies::addresses_at))]
+pub(crate) fn decode_addresses(alloc: Global, bytes: &[u8]) -> Result<(Ai, &[u8]), Broken>
+    ensures { Gives (λ x. (x.0, x.1.now)) result (addresses_at bytes.now) }
+{
+    let (count, after_count) = number(bytes)?;
+    let (length, rest) = number(after_count)?;
+    let (canon, rest) = size(rest)?;
+    let rest = fixed(rest, 0)?;
+    let (addresses, families) = piece(rest, length as usize)?;
+    let (list, others, rest) = founds(alloc, count, addresses, families)?;
+    if !others.is_empty() {
+        return Err(Broken::Left(after_count.len()));
+    }
+    let (canon, rest) = text(alloc, canon, rest)?;
+    let list = Founds::from_vec(list);
+    Ok((Ai { list, canon }, rest))
+}
+
+// As many addresses as the count says, each of the family that stands at its place.
+fn founds<'a, 'b>(
+    alloc: Global,
+    count: u32,
+    addresses: &'a [u8],
+    families: &'b [u8],
+) -> Result<(Vec<Found6>, &'a [u8], &'b [u8]), Broken>
+    ensures { Gives (λ x. (x.0.items, x.1.now, x.2.now)) result (founds_at count addresses.now families.now) }
+{
+    let room = (count as usize).min(families.len());
+    let mut list = Vec::with_capacity(alloc, room)?;
+    let mut addresses = addresses;
+    let mut families = families;
+    for _ in 0..count {
+        let (one, others, after) = found(alloc, addresses, families)?;
+        list.push(one)?;
+        addresses = others;
+        families = after;
+    }
+    Ok((list, addresses, families))
+}
+
+// The first address, of the family that stands first.
+#[tactic(auto, unfolding(crate::specs::Replies::found_at))]
+fn found<'a, 'b>(
+    alloc: Global,
+    addresses: &'a [u8],
+    families: &'b [u8],
+) -> Result<(Found6, &'a [u8], &'b [u8]), Broken>
+    ensures { Gives (λ x. (x.0, x.1.now, x.2.now)) result (found_at addresses.now families.now) }
+{
+    match families {
+        [] => Err(Broken::Left(0)),
+        [family, rest @ ..] => {
+            let size = address_size(u32::from(*family)) as usize;
+            if size == 0 {
+                return Err(Broken::Left(families.len()));
+            }
+            if addresses.len() < size {
+                return Err(Broken::Left(families.len()));
+            }
+            let (front, others) = addresses.split_at(size);
+            let address = Bytes::copy(alloc, front)?;
+            let family = *family;
+            Ok((Found6 { family, address }, others, rest))
+        }
+    }
 }

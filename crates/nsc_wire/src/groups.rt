@@ -3,10 +3,13 @@
 ghost use Rattle.std.specs.Prelude.{◌≡◌, ◌≤◌, length, IfOk};
 ghost use Rattle.nsc_model.specs.Answer.{reply_limit};
 ghost use Rattle.nsc_model.specs.Wire.{group_found, ids_found};
+ghost use Rattle.nsc_wire.specs.Replies.{Gives, group_at, ids_at};
 
+use crate::fault::Broken;
+use crate::reading::{after_sizes, number, numbers, size, text, texts};
 use crate::reply::{FIELD, VERSION, put_fields, put_text, text_len};
 use crate::texts::{put_lengths, put_texts, texts_count, texts_size};
-use nsc_base::{Bytes, NoMemory};
+use nsc_base::{Bytes, Ids, NoMemory, Texts};
 use nsc_model::Group;
 use std::alloc::Global;
 
@@ -44,4 +47,37 @@ pub(crate) fn encode_ids(alloc: Global, ids: &[u32]) -> Result<Bytes, NoMemory>
     put_fields(&mut out, &[VERSION, 1, ids.len() as u32])?;
     put_fields(&mut out, ids)?;
     Ok(Bytes::from_vec(out))
+}
+
+// The group of a reply, after the fields version and found.
+#[tactic(auto, unfolding(crate::specs::Replies::group_at))]
+pub(crate) fn decode_group(alloc: Global, bytes: &[u8]) -> Result<(Group, &[u8]), Broken>
+    ensures { Gives (λ x. (x.0, x.1.now)) result (group_at bytes.now) }
+{
+    let (name, rest) = size(bytes)?;
+    let (passwd, rest) = size(rest)?;
+    let (gid, rest) = number(rest)?;
+    let (count, lengths) = number(rest)?;
+    let rest = after_sizes(lengths, count)?;
+    let (name, rest) = text(alloc, name, rest)?;
+    let (passwd, rest) = text(alloc, passwd, rest)?;
+    let (members, rest) = texts(alloc, count, lengths, rest)?;
+    let members = Texts::from_vec(members);
+    let group = Group {
+        name,
+        passwd,
+        gid,
+        members,
+    };
+    Ok((group, rest))
+}
+
+// The ids of a reply, after the fields version and found.
+#[tactic(auto, unfolding(crate::specs::Replies::ids_at))]
+pub(crate) fn decode_ids(alloc: Global, bytes: &[u8]) -> Result<(Ids, &[u8]), Broken>
+    ensures { Gives (λ x. (x.0, x.1.now)) result (ids_at bytes.now) }
+{
+    let (count, rest) = number(bytes)?;
+    let (ids, rest) = numbers(alloc, count, rest)?;
+    Ok((Ids::from_vec(ids), rest))
 }

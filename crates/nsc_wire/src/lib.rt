@@ -4,15 +4,20 @@
 #![tactic(auto)]
 
 mod addresses;
+mod decode;
+mod fault;
 mod groups;
 mod head;
 mod hosts;
+mod reading;
 mod reply;
 mod request;
 mod services;
 mod texts;
 mod users;
 
+pub use decode::decode_reply;
+pub use fault::ReplyFault;
 pub use head::{HEAD, LONGEST, is_settled, key_wanted};
 pub use nsc_model::Reply;
 pub use reply::encode;

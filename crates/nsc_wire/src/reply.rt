@@ -20,10 +20,10 @@ pub(crate) const VERSION: u32 = 2;
 pub(crate) const FIELD: usize = 4;
 
 // A number that is not there, or a database that is not cached.
-const MINUS_ONE: u32 = u32::MAX;
+pub(crate) const MINUS_ONE: u32 = u32::MAX;
 
 // The error of a reply on hosts without a row: HOST_NOT_FOUND of netdb.h.
-const NOT_FOUND: u32 = 1;
+pub(crate) const NOT_FOUND: u32 = 1;
 
 /// The bytes of a reply of this kind. A row is of the kind's shape and has no zero byte in its texts, and the bytes are
 /// at most 2^30. Memory is taken once; fails only for want of it.

@@ -1,7 +1,10 @@
 ghost use Rattle.std.specs.Prelude.{◌≡◌, ◌≤◌, length, IfOk};
 ghost use Rattle.nsc_model.specs.Answer.{reply_limit};
 ghost use Rattle.nsc_model.specs.Wire.{passwd_found};
+ghost use Rattle.nsc_wire.specs.Replies.{Gives, user_at};
 
+use crate::fault::Broken;
+use crate::reading::{number, size, text};
 use crate::reply::{VERSION, put_fields, put_text, text_len};
 use nsc_base::{Bytes, NoMemory};
 use nsc_model::Passwd;
@@ -32,4 +35,33 @@ pub(crate) fn encode_user(alloc: Global, user: &Passwd) -> Result<Bytes, NoMemor
     put_text(&mut out, user.dir.as_slice())?;
     put_text(&mut out, user.shell.as_slice())?;
     Ok(Bytes::from_vec(out))
+}
+
+// The user of a reply, after the fields version and found.
+#[tactic(auto, unfolding(crate::specs::Replies::user_at))]
+pub(crate) fn decode_user(alloc: Global, bytes: &[u8]) -> Result<(Passwd, &[u8]), Broken>
+    ensures { Gives (λ x. (x.0, x.1.now)) result (user_at bytes.now) }
+{
+    let (name, rest) = size(bytes)?;
+    let (passwd, rest) = size(rest)?;
+    let (uid, rest) = number(rest)?;
+    let (gid, rest) = number(rest)?;
+    let (gecos, rest) = size(rest)?;
+    let (dir, rest) = size(rest)?;
+    let (shell, rest) = size(rest)?;
+    let (name, rest) = text(alloc, name, rest)?;
+    let (passwd, rest) = text(alloc, passwd, rest)?;
+    let (gecos, rest) = text(alloc, gecos, rest)?;
+    let (dir, rest) = text(alloc, dir, rest)?;
+    let (shell, rest) = text(alloc, shell, rest)?;
+    let user = Passwd {
+        name,
+        passwd,
+        uid,
+        gid,
+        gecos,
+        dir,
+        shell,
+    };
+    Ok((user, rest))
 }

@@ -1,6 +1,6 @@
 ghost use Rattle.std.specs.Prelude.{◌≡◌, ◌<◌, ◌≤◌, [], OnOk, OnErr, is_err};
 ghost use Rattle.nsc_model.specs.Reads.{greatest, Rose};
-ghost use Rattle.nsc_outside.specs.Plan.{Plan, is_next_failing, after_call, after_fault};
+ghost use Rattle.nsc_outside.specs.CallPlan.{CallPlan, is_next_failing, after_call, after_fault};
 
 use crate::stream::Failed;
 use std::alloc::Global;
@@ -8,30 +8,30 @@ use std::marker::Model;
 
 // How the calls of a stream in memory go: the most bytes that one moves, and which of them fail.
 #[derive(Debug, Drop)]
-pub(crate) struct Plan {
+pub(crate) struct CallPlan {
     step: usize,
     failing: Vec<u64>,
     calls: u64,
     faults: u64,
 }
 
-impl Model for Plan {
+impl Model for CallPlan {
     ghost use Rattle.std.specs.Prelude.{◌<◌};
-    ghost use Rattle.nsc_outside.specs.Plan.{Plan};
+    ghost use Rattle.nsc_outside.specs.CallPlan.{CallPlan};
 
-    ghost Value = { Plan };
+    ghost Value = { CallPlan };
 
     ghost view = { λ p. record { step = p.step; failing = p.failing.items; calls = p.calls; faults = p.faults } };
 
     ghost invariant = { λ p. 0 < p.step };
 }
 
-impl Plan {
+impl CallPlan {
     // No limit, and no call that fails.
-    pub(crate) fn new(alloc: Global) -> Plan
+    pub(crate) fn new(alloc: Global) -> CallPlan
         ensures { result ≡ record { step = usize.MAX; failing = []; calls = 0; faults = 0 } }
     {
-        Plan {
+        CallPlan {
             step: usize::MAX,
             failing: Vec::new(alloc),
             calls: 0,

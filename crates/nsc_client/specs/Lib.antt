@@ -1,0 +1,4 @@
+pub mod Links
+pub mod Lookups
+pub mod Asks
+pub mod GateText
