@@ -1,5 +1,7 @@
 """Follows the calls of a writer that the trial tells, keeps the table's words beside it, and compares them at the end.
 
+The trial itself makes as many events in a replay and in a cache that is a list, and tells whether both replied the same.
+
 The words are sixteen head words, four bucket words and 512 words of nodes. What a call does to them is written here from the layout
 alone: a node is its number, its kind and the length of its key, the length of its reply and whether that says that nothing was found, its
 version, its last moment, its reloads, whether it is usable, the node before it in its bucket, its key and its reply.
@@ -13,7 +15,10 @@ from collections import Counter
 from pathlib import Path
 
 sys.dont_write_bytecode = True
-ROOT = Path(__file__).resolve().parent.parent.parent
+import rules
+from entries import words_for
+from running import NO_REPLY, ROOT
+
 PROGRAM = Path(os.environ.get("TABLE", ROOT / "build" / "nscd-table-trials")).resolve()
 
 HEAD, BUCKETS, ARENA = 16, 4, 512
@@ -32,10 +37,8 @@ def users_of(version):
 def reply_of(user, users):
     """The reply of the protocol, and whether it says that there is no such user."""
     if user not in users:
-        return struct.pack("<9i", 2, 0, 0, 0, -1, -1, 0, 0, 0), True
-    texts = [text + b"\0" for text in (b"u%d" % user, b"x", b"g" * users[user], b"/home", b"/bin/sh")]
-    lengths = list(map(len, texts))
-    return struct.pack("<4i2I3i", 2, 1, lengths[0], lengths[1], 1000, 1000, *lengths[2:]) + b"".join(texts), False
+        return NO_REPLY, True
+    return rules.spelled("user", (b"u%d" % user, b"x", 1000, 1000, b"g" * users[user], b"/home", b"/bin/sh")), False
 
 
 def words_of(data):
@@ -63,15 +66,20 @@ class Table:
         at = HEAD + BUCKETS
         while at < self.words[FIRST_FREE]:
             yield at
-            key, reply = self.lengths(at)
-            at += TEXTS + -(-key // 8) + -(-reply // 8)
+            at += self.length(at)
 
     def lengths(self, at):
+        """How many bytes the key and the reply of a node have."""
         return self.words[at + 1] % 65536, self.words[at + 2] // 2
+
+    def length(self, at):
+        """How many words a node takes."""
+        return TEXTS + sum(map(words_for, self.lengths(at)))
 
     def key(self, at):
         length, _ = self.lengths(at)
-        return struct.pack(f"<{-(-length // 8)}Q", *self.words[at + TEXTS : at + TEXTS + -(-length // 8)])[:length]
+        count = words_for(length)
+        return struct.pack(f"<{count}Q", *self.words[at + TEXTS : at + TEXTS + count])[:length]
 
     def usable(self, key):
         return next((at for at in self.places() if self.words[at + STATE] and self.key(at) == key), None)
@@ -131,16 +139,11 @@ class Table:
         at = HEAD + BUCKETS
         for node in kept:
             self.words[at : at + len(node)] = node
-            self.words[FIRST_FREE] = at + len(node)
             self.link(at)
             at += len(node)
         self.words[FIRST_FREE] = at
         self.words[CYCLE] += 2
         return str(freed - at)
-
-    def length(self, at):
-        key, reply = self.lengths(at)
-        return TEXTS + -(-key // 8) + -(-reply // 8)
 
     def invalidate(self):
         for at in self.places():
@@ -164,11 +167,13 @@ class Table:
 
 
 def differs(seed, calls):
-    """What is wrong with a run; the calls that it told, and how many of its words were not zero."""
+    """What is wrong with a run, if anything is, and the calls that it told."""
     done = subprocess.run([PROGRAM, str(seed), str(calls)], capture_output=True, text=True, timeout=60, check=False)
     if done.returncode != 0:
         return f"status {done.returncode}", []
-    lines = done.stdout.splitlines()
+    *lines, events = done.stdout.splitlines()
+    if events != f"{calls} events: same":
+        return events, []
     told, words = [line for line in lines if not line.startswith("word ")], [int(line[5:]) for line in lines if line.startswith("word ")]
     table = Table()
     for turn, line in enumerate(told):

@@ -6,18 +6,22 @@ pub const ROOT: &[u8] = b"\x02\0\0\0\0\0\0\0\x05\0\0\0root\0";
 /// The host localhost by name.
 pub const LOCALHOST: &[u8] = b"\x02\0\0\0\x04\0\0\0\x0a\0\0\0localhost\0";
 
-/// The group root, and the service ssh over tcp, by name.
+/// The group root by name.
 pub const ROOT_GROUP: &[u8] = b"\x02\0\0\0\x02\0\0\0\x05\0\0\0root\0";
 
+/// The service ssh over tcp by name.
 pub const SSH: &[u8] = b"\x02\0\0\0\x10\0\0\0\x08\0\0\0ssh/tcp\0";
 
-/// A user, a group, a host and a service that are there once the files have changed.
+/// A user who is there once the files have changed, by name.
 pub const EVE: &[u8] = b"\x02\0\0\0\0\0\0\0\x04\0\0\0eve\0";
 
+/// A group that is there then, by name.
 pub const STAFF: &[u8] = b"\x02\0\0\0\x02\0\0\0\x06\0\0\0staff\0";
 
+/// A host that is there then, by name.
 pub const DB: &[u8] = b"\x02\0\0\0\x04\0\0\0\x03\0\0\0db\0";
 
+/// A service over tcp that is there then, by name.
 pub const HTTP: &[u8] = b"\x02\0\0\0\x10\0\0\0\x09\0\0\0http/tcp\0";
 
 /// The end of the daemon.

@@ -1,6 +1,6 @@
 ghost use Rattle.std.specs.Prelude.{◌≡◌};
 
-use crate::dice::Dice;
+use crate::dice::{below, dice_of};
 use crate::files::{USERS, files_of, name_of};
 use nsc_answer::Plain;
 use nsc_base::{Buf, NoMemory};
@@ -9,6 +9,7 @@ use nsc_model::{Answerer, Conf, Content, DbConf, KEPT_LIMIT, KEY_LIMIT, Kind};
 use nsc_turns::{Answering, insert, load};
 use nsc_words::Layout;
 use nsc_writer::{Cause, Inserted, Writer};
+use rand_pcg::Pcg32;
 use std::alloc::Global;
 use std::marker::Model;
 use std::sync::Arc;
@@ -29,7 +30,7 @@ pub struct Calls {
     // The number of the newest entry.
     latest: u64,
     reply: Buf,
-    dice: Dice,
+    dice: Pcg32,
 }
 
 impl Model for Calls {
@@ -55,7 +56,7 @@ impl Calls {
             version: 0,
             latest: 0,
             reply: Buf::new(alloc, KEPT_LIMIT)?,
-            dice: Dice::new(u64::from(seed)),
+            dice: dice_of(seed),
         })
     }
 
@@ -68,8 +69,8 @@ impl Calls {
 
     /// Makes a call at this moment, in seconds, and tells what came of it. Fails only for want of memory.
     pub fn make(&mut self, alloc: Global, now: u32) -> Result<String, NoMemory> {
-        let user = self.dice.below(USERS);
-        match self.dice.below(200) {
+        let user = below(&mut self.dice, USERS);
+        match below(&mut self.dice, 200) {
             0..=79 => self.insert(alloc, user, now),
             80..=149 => self.search(alloc, user),
             150..=189 => self.end(alloc),
@@ -81,7 +82,7 @@ impl Calls {
 
     // A lookup that found nothing inserts.
     fn insert(&mut self, alloc: Global, user: u32, now: u32) -> Result<String, NoMemory> {
-        let reloads = u64::from(self.dice.below(4));
+        let reloads = u64::from(below(&mut self.dice, 4));
         let said = match self.load(alloc, user, now, reloads)? {
             None => format!(in alloc; "spent")?,
             Some(Inserted::Done { number }) => {
@@ -147,7 +148,9 @@ impl Calls {
 
     // Ends one of the newest entries, if it is live.
     fn end(&mut self, alloc: Global) -> Result<String, NoMemory> {
-        let number = self.latest.saturating_sub(u64::from(self.dice.below(30)));
+        let number = self
+            .latest
+            .saturating_sub(u64::from(below(&mut self.dice, 30)));
         let is_ended = self.writer.end(number, Cause::Replaced);
         Ok(format!(in alloc; "end {number} {is_ended}")?)
     }

@@ -1,27 +1,20 @@
 ghost use Rattle.std.specs.Prelude.{◌<◌};
 
-/// Numbers that look like chance, and are the same in each run.
-#[derive(Clone, Copy, Debug)]
-pub struct Dice {
-    state: u64,
+use rand_core::utils::NextWord;
+use rand_pcg::Pcg32;
+
+// Which of the streams of numbers is taken.
+const STREAM: u64 = 1;
+
+/// Numbers that look like chance, and are the same in each run of a seed.
+pub fn dice_of(seed: u32) -> Pcg32 {
+    Pcg32::new(u64::from(seed), STREAM)
 }
 
-impl Dice {
-    /// The numbers of a seed.
-    pub fn new(seed: u64) -> Dice {
-        Dice { state: seed }
-    }
-
-    /// The next number, below this one.
-    pub fn below(&mut self, bound: u32) -> u32
-        requires { 0 < bound }
-        ensures { result < bound }
-    {
-        self.state = self
-            .state
-            .wrapping_mul(6_364_136_223_846_793_005)
-            .wrapping_add(1_442_695_040_888_963_407);
-        let high = (self.state >> 33) as u32;
-        high % bound
-    }
+/// The next number, below this one.
+pub fn below(dice: &mut Pcg32, bound: u32) -> u32
+    requires { 0 < bound }
+    ensures { result < bound }
+{
+    dice.next_word() % bound
 }

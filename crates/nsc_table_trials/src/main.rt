@@ -1,9 +1,11 @@
-//! Calls of a writer by chance, each of which is told in a line, and then the words of its table: `nsc_table_trials SEED CALLS`.
+//! Calls of a writer by chance, each of which is told in a line, and then the words of its table; and as many events of a replay, beside
+//! a cache that is a list of entries: `nsc_table_trials SEED CALLS`.
 #![tactic(auto)]
 
 mod calls;
 mod dice;
 mod files;
+mod twin;
 mod words;
 
 use calls::Calls;
@@ -12,6 +14,7 @@ use std::alloc::{AllocError, Global};
 use std::io::Print;
 use std::process::ExitCode;
 use std::{env, io};
+use twin::are_same;
 use words::show_words;
 
 // What is tried where no words say it.
@@ -33,6 +36,7 @@ fn main(rt: HostRuntime) -> io::Result<ExitCode> {
         _ => return Ok(ExitCode::from(1)),
     };
     make_calls(&rt, rt.alloc(), seed, calls, is_told)?;
+    make_events(&rt, rt.alloc(), seed, calls)?;
     Ok(ExitCode::from(0))
 }
 
@@ -55,6 +59,15 @@ fn make_calls<R: Print>(
         return show_words(rt, trial.into_writer());
     }
     println!(rt; "{calls} calls")
+}
+
+// Makes so many events, and tells whether the replay and the list replied the same.
+fn make_events<R: Print>(rt: &R, alloc: Global, seed: u32, events: u32) -> io::Result<()> {
+    match are_same(alloc, seed, events) {
+        Ok(true) => println!(rt; "{events} events: same"),
+        Ok(false) => println!(rt; "{events} events: other replies"),
+        Err(_) => Err(wanting(NoMemory)),
+    }
 }
 
 // Want of memory, as an error of output.
