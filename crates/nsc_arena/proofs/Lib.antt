@@ -11,3 +11,4 @@ pub mod Walks
 pub mod Slides
 pub mod ReadBack
 pub mod Passed
+pub mod Copies

@@ -1,7 +1,9 @@
 -- Words that a call writes, and words that it leaves as they were.
 use Rattle.std.specs.Prelude.{◌≡◌, ◌≢◌, ℕ, ◌+◌, ◌<◌, ◌≤◌, Bool, true, List, length, slice_index}
 use Rattle.nsc_words.specs.declared.layout.Layout.{Layout}
-use Rattle.nsc_words.specs.Layout.{table_words}
+use Rattle.nsc_words.specs.declared.node.Placed.{Placed}
+use Rattle.nsc_words.specs.Laid.{end_of, slid}
+use Rattle.nsc_words.specs.Layout.{arena_start, table_words}
 
 -- these many words from a place on are those that their numbers from 0 on give, and the others are as before
 pub record IsWritten (old new : List ℕ) (from count : ℕ) (word : ℕ → ℕ) : Type 0 where
@@ -31,3 +33,7 @@ pub record MaySetNodes (map : Layout) (can_set : ℕ → Bool) : Type 0 where
 -- the head words but for FIRST_FREE are as before
 abbrev pub IsSameHead : List ℕ → List ℕ → Type 0
 IsSameHead old new = (i : ℕ) → i < 16 → i ≢ 3 → slice_index new i ≡ slice_index old i
+
+-- the usable nodes of these fit into a table
+abbrev pub UsableNodesFit : Layout → List Placed → Type 0
+UsableNodesFit layout nodes = end_of (arena_start layout) (slid (arena_start layout) nodes) ≤ table_words layout

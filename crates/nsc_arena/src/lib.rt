@@ -3,6 +3,7 @@
 #![tactic(auto)]
 
 mod chaining;
+mod copying;
 mod laws;
 mod memory;
 mod numbers;
@@ -13,6 +14,7 @@ mod walking;
 mod writing;
 
 pub use chaining::{chain, lead};
+pub use copying::copy_nodes;
 pub use laws::nodes_are_read_back;
 pub use memory::{VecWords, Words};
 pub use numbers::first_from;

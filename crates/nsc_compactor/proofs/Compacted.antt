@@ -1,34 +1,19 @@
 -- What a slide makes of a writer.
-use Rattle.std.proofs.Common.{◌≡◌, ℕ, ◌+◌, inl, inr, Bool, true, false, cond, List, [], ◌∷◌, Option, Some, None, slice_index, refl, sym, ap, subst, ◌∙◌, arith}
+use Rattle.std.proofs.Common.{◌≡◌, ℕ, ◌+◌, List, [], Option, Some, None, slice_index, refl, sym, ap, subst, ◌∙◌, arith}
 use Rattle.nsc_words.specs.declared.layout.Layout.{Layout}
-use Rattle.nsc_words.specs.declared.node.Node.{Node}
-use Rattle.nsc_words.specs.declared.node.Placed.{Placed}
-use Rattle.nsc_words.specs.Laid.{Among, Laid, end_of, slid}
+use Rattle.nsc_words.specs.Laid.{Laid, slid}
 use Rattle.nsc_words.specs.Layout.{arena_start}
-use Rattle.nsc_arena.proofs.Slides.{slid_from}
-use Rattle.nsc_model.specs.Kinds.{type_number}
 use Rattle.nsc_model.specs.Machine.{all_words}
-use Rattle.nsc_rule.specs.Entries.{entries_in, kind_of}
+use Rattle.nsc_rule.specs.Entries.{entries_in}
 use Rattle.nsc_shelf.specs.Shelf.{slide_words}
 use Rattle.nsc_shelf.proofs.Entries.{slid_same, words_slid}
+use Rattle.nsc_shelf.proofs.Slide.{slid_alone, slid_kinds}
 use Rattle.nsc_writer.specs.Slide.{IsBegun, IsSlid, emptied_slide, without_words}
 use Rattle.nsc_writer.specs.Writer.{Writer}
 
 -- where a slide began, these are its words
 begun_words : (before after : Writer) → (b : IsBegun before after) → slide_words after.slide ≡ b.words
 begun_words before after b = ap (λ (w : Writer). slide_words w.slide) b.is
-
--- no node that is left ended, and each is of a kind
-slid_alone : (start : ℕ) (nodes : List Placed) (q : Placed) → Among q (slid start nodes) → q.usable ≡ true
-slid_alone start [] q among = absurd among
-slid_alone start (p ∷ older) q among = by p.usable refl among (slid_alone start older q) where
-  by : (b : Bool) → p.usable ≡ b → Among q (cond b (record p { place = end_of start (slid start older) } ∷ slid start older) (slid start older)) → (Among q (slid start older) → q.usable ≡ true) → q.usable ≡ true
-  by true e (inl is) rest = ap (λ (r : Placed). r.usable) is ∙ e
-  by true e (inr more) rest = rest more
-  by false e more rest = rest more
-
-slid_kinds : (start : ℕ) (nodes : List Placed) → ((p : Placed) → Among p nodes → type_number (kind_of p.node.kind) ≡ p.node.kind) → (q : Placed) → Among q (slid start nodes) → type_number (kind_of q.node.kind) ≡ q.node.kind
-slid_kinds start nodes kinds q among = let w = slid_from start nodes q among in subst (λ (n : Node). type_number (kind_of n.kind) ≡ n.kind) (sym w.2) (kinds w.0 w.1)
 
 -- a slide is under way still, where what is not words is as before
 under_way_by : (slide : Option (List ℕ)) → emptied_slide slide ≡ Some [] → slide ≡ Some (slide_words slide)

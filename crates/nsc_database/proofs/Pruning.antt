@@ -20,7 +20,7 @@ use Rattle.nsc_writer.proofs.Told.{ended_tells}
 use Rattle.nsc_database.specs.Rests.{Keeps}
 use Rattle.nsc_turns.specs.Ticks.{ended_of}
 use Rattle.nsc_database.specs.Ticks.{HasNumber, IsDue, IsRenewed}
-use Rattle.nsc_database.proofs.Again.{load_of_is}
+use Rattle.nsc_laws.proofs.LoadedAgain.{load_of_is}
 use Rattle.nsc_database.proofs.Ended.{gone_ended, keeps_ended}
 use Rattle.nsc_laws.proofs.Reloads.{IsRight, replaced_on}
 

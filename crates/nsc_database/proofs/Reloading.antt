@@ -25,7 +25,8 @@ use Rattle.nsc_pruner.proofs.Pruned.{head_of, tail_of}
 use Rattle.nsc_database.specs.Holds.{IsInserted}
 use Rattle.nsc_database.specs.Rests.{IsPacked, Keeps, LoadsAgain}
 use Rattle.nsc_database.specs.Ticks.{IsDue, IsPending, LoadsBut}
-use Rattle.nsc_database.proofs.Again.{again_on, but_more, but_none, but_wider, content_on, end_before, live_later, load_of_is, version_has}
+use Rattle.nsc_laws.proofs.LoadedAgain.{again_on, content_on, end_before, live_later, load_of_is, version_has}
+use Rattle.nsc_database.proofs.Again.{but_more, but_none, but_wider}
 use Rattle.nsc_database.proofs.Pruning.{all_due_on, one_leaves}
 use Rattle.nsc_turns.proofs.Renewed.{leaves_inserted}
 use Rattle.nsc_database.proofs.Shown.{is_inserted}

@@ -1,5 +1,5 @@
 -- What was told of the entry where a search stands holds on while the search stands there.
-use Rattle.std.proofs.Common.{◌≡◌, ◌∙◌, ℕ, ◌+◌, ◌<◌, ◌≤◌, Bool, List, Some, refl, sym, ap, subst, inl, arith}
+use Rattle.std.proofs.Common.{◌≡◌, ◌∙◌, ℕ, ◌+◌, ◌<◌, ◌≤◌, Bool, List, Option, Some, refl, sym, ap, subst, inl, arith}
 use Rattle.atomic_table.specs.Seated.{TableId}
 use Rattle.nsc_words.specs.declared.layout.Layout.{Layout}
 use Rattle.nsc_model.specs.Entry.{Entry}
@@ -72,7 +72,7 @@ passed_by layout place known p later n other = record {
 
 -- ---- a STATE
 
-abbrev made : TableId → List Record → Bool → Search → Pass
+abbrev made : TableId → List Record → Option TableId → Search → Pass
 made table seen retired w = record { table = table; seen = seen; retired = retired; searching = w }
 
 pub stays_is : (p new : Pass) (gone : Bool) → new.table ≡ p.table → new.retired ≡ p.retired → new.searching ≡ record p.searching { steps = p.searching.steps + 1; known = new.searching.known; gone = gone } → new ≡ stays new.seen new.searching.known gone p

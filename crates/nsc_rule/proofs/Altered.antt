@@ -1,5 +1,5 @@
 -- A node is changed where it stands: its reloads are counted, or it ends.
-use Rattle.std.proofs.Common.{◌≡◌, ◌≢◌, ◌∙◌, ℕ, ◌+◌, ◌≤◌, Bool, true, false, true≢false, cond, eqb, eq-eqb, inl, inr, ⊎_elim, List, [], ◌∷◌, map, set, slice_index, refl, sym, ap, subst, arith}
+use Rattle.std.proofs.Common.{◌≡◌, ◌≢◌, ◌∙◌, ℕ, ◌+◌, ◌≤◌, Bool, true, false, true≢false, cond, eqb, eq-eqb, inl, inr, ⊎_elim, List, [], ◌∷◌, map, set, slice_index, refl, sym, ap, subst, arith, None}
 use Rattle.std.proofs.lemmas.Bool.{cases_eq, ne_eqb}
 use Rattle.nsc_words.specs.declared.layout.Layout.{Layout}
 use Rattle.nsc_words.specs.declared.node.Placed.{Placed}
@@ -92,7 +92,7 @@ sound_reloaded p place n even node sound =
     sound_above p p.seen (place + 5) n (changed_at place (with_reloads n) p.nodes) (omega arith) (λ i low less. omega (arith, inside.0)) sound sound.legal refl refl refl
     (same_end (at_place place (with_reloads n)) (arena_start p.layout) p.nodes (change_at place (with_reloads n) (reloads_is n))) (λ still. counted_shows p place n even node sound)
 
-pub later_reloaded : (p : Plan) (place n : ℕ) → p.retired ≡ false → Later p (reloads_stored place n p)
+pub later_reloaded : (p : Plan) (place n : ℕ) → p.retired ≡ None → Later p (reloads_stored place n p)
 later_reloaded p place n active =
     later_at p p.seen (place + 5) n (changed_at place (with_reloads n) p.nodes) p.counted (omega arith) active (prefix_all p.seen)
     (λ even. grows_map (loads p.seen) (at_place place (with_reloads n)) p.nodes (change_at place (with_reloads n) (reloads_is n)) (counted_entry place n))
@@ -173,7 +173,7 @@ sound_cleared p place cause even may sound =
     sound_above p (End (slice_index p.words place) cause ∷ p.seen) (place + 6) 0 (changed_at place ended p.nodes) (omega arith) (λ i low less. omega (arith, inside.0)) sound (legal_ended p place cause even may sound) refl refl refl
     (same_end (at_place place ended) (arena_start p.layout) p.nodes (change_at place ended ended_is)) (λ still. ended_shows p place cause even may sound)
 
-pub later_cleared : (p : Plan) (place : ℕ) (cause : Ending) → p.retired ≡ false → Later p (cleared place cause p)
+pub later_cleared : (p : Plan) (place : ℕ) (cause : Ending) → p.retired ≡ None → Later p (cleared place cause p)
 later_cleared p place cause active =
     let r : Record = End (slice_index p.words place) cause in
     later_at p (r ∷ p.seen) (place + 6) 0 (changed_at place ended p.nodes) p.counted (omega arith) active (prefix_more r p.seen p.seen (prefix_all p.seen))

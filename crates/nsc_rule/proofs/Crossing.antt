@@ -12,8 +12,8 @@ use Rattle.atomic_table.proofs.shared.Shared.TheSendSync as shareds
 use Rattle.atomic_table.proofs.send_lease.SendLease.TheSendSync as leases
 use Rattle.nsc_rule.specs.contracts.view.About as about
 use Rattle.nsc_rule.specs.contracts.view.View as view
-use Rattle.nsc_rule.specs.contracts.plays.Rule as rule
-use Rattle.nsc_rule.specs.contracts.plays.RuleTableRuleUnitViewAbout.TheImpl as ruled
+use Rattle.nsc_rule.specs.contracts.plays.WordRule as rule
+use Rattle.nsc_rule.specs.contracts.plays.WordRuleTableRuleUnitViewAbout.TheImpl as ruled
 use Rattle.nsc_rule.specs.contracts.pass.Pass as pass
 use Rattle.nsc_rule.specs.contracts.pen.Pen as pen
 use Rattle.nsc_rule.specs.contracts.map.Map as map

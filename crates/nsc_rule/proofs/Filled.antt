@@ -1,5 +1,5 @@
 -- Words with FIRST_FREE put right, once another word was set; and plans of which one word was set.
-use Rattle.std.proofs.Common.{◌≡◌, ◌≢◌, ◌∙◌, ℕ, zero, suc, ◌+◌, ◌%◌, ◌<◌, ◌≤◌, Bool, true, false, inr, List, [], ◌∷◌, length-set, set, slice_index, refl, sym, ap, arith, get_or-set_other}
+use Rattle.std.proofs.Common.{◌≡◌, ◌≢◌, ◌∙◌, ℕ, zero, suc, ◌+◌, ◌%◌, ◌<◌, ◌≤◌, Bool, true, inr, List, [], ◌∷◌, length-set, set, slice_index, refl, sym, ap, arith, get_or-set_other, None}
 use Rattle.std.proofs.lemmas.List.{set-get_or, set_comm}
 use Rattle.nsc_words.specs.declared.layout.Layout.{Layout}
 use Rattle.nsc_words.specs.declared.node.Placed.{Placed}
@@ -89,7 +89,7 @@ sound_above p seen at word nodes high apart sound legal invalid change loaded en
     let three : 3 ≢ at = omega arith in
     sound_at p seen at word nodes p.counted (omega arith) apart sound legal invalid change shows (number_stays p seen at word four loaded sound) (first_stays p at word nodes three end sound)
 
-pub later_at : (p : Plan) (seen : List Record) (at word : ℕ) (nodes : List Placed) (counted : Bool) → 1 ≤ at → p.retired ≡ false → IsPrefix p.seen seen → (IsEven p → Grows (loads p.seen) p.nodes nodes)
+pub later_at : (p : Plan) (seen : List Record) (at word : ℕ) (nodes : List Placed) (counted : Bool) → 1 ≤ at → p.retired ≡ None → IsPrefix p.seen seen → (IsEven p → Grows (loads p.seen) p.nodes nodes)
     → Later p (record { layout = p.layout; seen = seen; words = set p.words at word; nodes = nodes; counted = counted; retired = p.retired })
 later_at p seen at word nodes counted high active grown grows =
     let other : 0 ≢ at = omega arith in

@@ -1,5 +1,5 @@
 -- A node is linked, and its entry inserted.
-use Rattle.std.proofs.Common.{◌≡◌, ◌≢◌, ◌∙◌, ℕ, ◌+◌, ◌%◌, ◌<◌, ◌≤◌, true, false, true≢false, inl, inr, ⊎_elim, List, ◌∷◌, set, slice_index, refl, sym, ap, subst, arith}
+use Rattle.std.proofs.Common.{◌≡◌, ◌≢◌, ◌∙◌, ℕ, ◌+◌, ◌%◌, ◌<◌, ◌≤◌, true, false, true≢false, inl, inr, ⊎_elim, List, ◌∷◌, set, slice_index, refl, sym, ap, subst, arith, None}
 use Rattle.std.proofs.lemmas.List.{set-get_or}
 use Rattle.nsc_words.specs.declared.layout.Layout.{Layout}
 use Rattle.nsc_words.specs.declared.node.Placed.{Placed}
@@ -108,7 +108,7 @@ sound_linked p link at ready sound =
     (λ even. record { laid = linked_laid p link at sound ready; sits = sits_linked p.seen p.nodes n ready.legal ready.usable ready.kind (sound.shows even).sits })
     (λ on. absurd (true≢false (sym on))) (λ on even. absurd (true≢false (sym on)))
 
-pub later_linked : (p : Plan) (link at : ℕ) → p.retired ≡ false → IsReady p link at → Sound p → Later p (published link at p)
+pub later_linked : (p : Plan) (link at : ℕ) → p.retired ≡ None → IsReady p link at → Sound p → Later p (published link at p)
 later_linked p link at active ready sound =
     let n : Placed = placed_in p.words at in
     let high = link_high p link at sound ready in

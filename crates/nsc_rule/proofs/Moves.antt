@@ -1,8 +1,9 @@
 -- Each step of a seat keeps the rule.
-use Rattle.std.proofs.Common.{◌≡◌, ◌≢◌, ◌∙◌, ℕ, ◌+◌, ◌<◌, ◌≤◌, cond, Bool, true, false, List, [], ◌++◌, length, length-append, set, slice_index, refl, sym, ap, subst, ⊎_elim, arith}
+use Rattle.std.proofs.Common.{◌≡◌, ◌≢◌, ◌∙◌, ℕ, ◌+◌, ◌<◌, ◌≤◌, cond, Bool, true, false, Option, List, [], ◌++◌, length, length-append, set, slice_index, refl, sym, ap, subst, ⊎_elim, arith}
 use Rattle.std.specs.Prelude.{nat_lt}
 use Rattle.std.proofs.lemmas.Bool.Decides.{nat_tests}
 use Rattle.std.proofs.lemmas.List.{set-get_or}
+use Rattle.std.proofs.lemmas.Option.{none-some}
 use mathlib.Core.Option.{some, none}
 use lib.ListN.{get_elem?}
 use Rattle.atomic_table.specs.Table.{State, Me, step, keeps, Allows, Splits, Joins}
@@ -13,10 +14,11 @@ use Rattle.nsc_model.specs.declared.record.Record.{Record}
 use Rattle.nsc_model.proofs.Beginnings.{prefix_all, prefix_none, prefix_between}
 use Rattle.nsc_rule.specs.declared.view.Plan.{Plan}
 use Rattle.nsc_rule.specs.declared.view.Search.{Search}
+use Rattle.atomic_table.specs.Seated.{TableId}
 use Rattle.nsc_rule.specs.declared.view.View.{View}
 use Rattle.nsc_rule.specs.declared.view.View.TheVariants.{Writes, Reads}
 use Rattle.nsc_rule.specs.Plans.{Later, Sound}
-use Rattle.nsc_rule.specs.Seats.{Fits, Follows, IsKept, LearnTells, LoadTells, MeetTells, WriteTells, absorbed, is_retired, longer, nobody, plan_by, reader_of, reading, seen_by, shown, told_of, searching_by, writing}
+use Rattle.nsc_rule.specs.Seats.{Fits, Follows, IsKept, IsSuccessor, LearnTells, LoadTells, MeetTells, WriteTells, absorbed, retired_by, longer, nobody, plan_by, reader_of, reading, seen_by, shown, told_of, searching_by, writing}
 use Rattle.nsc_rule.proofs.Onward.{absorbed_fits, follows_on, nobody_fits, reader_fits, shown_fits, told_fits}
 
 -- the views once one seat has another one
@@ -33,7 +35,7 @@ kept_set p views seat w all mine = fits_set p views seat w (λ j u apart e. all 
 
 -- another seat than the one that writes follows a later plan
 others_on : (p p' k : Plan) (id j : ℕ) (u : View) → p ≡ k → id ≡ 0 → Later p p' → j ≢ id → Fits k j u → Fits p' j u
-others_on p p' k id j (Writes plan told) same mine later apart fits = absurd (apart (fits.0 ∙ sym mine))
+others_on p p' k id j (Writes plan told over) same mine later apart fits = absurd (apart (fits.0 ∙ sym mine))
 others_on p p' k id j (Reads seen told retired searching) same mine later apart fits = follows_on p p' (Reads seen told retired searching) later (subst (λ (q : Plan). Follows q (Reads seen told retired searching)) (sym same) fits)
 
 -- ---- a step of the pen
@@ -51,7 +53,7 @@ moves key slots id at word p p' words sound later s kept count there low =
         layout = later.layout ∙ ap (λ (q : Plan). q.layout) mine.1 ∙ kept.layout;
         words = (λ i. set (were i) at word) ∙ sym words;
         sound = sound;
-        fits = fits_set p' s.views id (writing p') (λ j u apart e. others_on p p' kept.plan id j u mine.1 mine.0 later apart (kept.fits j u e)) (mine.0, refl, prefix_none p'.seen);
+        fits = fits_set p' s.views id (writing p') (λ j u apart e. others_on p p' kept.plan id j u mine.1 mine.0 later apart (kept.fits j u e)) (mine.0, refl, prefix_none p'.seen, λ newer is. absurd (none-some newer is));
       },
       refl,
     )
@@ -91,11 +93,11 @@ pub reads_as : (key : Layout) (slots id at : ℕ) (me : Me (Unit {0}) View) → 
 reads_as key slots id at me is = let P : Me (Unit {0}) View → Type 0 = λ m. Allows (IsKept key) slots id m at (λ n. n) (LoadTells (step slots at 0 0 none) m) in subst P (sym is) (reads key slots id at (plan_by me.0))
 
 -- what it was told of begins its history
-learns : (key : Layout) (slots id at : ℕ) (p : Plan) (told : List Record) → Allows (IsKept key) slots id (Writes p told, []) at (λ n. n) (LearnTells (step slots at 0 0 none) (Writes p told, []))
-learns key slots id at p told = looks key slots id at (Writes p told) (LearnTells (step slots at 0 0 none) (Writes p told, [])) (λ k sound layout fits. (writing p, (fits.0, fits.1, prefix_none k.seen), (subst (λ (q : Plan). IsPrefix told q.seen) (sym fits.1) fits.2, refl)))
+learns : (key : Layout) (slots id at : ℕ) (p : Plan) (told : List Record) (over : Option TableId) → Allows (IsKept key) slots id (Writes p told over, []) at (λ n. n) (LearnTells (step slots at 0 0 none) (Writes p told over, []))
+learns key slots id at p told over = looks key slots id at (Writes p told over) (LearnTells (step slots at 0 0 none) (Writes p told over, [])) (λ k sound layout fits. (writing p, (fits.0, fits.1, prefix_none k.seen, λ newer is. absurd (none-some newer is)), (subst (λ (q : Plan). IsPrefix told q.seen) (sym fits.1) fits.2, subst (IsSuccessor over) (sym fits.1) fits.3, refl)))
 
-pub learns_as : (key : Layout) (slots id at : ℕ) (me : Me (Unit {0}) View) (p : Plan) (told : List Record) → me ≡ (Writes p told, []) → Allows (IsKept key) slots id me at (λ n. n) (LearnTells (step slots at 0 0 none) me)
-learns_as key slots id at me p told is = let P : Me (Unit {0}) View → Type 0 = λ m. Allows (IsKept key) slots id m at (λ n. n) (LearnTells (step slots at 0 0 none) m) in subst P (sym is) (learns key slots id at p told)
+pub learns_as : (key : Layout) (slots id at : ℕ) (me : Me (Unit {0}) View) (p : Plan) (told : List Record) (over : Option TableId) → me ≡ (Writes p told over, []) → Allows (IsKept key) slots id me at (λ n. n) (LearnTells (step slots at 0 0 none) me)
+learns_as key slots id at me p told over is = let P : Me (Unit {0}) View → Type 0 = λ m. Allows (IsKept key) slots id m at (λ n. n) (LearnTells (step slots at 0 0 none) m) in subst P (sym is) (learns key slots id at p told over)
 
 record Between (a b h l : List Record) : Type 0 where
   first : IsPrefix a l
@@ -122,16 +124,16 @@ longest a b h p q = by_test (nat_lt (length a) (length b)) refl where
   by_test false t = record { first = prefix_all a; second = prefix_between b a h q p (high t); of_all = p; whole = λ e. e }
 
 -- the longer one of what a seat had seen and what it was told of
-meets : (key : Layout) (slots id at : ℕ) (seen told : List Record) (retired : Bool) (w : Search)
+meets : (key : Layout) (slots id at : ℕ) (seen told : List Record) (retired : Option TableId) (w : Search)
     → Allows (IsKept key) slots id (Reads seen told retired w, []) at (λ n. n) (MeetTells (step slots at 0 0 none) (Reads seen told retired w, []))
 meets key slots id at seen told retired w = looks key slots id at (Reads seen told retired w) (MeetTells (step slots at 0 0 none) (Reads seen told retired w, [])) (λ k sound layout was.
     let both = longest seen told k.seen was.seen was.told in (
       reading (longer seen told) retired w,
-      record { seen = both.of_all; told = prefix_none k.seen; began = was.began; first = was.first; known = was.known; retired = λ is. ((was.retired is).0, both.whole (was.retired is).1); reaches = was.reaches },
-      (both.first, both.second, λ is. let all = (was.retired is).1 in both.whole all ∙ sym all, refl),
+      record { seen = both.of_all; told = prefix_none k.seen; began = was.began; first = was.first; known = was.known; retired = λ newer is. ((was.retired newer is).0, both.whole (was.retired newer is).1); reaches = was.reaches },
+      (both.first, both.second, λ newer is. let all = (was.retired newer is).1 in both.whole all ∙ sym all, refl),
     ))
 
-pub meets_as : (key : Layout) (slots id at : ℕ) (me : Me (Unit {0}) View) (seen told : List Record) (retired : Bool) (w : Search) → me ≡ (Reads seen told retired w, []) → Allows (IsKept key) slots id me at (λ n. n) (MeetTells (step slots at 0 0 none) me)
+pub meets_as : (key : Layout) (slots id at : ℕ) (me : Me (Unit {0}) View) (seen told : List Record) (retired : Option TableId) (w : Search) → me ≡ (Reads seen told retired w, []) → Allows (IsKept key) slots id me at (λ n. n) (MeetTells (step slots at 0 0 none) me)
 meets_as key slots id at me seen told retired w is = let P : Me (Unit {0}) View → Type 0 = λ m. Allows (IsKept key) slots id m at (λ n. n) (MeetTells (step slots at 0 0 none) m) in subst P (sym is) (meets key slots id at seen told retired w)
 
 -- ---- splits and joins
@@ -176,17 +178,17 @@ absorbs key id other v w s kept at apart there = joins key s id other v w (absor
 abbrev pub with_searches : ℕ → Search → Search
 with_searches more w = record w { searches = w.searches + more }
 
-pub told_reader : (me other new : Me (Unit {0}) View) (heard : List Record) → me ≡ (reading (seen_by me.0) (is_retired me.0) (searching_by me.0), []) → new ≡ (told_of me.0 other.0, me.1) → seen_by other.0 ≡ heard
-    → new ≡ (Reads (seen_by me.0) heard (is_retired me.0) (searching_by me.0), [])
-told_reader me other new heard is joined said = joined ∙ (λ i. (told_of (is i).0 other.0, (is i).1)) ∙ (λ i. (Reads (seen_by me.0) (said i) (is_retired me.0) (searching_by me.0), []))
+pub told_reader : (me other new : Me (Unit {0}) View) (heard : List Record) → me ≡ (reading (seen_by me.0) (retired_by me.0) (searching_by me.0), []) → new ≡ (told_of me.0 other.0, me.1) → seen_by other.0 ≡ heard
+    → new ≡ (Reads (seen_by me.0) heard (retired_by me.0) (searching_by me.0), [])
+told_reader me other new heard is joined said = joined ∙ (λ i. (told_of (is i).0 other.0, (is i).1)) ∙ (λ i. (Reads (seen_by me.0) (said i) (retired_by me.0) (searching_by me.0), []))
 
 -- the same, with the searches of the other one
-pub absorbed_reader : (me other new : Me (Unit {0}) View) (heard : List Record) (more : ℕ) → me ≡ (reading (seen_by me.0) (is_retired me.0) (searching_by me.0), []) → new ≡ (absorbed me.0 other.0, me.1) → seen_by other.0 ≡ heard → (searching_by other.0).searches ≡ more
-    → new ≡ (Reads (seen_by me.0) heard (is_retired me.0) (with_searches more (searching_by me.0)), [])
-absorbed_reader me other new heard more is joined said counted = joined ∙ (λ i. (absorbed (is i).0 other.0, (is i).1)) ∙ (λ i. (Reads (seen_by me.0) (said i) (is_retired me.0) (with_searches (counted i) (searching_by me.0)), []))
+pub absorbed_reader : (me other new : Me (Unit {0}) View) (heard : List Record) (more : ℕ) → me ≡ (reading (seen_by me.0) (retired_by me.0) (searching_by me.0), []) → new ≡ (absorbed me.0 other.0, me.1) → seen_by other.0 ≡ heard → (searching_by other.0).searches ≡ more
+    → new ≡ (Reads (seen_by me.0) heard (retired_by me.0) (with_searches more (searching_by me.0)), [])
+absorbed_reader me other new heard more is joined said counted = joined ∙ (λ i. (absorbed (is i).0 other.0, (is i).1)) ∙ (λ i. (Reads (seen_by me.0) (said i) (retired_by me.0) (with_searches (counted i) (searching_by me.0)), []))
 
-pub told_writer : (me other new : Me (Unit {0}) View) (heard : List Record) → me ≡ (writing (plan_by me.0), []) → new ≡ (told_of me.0 other.0, me.1) → seen_by other.0 ≡ heard → new ≡ (Writes (plan_by me.0) heard, [])
-told_writer me other new heard is joined said = joined ∙ (λ i. (told_of (is i).0 other.0, (is i).1)) ∙ (λ i. (Writes (plan_by me.0) (said i), []))
+pub told_writer : (me other new : Me (Unit {0}) View) (heard : List Record) (over : Option TableId) → me ≡ (writing (plan_by me.0), []) → new ≡ (told_of me.0 other.0, me.1) → seen_by other.0 ≡ heard → retired_by other.0 ≡ over → new ≡ (Writes (plan_by me.0) heard over, [])
+told_writer me other new heard over is joined said known = joined ∙ (λ i. (told_of (is i).0 other.0, (is i).1)) ∙ (λ i. (Writes (plan_by me.0) (said i) (known i), []))
 
 -- a load of a search
 pub looks_as : (key : Layout) (slots id at : ℕ) (me : Me (Unit {0}) View) (told : ℕ → View → Type 0) → me.1 ≡ [] → ((p : Plan) → Sound p → p.layout ≡ key → Fits p id me.0 → (w : View) × Fits p id w × told (slice_index p.words at) w)

@@ -1,6 +1,7 @@
 -- A table at its start keeps the rule.
 use Rattle.std.proofs.Common.{◌≡◌, ◌≢◌, ◌∙◌, ℕ, zero, suc, ◌+◌, ◌-◌, ◌<◌, List, [], ◌∷◌, length, length-append, length-set, replicate, slice_index, refl, sym, subst, arith, get_or-set_other, get_or-set_same}
 use Rattle.std.proofs.lemmas.List.{get_or-append_right, get_or-replicate, length-replicate}
+use Rattle.std.proofs.lemmas.Option.{none-some}
 use mathlib.Core.Option.{some, some-ne-none, some-injective}
 use lib.ListN.{get_elem?}
 use Rattle.atomic_table.specs.Table.{opening}
@@ -75,5 +76,5 @@ sound_succeeding layout p sizes even room sound =
 pub opens : (layout : Layout) (p : Plan) → p.layout ≡ layout → Sound p → IsKept layout (opening p.words [] (writing p))
 opens layout p is sound = record { plan = p; layout = is; words = refl; sound = sound; fits = fits } where
   fits : (seat : ℕ) (v : View) → get_elem? (writing p ∷ []) seat ≡ some v → Fits p seat v
-  fits zero v e = subst (Fits p 0) (some-injective _ _ e) (refl, refl, prefix_none p.seen)
+  fits zero v e = subst (Fits p 0) (some-injective _ _ e) (refl, refl, prefix_none p.seen, λ newer is. absurd (none-some newer is))
   fits (suc seat) v e = absurd (some-ne-none v (sym e))

@@ -1,5 +1,5 @@
 -- What each load of a search tells, and that what the seat knows then follows the plan.
-use Rattle.std.proofs.Common.{◌≡◌, ◌≢◌, ◌∙◌, ℕ, ◌+◌, ◌%◌, ◌<◌, ◌≤◌, ◌⊎◌, not, Bool, true, false, true≢false, cond, eqb, eq-eqb, inl, inr, ⊎_elim, List, length, slice_index, Some, refl, sym, ap, subst, arith}
+use Rattle.std.proofs.Common.{◌≡◌, ◌≢◌, ◌∙◌, ℕ, ◌+◌, ◌%◌, ◌<◌, ◌≤◌, ◌⊎◌, not, Bool, true, false, true≢false, cond, eqb, eq-eqb, inl, inr, ⊎_elim, List, length, slice_index, Some, refl, sym, ap, subst, arith, Option}
 use Rattle.std.proofs.lemmas.Bool.{cases_lt}
 use Rattle.nsc_base.specs.Nodes.{words_for}
 use Rattle.nsc_words.specs.declared.layout.Layout.{Layout}
@@ -17,17 +17,18 @@ use Rattle.nsc_model.specs.History.{loads, IsLive, IsPrefix}
 use Rattle.nsc_model.specs.Kinds.{type_number}
 use Rattle.nsc_model.proofs.Beginnings.{prefix_all, prefix_none}
 use Rattle.nsc_rule.specs.declared.view.Plan.{Plan}
+use Rattle.atomic_table.specs.Seated.{TableId}
 use Rattle.nsc_rule.specs.declared.view.Search.{Search}
 use Rattle.nsc_rule.specs.declared.view.View.{View}
 use Rattle.nsc_rule.specs.Entries.{entry_of, request_bucket, request_in}
 use Rattle.nsc_rule.specs.Plans.{Shows, Sound, cycle_of, filled}
-use Rattle.nsc_rule.specs.Seats.{Fits, Follows, Reaches, is_retired, reading, seen_by, searching_by}
+use Rattle.nsc_rule.specs.Seats.{Fits, Follows, Reaches, retired_by, reading, seen_by, searching_by}
 use Rattle.nsc_rule.specs.Searches.{BeginTells, BucketTells, FixedTells, IsFixed, IsSteady, IsWithin, Lands, LastTells, MayPass, NextTells, StateTells, begun_search, entry_at}
 use Rattle.nsc_rule.proofs.Filled.{filled_at}
 use Rattle.nsc_rule.proofs.Reached.{IsOnChain, bucket_is, entry_some, landed, stands_in, within_is}
 
 -- what holds of the view of a pass, and of the plan's layout, holds of what is known to be these
-pub along : (T : Layout → View → Type 0) (layout : Layout) (v : View) (p : Plan) → v ≡ reading (seen_by v) (is_retired v) (searching_by v) → p.layout ≡ layout → T p.layout (reading (seen_by v) (is_retired v) (searching_by v)) → T layout v
+pub along : (T : Layout → View → Type 0) (layout : Layout) (v : View) (p : Plan) → v ≡ reading (seen_by v) (retired_by v) (searching_by v) → p.layout ≡ layout → T p.layout (reading (seen_by v) (retired_by v) (searching_by v)) → T layout v
 along T layout v p is same t = subst (λ (l : Layout). T l v) same (subst (T p.layout) (sym is) t)
 
 -- where the CYCLE of a search is still that of the plan, and even, the words show the nodes
@@ -36,7 +37,7 @@ shown_at p first sound same even = sound.shows (sym (ap (λ (n : ℕ). n % 2) sa
 
 -- ---- a search begins
 
-pub begins : (seat : ℕ) (request : Request) (seen : List Record) (retired : Bool) (searching : Search) (p : Plan) → Sound p → Follows p (reading seen retired searching) → (w : View) × Fits p seat w × BeginTells p.layout request (reading seen retired searching) (cycle_of p) w
+pub begins : (seat : ℕ) (request : Request) (seen : List Record) (retired : Option TableId) (searching : Search) (p : Plan) → Sound p → Follows p (reading seen retired searching) → (w : View) × Fits p seat w × BeginTells p.layout request (reading seen retired searching) (cycle_of p) w
 begins seat request seen retired searching p sound was =
     let w : Search = begun_search p.layout request p.seen (cycle_of p) searching in (
       reading p.seen retired w,
@@ -46,7 +47,7 @@ begins seat request seen retired searching p sound was =
         began = prefix_all p.seen;
         first = omega arith;
         known = omega arith;
-        retired = λ is. ((was.retired is).0, refl);
+        retired = λ newer is. ((was.retired newer is).0, refl);
         reaches = λ same even. record {
           at = λ e on. absurd cc;
           bound = λ q among usable is low. let shows = shown_at p (cycle_of p) sound refl even in let at = within (arena_start p.layout) p.nodes q shows.laid.row among in let room = shows.laid.room in omega arith;
@@ -60,7 +61,7 @@ begins seat request seen retired searching p sound was =
 abbrev turned : List ℕ → ℕ → ℕ → Search → Search
 turned words found cycle searching = record searching { steps = searching.steps + 1; known = cycle; place = found; on = entry_at words found; gone = false }
 
-turns : (seat : ℕ) (seen : List Record) (retired : Bool) (searching : Search) (p : Plan) (found : ℕ) → Sound p → Follows p (reading seen retired searching)
+turns : (seat : ℕ) (seen : List Record) (retired : Option TableId) (searching : Search) (p : Plan) (found : ℕ) → Sound p → Follows p (reading seen retired searching)
     → (searching.first ≡ cycle_of p → searching.first % 2 ≡ 0 → IsOnChain p (request_bucket p.layout searching.request) found)
     → (searching.first ≡ cycle_of p → searching.first % 2 ≡ 0 → (q : Placed) → Among q p.nodes → q.usable ≡ true → request_in q ≡ searching.request → q.node.number < loads searching.began → q.place ≤ found)
     → Follows p (reading seen retired (turned p.words found (cycle_of p) searching)) × Lands p.layout searching (turned p.words found (cycle_of p) searching) found
@@ -106,7 +107,7 @@ bucket_leads p request sound shows =
       bounded : (h n : ℕ) → 1 ≤ n → h % n < n
       bounded h n some = omega arith
 
-pub buckets : (seat : ℕ) (seen : List Record) (retired : Bool) (searching : Search) (p : Plan) (at : ℕ) → at ≡ request_bucket p.layout searching.request → Sound p → Follows p (reading seen retired searching)
+pub buckets : (seat : ℕ) (seen : List Record) (retired : Option TableId) (searching : Search) (p : Plan) (at : ℕ) → at ≡ request_bucket p.layout searching.request → Sound p → Follows p (reading seen retired searching)
     → (w : View) × Fits p seat w × BucketTells p.layout (reading seen retired searching) (slice_index p.words at) w
 buckets seat seen retired searching p at is sound was =
     let found : ℕ = slice_index p.words at in
@@ -158,10 +159,10 @@ not_here p searching e q shows s passed among usable of same =
     passed
 
 -- the search is steady where its first CYCLE is still the plan's
-steady_at : (p : Plan) (seen : List Record) (retired : Bool) (searching : Search) → Follows p (reading seen retired searching) → searching.first ≡ cycle_of p → searching.first % 2 ≡ 0 → IsSteady searching
+steady_at : (p : Plan) (seen : List Record) (retired : Option TableId) (searching : Search) → Follows p (reading seen retired searching) → searching.first ≡ cycle_of p → searching.first % 2 ≡ 0 → IsSteady searching
 steady_at p seen retired searching was same even = let first = was.first in let known = was.known in (omega arith, even)
 
-pub nexts : (seat : ℕ) (seen : List Record) (retired : Bool) (searching : Search) (p : Plan) (at : ℕ) → at ≡ searching.place + 7 → MayPass searching → Sound p → Follows p (reading seen retired searching)
+pub nexts : (seat : ℕ) (seen : List Record) (retired : Option TableId) (searching : Search) (p : Plan) (at : ℕ) → at ≡ searching.place + 7 → MayPass searching → Sound p → Follows p (reading seen retired searching)
     → (w : View) × Fits p seat w × NextTells p.layout (reading seen retired searching) (slice_index p.words at) w
 nexts seat seen retired searching p at is pass sound was =
     let found : ℕ = slice_index p.words at in
@@ -194,7 +195,7 @@ nexts seat seen retired searching p at is pass sound was =
 -- ---- a word of the node
 
 -- what a search knows stays known, with the present CYCLE, and what it has found of the node
-stays : (p : Plan) (seen seen' : List Record) (retired gone : Bool) (last : ℕ) (searching : Search) → IsPrefix seen' p.seen → (retired ≡ true → seen' ≡ p.seen) → Follows p (reading seen retired searching)
+stays : (p : Plan) (seen seen' : List Record) (retired : Option TableId) (gone : Bool) (last : ℕ) (searching : Search) → IsPrefix seen' p.seen → ((newer : TableId) → retired ≡ Some newer → seen' ≡ p.seen) → Follows p (reading seen retired searching)
     → (searching.first ≡ cycle_of p → searching.first % 2 ≡ 0 → (q : Placed) → Among q p.nodes → q.place ≡ searching.place → (searching.gone ≡ true → q.usable ≡ false) → gone ≡ true → q.usable ≡ false)
     → Follows p (reading seen' retired (record searching { steps = searching.steps + 1; known = cycle_of p; last = last; gone = gone }))
 stays p seen seen' retired gone last searching more over was ended =
@@ -206,7 +207,7 @@ stays p seen seen' retired gone last searching more over was ended =
       began = was.began;
       first = omega arith;
       known = omega arith;
-      retired = λ is. ((was.retired is).0, over is);
+      retired = λ newer is. ((was.retired newer is).0, over newer is);
       reaches = λ same even.
           let r = was.reaches same even in
           record { at = λ e on. let q = r.at e on in (q.0, q.1, q.2, q.3, q.4, ended same even q.0 q.1 q.2 q.5); bound = r.bound };
@@ -228,11 +229,11 @@ fixed_in words q at index stands is kind =
       reply = λ i more e. let place : at ≡ q.place + 8 + keys + i = omega arith in ap (slice_index words) place ∙ h.reply i more;
     }
 
-pub fixes : (seat : ℕ) (seen : List Record) (retired : Bool) (searching : Search) (p : Plan) (at : ℕ) → Sound p → Follows p (reading seen retired searching) → (w : View) × Fits p seat w × FixedTells at (reading seen retired searching) (slice_index p.words at) w
+pub fixes : (seat : ℕ) (seen : List Record) (retired : Option TableId) (searching : Search) (p : Plan) (at : ℕ) → Sound p → Follows p (reading seen retired searching) → (w : View) × Fits p seat w × FixedTells at (reading seen retired searching) (slice_index p.words at) w
 fixes seat seen retired searching p at sound was =
     let known = was.known in (
       reading seen retired (record searching { steps = searching.steps + 1; known = cycle_of p }),
-      stays p seen seen retired searching.gone searching.last searching was.seen (λ is. (was.retired is).1) was (λ same even q among place known_gone. known_gone),
+      stays p seen seen retired searching.gone searching.last searching was.seen (λ newer is. (was.retired newer is).1) was (λ same even q among place known_gone. known_gone),
       record {
         view = refl;
         known = known;
@@ -250,7 +251,7 @@ state_is : (usable : Bool) (word : ℕ) → ◌≡◌ {A = ℕ} word (cond usabl
 state_is true word is = (λ one. refl, λ off. absurd (true≢false (sym off ∙ ap not (eq-eqb word 1 is))))
 state_is false word is = (λ one. absurd (omega arith), λ off. refl)
 
-pub states : (seat : ℕ) (seen : List Record) (retired : Bool) (searching : Search) (p : Plan) (at : ℕ) → at ≡ searching.place + 6 → Sound p → Follows p (reading seen retired searching) → (w : View) × Fits p seat w × StateTells (reading seen retired searching) (slice_index p.words at) w
+pub states : (seat : ℕ) (seen : List Record) (retired : Option TableId) (searching : Search) (p : Plan) (at : ℕ) → at ≡ searching.place + 6 → Sound p → Follows p (reading seen retired searching) → (w : View) × Fits p seat w × StateTells (reading seen retired searching) (slice_index p.words at) w
 states seat seen retired searching p at is sound was =
     let found : ℕ = slice_index p.words at in
     let known = was.known in
@@ -259,7 +260,7 @@ states seat seen retired searching p at is sound was =
     let here : at ≡ q.place + 6 = is ∙ ap (λ (n : ℕ). n + 6) (sym place) in
     state_is q.usable found (ap (slice_index p.words) here ∙ (stands_in p q shows among).holds.state) in (
       reading p.seen retired (record searching { steps = searching.steps + 1; known = cycle_of p; gone = not (eqb found 1) }),
-      stays p seen p.seen retired (not (eqb found 1)) searching.last searching (prefix_all p.seen) (λ over. refl) was (λ same even q among place known_gone. (state same even q among place).1),
+      stays p seen p.seen retired (not (eqb found 1)) searching.last searching (prefix_all p.seen) (λ newer over. refl) was (λ same even q among place known_gone. (state same even q among place).1),
       record {
         view = refl;
         legal = sound.legal;
@@ -275,12 +276,12 @@ states seat seen retired searching p at is sound was =
 
 -- ---- a search ends
 
-pub ends : (seat : ℕ) (seen : List Record) (retired : Bool) (searching : Search) (p : Plan) → Sound p → Follows p (reading seen retired searching) → (w : View) × Fits p seat w × LastTells (reading seen retired searching) (cycle_of p) w
+pub ends : (seat : ℕ) (seen : List Record) (retired : Option TableId) (searching : Search) (p : Plan) → Sound p → Follows p (reading seen retired searching) → (w : View) × Fits p seat w × LastTells (reading seen retired searching) (cycle_of p) w
 ends seat seen retired searching p sound was =
     let first = was.first in
     let known = was.known in (
       reading p.seen retired (record searching { steps = searching.steps + 1; known = cycle_of p; last = cycle_of p }),
-      stays p seen p.seen retired searching.gone (cycle_of p) searching (prefix_all p.seen) (λ over. refl) was (λ same even q among place known_gone. known_gone),
+      stays p seen p.seen retired searching.gone (cycle_of p) searching (prefix_all p.seen) (λ newer over. refl) was (λ same even q among place known_gone. known_gone),
       record {
         view = refl;
         legal = sound.legal;

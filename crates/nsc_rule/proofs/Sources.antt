@@ -1,5 +1,5 @@
 -- The database is invalidated, or its files are looked at.
-use Rattle.std.proofs.Common.{◌≡◌, ◌≢◌, ◌∙◌, ℕ, ◌+◌, ◌%◌, ◌<◌, ◌≤◌, false, List, [], ◌∷◌, Some, length-set, set, slice_index, refl, sym, ap, arith, get_or-set_other, get_or-set_same}
+use Rattle.std.proofs.Common.{◌≡◌, ◌≢◌, ◌∙◌, ℕ, ◌+◌, ◌%◌, ◌<◌, ◌≤◌, List, [], ◌∷◌, Some, length-set, set, slice_index, refl, sym, ap, arith, get_or-set_other, get_or-set_same, None}
 use Rattle.nsc_words.specs.declared.node.Placed.{Placed}
 use Rattle.nsc_model.specs.Content.{Content}
 use Rattle.nsc_model.specs.Entry.{Entry}
@@ -22,7 +22,7 @@ sits_said r h nodes = sits_on h (r ∷ h) nodes
 head_shows : (p : Plan) (r : Record) (at word : ℕ) → at < 3 → Sits (r ∷ p.seen) p.nodes → Shows p.layout p.words p.seen p.nodes → Shows p.layout (set p.words at word) (r ∷ p.seen) p.nodes
 head_shows p r at word low sits shows = let other : at ≢ 3 = omega arith in record { laid = head_set p.layout p.words p.nodes at word (omega arith) other shows.laid; sits = sits }
 
-later_said : (p : Plan) (r : Record) (at word : ℕ) → 1 ≤ at → p.retired ≡ false → Later p (record { layout = p.layout; seen = r ∷ p.seen; words = set p.words at word; nodes = p.nodes; counted = p.counted; retired = p.retired })
+later_said : (p : Plan) (r : Record) (at word : ℕ) → 1 ≤ at → p.retired ≡ None → Later p (record { layout = p.layout; seen = r ∷ p.seen; words = set p.words at word; nodes = p.nodes; counted = p.counted; retired = p.retired })
 later_said p r at word high active = later_at p (r ∷ p.seen) at word p.nodes p.counted high active (prefix_more r p.seen p.seen (prefix_all p.seen)) (λ even. grows_same _ p.nodes)
 
 -- ---- an invalidation
@@ -55,7 +55,7 @@ sound_invalidated p none room sound =
           head_shows p r 1 word (omega arith) (sits_said r p.seen p.nodes (λ e l. record { inserted = l.inserted; not_ended = l.not_ended }) (λ e l. record { inserted = l.inserted; not_ended = l.not_ended }) refl shows.sits) shows;
     }
 
-pub later_invalidated : (p : Plan) → p.retired ≡ false → Later p (invalidation_added p)
+pub later_invalidated : (p : Plan) → p.retired ≡ None → Later p (invalidation_added p)
 later_invalidated p active = later_said p (Invalid (slice_index p.words 1 + 1)) 1 (slice_index p.words 1 + 1) (omega arith) active
 
 -- ---- a poll, and a new version
@@ -91,7 +91,7 @@ sound_polled p word is sound =
     let same : word + 1 ≡ changes p.seen = omega arith in
     sound_source p (Poll word) word (sound.legal, same) refl refl same (omega arith) (sits_said (Poll word) p.seen p.nodes (λ e l. record { inserted = l.inserted; not_ended = l.not_ended }) (λ e l. record { inserted = l.inserted; not_ended = l.not_ended }) refl) sound
 
-pub later_polled : (p : Plan) (word : ℕ) → p.retired ≡ false → Later p (after stroke.Poll 2 word p)
+pub later_polled : (p : Plan) (word : ℕ) → p.retired ≡ None → Later p (after stroke.Poll 2 word p)
 later_polled p word active = later_said p (Poll word) 2 word (omega arith) active
 
 legal_change : (h : List Record) (version : ℕ) (content : Content) → Legal h → version ≡ changes h → newest h ≢ Some content → Legal (Change version content ∷ h)
@@ -104,5 +104,5 @@ sound_changed p content new room sound =
     sound_source p (Change word content) word (legal_change p.seen word content sound.legal sound.source new) refl refl (ap (λ (n : ℕ). n + 1) sound.source) (omega arith)
     (sits_said (Change word content) p.seen p.nodes (λ e l. record { inserted = l.inserted; not_ended = l.not_ended }) (λ e l. record { inserted = l.inserted; not_ended = l.not_ended }) refl) sound
 
-pub later_changed : (p : Plan) (content : Content) → p.retired ≡ false → Later p (changed content p)
+pub later_changed : (p : Plan) (content : Content) → p.retired ≡ None → Later p (changed content p)
 later_changed p content active = later_said p (Change (slice_index p.words 2 + 1) content) 2 (slice_index p.words 2 + 1) (omega arith) active

@@ -1,5 +1,5 @@
 -- Steps of the pen that leave the history as it is.
-use Rattle.std.proofs.Common.{◌≡◌, ◌≢◌, ◌∙◌, ℕ, ◌+◌, ◌%◌, ◌^◌, ◌<◌, ◌≤◌, Bool, true, false, ◌⊎◌, ⊎_elim, List, length-set, set, slice_index, refl, sym, ap, subst, arith, get_or-set_other, get_or-set_same}
+use Rattle.std.proofs.Common.{◌≡◌, ◌≢◌, ◌∙◌, ℕ, ◌+◌, ◌%◌, ◌^◌, ◌<◌, ◌≤◌, true, ◌⊎◌, ⊎_elim, List, length-set, set, slice_index, refl, sym, ap, subst, arith, get_or-set_other, get_or-set_same, Option, Some, None}
 use Rattle.std.proofs.lemmas.Bool.{cases_eq}
 use Rattle.nsc_words.specs.declared.node.Placed.{Placed}
 use Rattle.nsc_words.specs.Laid.{Laid, end_of}
@@ -10,6 +10,7 @@ use Rattle.nsc_model.specs.History.{loads}
 use Rattle.nsc_model.specs.Machine.{last_count}
 use Rattle.nsc_model.proofs.Beginnings.{prefix_all}
 use Rattle.nsc_rule.specs.declared.view.Plan.{Plan}
+use Rattle.atomic_table.specs.Seated.{TableId}
 use Rattle.nsc_rule.specs.Plans.{IsEven, IsOdd, Later, Shows, Sound, cycle_of, end_in, filled}
 use Rattle.nsc_rule.specs.Strokes.{IsFree, ShowsAgain, begun, finished, left, node_counted, stored}
 use Rattle.nsc_rule.proofs.Filled.{filled_again, filled_set, grows_same, head_set, later_at, number_stays, sound_above, sound_at, zeros_stay}
@@ -32,7 +33,7 @@ free_high p at free sound = let after = end_after (arena_start p.layout) p.nodes
 pub sound_free : (p : Plan) (at word : ℕ) → IsFree p at → Sound p → Sound (stored at word p)
 sound_free p at word free sound = let high = free_high p at free sound in sound_above p p.seen at word p.nodes (omega arith) (λ i low less. omega arith) sound sound.legal refl refl refl refl (λ even. free_shows p at word free (sound.shows even))
 
-pub later_free : (p : Plan) (at word : ℕ) → p.retired ≡ false → IsFree p at → Sound p → Later p (stored at word p)
+pub later_free : (p : Plan) (at word : ℕ) → p.retired ≡ None → IsFree p at → Sound p → Later p (stored at word p)
 later_free p at word active free sound = let high = free_high p at free sound in later_at p p.seen at word p.nodes p.counted (omega arith) active (prefix_all p.seen) (λ even. grows_same _ p.nodes)
 
 -- ---- a head word that counts
@@ -63,10 +64,10 @@ sound_node_counted p word first is sound =
     sound_at p p.seen 4 word p.nodes true (omega arith) (λ i more less. omega arith) sound sound.legal refl refl (λ even. count_shows p 4 word (omega arith) (sound.shows even))
     (λ on. get_or-set_same p.words 4 word 0 (omega arith) ∙ is) (λ on even. get_or-set_other p.words 4 3 word 0 (omega arith) ∙ first)
 
-pub later_node_counted : (p : Plan) (word : ℕ) → p.retired ≡ false → Later p (node_counted word p)
+pub later_node_counted : (p : Plan) (word : ℕ) → p.retired ≡ None → Later p (node_counted word p)
 later_node_counted p word active = later_at p p.seen 4 word p.nodes true (omega arith) active (prefix_all p.seen) (λ even. grows_same _ p.nodes)
 
-pub later_stored : (p : Plan) (at word : ℕ) → 1 ≤ at → p.retired ≡ false → Later p (stored at word p)
+pub later_stored : (p : Plan) (at word : ℕ) → 1 ≤ at → p.retired ≡ None → Later p (stored at word p)
 later_stored p at word low active = later_at p p.seen at word p.nodes p.counted low active (prefix_all p.seen) (λ even. grows_same _ p.nodes)
 
 -- ---- a word of a compaction
@@ -88,12 +89,12 @@ sound_slide p at word place odd sound = ⊎_elim
 next_cycle : (p : Plan) → Sound p → slice_index (set p.words 0 (slice_index p.words 0 + 1)) 0 ≡ slice_index p.words 0 + 1
 next_cycle p sound = let wide = sound.wide in get_or-set_same p.words 0 (slice_index p.words 0 + 1) 0 (omega arith)
 
-later_cycle : (p : Plan) (nodes : List Placed) (retired : Bool) → p.retired ≡ false → Sound p → Later p (record { layout = p.layout; seen = p.seen; words = set p.words 0 (slice_index p.words 0 + 1); nodes = nodes; counted = p.counted; retired = retired })
+later_cycle : (p : Plan) (nodes : List Placed) (retired : Option TableId) → p.retired ≡ None → Sound p → Later p (record { layout = p.layout; seen = p.seen; words = set p.words 0 (slice_index p.words 0 + 1); nodes = nodes; counted = p.counted; retired = retired })
 later_cycle p nodes retired active sound =
     let next = next_cycle p sound in
     record { active = active; layout = refl; grown = prefix_all p.seen; forward = omega arith; same = λ is even. absurd (omega arith) }
 
-sound_cycle : (p : Plan) (nodes : List Placed) (retired : Bool) → cycle_of p < 2 ^ 62 → Sound p → ((slice_index p.words 0 + 1) % 2 ≡ 0 → Shows p.layout (set p.words 0 (slice_index p.words 0 + 1)) p.seen nodes) → ((slice_index p.words 0 + 1) % 2 ≡ 0 → slice_index p.words 3 ≡ end_of (arena_start p.layout) nodes)
+sound_cycle : (p : Plan) (nodes : List Placed) (retired : Option TableId) → cycle_of p < 2 ^ 62 → Sound p → ((slice_index p.words 0 + 1) % 2 ≡ 0 → Shows p.layout (set p.words 0 (slice_index p.words 0 + 1)) p.seen nodes) → ((slice_index p.words 0 + 1) % 2 ≡ 0 → slice_index p.words 3 ≡ end_of (arena_start p.layout) nodes)
     → Sound (record { layout = p.layout; seen = p.seen; words = set p.words 0 (slice_index p.words 0 + 1); nodes = nodes; counted = p.counted; retired = retired })
 sound_cycle p nodes retired room sound shows first =
     let word : ℕ = slice_index p.words 0 + 1 in
@@ -122,14 +123,14 @@ sound_cycle p nodes retired room sound shows first =
 pub sound_begun : (p : Plan) → IsEven p → cycle_of p < last_count → Sound p → Sound (begun p)
 sound_begun p even room sound = sound_cycle p p.nodes p.retired room sound (λ again. absurd (omega arith)) (λ again. absurd (omega arith))
 
-pub later_begun : (p : Plan) → p.retired ≡ false → Sound p → Later p (begun p)
+pub later_begun : (p : Plan) → p.retired ≡ None → Sound p → Later p (begun p)
 later_begun p active sound = later_cycle p p.nodes p.retired active sound
 
-pub sound_left : (p : Plan) → IsEven p → cycle_of p < last_count → Sound p → Sound (left p)
-sound_left p even room sound = sound_cycle p p.nodes true room sound (λ again. absurd (omega arith)) (λ again. absurd (omega arith))
+pub sound_left : (newer : TableId) (p : Plan) → IsEven p → cycle_of p < last_count → Sound p → Sound (left newer p)
+sound_left newer p even room sound = sound_cycle p p.nodes (Some newer) room sound (λ again. absurd (omega arith)) (λ again. absurd (omega arith))
 
-pub later_left : (p : Plan) → p.retired ≡ false → Sound p → Later p (left p)
-later_left p active sound = later_cycle p p.nodes true active sound
+pub later_left : (newer : TableId) (p : Plan) → p.retired ≡ None → Sound p → Later p (left newer p)
+later_left newer p active sound = later_cycle p p.nodes (Some newer) active sound
 
 pub odd_room : (p : Plan) → IsOdd p → Sound p → cycle_of p < last_count
 odd_room p odd sound = let cycle = sound.cycle in let differs : cycle_of p ≢ 2 ^ 62 = λ e. absurd (two_parts (cycle_of p) odd e) in omega arith where
@@ -139,7 +140,7 @@ odd_room p odd sound = let cycle = sound.cycle in let differs : cycle_of p ≢ 2
 pub sound_finished : (p : Plan) → IsOdd p → ShowsAgain p → Sound p → Sound (finished p)
 sound_finished p odd slid sound = sound_cycle p (nodes_in p.words p.layout) p.retired (odd_room p odd sound) sound (λ even. record { laid = head_set p.layout p.words (nodes_in p.words p.layout) 0 (slice_index p.words 0 + 1) (omega arith) (omega arith) slid.shows.laid; sits = slid.shows.sits }) (λ even. slid.first_free)
 
-pub later_finished : (p : Plan) → p.retired ≡ false → Sound p → Later p (finished p)
+pub later_finished : (p : Plan) → p.retired ≡ None → Sound p → Later p (finished p)
 later_finished p active sound = later_cycle p (nodes_in p.words p.layout) p.retired active sound
 
 -- ---- places

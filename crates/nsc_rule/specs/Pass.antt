@@ -1,6 +1,6 @@
--- What a pass is: the words at which it has a seat, what it has seen of the history, whether it has seen that another table goes on in
--- place of these words, and how far its search has come.
-use Rattle.std.specs.Prelude.{Bool, List}
+-- What a pass is: the words at which it has a seat, what it has seen of the history, which table it has seen goes on in place of these
+-- words, and how far its search has come.
+use Rattle.std.specs.Prelude.{List, Option}
 use Rattle.atomic_table.specs.Seated.{TableId}
 use Rattle.nsc_model.specs.declared.record.Record.{Record}
 use Rattle.nsc_rule.specs.declared.view.Search.{Search}
@@ -8,5 +8,5 @@ use Rattle.nsc_rule.specs.declared.view.Search.{Search}
 pub record Pass : Type 0 where
   pub table : TableId
   pub seen : List Record
-  pub retired : Bool
+  pub retired : Option TableId
   pub searching : Search

@@ -1,5 +1,5 @@
 -- What the pen knows of a table, and what holds of it between any two steps.
-use Rattle.std.specs.Prelude.{◌≡◌, ℕ, ◌+◌, ◌-◌, ◌%◌, ◌^◌, ◌<◌, ◌≤◌, true, false, ◌⊎◌, List, [], ◌∷◌, ◌++◌, length, replicate, slice_index, slice_set}
+use Rattle.std.specs.Prelude.{◌≡◌, ℕ, ◌+◌, ◌-◌, ◌%◌, ◌^◌, ◌<◌, ◌≤◌, true, false, None, ◌⊎◌, List, [], ◌∷◌, ◌++◌, length, replicate, slice_index, slice_set}
 use Rattle.nsc_words.specs.declared.layout.Layout.{Layout}
 use Rattle.nsc_words.specs.declared.node.Placed.{Placed}
 use Rattle.nsc_words.specs.Laid.{Among, Laid, end_of}
@@ -70,7 +70,7 @@ pub record Grows (number : ℕ) (old new : List Placed) : Type 0 where
 
 -- the history grows, and CYCLE does not fall; where it stays and is even, the nodes grow
 pub record Later (old new : Plan) : Type 0 where
-  pub active : old.retired ≡ false
+  pub active : old.retired ≡ None
   pub layout : new.layout ≡ old.layout
   pub grown : IsPrefix old.seen new.seen
   pub forward : cycle_of old ≤ cycle_of new
@@ -84,7 +84,7 @@ no_nodes layout = slice_set (replicate (table_words layout) 0) 3 (arena_start la
 
 -- the history is this content as version 0
 abbrev pub first_plan : Layout → Content → Plan
-first_plan layout content = record { layout = layout; seen = record_of.Change 0 content ∷ []; words = no_nodes layout; nodes = []; counted = true; retired = false }
+first_plan layout content = record { layout = layout; seen = record_of.Change 0 content ∷ []; words = no_nodes layout; nodes = []; counted = true; retired = None }
 
 -- ---- the plan of a table that goes on in place of another one
 
@@ -109,4 +109,4 @@ words_after layout words = heads_after words ++ replicate (table_words layout - 
 
 -- the history goes on
 abbrev pub succeeding : Layout → Plan → Plan
-succeeding layout p = record { layout = layout; seen = p.seen; words = words_after layout p.words; nodes = []; counted = p.counted; retired = false }
+succeeding layout p = record { layout = layout; seen = p.seen; words = words_after layout p.words; nodes = []; counted = p.counted; retired = None }

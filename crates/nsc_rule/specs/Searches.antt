@@ -16,7 +16,7 @@ use Rattle.nsc_rule.specs.declared.view.Search.{Search}
 use Rattle.nsc_arena.specs.ReadBack.{placed_in}
 use Rattle.nsc_rule.specs.declared.view.View.{View}
 use Rattle.nsc_rule.specs.Entries.{entry_of}
-use Rattle.nsc_rule.specs.Seats.{is_retired, reading, seen_by, searching_by}
+use Rattle.nsc_rule.specs.Seats.{retired_by, reading, seen_by, searching_by}
 
 -- CYCLE was at the latest step of the search what it was when it began, and even
 abbrev pub IsSteady : Search → Type 0
@@ -68,7 +68,7 @@ NoneOlder seen w = (e : Entry) → IsLive seen e → e.request ≡ w.request →
 
 -- CYCLE, where a search begins
 pub record BeginTells (layout : Layout) (request : Request) (v : View) (found : ℕ) (w : View) : Type 0 where
-  pub view : w ≡ reading (seen_by w) (is_retired v) (begun_search layout request (seen_by w) found (searching_by v))
+  pub view : w ≡ reading (seen_by w) (retired_by v) (begun_search layout request (seen_by w) found (searching_by v))
   pub legal : Legal (seen_by w)
   pub before : IsPrefix (seen_by v) (seen_by w)
   pub known : (searching_by v).known ≤ found
@@ -76,24 +76,24 @@ pub record BeginTells (layout : Layout) (request : Request) (v : View) (found : 
 
 -- a bucket's word
 pub record BucketTells (layout : Layout) (v : View) (found : ℕ) (w : View) : Type 0 where
-  pub view : w ≡ reading (seen_by v) (is_retired v) (searching_by w)
+  pub view : w ≡ reading (seen_by v) (retired_by v) (searching_by w)
   pub lands : Lands layout (searching_by v) (searching_by w) found
 
 -- a node's NEXT
 pub record NextTells (layout : Layout) (v : View) (found : ℕ) (w : View) : Type 0 where
-  pub view : w ≡ reading (seen_by v) (is_retired v) (searching_by w)
+  pub view : w ≡ reading (seen_by v) (retired_by v) (searching_by w)
   pub lands : Lands layout (searching_by v) (searching_by w) found
   pub lower : IsSteady (searching_by w) → found < (searching_by v).place
 
 -- any word
 pub record FixedTells (at : ℕ) (v : View) (found : ℕ) (w : View) : Type 0 where
-  pub view : w ≡ reading (seen_by v) (is_retired v) (record (searching_by v) { steps = (searching_by v).steps + 1; known = (searching_by w).known })
+  pub view : w ≡ reading (seen_by v) (retired_by v) (record (searching_by v) { steps = (searching_by v).steps + 1; known = (searching_by w).known })
   pub known : (searching_by v).known ≤ (searching_by w).known
   pub fixed : IsSteady (searching_by w) → (e : Entry) (index : ℕ) → (searching_by v).on ≡ Some e → at ≡ (searching_by v).place + index → IsFixed e index found
 
 -- a node's STATE
 pub record StateTells (v : View) (found : ℕ) (w : View) : Type 0 where
-  pub view : w ≡ reading (seen_by w) (is_retired v) (record (searching_by v) { steps = (searching_by v).steps + 1; known = (searching_by w).known; gone = not (found == 1) })
+  pub view : w ≡ reading (seen_by w) (retired_by v) (record (searching_by v) { steps = (searching_by v).steps + 1; known = (searching_by w).known; gone = not (found == 1) })
   pub legal : Legal (seen_by w)
   pub before : IsPrefix (seen_by v) (seen_by w)
   pub known : (searching_by v).known ≤ (searching_by w).known
@@ -101,7 +101,7 @@ pub record StateTells (v : View) (found : ℕ) (w : View) : Type 0 where
 
 -- CYCLE, where a search ends
 pub record LastTells (v : View) (found : ℕ) (w : View) : Type 0 where
-  pub view : w ≡ reading (seen_by w) (is_retired v) (record (searching_by v) { steps = (searching_by v).steps + 1; known = found; last = found })
+  pub view : w ≡ reading (seen_by w) (retired_by v) (record (searching_by v) { steps = (searching_by v).steps + 1; known = found; last = found })
   pub legal : Legal (seen_by w)
   pub before : IsPrefix (seen_by v) (seen_by w)
   pub first : (searching_by v).first ≤ (searching_by v).known

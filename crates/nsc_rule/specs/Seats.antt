@@ -1,6 +1,6 @@
 -- The rule of the shared words: they are those of the plan that the writing seat knows, which is sound, and what each other seat
 -- knows follows that plan.
-use Rattle.std.specs.Prelude.{◌≡◌, ℕ, ◌+◌, ◌%◌, ◌<◌, ◌≤◌, max, nat_lt, if◌then◌else◌, Bool, true, false, List, [], length, slice_index, Some, None}
+use Rattle.std.specs.Prelude.{◌≡◌, ℕ, ◌+◌, ◌%◌, ◌<◌, ◌≤◌, max, nat_lt, if◌then◌else◌, true, false, List, [], length, slice_index, Option, Some, None}
 use mathlib.Core.Option as maybe
 use lib.ListN.{get_elem?}
 use Rattle.atomic_table.specs.Table.{State, Me, Step}
@@ -15,6 +15,7 @@ use Rattle.nsc_rule.specs.declared.view.Origin.{Origin}
 use Rattle.nsc_rule.specs.declared.view.Origin.TheVariants.{Fresh, After}
 use Rattle.nsc_rule.specs.declared.view.Plan.{Plan}
 use Rattle.nsc_rule.specs.declared.view.Search.{Search}
+use Rattle.atomic_table.specs.Seated.{TableId}
 use Rattle.nsc_rule.specs.declared.view.View.{View}
 use Rattle.nsc_rule.specs.declared.view.View.TheVariants.{Writes, Reads}
 use Rattle.nsc_rule.specs.Entries.{entry_of, request_bucket, request_in}
@@ -32,39 +33,45 @@ rested cycle = record resting { known = cycle }
 
 -- the seat that writes
 abbrev pub writing : Plan → View
-writing p = Writes p []
+writing p = Writes p [] None
 
-abbrev pub reading : List Record → Bool → Search → View
+abbrev pub reading : List Record → Option TableId → Search → View
 reading seen retired searching = Reads seen [] retired searching
 
 abbrev pub nobody : View
-nobody = reading [] false resting
+nobody = reading [] None resting
 
 -- the parts of a view
 abbrev pub seen_by : View → List Record
-seen_by (Writes plan told) = plan.seen
+seen_by (Writes plan told over) = plan.seen
 seen_by (Reads seen told retired searching) = seen
 
 abbrev pub told_to : View → List Record
-told_to (Writes plan told) = told
+told_to (Writes plan told over) = told
 told_to (Reads seen told retired searching) = told
 
-abbrev pub is_retired : View → Bool
-is_retired (Writes plan told) = plan.retired
-is_retired (Reads seen told retired searching) = retired
+-- which table goes on in place of this one, as far as it knows
+abbrev pub retired_by : View → Option TableId
+retired_by (Writes plan told over) = plan.retired
+retired_by (Reads seen told retired searching) = retired
+
+-- which table it was told goes on in place of this one
+abbrev pub over_by : View → Option TableId
+over_by (Writes plan told over) = over
+over_by (Reads seen told retired searching) = None
 
 -- the search of a seat; that of the writing one rests, and knows CYCLE
 abbrev pub searching_by : View → Search
-searching_by (Writes plan told) = rested (cycle_of plan)
+searching_by (Writes plan told over) = rested (cycle_of plan)
 searching_by (Reads seen told retired searching) = searching
 
 -- no plan
 abbrev pub no_plan : Plan
-no_plan = record { layout = record { buckets = 0; arena = 0 }; seen = []; words = []; nodes = []; counted = true; retired = false }
+no_plan = record { layout = record { buckets = 0; arena = 0 }; seen = []; words = []; nodes = []; counted = true; retired = None }
 
 -- the plan of the seat that writes
 abbrev pub plan_by : View → Plan
-plan_by (Writes plan told) = plan
+plan_by (Writes plan told over) = plan
 plan_by (Reads seen told retired searching) = no_plan
 
 -- the plan with which a table begins
@@ -77,16 +84,16 @@ opening_view layout origin = writing (opening_plan layout origin)
 
 -- a new seat beside this one, which reads
 abbrev pub reader_of : View → View
-reader_of v = reading (seen_by v) (is_retired v) (searching_by v)
+reader_of v = reading (seen_by v) (retired_by v) (searching_by v)
 
 -- this seat, told what another one has seen
 abbrev pub told_of : View → View → View
-told_of (Writes plan told) w = Writes plan (seen_by w)
+told_of (Writes plan told over) w = Writes plan (seen_by w) (retired_by w)
 told_of (Reads seen told retired searching) w = Reads seen (seen_by w) retired searching
 
 -- the same, and it counts the searches of the other one too
 abbrev pub absorbed : View → View → View
-absorbed (Writes plan told) w = Writes plan (seen_by w)
+absorbed (Writes plan told over) w = Writes plan (seen_by w) (retired_by w)
 absorbed (Reads seen told retired searching) w = Reads seen (seen_by w) retired (record searching { searches = searching.searches + (searching_by w).searches })
 
 -- a search with a CYCLE that may be a later one
@@ -95,8 +102,8 @@ informed w cycle = record w { known = max w.known cycle }
 
 -- this seat, which has seen what another one has seen
 abbrev pub shown : View → View → View
-shown (Writes plan told) w = Writes plan told
-shown (Reads seen told retired searching) w = Reads (seen_by w) told (is_retired w) (informed searching (searching_by w).known)
+shown (Writes plan told over) w = Writes plan told over
+shown (Reads seen told retired searching) w = Reads (seen_by w) told (retired_by w) (informed searching (searching_by w).known)
 
 -- the longer of two lists of records, and the first one of two that are equally long
 abbrev pub longer : List Record → List Record → List Record
@@ -118,12 +125,16 @@ pub record Follows (p : Plan) (v : View) : Type 0 where
   pub began : IsPrefix (searching_by v).began p.seen
   pub first : (searching_by v).first ≤ (searching_by v).known
   pub known : (searching_by v).known ≤ cycle_of p
-  pub retired : is_retired v ≡ true → (p.retired ≡ true) × (seen_by v ≡ p.seen)
+  pub retired : (newer : TableId) → retired_by v ≡ Some newer → (p.retired ≡ Some newer) × (seen_by v ≡ p.seen)
   pub reaches : (searching_by v).first ≡ cycle_of p → (searching_by v).first % 2 ≡ 0 → Reaches p (searching_by v)
+
+-- where a table is named here, it is the one that goes on in place of the plan's
+abbrev pub IsSuccessor : Option TableId → Plan → Type 0
+IsSuccessor over p = (newer : TableId) → over ≡ Some newer → p.retired ≡ Some newer
 
 -- what a seat knows is so. The one that writes is the first one, and its plan is the plan
 abbrev pub Fits : Plan → ℕ → View → Type 0
-Fits p seat (Writes plan told) = (seat ≡ 0) × (plan ≡ p) × IsPrefix told p.seen
+Fits p seat (Writes plan told over) = (seat ≡ 0) × (plan ≡ p) × IsPrefix told p.seen × IsSuccessor over p
 Fits p seat (Reads seen told retired searching) = Follows p (Reads seen told retired searching)
 
 -- the rule
@@ -144,12 +155,12 @@ WriteTells plan s me found me' = me' ≡ (writing plan, me.1)
 abbrev pub LoadTells : Step (Unit {0}) → Me (Unit {0}) View → ℕ → Me (Unit {0}) View → Type 0
 LoadTells s me found me' = (found ≡ slice_index (plan_by me.0).words s.word) × (me' ≡ me)
 
--- what the writing seat was told of begins its history
+-- what the writing seat was told of begins its history, and the table that it was told of goes on in place of its own
 abbrev pub LearnTells : Step (Unit {0}) → Me (Unit {0}) View → ℕ → Me (Unit {0}) View → Type 0
-LearnTells s me found me' = IsPrefix (told_to me.0) (seen_by me.0) × (me' ≡ (writing (plan_by me.0), me.1))
+LearnTells s me found me' = IsPrefix (told_to me.0) (seen_by me.0) × IsSuccessor (over_by me.0) (plan_by me.0) × (me' ≡ (writing (plan_by me.0), me.1))
 
 -- both lists begin the longer one, which was then seen. Where another table goes on, it is what was seen before
 abbrev pub MeetTells : Step (Unit {0}) → Me (Unit {0}) View → ℕ → Me (Unit {0}) View → Type 0
 MeetTells s me found me' =
     let both = longer (seen_by me.0) (told_to me.0) in
-    IsPrefix (seen_by me.0) both × IsPrefix (told_to me.0) both × (is_retired me.0 ≡ true → both ≡ seen_by me.0) × (me' ≡ (reading both (is_retired me.0) (searching_by me.0), me.1))
+    IsPrefix (seen_by me.0) both × IsPrefix (told_to me.0) both × ((newer : TableId) → retired_by me.0 ≡ Some newer → both ≡ seen_by me.0) × (me' ≡ (reading both (retired_by me.0) (searching_by me.0), me.1))

@@ -1,5 +1,6 @@
 -- What each step of the pen makes of its plan, and what it asks.
-use Rattle.std.specs.Prelude.{◌≡◌, ℕ, ◌+◌, ◌<◌, ◌≤◌, Bool, true, false, ◌⊎◌, List, ◌∷◌, slice_index, slice_set}
+use Rattle.std.specs.Prelude.{◌≡◌, ℕ, ◌+◌, ◌<◌, ◌≤◌, Bool, true, false, ◌⊎◌, List, ◌∷◌, Option, Some, slice_index, slice_set}
+use Rattle.atomic_table.specs.Seated.{TableId}
 use Rattle.nsc_words.specs.declared.node.Placed.{Placed}
 use Rattle.nsc_words.specs.Laid.{Among, Stands, bucket_in, end_of, words_in}
 use Rattle.nsc_words.specs.Layout.{arena_start, table_words}
@@ -29,7 +30,7 @@ seen_after stroke.Even word p = p.seen
 seen_after stroke.Invalid word p = record_of.Invalid word ∷ p.seen
 seen_after stroke.Poll word p = record_of.Poll word ∷ p.seen
 seen_after (stroke.Change content) word p = record_of.Change word content.value ∷ p.seen
-seen_after stroke.Retire word p = p.seen
+seen_after (stroke.Retire newer) word p = p.seen
 
 abbrev pub nodes_after : Stroke → ℕ → Plan → List Placed
 nodes_after stroke.Plain word p = p.nodes
@@ -41,7 +42,7 @@ nodes_after stroke.Even word p = nodes_in p.words p.layout
 nodes_after stroke.Invalid word p = p.nodes
 nodes_after stroke.Poll word p = p.nodes
 nodes_after (stroke.Change content) word p = p.nodes
-nodes_after stroke.Retire word p = p.nodes
+nodes_after (stroke.Retire newer) word p = p.nodes
 
 -- an insertion is under way from the link of its node on until the node is counted
 abbrev pub counted_after : Stroke → Bool → Bool
@@ -54,10 +55,10 @@ counted_after stroke.Even counted = counted
 counted_after stroke.Invalid counted = counted
 counted_after stroke.Poll counted = counted
 counted_after (stroke.Change content) counted = counted
-counted_after stroke.Retire counted = counted
+counted_after (stroke.Retire newer) counted = counted
 
--- another table goes on in place of this one, from then on
-abbrev pub retired_after : Stroke → Bool → Bool
+-- which table goes on in place of this one, from then on
+abbrev pub retired_after : Stroke → Option TableId → Option TableId
 retired_after stroke.Plain retired = retired
 retired_after (stroke.Reloads place) retired = retired
 retired_after stroke.Publish retired = retired
@@ -67,7 +68,7 @@ retired_after stroke.Even retired = retired
 retired_after stroke.Invalid retired = retired
 retired_after stroke.Poll retired = retired
 retired_after (stroke.Change content) retired = retired
-retired_after stroke.Retire retired = true
+retired_after (stroke.Retire newer) retired = Some newer.value.table
 
 abbrev pub after : Stroke → ℕ → ℕ → Plan → Plan
 after s at word p = record { layout = p.layout; seen = seen_after s word p; words = slice_set p.words at word; nodes = nodes_after s word p; counted = counted_after s p.counted; retired = retired_after s p.retired }
@@ -103,8 +104,8 @@ abbrev pub finished : Plan → Plan
 finished p = after stroke.Even 0 (slice_index p.words 0 + 1) p
 
 -- CYCLE goes on by one for good: another table goes on in place of this one
-abbrev pub left : Plan → Plan
-left p = after stroke.Retire 0 (slice_index p.words 0 + 1) p
+abbrev pub left : TableId → Plan → Plan
+left newer p = record p { words = slice_set p.words 0 (slice_index p.words 0 + 1); retired = Some newer }
 
 -- the database was invalidated once more
 abbrev pub invalidation_added : Plan → Plan

@@ -1,11 +1,11 @@
-ghost use Rattle.std.specs.Prelude.{◌≡◌, false, IfOk};
+ghost use Rattle.std.specs.Prelude.{◌≡◌, None, IfOk};
 ghost use Rattle.nsc_words.specs.Layout.{IsLayout, table_words};
 ghost use Rattle.nsc_rule.specs.Plans.{Sound, cycle_of, first_plan, no_nodes};
 ghost use Rattle.nsc_rule.specs.Seats.{opening_plan, rested};
 
 use crate::pass::Pass;
 use crate::pen::Pen;
-use crate::plays::Rule;
+use crate::plays::WordRule;
 use crate::view::{About, Origin, View};
 use atomic_table::{Shared, Table};
 use nsc_base::NoMemory;
@@ -17,7 +17,7 @@ use std::snapshot::Snapshot;
 use std::sync::Arc;
 
 // The words, with the memory that they stand in.
-type Words = Table<(), View, About, Rule, Global>;
+type Words = Table<(), View, About, WordRule, Global>;
 
 /// A handle on the words that the threads of one database share.
 #[derive(Drop)]
@@ -59,7 +59,7 @@ impl Map {
     }
 
     // The words.
-    pub(crate) fn words(&self) -> &Shared<(), View, About, Rule>
+    pub(crate) fn words(&self) -> &Shared<(), View, About, WordRule>
         ensures words { result.now.table_id ≡ self.now.table }
         ensures count { result.now.table_id.words ≡ table_words self.now.layout }
         ensures key { result.now.key.layout ≡ self.now.layout }
@@ -74,7 +74,7 @@ pub fn start(alloc: Global, layout: Layout, content: &Content) -> Result<(Map, P
     requires { IsLayout layout }
     ensures map { IfOk result (λ r. r.0.layout ≡ layout) }
     ensures pen { IfOk result (λ r. r.1 ≡ record { table = r.0.table; plan = first_plan layout content.now }) }
-    ensures pass { IfOk result (λ r. r.2 ≡ record { table = r.0.table; seen = (first_plan layout content.now).seen; retired = false; searching = rested (cycle_of (first_plan layout content.now)) }) }
+    ensures pass { IfOk result (λ r. r.2 ≡ record { table = r.0.table; seen = (first_plan layout content.now).seen; retired = None; searching = rested (cycle_of (first_plan layout content.now)) }) }
 {
     let words = first_words(alloc, layout)?;
     let origin = Origin::Fresh(Snapshot::of(content));

@@ -1,6 +1,7 @@
-ghost use Rattle.std.specs.Prelude.{◌≡◌, ◌+◌, ◌⊎◌, true, [], ◌∷◌};
+ghost use Rattle.std.specs.Prelude.{◌≡◌, ◌+◌, ◌⊎◌, Some, IsSome, [], ◌∷◌};
+ghost use Rattle.atomic_table.specs.Seated.{TableId};
 ghost use Rattle.nsc_model.specs.History.{Legal, IsPrefix};
-ghost use Rattle.nsc_rule.specs.Seats.{informed, is_retired, reading, seen_by, searching_by};
+ghost use Rattle.nsc_rule.specs.Seats.{informed, retired_by, reading, seen_by, searching_by};
 
 use crate::map::Map;
 use crate::plays::{Absorbs, Copies, Hears, Meets, Shows};
@@ -9,7 +10,7 @@ use atomic_table::Seat;
 use nsc_words::CYCLE;
 use std::marker::Model;
 
-/// A seat at the words of a database that only reads, with what it has seen of the history, whether it has seen that another table goes
+/// A seat at the words of a database that only reads, with what it has seen of the history, which table it has seen goes
 /// on in place of these words, and how far its search has come.
 #[derive(Drop)]
 pub struct Pass {
@@ -20,20 +21,20 @@ impl Model for Pass {
     ghost use Rattle.std.specs.Prelude.{◌≡◌, []};
     ghost use Rattle.nsc_model.specs.History.{Legal};
     ghost use Rattle.nsc_rule.specs.Pass.{Pass};
-    ghost use Rattle.nsc_rule.specs.Seats.{is_retired, reading, seen_by, searching_by};
+    ghost use Rattle.nsc_rule.specs.Seats.{retired_by, reading, seen_by, searching_by};
 
     ghost Value = { Pass };
 
-    ghost view = { λ p. record { table = p.seat.table_id; seen = seen_by p.seat.me.0; retired = is_retired p.seat.me.0; searching = searching_by p.seat.me.0 } };
+    ghost view = { λ p. record { table = p.seat.table_id; seen = seen_by p.seat.me.0; retired = retired_by p.seat.me.0; searching = searching_by p.seat.me.0 } };
 
-    ghost invariant = { λ p. (p.seat.me ≡ (reading (seen_by p.seat.me.0) (is_retired p.seat.me.0) (searching_by p.seat.me.0), [])) × Legal (seen_by p.seat.me.0) };
+    ghost invariant = { λ p. (p.seat.me ≡ (reading (seen_by p.seat.me.0) (retired_by p.seat.me.0) (searching_by p.seat.me.0), [])) × Legal (seen_by p.seat.me.0) };
 }
 
 impl Pass {
     // The pass of a seat that has seen this.
     pub(crate) fn new(seat: Seat<(), View>) -> Pass
-        requires { (seat.me ≡ (reading (seen_by seat.me.0) (is_retired seat.me.0) (searching_by seat.me.0), [])) × Legal (seen_by seat.me.0) }
-        ensures { result ≡ record { table = seat.table_id; seen = seen_by seat.me.0; retired = is_retired seat.me.0; searching = searching_by seat.me.0 } }
+        requires { (seat.me ≡ (reading (seen_by seat.me.0) (retired_by seat.me.0) (searching_by seat.me.0), [])) × Legal (seen_by seat.me.0) }
+        ensures { result ≡ record { table = seat.table_id; seen = seen_by seat.me.0; retired = retired_by seat.me.0; searching = searching_by seat.me.0 } }
     {
         Pass { seat }
     }
@@ -82,7 +83,7 @@ impl Pass {
         ensures other { IsPrefix other.seen self.new.seen }
         ensures either { (self.new.seen ≡ self.old.seen) ⊎ (self.new.seen ≡ other.seen) }
         ensures retired { self.new.retired ≡ self.old.retired }
-        ensures whole { self.old.retired ≡ true → self.new.seen ≡ self.old.seen }
+        ensures whole { (newer : TableId) → self.old.retired ≡ Some newer → self.new.seen ≡ self.old.seen }
         ensures searching { self.new.searching ≡ self.old.searching }
     {
         let words = map.words();
@@ -95,7 +96,7 @@ impl Pass {
     pub fn absorb(&mut self, map: &Map, other: Pass)
         requires map { map.now.table ≡ self.old.table }
         requires other { map.now.table ≡ other.table }
-        requires retired { self.old.retired ≡ true }
+        requires retired { IsSome self.old.retired }
         ensures pass { self.new ≡ record self.old { searching = record self.old.searching { searches = self.old.searching.searches + other.searching.searches } } }
         ensures other { IsPrefix other.seen self.old.seen }
     {

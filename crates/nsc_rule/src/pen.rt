@@ -5,7 +5,7 @@ ghost use Rattle.nsc_words.specs.Layout.{table_words};
 ghost use Rattle.nsc_words.specs.declared.layout.Layout.{Layout};
 ghost use Rattle.nsc_rule.specs.Plans.{IsEven, Later, Sound, cycle_of, succeeding};
 ghost use Rattle.nsc_rule.specs.Strokes.{after};
-ghost use Rattle.nsc_rule.specs.Seats.{informed, opening_plan, plan_by, rested, writing};
+ghost use Rattle.nsc_rule.specs.Seats.{IsSuccessor, informed, opening_plan, plan_by, rested, writing};
 
 use crate::map::Map;
 use crate::pass::Pass;
@@ -97,27 +97,29 @@ impl Pen {
         Pass::new(map.words().split_seat::<Copies>(&mut self.seat))
     }
 
-    /// The pass has seen the whole history then, which begins with what it had seen, also whether another table goes on in place of this
-    /// one, and knows CYCLE. Its search stays.
+    /// The pass has seen the whole history then, which begins with what it had seen, also which table goes on in place of this one, and
+    /// knows CYCLE. Its search stays. Where it had seen a table go on in place of this one, that one does.
     pub fn show(&mut self, map: &Map, pass: &mut Pass)
         requires pen { map.now.table ≡ self.old.table }
         requires pass { map.now.table ≡ pass.old.table }
         ensures same { self.new ≡ self.old }
         ensures pass { pass.new ≡ record pass.old { seen = self.old.plan.seen; retired = self.old.plan.retired; searching = informed pass.old.searching (cycle_of self.old.plan) } }
         ensures before { IsPrefix pass.old.seen self.old.plan.seen }
+        ensures successor { IsSuccessor pass.old.retired self.old.plan }
     {
         self.hear(map, pass);
         let whole = self.pass(map);
         pass.take(map, whole);
     }
 
-    // What the pass has seen begins the history.
+    // What the pass has seen begins the history, and the table that it has seen goes on in place of this one does.
     fn hear(&mut self, map: &Map, pass: &mut Pass)
         requires pen { map.now.table ≡ self.old.table }
         requires pass { map.now.table ≡ pass.old.table }
         ensures same { self.new ≡ self.old }
         ensures pass { pass.new ≡ pass.old }
         ensures before { IsPrefix pass.old.seen self.old.plan.seen }
+        ensures successor { IsSuccessor pass.old.retired self.old.plan }
     {
         let words = map.words();
         let copy = pass.split(map).into_seat();

@@ -4,9 +4,9 @@ use atomic_table::{Join, Play, Split, TableRule};
 use std::marker::{Brand, PhantomData};
 
 /// The rule of the words. Its first seat writes.
-pub struct Rule;
+pub struct WordRule;
 
-impl TableRule<(), View, About> for Rule {
+impl TableRule<(), View, About> for WordRule {
     ghost use Rattle.nsc_rule.specs.Seats.{IsKept, opening_view};
 
     ghost holds = { λ key s. IsKept key.layout s };

@@ -1,5 +1,5 @@
 // A table that goes on in place of another one.
-ghost use Rattle.std.specs.Prelude.{◌≡◌, ◌+◌, ◌-◌, ◌++◌, ◌<◌, false, true, replicate, IfOk};
+ghost use Rattle.std.specs.Prelude.{◌≡◌, ◌+◌, ◌-◌, ◌++◌, ◌<◌, None, IsSome, replicate, IfOk};
 ghost use Rattle.nsc_model.specs.History.{IsPrefix};
 ghost use Rattle.nsc_model.specs.Machine.{last_count};
 ghost use Rattle.nsc_words.specs.Layout.{IsLayout, table_words};
@@ -30,7 +30,7 @@ pub fn succeed(
     ensures same { pen.new ≡ pen.old }
     ensures map { IfOk result (λ r. r.0.layout ≡ layout) }
     ensures pen { IfOk result (λ r. r.1 ≡ record { table = r.0.table; plan = succeeding layout pen.old.plan }) }
-    ensures pass { IfOk result (λ r. r.2 ≡ record { table = r.0.table; seen = pen.old.plan.seen; retired = false; searching = rested (cycle_of pen.old.plan + 1) }) }
+    ensures pass { IfOk result (λ r. r.2 ≡ record { table = r.0.table; seen = pen.old.plan.seen; retired = None; searching = rested (cycle_of pen.old.plan + 1) }) }
 {
     pen.learn();
     let heads = loaded_heads(map, pen);
@@ -76,13 +76,13 @@ fn words_behind(alloc: Global, layout: Layout, heads: [u64; 10]) -> Result<Vec<u
 pub fn carry(map: &Map, old: &mut Pass, retired: &mut Pen, newer: &Map, stock: &mut Pass) -> Pass
     requires old { map.now.table ≡ old.old.table }
     requires pen { map.now.table ≡ retired.old.table }
-    requires retired { retired.old.plan.retired ≡ true }
+    requires retired { IsSome retired.old.plan.retired }
     requires newer { newer.now.table ≡ stock.old.table }
     requires seen { IsPrefix retired.old.plan.seen stock.old.seen }
     ensures pen { retired.new ≡ retired.old }
     ensures stock { stock.new ≡ stock.old }
     ensures pass { result ≡ stock.old }
-    ensures old { old.new ≡ record old.old { seen = retired.old.plan.seen; retired = true; searching = informed old.old.searching (cycle_of retired.old.plan) } }
+    ensures old { old.new ≡ record old.old { seen = retired.old.plan.seen; retired = retired.old.plan.retired; searching = informed old.old.searching (cycle_of retired.old.plan) } }
     ensures before { IsPrefix old.old.seen retired.old.plan.seen }
     ensures carried { IsPrefix old.old.seen result.seen }
 {

@@ -1,9 +1,26 @@
 // What the seats at the words know.
+use crate::map::Map;
 use atomic_table::Seat;
 use nsc_model::{Content, Ending, Entry, Record, Request};
 use nsc_words::{Layout, Placed};
 use std::collections::LinkedList;
+use std::marker::Model;
 use std::snapshot::Snapshot;
+
+/// Which table goes on in place of another one. No value of it is made.
+pub struct Successor {
+    seat: Snapshot<Seat<(), ()>>,
+}
+
+impl Model for Successor {
+    ghost use Rattle.atomic_table.specs.Seated.{TableId, table_id_coded};
+
+    ghost Value = { TableId };
+
+    ghost coded = { table_id_coded };
+
+    ghost view = { λ s. s.seat.value.table_id };
+}
 
 /// What the seat that writes knows: the table itself. No value of it is made.
 pub struct Plan {
@@ -17,8 +34,8 @@ pub struct Plan {
     pub nodes: LinkedList<Placed>,
     /// Whether FIRST_FREE and LOADS count the newest node too: no insertion is under way.
     pub counted: bool,
-    /// Whether another table goes on in place of this one.
-    pub retired: bool,
+    /// Which table goes on in place of this one, once one does.
+    pub retired: Option<Successor>,
 }
 
 /// How far the search of a seat that reads has come. No value of it is made.
@@ -53,6 +70,8 @@ pub enum View {
         plan: Plan,
         /// What it was told of.
         told: LinkedList<Record>,
+        /// The table that, as it was told, goes on in place of this one.
+        over: Option<Successor>,
     },
     /// A seat that reads.
     Reads {
@@ -60,8 +79,8 @@ pub enum View {
         seen: LinkedList<Record>,
         /// What it was told of.
         told: LinkedList<Record>,
-        /// Whether it has seen that another table goes on in place of this one.
-        retired: bool,
+        /// Which table it has seen goes on in place of this one.
+        retired: Option<Successor>,
         /// Its search.
         searching: Search,
     },
@@ -118,5 +137,8 @@ pub enum Stroke {
         content: Snapshot<Content>,
     },
     /// Another table goes on in place of this one.
-    Retire,
+    Retire {
+        /// That table.
+        newer: Snapshot<Map>,
+    },
 }

@@ -1,5 +1,5 @@
 // The steps of the pen that write a word.
-ghost use Rattle.std.specs.Prelude.{◌≡◌, ◌≢◌, ℕ, ◌+◌, ◌<◌, ◌≤◌, false, true, Some, ◌⊎◌, slice_index};
+ghost use Rattle.std.specs.Prelude.{◌≡◌, ◌≢◌, ℕ, ◌+◌, ◌<◌, ◌≤◌, true, None, Some, ◌⊎◌, slice_index};
 ghost use Rattle.nsc_model.specs.History.{NoneLive, loads, newest};
 ghost use Rattle.nsc_model.specs.Machine.{last_count};
 ghost use Rattle.nsc_words.specs.Layout.{table_words};
@@ -17,7 +17,7 @@ impl Pen {
     /// Stores a word behind the nodes, where nothing counts yet.
     pub fn store(&mut self, map: &Map, at: usize, word: u64)
         requires map { map.now.table ≡ self.old.table }
-        requires active { self.old.plan.retired ≡ false }
+        requires active { self.old.plan.retired ≡ None }
         requires free { IsFree self.old.plan at }
         ensures { self.new ≡ record self.old { plan = stored at word self.old.plan } }
     {
@@ -28,7 +28,7 @@ impl Pen {
     /// Stores a count of lookups or of insertions that found no room: one of the places 5 to 9.
     pub fn count(&mut self, map: &Map, at: usize, word: u64)
         requires map { map.now.table ≡ self.old.table }
-        requires active { self.old.plan.retired ≡ false }
+        requires active { self.old.plan.retired ≡ None }
         requires low { 5 ≤ at }
         requires high { at ≤ 9 }
         ensures { self.new ≡ record self.old { plan = stored at word self.old.plan } }
@@ -40,7 +40,7 @@ impl Pen {
     /// Stores how often the node at a place was reloaded without a use.
     pub fn reloads(&mut self, map: &Map, place: usize, count: u64)
         requires map { map.now.table ≡ self.old.table }
-        requires active { self.old.plan.retired ≡ false }
+        requires active { self.old.plan.retired ≡ None }
         requires even { IsEven self.old.plan }
         requires node { HasNode self.old.plan place }
         ensures { self.new ≡ record self.old { plan = reloads_stored place count self.old.plan } }
@@ -52,7 +52,7 @@ impl Pen {
     /// Links the node that was written behind the others: its bucket leads to it. That adds the record of its insertion.
     pub fn publish(&mut self, map: &Map, bucket: usize, at: usize)
         requires map { map.now.table ≡ self.old.table }
-        requires active { self.old.plan.retired ≡ false }
+        requires active { self.old.plan.retired ≡ None }
         requires ready { IsReady self.old.plan bucket at }
         ensures { self.new ≡ record self.old { plan = published bucket at self.old.plan } }
     {
@@ -63,7 +63,7 @@ impl Pen {
     /// Puts FIRST_FREE right behind the newest node.
     pub fn first_free(&mut self, map: &Map, end: u64)
         requires map { map.now.table ≡ self.old.table }
-        requires active { self.old.plan.retired ≡ false }
+        requires active { self.old.plan.retired ≡ None }
         requires behind { end ≡ end_in self.old.plan }
         ensures { self.new ≡ record self.old { plan = stored 3 end self.old.plan } }
     {
@@ -74,7 +74,7 @@ impl Pen {
     /// Makes LOADS count the newest node: its insertion is over. FIRST_FREE was put right before.
     pub fn loads(&mut self, map: &Map, count: u64)
         requires map { map.now.table ≡ self.old.table }
-        requires active { self.old.plan.retired ≡ false }
+        requires active { self.old.plan.retired ≡ None }
         requires behind { slice_index self.old.plan.words 3 ≡ end_in self.old.plan }
         requires all { count ≡ loads self.old.plan.seen }
         ensures { self.new ≡ record self.old { plan = node_counted count self.old.plan } }
@@ -86,7 +86,7 @@ impl Pen {
     /// Ends the usable node at a place. That adds the record of its end.
     pub fn clear_state(&mut self, map: &Map, place: usize, cause: Ending)
         requires map { map.now.table ≡ self.old.table }
-        requires active { self.old.plan.retired ≡ false }
+        requires active { self.old.plan.retired ≡ None }
         requires even { IsEven self.old.plan }
         requires node { MayEnd self.old.plan place cause }
         ensures { self.new ≡ record self.old { plan = cleared place cause self.old.plan } }
@@ -98,7 +98,7 @@ impl Pen {
     /// Makes a word of a chain that leads to an ended node lead past it.
     pub fn unlink(&mut self, map: &Map, from: usize, to: u64)
         requires map { map.now.table ≡ self.old.table }
-        requires active { self.old.plan.retired ≡ false }
+        requires active { self.old.plan.retired ≡ None }
         requires link { MayUnlink self.old.plan from to }
         ensures { self.new ≡ record self.old { plan = stored from to self.old.plan } }
     {
@@ -109,7 +109,7 @@ impl Pen {
     /// Begins a compaction. No insertion is under way.
     pub fn odd(&mut self, map: &Map)
         requires map { map.now.table ≡ self.old.table }
-        requires active { self.old.plan.retired ≡ false }
+        requires active { self.old.plan.retired ≡ None }
         requires even { IsEven self.old.plan }
         requires counted { self.old.plan.counted ≡ true }
         requires room { slice_index self.old.plan.words 0 < last_count }
@@ -120,24 +120,25 @@ impl Pen {
         self.write(map, CYCLE, cycle + 1, &Stroke::Plain);
     }
 
-    /// Another table goes on in place of this one: CYCLE stays odd for good, and no further step writes. No insertion is under way.
-    pub fn retire(&mut self, map: &Map)
+    /// A newer table goes on in place of this one: CYCLE stays odd for good, and no further step writes. No insertion is under way.
+    pub fn retire(&mut self, map: &Map, newer: &Map)
         requires map { map.now.table ≡ self.old.table }
-        requires active { self.old.plan.retired ≡ false }
+        requires active { self.old.plan.retired ≡ None }
         requires even { IsEven self.old.plan }
         requires counted { self.old.plan.counted ≡ true }
         requires room { slice_index self.old.plan.words 0 < last_count }
-        ensures { self.new ≡ record self.old { plan = left self.old.plan } }
+        ensures { self.new ≡ record self.old { plan = left newer.now.table self.old.plan } }
     {
         self.learn();
         let cycle = self.head(CYCLE);
-        self.write(map, CYCLE, cycle + 1, &Stroke::Retire);
+        let newer = Snapshot::of(newer);
+        self.write(map, CYCLE, cycle + 1, &Stroke::Retire { newer });
     }
 
     /// Stores a word of a compaction: FIRST_FREE, a bucket's, or one of the arena.
     pub fn slide_word(&mut self, map: &Map, at: usize, word: u64)
         requires map { map.now.table ≡ self.old.table }
-        requires active { self.old.plan.retired ≡ false }
+        requires active { self.old.plan.retired ≡ None }
         requires odd { IsOdd self.old.plan }
         requires place { (at ≡ 3) ⊎ (16 ≤ at) }
         requires inside { at < table_words self.old.plan.layout }
@@ -150,7 +151,7 @@ impl Pen {
     /// Ends a compaction, once the words show the live entries again.
     pub fn even(&mut self, map: &Map)
         requires map { map.now.table ≡ self.old.table }
-        requires active { self.old.plan.retired ≡ false }
+        requires active { self.old.plan.retired ≡ None }
         requires odd { IsOdd self.old.plan }
         requires slid { ShowsAgain self.old.plan }
         ensures { self.new ≡ record self.old { plan = finished self.old.plan } }
@@ -163,7 +164,7 @@ impl Pen {
     /// Counts an invalidation, and adds its record. No entry is live.
     pub fn epoch(&mut self, map: &Map)
         requires map { map.now.table ≡ self.old.table }
-        requires active { self.old.plan.retired ≡ false }
+        requires active { self.old.plan.retired ≡ None }
         requires ended { NoneLive self.old.plan.seen }
         requires room { slice_index self.old.plan.words 1 < last_count }
         ensures { self.new ≡ record self.old { plan = invalidation_added self.old.plan } }
@@ -176,7 +177,7 @@ impl Pen {
     /// Adds the record of a poll that confirms the newest version.
     pub fn poll(&mut self, map: &Map)
         requires map { map.now.table ≡ self.old.table }
-        requires active { self.old.plan.retired ≡ false }
+        requires active { self.old.plan.retired ≡ None }
         ensures { self.new ≡ record self.old { plan = poll_added self.old.plan } }
     {
         self.learn();
@@ -187,7 +188,7 @@ impl Pen {
     /// Adds the record of a new version, which has this content.
     pub fn change(&mut self, map: &Map, content: &Content)
         requires map { map.now.table ≡ self.old.table }
-        requires active { self.old.plan.retired ≡ false }
+        requires active { self.old.plan.retired ≡ None }
         requires new { newest self.old.plan.seen ≢ Some content.now }
         requires room { slice_index self.old.plan.words 2 < last_count }
         ensures { self.new ≡ record self.old { plan = changed content.now self.old.plan } }

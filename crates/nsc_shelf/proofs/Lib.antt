@@ -6,3 +6,5 @@ pub mod Still
 pub mod Slide
 pub mod HeadWords
 pub mod Hinted
+pub mod Fronts
+pub mod Copied

@@ -3,7 +3,9 @@ use Rattle.std.proofs.Common.{◌≡◌, ◌≢◌, ℕ, ◌+◌, ◌-◌, ◌<�
 use Rattle.std.proofs.lemmas.List.Sums.{sum_by_push}
 use Rattle.nsc_words.specs.declared.layout.Layout.{Layout}
 use Rattle.nsc_words.specs.declared.node.Placed.{Placed}
-use Rattle.nsc_words.specs.Laid.{Among, InRow, Laid, end_of}
+use Rattle.nsc_words.specs.declared.node.Node.{Node}
+use Rattle.nsc_words.specs.Laid.{Among, InRow, Laid, end_of, slid}
+use Rattle.nsc_arena.proofs.Slides.{slid_from}
 use Rattle.nsc_words.specs.Layout.{arena_start}
 use Rattle.nsc_arena.proofs.Rows.{end_after, set_head}
 use Rattle.nsc_model.specs.declared.answer.Request.{Request}
@@ -110,6 +112,18 @@ words_alone start (p ∷ older) row alone =
     let is : all_words (entries_in (p ∷ older)) ≡ all_words (entries_in older ++ kept_in p ∷ []) = ap all_words (one_more p older (alone p (inl refl))) in
     let more = sum_by_push (λ (k : Kept). entry_words k.entry) (entries_in older) (kept_in p) in
     omega arith
+
+-- no node that is left ended, and each is of a kind
+pub slid_alone : (start : ℕ) (nodes : List Placed) (q : Placed) → Among q (slid start nodes) → q.usable ≡ true
+slid_alone start [] q among = absurd among
+slid_alone start (p ∷ older) q among = by p.usable refl among (slid_alone start older q) where
+  by : (b : Bool) → p.usable ≡ b → Among q (cond b (record p { place = end_of start (slid start older) } ∷ slid start older) (slid start older)) → (Among q (slid start older) → q.usable ≡ true) → q.usable ≡ true
+  by true e (inl is) rest = ap (λ (r : Placed). r.usable) is ∙ e
+  by true e (inr more) rest = rest more
+  by false e more rest = rest more
+
+pub slid_kinds : (start : ℕ) (nodes : List Placed) → ((p : Placed) → Among p nodes → type_number (kind_of p.node.kind) ≡ p.node.kind) → (q : Placed) → Among q (slid start nodes) → type_number (kind_of q.node.kind) ≡ q.node.kind
+slid_kinds start nodes kinds q among = let w = slid_from start nodes q among in subst (λ (n : Node). type_number (kind_of n.kind) ≡ n.kind) (sym w.2) (kinds w.0 w.1)
 
 -- ---- the end
 

@@ -132,6 +132,36 @@ numbered {plan} {layout} k word seen low high rests held =
       going = slide_none new (ap (λ (n : ℕ). n % 2) e0 ∙ rests.even) ∙ sym (slide_none plan.words rests.even);
     }
 
+-- a word behind the head was set, and the nodes stay
+pub kept_by : {plan : Plan} {layout : Layout} {count : ℕ} {mark : Mark} {hints : List ℕ} (at word : ℕ) → 16 ≤ at → Rests plan layout count mark hints → IsHeld plan layout count mark hints → Laid (set plan.words at word) layout plan.nodes → Moved plan (stored at word plan) layout count mark hints (λ s. s)
+kept_by {plan} {layout} at word low rests held laid =
+    let new : List ℕ = set plan.words at word in
+    let other : (i : ℕ) → i < 16 → slice_index new i ≡ slice_index plan.words i = λ i less. get_or-set_other plan.words at i word 0 (omega arith) in
+    let e0 = other 0 (omega arith) in
+    let e4 = other 4 (omega arith) in
+    let e5 = other 5 (omega arith) in
+    let e6 = other 6 (omega arith) in
+    let e7 = other 7 (omega arith) in
+    let e8 = other 8 (omega arith) in
+    let e9 = other 9 (omega arith) in
+    record {
+      held = record {
+        laid_out = held.laid_out;
+        settled = held.settled;
+        sizes = held.sizes;
+        laid = λ even. laid;
+        entries = subst (AreEntries plan.nodes) (sym e4) held.entries;
+        counted = subst (λ (n : ℕ). n ≤ last_count) (sym e4) held.counted;
+        live = held.live;
+        marked = held.marked;
+        hinted = held.hinted;
+      };
+      view = λ i. record (shelf_in plan.nodes plan.words layout) { inserted = e4 i; cycle = e0 i; add_failed = e9 i; hits = record { found = e5 i; not_found = e6 i }; misses = record { found = e7 i; not_found = e8 i } };
+      going = slide_none new (ap (λ (n : ℕ). n % 2) e0 ∙ rests.even) ∙ sym (slide_none plan.words rests.even);
+      epoch = other 1 (omega arith);
+      source = other 2 (omega arith);
+    }
+
 -- another mark
 pub marked : {plan : Plan} {layout : Layout} {count : ℕ} {mark mark' : Mark} {hints : List ℕ} → Rests plan layout count mark hints → IsHeld plan layout count mark hints → ((nodes : List Placed) → Laid plan.words layout nodes → IsMark layout nodes mark.place mark.number → IsMark layout nodes mark'.place mark'.number) → IsHeld plan layout count mark' hints
 marked {plan} rests held marks = record { laid_out = held.laid_out; settled = held.settled; sizes = held.sizes; laid = held.laid; entries = held.entries; counted = held.counted; live = held.live; marked = marks plan.nodes rests.laid held.marked; hinted = held.hinted }

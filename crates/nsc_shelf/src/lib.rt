@@ -2,6 +2,7 @@
 //! as the one pen writes them.
 #![tactic(auto)]
 
+mod copying;
 mod entry;
 mod finding;
 mod hints;

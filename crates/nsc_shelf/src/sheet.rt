@@ -1,18 +1,25 @@
 // The words of a table, as its one pen writes them.
-ghost use Rattle.std.specs.Prelude.{◌≡◌, ◌≢◌, ◌⊎◌, ◌+◌, ◌<◌, ◌≤◌, ◌==◌, if◌then◌else◌, false, true, Some, length, slice_index};
+ghost use Rattle.std.specs.Prelude.{◌≡◌, ◌≢◌, ◌⊎◌, ◌+◌, ◌<◌, ◌≤◌, ◌==◌, if◌then◌else◌, true, None, Some, IfOk, length, slice_index};
+ghost use Rattle.std.specs.Bool.{OnTrue, OnFalse};
+ghost use Rattle.nsc_words.specs.declared.node.Placed.{Placed};
+ghost use Rattle.nsc_words.specs.Layout.{IsLayout};
 ghost use Rattle.nsc_model.specs.History.{IsPrefix, NoneLive, loads, newest};
 ghost use Rattle.nsc_model.specs.Machine.{last_count, next_count};
-ghost use Rattle.nsc_rule.specs.Plans.{IsEven, IsOdd, Sound, cycle_of, end_in};
+ghost use Rattle.nsc_rule.specs.Plans.{IsEven, IsOdd, Sound, cycle_of, end_in, succeeding};
 ghost use Rattle.nsc_rule.specs.Seats.{informed, rested};
-ghost use Rattle.nsc_rule.specs.Strokes.{HasNode, IsReady, MayEnd, ShowsAgain, begun, changed, cleared, finished, invalidation_added, node_counted, poll_added, published, reloads_stored, stored};
+ghost use Rattle.nsc_rule.specs.Strokes.{HasNode, IsReady, MayEnd, ShowsAgain, begun, changed, cleared, finished, invalidation_added, left, node_counted, poll_added, published, reloads_stored, stored};
+ghost use Rattle.nsc_shelf.specs.Sheet.{IsEndedFront};
 
 use crate::finding::Found;
 use nsc_arena::Words;
+use nsc_base::NoMemory;
 use nsc_model::{Content, Ending, next_count};
-use nsc_rule::{Map, Pass, Pen};
+use nsc_rule::{Map, Pass, Pen, succeed};
+use nsc_words::{HEAD_WORDS, Layout, NEXT, STATE};
+use std::alloc::Global;
 use std::marker::Model;
 
-/// The words that the threads of a database share, and the pen that writes them. Each call is one step of the pen.
+/// The words that the threads of a database share, and the pen that writes them. Each word is written by a step of the pen.
 #[derive(Drop)]
 pub struct Sheet {
     map: Map,
@@ -20,24 +27,24 @@ pub struct Sheet {
 }
 
 impl Model for Sheet {
-    ghost use Rattle.std.specs.Prelude.{◌≡◌, false};
+    ghost use Rattle.std.specs.Prelude.{◌≡◌, None};
     ghost use Rattle.nsc_rule.specs.Pen.{Pen};
 
     ghost Value = { Pen };
 
     ghost view = { λ s. s.pen };
 
-    ghost invariant = { λ s. (s.pen.table ≡ s.map.table) × (s.pen.plan.layout ≡ s.map.layout) × (s.pen.plan.retired ≡ false) };
+    ghost invariant = { λ s. (s.pen.table ≡ s.map.table) × (s.pen.plan.layout ≡ s.map.layout) × (s.pen.plan.retired ≡ None) };
 }
 
 impl Sheet {
-    ghost use Rattle.std.specs.Prelude.{false};
+    ghost use Rattle.std.specs.Prelude.{None};
 
     /// The words that a pen writes.
     pub fn new(map: Map, pen: Pen) -> Sheet
         requires table { pen.table ≡ map.table }
         requires layout { pen.plan.layout ≡ map.layout }
-        requires active { pen.plan.retired ≡ false }
+        requires active { pen.plan.retired ≡ None }
         ensures { result ≡ pen }
     {
         Sheet { map, pen }
@@ -68,17 +75,19 @@ impl Sheet {
     /// A pass that has seen the whole history, and knows CYCLE, with no search.
     pub fn pass(&mut self) -> Pass
         ensures same { self.new ≡ self.old }
-        ensures pass { result ≡ record { table = self.old.table; seen = self.old.plan.seen; retired = false; searching = rested (cycle_of self.old.plan) } }
+        ensures pass { result ≡ record { table = self.old.table; seen = self.old.plan.seen; retired = None; searching = rested (cycle_of self.old.plan) } }
     {
         self.pen.pass(&self.map)
     }
 
-    /// The pass has seen the whole history then, which begins with what it had seen, and knows CYCLE. Its search stays.
+    /// The pass has seen the whole history then, which begins with what it had seen, and knows CYCLE. Its search stays. It had not seen that
+    /// other words go on in place of these, since none do.
     pub fn show(&mut self, pass: &mut Pass)
         requires { pass.old.table ≡ self.old.table }
         ensures same { self.new ≡ self.old }
-        ensures pass { pass.new ≡ record pass.old { seen = self.old.plan.seen; retired = false; searching = informed pass.old.searching (cycle_of self.old.plan) } }
+        ensures pass { pass.new ≡ record pass.old { seen = self.old.plan.seen; retired = None; searching = informed pass.old.searching (cycle_of self.old.plan) } }
         ensures before { IsPrefix pass.old.seen self.old.plan.seen }
+        ensures active { pass.old.retired ≡ None }
     {
         self.pen.show(&self.map, pass);
     }
@@ -160,6 +169,27 @@ impl Sheet {
         self.pen.clear_state(&self.map, place, cause);
     }
 
+    /// Takes the first node of a bucket's chain out of the chain, where it ended: the bucket leads where that node led. It is false exactly
+    /// where the chain has no node, or a usable one is first; then nothing changed. No insertion is under way.
+    pub fn unlink(&mut self, bucket: usize) -> bool
+        requires even { IsEven self.old.plan }
+        requires counted { self.old.plan.counted ≡ true }
+        requires bucket { bucket < self.old.plan.layout.buckets }
+        ensures unlinked { OnTrue result ((gone : Placed) × IsEndedFront self.old.plan bucket gone × (self.new ≡ record self.old { plan = stored (16 + bucket) (slice_index self.old.plan.words (gone.place + 7)) self.old.plan })) }
+        ensures none { OnFalse result ((gone : Placed) → IsEndedFront self.old.plan bucket gone → ⊥) }
+        ensures stays { OnFalse result (self.new ≡ self.old) }
+    {
+        self.pen.learn();
+        let from = HEAD_WORDS + bucket;
+        let at = self.pen.load(&self.map, from) as usize;
+        if at == 0 || self.pen.load(&self.map, at + STATE) == 1 {
+            return false;
+        }
+        let to = self.pen.load(&self.map, at + NEXT);
+        self.pen.unlink(&self.map, from, to);
+        true
+    }
+
     /// Begins a slide. No insertion is under way.
     pub fn begin(&mut self)
         requires even { IsEven self.old.plan }
@@ -188,6 +218,34 @@ impl Sheet {
         ensures { self.new ≡ record self.old { plan = finished self.old.plan } }
     {
         self.pen.even(&self.map);
+    }
+
+    /// New words with no node, which can go on in place of these, and a pass of them that has seen this history: they have the history and
+    /// the counts, and a slide is under way in them, by which their nodes are set. Fails only for want of memory.
+    pub fn succeed(&mut self, alloc: Global, layout: Layout) -> Result<(Sheet, Pass), NoMemory>
+        requires sizes { IsLayout layout }
+        requires even { IsEven self.old.plan }
+        requires room { cycle_of self.old.plan < last_count }
+        ensures same { self.new ≡ self.old }
+        ensures sheet { IfOk result (λ r. r.0 ≡ record { table = r.1.table; plan = succeeding layout self.old.plan }) }
+        ensures pass { IfOk result (λ r. r.1 ≡ record { table = r.0.table; seen = self.old.plan.seen; retired = None; searching = rested (cycle_of self.old.plan + 1) }) }
+    {
+        let (map, pen, pass) = succeed(alloc, &self.map, &mut self.pen, layout)?;
+        Ok((Sheet { map, pen }, pass))
+    }
+
+    /// These words are left, and newer ones go on in their place: CYCLE stays odd for good, and the pen writes no more. No insertion is
+    /// under way.
+    pub fn retire(self, newer: &Map) -> (Map, Pen)
+        requires even { IsEven self.plan }
+        requires counted { self.plan.counted ≡ true }
+        requires room { slice_index self.plan.words 0 < last_count }
+        ensures map { result.0 ≡ record { table = self.table; layout = self.plan.layout } }
+        ensures pen { result.1 ≡ record self { plan = left newer.now.table self.plan } }
+    {
+        let Sheet { map, mut pen } = self;
+        pen.retire(&map, newer);
+        (map, pen)
     }
 
     /// Counts an invalidation, and adds its record. No entry is live.

@@ -4,6 +4,7 @@ mod Ends
 mod Sits
 mod Used
 mod Put
+mod Enlarged
 pub mod Later
 pub mod Crossing
 pub mod Rest

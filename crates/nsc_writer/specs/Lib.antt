@@ -1,3 +1,5 @@
 pub mod Loaded
 pub mod Writer
 pub mod Slide
+pub mod Former
+pub mod Enlarged

@@ -197,6 +197,20 @@ impl Writer {
         true
     }
 
+    /// Takes the first node of a bucket's chain out of the chain, where its entry ended; buckets count from 0. False where it took none. What
+    /// the database holds stays as it was.
+    pub fn unlink(&mut self, bucket: usize) -> bool
+        requires bucket { bucket < self.old.layout.buckets }
+        requires still { self.old.slide ≡ None }
+        ensures { self.new ≡ self.old }
+    {
+        if !self.sheet.unlink(bucket) {
+            return false;
+        }
+        self.sheet.learn();
+        true
+    }
+
     /// Ends every entry as invalidated, and gives the new number of invalidations. At `Spent` nothing changed: that number
     /// stands at its end.
     pub fn invalidate(&mut self) -> Result<u64, Spent>

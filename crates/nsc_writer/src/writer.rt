@@ -1,4 +1,4 @@
-ghost use Rattle.std.specs.Prelude.{◌≡◌, false, true, ◌≤◌, ◌*◌, ◌/◌, ◌==◌, [], ◌∷◌, None, length, IfOk};
+ghost use Rattle.std.specs.Prelude.{◌≡◌, true, ◌≤◌, ◌*◌, ◌/◌, ◌==◌, [], ◌∷◌, None, length, IfOk};
 ghost use Rattle.std.specs.Arc.{arc_value};
 ghost use Rattle.nsc_model.specs.declared.record.Record.TheVariants as record_of;
 ghost use Rattle.nsc_model.specs.History.{IsPrefix};
@@ -110,7 +110,7 @@ impl Writer {
     pub fn pass(&mut self) -> Pass
         requires { self.old.slide ≡ None }
         ensures same { self.new ≡ self.old }
-        ensures pass { result ≡ record { table = self.old.table; seen = self.old.seen; retired = false; searching = rested self.old.cache.cycle } }
+        ensures pass { result ≡ record { table = self.old.table; seen = self.old.seen; retired = None; searching = rested self.old.cache.cycle } }
     {
         self.sheet.pass()
     }
@@ -120,8 +120,9 @@ impl Writer {
         requires table { pass.old.table ≡ self.old.table }
         requires still { self.old.slide ≡ None }
         ensures same { self.new ≡ self.old }
-        ensures pass { pass.new ≡ record pass.old { seen = self.old.seen; retired = false; searching = informed pass.old.searching self.old.cache.cycle } }
+        ensures pass { pass.new ≡ record pass.old { seen = self.old.seen; retired = None; searching = informed pass.old.searching self.old.cache.cycle } }
         ensures before { IsPrefix pass.old.seen self.old.seen }
+        ensures active { pass.old.retired ≡ None }
     {
         self.sheet.show(pass);
     }

@@ -7,4 +7,4 @@ pub join_seat-requires : goal.join_seat-requires
 join_seat-requires c = (search rules, search rules, search rules, search rules, tells _ _ _ _ _)
 
 pub load-requires : goal.load-requires
-load-requires c = (search rules, search rules, learns_as _ _ _ _ _ (plan_by c.self.inside.seat.me.0) c.args.pass.now.seen (told_writer c.self.inside.seat.me c.into_seat-copy.result.me c.join_seat.new.seat.me c.args.pass.now.seen c.self.invariant.0 c.join_seat.ensures.2 (search rules)))
+load-requires c = (search rules, search rules, learns_as _ _ _ _ _ (plan_by c.self.inside.seat.me.0) c.args.pass.now.seen c.args.pass.now.retired (told_writer c.self.inside.seat.me c.into_seat-copy.result.me c.join_seat.new.seat.me c.args.pass.now.seen c.args.pass.now.retired c.self.invariant.0 c.join_seat.ensures.2 (search rules) (search rules)))

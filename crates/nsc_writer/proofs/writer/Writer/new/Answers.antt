@@ -19,7 +19,6 @@ use Rattle.nsc_shelf.proofs.Hinted.{no_hints_in}
 use Rattle.nsc_shelf.proofs.Still.{slide_none}
 use Rattle.nsc_writer.specs.Writer.{IsWriter, cache_of, writer_of}
 use Rattle.nsc_writer.proofs.writer.Writer.new.Goals as goal
-use Rattle.nsc_writer.proofs.writer.Writer.new.Goals.{After-start-2}
 
 none : (n : ℕ) → AreEntries [] n
 none n = record { kinds = λ p m. absurd m; numbers = λ p m. absurd m; apart = λ p q m. absurd m }

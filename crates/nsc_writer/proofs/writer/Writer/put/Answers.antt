@@ -39,7 +39,7 @@ use Rattle.nsc_writer.proofs.Moved.{moved_still, moved_view}
 use Rattle.nsc_writer.proofs.Put.{IsWrittenAt, led, led_head, led_next, led_stands, link_low, put_moved, put_plan, put_words}
 use Rattle.nsc_writer.proofs.Told.{loaded_tells}
 use Rattle.nsc_writer.proofs.writer.Writer.put.Goals as goal
-use Rattle.nsc_writer.proofs.writer.Writer.put.Goals.{In-Some, After-hash-hash, After-lead-bucket, After-publish, After-note}
+use Rattle.nsc_writer.proofs.writer.Writer.put.Goals.{In-Some, After-lead-bucket, After-publish, After-note}
 
 -- the history tells of it
 told_by : (v w : Writer) (l : Loaded) → v ≡ w → Tells v.seen v.cache → IsAdmitted w l → IsAnswered w.seen l → Tells (Load (kept_of l v.cache.inserted).entry ∷ v.seen) (inserted_by (kept_of l v.cache.inserted) v.cache)
