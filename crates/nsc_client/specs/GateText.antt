@@ -21,18 +21,14 @@ use Rattle.nsc_model.specs.Entry.{key_limit}
 use Rattle.nsc_model.specs.Hosts.{ipv4}
 use Rattle.nsc_model.specs.Kinds.{db_named}
 use Rattle.nsc_model.specs.ServiceLines.{exchanged, port_of, service_key}
+use Rattle.nsc_client.specs.declared.line.Asking.{Asking}
+use Rattle.nsc_client.specs.declared.line.Asking.TheVariants.{Bad, One, HostNamed}
 
 -- a line has at most so many bytes, its newline not counted
 abbrev pub line_limit : ℕ
 line_limit = 1100
 
 -- ---- what a line asks
-
--- nothing, since it is bad; one request; or a host by name, of IPv4 and, where there is none, of IPv6
-pub data Asking : Type 0 where
-  Bad : Asking
-  One : (request : Request) → Asking
-  HostNamed : (name : List ℕ) → Asking
 
 -- a request whose key is too long is not asked
 abbrev pub one : Kind → List ℕ → Asking

@@ -2,3 +2,8 @@ pub mod Links
 pub mod Lookups
 pub mod Asks
 pub mod GateText
+pub mod Sent
+pub mod Gate
+pub mod Replying
+pub mod Serving
+pub mod Held

@@ -1,6 +1,7 @@
 //! Requests and replies as bytes: protocol version 2 of glibc's nscd-client.h, little-endian.
 //!
-//! A reader takes no memory and looks at each byte once; a reply is written into memory that is taken once.
+//! A request is read with no memory, and each of its bytes is looked at once; a reply is written into memory that is taken once, and read
+//! back into memory for its row alone.
 #![tactic(auto)]
 
 mod addresses;

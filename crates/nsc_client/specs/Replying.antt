@@ -1,0 +1,69 @@
+-- What comes of one request, and of what a line asks.
+use Rattle.std.specs.Prelude.{◌≡◌, ℕ, ◌+◌, ◌≤◌, List, All, IfSome, Option, Some, None, codes, length}
+use Rattle.nsc_model.specs.declared.answer.Request.{Request}
+use Rattle.nsc_model.specs.declared.databases.Databases.{Databases}
+use Rattle.nsc_model.specs.declared.row.Reply.{Reply}
+use Rattle.nsc_model.specs.declared.store.LookupFault.{LookupFault}
+use Rattle.nsc_model.specs.declared.store.LookupFault.TheVariants as fault
+use Rattle.nsc_model.specs.declared.store.Store as store
+use Rattle.nsc_model.specs.Entry.{key_limit}
+use Rattle.nsc_model.specs.History.{Answered, Legal}
+use Rattle.nsc_model.specs.Reads.{FaultsStay}
+use Rattle.nsc_model.specs.Stores.{GivesUp}
+use Rattle.nsc_model.specs.Wire.{Spells}
+use Rattle.nsc_client.specs.declared.line.Asking.{Asking}
+use Rattle.nsc_client.specs.declared.line.Asking.TheVariants.{Bad, One, HostNamed}
+use Rattle.nsc_client.specs.declared.link.LinkFault.{LinkFault}
+use Rattle.nsc_client.specs.Gate.{AreCalm, IsTold, searches_of}
+use Rattle.nsc_client.specs.GateText.{AreAsked, Told, answer_text, reply_text}
+use Rattle.nsc_client.specs.Links.{fault_of}
+use Rattle.nsc_client.specs.Sent.{CanBeSent}
+
+-- ---- one request of one store
+
+-- a reply was asked for by a search in place, and answers the request
+pub record IsReplied {S P : Type 0} (g : store.Ghosts S P) (before after : P) (request : Request) (reply : Reply) : Type 0 where
+  pub bytes : List ℕ
+  pub answered : Answered (g.seen before) (g.seen after) request bytes
+  pub spelled : Spells request.kind reply bytes
+  pub legal : Legal (g.seen after)
+  pub searched : g.searches before + 1 ≤ g.searches after
+  pub calm : FaultsStay (g.faults before) (g.faults after) (g.file_faults before) (g.file_faults after)
+
+-- memory was wanting; or the lookup gave up
+abbrev pub IsCauseAt : {S P : Type 0} → store.Ghosts S P → S → P → P → Request → LookupFault → Type 0
+IsCauseAt g base before after request fault.NoMemory = FaultsStay (g.faults before) (g.faults after) (g.file_faults before) (g.file_faults after)
+IsCauseAt g base before after request cause = GivesUp (g.settings base) (g.seen before) (g.seen after) request (g.faults before) (g.faults after) (g.file_faults before) (g.file_faults after) cause
+
+-- why there is no reply
+abbrev pub IsRefusedAt : {S P : Type 0} → store.Ghosts S P → S → P → P → Request → LinkFault → Type 0
+IsRefusedAt g base before after request refused = (cause : LookupFault) × (refused ≡ fault_of cause) × IsCauseAt g base before after request cause
+
+-- ---- the four stores
+
+-- a reply was asked for by a search in place, and answers the request
+pub record IsGiven {S P : Type 0} (g : store.Ghosts S P) (before after : Databases P) (request : Request) (reply : Reply) : Type 0 where
+  pub told : IsTold g before after (record { request = request; reply = reply })
+  pub searched : searches_of g before + 1 ≤ searches_of g after
+  pub calm : AreCalm g before after
+
+-- what the last reply says; where nothing was asked, the line is bad
+abbrev pub said : Option Reply → List ℕ
+said None = codes "bad line"
+said (Some reply) = reply_text reply
+
+-- what was asked for a line, by as many searches in place, and the last reply, where there is one
+pub record IsAnswered {S P : Type 0} (g : store.Ghosts S P) (before after : Databases P) (asking : Asking) (last : Option Reply) : Type 0 where
+  pub asked : List Told
+  pub are_asked : AreAsked asking asked
+  pub told : All (IsTold g before after) asked
+  pub says : answer_text asked ≡ said last
+  pub searched : searches_of g before + length asked ≤ searches_of g after
+  pub calm : AreCalm g before after
+  pub sent : IfSome last CanBeSent
+
+-- no key is too long
+abbrev pub KeysFit : Asking → Type 0
+KeysFit Bad = Unit {0}
+KeysFit (One request) = length request.key ≤ key_limit
+KeysFit (HostNamed name) = length name ≤ key_limit

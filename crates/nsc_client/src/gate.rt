@@ -1,0 +1,169 @@
+ghost use Rattle.std.specs.Prelude.{◌≡◌, ◌<◌, ◌≤◌, ◌^◌, IfErr, IfOk, OnOk, length};
+ghost use Rattle.nsc_outside.specs.StreamAt.{stream_in, stream_out};
+ghost use Rattle.nsc_client.specs.declared.link.LinkFault.TheVariants.{NoMemory as Memory};
+ghost use Rattle.nsc_client.specs.GateText.{line_limit};
+ghost use Rattle.nsc_client.specs.Held.{ComesOrEnds, GivesNone};
+ghost use Rattle.nsc_client.specs.Serving.{IsServed, IsStopped};
+ghost use Rattle.nsc_model.specs.Entry.{kept_limit};
+ghost use Rattle.nsc_client.specs.Gate.{AreNamed, ArePasses, SeeMore};
+
+use crate::line::cut_at;
+use crate::link::LinkFault;
+use crate::serving::serve_line;
+use nsc_base::Buf;
+use nsc_model::{Databases, Store, next_count};
+use nsc_outside::{Sink, Source};
+use std::alloc::Global;
+use std::sync::Wait;
+
+// The longest line, in bytes.
+const LINE_LIMIT: usize = 1100;
+
+// How many bytes are read at once, at most.
+const PART: usize = 2048;
+
+// A line is longer than that.
+const TOO_LONG: Gated = Gated::TooLongLine { length: 1101 };
+
+/// What came of one connection to the gate.
+#[derive(Clone, Copy, Debug, PartialEq, Eq)]
+pub enum Gated {
+    /// The input was read to its end, and each line was answered.
+    Done {
+        /// How many lines there were, a number that stays at 2^62.
+        lines: u64,
+    },
+    /// A line is longer than a line may be. The lines before it were answered.
+    TooLongLine {
+        /// How many bytes of it were counted: 1,101.
+        length: u64,
+    },
+    /// The input failed. The whole lines that came were answered.
+    ReadFault,
+    /// The output failed. A front of the answers may be written.
+    WriteFault,
+    /// A line was refused. The lines before it were answered.
+    Refused(LinkFault),
+}
+
+/// Serves one connection to the gate at this moment, in seconds: answers each line of the input in turn. Each request of a line is
+/// searched for in place, in the buffer of 65,536 bytes, and looked up where that finds nothing.
+pub fn serve_gate<RT: AllocGlobal + Wait, S: Store, R: Source, K: Sink>(
+    rt: &RT,
+    stores: &Databases<S>,
+    passes: &mut Databases<S::Pass>,
+    out: &mut Buf,
+    conn_in: &mut R,
+    conn_out: &mut K,
+    now: u64,
+) -> Gated
+    requires named { AreNamed S.Store stores.now }
+    requires passes { ArePasses S.Store stores.now passes.old }
+    requires limit { out.old.limit ≡ kept_limit }
+    requires moment { now < 2 ^ 62 }
+    ensures passes { ArePasses S.Store stores.now passes.new }
+    ensures limit { out.new.limit ≡ out.old.limit }
+    ensures seen { SeeMore S.Store passes.old passes.new }
+{
+    match serve_lines(rt, stores, passes, out, conn_in, conn_out, now) {
+        Ok(lines) => Gated::Done { lines },
+        Err(gated) => gated,
+    }
+}
+
+// Answers each line of the input, and gives their number, which stays at 2^62.
+fn serve_lines<RT: AllocGlobal + Wait, S: Store, R: Source, K: Sink>(
+    rt: &RT,
+    stores: &Databases<S>,
+    passes: &mut Databases<S::Pass>,
+    out: &mut Buf,
+    conn_in: &mut R,
+    conn_out: &mut K,
+    now: u64,
+) -> Result<u64, Gated>
+    requires named { AreNamed S.Store stores.now }
+    requires passes { ArePasses S.Store stores.now passes.old }
+    requires limit { out.old.limit ≡ kept_limit }
+    requires moment { now < 2 ^ 62 }
+    ensures passes { ArePasses S.Store stores.now passes.new }
+    ensures limit { out.new.limit ≡ out.old.limit }
+    ensures seen { SeeMore S.Store passes.old passes.new }
+{
+    // The bytes that came and are not answered.
+    let mut held = Vec::new(rt.alloc());
+    let mut lines = 0;
+    for _ in rt.forever() {
+        if let Some((line, rest)) = cut_at(held.as_slice(), b'\n') {
+            serve_short(rt, stores, passes, out, conn_out, line, now)?;
+            held = copied(rt.alloc(), rest)?;
+            lines = next_count(lines);
+        } else if !read_more(conn_in, &mut held)? {
+            break;
+        }
+    }
+    if held.is_empty() {
+        return Ok(lines);
+    }
+    serve_short(rt, stores, passes, out, conn_out, held.as_slice(), now)?;
+    Ok(next_count(lines))
+}
+
+// Serves a line, unless it is too long.
+fn serve_short<RT: AllocGlobal + Wait, S: Store, K: Sink>(
+    rt: &RT,
+    stores: &Databases<S>,
+    passes: &mut Databases<S::Pass>,
+    out: &mut Buf,
+    conn_out: &mut K,
+    line: &[u8],
+    now: u64,
+) -> Result<(), Gated>
+    requires named { AreNamed S.Store stores.now }
+    requires passes { ArePasses S.Store stores.now passes.old }
+    requires limit { out.old.limit ≡ kept_limit }
+    requires moment { now < 2 ^ 62 }
+    ensures passes { ArePasses S.Store stores.now passes.new }
+    ensures limit { out.new.limit ≡ out.old.limit }
+    ensures seen { SeeMore S.Store passes.old passes.new }
+    ensures fits { OnOk result (length line.now ≤ line_limit) }
+    ensures served { OnOk result (IsServed S.Store passes.old passes.new (stream_out K.Sink conn_out.old) (stream_out K.Sink conn_out.new) line.now) }
+    ensures unserved { IfErr result (IsStopped S.Store stores.now passes.old passes.new (stream_out K.Sink conn_out.old) (stream_out K.Sink conn_out.new) line.now) }
+{
+    if line.len() > LINE_LIMIT {
+        return Err(TOO_LONG);
+    }
+    serve_line(rt, stores, passes, out, conn_out, line, now)
+}
+
+// Reads more bytes after those that are held, which are the beginning of a line. `false` where the input has ended.
+fn read_more<R: Source>(conn_in: &mut R, held: &mut Vec<u8>) -> Result<bool, Gated>
+    ensures come { IfOk result (ComesOrEnds (stream_in R.Source conn_in.old) (stream_in R.Source conn_in.new) held.old.items held.new.items) }
+    ensures fits { OnOk result (length held.old.items ≤ line_limit) }
+    ensures none { IfErr result (GivesNone (stream_in R.Source conn_in.old) (stream_in R.Source conn_in.new) held.old.items) }
+{
+    if held.len() > LINE_LIMIT {
+        return Err(TOO_LONG);
+    }
+    let mut part = [0; PART];
+    if held.try_reserve(PART).is_err() {
+        return Err(Gated::Refused(LinkFault::NoMemory));
+    }
+    match conn_in.read(&mut part) {
+        Ok(count) => {
+            held.extend_from_slice(&part[..count]).unwrap();
+            Ok(count > 0)
+        }
+        Err(_) => Err(Gated::ReadFault),
+    }
+}
+
+// A copy of bytes.
+fn copied(alloc: Global, bytes: &[u8]) -> Result<Vec<u8>, Gated>
+    ensures copy { IfOk result (λ copy. copy.items ≡ bytes.now) }
+    ensures fault { IfErr result (λ gated. gated ≡ Gated.Refused Memory) }
+{
+    match Vec::from_slice(alloc, bytes) {
+        Ok(copy) => Ok(copy),
+        Err(_) => Err(Gated::Refused(LinkFault::NoMemory)),
+    }
+}
