@@ -40,7 +40,7 @@ pub trait Jobs {
     ghost is_over: { Self → Bool };
 
     /// The next connection, which may be waited for. `None` where no more is to come.
-    fn next<R: Wait + Clock>(&mut self, rt: &R) -> Option<Job<Self::In, Self::Out>>
+    fn next<R: AllocGlobal + Wait + Clock>(&mut self, rt: &R) -> Option<Job<Self::In, Self::Out>>
         ensures servable { IfSome result IsServable }
         ensures given { given self.new ≡ given_after result (given self.old) }
         ensures over { IfNone result (is_over self.new ≡ true) };

@@ -65,3 +65,47 @@ fn sockets_of_the_system(rt: HostRuntime) -> Result<(), Fail> {
     fs::remove_dir_all(&rt, folder.as_str())?;
     Ok(())
 }
+
+// Takes the next part of a connection to the gate, and gives whether it is these bytes and then the end.
+fn takes_part<N: Listener>(net: &mut N, part: &[u8]) -> bool {
+    let Ok(
+        Accepted::Conn {
+            role: Role::Gate,
+            mut input,
+            ..
+        },
+    ) = net.accept()
+    else {
+        return false;
+    };
+    let mut room = [0u8; 32];
+    match fill(&mut input, &mut room) {
+        Ok(count) => room.get(..count) == Some(part),
+        Err(_) => false,
+    }
+}
+
+// A connection to the gate comes whenever whole lines do, and ends where a part of it was not read.
+#[test]
+fn gate_of_the_system(rt: HostRuntime) -> Result<(), Fail> {
+    let folder = format!(in rt.alloc(); "nsc-gate-{}", process::id(rt.process()))?;
+    let path = format!(in rt.alloc(); "{folder}/gate")?;
+    let mut net = UnixListener::new(rt.alloc(), &rt, 4);
+    assert_eq!(rt; net.bind(Role::Gate, path.as_str()), Ok(()));
+    assert_eq!(rt; mode(&rt, path.as_str())?, 0o666);
+    let Ok((mut input, mut output)) = net.connect(path.as_str()) else {
+        return Err(Fail::new("no connection"));
+    };
+    assert_eq!(rt; write_all(&mut output, b"one\ntwo\nthr"), Ok(()));
+    assert!(rt; takes_part(&mut net, b"one\ntwo\n"));
+    assert!(rt; matches!(net.accept(), Ok(Accepted::Quiet)));
+    assert_eq!(rt; write_all(&mut output, b"ee\n"), Ok(()));
+    assert!(rt; takes_part(&mut net, b"three\n"));
+    assert_eq!(rt; write_all(&mut output, b"four\n"), Ok(()));
+    drop(net.accept());
+    let mut reply = [0u8; 8];
+    assert_eq!(rt; fill(&mut input, &mut reply), Ok(0));
+    net.close();
+    fs::remove_dir_all(&rt, folder.as_str())?;
+    Ok(())
+}

@@ -9,6 +9,16 @@ pub record Connection : Type 0 where
   pub role : Role
   pub bytes : List ℕ
 
+-- A socket at which a listener takes connections: their role, and its path.
+pub record Socket : Type 0 where
+  pub role : Role
+  pub path : List ℕ
+
+-- one more socket was bound, the newest, where the listener tells which
+abbrev pub BindsOne : Option (List Socket) → Option (List Socket) → Role → List ℕ → Type 0
+BindsOne None after role path = after ≡ None
+BindsOne (Some bound) after role path = after ≡ Some (record { role = role; path = path } ∷ bound)
+
 -- one more connection was given, the newest, whose input has these bytes left, where the listener tells what it gave
 abbrev pub GivesOne : Option (List Connection) → Option (List Connection) → Role → Option (List ℕ) → Type 0
 GivesOne None after role left = after ≡ None

@@ -5,3 +5,4 @@ pub mod CalmListener
 pub mod SharedSink
 pub mod MemListener
 pub mod Modes
+pub mod WholeLines

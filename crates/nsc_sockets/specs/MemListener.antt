@@ -2,7 +2,7 @@
 use Rattle.std.specs.Prelude.{◌≡◌, ℕ, ◌+◌, ◌⊎◌, List, [], ◌∷◌, Option, Some, None, Result, Ok, Err, false}
 use Rattle.nsc_outside.specs.declared.stream.Failed.{Failed}
 use Rattle.nsc_outside.specs.Release.{Release}
-use Rattle.nsc_sockets.specs.Connections.{Connection}
+use Rattle.nsc_sockets.specs.Connections.{Connection, Socket}
 use Rattle.nsc_sockets.specs.SharedSink.{SharedSink}
 use Rattle.nsc_sockets.specs.declared.listener.Accepted.{Accepted}
 use Rattle.nsc_sockets.specs.declared.listener.Accepted.TheVariants as accepted
@@ -19,12 +19,13 @@ pub record Wait : Type 0 where
 abbrev pub begun : Release → Wait
 begun flag = record { until = flag; turns = 1000 }
 
--- the wait that has begun, if one has, and what comes then; what came, the newest first; the peers that are still to be
--- reached; and how many calls have failed
+-- the wait that has begun, if one has, and what comes then; what came and what was bound, the newest first; the peers that are still
+-- to be reached; and how many calls have failed
 pub record MemListener : Type 0 where
   pub wait : Option Wait
   pub arrivals : List Arrival
   pub given : List Connection
+  pub bound : List Socket
   pub peers : List Peer
   pub faults : ℕ
 

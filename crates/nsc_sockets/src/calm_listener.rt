@@ -89,6 +89,8 @@ impl Listener for CalmListener {
 
     ghost given = { λ _. Some [] };
 
+    ghost bound = { λ _. Some [] };
+
     ghost peer = { λ l. slice_get l.peers 0 };
 
     /// Fails.

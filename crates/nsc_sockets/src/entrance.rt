@@ -9,7 +9,7 @@ use crate::role::Role;
 use crate::unix_input::UnixInput;
 use crate::unix_output::UnixOutput;
 use crate::waiting_room::WaitingRoom;
-use mio::{Events, Poll, Token};
+use mio::{Events, Poll, Registry, Token};
 use nsc_yields::Yields;
 use std::alloc::Global;
 use std::collections::VecDeque;
@@ -49,6 +49,8 @@ struct Stirred {
 pub(crate) struct Entrance {
     alloc: Global,
     poll: Poll,
+    // The same registry for those that come back from other threads.
+    registry: Arc<Registry>,
     events: Events,
     doors: Vec<Door>,
     room: WaitingRoom,
@@ -71,9 +73,12 @@ impl Entrance {
         processors: usize,
         guests: usize,
     ) -> io::Result<Entrance> {
+        let poll = Poll::new(net)?;
+        let registry = Arc::new(alloc, poll.registry().try_clone()?)?;
         Ok(Entrance {
             alloc,
-            poll: Poll::new(net)?,
+            poll,
+            registry,
             events: Events::with_capacity(alloc, EVENTS)?,
             doors: Vec::new(alloc),
             room: WaitingRoom::new(alloc, guests)?,
@@ -141,14 +146,16 @@ impl Entrance {
         }
         let ready = self.next_ready(clock, now)?;
         let theirs = clock.clone().ok()?;
-        let accepted = ready.into_ends(self.alloc, theirs, &self.patience).ok()?;
+        let accepted = ready
+            .into_ends(theirs, &self.patience, &self.registry)
+            .ok()?;
         self.pace.note_given(now);
         Some(accepted)
     }
 
     // Those that stirred come first, then those that stand, then those at the doors.
     fn next_ready<C: Clock + Eprint>(&mut self, clock: &C, now: Duration) -> Option<ReadyGuest> {
-        if let Some(ready) = self.next_stirred() {
+        if let Some(ready) = self.next_stirred(now) {
             return Some(ready);
         }
         let may_stand = self.yields.may_yield(now);
@@ -163,10 +170,10 @@ impl Entrance {
         None
     }
 
-    fn next_stirred(&mut self) -> Option<ReadyGuest> {
+    fn next_stirred(&mut self, now: Duration) -> Option<ReadyGuest> {
         for _ in 0..self.stirred.len() {
             let Stirred { seat, has_ended } = self.stirred.pop_front()?;
-            if let Some(ready) = self.room.stir(seat, has_ended) {
+            if let Some(ready) = self.room.stir(seat, has_ended, now) {
                 return Some(ready);
             }
         }
@@ -189,7 +196,7 @@ impl Entrance {
         let outcome = door.take();
         match outcome {
             Ok(socket) => {
-                let peer = Peer::new(socket).ok()?;
+                let peer = Arc::new(self.alloc, Peer::new(socket).ok()?).ok()?;
                 let guest = Guest::new(role, peer, now);
                 self.room.receive(self.poll.registry(), guest, may_stand)
             }

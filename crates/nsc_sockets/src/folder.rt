@@ -22,7 +22,8 @@ const ROOT: u32 = 0;
 /// A folder that no other process has, as long as this lives.
 #[derive(Drop)]
 pub(crate) struct Folder {
-    path: String,
+    device: u64,
+    number: u64,
     lock: File,
 }
 
@@ -51,13 +52,19 @@ impl Folder {
         }
         let name = format!(in alloc; "{path}/lock")?;
         let lock = take_lock(system, name.as_str())?;
-        let path = String::from_str(alloc, path)?;
-        Ok(Folder { path, lock })
+        Ok(Folder {
+            device: metadata.dev(),
+            number: metadata.ino(),
+            lock,
+        })
     }
 
-    /// Whether it is the one at this path.
-    pub(crate) fn is_at(&self, path: &str) -> bool {
-        self.path.as_str() == path
+    /// Whether it is the one at this path, whatever it is called there.
+    pub(crate) fn is_at<R: Files<File = File>>(&self, system: &R, path: &str) -> bool {
+        match fs::metadata(system, path) {
+            Ok(metadata) => metadata.dev() == self.device && metadata.ino() == self.number,
+            Err(_) => false,
+        }
     }
 }
 

@@ -10,6 +10,7 @@ mod entrance;
 mod folder;
 mod guest;
 mod host_clock;
+mod lease;
 mod listener;
 mod mem_clock;
 mod mem_listener;
@@ -25,6 +26,7 @@ mod unix_input;
 mod unix_listener;
 mod unix_output;
 mod waiting_room;
+mod whole_lines;
 
 pub use arrival::{Arrival, Peer};
 pub use calm_listener::{CalmListener, CalmSink};

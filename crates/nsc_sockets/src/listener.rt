@@ -1,6 +1,6 @@
 ghost use Rattle.std.specs.Prelude.{◌≡◌, ℕ, List, Option, IfOk, OnOk, OnErr};
 ghost use Rattle.nsc_model.specs.Reads.{Rose};
-ghost use Rattle.nsc_sockets.specs.Connections.{Connection, Gives, IsPeer};
+ghost use Rattle.nsc_sockets.specs.Connections.{BindsOne, Connection, Gives, IsPeer, Socket};
 
 use crate::role::Role;
 use nsc_outside::{Failed, Sink, Source};
@@ -35,12 +35,16 @@ pub trait Listener {
     // The connections that it gave, the newest first, where it tells them.
     ghost given: { Self → Option (List Connection) };
 
+    // The sockets that it bound, the newest first, where it tells them.
+    ghost bound: { Self → Option (List Socket) };
+
     // The bytes of the peer that the next `connect` reaches, where it tells them.
     ghost peer: { Self → Option (List ℕ) };
 
     /// So many workers are to serve what it gives: tells how many connections at most may wait for them.
     fn room_for(&mut self, workers: u32) -> usize
         ensures given { given self.new ≡ given self.old }
+        ensures bound { bound self.new ≡ bound self.old }
         ensures peer { peer self.new ≡ peer self.old }
         ensures faults { faults self.new ≡ faults self.old }
     {
@@ -51,6 +55,7 @@ pub trait Listener {
     /// So many workers serve what it gives from now on. All but one, and two at most, may wait long for a peer that does not read.
     fn set_workers(&mut self, workers: usize)
         ensures given { given self.new ≡ given self.old }
+        ensures bound { bound self.new ≡ bound self.old }
         ensures peer { peer self.new ≡ peer self.old }
         ensures faults { faults self.new ≡ faults self.old }
     {
@@ -61,6 +66,7 @@ pub trait Listener {
     /// waits long for a peer that does not read.
     fn close(&mut self)
         ensures given { given self.new ≡ given self.old }
+        ensures bound { bound self.new ≡ bound self.old }
         ensures peer { peer self.new ≡ peer self.old }
         ensures faults { faults self.new ≡ faults self.old }
     {}
@@ -68,14 +74,17 @@ pub trait Listener {
     /// Takes connections of this role at the socket of this path from now on.
     fn bind(&mut self, role: Role, path: &str) -> Result<(), Failed>
         ensures given { given self.new ≡ given self.old }
+        ensures bound { OnOk result (BindsOne (bound self.old) (bound self.new) role path.now) }
         ensures peer { peer self.new ≡ peer self.old }
         ensures calm { OnOk result (faults self.new ≡ faults self.old) }
         ensures failed { OnErr result (Rose (faults self.old) (faults self.new)) };
 
-    /// The next connection, or `Quiet` where none was there when the sockets were looked at.
+    /// The next connection, or `Quiet` where none was there when the sockets were looked at. One of the gate may be given again and
+    /// again, each time with the whole lines that came since.
     fn accept(&mut self) -> Result<Accepted<Self::In, Self::Out>, Failed>
         ensures gives { IfOk result (λ accepted. Gives Self.In.left (given self.old) (given self.new) accepted) }
         ensures stays { OnErr result (given self.new ≡ given self.old) }
+        ensures bound { bound self.new ≡ bound self.old }
         ensures peer { peer self.new ≡ peer self.old }
         ensures calm { OnOk result (faults self.new ≡ faults self.old) }
         ensures failed { OnErr result (Rose (faults self.old) (faults self.new)) };
@@ -84,6 +93,7 @@ pub trait Listener {
     fn connect(&mut self, path: &str) -> Result<(Self::In, Self::Out), Failed>
         ensures peer { IfOk result (λ ends. IsPeer (peer self.old) (Self.In.left ends.0)) }
         ensures given { given self.new ≡ given self.old }
+        ensures bound { bound self.new ≡ bound self.old }
         ensures calm { OnOk result (faults self.new ≡ faults self.old) }
         ensures failed { OnErr result (Rose (faults self.old) (faults self.new)) };
 }

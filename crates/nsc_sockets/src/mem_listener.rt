@@ -97,13 +97,30 @@ impl Wait {
     }
 }
 
+// A socket that was bound.
+#[derive(Drop)]
+struct BoundSocket {
+    role: Role,
+    path: Bytes,
+}
+
+impl Model for BoundSocket {
+    ghost use Rattle.nsc_sockets.specs.Connections.{Socket};
+
+    ghost Value = { Socket };
+
+    ghost view = { λ s. record { role = s.role; path = s.path } };
+}
+
 /// A listener in memory: which connections come, and when none does, is told beforehand, and what the peers send to which it
-/// connects. It fails where no more is to come, and keeps the list of the connections that it gave.
+/// connects. It fails where no more is to come, and keeps the lists of the connections that it gave and of the sockets that it bound.
 #[derive(Drop)]
 pub struct MemListener {
+    alloc: Global,
     wait: Option<Wait>,
     arrivals: VecDeque<Arrival>,
     given: Vec<GivenConnection>,
+    bound: Vec<BoundSocket>,
     peers: VecDeque<Peer>,
     faults: u64,
 }
@@ -116,7 +133,7 @@ impl Model for MemListener {
 
     ghost Value = { MemListener };
 
-    ghost view = { λ l. record { wait = l.wait; arrivals = l.arrivals.items; given = reverse l.given.items; peers = l.peers.items; faults = l.faults } };
+    ghost view = { λ l. record { wait = l.wait; arrivals = l.arrivals.items; given = reverse l.given.items; bound = reverse l.bound.items; peers = l.peers.items; faults = l.faults } };
 
     ghost invariant = { λ l. vec_len l.given + deque_len l.arrivals ≤ vec_capacity l.given };
 }
@@ -129,13 +146,15 @@ impl MemListener {
         arrivals: Vec<Arrival>,
         peers: Vec<Peer>,
     ) -> Result<MemListener, NoMemory>
-        ensures { IfOk result (λ listener. listener ≡ record { wait = None; arrivals = arrivals.items; given = []; peers = peers.items; faults = 0 }) }
+        ensures { IfOk result (λ listener. listener ≡ record { wait = None; arrivals = arrivals.items; given = []; bound = []; peers = peers.items; faults = 0 }) }
     {
         let given = Vec::with_capacity(alloc, arrivals.len())?;
         Ok(MemListener {
+            alloc,
             wait: None,
             arrivals: VecDeque::from(arrivals),
             given,
+            bound: Vec::new(alloc),
             peers: VecDeque::from(peers),
             faults: 0,
         })
@@ -155,6 +174,16 @@ impl MemListener {
     {
         self.faults = self.faults.saturating_add(1);
         Failed
+    }
+
+    // Keeps that a socket was bound.
+    fn keep_bound(&mut self, role: Role, path: &str) -> Result<(), NoMemory>
+        ensures kept { OnOk result (self.new ≡ record self.old { bound = record { role = role; path = path.now } ∷ self.old.bound }) }
+        ensures lost { OnErr result (self.new ≡ self.old) }
+    {
+        let path = Bytes::copy(self.alloc, path.as_bytes())?;
+        self.bound.push(BoundSocket { role, path })?;
+        Ok(())
     }
 
     // The next arrival that is not a wait; `Quiet` while a wait goes on, and `None` where no more is to come.
@@ -193,20 +222,27 @@ impl Listener for MemListener {
 
     ghost given = { λ l. Some l.given };
 
+    ghost bound = { λ l. Some l.bound };
+
     ghost peer = { λ l. option_map (λ p. p.input) (slice_get l.peers 0) };
 
-    /// Changes nothing.
-    fn bind(&mut self, _role: Role, _path: &str) -> Result<(), Failed>
-        ensures never { IfErr result (λ _. ⊥) }
-        ensures same { self.new ≡ self.old }
+    /// Keeps the path. It fails only for want of memory.
+    fn bind(&mut self, role: Role, path: &str) -> Result<(), Failed>
+        ensures bound { OnOk result (self.new ≡ record self.old { bound = record { role = role; path = path.now } ∷ self.old.bound }) }
+        ensures failed { OnErr result (Rose self.old.faults self.new.faults) }
+        ensures counted { OnErr result (self.new ≡ record self.old { faults = risen self.old.faults }) }
     {
-        Ok(())
+        match self.keep_bound(role, path) {
+            Ok(()) => Ok(()),
+            Err(_) => Err(self.fault()),
+        }
     }
 
     /// Gives the next arrival, past the waits that are over, and fails where no more is to come.
     fn accept(&mut self) -> Result<Accepted<PeerSource, SharedSink>, Failed>
         ensures gives { IfOk result (λ accepted. Gives Some (Some self.old.given) (Some self.new.given) accepted) }
         ensures stays { OnErr result (self.new.given ≡ self.old.given) }
+        ensures bound { Some self.new.bound ≡ Some self.old.bound }
         ensures calm { OnOk result (self.new.faults ≡ self.old.faults) }
         ensures failed { OnErr result (Rose self.old.faults self.new.faults) }
 

@@ -1,10 +1,11 @@
 ghost use Rattle.std.specs.Prelude.{◌≤◌, length, IfOk};
 
-use nsc_wire::LONGEST;
+use crate::whole_lines::MOST_SEEN;
 use std::io;
 use std::io::{ErrorKind, Read, Write};
-use std::net::TcpStream;
+use std::net::{Shutdown, TcpStream};
 use std::os::fd::{AsRawFd, OwnedFd, RawFd};
+use std::sync::atomic::{AtomicBool, Ordering};
 use std::time::Duration;
 
 /// A connection to another process. No call on it waits, but for those that are told how long they may.
@@ -15,6 +16,9 @@ pub(crate) struct Peer {
     // The library can look ahead at streams of this type alone. Each of its calls goes to the descriptor, which may be
     // of any family.
     stream: TcpStream,
+    // Whether a worker has the connection, which comes back when what had come is served.
+    is_lent: AtomicBool,
+    is_over: AtomicBool,
 }
 
 impl Peer {
@@ -22,7 +26,38 @@ impl Peer {
     pub(crate) fn new(socket: OwnedFd) -> io::Result<Peer> {
         let stream = TcpStream::from(socket);
         stream.set_nonblocking(true)?;
-        Ok(Peer { stream })
+        Ok(Peer {
+            stream,
+            is_lent: AtomicBool::new(false),
+            is_over: AtomicBool::new(false),
+        })
+    }
+
+    /// A worker has the connection from now on.
+    pub(crate) fn lend(&self) {
+        self.is_lent.store(true, Ordering::SeqCst);
+    }
+
+    /// The worker has it no more.
+    pub(crate) fn take_back(&self) {
+        self.is_lent.store(false, Ordering::SeqCst);
+    }
+
+    /// Whether a worker has it.
+    pub(crate) fn is_lent(&self) -> bool {
+        self.is_lent.load(Ordering::SeqCst)
+    }
+
+    /// Ends the connection both ways: nobody takes what the peer sends any more, and it is sent nothing more.
+    pub(crate) fn end(&self) {
+        self.is_over.store(true, Ordering::SeqCst);
+        // One that the peer has left is over already.
+        let _ = self.stream.shutdown(Shutdown::Both);
+    }
+
+    /// Whether it was ended.
+    pub(crate) fn is_over(&self) -> bool {
+        self.is_over.load(Ordering::SeqCst)
     }
 
     /// Copies bytes that have come, and leaves them for the next call. 0 where the peer sends no more.
@@ -82,8 +117,12 @@ impl AsRawFd for Peer {
 
 impl Drop for Peer {
     fn drop(self) {
-        let Peer { stream } = self;
-        let mut rest = [0u8; LONGEST];
+        let Peer {
+            stream,
+            is_lent: _lent,
+            is_over: _over,
+        } = self;
+        let mut rest = [0u8; MOST_SEEN];
         // Whatever comes of it, the connection is closed.
         let _ = (&stream).read(&mut rest);
     }

@@ -1,9 +1,10 @@
 ghost use Rattle.std.specs.Prelude.{◌≡◌, ◌≤◌, length, IfOk, OnOk, OnErr};
 ghost use Rattle.nsc_model.specs.Reads.{Rose};
 
+use crate::lease::Lease;
 use crate::peer::{Peer, may_pass};
+use crate::whole_lines::MOST_SEEN;
 use nsc_outside::{Failed, Source};
-use nsc_wire::LONGEST;
 use std::io;
 use std::io::ErrorKind;
 use std::marker::Model;
@@ -20,6 +21,8 @@ pub struct UnixInput {
     next: usize,
     // How long a call waits for bytes.
     patience: Duration,
+    // Of a connection that comes back for what its peer sends later: what was seen is all that is given now.
+    lease: Option<Lease>,
     faults: u64,
 }
 
@@ -32,8 +35,14 @@ impl Model for UnixInput {
 }
 
 impl UnixInput {
-    /// What this peer sends, of which these bytes were seen ahead; later calls wait for bytes so long.
-    pub(crate) fn new(peer: Arc<Peer>, ahead: Vec<u8>, patience: Duration) -> UnixInput
+    /// What this peer sends, of which these bytes were seen ahead; later calls wait for bytes so long. With a lease the bytes that were
+    /// seen are all.
+    pub(crate) fn new(
+        peer: Arc<Peer>,
+        ahead: Vec<u8>,
+        patience: Duration,
+        lease: Option<Lease>,
+    ) -> UnixInput
         ensures { result ≡ record { faults = 0 } }
     {
         UnixInput {
@@ -41,6 +50,7 @@ impl UnixInput {
             ahead,
             next: 0,
             patience,
+            lease,
             faults: 0,
         }
     }
@@ -58,15 +68,21 @@ impl UnixInput {
             return Ok(count);
         }
         self.take_seen()?;
-        read_on(&self.peer, buf, self.patience)
+        match &mut self.lease {
+            Some(lease) => {
+                lease.note_served();
+                Ok(0)
+            }
+            None => read_on(&self.peer, buf, self.patience),
+        }
     }
 
     // Takes from the socket what was seen there ahead.
     fn take_seen(&mut self) -> io::Result<()>
         ensures faults { self.new.faults ≡ self.old.faults }
     {
-        let mut room = [0u8; LONGEST];
-        let count = self.ahead.len().min(LONGEST);
+        let mut room = [0u8; MOST_SEEN];
+        let count = self.ahead.len().min(MOST_SEEN);
         if count > 0 && self.peer.read(&mut room[..count])? < count {
             return Err(io::Error::from(ErrorKind::UnexpectedEof));
         }
@@ -93,7 +109,8 @@ impl Source for UnixInput {
     ghost faults = { λ s. s.faults };
 
     /// Gives bytes that have come. Where none has come, it waits up to the time that the connection was given for it, and
-    /// that no byte came by then is a failure, as each error of the socket is.
+    /// that no byte came by then is a failure, as each error of the socket is. A connection of the gate waits for none: it gives the lines
+    /// that had come, and then its end.
     #[tactic(auto, using(crate::proofs::Counts::rose_risen))]
     fn read(&mut self, buf: &mut [u8]) -> Result<usize, Failed>
         ensures count { IfOk result (λ n. n ≤ length buf.old) }

@@ -31,8 +31,9 @@ const REPLY: u64 = 5;
 /// Sockets of the system at paths. It tells nothing of what peers send; contracts see its count of faults.
 ///
 /// A connection is given out when its request is whole, or can be no good one any more, so nobody who takes one waits for
-/// bytes. One that stays silent for five seconds is closed, and so is the oldest where there are too many, or where the
-/// process has no descriptor or memory left for a new one.
+/// bytes. One of the gate is given out whenever whole lines came, with those lines and then an end; where they were read to that end, it
+/// is given out again when more came. One that stays silent for five seconds is closed, and so is the oldest where there are too many, or
+/// where the process has no descriptor or memory left for a new one.
 #[derive(Drop)]
 pub struct UnixListener<R: Files<File = File> + Net + Clock + Clone + Eprint + Drop> {
     system: R,
@@ -40,7 +41,7 @@ pub struct UnixListener<R: Files<File = File> + Net + Clock + Clone + Eprint + D
     processors: usize,
     // So many connections may wait in the entrance.
     guests: usize,
-    folder: Option<Folder>,
+    folders: Vec<Folder>,
     paths: Vec<String>,
     entrance: Option<Entrance>,
     faults: u64,
@@ -65,7 +66,7 @@ impl<R: Files<File = File> + Net + Clock + Clone + Eprint + Drop> UnixListener<R
             alloc,
             processors,
             guests: usize::MAX,
-            folder: None,
+            folders: Vec::new(alloc),
             paths: Vec::new(alloc),
             entrance: None,
             faults: 0,
@@ -79,22 +80,34 @@ impl<R: Files<File = File> + Net + Clock + Clone + Eprint + Drop> UnixListener<R
         self.faults
     }
 
-    // Opens a socket, with the folder and the entrance for it where this is the first one. All stand in one folder.
+    // Opens a socket, with the folder for it where that is not had yet, and the entrance where this is the first one.
     fn open(&mut self, role: Role, path: &str) -> io::Result<()>
         ensures faults { self.new.faults ≡ self.old.faults }
     {
         let at = folder_of(path);
-        match &self.folder {
-            Some(folder) if folder.is_at(at) => {}
-            Some(_) => return Err(io::Error::from(ErrorKind::InvalidInput)),
-            None => self.folder = Some(Folder::take(&self.system, self.alloc, at)?),
-        }
+        self.take_folder(at)?;
         let name = String::from_str(self.alloc, path)?;
         self.paths.reserve(1)?;
         let socket = bind_at(&self.system, self.alloc, at, role, path)?;
         // There is room for it.
         let _ = self.paths.push(name);
         self.add_door(role, socket)
+    }
+
+    // Takes this folder, unless it is had already.
+    fn take_folder(&mut self, at: &str) -> io::Result<()>
+        ensures faults { self.new.faults ≡ self.old.faults }
+    {
+        for folder in self.folders.iter() {
+            if folder.is_at(&self.system, at) {
+                return Ok(());
+            }
+        }
+        self.folders.reserve(1)?;
+        let folder = Folder::take(&self.system, self.alloc, at)?;
+        // There is room for it.
+        let _ = self.folders.push(folder);
+        Ok(())
     }
 
     // Takes connections from this socket, at the entrance for all of them.
@@ -127,7 +140,12 @@ impl<R: Files<File = File> + Net + Clock + Clone + Eprint + Drop> UnixListener<R
         let peer = Arc::new(self.alloc, Peer::new(OwnedFd::from(stream))?)?;
         let patience = Arc::new(self.alloc, Patience::new(1))?;
         let ahead = Vec::new(self.alloc);
-        let input = UnixInput::new(Arc::try_clone(&peer)?, ahead, Duration::from_secs(REPLY));
+        let input = UnixInput::new(
+            Arc::try_clone(&peer)?,
+            ahead,
+            Duration::from_secs(REPLY),
+            None,
+        );
         let output = UnixOutput::new(self.system.clone()?, peer, Some(patience));
         Ok((input, output))
     }
@@ -149,6 +167,8 @@ impl<R: Files<File = File> + Net + Clock + Clone + Eprint + Send + Drop> Listene
 
     ghost given = { λ _. None };
 
+    ghost bound = { λ _. None };
+
     ghost peer = { λ _. None };
 
     /// Half of the descriptors that the process may have, less those that it needs. The other half is for those that are not given yet.
@@ -169,7 +189,7 @@ impl<R: Files<File = File> + Net + Clock + Clone + Eprint + Send + Drop> Listene
         }
     }
 
-    /// The folder stays this process's own. Where a name cannot be removed it stays.
+    /// The folders stay this process's own. Where a name cannot be removed it stays.
     fn close(&mut self)
         ensures faults { self.new.faults ≡ self.old.faults }
     {
@@ -184,8 +204,7 @@ impl<R: Files<File = File> + Net + Clock + Clone + Eprint + Send + Drop> Listene
 
     /// Takes connections at this path, in a folder that is made where there is none. A socket that stands there is replaced; one at which
     /// a process answers, or that cannot be asked, is left as it is, and the call fails. So it does for want of memory, where another
-    /// process has the folder, where the folder is neither this user's nor root's or others may write it, and where it is not the one of
-    /// the sockets before.
+    /// process has the folder, and where the folder is neither this user's nor root's or others may write it.
     fn bind(&mut self, role: Role, path: &str) -> Result<(), Failed>
         ensures calm { OnOk result (self.new.faults ≡ self.old.faults) }
         ensures failed { OnErr result (Rose self.old.faults self.new.faults) }

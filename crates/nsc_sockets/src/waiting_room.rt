@@ -24,7 +24,7 @@ const STAY: u64 = 5;
 
 /// Connections of which too little came to give them out. At first they stand and are looked at on each turn, then they sit
 /// until the system tells of bytes; where no turn may be given to others between looks, they sit at once. Each seat is its
-/// connection's token.
+/// connection's token. A connection of the gate keeps its seat while a worker has it, and waits there for its next lines.
 #[derive(Drop)]
 pub(crate) struct WaitingRoom {
     alloc: Global,
@@ -58,14 +58,40 @@ impl WaitingRoom {
         may_stand: bool,
     ) -> Option<ReadyGuest> {
         match guest.look(self.alloc, false) {
-            Glance::Settled(ahead) => return Some(guest.ready(ahead)),
+            Glance::Settled(ahead) => return self.give_out(registry, guest, ahead),
             Glance::Pending if may_stand && self.standing.len() < STANDING => {
                 let _ = self.standing.push_back(guest);
             }
-            Glance::Pending => self.seat(registry, guest),
+            Glance::Pending => {
+                self.seat(registry, guest);
+            }
             Glance::Lost => {}
         }
         None
+    }
+
+    // Gives out one that has no seat. One that comes back is given one first.
+    fn give_out(
+        &mut self,
+        registry: &Registry,
+        guest: Guest,
+        ahead: Vec<u8>,
+    ) -> Option<ReadyGuest> {
+        if !guest.comes_back() {
+            return Some(guest.ready(ahead));
+        }
+        let now = guest.since();
+        let seat = self.seat(registry, guest)?;
+        self.lend(seat, ahead, now)
+    }
+
+    // Gives out the one in this seat, to which it comes back. Where there is no memory for that it leaves.
+    fn lend(&mut self, seat: usize, ahead: Vec<u8>, now: Duration) -> Option<ReadyGuest> {
+        let ready = self.seats.get_mut(seat)?.lend(seat, ahead, now);
+        if ready.is_none() {
+            drop(self.seats.try_remove(seat));
+        }
+        ready
     }
 
     /// Looks once at those that stand, up to the first that can be given out. Who was looked at often enough sits down.
@@ -77,11 +103,13 @@ impl WaitingRoom {
         for _ in 0..self.standing.len() {
             let mut guest = self.standing.pop_front()?;
             match guest.look(self.alloc, false) {
-                Glance::Settled(ahead) => return Some(guest.ready(ahead)),
+                Glance::Settled(ahead) => return self.give_out(registry, guest, ahead),
                 Glance::Pending if may_stand && guest.looks() < LOOKS => {
                     let _ = self.standing.push_back(guest);
                 }
-                Glance::Pending => self.seat(registry, guest),
+                Glance::Pending => {
+                    self.seat(registry, guest);
+                }
                 Glance::Lost => {}
             }
         }
@@ -89,8 +117,15 @@ impl WaitingRoom {
     }
 
     /// Looks at the one in this seat, of which the system told that bytes came, or that no more will.
-    pub(crate) fn stir(&mut self, seat: usize, has_ended: bool) -> Option<ReadyGuest> {
-        match self.seats.get_mut(seat)?.look(self.alloc, has_ended) {
+    pub(crate) fn stir(
+        &mut self,
+        seat: usize,
+        has_ended: bool,
+        now: Duration,
+    ) -> Option<ReadyGuest> {
+        let guest = self.seats.get_mut(seat)?;
+        match guest.look(self.alloc, has_ended) {
+            Glance::Settled(ahead) if guest.comes_back() => self.lend(seat, ahead, now),
             Glance::Settled(ahead) => Some(self.seats.try_remove(seat)?.ready(ahead)),
             Glance::Pending => None,
             Glance::Lost => {
@@ -100,20 +135,19 @@ impl WaitingRoom {
         }
     }
 
-    // From now on the system tells of its bytes, also of those that came meanwhile. Without a free seat the oldest leaves.
-    fn seat(&mut self, registry: &Registry, guest: Guest) {
+    // From now on the system tells of its bytes, also of those that came meanwhile. Without a free seat the oldest leaves. Gives the
+    // seat, where the guest could be seated.
+    fn seat(&mut self, registry: &Registry, guest: Guest) -> Option<usize> {
         if self.seats.len() >= self.places.most {
             self.close_oldest();
         }
         let seat = self.seats.vacant_key();
         let socket = guest.as_raw_fd();
         let mut source = SourceFd(&socket);
-        if registry
+        registry
             .register(&mut source, Token(seat), Interest::READABLE)
-            .is_ok()
-        {
-            let _ = self.seats.insert(guest);
-        }
+            .ok()?;
+        self.seats.insert(guest).ok()
     }
 
     /// Closes those that have stayed too long at this moment. Where some had to leave for want of descriptors, more may sit again.
