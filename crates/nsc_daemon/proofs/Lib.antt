@@ -1,1 +1,3 @@
+mod Bound
 mod Ends
+mod Gates

@@ -14,7 +14,7 @@ use Rattle.nsc_model.specs.declared.kind.FileId.{FileId}
 use Rattle.nsc_model.specs.Wire.{Shutdown, request_of}
 use Rattle.nsc_sourcebook.specs.declared.fault.PollFault.{PollFault}
 use Rattle.nsc_sourcebook.specs.declared.fault.PollFault.TheVariants as poll
-use Rattle.nsc_sockets.specs.Connections.{Connection}
+use Rattle.nsc_sockets.specs.Connections.{Connection, Socket}
 use Rattle.nsc_sockets.specs.declared.listener.Listener as listener
 use Rattle.nsc_sockets.specs.declared.listener.Accepted.{Accepted}
 use Rattle.nsc_sockets.specs.declared.listener.Accepted.TheVariants as accepted
@@ -67,6 +67,21 @@ abbrev pub StopsSo : Exit → Option (List Connection) → Option (List Connecti
 StopsSo exits.Ok given given' faults faults' = LastTellsEnd given given' × (faults' ≡ faults)
 StopsSo exits.NetFault given given' faults faults' = Rose faults faults'
 StopsSo _ given given' faults faults' = ⊥
+
+-- ---- sockets
+
+-- the sockets of a daemon, the newest first: that of every user, that of the administrator, and the gate where there is one
+abbrev pub sockets_at : (plain admin : List ℕ) → (gate : Option (List ℕ)) → List Socket
+sockets_at plain admin None = record { role = role.Admin; path = admin } ∷ record { role = role.Plain; path = plain } ∷ []
+sockets_at plain admin (Some path) = record { role = role.Gate; path = path } ∷ record { role = role.Admin; path = admin } ∷ record { role = role.Plain; path = plain } ∷ []
+
+-- the same by the folder of the first two
+abbrev pub sockets_of : (run_dir : List ℕ) → (gate : Option (List ℕ)) → List Socket
+sockets_of run_dir gate = sockets_at (run_dir ++ codes "/socket") (run_dir ++ codes "/admin") gate
+
+-- a listener bound these, and no more, where it tells what it bound
+abbrev pub IsBound : Option (List Socket) → Option (List Socket) → List Socket → Type 0
+IsBound before after sockets = IfSome before (λ bound. after ≡ Some (sockets ++ bound))
 
 -- ---- the whole
 

@@ -4,6 +4,9 @@ use Rattle.std.specs.Prelude.{◌≡◌, ℕ, ◌+◌, ◌<◌, ◌≤◌}
 -- nothing of a worker
 pub record Worker : Type 0 where
 
+-- nor of who serves the gate
+pub record Gatekeeper : Type 0 where
+
 -- of the thread that accepts, the moment of its last tick
 pub record Acceptor : Type 0 where
   pub ticked : ℕ

@@ -6,7 +6,8 @@ ghost use Rattle.nsc_server.specs.Requests.{TakesRequests};
 ghost use Rattle.nsc_daemon.specs.Ends.{IsToldEnd, StopsSo, TellsEnd};
 ghost use Rattle.nsc_daemon.specs.Workers.{TicksSo};
 
-use crate::intake::{Waiting, Waitings};
+use crate::gate::{Gate, Gatekeeper};
+use crate::intake::{Waiting, Waitings, Way};
 use nsc_model::{Databases, Exit, Store};
 use nsc_outside::{Sink, Source};
 use nsc_server::{RequestBuffer, Served, serve_one};
@@ -32,6 +33,7 @@ pub fn accept_all<RT: AllocGlobal + Wait + time::Clock, S: Store + Drop, C: Cloc
 ) -> Exit
     ensures exits { IsExitOf Serving result }
     ensures stops { StopsSo result (N.given net.old) (N.given net.new) (N.faults net.old) (N.faults net.new) }
+    ensures bound { N.bound net.new ≡ N.bound net.old }
 {
     for _ in rt.forever() {
         let Ok(accepted) = net.accept() else {
@@ -46,12 +48,13 @@ pub fn accept_all<RT: AllocGlobal + Wait + time::Clock, S: Store + Drop, C: Cloc
 }
 
 /// What the thread that accepts has: its passes and its buffer, the moment of the last tick, in seconds, or of the start, and the
-/// connections that wait for workers, where there are workers.
+/// connections that wait for workers, where there are workers. Where there is a gate, who serves it where there are none.
 #[derive(Drop)]
 pub struct Acceptor<S: Store + Drop, R: Source + Drop, K: Sink + Drop> {
     pub stores: Arc<Databases<S>, Global>,
     pub passes: Databases<S::Pass>,
     pub buffer: RequestBuffer,
+    pub gate: Option<Gatekeeper<S>>,
     pub ticked: u64,
     pub waitings: Option<Waitings<R, K>>,
 }
@@ -112,18 +115,38 @@ impl<S: Store + Drop, R: Source + Drop, K: Sink + Drop> Acceptor<S, R, K> {
         ensures told { OnTrue result (TellsEnd role (R.left input)) }
         ensures stays { self.new.ticked ≡ self.old.ticked }
     {
-        match role {
-            Role::Gate => false,
-            Role::Admin => self.serve(rt, role, input, output, now),
-            Role::Plain => match &self.waitings {
-                Some(waitings) => {
-                    let waiting = Waiting { input, output, now };
-                    // Where there is no memory for it, it is closed.
-                    let _ = waitings.put(rt, waiting);
-                    false
-                }
-                None => self.serve(rt, role, input, output, now),
-            },
+        let way = match role {
+            Role::Admin => return self.serve(rt, role, input, output, now),
+            Role::Plain => Way::Plain,
+            Role::Gate => Way::Gate,
+        };
+        match &self.waitings {
+            Some(waitings) => {
+                let waiting = Waiting {
+                    way,
+                    input,
+                    output,
+                    now,
+                };
+                // Where there is no memory for it, it is closed.
+                let _ = waitings.put(rt, waiting);
+                false
+            }
+            None if way == Way::Plain => self.serve(rt, role, input, output, now),
+            None => {
+                self.serve_gate(rt, input, output, now);
+                false
+            }
+        }
+    }
+
+    // Serves a connection to the gate.
+    fn serve_gate<RT: AllocGlobal + Wait>(&mut self, rt: &RT, mut input: R, mut output: K, now: u64)
+        requires { now < 2 ^ 62 }
+        ensures { self.new.ticked ≡ self.old.ticked }
+    {
+        if let Some(gate) = &mut self.gate {
+            gate.serve(rt, &mut input, &mut output, now);
         }
     }
 

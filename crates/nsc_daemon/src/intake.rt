@@ -1,6 +1,7 @@
 ghost use Rattle.std.specs.Prelude.{◌≡◌, ◌<◌, ◌^◌, IfNone, IfSome, true};
 ghost use Rattle.nsc_server.specs.Jobs.{IsServable, given_after};
 
+use crate::gate::Gate;
 use nsc_jobs::JobList;
 use nsc_model::next_count;
 use nsc_outside::{Sink, Source};
@@ -10,9 +11,19 @@ use std::alloc::Global;
 use std::sync::{Arc, Wait};
 use std::time::Clock;
 
-/// A connection to the plain socket that waits for a worker.
+/// The socket on which a connection came that waits for a worker.
+#[derive(Clone, Copy, Debug, PartialEq, Eq)]
+pub enum Way {
+    /// That of every user's requests.
+    Plain,
+    /// The gate.
+    Gate,
+}
+
+/// A connection that waits for a worker.
 #[derive(Drop)]
 pub struct Waiting<R: Drop, K: Drop> {
+    pub way: Way,
     pub input: R,
     pub output: K,
     pub now: u64,
@@ -22,17 +33,55 @@ pub struct Waiting<R: Drop, K: Drop> {
 /// The connections that wait, as the workers and the thread that accepts share them.
 pub type Waitings<R, K> = Arc<JobList<Waiting<R, K>>, Global>;
 
-/// One worker's way to the connections that wait.
+/// One worker's way to the connections that wait. It serves those to the gate itself, where there is one, and hands out the others.
 #[derive(Drop)]
-pub struct Intake<R: Drop, K: Drop> {
+pub struct Intake<R: Drop, K: Drop, G: Drop> {
     pub list: Waitings<R, K>,
-    /// How many it took, a number that stays at 2^62.
+    pub gate: Option<G>,
+    /// How many it handed out, a number that stays at 2^62.
     pub taken: u64,
     /// Whether no more will come.
     pub is_over: bool,
 }
 
-impl<R: Source + Drop, K: Sink + Drop> Jobs for Intake<R, K> {
+impl<R: Source + Drop, K: Sink + Drop, G: Gate + Drop> Intake<R, K, G> {
+    // Hands a connection out, or serves it where it came to the gate.
+    fn pass_on<RT: AllocGlobal + Wait>(
+        &mut self,
+        rt: &RT,
+        waiting: Waiting<R, K>,
+    ) -> Option<Job<R, K>>
+        ensures servable { IfSome result IsServable }
+        ensures given { self.new.taken ≡ given_after result self.old.taken }
+        ensures over { self.new.is_over ≡ self.old.is_over }
+    {
+        let Waiting {
+            way,
+            mut input,
+            mut output,
+            now,
+        } = waiting;
+        match way {
+            Way::Plain => {
+                self.taken = next_count(self.taken);
+                Some(Job {
+                    role: Role::Plain,
+                    input,
+                    output,
+                    now,
+                })
+            }
+            Way::Gate => {
+                if let Some(gate) = &mut self.gate {
+                    gate.serve(rt, &mut input, &mut output, now);
+                }
+                None
+            }
+        }
+    }
+}
+
+impl<R: Source + Drop, K: Sink + Drop, G: Gate + Drop> Jobs for Intake<R, K, G> {
     type In = R;
 
     type Out = K;
@@ -41,26 +90,20 @@ impl<R: Source + Drop, K: Sink + Drop> Jobs for Intake<R, K> {
 
     ghost is_over = { λ q. q.is_over };
 
-    fn next<RT: Wait + Clock>(&mut self, rt: &RT) -> Option<Job<R, K>>
+    fn next<RT: AllocGlobal + Wait + Clock>(&mut self, rt: &RT) -> Option<Job<R, K>>
         ensures servable { IfSome result IsServable }
         ensures given { self.new.taken ≡ given_after result self.old.taken }
         ensures over { IfNone result (self.new.is_over ≡ true) }
     {
-        match self.list.take(rt) {
-            Some(waiting) => {
-                self.taken = next_count(self.taken);
-                let Waiting { input, output, now } = waiting;
-                Some(Job {
-                    role: Role::Plain,
-                    input,
-                    output,
-                    now,
-                })
-            }
-            None => {
+        for _ in rt.forever() {
+            let Some(waiting) = self.list.take(rt) else {
                 self.is_over = true;
-                None
+                return None;
+            };
+            if let Some(job) = self.pass_on(rt, waiting) {
+                return Some(job);
             }
         }
+        unreachable!()
     }
 }

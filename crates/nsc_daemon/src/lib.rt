@@ -2,6 +2,7 @@
 #![tactic(auto)]
 
 mod acceptor;
+mod gate;
 mod intake;
 mod opening;
 mod service;

@@ -1,5 +1,6 @@
-ghost use Rattle.std.specs.Prelude.{◌≡◌, ℕ, OnErr, OnOk};
+ghost use Rattle.std.specs.Prelude.{◌≡◌, ℕ, ◌++◌, IfOk, OnErr, OnOk, codes, option_map};
 ghost use Rattle.std.specs.Arc.{arc_value};
+ghost use Rattle.std.specs.String.{string_bytes};
 ghost use Rattle.nsc_outside.specs.StreamAt.{stream_out};
 ghost use Rattle.nsc_model.specs.Exits.{IsExitOf, Serving};
 ghost use Rattle.nsc_model.specs.Reads.{Rose};
@@ -7,9 +8,10 @@ ghost use Rattle.nsc_model.specs.Settings.{settings_of};
 ghost use Rattle.nsc_model.specs.Sizes.{SizesFit};
 ghost use Rattle.nsc_model.specs.declared.kind.Db.TheVariants as db_is;
 ghost use Rattle.nsc_server.specs.Passes.{AreNamed, ArePasses};
-ghost use Rattle.nsc_daemon.specs.Ends.{EndsSo, StopsSo, TellsHeldLength, daemon_at};
+ghost use Rattle.nsc_daemon.specs.Ends.{EndsSo, IsBound, StopsSo, TellsHeldLength, daemon_at, sockets_at, sockets_of};
 
 use crate::acceptor::{Acceptor, accept_all};
+use crate::gate::Gatekeeper;
 use crate::intake::Waitings;
 use crate::opening::{Openings, opening_exit};
 use crate::terms::Terms;
@@ -27,10 +29,10 @@ use std::sync::{Arc, Wait};
 use std::thread::{JoinHandle, Threads};
 use std::{thread, time};
 
-/// Runs the daemon: opens the four databases over these files, binds `socket` and `admin` in the folder, tells the output that it is
-/// ready, and serves connections and ticks until one on the admin socket tells it to end.
+/// Runs the daemon: opens the four databases over these files, binds `socket` and `admin` in the folder, and the gate where there is to
+/// be one, tells the output that it is ready, and serves connections and ticks until one on the admin socket tells it to end.
 ///
-/// At `Ok` the line was written, and the newest connection that the listener gave asked for the end. `SourceFault` and
+/// At `Ok` these sockets were bound, and no others, the line was written, and the newest connection that the listener gave asked for the end. `SourceFault` and
 /// `TooLong` come only where a file failed at the start, and the length of one that is too long is as the files are told; `NetFault`
 /// comes only where a call on the listener failed, and `WriteFault` where one on the output did, which may have taken a front of the
 /// line. At `NoMemory` nothing was written.
@@ -48,6 +50,7 @@ where
     ensures exits { IsExitOf Serving result }
     ensures ends { EndsSo result (daemon_at K.Sink F.FileSet N.Listener output.old files.old net.old) (daemon_at K.Sink F.FileSet N.Listener output.new files.new net.new) }
     ensures length { TellsHeldLength result (F.held files.old) }
+    ensures bound { result ≡ Exit.Ok → IsBound (N.bound net.old) (N.bound net.new) (sockets_of terms.now.run_dir.now (option_map (λ p. p.now) terms.now.gate)) }
 {
     match Openings::open(rt.alloc(), files, terms.conf) {
         Ok(openings) => in_room::<Brand, RT, K, F, C, N>(rt, terms, openings, output, clock, net),
@@ -82,6 +85,7 @@ where
     requires services { (openings.services.settings ≡ settings_of B.conf db_is.Services) × (openings.services.reloads ≡ B.conf.reloads) × (F.held openings.services.files ≡ B.held) }
     ensures exits { IsExitOf Serving result }
     ensures ends { (faults : ℕ) → EndsSo result (record { output = stream_out K.Sink output.old; source_faults = faults; given = N.given net.old; net_faults = N.faults net.old }) (record { output = stream_out K.Sink output.new; source_faults = faults; given = N.given net.new; net_faults = N.faults net.new }) }
+    ensures bound { result ≡ Exit.Ok → IsBound (N.bound net.old) (N.bound net.new) (sockets_of terms.now.run_dir.now (option_map (λ p. p.now) terms.now.gate)) }
 {
     match openings.enter::<B>() {
         Ok((stores, passes)) => serve(rt, terms, stores, passes, output, clock, net),
@@ -113,6 +117,7 @@ where
     requires passes { ArePasses S.Store stores passes }
     ensures exits { IsExitOf Serving result }
     ensures ends { (faults : ℕ) → EndsSo result (record { output = stream_out K.Sink output.old; source_faults = faults; given = N.given net.old; net_faults = N.faults net.old }) (record { output = stream_out K.Sink output.new; source_faults = faults; given = N.given net.new; net_faults = N.faults net.new }) }
+    ensures bound { result ≡ Exit.Ok → IsBound (N.bound net.old) (N.bound net.new) (sockets_of terms.now.run_dir.now (option_map (λ p. p.now) terms.now.gate)) }
 {
     let most = net.room_for(terms.workers);
     let exit = serve_at_most(rt, terms, most, stores, passes, output, clock, net);
@@ -145,6 +150,7 @@ where
     requires passes { ArePasses S.Store stores passes }
     ensures exits { IsExitOf Serving result }
     ensures ends { (faults : ℕ) → EndsSo result (record { output = stream_out K.Sink output.old; source_faults = faults; given = N.given net.old; net_faults = N.faults net.old }) (record { output = stream_out K.Sink output.new; source_faults = faults; given = N.given net.new; net_faults = N.faults net.new }) }
+    ensures bound { result ≡ Exit.Ok → IsBound (N.bound net.old) (N.bound net.new) (sockets_of terms.now.run_dir.now (option_map (λ p. p.now) terms.now.gate)) }
 {
     let alloc = rt.alloc();
     let buffer = match RequestBuffer::new(alloc) {
@@ -167,7 +173,11 @@ where
         Ok(paths) => paths,
         Err(_) => return Exit::NoMemory,
     };
-    match bind(net, plain.as_str(), admin.as_str()) {
+    let gate = match gatekeeper(rt, terms, &stores) {
+        Ok(gate) => gate,
+        Err(_) => return Exit::NoMemory,
+    };
+    match bind(net, plain.as_str(), admin.as_str(), terms.gate) {
         Ok(()) => {}
         Err(_) => return Exit::NetFault,
     }
@@ -180,6 +190,7 @@ where
         stores,
         passes,
         buffer,
+        gate,
         ticked,
         waitings: None,
     };
@@ -187,20 +198,47 @@ where
 }
 
 // The paths of the two sockets: that of every user, and that of the administrator.
-fn socket_paths(alloc: Global, run_dir: &str) -> Result<(String, String), NoMemory> {
+fn socket_paths(alloc: Global, run_dir: &str) -> Result<(String, String), NoMemory>
+    ensures plain { IfOk result (λ paths. string_bytes paths.0 ≡ run_dir.now ++ codes "/socket") }
+    ensures admin { IfOk result (λ paths. string_bytes paths.1 ≡ run_dir.now ++ codes "/admin") }
+{
     let plain = format!(in alloc; "{run_dir}/socket")?;
     let admin = format!(in alloc; "{run_dir}/admin")?;
     Ok((plain, admin))
 }
 
-// Binds the two sockets.
-fn bind<N: Listener>(net: &mut N, plain: &str, admin: &str) -> Result<(), Failed>
+// Who serves the gate, where there is one and no worker.
+fn gatekeeper<RT: AllocGlobal + Wait, S: Store + Drop>(
+    rt: &RT,
+    terms: &Terms<'_>,
+    stores: &Arc<Databases<S>, Global>,
+) -> Result<Option<Gatekeeper<S>>, NoMemory>
+    requires { AreNamed S.Store (arc_value stores.now) }
+{
+    match terms.gate {
+        Some(_) => Ok(Some(Gatekeeper::new(rt, stores)?)),
+        None => Ok(None),
+    }
+}
+
+// Binds the two sockets, and the gate where there is one.
+fn bind<N: Listener>(
+    net: &mut N,
+    plain: &str,
+    admin: &str,
+    gate: Option<&str>,
+) -> Result<(), Failed>
     ensures given { N.given net.new ≡ N.given net.old }
+    ensures bound { OnOk result (IsBound (N.bound net.old) (N.bound net.new) (sockets_at plain.now admin.now (option_map (λ p. p.now) gate.entry))) }
     ensures calm { OnOk result (N.faults net.new ≡ N.faults net.old) }
     ensures failed { OnErr result (Rose (N.faults net.old) (N.faults net.new)) }
 {
     net.bind(Role::Plain, plain)?;
-    net.bind(Role::Admin, admin)
+    net.bind(Role::Admin, admin)?;
+    match gate {
+        Some(path) => net.bind(Role::Gate, path),
+        None => Ok(()),
+    }
 }
 
 // Starts the workers, accepts, and joins them.
@@ -223,6 +261,7 @@ where
     N::Out: 'static,
     ensures exits { IsExitOf Serving result }
     ensures stops { StopsSo result (N.given net.old) (N.given net.new) (N.faults net.old) (N.faults net.new) }
+    ensures bound { N.bound net.new ≡ N.bound net.old }
 {
     let threads = started(rt, workers, acceptor, list);
     net.set_workers(hand_over(acceptor, list, threads.len()));
@@ -276,7 +315,7 @@ where
         return threads;
     }
     for _ in 0..workers {
-        let Ok(worker) = Worker::new(rt, &acceptor.stores, list) else {
+        let Ok(worker) = Worker::new(rt, &acceptor.stores, list, acceptor.gate.is_some()) else {
             continue;
         };
         let Ok(theirs) = rt.clone() else {

@@ -9,4 +9,6 @@ pub struct Terms<'a> {
     pub workers: u32,
     /// The path of the folder in which the sockets stand.
     pub run_dir: &'a str,
+    /// The path of the gate, where there is to be one.
+    pub gate: Option<&'a str>,
 }

@@ -2,6 +2,7 @@ ghost use Rattle.std.specs.Prelude.{IfOk};
 ghost use Rattle.std.specs.Arc.{arc_value};
 ghost use Rattle.nsc_server.specs.Passes.{AreNamed, ArePasses};
 
+use crate::gate::Gatekeeper;
 use crate::intake::{Intake, Waitings};
 use nsc_base::NoMemory;
 use nsc_model::{Databases, Store};
@@ -12,13 +13,13 @@ use std::marker::Model;
 use std::sync::{Arc, Wait};
 use std::time::Clock;
 
-/// One thread that serves connections: its passes, its buffer, and the connections that wait.
+/// One thread that serves connections: its passes, its buffer, and the connections that wait. For the gate it has other passes.
 #[derive(Drop)]
 pub struct Worker<S: Store + Drop, R: Source + Drop, K: Sink + Drop> {
     pub stores: Arc<Databases<S>, Global>,
     pub passes: Databases<S::Pass>,
     pub buffer: RequestBuffer,
-    pub intake: Intake<R, K>,
+    pub intake: Intake<R, K, Gatekeeper<S>>,
 }
 
 impl<S: Store + Drop, R: Source + Drop, K: Sink + Drop> Model for Worker<S, R, K> {
@@ -34,16 +35,22 @@ impl<S: Store + Drop, R: Source + Drop, K: Sink + Drop> Model for Worker<S, R, K
 }
 
 impl<S: Store + Drop, R: Source + Drop, K: Sink + Drop> Worker<S, R, K> {
-    /// A worker with passes of its own. Fails only for want of memory.
+    /// A worker with passes of its own, for the gate too where there is one. Fails only for want of memory.
     pub fn new<RT: AllocGlobal + Wait>(
         rt: &RT,
         stores: &Arc<Databases<S>, Global>,
         list: &Waitings<R, K>,
+        has_gate: bool,
     ) -> Result<Worker<S, R, K>, NoMemory>
         requires { AreNamed S.Store (arc_value stores.now) }
     {
         let passes = attach_all(rt, stores)?;
         let buffer = RequestBuffer::new(rt.alloc())?;
+        let gate = if has_gate {
+            Some(Gatekeeper::new(rt, stores)?)
+        } else {
+            None
+        };
         let list = Arc::try_clone(list)?;
         let stores = Arc::try_clone(stores)?;
         Ok(Worker {
@@ -52,6 +59,7 @@ impl<S: Store + Drop, R: Source + Drop, K: Sink + Drop> Worker<S, R, K> {
             buffer,
             intake: Intake {
                 list,
+                gate,
                 taken: 0,
                 is_over: false,
             },

@@ -1,4 +1,5 @@
 //! Requests, typed by hand from the layout of the protocol: the version, the type and the length of the key, four bytes each, and the key.
+//! And lines for the gate.
 
 /// The user root by name.
 pub const ROOT: &[u8] = b"\x02\0\0\0\0\0\0\0\x05\0\0\0root\0";
@@ -63,3 +64,10 @@ pub const TWO: &[u8] = b"\x02\0\0\0\0\0\0\0\x05\0\0\0root\0\x02\0\0\0\0\0\0\0\x0
 /// Two orders on one connection, of which the first alone is read.
 pub const TWO_ORDERS: &[u8] =
     b"\x02\0\0\0\x0a\0\0\0\x07\0\0\0passwd\0\x02\0\0\0\x0a\0\0\0\x07\0\0\0passwd\0";
+
+/// Lines for the gate, of which the last has no newline.
+pub const LINES: &[u8] =
+    b"passwd root\nservices 22/tcp\nhosts 127.0.0.1\npasswd nobody1\nshadow root";
+
+/// One more line.
+pub const LINE: &[u8] = b"services ssh\n";

@@ -1,7 +1,7 @@
 use crate::requests::{
-    DB, DESCRIPTOR, EVE, HTTP, INVALIDATE_PASSWD, INVALIDATE_SHADOW, LOCALHOST, LONG_KEY,
-    LONGEST_KEY, NEGATIVE_KEY, NO_KEY, NO_TYPE, OLD_VERSION, ROOT, ROOT_GROUP, SHORT, SHUTDOWN,
-    SSH, STAFF, TWO, TWO_ORDERS,
+    DB, DESCRIPTOR, EVE, HTTP, INVALIDATE_PASSWD, INVALIDATE_SHADOW, LINE, LINES, LOCALHOST,
+    LONG_KEY, LONGEST_KEY, NEGATIVE_KEY, NO_KEY, NO_TYPE, OLD_VERSION, ROOT, ROOT_GROUP, SHORT,
+    SHUTDOWN, SSH, STAFF, TWO, TWO_ORDERS,
 };
 use crate::trial::Trial;
 use nsc_base::NoMemory;
@@ -13,6 +13,8 @@ use std::alloc::Global;
 const ONE: &[&str] = &["-t", "1"];
 
 const BOTH: &[&str] = &["-t", "2"];
+
+const WITH_GATE: &[&str] = &["-t", "1", "--gate", "/gate"];
 
 // The longest key that a request may have, in bytes.
 const LONGEST: usize = 1024;
@@ -31,6 +33,8 @@ pub fn trials(alloc: Global) -> Result<Vec<Trial>, NoMemory> {
     trials.push(two_on_one(alloc)?)?;
     trials.push(failing_read(alloc)?)?;
     trials.push(moments(alloc)?)?;
+    trials.push(gate(alloc, "a gate", WITH_GATE)?)?;
+    trials.push(gate(alloc, "no gate", ONE)?)?;
     Ok(trials)
 }
 
@@ -177,6 +181,20 @@ fn moments(alloc: Global) -> Result<Trial, NoMemory> {
     for request in new {
         trial.peer(alloc, Role::Admin, request)?;
     }
+    trial.peer(alloc, Role::Admin, SHUTDOWN)?;
+    Ok(trial)
+}
+
+// Connections to the gate, and one to the plain socket between them. Without a gate nobody answers those.
+fn gate(
+    alloc: Global,
+    name: &'static str,
+    words: &'static [&'static str],
+) -> Result<Trial, NoMemory> {
+    let mut trial = Trial::new(alloc, name, words)?;
+    trial.peer(alloc, Role::Gate, LINES)?;
+    trial.peer(alloc, Role::Plain, ROOT)?;
+    trial.peer(alloc, Role::Gate, LINE)?;
     trial.peer(alloc, Role::Admin, SHUTDOWN)?;
     Ok(trial)
 }

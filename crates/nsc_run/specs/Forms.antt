@@ -41,14 +41,15 @@ errand_app = with_rule (with_rule (with_rule (with_rule (with_rule bare_app
     (lettered 105 (valued (codes "invalidate"))))
     (valued (codes "workload"))
 
--- and those that say how: `-f FILE`, `-F`, `-t NUMBER`, `--etc FOLDER`, `--run-dir FOLDER`
+-- and those that say how: `-f FILE`, `-F`, `-t NUMBER`, `--etc FOLDER`, `--run-dir FOLDER`, `--gate PATH`
 abbrev pub command_app : App
-command_app = with_rule (with_rule (with_rule (with_rule (with_rule errand_app
+command_app = with_rule (with_rule (with_rule (with_rule (with_rule (with_rule errand_app
     (lettered 102 (valued (codes "config-file"))))
     (lettered 70 (flag (codes "foreground"))))
     (lettered 116 (valued (codes "nthreads"))))
     (valued (codes "etc")))
-    (valued (codes "run-dir"))
+    (valued (codes "run-dir")))
+    (valued (codes "gate"))
 
 -- the words as bytes
 abbrev pub texts : {Z : Type 0} → List (String Z) → List Text
@@ -70,6 +71,7 @@ pub record Options : Type 0 where
   pub threads : Option Text
   pub etc : Option Text
   pub run_dir : Option Text
+  pub gate : Option Text
 
 abbrev pub has_flag : Text → List Row → Bool
 has_flag name rows = option_map_or (λ text. bytes_eq text (codes "true")) (first_of name rows) false
@@ -86,17 +88,19 @@ options_of rows = record {
   threads = first_of (codes "nthreads") rows;
   etc = first_of (codes "etc") rows;
   run_dir = first_of (codes "run-dir") rows;
+  gate = first_of (codes "gate") rows;
 }
 
 -- ---- the forms
 
 -- how a daemon is to run: under which configuration file, with how many workers, over the files of which folder, where these are
--- said, and with its sockets in which folder
+-- said, with its sockets in which folder, and with a gate at which path, where one is said
 pub record DaemonOptions : Type 0 where
   pub config : Option Text
   pub workers : Option ℕ
   pub etc : Option Text
   pub run_dir : Text
+  pub gate : Option Text
 
 -- what to do: to replay the input under a configuration file, where one is named; to ask something of the daemon whose sockets
 -- stand in a folder; to run the workload of a number by as many workers; or to be the daemon
@@ -125,7 +129,7 @@ workers_of (Some text) = option_map (λ n. Some n) (workers_in text)
 
 -- no option occurs that is the daemon's alone
 abbrev pub is_no_service : Options → Bool
-is_no_service o = not o.foreground && not (is_some o.threads) && not (is_some o.etc)
+is_no_service o = not o.foreground && not (is_some o.threads) && not (is_some o.etc) && not (is_some o.gate)
 
 -- a replay may have a configuration file
 abbrev pub replay_form : Options → Option Form
@@ -138,13 +142,13 @@ ask_form asked o = if is_no_service o && not (is_some o.config) then Some (Ask a
 -- a workload has a number, 1 to 1,000, and may have a number of workers, 4 where none is said
 abbrev pub workload_form : Text → Options → Option Form
 workload_form text o =
-    if not o.foreground && not (is_some o.config) && not (is_some o.etc) && not (is_some o.run_dir)
+    if not o.foreground && not (is_some o.config) && not (is_some o.gate) && not (is_some o.etc) && not (is_some o.run_dir)
     then option_and_then (λ number. option_map (λ workers. Workload number (unwrap_or workers 4)) (workers_of o.threads)) (number_below 1001 text)
     else None
 
 -- a daemon may have all that says how
 abbrev pub daemon_form : Options → Option Form
-daemon_form o = option_map (λ workers. Daemon (record { config = o.config; workers = workers; etc = o.etc; run_dir = run_dir_of o.run_dir })) (workers_of o.threads)
+daemon_form o = option_map (λ workers. Daemon (record { config = o.config; workers = workers; etc = o.etc; run_dir = run_dir_of o.run_dir; gate = o.gate })) (workers_of o.threads)
 
 -- At most one option says what to do, and where none does it is the daemon.
 abbrev pub form_by : Bool → Bool → Bool → Option Text → Option Text → Options → Option Form

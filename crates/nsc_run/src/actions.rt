@@ -85,6 +85,7 @@ where
                 conf: &conf,
                 workers: worker_count(service.workers, &conf),
                 run_dir: service.run_dir,
+                gate: service.gate,
             };
             daemon(rt, &terms, output, files, clock, net)
         }

@@ -62,7 +62,8 @@ pub fn replay<RT: AllocGlobal, R: Source, K: Sink>(
 /// `--workload NUMBER` runs the workload of that number, as `nsc_workload::workload` says, and writes its lines.
 ///
 /// Without any of these it is the daemon, until it is told to end. It takes its files from the folder of `--etc`, and its
-/// settings from the file of `-f`, or else from the nscd.conf beside nsswitch.conf.
+/// settings from the file of `-f`, or else from the nscd.conf beside nsswitch.conf. With `--gate PATH` it answers lines at a socket
+/// there, too.
 ///
 /// Where the settings' file could not be read, the exit is `SourceFault`, where it is longer than a file may be, `TooLong`, and
 /// where it is no nscd.conf(5), `BadConf`. Then nothing is read of the input and nothing written.
@@ -105,7 +106,7 @@ where
                 run_dir,
             },
         ) => ask(rt.alloc(), asked, run_dir, output, net),
-        Ok(Form::Workload { number, workers }) => workload(rt, number, workers, output),
+        Ok(Form::Workload { number, workers }) => workload(rt, number, workers, output).exit,
         Ok(Form::Daemon { service }) => serve(rt, &service, output, files, clock, net),
         Err(exit) => exit,
     }

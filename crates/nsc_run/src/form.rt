@@ -26,6 +26,8 @@ pub struct DaemonOptions<'a> {
     pub etc: Option<&'a str>,
     /// The folder of the sockets.
     pub run_dir: &'a str,
+    /// The path of the gate, where there is to be one.
+    pub gate: Option<&'a str>,
 }
 
 /// What the words ask for.
@@ -70,6 +72,7 @@ pub struct Options<'a> {
     threads: Option<&'a str>,
     etc: Option<&'a str>,
     run_dir: Option<&'a str>,
+    gate: Option<&'a str>,
 }
 
 impl<'a> Model for Options<'a> {
@@ -89,6 +92,7 @@ impl<'a> Model for Options<'a> {
       threads = option_map (λ p. p.now) o.threads;
       etc = option_map (λ p. p.now) o.etc;
       run_dir = option_map (λ p. p.now) o.run_dir;
+      gate = option_map (λ p. p.now) o.gate;
     } };
 }
 
@@ -108,6 +112,7 @@ impl<'a> Options<'a> {
             threads: value(matches, "nthreads"),
             etc: value(matches, "etc"),
             run_dir: value(matches, "run-dir"),
+            gate: value(matches, "gate"),
         }
     }
 
@@ -169,6 +174,9 @@ impl<'a> Options<'a> {
         if self.foreground || self.config.is_some() {
             return None;
         }
+        if self.gate.is_some() {
+            return None;
+        }
         if self.etc.is_some() || self.run_dir.is_some() {
             return None;
         }
@@ -190,6 +198,7 @@ impl<'a> Options<'a> {
                 workers: self.workers()?,
                 etc: self.etc,
                 run_dir: self.run_dir(),
+                gate: self.gate,
             },
         })
     }
@@ -209,7 +218,7 @@ impl<'a> Options<'a> {
     fn is_no_service(&self) -> bool
         ensures { result ≡ is_no_service self.now }
     {
-        !self.foreground && self.threads.is_none() && self.etc.is_none()
+        !self.foreground && self.threads.is_none() && self.etc.is_none() && self.gate.is_none()
     }
 
     // The folder of the sockets.

@@ -9,3 +9,4 @@ mod words;
 
 pub use command::{replay, run};
 pub use nsc_model::Exit;
+pub use nsc_workload::{Worked, workload};

@@ -55,7 +55,8 @@ fn command<'a>(alloc: Global) -> Result<Command<'a>, AllocError>
         .arg(flag(alloc, "foreground").short('F'))?
         .arg(valued(alloc, "nthreads").short('t'))?
         .arg(valued(alloc, "etc"))?
-        .arg(valued(alloc, "run-dir"))
+        .arg(valued(alloc, "run-dir"))?
+        .arg(valued(alloc, "gate"))
 }
 
 // The command with the options alone that say what to do. No option is for help or the version.

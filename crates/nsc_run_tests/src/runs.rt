@@ -3,7 +3,7 @@ ghost use Rattle.std.specs.Prelude.{◌<◌};
 use nsc_base::NoMemory;
 use nsc_model::Conf;
 use nsc_outside::{MemSink, MemSource};
-use nsc_run::{Exit, replay};
+use nsc_run::{Exit, replay, workload};
 use std::alloc::Global;
 use std::test::Fail;
 
@@ -100,5 +100,20 @@ fn rare_exits(rt: HostRuntime) -> Result<(), Fail> {
         text.as_slice(),
         b"nscd: bad reply from server\n".as_slice()
     );
+    Ok(())
+}
+
+// What is found in place differs nowhere from what is looked up, by any number of workers.
+#[test]
+fn readers_of_a_workload(rt: HostRuntime) -> Result<(), Fail> {
+    for workers in [1, 2, 8] {
+        let mut sink = MemSink::new(rt.alloc(), 200)?;
+        let worked = workload(&rt, 7, workers, &mut sink);
+        assert_eq!(rt; (worked.exit, worked.differing), (Exit::Ok, 0));
+        assert!(rt;
+            sink.taken()
+                .starts_with(b"found 224\nnot found 224\nsha256 ")
+        );
+    }
     Ok(())
 }

@@ -1,7 +1,8 @@
-use Rattle.std.proofs.Common.{refl, subst, sym}
+use Rattle.std.proofs.Common.{◌∙◌, refl, subst, sym}
 use Rattle.nsc_outside.specs.StreamAt.{stream_out}
 use Rattle.nsc_model.specs.declared.exit.Exit.{Exit}
 use Rattle.nsc_daemon.specs.Ends.{DaemonAt, EndsSo, TellsHeldLength, daemon_at}
+use Rattle.nsc_daemon.proofs.Bound.{not_opened}
 use Rattle.nsc_daemon.proofs.Ends.{calm_so, length_held, unopened}
 use Rattle.nsc_daemon.proofs.service.daemon.Goals as goal
 
@@ -23,3 +24,6 @@ pub returns-in-Err-clause-length : goal.returns-in-Err-clause-length
 returns-in-Err-clause-length g c =
     let held = g.F.FileSet.held c.args.files.now in
     subst (λ (exit : Exit). TellsHeldLength exit held) (sym c.opening_exit.ensures.told) (length_held c.in-Err.fault held c.in-Err.ensures.length)
+
+pub returns-in-Err-clause-bound : goal.returns-in-Err-clause-bound
+returns-in-Err-clause-bound g c = λ ok. absurd (not_opened c.in-Err.fault (sym c.opening_exit.ensures.told ∙ ok))

@@ -10,4 +10,5 @@ returns c =
     let foreground = added _ _ _ _ (lettered 70 (flag (codes "foreground"))) c.in_ok-arg-2.ensures (search rules) config (search rules) in
     let threads = added _ _ _ _ (lettered 116 (valued (codes "nthreads"))) c.in_ok-arg-3.ensures (search rules) foreground (search rules) in
     let etc = added _ _ _ _ (valued (codes "etc")) c.in_ok-arg-4.ensures (search rules) threads (search rules) in
-    IfOk-weaker c.arg-5.result _ _ (λ r adds. added _ _ r _ (valued (codes "run-dir")) adds (search rules) etc (search rules)) c.arg-5.ensures
+    let run_dir = added _ _ _ _ (valued (codes "run-dir")) c.in_ok-arg-5.ensures (search rules) etc (search rules) in
+    IfOk-weaker c.arg-6.result _ _ (λ r adds. added _ _ r _ (valued (codes "gate")) adds (search rules) run_dir (search rules)) c.arg-6.ensures
