@@ -45,6 +45,10 @@ impl<C: OfContent, B: Room> Work for Assignment<'_, C, B> {
         self.replies(rt, alloc, from, to - from).ok()
     }
 
+    fn read<R: Wait>(&self, rt: &R, alloc: Global) -> Option<Texts> {
+        self.answers(rt, alloc).ok()
+    }
+
     /// Ticks as often, at moments that lie as far apart.
     fn tick<R: Wait>(&self, rt: &R, alloc: Global) -> Result<(), NoMemory> {
         let mut pass = self.database.attach(rt, alloc)?;

@@ -5,7 +5,7 @@ ghost use Rattle.nsc_workload.specs.Workload.{files_of, workload_of};
 
 use crate::assignment::Assignment;
 use crate::fixed_files::{FixedFiles, OfContent};
-use crate::lines::lines;
+use crate::outcome::Outcome;
 use crate::workers::all_replies;
 use nsc_base::NoMemory;
 use nsc_database::{Opened, Room};
@@ -24,12 +24,12 @@ pub(crate) fn lines_over<C: OfContent + Send, R: Threads + Wait + Sync>(
     content: Content,
     number: u32,
     workers: u32,
-) -> Result<Vec<u8>, NoMemory>
+) -> Result<Outcome, NoMemory>
     requires number { (0 < number) × (number ≤ 1000) }
     requires workers { (0 < workers) × (workers ≤ 64) }
     requires content { content ≡ C.files }
     requires files { C.files ≡ files_of number }
-    ensures { IfOk result (λ text. text.items ≡ workload_of number) }
+    ensures { IfOk result (λ outcome. outcome.text.items ≡ workload_of number) }
 {
     let conf = conf();
     let mut files: FixedFiles<C> = FixedFiles::new(alloc, content)?;
@@ -56,7 +56,7 @@ fn lines_in<B: Room + Send, C: OfContent + Send, R: Threads + Wait + Sync>(
     opened: Opened<FixedFiles<C>, Indexed>,
     number: u32,
     workers: u32,
-) -> Result<Vec<u8>, NoMemory>
+) -> Result<Outcome, NoMemory>
     requires number { (0 < number) × (number ≤ 1000) }
     requires workers { (0 < workers) × (workers ≤ 64) }
     requires files { C.files ≡ files_of number }
@@ -65,7 +65,7 @@ fn lines_in<B: Room + Send, C: OfContent + Send, R: Threads + Wait + Sync>(
     requires settings { (opened.settings ≡ settings_of conf.now opened.db) × (opened.reloads ≡ conf.now.reloads) }
     requires users { opened.db ≡ db.Passwd }
     requires held { B.held ≡ Some C.files }
-    ensures { IfOk result (λ text. text.items ≡ workload_of number) }
+    ensures { IfOk result (λ outcome. outcome.text.items ≡ workload_of number) }
 {
     match opened.enter::<B>() {
         Ok((database, _)) => {
@@ -75,7 +75,7 @@ fn lines_in<B: Room + Send, C: OfContent + Send, R: Threads + Wait + Sync>(
                 workers,
             };
             let replies = all_replies(rt, alloc, &assignment)?;
-            lines(alloc, replies.as_slice())
+            Outcome::of(alloc, &replies)
         }
         Err(_) => Err(NoMemory),
     }

@@ -4,6 +4,7 @@ ghost use Rattle.nsc_model.specs.Exits.{IsExitOf, Working};
 ghost use Rattle.nsc_workload.specs.Runs.{PutsText};
 ghost use Rattle.nsc_workload.specs.Workload.{workload_of};
 
+use crate::outcome::Outcome;
 use crate::room::lines_over;
 use crate::users::content;
 use nsc_base::NoMemory;
@@ -14,30 +15,48 @@ use std::marker::Brand;
 use std::sync::Wait;
 use std::thread::Threads;
 
+/// How a workload ended.
+#[derive(Clone, Copy, Debug, PartialEq, Eq)]
+pub struct Worked {
+    /// The exit.
+    pub exit: Exit,
+    /// How many answers of the readers differ from the reply to the same request; 0 where memory was wanting.
+    pub differing: u64,
+}
+
 /// Runs the workload of a number, 1 to 1,000, by 1 to 64 workers, and writes how many requests were found, how many were not,
 /// and the SHA-256 of all replies in the order of the requests. The workers look the requests up in one database in threads,
-/// and another thread ticks meanwhile; what is written is the same however many there are. At `WriteFault` the output took a front
-/// of that, and at `NoMemory` nothing.
+/// and another thread ticks meanwhile; what is written is the same however many there are. Two more threads ask the first 64 requests in
+/// place first, as the gate does, and what they are answered is compared with the replies. At `WriteFault` the output took a front of the
+/// lines, and at `NoMemory` nothing.
 pub fn workload<RT: AllocGlobal + Threads + Wait + Sync, K: Sink>(
     rt: &RT,
     number: u32,
     workers: u32,
     output: &mut K,
-) -> Exit
+) -> Worked
     requires number { (0 < number) × (number ≤ 1000) }
     requires workers { (0 < workers) × (workers ≤ 64) }
-    ensures exits { IsExitOf Working result }
-    ensures written { PutsText result (workload_of number) (stream_out K.Sink output.old) (stream_out K.Sink output.new) }
+    ensures exits { IsExitOf Working result.exit }
+    ensures written { PutsText result.exit (workload_of number) (stream_out K.Sink output.old) (stream_out K.Sink output.new) }
+    ensures none { result.exit ≡ Exit.NoMemory → result.differing ≡ 0 }
 {
     match lines(rt, rt.alloc(), number, workers) {
-        Err(_) => Exit::NoMemory,
-        Ok(text) => write(output, text.as_slice()),
+        Err(_) => Worked {
+            exit: Exit::NoMemory,
+            differing: 0,
+        },
+        Ok(outcome) => Worked {
+            exit: write(output, outcome.text.as_slice()),
+            differing: outcome.differing,
+        },
     }
 }
 
 // Writes a text.
 fn write<K: Sink>(output: &mut K, text: &[u8]) -> Exit
     ensures exits { IsExitOf Working result }
+    ensures known { result ≡ Exit.NoMemory → ⊥ }
     ensures written { PutsText result text.now (stream_out K.Sink output.old) (stream_out K.Sink output.new) }
 {
     match write_all(output, text) {
@@ -46,16 +65,16 @@ fn write<K: Sink>(output: &mut K, text: &[u8]) -> Exit
     }
 }
 
-// The lines that the workload writes.
+// What the workload tells.
 fn lines<R: Threads + Wait + Sync>(
     rt: &R,
     alloc: Global,
     number: u32,
     workers: u32,
-) -> Result<Vec<u8>, NoMemory>
+) -> Result<Outcome, NoMemory>
     requires number { (0 < number) × (number ≤ 1000) }
     requires workers { (0 < workers) × (workers ≤ 64) }
-    ensures { IfOk result (λ text. text.items ≡ workload_of number) }
+    ensures { IfOk result (λ outcome. outcome.text.items ≡ workload_of number) }
 {
     let content = content(alloc, number)?;
     lines_over::<Brand, R>(rt, alloc, content, number, workers)

@@ -28,23 +28,83 @@ pub(crate) trait Work {
         requires { worker < workers self.now }
         ensures { IsShare (number self.now) (workers self.now) worker result };
 
+    /// What a reader is answered to the first requests, in order; `None` where memory was wanting.
+    fn read<R: Wait>(&self, rt: &R, alloc: Global) -> Option<Texts>;
+
     /// Ticks. Fails only for want of memory.
     fn tick<R: Wait>(&self, rt: &R, alloc: Global) -> Result<(), NoMemory>;
 }
 
-/// The replies to all requests in order. The workers look them up, each in a thread of its own, while another thread ticks.
+/// What the threads of a workload were answered.
+#[derive(Drop)]
+pub(crate) struct Replies {
+    /// The replies to all requests, in order.
+    pub(crate) all: Vec<Bytes>,
+    /// How many answers of the readers differ from the reply to the same request.
+    pub(crate) differing: u64,
+}
+
+/// The replies to all requests in order. The workers look them up, each in a thread of its own, while another thread ticks and two read.
 /// Fails only for want of memory.
 pub(crate) fn all_replies<W: Work + Sync, R: Threads + Wait + Sync>(
     rt: &R,
     alloc: Global,
     work: &W,
-) -> Result<Vec<Bytes>, NoMemory>
-    ensures { IfOk result (λ replies. replies.items ≡ replies_from (W.number work.now) 0 (request_count (W.number work.now))) }
+) -> Result<Replies, NoMemory>
+    ensures { IfOk result (λ replies. replies.all.items ≡ replies_from (W.number work.now) 0 (request_count (W.number work.now))) }
 {
-    let (shares, ticked) = thread::join(rt, || shares(rt, alloc, work), || work.tick(rt, alloc));
+    let (shares, (ticked, answers)) = thread::join(
+        rt,
+        || shares(rt, alloc, work),
+        || thread::join(rt, || work.tick(rt, alloc), || answers(rt, alloc, work)),
+    );
     ticked?;
     let shares = shares?;
-    gathered(alloc, work, shares.as_slice())
+    let answers = answers?;
+    let all = gathered(alloc, work, shares.as_slice())?;
+    let differing = all_differing(all.as_slice(), answers.as_slice())?;
+    Ok(Replies { all, differing })
+}
+
+// How many threads read.
+const READERS: usize = 2;
+
+// What each reader is answered.
+fn answers<W: Work + Sync, R: Threads + Wait + Sync>(
+    rt: &R,
+    alloc: Global,
+    work: &W,
+) -> Result<Vec<Option<Texts>>, NoMemory> {
+    let answers = thread::map_indices(
+        rt,
+        alloc,
+        READERS,
+        &|_reader: usize| { work.read(rt, alloc) },
+    )?;
+    Ok(answers)
+}
+
+// How many answers of all readers differ from the reply to the same request.
+fn all_differing(replies: &[Bytes], answers: &[Option<Texts>]) -> Result<u64, NoMemory> {
+    let mut count: u64 = 0;
+    for texts in answers {
+        match texts {
+            Some(texts) => count = count.saturating_add(differing(replies, texts.as_slice())),
+            None => return Err(NoMemory),
+        }
+    }
+    Ok(count)
+}
+
+// How many answers of a reader differ.
+fn differing(replies: &[Bytes], answers: &[Bytes]) -> u64 {
+    let mut count: u64 = 0;
+    for (reply, answer) in replies.iter().zip(answers) {
+        if reply != answer {
+            count = count.saturating_add(1);
+        }
+    }
+    count
 }
 
 // What each worker gives, in order.

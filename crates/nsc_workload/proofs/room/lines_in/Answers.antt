@@ -10,4 +10,4 @@ pub all_replies-requires-sync-W : goal.all_replies-requires-sync-W
 all_replies-requires-sync-W g c κs within = search (sendable, crosses, assignment-sync, c.type_bounds) depth 40
 
 pub returns-in-Ok : goal.returns-in-Ok
-returns-in-Ok g c = IfOk-weaker c.lines.result _ _ (λ text is. is ∙ told c.args.number c.as_slice.result.now (c.as_slice.ensures.value ∙ c.in_ok-replies-in-Ok.ensures)) c.lines.ensures
+returns-in-Ok g c = IfOk-weaker c.of.result _ _ (λ outcome is. is ∙ told c.args.number _ c.in_ok-replies-in-Ok.ensures) c.of.ensures.text
