@@ -3,6 +3,7 @@
 PROGRAM = crates/nscd/out/nscd
 TRIALS = crates/nsc_trials/out/nsc_trials
 TABLE_TRIALS = crates/nsc_table_trials/out/nsc_table_trials
+READER_TRIALS = crates/nsc_reader_trials/out/nsc_reader_trials
 EXAMPLE = crates/nscd/stdin
 WORDS = $(shell cat crates/nscd/args)
 
@@ -43,7 +44,7 @@ build/frames: tools/make-frames examples/machine.txt $(wildcard examples/machine
 test:
 	@.ci/run
 
-build: build/nscd build/nscd-trials build/nscd-table-trials
+build: build/nscd build/nscd-trials build/nscd-table-trials build/nscd-reader-trials
 
 # A copy under another name first: a run that is cut off leaves no half of a program behind.
 build/nscd: $(PROGRAM)
@@ -61,6 +62,11 @@ build/nscd-table-trials: $(TABLE_TRIALS)
 	cp $(TABLE_TRIALS) build/nscd-table-trials.new
 	mv build/nscd-table-trials.new build/nscd-table-trials
 
+build/nscd-reader-trials: $(READER_TRIALS)
+	@mkdir -p build
+	cp $(READER_TRIALS) build/nscd-reader-trials.new
+	mv build/nscd-reader-trials.new build/nscd-reader-trials
+
 # rt links the program once all is proved. The touch comes since rt leaves a program alone that a change of the sources
 # did not alter, as one in a comment, and make would then prove again each time.
 $(PROGRAM): $(SOURCES)
@@ -77,6 +83,11 @@ $(TABLE_TRIALS): $(SOURCES)
 	cd crates/nsc_table_trials && rt run < /dev/null > /dev/null
 	@touch $(TABLE_TRIALS)
 
+# Searches that take no lock, beside a writer.
+$(READER_TRIALS): $(SOURCES)
+	cd crates/nsc_reader_trials && rt run < /dev/null > /dev/null
+	@touch $(READER_TRIALS)
+
 # The proved program and all that belongs to it, as docs/INSTALL.md says. Nothing is built or proved here.
 install:
 	@PREFIX='$(PREFIX)' SYSCONFDIR='$(SYSCONFDIR)' DESTDIR='$(DESTDIR)' NSCD='$(NSCD)' START='$(START)' dist/install in
@@ -92,6 +103,7 @@ bench: build
 	bench/replay
 	bench/store
 	bench/daemon
+	bench/gate
 	bench/index
 
 # What is proved already lies in the out folders too, so a build after this one proves from the start.
