@@ -18,6 +18,7 @@ sys.dont_write_bytecode = True
 import crowds
 import ending
 import folders
+import gates
 import sources
 import telling
 import unread
@@ -337,6 +338,7 @@ CASES = {
     **ending.CASES,
     **crowds.CASES,
     **folders.CASES,
+    **gates.CASES,
     **sources.CASES,
     **telling.CASES,
     **unread.CASES,

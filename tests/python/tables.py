@@ -121,7 +121,7 @@ def is_refused(*words):
 
 
 NO_RUN = "/dev/null/run"  # no folder of sockets can be there
-VALUES = {"invalidate": "group", "workload": "2", "config-file": "/dev/null", "nthreads": "2", "etc": "/none", "run-dir": NO_RUN}
+VALUES = {"invalidate": "group", "workload": "2", "config-file": "/dev/null", "nthreads": "2", "etc": "/none", "run-dir": NO_RUN, "gate": NO_RUN}
 # What stands in each form in any case; a daemon or an order finds no folder of sockets, and so ends with status 8.
 ALONE = {"d": [], "g": ["-g"], "i": ["-ihosts"], "k": ["-K"], "r": ["--replay"], "w": ["--workload", "1"]}
 ENDS = {"d": 8, "g": 8, "i": 8, "k": 8, "r": 0, "w": 0}
@@ -182,7 +182,7 @@ def options_case():
     others = [letter for letter in string.ascii_letters + string.digits + "?" if letter not in letters]
     for letter in others:
         check(is_refused(f"-{letter}"), f"-{letter} is taken")
-    for word in ("debug", "foregroun", "help", "usage", "version", "secure", "gate", "start", "stat"):
+    for word in ("debug", "foregroun", "help", "usage", "version", "secure", "gat", "start", "stat"):
         check(is_refused(f"--{word}"), f"--{word} is taken")
     return f"{said}; the program takes and refuses them so in {count} uses, and {len(others)} other letters are refused"
 
