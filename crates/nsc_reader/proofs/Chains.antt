@@ -18,7 +18,6 @@ keeps_went layout p new found table seen lands = record {
   table = table;
   before = subst (IsPrefix p.seen) (sym seen) (prefix_all p.seen);
   began = ap (λ (w : Search). w.began) lands.searching;
-  steps = ap (λ (w : Search). w.steps) lands.searching;
   searches = ap (λ (w : Search). w.searches) lands.searching;
   first = ap (λ (w : Search). w.first) lands.searching;
   request = ap (λ (w : Search). w.request) lands.searching;

@@ -4,3 +4,4 @@ pub mod Keys
 pub mod Replies
 pub mod Outcomes
 pub mod Steps
+mod Runs

@@ -55,7 +55,6 @@ keeps_last p new last is = record {
   table = is.table;
   before = is.before;
   began = ap (λ (w : Search). w.began) is.searching;
-  steps = ap (λ (w : Search). w.steps) is.searching;
   searches = ap (λ (w : Search). w.searches) is.searching;
   first = ap (λ (w : Search). w.first) is.searching;
   request = ap (λ (w : Search). w.request) is.searching;

@@ -1,6 +1,8 @@
 -- The loads of a node that answers: its STATE, its SIZE, its NUMBER, its VERSION, and the words of its reply.
-use Rattle.std.proofs.Common.{All, ◌≡◌, ◌∙◌, ℕ, ◌+◌, ◌-◌, ◌*◌, ◌%◌, ◌<◌, ◌≤◌, Bool, true, false, eqb, min, List, [], ◌∷◌, ◌++◌, length, take, Some, refl, sym, ap, subst, inr, arith}
-use Rattle.std.proofs.lemmas.List.{take_all, length-append, length-take}
+use Rattle.std.proofs.Common.{All, ◌≡◌, ◌∙◌, ℕ, ◌+◌, ◌-◌, ◌*◌, ◌%◌, ◌<◌, ◌≤◌, Bool, true, false, eqb, min, List, [], ◌∷◌, ◌++◌, length, take, Some, append_assoc, refl, sym, ap, subst, inr, arith}
+use Rattle.std.proofs.Math.Seq.{take-append-add}
+use Rattle.std.proofs.lemmas.List.{take_all, length-append, length-take, length-take-le, take-append-le}
+use borrow.Rule.Slice.PartMut.{put_mid, post_of}
 use Rattle.byteorder.specs.Endian.{little_bytes}
 use Rattle.byteorder.specs.Numbers.{length-bytes_low_first}
 use Rattle.nsc_base.specs.Nodes.{words_for}
@@ -120,22 +122,21 @@ mark_of size reply true is = let odd : size % 2 ≡ 1 = omega arith in sym (ap (
 mark_of size reply false is = let even : size % 2 ≡ 0 = omega arith in sym (ap (λ (n : ℕ). eqb n 1) even)
 
 -- all of a reply is copied
-copied_all : (layout : Layout) (place size number version known : ℕ) (content : List ℕ) (not_found : Bool) (p : Pass) → p.searching.known ≤ known → AtVersion layout place size number p → not_found ≡ eqb (size % 2) 1
-    → Tells (fixed_at known p) (λ e. e.version ≡ version) → Tells (fixed_at known p) (λ e. length e.answer.bytes ≡ reply_in size → e.answer.bytes ≡ content) → AtLast content (Hit number version not_found) (fixed_at known p)
-copied_all layout place size number version known content not_found p later at mark of said =
+copied_all : (layout : Layout) (place size number version : ℕ) (content : List ℕ) (not_found : Bool) (p : Pass) → AtVersion layout place size number p → not_found ≡ eqb (size % 2) 1
+    → Tells p (λ e. e.version ≡ version) → Tells p (λ e. length e.answer.bytes ≡ reply_in size → e.answer.bytes ≡ content) → AtLast content (Hit number version not_found) p
+copied_all layout place size number version content not_found p at mark of said =
     let node = at.found.found.node in
-    let before = steady_before p.seen known p.searching.gone p later node.begun in
     record {
-      begun = begun_at p.seen known p.searching.gone p (prefix_all p.seen) later node.begun;
+      begun = node.begun;
       may = (
         node.on,
         λ steady e on.
-            let sized = at.found.sized (before steady) e on in
-            let within = node.within (before steady) e on in
+            let sized = at.found.sized steady e on in
+            let within = node.within steady e on in
             record {
-              answers = at.found.found.answers (before steady) e on;
-              live = at.found.found.live (before steady) e on;
-              numbered = at.numbered (before steady) e on;
+              answers = at.found.found.answers steady e on;
+              live = at.found.found.live steady e on;
+              numbered = at.numbered steady e on;
               of_version = of steady e on;
               marked = mark_of size (length e.answer.bytes) e.answer.not_found sized ∙ sym mark;
               said = said steady e on (sym (length_of size (length e.answer.bytes) e.answer.not_found within.reply sized));
@@ -150,7 +151,7 @@ empty_is (b ∷ bytes) e = absurd (omega arith)
 -- a reply of no bytes
 pub version_last : (layout : Layout) (place size number known word : ℕ) (not_found : Bool) (p : Pass) → p.searching.known ≤ known → AtVersion layout place size number p → Read p known 3 word → reply_in size ≡ 0 → not_found ≡ eqb (size % 2) 1 → AtLast [] (Hit number word not_found) (fixed_at known p)
 version_last layout place size number known word not_found p later at read none mark =
-    copied_all layout place size number word known [] not_found p later at mark (λ steady e on. sym ((read steady e on).version refl)) (λ steady e on is. empty_is e.answer.bytes (is ∙ none))
+    copied_all layout place size number word [] not_found (fixed_at known p) (version_at layout place size number known p later at) mark (λ steady e on. sym ((read steady e on).version refl)) (λ steady e on is. empty_is e.answer.bytes (is ∙ none))
 
 -- ---- the reply
 
@@ -186,10 +187,30 @@ said_more layout place size number version copied known content count word p c s
     let count_is : count ≡ min (length e.answer.bytes - 8 * copied) 8 = c.count_is ∙ ap (λ (n : ℕ). min (n - 8 * copied) 8) is in
     (sym is, word_said e.answer.bytes content copied count word within.reply_bytes more count_is holds (c.at.said before e on))
 
-pub reply_more : (layout : Layout) (place size number version copied known : ℕ) (content : List ℕ) (count word : ℕ) (p : Pass) → p.searching.known ≤ known → AtReply layout place size number version copied content p → count ≡ min (reply_in size - 8 * copied) 8 → Read p known (8 + key_words p + copied) word
-    → copied + 1 < words_for (reply_in size) → AtReply layout place size number version (copied + 1) (with_word content count word) (fixed_at known p)
-reply_more layout place size number version copied known content count word p later at is read more =
+-- so many words of the reply are copied, or all of it
+pub record IsCopying (layout : Layout) (place size number version copied : ℕ) (content : List ℕ) (p : Pass) : Type 0 where
+  pub found : AtVersion layout place size number p
+  pub of_version : Tells p (λ e. e.version ≡ version)
+  pub filled : length content ≡ min (8 * copied) (reply_in size)
+  pub said : Tells p (λ e. take (8 * copied) e.answer.bytes ≡ content)
+
+pub copying_at : (layout : Layout) (place size number version copied : ℕ) (content : List ℕ) (p : Pass) → AtReply layout place size number version copied content p → IsCopying layout place size number version copied content p
+copying_at layout place size number version copied content p at = let few = at.few in let filled = at.filled in record { found = at.found; of_version = at.of_version; filled = omega arith; said = at.said }
+
+pub copying_on : (layout : Layout) (place size number version copied : ℕ) (content : List ℕ) (p : Pass) → IsCopying layout place size number version copied content p → copied < words_for (reply_in size) → AtReply layout place size number version copied content p
+copying_on layout place size number version copied content p is few = let filled = is.filled in record { found = is.found; of_version = is.of_version; few = few; filled = omega arith; said = is.said }
+
+pub copying_all : (layout : Layout) (place size number version copied : ℕ) (content : List ℕ) (not_found : Bool) (p : Pass) → IsCopying layout place size number version copied content p → words_for (reply_in size) ≤ copied → not_found ≡ eqb (size % 2) 1
+    → AtLast content (Hit number version not_found) p
+copying_all layout place size number version copied content not_found p is last mark =
+    copied_all layout place size number version content not_found p is.found mark is.of_version
+    (λ steady e on same. let short : length e.answer.bytes ≤ 8 * copied = omega arith in sym (take_all (8 * copied) e.answer.bytes short) ∙ is.said steady e on)
+
+pub copying_more : (layout : Layout) (place size number version copied known : ℕ) (content : List ℕ) (count word : ℕ) (p : Pass) → p.searching.known ≤ known → AtReply layout place size number version copied content p → count ≡ min (reply_in size - 8 * copied) 8 → Read p known (8 + key_words p + copied) word
+    → IsCopying layout place size number version (copied + 1) (with_word content count word) (fixed_at known p)
+copying_more layout place size number version copied known content count word p later at is read =
     let c : Copies layout place size number version copied known content count word p = record { later = later; at = at; count_is = is; read = read } in
+    let few = at.few in
     let filled : length content ≡ 8 * copied = at.filled in
     let both : length (with_word content count word) ≡ length content + length (take count (little_bytes 8 word)) = length-append content (take count (little_bytes 8 word)) in
     let part : length (take count (little_bytes 8 word)) ≡ min count (length (little_bytes 8 word)) = length-take count (little_bytes 8 word) in
@@ -197,15 +218,50 @@ reply_more layout place size number version copied known content count word p la
     record {
       found = version_at layout place size number known p later at.found;
       of_version = λ steady e on. at.of_version (steady_before p.seen known p.searching.gone p later at.found.found.found.node.begun steady) e on;
-      few = more;
       filled = omega arith;
       said = λ steady e on. (said_more layout place size number version copied known content count word p c steady e on).1;
     }
 
+pub reply_more : (layout : Layout) (place size number version copied known : ℕ) (content : List ℕ) (count word : ℕ) (p : Pass) → p.searching.known ≤ known → AtReply layout place size number version copied content p → count ≡ min (reply_in size - 8 * copied) 8 → Read p known (8 + key_words p + copied) word
+    → copied + 1 < words_for (reply_in size) → AtReply layout place size number version (copied + 1) (with_word content count word) (fixed_at known p)
+reply_more layout place size number version copied known content count word p later at is read more =
+    copying_on layout place size number version (copied + 1) (with_word content count word) (fixed_at known p) (copying_more layout place size number version copied known content count word p later at is read) more
+
 pub reply_last : (layout : Layout) (place size number version copied known : ℕ) (content : List ℕ) (count word : ℕ) (not_found : Bool) (p : Pass) → p.searching.known ≤ known → AtReply layout place size number version copied content p → count ≡ min (reply_in size - 8 * copied) 8 → Read p known (8 + key_words p + copied) word
     → words_for (reply_in size) ≤ copied + 1 → not_found ≡ eqb (size % 2) 1 → AtLast (with_word content count word) (Hit number version not_found) (fixed_at known p)
 reply_last layout place size number version copied known content count word not_found p later at is read last mark =
-    let c : Copies layout place size number version copied known content count word p = record { later = later; at = at; count_is = is; read = read } in
-    copied_all layout place size number version known (with_word content count word) not_found p later at.found mark
-    (λ steady e on. at.of_version (steady_before p.seen known p.searching.gone p later at.found.found.found.node.begun steady) e on)
-    (λ steady e on same. let said = said_more layout place size number version copied known content count word p c steady e on in let short : length e.answer.bytes ≤ 8 * (copied + 1) = omega arith in sym (take_all (8 * (copied + 1)) e.answer.bytes short) ∙ said.1)
+    copying_all layout place size number version (copied + 1) (with_word content count word) not_found (fixed_at known p) (copying_more layout place size number version copied known content count word p later at is read) last mark
+
+-- ---- words in a block
+
+-- the first bytes of a block in which a word was put
+pub put_in : (a k count : ℕ) (block bytes : List ℕ) → a ≤ length block → count ≤ length bytes → take (a + count) (put_mid a k block bytes) ≡ take a block ++ take count bytes
+put_in a k count block bytes low few =
+    ap (λ (n : ℕ). take (n + count) (put_mid a k block bytes)) (sym (length-take-le a block low))
+    ∙ take-append-add (take a block) (bytes ++ post_of a k block) count
+    ∙ ap (λ (xs : List ℕ). take a block ++ xs) (take-append-le count bytes (post_of a k block) few)
+
+-- one word more is copied into a block
+pub block_more : (layout : Layout) (place size number version copied index known word : ℕ) (content block bytes : List ℕ) (p : Pass) → p.searching.known ≤ known → IsCopying layout place size number version (copied + index) (content ++ take (min (8 * index) (reply_in size - 8 * copied)) block) p
+    → copied + index < words_for (reply_in size) → 8 * index + 8 ≤ length block → bytes ≡ little_bytes 8 word → Read p known (8 + key_words p + (copied + index)) word
+    → IsCopying layout place size number version (copied + (index + 1)) (content ++ take (min (8 * (index + 1)) (reply_in size - 8 * copied)) (put_mid (8 * index) (8 * index + 8 - 8 * index) block bytes)) (fixed_at known p)
+block_more layout place size number version copied index known word content block bytes p later is few room bytes_are read =
+    let here : min (8 * index) (reply_in size - 8 * copied) ≡ 8 * index = omega arith in
+    let count : ℕ = min (reply_in size - 8 * (copied + index)) 8 in
+    let next : 8 * index + min (reply_in size - 8 * (copied + index)) 8 ≡ min (8 * (index + 1)) (reply_in size - 8 * copied) = omega arith in
+    let eight : length bytes ≡ 8 = ap length bytes_are ∙ length-bytes_low_first 0 8 word in
+    let all : count ≤ length bytes = omega arith in
+    let low : 8 * index ≤ length block = omega arith in
+    let before : List ℕ = content ++ take (8 * index) block in
+    let block_is = put_in (8 * index) (8 * index + 8 - 8 * index) count block bytes low all in
+    let same : with_word before count word ≡ content ++ take (min (8 * (index + 1)) (reply_in size - 8 * copied)) (put_mid (8 * index) (8 * index + 8 - 8 * index) block bytes) =
+    append_assoc content (take (8 * index) block) (take count (little_bytes 8 word))
+    ∙ ap (λ (bs : List ℕ). content ++ (take (8 * index) block ++ take count bs)) (sym bytes_are)
+    ∙ ap (λ (xs : List ℕ). content ++ xs) (sym block_is)
+    ∙ ap (λ (n : ℕ). content ++ take n (put_mid (8 * index) (8 * index + 8 - 8 * index) block bytes)) next
+    in
+    let was : IsCopying layout place size number version (copied + index) before p = subst (λ (n : ℕ). IsCopying layout place size number version (copied + index) (content ++ take n block) p) here is in
+    let more = copying_more layout place size number version (copied + index) known before count word p later (copying_on layout place size number version (copied + index) before p was few) refl read in
+    let index_is : copied + index + 1 ≡ copied + (index + 1) = omega arith in
+    subst (λ (n : ℕ). IsCopying layout place size number version n (content ++ take (min (8 * (index + 1)) (reply_in size - 8 * copied)) (put_mid (8 * index) (8 * index + 8 - 8 * index) block bytes)) (fixed_at known p)) index_is
+    (subst (λ (xs : List ℕ). IsCopying layout place size number version (copied + index + 1) xs (fixed_at known p)) same more)

@@ -24,7 +24,7 @@ steps_on layout request first was old new content most stage begun asked_is left
   table = goes.keeps.table;
   before = goes.keeps.before;
   began = same_began old.searching.began new.searching.began goes.keeps.began;
-  steps = goes.keeps.steps;
+  steps = goes.steps;
   searches = goes.keeps.searches;
   stands = (goes.keeps.first ∙ begun, goes.keeps.request ∙ asked_is, goes.at);
   has_begun = tt;

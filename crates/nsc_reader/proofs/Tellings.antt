@@ -22,7 +22,7 @@ abbrev pub fixed_at : ℕ → Pass → Pass
 fixed_at known p = stays p.seen known p.searching.gone p
 
 pub keeps_at : (seen : List Record) (known : ℕ) (gone : Bool) (p : Pass) → IsPrefix p.seen seen → Keeps p (stays seen known gone p)
-keeps_at seen known gone p more = record { table = refl; before = more; began = refl; steps = refl; searches = refl; first = refl; request = refl }
+keeps_at seen known gone p more = record { table = refl; before = more; began = refl; searches = refl; first = refl; request = refl }
 
 pub begun_at : (seen : List Record) (known : ℕ) (gone : Bool) (p : Pass) → IsPrefix p.seen seen → p.searching.known ≤ known → Begun p → Begun (stays seen known gone p)
 begun_at seen known gone p more later b = let low = b.known in record { even = b.even; known = omega arith; began = prefix_through p.searching.began p.seen seen b.began more }
@@ -58,6 +58,7 @@ read_from p new place index at word is place_is at_is fixed steady e on =
 pub goes_fixed : (layout : Layout) (p new : Pass) (content : List ℕ) (most : ℕ) (stage : Stage) → new ≡ fixed_at new.searching.known p → AtStage layout content stage (fixed_at new.searching.known p) → left_at layout stage < most → Goes layout p new content most stage
 goes_fixed layout p new content most stage is at fewer = record {
   keeps = subst (λ (q : Pass). Keeps p q) (sym is) (keeps_at p.seen new.searching.known p.searching.gone p (prefix_all p.seen));
+  steps = ap (λ (q : Pass). q.searching.steps) is;
   at = subst (λ (q : Pass). AtStage layout content stage q) (sym is) at;
   fewer = fewer;
 }
@@ -84,6 +85,7 @@ goes_stays layout p new gone content most stage table retired more searching at 
     let is = stays_is p new gone table retired searching in
     record {
       keeps = subst (λ (q : Pass). Keeps p q) (sym is) (keeps_at new.seen new.searching.known gone p more);
+      steps = ap (λ (q : Pass). q.searching.steps) is;
       at = subst (λ (q : Pass). AtStage layout content stage q) (sym is) at;
       fewer = fewer;
     }

@@ -186,21 +186,27 @@ left layout New = 20000 * table_words layout + 1
 left layout (Under first stage) = left_at layout stage
 left layout (Answered answer) = 0
 
--- what a search under way keeps at each step, which loads one word
+-- what a search under way keeps at each step
 pub record Keeps (old new : Pass) : Type 0 where
   pub table : new.table ≡ old.table
   pub before : IsPrefix old.seen new.seen
   pub began : new.searching.began ≡ old.searching.began
-  pub steps : new.searching.steps ≡ old.searching.steps + 1
   pub searches : new.searching.searches ≡ old.searching.searches
   pub first : new.searching.first ≡ old.searching.first
   pub request : new.searching.request ≡ old.searching.request
 
--- a step of a search under way, which then comes to a stage with fewer steps left
+-- a step of a search under way, which loads one word, and then comes to a stage with fewer steps left
 pub record Goes (layout : Layout) (old new : Pass) (content : List ℕ) (most : ℕ) (stage : Stage) : Type 0 where
   pub keeps : Keeps old new
+  pub steps : new.searching.steps ≡ old.searching.steps + 1
   pub at : AtStage layout content stage new
   pub fewer : left_at layout stage < most
+
+-- any number of steps of a search under way, which then comes to a stage with at most so many left
+pub record Comes (layout : Layout) (old new : Pass) (content : List ℕ) (most : ℕ) (stage : Stage) : Type 0 where
+  pub keeps : Keeps old new
+  pub at : AtStage layout content stage new
+  pub within : left_at layout stage ≤ most
 
 -- ---- whole searches
 
@@ -249,3 +255,13 @@ pub record Steps (layout : Layout) (request : Request) (was : Progress) (old new
   pub stands : HasCome layout request content new progress
   pub has_begun : HasBegun progress
   pub fewer : left layout progress < left layout was
+
+-- any number of steps that do not begin a search
+pub record Nears (layout : Layout) (request : Request) (was : Progress) (old new : Pass) (content : List ℕ) (progress : Progress) : Type 0 where
+  pub table : new.table ≡ old.table
+  pub before : IsPrefix old.seen new.seen
+  pub began : seen_before progress new ≡ seen_before was old
+  pub searches : searches_with progress new ≡ searches_with was old
+  pub stands : HasCome layout request content new progress
+  pub unanswered : IsOpen was → IsOpen progress
+  pub within : left layout progress ≤ left layout was

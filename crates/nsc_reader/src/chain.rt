@@ -2,7 +2,7 @@
 ghost use Rattle.std.specs.Prelude.{◌≡◌, ℕ, ◌+◌, ◌*◌, ◌<◌, ◌≤◌, List, length};
 ghost use Rattle.nsc_words.specs.Layout.{IsLayout, table_words};
 ghost use Rattle.nsc_rule.specs.Pass.{Pass};
-ghost use Rattle.nsc_reader.specs.Stages.{Arrives, AtBucket, AtNext, AtStage, Goes, left_at};
+ghost use Rattle.nsc_reader.specs.Stages.{Arrives, AtBucket, AtNext, AtStage, Comes, Goes, left_at};
 
 use crate::stage::Stage;
 use nsc_model::InPlace;
@@ -19,6 +19,20 @@ pub(crate) fn load_bucket(pass: &mut Pass, map: &Map, key: &[u8], bucket: usize)
     let layout = map.layout();
     let found = pass.bucket(map, bucket);
     arrive(layout, found, key)
+}
+
+// Loads it where that is the next step.
+pub(crate) fn past_bucket(stage: Stage, pass: &mut Pass, map: &Map, key: &[u8]) -> Stage
+    ghost content: { List ℕ }
+    requires map { map.now.table ≡ pass.old.table }
+    requires key { pass.old.searching.request.key ≡ key.now }
+    requires at { AtStage map.now.layout content stage pass.old }
+    ensures comes { Comes map.now.layout pass.old pass.new content (left_at map.now.layout stage) result }
+{
+    match stage {
+        Stage::Bucket { bucket } => load_bucket(pass, map, key, bucket),
+        other => other,
+    }
 }
 
 // Loads NEXT. It must be below the place of the node.

@@ -1,5 +1,5 @@
 // The first and the last load of a search.
-ghost use Rattle.std.specs.Prelude.{◌≡◌};
+ghost use Rattle.std.specs.Prelude.{◌≡◌, ◌+◌};
 ghost use Rattle.nsc_model.specs.declared.answer.Request.{Request};
 ghost use Rattle.nsc_model.specs.InPlace.{InPlaceClause};
 ghost use Rattle.nsc_reader.specs.Stages.{AtLast, Keeps, Steps, asked};
@@ -50,6 +50,7 @@ pub(crate) fn load_last(
     requires first { pass.old.searching.first ≡ first }
     requires at { AtLast out.old.content answer pass.old }
     ensures keeps { Keeps pass.old pass.new }
+    ensures steps { pass.new.searching.steps ≡ pass.old.searching.steps + 1 }
     ensures answer { InPlaceClause pass.new.searching.began pass.new.seen pass.new.searching.request pass.new.searching.first pass.new.searching.last out.new.content result }
     ensures limit { out.new.limit ≡ out.old.limit }
 {

@@ -2,7 +2,7 @@
 ghost use Rattle.std.specs.Prelude.{◌≡◌, ℕ, ◌+◌, ◌-◌, ◌*◌, ◌≤◌, List, length};
 ghost use Rattle.nsc_model.specs.Entry.{key_limit};
 ghost use Rattle.nsc_words.specs.Layout.{table_words};
-ghost use Rattle.nsc_reader.specs.Stages.{AtFirstWord, AtKeyWord, AtShape, Goes, asked};
+ghost use Rattle.nsc_reader.specs.Stages.{AtFirstWord, AtKeyWord, AtShape, AtStage, Comes, Goes, asked, left_at};
 
 use crate::stage::Stage;
 use nsc_model::{InPlace, Kind};
@@ -21,6 +21,20 @@ pub(crate) fn load_first_word(pass: &mut Pass, map: &Map, key: &[u8], place: usi
         Stage::Shape { place, compared: 1 }
     } else {
         Stage::Next { place }
+    }
+}
+
+// Loads it where that is the next step.
+pub(crate) fn past_first_word(stage: Stage, pass: &mut Pass, map: &Map, key: &[u8]) -> Stage
+    ghost content: { List ℕ }
+    requires map { map.now.table ≡ pass.old.table }
+    requires key { pass.old.searching.request.key ≡ key.now }
+    requires at { AtStage map.now.layout content stage pass.old }
+    ensures comes { Comes map.now.layout pass.old pass.new content (left_at map.now.layout stage) result }
+{
+    match stage {
+        Stage::FirstWord { place } => load_first_word(pass, map, key, place),
+        other => other,
     }
 }
 
@@ -56,6 +70,21 @@ pub(crate) fn load_shape(
     }
 }
 
+// Loads it where that is the next step.
+pub(crate) fn past_shape(kind: Kind, stage: Stage, pass: &mut Pass, map: &Map, key: &[u8]) -> Stage
+    ghost content: { List ℕ }
+    requires map { map.now.table ≡ pass.old.table }
+    requires request { pass.old.searching.request ≡ asked kind key.now }
+    requires size { length key.now ≤ key_limit }
+    requires at { AtStage map.now.layout content stage pass.old }
+    ensures comes { Comes map.now.layout pass.old pass.new content (left_at map.now.layout stage) result }
+{
+    match stage {
+        Stage::Shape { place, compared } => load_shape(kind, pass, map, key, place, compared),
+        other => other,
+    }
+}
+
 // Loads the next word of the key.
 pub(crate) fn load_key_word(
     pass: &mut Pass,
@@ -81,5 +110,25 @@ pub(crate) fn load_key_word(
         }
     } else {
         Stage::State { place }
+    }
+}
+
+// Loads the words of the key that are left, where that is the next step.
+pub(crate) fn past_key_words(stage: Stage, pass: &mut Pass, map: &Map, key: &[u8]) -> Stage
+    ghost content: { List ℕ }
+    requires map { map.now.table ≡ pass.old.table }
+    requires key { pass.old.searching.request.key ≡ key.now }
+    requires size { length key.now ≤ key_limit }
+    requires at { AtStage map.now.layout content stage pass.old }
+    ensures comes { Comes map.now.layout pass.old pass.new content (left_at map.now.layout stage) result }
+{
+    let mut next = stage;
+    'words: loop {
+        match next {
+            Stage::KeyWord { place, compared } => {
+                next = load_key_word(pass, map, key, place, compared);
+            }
+            other => return other,
+        }
     }
 }

@@ -2,13 +2,18 @@
 ghost use Rattle.std.specs.Prelude.{◌≡◌, ℕ, ◌+◌, ◌-◌, ◌*◌, ◌≤◌, List, length};
 ghost use Rattle.nsc_model.specs.Entry.{kept_limit};
 ghost use Rattle.nsc_words.specs.Layout.{table_words};
-ghost use Rattle.nsc_reader.specs.Stages.{AtNumber, AtReply, AtSize, AtStage, AtState, AtVersion, Goes, asked, left_at, reply_in};
+ghost use Rattle.nsc_reader.specs.Stages.{AtNumber, AtReply, AtSize, AtStage, AtState, AtVersion, Comes, Goes, asked, left_at, reply_in};
 
 use crate::stage::Stage;
 use nsc_base::Buf;
 use nsc_model::{InPlace, KEPT_LIMIT};
 use nsc_rule::{Map, Pass};
 use nsc_words::{KEY, NUMBER, SIZE, STATE, VERSION, size_len, size_not_found};
+
+// How many bytes of a reply are put into the buffer at once, and how many words that is.
+const BLOCK: usize = 64;
+
+const BLOCK_WORDS: usize = 8;
 
 // Loads STATE.
 pub(crate) fn load_state(pass: &mut Pass, map: &Map, place: usize) -> Stage
@@ -21,6 +26,19 @@ pub(crate) fn load_state(pass: &mut Pass, map: &Map, place: usize) -> Stage
         Stage::Size { place }
     } else {
         Stage::Next { place }
+    }
+}
+
+// Loads it where that is the next step.
+pub(crate) fn past_state(stage: Stage, pass: &mut Pass, map: &Map) -> Stage
+    ghost content: { List ℕ }
+    requires map { map.now.table ≡ pass.old.table }
+    requires at { AtStage map.now.layout content stage pass.old }
+    ensures comes { Comes map.now.layout pass.old pass.new content (left_at map.now.layout stage) result }
+{
+    match stage {
+        Stage::State { place } => load_state(pass, map, place),
+        other => other,
     }
 }
 
@@ -42,6 +60,20 @@ pub(crate) fn load_size(pass: &mut Pass, map: &Map, key: &[u8], place: usize) ->
     Stage::Number { place, size }
 }
 
+// Loads it where that is the next step.
+pub(crate) fn past_size(stage: Stage, pass: &mut Pass, map: &Map, key: &[u8]) -> Stage
+    ghost content: { List ℕ }
+    requires map { map.now.table ≡ pass.old.table }
+    requires key { pass.old.searching.request.key ≡ key.now }
+    requires at { AtStage map.now.layout content stage pass.old }
+    ensures comes { Comes map.now.layout pass.old pass.new content (left_at map.now.layout stage) result }
+{
+    match stage {
+        Stage::Size { place } => load_size(pass, map, key, place),
+        other => other,
+    }
+}
+
 // Loads NUMBER.
 pub(crate) fn load_number(pass: &mut Pass, map: &Map, place: usize, size: u64) -> Stage
     requires map { map.now.table ≡ pass.old.table }
@@ -54,6 +86,19 @@ pub(crate) fn load_number(pass: &mut Pass, map: &Map, place: usize, size: u64) -
         place,
         size,
         number,
+    }
+}
+
+// Loads it where that is the next step.
+pub(crate) fn past_number(stage: Stage, pass: &mut Pass, map: &Map) -> Stage
+    ghost content: { List ℕ }
+    requires map { map.now.table ≡ pass.old.table }
+    requires at { AtStage map.now.layout content stage pass.old }
+    ensures comes { Comes map.now.layout pass.old pass.new content (left_at map.now.layout stage) result }
+{
+    match stage {
+        Stage::Number { place, size } => load_number(pass, map, place, size),
+        other => other,
     }
 }
 
@@ -89,6 +134,23 @@ pub(crate) fn load_version(
         number,
         version,
         copied: 0,
+    }
+}
+
+// Loads it where that is the next step.
+pub(crate) fn past_version(stage: Stage, pass: &mut Pass, map: &Map, out: &mut Buf) -> Stage
+    requires map { map.now.table ≡ pass.old.table }
+    requires at { AtStage map.now.layout out.old.content stage pass.old }
+    ensures comes { Comes map.now.layout pass.old pass.new out.new.content (left_at map.now.layout stage) result }
+    ensures limit { out.new.limit ≡ out.old.limit }
+{
+    match stage {
+        Stage::Version {
+            place,
+            size,
+            number,
+        } => load_version(pass, map, out, place, size, number),
+        other => other,
     }
 }
 
@@ -131,6 +193,86 @@ pub(crate) fn load_reply(
                 version,
                 not_found: size_not_found(size),
             },
+        }
+    }
+}
+
+// Loads the next words of the reply, as many as a block has, and puts their bytes into the buffer.
+fn load_block(
+    pass: &mut Pass,
+    map: &Map,
+    key: &[u8],
+    out: &mut Buf,
+    place: usize,
+    size: u64,
+    number: u64,
+    version: u64,
+    copied: usize,
+) -> Stage
+    requires map { map.now.table ≡ pass.old.table }
+    requires key { pass.old.searching.request.key ≡ key.now }
+    requires limit { out.old.limit ≡ kept_limit }
+    requires at { AtReply map.now.layout place size number version copied out.old.content pass.old }
+    ensures comes { Comes map.now.layout pass.old pass.new out.new.content (20000 * place + 8999 - copied) result }
+    ensures limit { out.new.limit ≡ out.old.limit }
+{
+    map.layout();
+    let len = size_len(size) as usize;
+    let from = place + KEY + key.len().div_ceil(8) + copied;
+    let count = (len.div_ceil(8) - copied).min(BLOCK_WORDS);
+    let mut block = [0; BLOCK];
+    for index in 0..count {
+        let word = pass.fixed(map, from + index);
+        block[8 * index..8 * index + 8].copy_from_slice(&word.to_le_bytes());
+    }
+    out.push(&block[..(len - 8 * copied).min(BLOCK)]);
+    if copied + count < len.div_ceil(8) {
+        Stage::Reply {
+            place,
+            size,
+            number,
+            version,
+            copied: copied + count,
+        }
+    } else {
+        Stage::Last {
+            answer: InPlace::Hit {
+                number,
+                version,
+                not_found: size_not_found(size),
+            },
+        }
+    }
+}
+
+// Loads the words of the reply that are left, where that is the next step.
+pub(crate) fn past_reply(
+    stage: Stage,
+    pass: &mut Pass,
+    map: &Map,
+    key: &[u8],
+    out: &mut Buf,
+) -> Stage
+    requires map { map.now.table ≡ pass.old.table }
+    requires key { pass.old.searching.request.key ≡ key.now }
+    requires limit { out.old.limit ≡ kept_limit }
+    requires at { AtStage map.now.layout out.old.content stage pass.old }
+    ensures comes { Comes map.now.layout pass.old pass.new out.new.content (left_at map.now.layout stage) result }
+    ensures limit { out.new.limit ≡ out.old.limit }
+{
+    let mut next = stage;
+    'blocks: loop {
+        match next {
+            Stage::Reply {
+                place,
+                size,
+                number,
+                version,
+                copied,
+            } => {
+                next = load_block(pass, map, key, out, place, size, number, version, copied);
+            }
+            other => return other,
         }
     }
 }

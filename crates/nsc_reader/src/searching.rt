@@ -9,7 +9,8 @@ use nsc_base::Buf;
 use nsc_model::{InPlace, Kind};
 use nsc_rule::{Map, Pass};
 
-/// Searches for the newest usable entry of this kind and key while the one who writes goes on. It takes no lock, no memory and no runtime.
+/// Searches for the newest usable entry of this kind and key while the one who writes goes on. It takes the steps of a walk until that
+/// answers, and no lock, no memory and no runtime.
 pub fn search(pass: &mut Pass, map: &Map, kind: Kind, key: &[u8], out: &mut Buf) -> InPlace
     requires map { map.now.table ≡ pass.old.table }
     requires key { length key.now ≤ key_limit }
@@ -22,6 +23,7 @@ pub fn search(pass: &mut Pass, map: &Map, kind: Kind, key: &[u8], out: &mut Buf)
 {
     let mut walk = Walk::new(kind);
     'walk: loop {
+        walk.past_node(pass, map, key, out);
         if let Some(answer) = walk.step(pass, map, key, out) {
             return answer;
         }

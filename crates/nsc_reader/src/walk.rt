@@ -1,11 +1,16 @@
-ghost use Rattle.std.specs.Prelude.{◌≡◌, ◌≤◌, length};
+ghost use Rattle.std.specs.Prelude.{◌≡◌, ◌≤◌, List, ℕ, length};
 ghost use Rattle.nsc_model.specs.Entry.{key_limit, kept_limit};
-ghost use Rattle.nsc_reader.specs.Stages.{AtStage, IsOpen, HasCome, Steps, answer_in, asked};
+ghost use Rattle.nsc_reader.specs.Stages.{AtStage, Comes, HasCome, IsOpen, Nears, Steps, answer_in, asked, left_at};
 
-use crate::chain::{load_bucket, load_next};
+use crate::chain::{load_bucket, load_next, past_bucket};
 use crate::ends::{load_first, load_last};
-use crate::key::{load_first_word, load_key_word, load_shape};
-use crate::reply::{load_number, load_reply, load_size, load_state, load_version};
+use crate::key::{
+    load_first_word, load_key_word, load_shape, past_first_word, past_key_words, past_shape,
+};
+use crate::reply::{
+    load_number, load_reply, load_size, load_state, load_version, past_number, past_reply,
+    past_size, past_state, past_version,
+};
 use crate::stage::{Progress, Stage};
 use nsc_base::Buf;
 use nsc_model::{InPlace, Kind};
@@ -52,6 +57,59 @@ impl Walk {
         };
         answer_of(self.progress)
     }
+
+    /// Takes the steps of the node where it stands, up to the one that leaves the node or answers. They come in one order, so that none
+    /// costs a look at which is next; the words of a reply go into the buffer by blocks.
+    pub(crate) fn past_node(&mut self, pass: &mut Pass, map: &Map, key: &[u8], out: &mut Buf)
+        ghost content: { List ℕ }
+        requires map { map.now.table ≡ pass.old.table }
+        requires key { length key.now ≤ key_limit }
+        requires limit { out.old.limit ≡ kept_limit }
+        requires content { out.old.content ≡ content }
+        requires stands { HasCome map.now.layout (asked self.old.kind key.now) content pass.old self.old.progress }
+        ensures kind { self.new.kind ≡ self.old.kind }
+        ensures limit { out.new.limit ≡ out.old.limit }
+        ensures nears { Nears map.now.layout (asked self.old.kind key.now) self.old.progress pass.old pass.new out.new.content self.new.progress }
+    {
+        if let Progress::Under { first, stage } = self.progress {
+            let stage = past_key(self.kind, stage, pass, map, key);
+            let stage = past_answer(stage, pass, map, key, out);
+            self.progress = Progress::Under { first, stage };
+        }
+    }
+}
+
+// Takes the steps that compare the key of a node, as long as it is the request's.
+fn past_key(kind: Kind, stage: Stage, pass: &mut Pass, map: &Map, key: &[u8]) -> Stage
+    ghost content: { List ℕ }
+    requires map { map.now.table ≡ pass.old.table }
+    requires request { pass.old.searching.request ≡ asked kind key.now }
+    requires size { length key.now ≤ key_limit }
+    requires at { AtStage map.now.layout content stage pass.old }
+    ensures comes { Comes map.now.layout pass.old pass.new content (left_at map.now.layout stage) result }
+{
+    let stage = past_bucket(stage, pass, map, key);
+    let stage = past_first_word(stage, pass, map, key);
+    let stage = past_shape(kind, stage, pass, map, key);
+    past_key_words(stage, pass, map, key)
+}
+
+// Takes the steps that read the answer of a node, if it is usable.
+fn past_answer(stage: Stage, pass: &mut Pass, map: &Map, key: &[u8], out: &mut Buf) -> Stage
+    ghost content: { List ℕ }
+    requires map { map.now.table ≡ pass.old.table }
+    requires key { pass.old.searching.request.key ≡ key.now }
+    requires limit { out.old.limit ≡ kept_limit }
+    requires content { out.old.content ≡ content }
+    requires at { AtStage map.now.layout content stage pass.old }
+    ensures comes { Comes map.now.layout pass.old pass.new out.new.content (left_at map.now.layout stage) result }
+    ensures limit { out.new.limit ≡ out.old.limit }
+{
+    let stage = past_state(stage, pass, map);
+    let stage = past_size(stage, pass, map, key);
+    let stage = past_number(stage, pass, map);
+    let stage = past_version(stage, pass, map, out);
+    past_reply(stage, pass, map, key, out)
 }
 
 // The answer, where there is one.

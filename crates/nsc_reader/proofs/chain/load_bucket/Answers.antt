@@ -18,6 +18,7 @@ returns c =
     record {
       goes = λ content. record {
         keeps = keeps_went layout p new c.bucket-found.result told.table told.seen told.lands;
+        steps = ap (λ (w : Search). w.steps) told.lands.searching;
         at = subst (λ (l : Layout). AtStage l content c.arrive.result new) same (c.arrive.ensures.at content new key (subst (λ (l : Layout). Arrives l c.bucket-found.result new) (sym same) at));
         fewer = subst (λ (l : Layout). left_at l c.arrive.result < 20000 * table_words l) same c.arrive.ensures.fewer;
       };

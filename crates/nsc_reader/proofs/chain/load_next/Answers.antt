@@ -16,6 +16,7 @@ returns-then-found-place c =
     record {
       goes = λ content. record {
         keeps = keeps_went layout p new c.next-found.result told.table told.seen told.lands;
+        steps = ap (λ (w : Search). w.steps) told.lands.searching;
         at = next_wrong layout content p new c.args.place c.next-found.result at (subst (λ (n : ℕ). IsSteady new.searching → c.next-found.result < n) c.requires.at.node.place_is told.lower) c.if-found-place.true;
         fewer = omega arith;
       };
@@ -33,6 +34,7 @@ returns c =
     record {
       goes = λ content. record {
         keeps = keeps_went layout p new c.next-found.result told.table told.seen told.lands;
+        steps = ap (λ (w : Search). w.steps) told.lands.searching;
         at = subst (λ (l : Layout). AtStage l content c.arrive.result new) same (c.arrive.ensures.at content new key (subst (λ (l : Layout). Arrives l c.next-found.result new) (sym same) at));
         fewer = subst (λ (l : Layout). left_at l c.arrive.result < 20000 * c.args.place + 2) same (c.arrive.ensures.lower c.args.place c.if-found-place.false);
       };

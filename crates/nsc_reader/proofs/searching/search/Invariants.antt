@@ -13,3 +13,6 @@ invariant-walk l = record {
 
 abbrev pub decreases-walk : goal.decreases-walk
 decreases-walk l = left l.map.layout l.walk.progress
+
+abbrev pub ghost-past_node : goal.ghost-past_node
+ghost-past_node a = a.out.now.content
