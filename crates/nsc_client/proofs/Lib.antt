@@ -4,3 +4,6 @@ pub mod Later
 pub mod FallenBack
 pub mod Passes
 pub mod Answering
+pub mod LinesRead
+pub mod Exchanges
+pub mod Connections

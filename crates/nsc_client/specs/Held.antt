@@ -24,5 +24,5 @@ ComesOrEnds before after held new false = ComesIn before after held new × (new 
 abbrev pub GivesNone : StreamAt → StreamAt → List ℕ → Gated → Type 0
 GivesNone before after held (gated.TooLongLine size) = (after ≡ before) × (size ≡ line_limit + 1) × (line_limit < length held)
 GivesNone before after held gated.ReadFault = (after.bytes ≡ before.bytes) × Rose before.faults after.faults × (length held ≤ line_limit)
-GivesNone before after held (gated.Refused link.NoMemory) = after ≡ before
+GivesNone before after held (gated.Refused link.NoMemory) = (after ≡ before) × (length held ≤ line_limit)
 GivesNone before after held _ = ⊥

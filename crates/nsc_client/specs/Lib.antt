@@ -5,5 +5,7 @@ pub mod GateText
 pub mod Sent
 pub mod Gate
 pub mod Replying
+pub mod Exchanges
+pub mod LinesRead
 pub mod Serving
 pub mod Held

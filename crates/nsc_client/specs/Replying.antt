@@ -21,7 +21,7 @@ use Rattle.nsc_client.specs.Sent.{CanBeSent}
 
 -- ---- one request of one store
 
--- a reply was asked for by a search in place, and answers the request
+-- a reply answers the request, after at least one search in place
 pub record IsReplied {S P : Type 0} (g : store.Ghosts S P) (before after : P) (request : Request) (reply : Reply) : Type 0 where
   pub bytes : List ℕ
   pub answered : Answered (g.seen before) (g.seen after) request bytes
@@ -41,7 +41,7 @@ IsRefusedAt g base before after request refused = (cause : LookupFault) × (refu
 
 -- ---- the four stores
 
--- a reply was asked for by a search in place, and answers the request
+-- a reply answers the request, after at least one search in place
 pub record IsGiven {S P : Type 0} (g : store.Ghosts S P) (before after : Databases P) (request : Request) (reply : Reply) : Type 0 where
   pub told : IsTold g before after (record { request = request; reply = reply })
   pub searched : searches_of g before + 1 ≤ searches_of g after
@@ -52,7 +52,7 @@ abbrev pub said : Option Reply → List ℕ
 said None = codes "bad line"
 said (Some reply) = reply_text reply
 
--- what was asked for a line, by as many searches in place, and the last reply, where there is one
+-- what was asked for a line, after at least as many searches in place, and the last reply, where there is one
 pub record IsAnswered {S P : Type 0} (g : store.Ghosts S P) (before after : Databases P) (asking : Asking) (last : Option Reply) : Type 0 where
   pub asked : List Told
   pub are_asked : AreAsked asking asked

@@ -1,44 +1,111 @@
--- One line of a connection to the gate.
-use Rattle.std.specs.Prelude.{◌≡◌, ℕ, ◌+◌, ◌<◌, ◌≤◌, List, All, length}
-use Rattle.nsc_outside.specs.Stream.{Grows, GrowsByFront}
+-- What came of a connection to the gate, and of one of its lines.
+use Rattle.std.specs.Prelude.{◌≡◌, ◌≢◌, ℕ, ◌+◌, ◌<◌, ◌≤◌, List, [], ◌∷◌, length, min}
+use Rattle.nsc_outside.specs.Stream.{IsDrained}
 use Rattle.nsc_outside.specs.StreamAt.{StreamAt}
 use Rattle.nsc_model.specs.declared.databases.Databases.{Databases}
 use Rattle.nsc_model.specs.declared.store.Store as store
+use Rattle.nsc_model.specs.Machine.{last_count}
 use Rattle.nsc_model.specs.Reads.{Rose}
 use Rattle.nsc_client.specs.declared.gate.Gated.{Gated}
 use Rattle.nsc_client.specs.declared.gate.Gated.TheVariants as gated
-use Rattle.nsc_client.specs.Gate.{AreCalm, IsRefusal, IsTold, requests_of, searches_of}
-use Rattle.nsc_client.specs.GateText.{GateText, Told, asking_of, line_limit}
+use Rattle.nsc_client.specs.declared.link.LinkFault.{LinkFault}
+use Rattle.nsc_client.specs.declared.link.LinkFault.TheVariants as link
+use Rattle.nsc_client.specs.Exchanges.{TakesAnswers, TakesFront}
+use Rattle.nsc_client.specs.Gate.{IsRefusal, SeeMore, requests_of}
+use Rattle.nsc_client.specs.GateText.{asking_of, line_limit}
+use Rattle.nsc_client.specs.LinesRead.{BeginsWithLine, HasNoNewline, ReadsAll, ReadsFirst, ReadsLines, front_line}
 
--- the line that answers a line, by what was asked for it, by as many searches in place
-pub record IsAnswerLine {S P : Type 0} (g : store.Ghosts S P) (before after : Databases P) (line text : List ℕ) : Type 0 where
-  pub asked : List Told
-  pub text_is : GateText line asked text
-  pub told : All (IsTold g before after) asked
-  pub searched : searches_of g before + length asked ≤ searches_of g after
-  pub calm : AreCalm g before after
+-- ---- one line
 
--- a line was answered, and the output took the answer
-pub record IsServed {S P : Type 0} (g : store.Ghosts S P) (before after : Databases P) (output output' : StreamAt) (line : List ℕ) : Type 0 where
-  pub text : List ℕ
-  pub answered : IsAnswerLine g before after line text
-  pub grown : Grows output.bytes output'.bytes text
-  pub calm : output'.faults ≡ output.faults
-
--- a line was answered, and the output failed, and took a front of the answer
-pub record IsCut {S P : Type 0} (g : store.Ghosts S P) (before after : Databases P) (output output' : StreamAt) (line : List ℕ) : Type 0 where
-  pub text : List ℕ
-  pub answered : IsAnswerLine g before after line text
-  pub front : GrowsByFront output.bytes output'.bytes text
-  pub failed : Rose output.faults output'.faults
-
--- why a line was not served: it was refused, and nothing was written; or the output failed
+-- why a line was not answered: it was refused, and nothing was written; or the output failed
 abbrev pub IsUnserved : {S P : Type 0} → store.Ghosts S P → Databases S → Databases P → Databases P → StreamAt → StreamAt → List ℕ → Gated → Type 0
 IsUnserved g stores before after output output' line (gated.Refused refused) = IsRefusal g stores before after (requests_of (asking_of line)) refused × (output' ≡ output)
-IsUnserved g stores before after output output' line gated.WriteFault = IsCut g before after output output' line
+IsUnserved g stores before after output output' line gated.WriteFault = TakesFront g before after output output' (line ∷ [])
 IsUnserved g stores before after output output' line _ = ⊥
 
 -- the same of a line that may be too long
 abbrev pub IsStopped : {S P : Type 0} → store.Ghosts S P → Databases S → Databases P → Databases P → StreamAt → StreamAt → List ℕ → Gated → Type 0
 IsStopped g stores before after output output' line (gated.TooLongLine size) = (size ≡ line_limit + 1) × (line_limit < length line) × (after ≡ before) × (output' ≡ output)
 IsStopped g stores before after output output' line by = (length line ≤ line_limit) × IsUnserved g stores before after output output' line by
+
+-- ---- a connection
+
+-- at one moment: the passes, what the input has left, and what the output took
+pub record GateAt (P : Type 0) : Type 0 where
+  pub passes : Databases P
+  pub input : StreamAt
+  pub output : StreamAt
+
+abbrev pub gate_at : {P : Type 0} → Databases P → StreamAt → StreamAt → GateAt P
+gate_at passes input output = record { passes = passes; input = input; output = output }
+
+-- the input was read to its end, and each of its lines was answered; their number stays at its end
+pub record AnswersAll {S P : Type 0} (g : store.Ghosts S P) (before after : GateAt P) (count : ℕ) : Type 0 where
+  pub lines : List (List ℕ)
+  pub read : ReadsAll before.input.bytes after.input.bytes lines
+  pub answered : TakesAnswers g before.passes after.passes before.output after.output lines
+  pub counted : count ≡ min (length lines) last_count
+  pub calm : after.input.faults ≡ before.input.faults
+
+-- whole lines were read and answered; the rest was read after them, and is not answered
+pub record StopsAfter {S P : Type 0} (g : store.Ghosts S P) (before after : GateAt P) (lines : List (List ℕ)) (rest : List ℕ) : Type 0 where
+  pub read : ReadsLines before.input.bytes after.input.bytes lines rest
+  pub answered : TakesAnswers g before.passes after.passes before.output after.output lines
+
+-- so many lines, whose number stays at its end
+pub record HasAnswered {S P : Type 0} (g : store.Ghosts S P) (before after : GateAt P) (count : ℕ) (rest : List ℕ) : Type 0 where
+  pub lines : List (List ℕ)
+  pub stops : StopsAfter g before after lines rest
+  pub counted : count ≡ min (length lines) last_count
+  pub goes_on : SeeMore g before.passes after.passes
+  pub calm : after.input.faults ≡ before.input.faults
+
+-- so many lines with newlines, and the input ended after the rest, which has none
+pub record AnswersEnded {S P : Type 0} (g : store.Ghosts S P) (before after : GateAt P) (count : ℕ) (rest : List ℕ) : Type 0 where
+  pub has : HasAnswered g before after count rest
+  pub lone : HasNoNewline rest
+  pub drained : IsDrained after.input.bytes
+
+-- the next line is too long
+pub record MeetsTooLong {S P : Type 0} (g : store.Ghosts S P) (before after : GateAt P) (size : ℕ) : Type 0 where
+  pub lines : List (List ℕ)
+  pub rest : List ℕ
+  pub stops : StopsAfter g before after lines rest
+  pub long : line_limit < length (front_line rest)
+  pub counted : size ≡ line_limit + 1
+  pub calm : after.input.faults ≡ before.input.faults
+
+-- the next line was refused, by the passes as the lines before it left them; it is whole, unless memory was wanting
+pub record MeetsRefusal {S P : Type 0} (g : store.Ghosts S P) (stores : Databases S) (before after : GateAt P) (refused : LinkFault) : Type 0 where
+  pub lines : List (List ℕ)
+  pub rest : List ℕ
+  pub between : Databases P
+  pub stops : StopsAfter g before (record after { passes = between }) lines rest
+  pub refusal : IsRefusal g stores between after.passes (requests_of (asking_of (front_line rest))) refused
+  pub goes_on : SeeMore g between after.passes
+  pub fits : length (front_line rest) ≤ line_limit
+  pub whole : refused ≢ link.NoMemory → BeginsWithLine rest after.input.bytes
+  pub calm : after.input.faults ≡ before.input.faults
+
+-- the input failed, and all whole lines that were read are answered
+pub record InputFails {S P : Type 0} (g : store.Ghosts S P) (before after : GateAt P) : Type 0 where
+  pub lines : List (List ℕ)
+  pub rest : List ℕ
+  pub stops : StopsAfter g before after lines rest
+  pub part : HasNoNewline rest
+  pub failed : Rose before.input.faults after.input.faults
+
+-- the output failed, at the answers to the lines that were read first
+pub record OutputFails {S P : Type 0} (g : store.Ghosts S P) (before after : GateAt P) : Type 0 where
+  pub lines : List (List ℕ)
+  pub read : ReadsFirst before.input.bytes after.input.bytes lines
+  pub taken : TakesFront g before.passes after.passes before.output after.output lines
+  pub calm : after.input.faults ≡ before.input.faults
+
+-- what came of a connection
+abbrev pub ServesGate : {S P : Type 0} → store.Ghosts S P → Databases S → GateAt P → GateAt P → Gated → Type 0
+ServesGate g stores before after (gated.Done count) = AnswersAll g before after count
+ServesGate g stores before after (gated.TooLongLine size) = MeetsTooLong g before after size
+ServesGate g stores before after gated.ReadFault = InputFails g before after
+ServesGate g stores before after gated.WriteFault = OutputFails g before after
+ServesGate g stores before after (gated.Refused refused) = MeetsRefusal g stores before after refused

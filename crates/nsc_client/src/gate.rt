@@ -1,11 +1,11 @@
-ghost use Rattle.std.specs.Prelude.{◌≡◌, ◌<◌, ◌≤◌, ◌^◌, IfErr, IfOk, OnOk, length};
+ghost use Rattle.std.specs.Prelude.{◌≡◌, ◌<◌, ◌≤◌, ◌^◌, ◌∷◌, [], IfErr, IfOk, OnOk, drop, length};
 ghost use Rattle.nsc_outside.specs.StreamAt.{stream_in, stream_out};
-ghost use Rattle.nsc_client.specs.declared.link.LinkFault.TheVariants.{NoMemory as Memory};
+ghost use Rattle.nsc_model.specs.Entry.{kept_limit};
+ghost use Rattle.nsc_client.specs.Exchanges.{TakesAnswers};
+ghost use Rattle.nsc_client.specs.Gate.{AreNamed, ArePasses, SeeMore};
 ghost use Rattle.nsc_client.specs.GateText.{line_limit};
 ghost use Rattle.nsc_client.specs.Held.{ComesOrEnds, GivesNone};
-ghost use Rattle.nsc_client.specs.Serving.{IsServed, IsStopped};
-ghost use Rattle.nsc_model.specs.Entry.{kept_limit};
-ghost use Rattle.nsc_client.specs.Gate.{AreNamed, ArePasses, SeeMore};
+ghost use Rattle.nsc_client.specs.Serving.{AnswersAll, AnswersEnded, IsStopped, ServesGate, gate_at};
 
 use crate::line::cut_at;
 use crate::link::LinkFault;
@@ -64,6 +64,7 @@ pub fn serve_gate<RT: AllocGlobal + Wait, S: Store, R: Source, K: Sink>(
     ensures passes { ArePasses S.Store stores.now passes.new }
     ensures limit { out.new.limit ≡ out.old.limit }
     ensures seen { SeeMore S.Store passes.old passes.new }
+    ensures served { ServesGate S.Store stores.now (gate_at passes.old (stream_in R.Source conn_in.old) (stream_out K.Sink conn_out.old)) (gate_at passes.new (stream_in R.Source conn_in.new) (stream_out K.Sink conn_out.new)) result }
 {
     match serve_lines(rt, stores, passes, out, conn_in, conn_out, now) {
         Ok(lines) => Gated::Done { lines },
@@ -88,24 +89,56 @@ fn serve_lines<RT: AllocGlobal + Wait, S: Store, R: Source, K: Sink>(
     ensures passes { ArePasses S.Store stores.now passes.new }
     ensures limit { out.new.limit ≡ out.old.limit }
     ensures seen { SeeMore S.Store passes.old passes.new }
+    ensures answered { IfOk result (AnswersAll S.Store (gate_at passes.old (stream_in R.Source conn_in.old) (stream_out K.Sink conn_out.old)) (gate_at passes.new (stream_in R.Source conn_in.new) (stream_out K.Sink conn_out.new))) }
+    ensures stopped { IfErr result (ServesGate S.Store stores.now (gate_at passes.old (stream_in R.Source conn_in.old) (stream_out K.Sink conn_out.old)) (gate_at passes.new (stream_in R.Source conn_in.new) (stream_out K.Sink conn_out.new))) }
 {
-    // The bytes that came and are not answered.
-    let mut held = Vec::new(rt.alloc());
-    let mut lines = 0;
-    for _ in rt.forever() {
-        if let Some((line, rest)) = cut_at(held.as_slice(), b'\n') {
-            serve_short(rt, stores, passes, out, conn_out, line, now)?;
-            held = copied(rt.alloc(), rest)?;
-            lines = next_count(lines);
-        } else if !read_more(conn_in, &mut held)? {
-            break;
-        }
-    }
-    if held.is_empty() {
+    let (rest, lines) = serve_ended(rt, stores, passes, out, conn_in, conn_out, now)?;
+    let last = rest.as_slice();
+    if last.is_empty() {
         return Ok(lines);
     }
-    serve_short(rt, stores, passes, out, conn_out, held.as_slice(), now)?;
+    serve_short(rt, stores, passes, out, conn_out, last, now)?;
     Ok(next_count(lines))
+}
+
+// Answers each line of the input that a newline ends, and gives what comes after the last one, and their number, which stays at 2^62.
+fn serve_ended<RT: AllocGlobal + Wait, S: Store, R: Source, K: Sink>(
+    rt: &RT,
+    stores: &Databases<S>,
+    passes: &mut Databases<S::Pass>,
+    out: &mut Buf,
+    conn_in: &mut R,
+    conn_out: &mut K,
+    now: u64,
+) -> Result<(Vec<u8>, u64), Gated>
+    requires named { AreNamed S.Store stores.now }
+    requires passes { ArePasses S.Store stores.now passes.old }
+    requires limit { out.old.limit ≡ kept_limit }
+    requires moment { now < 2 ^ 62 }
+    ensures passes { ArePasses S.Store stores.now passes.new }
+    ensures limit { out.new.limit ≡ out.old.limit }
+    ensures seen { SeeMore S.Store passes.old passes.new }
+    ensures answered { IfOk result (λ end. AnswersEnded S.Store (gate_at passes.old (stream_in R.Source conn_in.old) (stream_out K.Sink conn_out.old)) (gate_at passes.new (stream_in R.Source conn_in.new) (stream_out K.Sink conn_out.new)) end.1 end.0.items) }
+    ensures stopped { IfErr result (ServesGate S.Store stores.now (gate_at passes.old (stream_in R.Source conn_in.old) (stream_out K.Sink conn_out.old)) (gate_at passes.new (stream_in R.Source conn_in.new) (stream_out K.Sink conn_out.new))) }
+{
+    // The bytes that came, and from where on they are not answered.
+    let mut held = Vec::new(rt.alloc());
+    let mut at = 0;
+    let mut lines = 0;
+    for _ in rt.forever() {
+        if let Some((line, _)) = cut_at(&held[at..], b'\n') {
+            serve_short(rt, stores, passes, out, conn_out, line, now)?;
+            at += line.len() + 1;
+            lines = next_count(lines);
+        } else {
+            drop_front(&mut held, at);
+            at = 0;
+            if !read_more(conn_in, &mut held)? {
+                return Ok((held, lines));
+            }
+        }
+    }
+    unreachable!()
 }
 
 // Serves a line, unless it is too long.
@@ -126,7 +159,7 @@ fn serve_short<RT: AllocGlobal + Wait, S: Store, K: Sink>(
     ensures limit { out.new.limit ≡ out.old.limit }
     ensures seen { SeeMore S.Store passes.old passes.new }
     ensures fits { OnOk result (length line.now ≤ line_limit) }
-    ensures served { OnOk result (IsServed S.Store passes.old passes.new (stream_out K.Sink conn_out.old) (stream_out K.Sink conn_out.new) line.now) }
+    ensures served { OnOk result (TakesAnswers S.Store passes.old passes.new (stream_out K.Sink conn_out.old) (stream_out K.Sink conn_out.new) (line.now ∷ [])) }
     ensures unserved { IfErr result (IsStopped S.Store stores.now passes.old passes.new (stream_out K.Sink conn_out.old) (stream_out K.Sink conn_out.new) line.now) }
 {
     if line.len() > LINE_LIMIT {
@@ -157,13 +190,10 @@ fn read_more<R: Source>(conn_in: &mut R, held: &mut Vec<u8>) -> Result<bool, Gat
     }
 }
 
-// A copy of bytes.
-fn copied(alloc: Global, bytes: &[u8]) -> Result<Vec<u8>, Gated>
-    ensures copy { IfOk result (λ copy. copy.items ≡ bytes.now) }
-    ensures fault { IfErr result (λ gated. gated ≡ Gated.Refused Memory) }
+// Drops so many bytes at the front.
+fn drop_front(held: &mut Vec<u8>, count: usize)
+    requires { count ≤ length held.old.items }
+    ensures { held.new.items ≡ drop count held.old.items }
 {
-    match Vec::from_slice(alloc, bytes) {
-        Ok(copy) => Ok(copy),
-        Err(_) => Err(Gated::Refused(LinkFault::NoMemory)),
-    }
+    held.drain(..count);
 }

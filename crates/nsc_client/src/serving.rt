@@ -1,9 +1,10 @@
-ghost use Rattle.std.specs.Prelude.{◌≡◌, ◌<◌, ◌^◌, IfErr, IfOk, OnOk};
+ghost use Rattle.std.specs.Prelude.{◌≡◌, ◌<◌, ◌≤◌, ◌^◌, ◌∷◌, [], IfErr, IfOk, OnOk, length};
 ghost use Rattle.nsc_outside.specs.StreamAt.{stream_out};
 ghost use Rattle.nsc_model.specs.Entry.{kept_limit};
+ghost use Rattle.nsc_client.specs.Exchanges.{AreAnswered, TakesAnswers};
 ghost use Rattle.nsc_client.specs.Gate.{AreNamed, ArePasses, IsRefusal, SeeMore, requests_of};
-ghost use Rattle.nsc_client.specs.GateText.{asking_of};
-ghost use Rattle.nsc_client.specs.Serving.{IsAnswerLine, IsServed, IsUnserved};
+ghost use Rattle.nsc_client.specs.GateText.{asking_of, line_limit};
+ghost use Rattle.nsc_client.specs.Serving.{IsUnserved};
 
 use crate::answers::{answer_line, answer_to};
 use crate::gate::Gated;
@@ -15,7 +16,7 @@ use nsc_outside::{Sink, write_all};
 use std::alloc::Global;
 use std::sync::Wait;
 
-/// Answers a line at this moment, and writes the answer.
+/// Answers a line of at most 1,100 bytes at this moment, and writes the answer.
 pub(crate) fn serve_line<RT: AllocGlobal + Wait, S: Store, K: Sink>(
     rt: &RT,
     stores: &Databases<S>,
@@ -29,10 +30,11 @@ pub(crate) fn serve_line<RT: AllocGlobal + Wait, S: Store, K: Sink>(
     requires passes { ArePasses S.Store stores.now passes.old }
     requires limit { out.old.limit ≡ kept_limit }
     requires moment { now < 2 ^ 62 }
+    requires fits { length line.now ≤ line_limit }
     ensures passes { ArePasses S.Store stores.now passes.new }
     ensures limit { out.new.limit ≡ out.old.limit }
     ensures seen { SeeMore S.Store passes.old passes.new }
-    ensures served { OnOk result (IsServed S.Store passes.old passes.new (stream_out K.Sink conn_out.old) (stream_out K.Sink conn_out.new) line.now) }
+    ensures served { OnOk result (TakesAnswers S.Store passes.old passes.new (stream_out K.Sink conn_out.old) (stream_out K.Sink conn_out.new) (line.now ∷ [])) }
     ensures unserved { IfErr result (IsUnserved S.Store stores.now passes.old passes.new (stream_out K.Sink conn_out.old) (stream_out K.Sink conn_out.new) line.now) }
 {
     match line_text(rt, rt.alloc(), stores, passes, out, line, now) {
@@ -58,10 +60,11 @@ fn line_text<R: Wait, S: Store>(
     requires passes { ArePasses S.Store stores.now passes.old }
     requires limit { out.old.limit ≡ kept_limit }
     requires moment { now < 2 ^ 62 }
+    requires fits { length line.now ≤ line_limit }
     ensures passes { ArePasses S.Store stores.now passes.new }
     ensures limit { out.new.limit ≡ out.old.limit }
     ensures seen { SeeMore S.Store passes.old passes.new }
-    ensures answered { IfOk result (λ text. IsAnswerLine S.Store passes.old passes.new line.now text.items) }
+    ensures answered { IfOk result (λ text. AreAnswered S.Store passes.old passes.new (line.now ∷ []) text.items) }
     ensures refused { IfErr result (IsRefusal S.Store stores.now passes.old passes.new (requests_of (asking_of line.now))) }
 {
     let asking = match read_line(alloc, line) {
