@@ -17,7 +17,7 @@ use Rattle.nsc_model.specs.History.{Answered, IsPrefix, Legal}
 use Rattle.nsc_model.specs.Kinds.{database_of}
 use Rattle.nsc_model.specs.Stores.{Continues}
 use Rattle.nsc_model.specs.Wire.{Spells}
-use Rattle.nsc_client.specs.declared.line.Asking.TheVariants.{Bad, One, HostNamed}
+use Rattle.nsc_client.specs.declared.line.LineAsks.TheVariants.{Bad, One, HostNamed}
 use Rattle.nsc_client.specs.declared.link.LinkFault.{LinkFault}
 use Rattle.nsc_client.specs.Gate.{AreCalm, GaveUp, IsCause, IsRefusal, IsTold, SeeMore, requests_of, seen_in}
 use Rattle.nsc_client.specs.GateText.{Told, has_entry, told}

@@ -16,8 +16,8 @@ use Rattle.nsc_model.specs.Reads.{FaultsStay}
 use Rattle.nsc_model.specs.Stores.{Continues, GivesUp}
 use Rattle.nsc_model.specs.Wire.{Spells}
 use Rattle.nsc_client.specs.declared.link.LinkFault.{LinkFault}
-use Rattle.nsc_client.specs.declared.line.Asking.{Asking}
-use Rattle.nsc_client.specs.declared.line.Asking.TheVariants.{Bad, One, HostNamed}
+use Rattle.nsc_client.specs.declared.line.LineAsks.{LineAsks}
+use Rattle.nsc_client.specs.declared.line.LineAsks.TheVariants.{Bad, One, HostNamed}
 use Rattle.nsc_client.specs.GateText.{Told}
 use Rattle.nsc_client.specs.Links.{fault_of}
 
@@ -60,7 +60,7 @@ pub record IsTold {S P : Type 0} (g : store.Ghosts S P) (before after : Database
 -- ---- refusals
 
 -- the requests that a line may ask
-abbrev pub requests_of : Asking → List Request
+abbrev pub requests_of : LineAsks → List Request
 requests_of Bad = []
 requests_of (One request) = request ∷ []
 requests_of (HostNamed name) = record { kind = kind.HostName; key = name } ∷ record { kind = kind.HostName6; key = name } ∷ []

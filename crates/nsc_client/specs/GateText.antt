@@ -21,8 +21,8 @@ use Rattle.nsc_model.specs.Entry.{key_limit}
 use Rattle.nsc_model.specs.Hosts.{ipv4}
 use Rattle.nsc_model.specs.Kinds.{db_named}
 use Rattle.nsc_model.specs.ServiceLines.{exchanged, port_of, service_key}
-use Rattle.nsc_client.specs.declared.line.Asking.{Asking}
-use Rattle.nsc_client.specs.declared.line.Asking.TheVariants.{Bad, One, HostNamed}
+use Rattle.nsc_client.specs.declared.line.LineAsks.{LineAsks}
+use Rattle.nsc_client.specs.declared.line.LineAsks.TheVariants.{Bad, One, HostNamed}
 
 -- a line has at most so many bytes, its newline not counted
 abbrev pub line_limit : ℕ
@@ -31,27 +31,27 @@ line_limit = 1100
 -- ---- what a line asks
 
 -- a request whose key is too long is not asked
-abbrev pub one : Kind → List ℕ → Asking
+abbrev pub one : Kind → List ℕ → LineAsks
 one kind key = if nat_lt key_limit (length key) then Bad else One (record { kind = kind; key = key })
 
 -- by id where the key is a number below 2 ^ 32 in decimal, else by name
-abbrev pub by_id_or_name : Kind → Kind → List ℕ → Asking
+abbrev pub by_id_or_name : Kind → Kind → List ℕ → LineAsks
 by_id_or_name by_id by_name key = one (if is_some (decimal_of key) then by_id else by_name) key
 
 -- by address where the key is one, whose bytes are asked for, else by name
-abbrev pub by_address_or_name : Option (List ℕ) → Option (List ℕ) → List ℕ → Asking
+abbrev pub by_address_or_name : Option (List ℕ) → Option (List ℕ) → List ℕ → LineAsks
 by_address_or_name (Some address) v6 key = one kind.HostAddr address
 by_address_or_name None (Some address) key = one kind.HostAddr6 address
 by_address_or_name None None key = HostNamed key
 
 -- by port where one stands before the last slash of the key, which is asked for as it is sent: in decimal, once its two bytes are
 -- exchanged; else by name
-abbrev pub by_port_or_name : Option ℕ → List ℕ → List ℕ → Asking
+abbrev pub by_port_or_name : Option ℕ → List ℕ → List ℕ → LineAsks
 by_port_or_name (Some port) proto key = one kind.ServPort (decimal (exchanged port) ++ 47 ∷ proto)
 by_port_or_name None proto key = one kind.ServName key
 
 -- what a key asks of a database
-abbrev pub asking_in : Option Db → List ℕ → Asking
+abbrev pub asking_in : Option Db → List ℕ → LineAsks
 asking_in None key = Bad
 asking_in (Some db.Passwd) key = by_id_or_name kind.PwUid kind.PwName key
 asking_in (Some db.Group) key = by_id_or_name kind.GrGid kind.GrName key
@@ -66,7 +66,7 @@ abbrev pub is_key : List ℕ → Bool
 is_key key = is_filled key && not (list_any is_white key) && not (nat_lt key_limit (length key))
 
 -- the name of a database, one blank and a key
-abbrev pub asking_of : List ℕ → Asking
+abbrev pub asking_of : List ℕ → LineAsks
 asking_of line =
     if list_any is_blank line && is_key (after_first is_blank line) then asking_in (db_named (before_first is_blank line)) (after_first is_blank line) else Bad
 
@@ -87,7 +87,7 @@ has_entry Absent = false
 has_entry Disabled = false
 
 -- the requests that were asked, in their order: none, or one; or a host by name, and once more where the first reply has none
-abbrev pub AreAsked : Asking → List Told → Type 0
+abbrev pub AreAsked : LineAsks → List Told → Type 0
 AreAsked Bad asked = asked ≡ []
 AreAsked (One request) asked = (reply : Reply) × (asked ≡ record { request = request; reply = reply } ∷ [])
 AreAsked (HostNamed name) asked =

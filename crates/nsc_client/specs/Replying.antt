@@ -11,8 +11,8 @@ use Rattle.nsc_model.specs.History.{Answered, Legal}
 use Rattle.nsc_model.specs.Reads.{FaultsStay}
 use Rattle.nsc_model.specs.Stores.{GivesUp}
 use Rattle.nsc_model.specs.Wire.{Spells}
-use Rattle.nsc_client.specs.declared.line.Asking.{Asking}
-use Rattle.nsc_client.specs.declared.line.Asking.TheVariants.{Bad, One, HostNamed}
+use Rattle.nsc_client.specs.declared.line.LineAsks.{LineAsks}
+use Rattle.nsc_client.specs.declared.line.LineAsks.TheVariants.{Bad, One, HostNamed}
 use Rattle.nsc_client.specs.declared.link.LinkFault.{LinkFault}
 use Rattle.nsc_client.specs.Gate.{AreCalm, IsTold, searches_of}
 use Rattle.nsc_client.specs.GateText.{AreAsked, Told, answer_text, reply_text}
@@ -53,7 +53,7 @@ said None = codes "bad line"
 said (Some reply) = reply_text reply
 
 -- what was asked for a line, after at least as many searches in place, and the last reply, where there is one
-pub record IsAnswered {S P : Type 0} (g : store.Ghosts S P) (before after : Databases P) (asking : Asking) (last : Option Reply) : Type 0 where
+pub record IsAnswered {S P : Type 0} (g : store.Ghosts S P) (before after : Databases P) (asking : LineAsks) (last : Option Reply) : Type 0 where
   pub asked : List Told
   pub are_asked : AreAsked asking asked
   pub told : All (IsTold g before after) asked
@@ -63,7 +63,7 @@ pub record IsAnswered {S P : Type 0} (g : store.Ghosts S P) (before after : Data
   pub sent : IfSome last CanBeSent
 
 -- no key is too long
-abbrev pub KeysFit : Asking → Type 0
+abbrev pub KeysFit : LineAsks → Type 0
 KeysFit Bad = Unit {0}
 KeysFit (One request) = length request.key ≤ key_limit
 KeysFit (HostNamed name) = length name ≤ key_limit

@@ -1,12 +1,12 @@
 ghost use Rattle.std.specs.Prelude.{◌≡◌, ◌≤◌, ◌<◌, ◌^◌, ◌++◌, ◌∷◌, [], length, IfErr, IfOk, IfSome, Some};
 ghost use Rattle.nsc_model.specs.Entry.{key_limit, kept_limit};
-ghost use Rattle.nsc_client.specs.declared.line.Asking.TheVariants.{HostNamed};
+ghost use Rattle.nsc_client.specs.declared.line.LineAsks.TheVariants.{HostNamed};
 ghost use Rattle.nsc_client.specs.Gate.{AreNamed, ArePasses, IsRefusal, SeeMore, requests_of};
 ghost use Rattle.nsc_client.specs.GateText.{has_entry};
 ghost use Rattle.nsc_client.specs.Replying.{IsAnswered, KeysFit, said};
 ghost use Rattle.nsc_client.specs.Sent.{CanBeSent};
 
-use crate::line::Asking;
+use crate::line::LineAsks;
 use crate::link::LinkFault;
 use crate::replies::reply_to;
 use crate::texts::put_reply;
@@ -22,7 +22,7 @@ pub(crate) fn answer_to<R: Wait, S: Store>(
     stores: &Databases<S>,
     passes: &mut Databases<S::Pass>,
     out: &mut Buf,
-    asking: &Asking,
+    asking: &LineAsks,
     now: u64,
 ) -> Result<Option<Reply>, LinkFault>
     requires named { AreNamed S.Store stores.now }
@@ -37,13 +37,13 @@ pub(crate) fn answer_to<R: Wait, S: Store>(
     ensures refused { IfErr result (IsRefusal S.Store stores.now passes.old passes.new (requests_of asking.now)) }
 {
     match asking {
-        Asking::Bad => Ok(None),
-        Asking::One(request) => {
+        LineAsks::Bad => Ok(None),
+        LineAsks::One(request) => {
             let key = request.key.as_slice();
             let reply = reply_to(rt, alloc, stores, passes, out, request.kind, key, now)?;
             Ok(Some(reply))
         }
-        Asking::HostNamed(name) => {
+        LineAsks::HostNamed(name) => {
             let reply = host_named(rt, alloc, stores, passes, out, name.as_slice(), now)?;
             Ok(Some(reply))
         }

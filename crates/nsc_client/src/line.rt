@@ -18,7 +18,7 @@ use std::alloc::Global;
 
 /// What a line asks.
 #[derive(Debug, Drop)]
-pub(crate) enum Asking {
+pub(crate) enum LineAsks {
     // Nothing, since the line is bad.
     Bad,
     // One request.
@@ -28,13 +28,13 @@ pub(crate) enum Asking {
 }
 
 /// What a line asks: the name of a database, one blank and a key. Fails only for want of memory.
-pub(crate) fn read_line(alloc: Global, line: &[u8]) -> Result<Asking, NoMemory>
+pub(crate) fn read_line(alloc: Global, line: &[u8]) -> Result<LineAsks, NoMemory>
     ensures asks { IfOk result (λ asking. asking ≡ asking_of line.now) }
     ensures fits { IfOk result KeysFit }
 {
     match cut_at(line, b' ') {
         Some((name, key)) if is_key(key) => read_key(alloc, Db::named(name), key),
-        _ => Ok(Asking::Bad),
+        _ => Ok(LineAsks::Bad),
     }
 }
 
@@ -61,13 +61,13 @@ fn has_white(text: &[u8]) -> bool
 }
 
 // What a key asks of a database.
-fn read_key(alloc: Global, db: Option<Db>, key: &[u8]) -> Result<Asking, NoMemory>
+fn read_key(alloc: Global, db: Option<Db>, key: &[u8]) -> Result<LineAsks, NoMemory>
     requires { length key.now ≤ key_limit }
     ensures asks { IfOk result (λ asking. asking ≡ asking_in db key.now) }
     ensures fits { IfOk result KeysFit }
 {
     match db {
-        None => Ok(Asking::Bad),
+        None => Ok(LineAsks::Bad),
         Some(Db::Passwd) => by_id(alloc, Kind::PwUid, Kind::PwName, key),
         Some(Db::Group) => by_id(alloc, Kind::GrGid, Kind::GrName, key),
         Some(Db::Hosts) => host(alloc, key),
@@ -76,7 +76,7 @@ fn read_key(alloc: Global, db: Option<Db>, key: &[u8]) -> Result<Asking, NoMemor
 }
 
 // By id where the key is a number in decimal, else by name.
-fn by_id(alloc: Global, by_id: Kind, by_name: Kind, key: &[u8]) -> Result<Asking, NoMemory>
+fn by_id(alloc: Global, by_id: Kind, by_name: Kind, key: &[u8]) -> Result<LineAsks, NoMemory>
     ensures asks { IfOk result (λ asking. asking ≡ by_id_or_name by_id by_name key.now) }
     ensures fits { IfOk result KeysFit }
 {
@@ -88,7 +88,7 @@ fn by_id(alloc: Global, by_id: Kind, by_name: Kind, key: &[u8]) -> Result<Asking
 }
 
 // By address where the key is one, else by name.
-fn host(alloc: Global, key: &[u8]) -> Result<Asking, NoMemory>
+fn host(alloc: Global, key: &[u8]) -> Result<LineAsks, NoMemory>
     requires { length key.now ≤ key_limit }
     ensures asks { IfOk result (λ asking. asking ≡ by_address_or_name (v4_of key.now) (v6_of key.now) key.now) }
     ensures fits { IfOk result KeysFit }
@@ -99,12 +99,12 @@ fn host(alloc: Global, key: &[u8]) -> Result<Asking, NoMemory>
     if let Some(address) = read_v6(key) {
         return request(alloc, Kind::HostAddr6, &address);
     }
-    Ok(Asking::HostNamed(Bytes::copy(alloc, key)?))
+    Ok(LineAsks::HostNamed(Bytes::copy(alloc, key)?))
 }
 
 // By port where one stands before the last slash of the key, else by name. A port is asked for as it is sent, with its two bytes
 // exchanged.
-fn service(alloc: Global, key: &[u8]) -> Result<Asking, NoMemory>
+fn service(alloc: Global, key: &[u8]) -> Result<LineAsks, NoMemory>
     ensures asks { IfOk result (λ asking. asking ≡ by_port_or_name (port_of (service_key key.now).asked) (service_key key.now).proto key.now) }
     ensures fits { IfOk result KeysFit }
 {
@@ -134,7 +134,7 @@ fn sent_port(text: &[u8]) -> Option<u16>
 }
 
 // By a port, as it is sent, and a protocol.
-fn service_on(alloc: Global, sent: u16, proto: &[u8]) -> Result<Asking, NoMemory>
+fn service_on(alloc: Global, sent: u16, proto: &[u8]) -> Result<LineAsks, NoMemory>
     ensures asks { IfOk result (λ asking. asking ≡ one Kind.ServPort (decimal sent ++ 47 ∷ proto.now)) }
     ensures fits { IfOk result KeysFit }
 {
@@ -146,13 +146,13 @@ fn service_on(alloc: Global, sent: u16, proto: &[u8]) -> Result<Asking, NoMemory
 }
 
 // One request, or nothing where its key is too long.
-fn request(alloc: Global, kind: Kind, key: &[u8]) -> Result<Asking, NoMemory>
+fn request(alloc: Global, kind: Kind, key: &[u8]) -> Result<LineAsks, NoMemory>
     ensures asks { IfOk result (λ asking. asking ≡ one kind key.now) }
     ensures fits { IfOk result KeysFit }
 {
     if key.len() > KEY_LIMIT {
-        return Ok(Asking::Bad);
+        return Ok(LineAsks::Bad);
     }
     let key = Bytes::copy(alloc, key)?;
-    Ok(Asking::One(Request { kind, key }))
+    Ok(LineAsks::One(Request { kind, key }))
 }
