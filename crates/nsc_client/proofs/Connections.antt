@@ -1,8 +1,7 @@
 -- A connection to the gate, one step after another.
-use Rattle.std.proofs.Common.{◌≡◌, ◌≢◌, ◌∙◌, ℕ, ◌+◌, ◌<◌, ◌≤◌, true, false, List, [], ◌∷◌, ◌++◌, length, min, refl, sym, ap, subst, arith, inl, inr}
+use Rattle.std.proofs.Common.{◌≡◌, ◌∙◌, ℕ, ◌+◌, true, List, [], ◌∷◌, ◌++◌, length, min, refl, sym, ap, subst, arith, inl, inr}
 use Rattle.std.specs.List.{after_first, list_any}
 use Rattle.std.proofs.lemmas.List.{length-append}
-use Rattle.nsc_base.specs.Text.{is_filled}
 use Rattle.nsc_outside.specs.Stream.{IsDrained}
 use Rattle.nsc_outside.specs.StreamAt.{StreamAt}
 use Rattle.nsc_model.specs.declared.databases.Databases.{Databases}
@@ -12,14 +11,12 @@ use Rattle.nsc_model.specs.Machine.{last_count, next_count}
 use Rattle.nsc_model.specs.Reads.{Rose}
 use Rattle.nsc_client.specs.declared.gate.Gated.{Gated}
 use Rattle.nsc_client.specs.declared.gate.Gated.TheVariants as gated
-use Rattle.nsc_client.specs.declared.link.LinkFault.{LinkFault}
 use Rattle.nsc_client.specs.declared.link.LinkFault.TheVariants as link
 use Rattle.nsc_client.specs.Exchanges.{TakesAnswers}
 use Rattle.nsc_client.specs.Gate.{SeeMore}
-use Rattle.nsc_client.specs.GateText.{line_limit}
 use Rattle.nsc_client.specs.Held.{ComesIn, GivesNone}
 use Rattle.nsc_client.specs.LinesRead.{BeginsWithLine, HasNoNewline, IsLastLine, ReadsAll, ReadsFirst, ReadsLines, front_line, is_newline}
-use Rattle.nsc_client.specs.Serving.{AnswersAll, AnswersEnded, GateAt, HasAnswered, IsStopped, ServesGate, StopsAfter, gate_at}
+use Rattle.nsc_client.specs.Serving.{AnswersAll, GateAt, HasAnswered, IsStopped, ServesGate, StopsAfter, gate_at}
 use Rattle.nsc_client.proofs.Answering.{sees_on}
 use Rattle.nsc_client.proofs.Exchanges.{front_taken_on, none_taken, taken_on}
 use Rattle.nsc_client.proofs.LinesRead.{end_read, front-whole, last_read, line_read, none_read, part_read}

@@ -1,5 +1,5 @@
 -- Lines that are answered, in one part of a call after another.
-use Rattle.std.proofs.Common.{◌≡◌, ◌∙◌, ℕ, List, [], ◌∷◌, ◌++◌, All, IfOk, Option, Some, None, append-nil, append_assoc, length, map, refl, sym, ap, subst, arith, ◌≤◌, rules}
+use Rattle.std.proofs.Common.{◌≡◌, ◌∙◌, ℕ, List, [], ◌∷◌, ◌++◌, Option, append-nil, append_assoc, length, map, refl, sym, ap, subst, arith, ◌≤◌}
 use Rattle.std.specs.Prelude.{flat_map}
 use Rattle.std.proofs.lemmas.Grind.{flat_map-append}
 use Rattle.std.proofs.lemmas.List.{map-append}
@@ -12,7 +12,7 @@ use Rattle.nsc_model.specs.declared.row.Reply.{Reply}
 use Rattle.nsc_model.specs.declared.store.Store as store
 use Rattle.nsc_model.specs.Reads.{Rose}
 use Rattle.nsc_client.specs.Exchanges.{AreAnswered, Exchange, IsExchange, TakesAnswers, TakesFront}
-use Rattle.nsc_client.specs.Gate.{IsTold, SeeMore, searches_of}
+use Rattle.nsc_client.specs.Gate.{IsTold, SeeMore}
 use Rattle.nsc_client.specs.GateText.{Told, asking_of, line_limit}
 use Rattle.nsc_client.specs.Replying.{IsAnswered, said}
 use Rattle.nsc_client.proofs.Answering.{calm_on, told_after, told_before}

@@ -1,16 +1,15 @@
 -- Bytes that were read, line by line.
-use Rattle.std.proofs.Common.{◌≡◌, ◌∙◌, ℕ, ◌+◌, ◌<◌, ◌≤◌, ◌==◌, true, false, List, [], ◌∷◌, ◌++◌, All, Option, append-nil, append_assoc, length, get_or, take, drop, refl, sym, ap, subst, arith, inl, inr, rules}
-use Rattle.std.specs.Prelude.{flat_map}
+use Rattle.std.proofs.Common.{◌≡◌, ◌∙◌, ℕ, ◌+◌, ◌<◌, ◌≤◌, true, false, List, [], ◌∷◌, ◌++◌, All, Option, append-nil, append_assoc, length, get_or, take, drop, refl, sym, ap, subst, arith, inl, inr}
 use Rattle.std.specs.List.{after_first, list_any, position_or_len}
 use Rattle.std.proofs.lemmas.Bool.{cases_eq, eqb-true}
 use Rattle.std.proofs.lemmas.Grind.{flat_map-append}
-use Rattle.std.proofs.lemmas.List.{drop-drop, get_or-take, length-drop, length-take-le, take_all}
-use Rattle.std.proofs.lemmas.List.Elements.{All-append, All-cons, All-head, All-nil, All-push, All-tail}
+use Rattle.std.proofs.lemmas.List.{drop-drop, get_or-take, length-drop, take_all}
+use Rattle.std.proofs.lemmas.List.Elements.{All-head, All-nil, All-push, All-tail}
 use Rattle.std.proofs.lemmas.List.Folds.{length-prefix_len, list_any_at}
 use Rattle.std.proofs.lemmas.List.Sums.{fails_before_first, passes_at_first, prefix_len-le-length, split_at_first}
 use Rattle.nsc_base.specs.Text.{is_filled, lines_of}
 use Rattle.nsc_base.proofs.FirstBytes.{no_byte}
-use Rattle.nsc_base.proofs.Pieces.{lines-first, lines-last, none_cuts, or_false}
+use Rattle.nsc_base.proofs.Pieces.{lines-first, lines-last, none_cuts}
 use Rattle.nsc_outside.specs.Stream.{IsDrained, Moves}
 use Rattle.nsc_outside.proofs.Streams.{Moves-nothing, Moves-then}
 use Rattle.nsc_client.specs.LinesRead.{HasNoNewline, IsLastLine, ReadsAll, ReadsLines, front_line, is_newline, with_newlines}

@@ -1,9 +1,9 @@
-use Rattle.std.proofs.Common.{◌≡◌, ◌∙◌, ◌==◌, ℕ, true, false, List, [], ◌∷◌, length, refl, sym, ap, subst, arith, rules, inr}
+use Rattle.std.proofs.Common.{◌≡◌, ◌∙◌, ◌==◌, ℕ, true, false, List, [], ◌∷◌, length, refl, sym, subst, arith, rules, inr}
 use Rattle.std.proofs.lemmas.Bool.{eqb-true}
 use Rattle.nsc_base.specs.Text.{is_filled}
 use Rattle.nsc_outside.specs.StreamAt.{stream_in, stream_out}
 use Rattle.nsc_client.specs.Exchanges.{TakesAnswers}
-use Rattle.nsc_client.specs.LinesRead.{IsLastLine, front_line}
+use Rattle.nsc_client.specs.LinesRead.{IsLastLine}
 use Rattle.nsc_client.specs.Serving.{AnswersAll, IsStopped, gate_at}
 use Rattle.nsc_client.proofs.Answering.{sees_on}
 use Rattle.nsc_client.proofs.Connections.{ends, ends_with, stopped}

@@ -1,4 +1,4 @@
-use Rattle.std.proofs.Common.{◌≡◌, List, ℕ, ap, subst, sym}
+use Rattle.std.proofs.Common.{subst}
 use Rattle.nsc_client.specs.declared.line.LineAsks.{LineAsks}
 use Rattle.nsc_client.specs.Replying.{IsAnswered}
 use Rattle.nsc_client.proofs.Exchanges.{one_answered}
