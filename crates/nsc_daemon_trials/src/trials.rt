@@ -19,6 +19,9 @@ const WITH_GATE: &[&str] = &["-t", "1", "--gate", "/gate"];
 // The longest key that a request may have, in bytes.
 const LONGEST: usize = 1024;
 
+// The longest line of the gate, in bytes.
+const LONGEST_LINE: usize = 1100;
+
 /// The trials, in order.
 pub fn trials(alloc: Global) -> Result<Vec<Trial>, NoMemory> {
     let mut trials = Vec::new(alloc);
@@ -185,7 +188,8 @@ fn moments(alloc: Global) -> Result<Trial, NoMemory> {
     Ok(trial)
 }
 
-// Connections to the gate, and one to the plain socket between them. Without a gate nobody answers those.
+// Connections to the gate, and one to the plain socket between them. Without a gate nobody answers those. On the last one a line is
+// too long, so neither it nor what follows it is answered.
 fn gate(
     alloc: Global,
     name: &'static str,
@@ -195,8 +199,23 @@ fn gate(
     trial.peer(alloc, Role::Gate, LINES)?;
     trial.peer(alloc, Role::Plain, ROOT)?;
     trial.peer(alloc, Role::Gate, LINE)?;
+    let too_long = long_line(alloc)?;
+    trial.peer(alloc, Role::Gate, too_long.as_slice())?;
     trial.peer(alloc, Role::Admin, SHUTDOWN)?;
     Ok(trial)
+}
+
+// A line of as many letters as a line may have, one with a letter more, and a good line.
+fn long_line(alloc: Global) -> Result<Vec<u8>, NoMemory> {
+    let mut lines = Vec::new(alloc);
+    for letters in [LONGEST_LINE, LONGEST_LINE + 1] {
+        for _ in 0..letters {
+            lines.push(b'a')?;
+        }
+        lines.push(b'\n')?;
+    }
+    lines.extend_from_slice(LINE)?;
+    Ok(lines)
 }
 
 // A daemon that is told to end replies with another number than 0.
