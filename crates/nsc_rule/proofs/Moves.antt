@@ -3,7 +3,7 @@ use Rattle.std.proofs.Common.{◌≡◌, ◌≢◌, ◌∙◌, ℕ, ◌+◌, ◌
 use Rattle.std.specs.Prelude.{nat_lt}
 use Rattle.std.proofs.lemmas.Bool.Decides.{nat_tests}
 use Rattle.std.proofs.lemmas.List.{set-get_or}
-use Rattle.std.proofs.lemmas.Option.{none-some}
+use Rattle.std.proofs.lemmas.Option.{none-some, same_Some}
 use mathlib.Core.Option.{some, none}
 use lib.ListN.{get_elem?}
 use Rattle.atomic_table.specs.Table.{State, Me, step, keeps, Allows, Splits, Joins}
@@ -36,7 +36,7 @@ kept_set p views seat w all mine = fits_set p views seat w (λ j u apart e. all 
 -- another seat than the one that writes follows a later plan
 others_on : (p p' k : Plan) (id j : ℕ) (u : View) → p ≡ k → id ≡ 0 → Later p p' → j ≢ id → Fits k j u → Fits p' j u
 others_on p p' k id j (Writes plan told over) same mine later apart fits = absurd (apart (fits.0 ∙ sym mine))
-others_on p p' k id j (Reads seen told retired searching) same mine later apart fits = follows_on p p' (Reads seen told retired searching) later (subst (λ (q : Plan). Follows q (Reads seen told retired searching)) (sym same) fits)
+others_on p p' k id j (Reads seen told over retired searching) same mine later apart fits = follows_on p p' (Reads seen told over retired searching) later (subst (λ (q : Plan). Follows q (Reads seen told over retired searching)) (sym same) fits)
 
 -- ---- a step of the pen
 
@@ -124,17 +124,17 @@ longest a b h p q = by_test (nat_lt (length a) (length b)) refl where
   by_test false t = record { first = prefix_all a; second = prefix_between b a h q p (high t); of_all = p; whole = λ e. e }
 
 -- the longer one of what a seat had seen and what it was told of
-meets : (key : Layout) (slots id at : ℕ) (seen told : List Record) (retired : Option TableId) (w : Search)
-    → Allows (IsKept key) slots id (Reads seen told retired w, []) at (λ n. n) (MeetTells (step slots at 0 0 none) (Reads seen told retired w, []))
-meets key slots id at seen told retired w = looks key slots id at (Reads seen told retired w) (MeetTells (step slots at 0 0 none) (Reads seen told retired w, [])) (λ k sound layout was.
+meets : (key : Layout) (slots id at : ℕ) (seen told : List Record) (over retired : Option TableId) (w : Search)
+    → Allows (IsKept key) slots id (Reads seen told over retired w, []) at (λ n. n) (MeetTells (step slots at 0 0 none) (Reads seen told over retired w, []))
+meets key slots id at seen told over retired w = looks key slots id at (Reads seen told over retired w) (MeetTells (step slots at 0 0 none) (Reads seen told over retired w, [])) (λ k sound layout was.
     let both = longest seen told k.seen was.seen was.told in (
       reading (longer seen told) retired w,
-      record { seen = both.of_all; told = prefix_none k.seen; began = was.began; first = was.first; known = was.known; retired = λ newer is. ((was.retired newer is).0, both.whole (was.retired newer is).1); reaches = was.reaches },
-      (both.first, both.second, λ newer is. let all = (was.retired newer is).1 in both.whole all ∙ sym all, refl),
+      record { seen = both.of_all; told = prefix_none k.seen; began = was.began; first = was.first; known = was.known; retired = λ newer is. ((was.retired newer is).0, both.whole (was.retired newer is).1); over = λ newer is. absurd (none-some newer is); reaches = was.reaches },
+      (both.first, both.second, λ newer is. let all = (was.retired newer is).1 in both.whole all ∙ sym all, λ other newer heard is. same_Some other newer (sym (was.over other heard) ∙ (was.retired newer is).0), refl),
     ))
 
-pub meets_as : (key : Layout) (slots id at : ℕ) (me : Me (Unit {0}) View) (seen told : List Record) (retired : Option TableId) (w : Search) → me ≡ (Reads seen told retired w, []) → Allows (IsKept key) slots id me at (λ n. n) (MeetTells (step slots at 0 0 none) me)
-meets_as key slots id at me seen told retired w is = let P : Me (Unit {0}) View → Type 0 = λ m. Allows (IsKept key) slots id m at (λ n. n) (MeetTells (step slots at 0 0 none) m) in subst P (sym is) (meets key slots id at seen told retired w)
+pub meets_as : (key : Layout) (slots id at : ℕ) (me : Me (Unit {0}) View) (seen told : List Record) (over retired : Option TableId) (w : Search) → me ≡ (Reads seen told over retired w, []) → Allows (IsKept key) slots id me at (λ n. n) (MeetTells (step slots at 0 0 none) me)
+meets_as key slots id at me seen told over retired w is = let P : Me (Unit {0}) View → Type 0 = λ m. Allows (IsKept key) slots id m at (λ n. n) (MeetTells (step slots at 0 0 none) m) in subst P (sym is) (meets key slots id at seen told over retired w)
 
 -- ---- splits and joins
 
@@ -178,14 +178,14 @@ absorbs key id other v w s kept at apart there = joins key s id other v w (absor
 abbrev pub with_searches : ℕ → Search → Search
 with_searches more w = record w { searches = w.searches + more }
 
-pub told_reader : (me other new : Me (Unit {0}) View) (heard : List Record) → me ≡ (reading (seen_by me.0) (retired_by me.0) (searching_by me.0), []) → new ≡ (told_of me.0 other.0, me.1) → seen_by other.0 ≡ heard
-    → new ≡ (Reads (seen_by me.0) heard (retired_by me.0) (searching_by me.0), [])
-told_reader me other new heard is joined said = joined ∙ (λ i. (told_of (is i).0 other.0, (is i).1)) ∙ (λ i. (Reads (seen_by me.0) (said i) (retired_by me.0) (searching_by me.0), []))
+pub told_reader : (me other new : Me (Unit {0}) View) (heard : List Record) (over : Option TableId) → me ≡ (reading (seen_by me.0) (retired_by me.0) (searching_by me.0), []) → new ≡ (told_of me.0 other.0, me.1) → seen_by other.0 ≡ heard → retired_by other.0 ≡ over
+    → new ≡ (Reads (seen_by me.0) heard over (retired_by me.0) (searching_by me.0), [])
+told_reader me other new heard over is joined said known = joined ∙ (λ i. (told_of (is i).0 other.0, (is i).1)) ∙ (λ i. (Reads (seen_by me.0) (said i) (known i) (retired_by me.0) (searching_by me.0), []))
 
 -- the same, with the searches of the other one
-pub absorbed_reader : (me other new : Me (Unit {0}) View) (heard : List Record) (more : ℕ) → me ≡ (reading (seen_by me.0) (retired_by me.0) (searching_by me.0), []) → new ≡ (absorbed me.0 other.0, me.1) → seen_by other.0 ≡ heard → (searching_by other.0).searches ≡ more
-    → new ≡ (Reads (seen_by me.0) heard (retired_by me.0) (with_searches more (searching_by me.0)), [])
-absorbed_reader me other new heard more is joined said counted = joined ∙ (λ i. (absorbed (is i).0 other.0, (is i).1)) ∙ (λ i. (Reads (seen_by me.0) (said i) (retired_by me.0) (with_searches (counted i) (searching_by me.0)), []))
+pub absorbed_reader : (me other new : Me (Unit {0}) View) (heard : List Record) (over : Option TableId) (more : ℕ) → me ≡ (reading (seen_by me.0) (retired_by me.0) (searching_by me.0), []) → new ≡ (absorbed me.0 other.0, me.1) → seen_by other.0 ≡ heard → retired_by other.0 ≡ over → (searching_by other.0).searches ≡ more
+    → new ≡ (Reads (seen_by me.0) heard over (retired_by me.0) (with_searches more (searching_by me.0)), [])
+absorbed_reader me other new heard over more is joined said known counted = joined ∙ (λ i. (absorbed (is i).0 other.0, (is i).1)) ∙ (λ i. (Reads (seen_by me.0) (said i) (known i) (retired_by me.0) (with_searches (counted i) (searching_by me.0)), []))
 
 pub told_writer : (me other new : Me (Unit {0}) View) (heard : List Record) (over : Option TableId) → me ≡ (writing (plan_by me.0), []) → new ≡ (told_of me.0 other.0, me.1) → seen_by other.0 ≡ heard → retired_by other.0 ≡ over → new ≡ (Writes (plan_by me.0) heard over, [])
 told_writer me other new heard over is joined said known = joined ∙ (λ i. (told_of (is i).0 other.0, (is i).1)) ∙ (λ i. (Writes (plan_by me.0) (said i) (known i), []))

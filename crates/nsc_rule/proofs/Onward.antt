@@ -52,6 +52,7 @@ follows_on p p' v later was =
       first = first;
       known = omega arith;
       retired = λ newer is. absurd (none-some newer (sym later.active ∙ (was.retired newer is).0));
+      over = λ newer is. absurd (none-some newer (sym later.active ∙ was.over newer is));
       reaches = λ is even.
           let here : w.first ≡ cycle_of p = omega arith in
           let same : cycle_of p ≡ cycle_of p' = omega arith in
@@ -63,11 +64,11 @@ follows_on p p' v later was =
 
 pub seen_fits : (p : Plan) (seat : ℕ) (v : View) → Fits p seat v → IsPrefix (seen_by v) p.seen
 seen_fits p seat (Writes plan told over) fits = subst (λ (q : Plan). IsPrefix plan.seen q.seen) fits.1 (prefix_all plan.seen)
-seen_fits p seat (Reads seen told retired searching) fits = fits.seen
+seen_fits p seat (Reads seen told over retired searching) fits = fits.seen
 
 pub retired_fits : (p : Plan) (seat : ℕ) (v : View) → Fits p seat v → (newer : TableId) → retired_by v ≡ Some newer → (p.retired ≡ Some newer) × (seen_by v ≡ p.seen)
 retired_fits p seat (Writes plan told over) fits newer is = (sym (ap (λ (q : Plan). q.retired) fits.1) ∙ is, ap (λ (q : Plan). q.seen) fits.1)
-retired_fits p seat (Reads seen told retired searching) fits newer is = fits.retired newer is
+retired_fits p seat (Reads seen told over retired searching) fits newer is = fits.retired newer is
 
 successor_fits : (p : Plan) (seat : ℕ) (v : View) → Fits p seat v → IsSuccessor (retired_by v) p
 successor_fits p seat v fits newer is = (retired_fits p seat v fits newer is).0
@@ -75,17 +76,18 @@ successor_fits p seat v fits newer is = (retired_fits p seat v fits newer is).0
 -- a seat knows no later CYCLE
 pub known_fits : (p : Plan) (seat : ℕ) (v : View) → Fits p seat v → (searching_by v).known ≤ cycle_of p
 known_fits p seat (Writes plan told over) fits = subst (λ (q : Plan). cycle_of plan ≤ cycle_of q) fits.1 (omega arith)
-known_fits p seat (Reads seen told retired searching) fits = fits.known
+known_fits p seat (Reads seen told over retired searching) fits = fits.known
 
 -- a seat with no search follows, which knows no later CYCLE
-pub rests : (p : Plan) (seen told : List Record) (retired : Option TableId) (known : ℕ) → known ≤ cycle_of p → IsPrefix seen p.seen → IsPrefix told p.seen → ((newer : TableId) → retired ≡ Some newer → (p.retired ≡ Some newer) × (seen ≡ p.seen)) → Follows p (Reads seen told retired (rested known))
-rests p seen told retired known least saw heard over = record {
+pub rests : (p : Plan) (seen told : List Record) (retired : Option TableId) (known : ℕ) → known ≤ cycle_of p → IsPrefix seen p.seen → IsPrefix told p.seen → ((newer : TableId) → retired ≡ Some newer → (p.retired ≡ Some newer) × (seen ≡ p.seen)) → Follows p (Reads seen told None retired (rested known))
+rests p seen told retired known least saw heard onward = record {
   seen = saw;
   told = heard;
   began = prefix_none p.seen;
   first = omega arith;
   known = least;
-  retired = over;
+  retired = onward;
+  over = λ newer is. absurd (none-some newer is);
   reaches = λ is even. record { at = λ e on. absurd cc; bound = λ q among usable is low. absurd (omega arith) };
 }
 
@@ -95,17 +97,17 @@ nobody_fits p seat = rests p [] [] None 0 (omega arith) (prefix_none p.seen) (pr
 -- a new seat
 pub reader_fits : (p : Plan) (seat other : ℕ) (v : View) → Fits p seat v → Fits p other (reader_of v)
 reader_fits p seat other (Writes plan told over) fits = rests p plan.seen [] plan.retired (cycle_of plan) (known_fits p seat (Writes plan told over) fits) (seen_fits p seat (Writes plan told over) fits) (prefix_none p.seen) (retired_fits p seat (Writes plan told over) fits)
-reader_fits p seat other (Reads seen told retired searching) fits = record { seen = fits.seen; told = prefix_none p.seen; began = fits.began; first = fits.first; known = fits.known; retired = fits.retired; reaches = fits.reaches }
+reader_fits p seat other (Reads seen told over retired searching) fits = record { seen = fits.seen; told = prefix_none p.seen; began = fits.began; first = fits.first; known = fits.known; retired = fits.retired; over = λ newer is. absurd (none-some newer is); reaches = fits.reaches }
 
 -- a seat that was told
 pub told_fits : (p : Plan) (seat other : ℕ) (v w : View) → Fits p seat v → Fits p other w → Fits p seat (told_of v w)
 told_fits p seat other (Writes plan told over) w mine theirs = (mine.0, mine.1, seen_fits p other w theirs, successor_fits p other w theirs)
-told_fits p seat other (Reads seen told retired searching) w mine theirs = record { seen = mine.seen; told = seen_fits p other w theirs; began = mine.began; first = mine.first; known = mine.known; retired = mine.retired; reaches = mine.reaches }
+told_fits p seat other (Reads seen told over retired searching) w mine theirs = record { seen = mine.seen; told = seen_fits p other w theirs; began = mine.began; first = mine.first; known = mine.known; retired = mine.retired; over = successor_fits p other w theirs; reaches = mine.reaches }
 
 -- one that was told, and counts more searches
 pub absorbed_fits : (p : Plan) (seat other : ℕ) (v w : View) → Fits p seat v → Fits p other w → Fits p seat (absorbed v w)
 absorbed_fits p seat other (Writes plan told over) w mine theirs = (mine.0, mine.1, seen_fits p other w theirs, successor_fits p other w theirs)
-absorbed_fits p seat other (Reads seen told retired searching) w mine theirs = record { seen = mine.seen; told = seen_fits p other w theirs; began = mine.began; first = mine.first; known = mine.known; retired = mine.retired; reaches = λ same even. let r = mine.reaches same even in record { at = r.at; bound = r.bound } }
+absorbed_fits p seat other (Reads seen told over retired searching) w mine theirs = record { seen = mine.seen; told = seen_fits p other w theirs; began = mine.began; first = mine.first; known = mine.known; retired = mine.retired; over = successor_fits p other w theirs; reaches = λ same even. let r = mine.reaches same even in record { at = r.at; bound = r.bound } }
 
 through : (a b c : ℕ) → a ≤ b → b ≤ c → a ≤ c
 through a b c low high = omega arith
@@ -113,4 +115,4 @@ through a b c low high = omega arith
 -- a seat that has seen what another one has
 pub shown_fits : (p : Plan) (seat other : ℕ) (v w : View) → Fits p seat v → Fits p other w → Fits p seat (shown v w)
 shown_fits p seat other (Writes plan told over) w mine theirs = mine
-shown_fits p seat other (Reads seen told retired searching) w mine theirs = record { seen = seen_fits p other w theirs; told = mine.told; began = mine.began; first = through searching.first searching.known (max searching.known (searching_by w).known) mine.first (le-max_left searching.known (searching_by w).known); known = max-le mine.known (known_fits p other w theirs); retired = retired_fits p other w theirs; reaches = λ same even. let r = mine.reaches same even in record { at = r.at; bound = r.bound } }
+shown_fits p seat other (Reads seen told over retired searching) w mine theirs = record { seen = seen_fits p other w theirs; told = mine.told; began = mine.began; first = through searching.first searching.known (max searching.known (searching_by w).known) mine.first (le-max_left searching.known (searching_by w).known); known = max-le mine.known (known_fits p other w theirs); retired = retired_fits p other w theirs; over = mine.over; reaches = λ same even. let r = mine.reaches same even in record { at = r.at; bound = r.bound } }

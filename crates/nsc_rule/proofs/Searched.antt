@@ -1,6 +1,7 @@
 -- What each load of a search tells, and that what the seat knows then follows the plan.
 use Rattle.std.proofs.Common.{◌≡◌, ◌≢◌, ◌∙◌, ℕ, ◌+◌, ◌%◌, ◌<◌, ◌≤◌, ◌⊎◌, not, Bool, true, false, true≢false, cond, eqb, eq-eqb, inl, inr, ⊎_elim, List, length, slice_index, Some, refl, sym, ap, subst, arith, Option}
 use Rattle.std.proofs.lemmas.Bool.{cases_lt}
+use Rattle.std.proofs.lemmas.Option.{none-some}
 use Rattle.nsc_base.specs.Nodes.{words_for}
 use Rattle.nsc_words.specs.declared.layout.Layout.{Layout}
 use Rattle.nsc_words.specs.declared.node.Placed.{Placed}
@@ -44,6 +45,7 @@ begins seat request seen retired searching p sound was =
       record {
         seen = prefix_all p.seen;
         told = prefix_none p.seen;
+        over = λ newer is. absurd (none-some newer is);
         began = prefix_all p.seen;
         first = omega arith;
         known = omega arith;
@@ -71,6 +73,7 @@ turns seat seen retired searching p found sound was chain bound =
       record {
         seen = was.seen;
         told = prefix_none p.seen;
+        over = λ newer is. absurd (none-some newer is);
         began = was.began;
         first = omega arith;
         known = omega arith;
@@ -204,6 +207,7 @@ stays p seen seen' retired gone last searching more over was ended =
     record {
       seen = more;
       told = prefix_none p.seen;
+      over = λ newer is. absurd (none-some newer is);
       began = was.began;
       first = omega arith;
       known = omega arith;

@@ -1,7 +1,7 @@
 ghost use Rattle.std.specs.Prelude.{◌≡◌, ◌+◌, ◌⊎◌, Some, IsSome, [], ◌∷◌};
 ghost use Rattle.atomic_table.specs.Seated.{TableId};
 ghost use Rattle.nsc_model.specs.History.{Legal, IsPrefix};
-ghost use Rattle.nsc_rule.specs.Seats.{informed, retired_by, reading, seen_by, searching_by};
+ghost use Rattle.nsc_rule.specs.Seats.{AreOne, informed, retired_by, reading, seen_by, searching_by};
 
 use crate::map::Map;
 use crate::plays::{Absorbs, Copies, Hears, Meets, Shows};
@@ -84,6 +84,7 @@ impl Pass {
         ensures either { (self.new.seen ≡ self.old.seen) ⊎ (self.new.seen ≡ other.seen) }
         ensures retired { self.new.retired ≡ self.old.retired }
         ensures whole { (newer : TableId) → self.old.retired ≡ Some newer → self.new.seen ≡ self.old.seen }
+        ensures one { AreOne other.retired self.old.retired }
         ensures searching { self.new.searching ≡ self.old.searching }
     {
         let words = map.words();
@@ -99,6 +100,7 @@ impl Pass {
         requires retired { IsSome self.old.retired }
         ensures pass { self.new ≡ record self.old { searching = record self.old.searching { searches = self.old.searching.searches + other.searching.searches } } }
         ensures other { IsPrefix other.seen self.old.seen }
+        ensures one { AreOne other.retired self.old.retired }
     {
         let words = map.words();
         let other = other.into_seat();

@@ -79,6 +79,8 @@ pub enum View {
         seen: LinkedList<Record>,
         /// What it was told of.
         told: LinkedList<Record>,
+        /// The table that, as it was told, goes on in place of this one.
+        over: Option<Successor>,
         /// Which table it has seen goes on in place of this one.
         retired: Option<Successor>,
         /// Its search.

@@ -27,17 +27,18 @@ impl Model for Former {
 
     ghost view = { λ f. record { table = f.pen.table; seen = f.pen.plan.seen; cycle = cycle_of f.pen.plan; newer = f.newer; stock = f.stock } };
 
-    ghost invariant = { λ f. (f.map.table ≡ f.pen.table) × (f.stock.table ≡ f.newer.table) × (f.pen.plan.retired ≡ Some f.newer.table) × (f.stock.retired ≡ None) × IsPrefix f.pen.plan.seen f.stock.seen };
+    ghost invariant = { λ f. (f.map.table ≡ f.pen.table) × (f.stock.table ≡ f.newer.table) × (f.pen.plan.retired ≡ Some f.newer.table) × (f.stock.retired ≡ None) × IsPrefix f.pen.plan.seen f.stock.seen × (f.stock.searching.searches ≡ 0) };
 }
 
 impl Former {
-    // A table whose pen is retired, and a pass of the one that goes on, which has seen its history.
+    // A table whose pen is retired, and a pass of the one that goes on, which has seen its history and made no search.
     pub(crate) fn new(map: Map, pen: Pen, newer: Map, stock: Pass) -> Former
         requires map { map.table ≡ pen.table }
         requires stock { stock.table ≡ newer.table }
         requires retired { pen.plan.retired ≡ Some newer.table }
         requires active { stock.retired ≡ None }
         requires seen { IsPrefix pen.plan.seen stock.seen }
+        requires rested { stock.searching.searches ≡ 0 }
         ensures { result ≡ record { table = pen.table; seen = pen.plan.seen; cycle = cycle_of pen.plan; newer = newer; stock = stock } }
     {
         Former {
@@ -55,12 +56,14 @@ impl Former {
         &self.newer
     }
 
-    /// Where a pass of it has seen a table go on in its place, that is the newer one. The pass stays as it is.
+    /// Where a pass of it has seen a table go on in its place, that is the newer one; and what it has seen, the pass of the newer one has
+    /// seen too. The pass stays as it is.
     pub fn agree(&mut self, pass: &mut Pass)
         requires { pass.old.table ≡ self.old.table }
         ensures same { self.new ≡ self.old }
         ensures pass { pass.new ≡ pass.old }
         ensures newer { (newer : TableId) → pass.old.retired ≡ Some newer → newer ≡ self.old.newer.table }
+        ensures before { IsPrefix pass.old.seen self.old.stock.seen }
     {
         let mut copy = pass.split(&self.map);
         self.pen.show(&self.map, &mut copy);
@@ -76,6 +79,7 @@ impl Former {
         ensures whole { IsPrefix self.old.seen result.seen }
         ensures table { result.table ≡ self.old.newer.table }
         ensures active { result.retired ≡ None }
+        ensures rested { result.searching.searches ≡ 0 }
         ensures before { IsPrefix pass.old.seen result.seen }
     {
         carry(&self.map, pass, &mut self.pen, &self.newer, &mut self.stock)

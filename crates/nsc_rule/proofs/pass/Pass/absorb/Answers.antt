@@ -12,5 +12,5 @@ load-requires c =
     let other = c.args.other in (
       search rules,
       search rules,
-      meets_as _ _ _ _ _ (seen_by me) other.seen (retired_by me) (with_searches other.searching.searches (searching_by me)) (absorbed_reader c.self.inside.seat.me c.into_seat-other.result.me c.join_seat.new.seat.me other.seen other.searching.searches c.self.invariant.0 c.join_seat.ensures.2 (search rules) (search rules)),
+      meets_as _ _ _ _ _ (seen_by me) other.seen other.retired (retired_by me) (with_searches other.searching.searches (searching_by me)) (absorbed_reader c.self.inside.seat.me c.into_seat-other.result.me c.join_seat.new.seat.me other.seen other.retired other.searching.searches c.self.invariant.0 c.join_seat.ensures.2 (search rules) (search rules) (search rules)),
     )
