@@ -3,6 +3,8 @@
 The rows are typed here. A search loads CYCLE, the word of the bucket, at each entry of another key that word and NEXT, at the entry itself twelve
 words, six of them those of its reply, and CYCLE again.
 
+How many interleavings there are of one search with a writer's calls, and with which answers, is counted by interleavings.py in another way.
+
 Of the threads each reply must have the bytes of the answer over its version, and a search must at times find an entry, none, and a compaction
 that began meanwhile.
 """
@@ -15,6 +17,7 @@ import sys
 sys.dont_write_bytecode = True
 from pathlib import Path
 
+from interleavings import counted
 from running import ROOT
 
 PROGRAM = Path(os.environ.get("READING", ROOT / "build" / "nscd-reader-trials")).resolve()
@@ -36,6 +39,9 @@ def wanted_lines():
         yield f"{name}, calls as they must be: true"
         for answer, size, steps in readers:
             yield f"  Seen {{ answer: Some({answer}), bytes: {size}, steps: {steps} }}"
+    answers = counted()
+    yield f"interleavings: {sum(answers.values())}, wrong answers: 0"
+    yield "  " + ", ".join(f"{kind}: {answers[kind]}" for kind in ("hits", "none", "odd", "moved"))
 
 
 def lines_of(*words):
@@ -45,10 +51,10 @@ def lines_of(*words):
 
 
 def row_faults(found):
-    """What is wrong about the lines of the rows."""
+    """What is wrong about the lines of the rows and the interleavings."""
     wanted = list(wanted_lines())
     faults = [f"{one!r}, and not {other!r}" for one, other in zip(found, wanted) if one != other]
-    return faults if len(found) == len(wanted) else faults + [f"{len(found)} lines of rows"]
+    return faults if len(found) == len(wanted) else faults + [f"{len(found)} lines"]
 
 
 def count_faults(line, wanted):
@@ -65,12 +71,13 @@ def main():
         return 1
     lines, faults = lines_of()
     faults += row_faults(lines)
+    told = lines[-2] if len(lines) > 1 else ""
     lines, ends = lines_of(seconds)
     threads = lines[-1] if lines else ""
     faults += ends + count_faults(threads, ("hits", "none", "moved", "inserted", "compactions"))
     for fault in faults:
         print(f"reading: {fault}")
-    print(f"reading: {len(ROWS)} rows; threads for {seconds} seconds: {threads}: {len(faults)} faults")
+    print(f"reading: {len(ROWS)} rows; {told}; threads for {seconds} seconds: {threads}: {len(faults)} faults")
     return 1 if faults else 0
 
 

@@ -81,6 +81,11 @@ impl Bench {
         compact(&mut self.writer).is_ok()
     }
 
+    /// The newest files. Fails only for want of memory.
+    pub fn files(&self) -> Result<Arc<Content>, NoMemory> {
+        Ok(self.files.clone()?)
+    }
+
     /// The writer as it is now.
     pub fn into_writer(self) -> Writer
         ensures { result.slide ≡ None }

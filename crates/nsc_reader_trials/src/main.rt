@@ -1,16 +1,21 @@
-//! Readers that take no lock, beside a writer: searches whose steps stand at chosen places between those of the writer; or, with a number of
-//! seconds as its word, threads that search while another one writes for so long.
+//! Readers that take no lock, beside a writer: searches whose steps stand at chosen places between those of the writer, and then at all places
+//! between its stores; or, with a number of seconds as its word, threads that search while another one writes for so long.
 #![tactic(auto)]
 
 mod bench;
+mod crowd;
 mod files;
+mod interleavings;
 mod loading;
 mod lookout;
 mod reader;
 mod replies;
 mod rows;
+mod stage;
 mod threads;
+mod truth;
 
+use interleavings::show_interleavings;
 use rows::{show_rows, wanting};
 use std::alloc::AllocError;
 use std::process::ExitCode;
@@ -23,7 +28,10 @@ fn main(rt: HostRuntime) -> io::Result<ExitCode> {
         words.push(word).map_err(AllocError::from)?;
     }
     match words.as_slice() {
-        [] => show_rows(&rt, rt.alloc())?,
+        [] => {
+            show_rows(&rt, rt.alloc())?;
+            show_interleavings(&rt, rt.alloc())?;
+        }
         [seconds] => {
             let Ok(seconds) = seconds.as_str().parse::<u32>() else {
                 return Ok(ExitCode::from(1));

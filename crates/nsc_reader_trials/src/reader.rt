@@ -1,7 +1,7 @@
 ghost use Rattle.std.specs.Prelude.{◌≡◌, ◌≤◌, length};
 ghost use Rattle.nsc_model.specs.Entry.{key_limit};
 
-use nsc_base::{Buf, Bytes, NoMemory};
+use nsc_base::{Buf, Bytes, NoMemory, equal};
 use nsc_model::{InPlace, KEPT_LIMIT, Kind};
 use nsc_reader::Walk;
 use nsc_rule::{Map, Pass};
@@ -55,6 +55,25 @@ impl Reader {
             out: Buf::new(alloc, KEPT_LIMIT)?,
             answer: None,
         })
+    }
+
+    /// A reader that has come as far, with a pass and a buffer of its own. Fails only for want of memory.
+    pub fn twin(&mut self, alloc: Global) -> Result<Reader, NoMemory> {
+        let mut out = Buf::new(alloc, KEPT_LIMIT)?;
+        out.push(self.out.bytes());
+        Ok(Reader {
+            map: self.map.share()?,
+            pass: self.pass.split(&self.map),
+            walk: self.walk,
+            key: Bytes::copy(alloc, self.key.as_slice())?,
+            out,
+            answer: self.answer,
+        })
+    }
+
+    /// Whether another reader of the same user has come to the same.
+    pub fn is_like(&self, other: &Reader) -> bool {
+        self.walk == other.walk && equal(self.bytes(), other.bytes())
     }
 
     /// Takes one step, where it has not answered, and gives the answer that it has then.
