@@ -1,0 +1,3 @@
+mod Chain
+mod Along
+pub mod Crossing
