@@ -1,4 +1,6 @@
 // All interleavings of one search with one insertion, one end, one compaction and one invalidation.
+ghost use Rattle.std.specs.Prelude.{◌≡◌, IfOk, None};
+
 use crate::bench::Bench;
 use crate::crowd::{Crowd, Tally};
 use crate::replies::Replies;
@@ -65,23 +67,34 @@ fn has_each(calls: [u32; 4]) -> bool {
 // Those of the calls in one order.
 fn one_order(alloc: Global, replies: &Arc<Replies>, calls: [u32; 4]) -> Result<Tally, NoMemory> {
     let mut stage = filled(alloc, replies)?;
-    for call in calls {
-        match call {
-            0 => stage.insert(ENDED, LAST_USER),
-            1 => {
-                stage.end(u64::from(ENDED));
-                stage.unlink(0);
-                stage.unlink(1);
-            }
-            2 => stage.compact(),
-            _ => stage.invalidate(),
-        }
-    }
+    make_call(&mut stage, calls[0]);
+    make_call(&mut stage, calls[1]);
+    make_call(&mut stage, calls[2]);
+    make_call(&mut stage, calls[3]);
     stage.finish().ok_or(NoMemory)
 }
 
+// Makes one of the four calls.
+fn make_call(stage: &mut Stage, call: u32)
+    requires { stage.old.slide ≡ None }
+    ensures { stage.new.slide ≡ None }
+{
+    match call {
+        0 => stage.insert(ENDED, LAST_USER),
+        1 => {
+            stage.end(u64::from(ENDED));
+            stage.unlink(0);
+            stage.unlink(1);
+        }
+        2 => stage.compact(),
+        _ => stage.invalidate(),
+    }
+}
+
 // Six entries, and a search of each of their users and of one more.
-fn filled(alloc: Global, replies: &Arc<Replies>) -> Result<Stage, NoMemory> {
+fn filled(alloc: Global, replies: &Arc<Replies>) -> Result<Stage, NoMemory>
+    ensures { IfOk result (λ stage. stage.slide ≡ None) }
+{
     let mut bench = Bench::new(alloc, TWO_CHAINS, 0)?;
     for user in 0..ENTRIES {
         bench.insert(alloc, user)?;
