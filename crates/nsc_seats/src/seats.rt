@@ -108,6 +108,8 @@ impl Seats {
         ensures before { IsPrefix self.old.seen self.new.seen }
         ensures other { IsPrefix other.seen self.new.seen }
         ensures searches { self.old.searching.searches ≤ self.new.searching.searches }
+        ensures number { self.old.number ≤ self.new.number }
+        ensures further { other.number ≤ self.new.number }
     {
         let mut other = other;
         if self.former.len() < other.former.len() {
@@ -193,9 +195,11 @@ fn agree_at(
     if number < left.tables.len() {
         seat.agree(&mut left.tables[number]);
     } else {
+        // The writer would show that no table goes on in place of its own, and the seat has seen one.
         seat.show(writer);
         unreachable!();
     }
+    // Only the contract names it.
     let _ = present;
 }
 
@@ -251,6 +255,7 @@ fn go_on_at(
     former.reserve(1)?;
     let newer = present.go_on(table)?;
     former.push_reserved(replace(present, newer));
+    // Only the contract names it.
     let _ = writer;
     Ok(())
 }
@@ -283,6 +288,7 @@ fn absorb(seats: &mut Vec<Seat>, present: &Seat, others: &mut Vec<Seat>, other: 
     for number in 0..others.len() {
         absorb_at(seats, present, number, &mut others[number]);
     }
+    // Only the contract names it.
     let _ = other;
 }
 
@@ -300,5 +306,6 @@ fn absorb_at(seats: &mut Vec<Seat>, present: &Seat, number: usize, other: &mut S
     ensures less { IsPrefix other.old.seen present.now.seen }
 {
     seats[number].absorb(other);
+    // Only the contract names it.
     let _ = present;
 }
