@@ -11,9 +11,10 @@ use Rattle.nsc_model.specs.declared.databases.Databases.{Databases}
 use Rattle.nsc_model.specs.declared.row.Reply.{Reply}
 use Rattle.nsc_model.specs.declared.store.Store as store
 use Rattle.nsc_model.specs.Reads.{Rose}
+use Rattle.nsc_model.specs.Entry.{line_limit}
 use Rattle.nsc_client.specs.Exchanges.{AreAnswered, Exchange, IsExchange, TakesAnswers, TakesFront}
 use Rattle.nsc_client.specs.Gate.{IsTold, SeeMore}
-use Rattle.nsc_client.specs.GateText.{Told, asking_of, line_limit}
+use Rattle.nsc_client.specs.GateText.{Told, asking_of}
 use Rattle.nsc_client.specs.Replying.{IsAnswered, said}
 use Rattle.nsc_client.proofs.Answering.{calm_on, told_after, told_before}
 

@@ -5,8 +5,9 @@ use Rattle.nsc_outside.specs.StreamAt.{StreamAt}
 use Rattle.nsc_model.specs.declared.databases.Databases.{Databases}
 use Rattle.nsc_model.specs.declared.store.Store as store
 use Rattle.nsc_model.specs.Reads.{Rose}
+use Rattle.nsc_model.specs.Entry.{line_limit}
 use Rattle.nsc_client.specs.Gate.{AreCalm, IsTold, searches_of}
-use Rattle.nsc_client.specs.GateText.{GateText, Told, line_limit}
+use Rattle.nsc_client.specs.GateText.{GateText, Told}
 
 -- a line, what was asked for it, and the line that answers it
 pub record Exchange : Type 0 where

@@ -24,10 +24,6 @@ use Rattle.nsc_model.specs.ServiceLines.{exchanged, port_of, service_key}
 use Rattle.nsc_client.specs.declared.line.LineAsks.{LineAsks}
 use Rattle.nsc_client.specs.declared.line.LineAsks.TheVariants.{Bad, One, HostNamed}
 
--- a line has at most so many bytes, its newline not counted
-abbrev pub line_limit : ℕ
-line_limit = 1100
-
 -- ---- what a line asks
 
 -- a request whose key is too long is not asked

@@ -3,10 +3,10 @@ use Rattle.std.specs.Prelude.{◌≡◌, ℕ, ◌+◌, ◌<◌, ◌≤◌, Bool,
 use Rattle.nsc_outside.specs.Stream.{IsDrained, Moves}
 use Rattle.nsc_outside.specs.StreamAt.{StreamAt}
 use Rattle.nsc_model.specs.Reads.{Rose}
+use Rattle.nsc_model.specs.Entry.{line_limit}
 use Rattle.nsc_client.specs.declared.gate.Gated.{Gated}
 use Rattle.nsc_client.specs.declared.gate.Gated.TheVariants as gated
 use Rattle.nsc_client.specs.declared.link.LinkFault.TheVariants as link
-use Rattle.nsc_client.specs.GateText.{line_limit}
 
 -- bytes came after those that were held
 pub record ComesIn (before after : StreamAt) (held new : List ℕ) : Type 0 where

@@ -6,13 +6,14 @@ use Rattle.nsc_model.specs.declared.databases.Databases.{Databases}
 use Rattle.nsc_model.specs.declared.store.Store as store
 use Rattle.nsc_model.specs.Machine.{last_count}
 use Rattle.nsc_model.specs.Reads.{Rose}
+use Rattle.nsc_model.specs.Entry.{line_limit}
 use Rattle.nsc_client.specs.declared.gate.Gated.{Gated}
 use Rattle.nsc_client.specs.declared.gate.Gated.TheVariants as gated
 use Rattle.nsc_client.specs.declared.link.LinkFault.{LinkFault}
 use Rattle.nsc_client.specs.declared.link.LinkFault.TheVariants as link
 use Rattle.nsc_client.specs.Exchanges.{TakesAnswers, TakesFront}
 use Rattle.nsc_client.specs.Gate.{IsRefusal, SeeMore, requests_of}
-use Rattle.nsc_client.specs.GateText.{asking_of, line_limit}
+use Rattle.nsc_client.specs.GateText.{asking_of}
 use Rattle.nsc_client.specs.LinesRead.{BeginsWithLine, HasNoNewline, ReadsAll, ReadsFirst, ReadsLines, front_line}
 
 -- ---- one line

@@ -1,9 +1,8 @@
 ghost use Rattle.std.specs.Prelude.{◌≡◌, ◌<◌, ◌≤◌, ◌^◌, ◌∷◌, [], IfErr, IfOk, OnOk, drop, length};
 ghost use Rattle.nsc_outside.specs.StreamAt.{stream_in, stream_out};
-ghost use Rattle.nsc_model.specs.Entry.{kept_limit};
+ghost use Rattle.nsc_model.specs.Entry.{kept_limit, line_limit};
 ghost use Rattle.nsc_client.specs.Exchanges.{TakesAnswers};
 ghost use Rattle.nsc_client.specs.Gate.{AreNamed, ArePasses, SeeMore};
-ghost use Rattle.nsc_client.specs.GateText.{line_limit};
 ghost use Rattle.nsc_client.specs.Held.{ComesOrEnds, GivesNone};
 ghost use Rattle.nsc_client.specs.Serving.{AnswersAll, AnswersEnded, IsStopped, ServesGate, gate_at};
 
@@ -11,13 +10,10 @@ use crate::line::cut_at;
 use crate::link::LinkFault;
 use crate::serving::serve_line;
 use nsc_base::Buf;
-use nsc_model::{Databases, Store, next_count};
+use nsc_model::{Databases, LINE_LIMIT, Store, next_count};
 use nsc_outside::{Sink, Source};
 use std::alloc::Global;
 use std::sync::Wait;
-
-// The longest line, in bytes.
-const LINE_LIMIT: usize = 1100;
 
 // How many bytes are read at once, at most.
 const PART: usize = 2048;

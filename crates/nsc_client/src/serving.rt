@@ -1,9 +1,9 @@
 ghost use Rattle.std.specs.Prelude.{◌≡◌, ◌<◌, ◌≤◌, ◌^◌, ◌∷◌, [], IfErr, IfOk, OnOk, length};
 ghost use Rattle.nsc_outside.specs.StreamAt.{stream_out};
-ghost use Rattle.nsc_model.specs.Entry.{kept_limit};
+ghost use Rattle.nsc_model.specs.Entry.{kept_limit, line_limit};
 ghost use Rattle.nsc_client.specs.Exchanges.{AreAnswered, TakesAnswers};
 ghost use Rattle.nsc_client.specs.Gate.{AreNamed, ArePasses, IsRefusal, SeeMore, requests_of};
-ghost use Rattle.nsc_client.specs.GateText.{asking_of, line_limit};
+ghost use Rattle.nsc_client.specs.GateText.{asking_of};
 ghost use Rattle.nsc_client.specs.Serving.{IsUnserved};
 
 use crate::answers::{answer_line, answer_to};

@@ -5,6 +5,7 @@ use crate::requests::{
 };
 use crate::trial::Trial;
 use nsc_base::NoMemory;
+use nsc_model::LINE_LIMIT;
 use nsc_outside::Release;
 use nsc_sockets::{Arrival, Role};
 use std::alloc::Global;
@@ -18,9 +19,6 @@ const WITH_GATE: &[&str] = &["-t", "1", "--gate", "/gate"];
 
 // The longest key that a request may have, in bytes.
 const LONGEST: usize = 1024;
-
-// The longest line of the gate, in bytes.
-const LONGEST_LINE: usize = 1100;
 
 /// The trials, in order.
 pub fn trials(alloc: Global) -> Result<Vec<Trial>, NoMemory> {
@@ -208,7 +206,7 @@ fn gate(
 // A line of as many letters as a line may have, one with a letter more, and a good line.
 fn long_line(alloc: Global) -> Result<Vec<u8>, NoMemory> {
     let mut lines = Vec::new(alloc);
-    for letters in [LONGEST_LINE, LONGEST_LINE + 1] {
+    for letters in [LINE_LIMIT, LINE_LIMIT + 1] {
         for _ in 0..letters {
             lines.push(b'a')?;
         }

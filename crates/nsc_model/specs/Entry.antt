@@ -1,4 +1,4 @@
--- What never changes of an entry of a cache.
+-- What never changes of an entry of a cache, and what limits hold of requests and replies.
 use Rattle.std.specs.Prelude.{ℕ}
 use Rattle.nsc_model.specs.declared.answer.Request.{Request}
 use Rattle.nsc_model.specs.Answer.{Answer}
@@ -13,6 +13,10 @@ pub record Entry : Type 0 where
 -- a key has at most so many bytes (nscd-client.h)
 abbrev pub key_limit : ℕ
 key_limit = 1024
+
+-- a line of the gate has at most so many bytes, its newline not counted
+abbrev pub line_limit : ℕ
+line_limit = 1100
 
 -- a reply that is kept has at most so many bytes
 abbrev pub kept_limit : ℕ

@@ -30,5 +30,6 @@ pub mod Fronts
 pub mod Reads
 pub mod InPlace
 pub mod Steady
+pub mod Growth
 pub mod Stores
 pub mod Exits

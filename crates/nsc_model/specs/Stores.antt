@@ -23,6 +23,7 @@ use Rattle.nsc_model.specs.Answers.{answer_of}
 use Rattle.nsc_model.specs.Content.{Content}
 use Rattle.nsc_model.specs.Files.{file_limit}
 use Rattle.nsc_model.specs.Entry.{Entry, kept_limit}
+use Rattle.nsc_model.specs.Growth.{IsArena, MayGrow, arena_after}
 use Rattle.nsc_model.specs.History.{Answered, HasLoad, HasEnd, IsLive, EndedAfter, IsPrefix, Legal, LookedBetween, NoneLive, invalidations, load_of, loads, version_in}
 use Rattle.nsc_model.specs.Live.{AreLive}
 use Rattle.nsc_model.specs.Reads.{FaultsStay, FileFailed, IsLookedUp, IsMade, IsOfHeld}
@@ -101,17 +102,21 @@ IsLoadedAgain arena ended request history = IsLoadedAfter ended request history 
 abbrev pub AreLoadedAgain : ℕ → List Record → Type 0
 AreLoadedAgain arena history = (number : ℕ) (before : List Record) (e : Entry) → IsPrefix (End number Replaced ∷ before) history → load_of before number ≡ Some e → IsLoadedAgain arena (End number Replaced ∷ before) e.request history
 
--- the words that are free are those of the arena that no live entry takes
-pub record HasFree (arena free : ℕ) (history : List Record) : Type 0 where
+-- so many words of the table are free, those that no live entry takes, and the live entries leave fewer than are needed of every table
+-- that it may become
+pub record HasNoRoom (settings : DbConf) (need free : ℕ) (history : List Record) : Type 0 where
   pub entries : List Entry
   pub live : AreLive history entries
+  pub arena : ℕ
+  pub newest : IsArena settings arena
   pub rest : free + words_of entries ≡ arena
+  pub largest : (doublings : ℕ) → MayGrow settings doublings → arena_after settings doublings < words_of entries + need
 
--- an entry needs more words than are free, which are those that no live entry takes unless there are no more compactions
-pub record IsFull (arena : ℕ) (history : List Record) (last_cycle : Type 0) (request : Request) (bytes : List ℕ) (need free : ℕ) : Type 0 where
+-- an entry needs more words than are free of the table, or of any that it may become, unless there are no more compactions
+pub record IsFull (settings : DbConf) (history : List Record) (last_cycle : Type 0) (request : Request) (bytes : List ℕ) (need free : ℕ) : Type 0 where
   pub needed : need ≡ node_words (length request.key) (length bytes)
   pub less : free < need
-  pub left : HasFree arena free history ⊎ last_cycle
+  pub left : HasNoRoom settings need free history ⊎ last_cycle
 
 -- why a reply that was made anew is not kept
 abbrev pub IsWhy : Why → DbConf → List Record → List Record → Type 0 → Request → List ℕ → Type 0
@@ -120,7 +125,7 @@ IsWhy (why.TooLarge size) settings seen after last_cycle request bytes = (size �
 IsWhy (why.Discarded loaded epoch) settings seen after last_cycle request bytes = (invalidations seen ≤ loaded) × (loaded < epoch) × (epoch ≤ invalidations after)
 IsWhy (why.Present number) settings seen after last_cycle request bytes = (e : Entry) × IsLive after e × (e.number ≡ number) × (e.request ≡ request) × (HasLoad seen e → ⊥)
 IsWhy (why.Spent count) settings seen after last_cycle request bytes = (count ≡ last_count) × (loads after ≡ count)
-IsWhy (why.Full need free) settings seen after last_cycle request bytes = IsFull (room_of settings) after last_cycle request bytes need free
+IsWhy (why.Full need free) settings seen after last_cycle request bytes = IsFull settings after last_cycle request bytes need free
 
 -- a new version was needed, and the count of versions stands at its end
 pub record IsSpent (after : List Record) (count : ℕ) : Type 0 where
@@ -186,14 +191,14 @@ abbrev pub IsInvalidateFault : CacheFault → List Record → Type 0 → Type 0
 IsInvalidateFault cache_fault.NoMemory after last_cycle = Unit {0}
 IsInvalidateFault (cache_fault.Spent count) after last_cycle = IsUnmoved after last_cycle count (NoneLive after)
 
--- the counts are those of this history, and the words those of its live entries
-pub record IsCounted (arena : ℕ) (after : List Record) (stats : Stats) : Type 0 where
+-- the counts are those of this history, and the words those of its live entries, in a table that the settings allow
+pub record IsCounted (settings : DbConf) (after : List Record) (stats : Stats) : Type 0 where
   pub entries : List Entry
   pub live : AreLive after entries
   pub counted : stats.entries ≡ length entries
   pub taken : stats.compactions < 2 ^ 61 → stats.used ≡ words_of entries
   pub invalidations_are : stats.invalidations ≡ invalidations after
-  pub arena_is : stats.arena ≡ arena
+  pub allowed : IsArena settings stats.arena
 
 -- a tick at this moment looked at a version, and the stale entries ended: every one that had been seen whose time was over, and, where
 -- changes of the files count, whose version is another one

@@ -8,6 +8,9 @@ pub const LAST_COUNT: u64 = 4_611_686_018_427_387_904;
 /// A key has at most so many bytes (glibc's nscd-client.h).
 pub const KEY_LIMIT: usize = 1_024;
 
+/// A line of the gate has at most so many bytes, its newline not counted.
+pub const LINE_LIMIT: usize = 1_100;
+
 /// A reply that is kept has at most so many bytes.
 pub const KEPT_LIMIT: usize = 65_536;
 

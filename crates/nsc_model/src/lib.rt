@@ -22,7 +22,7 @@ pub use answer::{Answer, Request};
 pub use answerer::Answerer;
 pub use conf::{Conf, DbConf};
 pub use content::Content;
-pub use counts::{KEPT_LIMIT, KEY_LIMIT, LAST_COUNT, has_reached, next_count};
+pub use counts::{KEPT_LIMIT, KEY_LIMIT, LAST_COUNT, LINE_LIMIT, has_reached, next_count};
 pub use databases::Databases;
 pub use exit::{ConfFault, Exit};
 pub use fault::CacheFault;

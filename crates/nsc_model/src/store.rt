@@ -9,7 +9,6 @@ ghost use Rattle.nsc_model.specs.Entry.{key_limit, kept_limit};
 ghost use Rattle.nsc_model.specs.InPlace.{InPlaceClause};
 ghost use Rattle.nsc_model.specs.Kinds.{database_of};
 ghost use Rattle.nsc_model.specs.History.{IsPrefix, Legal};
-ghost use Rattle.nsc_model.specs.Machine.{room_of};
 ghost use Rattle.nsc_model.specs.Reads.{FaultsStay};
 ghost use Rattle.nsc_model.specs.Steady.{IsSteady};
 ghost use Rattle.nsc_model.specs.Stores.{Continues, FoundLastCycle, GivesAnswer, GivesUp, IsCounted, IsEmptied, IsInvalidateFault, IsOfFiles, IsTicked, IsTickFault};
@@ -46,11 +45,11 @@ pub struct Stats {
     pub entries: u64,
     /// How many words entries take, the live ones and those that ended since the last compaction.
     pub used: u64,
-    /// How many words entries may take.
+    /// How many words entries may take in the table as it is.
     pub arena: u64,
     /// How often the database was invalidated.
     pub invalidations: u64,
-    /// How often it was compacted.
+    /// How often it was compacted, with the times that its table became larger.
     pub compactions: u64,
     /// How many insertions found no room.
     pub addfailed: u64,
@@ -109,7 +108,7 @@ pub enum Why {
         /// The count of entries, 2^62.
         count: u64,
     },
-    /// Too few words are free.
+    /// Too few words are free, and the table cannot become large enough.
     Full {
         /// How many words the entry needs.
         need: u64,
@@ -294,7 +293,7 @@ pub trait Store {
         ensures seen { Continues (seen pass.old) (seen pass.new) }
         ensures steady { IsSteady (held self.now) (db self.now) (seen pass.new) }
         ensures searches { searches pass.old ≤ searches pass.new }
-        ensures counted { IfOk result (λ stats. IsCounted (room_of (settings self.now)) (seen pass.new) stats) }
+        ensures counted { IfOk result (λ stats. IsCounted (settings self.now) (seen pass.new) stats) }
         ensures enabled { IfOk result (λ stats. stats.enabled ≡ (settings self.now).enabled) }
         ensures no_fault { FaultsStay (faults pass.old) (faults pass.new) (file_faults pass.old) (file_faults pass.new) };
 

@@ -15,7 +15,6 @@ use Rattle.nsc_model.specs.declared.store.Stats.{Stats}
 use Rattle.nsc_model.specs.Databases.{database_in}
 use Rattle.nsc_model.specs.History.{Legal, NoneLive}
 use Rattle.nsc_model.specs.Kinds.{database_of, db_named}
-use Rattle.nsc_model.specs.Machine.{room_of}
 use Rattle.nsc_model.specs.Reads.{Rose}
 use Rattle.nsc_model.specs.Stores.{GivesAnswer, GivesUp, IsCounted, IsEmptied, IsInvalidateFault, IsSpent, IsUnmoved, reply_of}
 use Rattle.nsc_model.specs.Wire.{Asked, Look, Shutdown, Stat, Invalidate, Short, field, request_of}
@@ -65,7 +64,7 @@ IsInvalidateReply None before after reply = (reply ≡ no_database) × (after �
 -- the counts are those of a database of these settings, as the pass has seen it
 pub record IsCountOf (settings : DbConf) (after : PassAt) (stats : Stats) : Type 0 where
   pub legal : Legal after.seen
-  pub counted : IsCounted (room_of settings) after.seen stats
+  pub counted : IsCounted settings after.seen stats
   pub enabled : stats.enabled ≡ settings.enabled
 
 -- the counts of the four databases, in the order passwd, group, hosts and services

@@ -1,10 +1,7 @@
 -- What can be served of the bytes that came from a peer of the gate.
 use Rattle.std.specs.Prelude.{◌≡◌, ℕ, ◌+◌, Bool, false, true, List, Option, Some, None, length, nat_lt, if◌then◌else◌}
+use Rattle.nsc_model.specs.Entry.{line_limit}
 use Rattle.memchr.specs.Find.{IsLastByte, is_byte}
-
--- a line of the gate has so many bytes at most, its newline not counted
-abbrev pub line_limit : ℕ
-line_limit = 1100
 
 -- how many of so many bytes can be served, by the place of the last newline among them: the whole lines, or all where they are one
 -- line that is too long

@@ -3,12 +3,10 @@ ghost use Rattle.std.specs.Prelude.{◌≤◌, length};
 ghost use Rattle.nsc_sockets.specs.WholeLines.{AreWholeLines};
 
 use memchr::memrchr;
-
-// A line of the gate has so many bytes at most, its newline not counted.
-const LONGEST_LINE: usize = 1100;
+use nsc_model::LINE_LIMIT;
 
 /// So many bytes of a peer are seen ahead at most: a line of the gate and its newline, or a line that is too long.
-pub(crate) const MOST_SEEN: usize = LONGEST_LINE + 1;
+pub(crate) const MOST_SEEN: usize = LINE_LIMIT + 1;
 
 // So many bytes of lines are served before others have their turn.
 const TURN: usize = 256;
@@ -36,7 +34,7 @@ fn whole_lines(seen: &[u8], has_ended: bool) -> usize
     } else {
         match memrchr(b'\n', seen) {
             Some(last) => last + 1,
-            None if seen.len() > LONGEST_LINE => seen.len(),
+            None if seen.len() > LINE_LIMIT => seen.len(),
             None => 0,
         }
     }
