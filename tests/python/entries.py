@@ -1,7 +1,8 @@
 """Compares the entries of a daemon's database of users, call by call, with a plain list of entries.
 
 The list knows the rules of the room alone: an entry takes eight words, those of its key and those of its reply; an invalidation ends
-every entry, and where there was any their words are free again; a reply of more than 65,536 bytes is not kept.
+every entry, and where there was any their words are free again; a reply of more than 65,536 bytes is not kept. Where too few words are
+free, the table becomes twice as large, or four times, and so on: the first one with room, if it takes at most max-db-size bytes.
 """
 
 import random
@@ -14,6 +15,11 @@ import rules
 from running import GETSTAT, INVALIDATE, NO_REPLY, PASSWD_BY_NAME, Fault, check, daemon, request
 
 LONGEST_KEY, LONGEST_KEPT = 1024, 65536
+HEAD_WORDS, ROOM_WORDS = 16, 128  # at the head of a table, and for entries for each of its size
+MOST_WORDS = 8388608  # for entries, 64 MiB
+DEFAULT_SIZE, DEFAULT_LIMIT = 211, 33554432
+# The sizes and limits of tables that are used by chance. With 2,192 bytes the least one becomes twice as large, with one less it does not.
+RUNS = [(1, 0), (20, 0), (211, 0), (65536, 0), (1, DEFAULT_LIMIT), (20, DEFAULT_LIMIT), (1, 2191), (1, 2192)]
 LOOKUPS = ["hits", "negative hits", "misses", "negative misses", "entries"]
 ENDS = ["invalidations", "compactions", "not added"]
 
@@ -26,7 +32,8 @@ def words_for(length):
 class Room:
     """The entries of one database, as a list has them, and what the database counts."""
 
-    arena: int
+    size: int  # how many buckets the table has
+    limit: int  # bytes that a larger one takes at most
     replies: dict = field(default_factory=dict)
     used: int = 0
     counts: dict = field(default_factory=lambda: dict.fromkeys(LOOKUPS + ENDS, 0))
@@ -41,12 +48,27 @@ class Room:
 
     def insert(self, key, reply):
         need = 8 + words_for(len(key)) + words_for(len(reply))
-        if need <= self.arena - self.used:
-            self.replies[key] = reply
-            self.counts["entries"] += 1
-            self.used += need
-        else:
+        if self.used + need > self.arena():
             self.counts["not added"] += 1
+            if not self.grows(need):
+                return
+        self.replies[key] = reply
+        self.counts["entries"] += 1
+        self.used += need
+
+    def arena(self):
+        return ROOM_WORDS * self.size
+
+    def grows(self, need):
+        """Whether a larger table has room for so many words more. The first that has goes on."""
+        size = 2 * self.size
+        while 8 * (HEAD_WORDS + size + ROOM_WORDS * size) <= self.limit and ROOM_WORDS * size <= MOST_WORDS:
+            if self.used + need <= ROOM_WORDS * size:
+                self.size = size
+                self.counts["compactions"] += 1
+                return True
+            size *= 2
+        return False
 
     def invalidate(self):
         self.counts["invalidations"] += 1
@@ -57,7 +79,7 @@ class Room:
     def told(self):
         """The statistics as the daemon tells them."""
         lines = [[f"{name} {self.counts[name]}" for name in names] for names in (LOOKUPS, ENDS)]
-        return "\n".join(["passwd cache:", "enabled yes", *lines[0], f"used words {self.used} of {self.arena}", *lines[1]])
+        return "\n".join(["passwd cache:", "enabled yes", *lines[0], f"used words {self.used} of {self.arena()}", *lines[1]])
 
 
 def reply_of(name, gecos_length):
@@ -77,13 +99,15 @@ def names_of_one_hash(count):
 
 
 class Trial:
-    """A daemon whose table of users has this size, and the list beside it."""
+    """A daemon whose table of users begins with this size, and grows up to so many bytes, and the list beside it."""
 
-    def __init__(self, run, size, users):
-        self.run, self.users, self.room = run, users, Room(128 * size)
+    def __init__(self, run, size, users, limit=0, settings=None):
+        self.run, self.users, self.room = run, users, Room(size, limit)
         lines = (b"%s:x:1000:1000:%s:/home:/bin/sh\n" % (name, b"g" * length) for name, length in users.items())
         (run.etc / "passwd").write_bytes(b"".join(lines))
-        (run.etc / "nscd.conf").write_text(f"suggested-size passwd {size}\ncheck-files passwd no\n")
+        if settings is None:
+            settings = f"suggested-size passwd {size}\nmax-db-size passwd {limit}\ncheck-files passwd no\n"
+        (run.etc / "nscd.conf").write_text(settings)
         run.words = ["-f", run.etc / "nscd.conf"]
         run.start()
 
@@ -103,12 +127,12 @@ class Trial:
         return told.splitlines()
 
 
-def by_chance(size, steps, dice):
-    """Lookups of found and absent names of every length, and invalidations, in a table of this size."""
+def by_chance(size, limit, steps, dice):
+    """Lookups of found and absent names of every length, and invalidations, in a table of this size and limit."""
     users = users_of(dice)
     absent = [b"n" * length for length in range(LONGEST_KEY)]
     with daemon(started=False) as run:
-        trial = Trial(run, size, users)
+        trial = Trial(run, size, users, limit)
         for step in range(steps):
             if dice.random() < 4 / steps:
                 trial.invalidate()
@@ -117,8 +141,9 @@ def by_chance(size, steps, dice):
                 trial.count()
         trial.count()
         run.shut_down()
-        counts = trial.room.counts
-        return f"size {size}: {steps} calls; {counts['hits'] + counts['negative hits']} hits, {counts['not added']} found no room"
+        counts, words = trial.room.counts, trial.room.arena()
+        hits = counts["hits"] + counts["negative hits"]
+        return f"size {size}, limit {limit}: {steps} calls; {hits} hits, {counts['not added']} found no room; {words} words in the end"
 
 
 def one_chain(dice):
@@ -152,10 +177,62 @@ def full():
         return "the least table holds 128 words: one entry too long is refused, and one that just fits is kept"
 
 
+def grown():
+    """The least table becomes twice as large, and not four times: that would take 4,256 bytes."""
+    with daemon(started=False) as run:
+        trial = Trial(run, 1, {}, 4096)
+        for number in range(7):
+            trial.look_up(b"absent-user-name%d" % number)
+        check("used words 112 of 128" in trial.count(), "a table grows that is not full")
+        trial.look_up(b"b" * 25)
+        told = {"used words 129 of 256", "compactions 1", "not added 1"}
+        check(told <= set(trial.count()), "an entry of seventeen words is not kept in a table of twice the words")
+        for number in range(7, 14):
+            trial.look_up(b"absent-user-name%d" % number)
+        check({"used words 241 of 256", "compactions 1", "not added 1"} <= set(trial.count()), "the larger table is not filled")
+        trial.look_up(b"absent-user-name14")
+        check({"used words 241 of 256", "not added 2"} <= set(trial.count()), "an entry of sixteen words is kept in fifteen")
+        trial.look_up(b"absent-user-name3")
+        check("negative hits 1" in trial.count(), "an entry of the smaller table is lost")
+        run.shut_down()
+        return "the least table becomes twice as large where it is full, with its entries, and no larger than its limit"
+
+
+def at_a_limit():
+    """A table of twice the least size takes 2,192 bytes."""
+    for limit, arena in ((2191, 128), (2192, 256)):
+        with daemon(started=False) as run:
+            trial = Trial(run, 1, {}, limit)
+            for number in range(17):
+                trial.look_up(b"absent-user-name%02d" % number)
+            check(f"used words {arena} of {arena}" in trial.count(), f"with at most {limit} bytes it has not {arena} words")
+            run.shut_down()
+    return "a table grows where it just may, and not where it takes one byte too many"
+
+
+def by_default(dice):
+    """Five thousand users, and no line of settings."""
+    users = {b"user%04d" % number: number % 64 for number in range(5000)}
+    names = list(users)
+    with daemon(started=False) as run:
+        trial = Trial(run, DEFAULT_SIZE, users, DEFAULT_LIMIT, settings="")
+        for _ in range(2):
+            dice.shuffle(names)
+            for name in names:
+                trial.look_up(name)
+            trial.count()
+        run.shut_down()
+        counts = trial.room.counts
+        check(counts["hits"] == len(names), "a user is not kept")
+        check(0 < counts["compactions"] == counts["not added"], "an entry finds no room, and the table does not grow")
+        return f"{len(names)} users under the default settings: all are kept, and the table grew {counts['compactions']} times"
+
+
 def main():
     steps = int(sys.argv[1]) if len(sys.argv) > 1 else 10000
     dice = random.Random(int(sys.argv[2]) if len(sys.argv) > 2 else 1)
-    cases = [full, lambda: one_chain(dice), *(lambda size=size: by_chance(size, steps // 4, dice) for size in (1, 20, 211, 65536))]
+    cases = [full, grown, at_a_limit, lambda: one_chain(dice), lambda: by_default(dice)]
+    cases += [lambda size=size, limit=limit: by_chance(size, limit, steps // 4, dice) for size, limit in RUNS]
     broken = 0
     for case in cases:
         try:

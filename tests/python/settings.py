@@ -1,15 +1,18 @@
-"""The settings that are installed mean the same as none: replays and a daemon that show each of them."""
+"""The settings that are installed mean the same as none: replays and daemons that show each of them."""
 
 import os
+import re
 import time
 
-from frames import END, look_up, pass_time, program, replay, set_file
-from running import check, daemon
+from frames import END, TYPES, look_up, pass_time, program, replay, set_file
+from running import GETSTAT, check, daemon, request
 from tables import DATABASES, DIST, attributes
 
 KINDS = {"passwd": "user", "group": "group", "hosts": "host", "services": "service"}
 LONG = 60000  # bytes of a text that makes a long reply, which is kept all the same
 SHORT = 700  # and of one whose entry takes less than the words of one size
+ABSENT = 200  # names of 1,000 bytes that nobody has: more than the first table of a database has room for, and fewer than twice as many
+OF_DAEMON = {"threads", "max-db-size"}  # attributes that no replay shows
 
 
 def entry(database, name, tag, length=1):
@@ -120,6 +123,32 @@ def threads_of(*words):
         return found
 
 
+def tables_of(settings):
+    """How many words entries may take in each database of a daemon, once each was asked for more than its first table holds."""
+    with daemon(started=False) as run:
+        (run.etc / "nscd.conf").write_bytes(settings)
+        run.start()
+        for kind in KINDS.values():
+            for at in range(ABSENT):
+                run.ask(request(TYPES[kind], b"n%0999d\0" % at))
+        told = run.ask(request(GETSTAT, b""), "admin").decode()
+        run.shut_down()
+        return [int(words) for words in re.findall(r"^used words \d+ of (\d+)$", told, re.M)]
+
+
+def check_tables(conf, size):
+    """Sees that each table becomes twice as large, also under nscd.conf, and that of a database alone stays of which a line says 0."""
+    first = 128 * size
+    for settings in (b"", conf):
+        found = tables_of(settings)
+        check(found == [2 * first] * len(DATABASES), f"max-db-size: tables of {found} words")
+    for at, database in enumerate(DATABASES):
+        wanted = [first if at == other else 2 * first for other in range(len(DATABASES))]
+        found = tables_of(conf + b"max-db-size %s 0\n" % database.encode())
+        check(found == wanted, f"max-db-size {database} 0: tables of {found} words")
+    return len(DATABASES)
+
+
 def settings_case():
     conf = (DIST / "nscd.conf").read_bytes()
     table = {attribute.name: attribute for attribute in attributes()}
@@ -137,13 +166,14 @@ def settings_case():
                 line = " ".join([name] + ([database] if attribute.is_of_database() else []) + [value])
                 check(output(frames, conf + line.encode() + b"\n") != plain, f"{line}: the replay does not show it")
                 near += 1
-    told = {name for name, attribute in table.items() if attribute.has_effect and name != "threads"}
+    told = {name for name, attribute in table.items() if attribute.has_effect} - OF_DAEMON
     check(told == set(shown("passwd", 1, 1, 1)), f"no replay shows {told ^ set(shown('passwd', 1, 1, 1))}")
+    near += check_tables(conf, int(table["suggested-size"].defaults[0]))
     threads = threads_of()
     check(threads_of("-f", str(DIST / "nscd.conf")) == threads, f"threads: not {threads} under nscd.conf")
     more = str(int(table["threads"].defaults[0]) + 1)
     check(threads_of("-t", more) == threads + 1, f"threads: a daemon with -t {more} has no thread more")
     return (
-        f"replays over each database and a daemon's threads are under nscd.conf what they are without it;"
+        f"replays over each database and a daemon's threads and tables are under nscd.conf what they are without it;"
         f" {near} settings beside those are told from them"
     )

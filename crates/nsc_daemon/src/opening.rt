@@ -6,7 +6,6 @@ ghost use Rattle.nsc_model.specs.Settings.{settings_of};
 ghost use Rattle.nsc_model.specs.declared.kind.Db.TheVariants as db_is;
 ghost use Rattle.nsc_daemon.specs.Ends.{IsOpeningFault, TellsFileLength, opening_exit};
 
-use nsc_base::NoMemory;
 use nsc_database::{Database, DbPass, Opened, Room};
 use nsc_index::Indexed;
 use nsc_model::{Conf, Databases, Db, Exit};
@@ -78,17 +77,15 @@ impl<F: FileSet + Drop> Openings<F> {
     }
 
     /// Enters a room, in which threads may share them.
-    pub fn enter<B: Room>(
-        self,
-    ) -> Result<(Databases<Database<F, Indexed, B>>, Databases<DbPass<F, B>>), NoMemory>
+    pub fn enter<B: Room>(self) -> (Databases<Database<F, Indexed, B>>, Databases<DbPass<F, B>>)
         requires names { (self.passwd.db ≡ db_is.Passwd) × (self.group.db ≡ db_is.Group) × (self.hosts.db ≡ db_is.Hosts) × (self.services.db ≡ db_is.Services) }
         requires tables { (self.passwd.pass.table ≡ B.table db_is.Passwd) × (self.group.pass.table ≡ B.table db_is.Group) × (self.hosts.pass.table ≡ B.table db_is.Hosts) × (self.services.pass.table ≡ B.table db_is.Services) }
         requires passwd { (self.passwd.settings ≡ settings_of B.conf db_is.Passwd) × (self.passwd.reloads ≡ B.conf.reloads) × (F.held self.passwd.files ≡ B.held) }
         requires group { (self.group.settings ≡ settings_of B.conf db_is.Group) × (self.group.reloads ≡ B.conf.reloads) × (F.held self.group.files ≡ B.held) }
         requires hosts { (self.hosts.settings ≡ settings_of B.conf db_is.Hosts) × (self.hosts.reloads ≡ B.conf.reloads) × (F.held self.hosts.files ≡ B.held) }
         requires services { (self.services.settings ≡ settings_of B.conf db_is.Services) × (self.services.reloads ≡ B.conf.reloads) × (F.held self.services.files ≡ B.held) }
-        ensures named { IfOk result (λ r. (r.0.passwd.db ≡ db_is.Passwd) × (r.0.group.db ≡ db_is.Group) × (r.0.hosts.db ≡ db_is.Hosts) × (r.0.services.db ≡ db_is.Services)) }
-        ensures passes { IfOk result (λ r. (r.1.passwd.db ≡ r.0.passwd.db) × (r.1.group.db ≡ r.0.group.db) × (r.1.hosts.db ≡ r.0.hosts.db) × (r.1.services.db ≡ r.0.services.db)) }
+        ensures named { (result.0.passwd.db ≡ db_is.Passwd) × (result.0.group.db ≡ db_is.Group) × (result.0.hosts.db ≡ db_is.Hosts) × (result.0.services.db ≡ db_is.Services) }
+        ensures passes { (result.1.passwd.db ≡ result.0.passwd.db) × (result.1.group.db ≡ result.0.group.db) × (result.1.hosts.db ≡ result.0.hosts.db) × (result.1.services.db ≡ result.0.services.db) }
     {
         let Openings {
             passwd,
@@ -96,10 +93,10 @@ impl<F: FileSet + Drop> Openings<F> {
             hosts,
             services,
         } = self;
-        let (passwd, passwd_pass) = passwd.enter::<B>()?;
-        let (group, group_pass) = group.enter::<B>()?;
-        let (hosts, hosts_pass) = hosts.enter::<B>()?;
-        let (services, services_pass) = services.enter::<B>()?;
+        let (passwd, passwd_pass) = passwd.enter::<B>();
+        let (group, group_pass) = group.enter::<B>();
+        let (hosts, hosts_pass) = hosts.enter::<B>();
+        let (services, services_pass) = services.enter::<B>();
         let stores = Databases {
             passwd,
             group,
@@ -112,6 +109,6 @@ impl<F: FileSet + Drop> Openings<F> {
             hosts: hosts_pass,
             services: services_pass,
         };
-        Ok((stores, passes))
+        (stores, passes)
     }
 }

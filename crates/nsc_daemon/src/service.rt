@@ -87,10 +87,8 @@ where
     ensures ends { (faults : ℕ) → EndsSo result (record { output = stream_out K.Sink output.old; source_faults = faults; given = N.given net.old; net_faults = N.faults net.old }) (record { output = stream_out K.Sink output.new; source_faults = faults; given = N.given net.new; net_faults = N.faults net.new }) }
     ensures bound { result ≡ Exit.Ok → IsBound (N.bound net.old) (N.bound net.new) (sockets_of terms.now.run_dir.now (option_map (λ p. p.now) terms.now.gate)) }
 {
-    match openings.enter::<B>() {
-        Ok((stores, passes)) => serve(rt, terms, stores, passes, output, clock, net),
-        Err(_) => Exit::NoMemory,
-    }
+    let (stores, passes) = openings.enter::<B>();
+    serve(rt, terms, stores, passes, output, clock, net)
 }
 
 // Binds the sockets, tells that the daemon is ready, and serves. Afterwards no socket is left, also where the start failed.

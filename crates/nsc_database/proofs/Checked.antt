@@ -10,6 +10,7 @@ use Rattle.nsc_pruner.specs.Due.{Due}
 use Rattle.nsc_turns.specs.declared.ticks.Checked.{Checked}
 use Rattle.nsc_turns.specs.declared.ticks.Checked.TheVariants as checked
 use Rattle.nsc_turns.specs.Ticks.{Checks}
+use Rattle.nsc_writer.specs.Former.{Former}
 use Rattle.nsc_writer.specs.Writer.{Writer}
 use Rattle.nsc_database.specs.Rests.{IsAtRest, Keeps}
 use Rattle.nsc_database.specs.Ticks.{AreListed, IsChecked}
@@ -17,12 +18,12 @@ use Rattle.nsc_database.proofs.Invalidations.{finds_emptied, completes_emptied, 
 use Rattle.nsc_database.proofs.Listed.{are_listed}
 use Rattle.nsc_database.proofs.Standing.{at_rest_current, at_rest_on}
 
-pub at_rest_checked : {settings : DbConf} {limit : Option ℕ} {held : Option Content} {which : Db} {ticked : ℕ} (c : Checked) (most : Option ℕ) (now newest : ℕ) (w w' : Writer) → Checks (is_outdated settings w.cache.newest_version ticked) most now w w' (Ok c) → Tells w.seen w.cache → newest ≡ w.cache.newest_version
-    → IsAtRest settings limit held which ticked w → IsAtRest settings limit held which newest w'
-at_rest_checked {settings} {limit} {held} {which} {ticked} checked.Emptied most now newest w w' c t is s =
-    let on = at_rest_on w w' (rests_emptied w w' c.1 t) s in
-    (subst (λ (n : ℕ). Keeps settings limit n w') (sym is) (finds_emptied w w' c.1 t settings limit ticked s.0), on.1, on.2, on.3, on.4)
-at_rest_checked {settings} {limit} {held} {which} {ticked} (checked.Listed due) most now newest w w' c t is s = at_rest_current newest w w' c.2 is c.0 s
+pub at_rest_checked : {settings : DbConf} {limit : Option ℕ} {held : Option Content} {which : Db} {ticked : ℕ} (left : List Former) (c : Checked) (most : Option ℕ) (now newest : ℕ) (w w' : Writer) → Checks (is_outdated settings w.cache.newest_version ticked) most now w w' (Ok c) → Tells w.seen w.cache → newest ≡ w.cache.newest_version
+    → IsAtRest settings limit held which ticked left w → IsAtRest settings limit held which newest left w'
+at_rest_checked {settings} {limit} {held} {which} {ticked} left checked.Emptied most now newest w w' c t is s =
+    let on = at_rest_on left w w' (rests_emptied w w' c.1 t) s in
+    (subst (λ (n : ℕ). Keeps settings limit n w') (sym is) (finds_emptied w w' c.1 t settings limit ticked s.0), on.1, on.2, on.3, on.4, on.5, on.6)
+at_rest_checked {settings} {limit} {held} {which} {ticked} left (checked.Listed due) most now newest w w' c t is s = at_rest_current left newest w w' c.2 is c.0 s
 
 pub is_checked : {settings : DbConf} {ticked : ℕ} (c : Checked) (limit : Option ℕ) (now : ℕ) (w w' : Writer) → Checks (is_outdated settings w.cache.newest_version ticked) limit now w w' (Ok c) → Tells w.seen w.cache → Keeps settings limit ticked w → IsChecked c settings limit now w'.seen
 is_checked {settings} {ticked} checked.Emptied limit now w w' c t k = (completes_emptied w w' w'.cache.epoch c.1 t refl).none

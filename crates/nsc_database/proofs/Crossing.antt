@@ -6,7 +6,7 @@ use Rattle.std.proofs.Crossing.{crosses}
 use Rattle.nsc_base.specs.contracts.buf.Buf as buf
 use Rattle.nsc_model.specs.declared.answerer.Answerer as answerer
 use Rattle.nsc_outside.specs.declared.files.FileSet as file_set
-use Rattle.nsc_rule.proofs.Crossing as rule
+use Rattle.nsc_seats.proofs.Crossing.{left-send, seats-send}
 use Rattle.nsc_writer.proofs.Crossing.{writer-send}
 use Rattle.nsc_sourcebook.proofs.Crossing.{book-send}
 use Rattle.nsc_database.specs.declared.room.Room as room
@@ -42,17 +42,17 @@ services-send : IsSend services.the_row
 services-send = search sendable
 
 pub pass-send : (F B : RattleType) (f : file_set.Ghosts F.Denot) (r : room.Ghosts B.Denot) → IsSend F → IsSend B → IsSend (db_pass.the_row F B f r)
-pass-send F B f r files b = search (sendable, crosses, rule.pass-send, rule.map-send, buf-send) depth 30
+pass-send F B f r files b = search (sendable, crosses, seats-send, buf-send) depth 30
 
 desk-send : (D B : RattleType) (o : of_db.Ghosts D.Denot) (r : room.Ghosts B.Denot) → IsSend D → IsSend B → IsSend (desk.the_row D B o r)
-desk-send D B o r d b = search (sendable, crosses, writer-send) depth 30
+desk-send D B o r d b = search (sendable, crosses, writer-send, left-send) depth 30
 
 module _ (F A B R : RattleType) (f : file_set.Ghosts F.Denot) (a : answerer.Ghosts A.Denot R.Denot) (r : room.Ghosts B.Denot) (files : IsSend F) (answers : IsSync A) (b : IsSend B) (ready : IsSend R) (shared : IsSync R) where
   shelved-send : (D : RattleType) (o : of_db.Ghosts D.Denot) → IsSend D → IsSend (shelved.the_row D F A B R o f a r)
   shelved-send D o d = search (sendable, crosses, book-send) depth 30
 
   base-sync : (D : RattleType) (o : of_db.Ghosts D.Denot) → IsSend D → IsSync (base.the_field D F A B R o f a r).row
-  base-sync D o d = search (sendable, crosses, desk-send, shelved-send, rule.map-sync) depth 30
+  base-sync D o d = search (sendable, crosses, desk-send, shelved-send) depth 30
 
   bases-sync : IsSync (bases.the_field F A B R f a r).row
   bases-sync = enum_sync (shape (bases.the_type F A B R f a r)) (
@@ -64,7 +64,7 @@ module _ (F A B R : RattleType) (f : file_set.Ghosts F.Denot) (a : answerer.Ghos
   database-sync = search (sendable, crosses, bases-sync) depth 30
 
   base-send : (D : RattleType) (o : of_db.Ghosts D.Denot) → IsSend A → IsSend D → IsSend (base.the_field D F A B R o f a r).row
-  base-send D o owned d = search (sendable, crosses, desk-send, shelved-send, rule.map-send) depth 30
+  base-send D o owned d = search (sendable, crosses, desk-send, shelved-send) depth 30
 
   bases-send : IsSend A → IsSend (bases.the_field F A B R f a r).row
   bases-send owned = enum_send (shape (bases.the_type F A B R f a r)) (

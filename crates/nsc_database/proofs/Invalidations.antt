@@ -20,9 +20,9 @@ use Rattle.nsc_database.proofs.Shown.{emptied_on, is_emptied}
 use Rattle.nsc_database.proofs.Steady.{version_emptied}
 use Rattle.nsc_database.proofs.Ended.{keeps_compacted, keeps_emptied, keeps_newest, packed_compacted, packed_spent}
 
-again_emptied : (w w' : Writer) → w' ≡ emptied_by w → LoadsAgain w.layout.arena w.cache.cycle w.seen → LoadsAgain w'.layout.arena w'.cache.cycle w'.seen
-again_emptied w w' is l =
-    subst (λ (x : Writer). LoadsAgain x.layout.arena x.cache.cycle x.seen) (sym is) (again_more w.layout.arena w.cache.cycle (Invalid (w.cache.epoch + 1)) (ends_of by_invalidation w.cache.entries w.seen) tt (again_ends w.layout.arena w.cache.cycle w.cache.entries w.seen l))
+again_emptied : (w w' : Writer) → w' ≡ emptied_by w → (arena : ℕ) → LoadsAgain arena w.cache.cycle w.seen → LoadsAgain arena w'.cache.cycle w'.seen
+again_emptied w w' is arena l =
+    subst (λ (x : Writer). LoadsAgain arena x.cache.cycle x.seen) (sym is) (again_more arena w.cache.cycle (Invalid (w.cache.epoch + 1)) (ends_of by_invalidation w.cache.entries w.seen) tt (again_ends arena w.cache.cycle w.cache.entries w.seen l))
 
 rests_from : (w w' : Writer) → w' ≡ emptied_by w → Tells w.seen w.cache → (IsPacked w → IsPacked w') → Rests w w'
 rests_from w w' is t packed =
@@ -49,7 +49,7 @@ rests_compacted w w' w'' empty t is =
       slide = goes.slide;
       keeps = λ settings limit ticked k. keeps_compacted settings limit ticked (all_words w'.cache.entries) (w'.cache.cycle + 2) w' (compacted_by w') refl (keeps_emptied settings limit ticked w w' empty t k);
       packed = λ p. packed_compacted w' (compacted_by w') refl;
-      again = λ l. again_later w'.layout.arena w'.cache.cycle (w'.cache.cycle + 2) w'.seen (omega arith) (again_emptied w w' empty l);
+      again = λ arena l. again_later arena w'.cache.cycle (w'.cache.cycle + 2) w'.seen (omega arith) (again_emptied w w' empty arena l);
       version = record { version = version.version; sources = version.sources };
     })
 

@@ -13,3 +13,4 @@ pub mod Crossing
 pub mod Again
 pub mod Reloading
 pub mod Checked
+pub mod Grown

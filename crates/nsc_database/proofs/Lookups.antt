@@ -13,7 +13,7 @@ use Rattle.nsc_model.specs.declared.store.Why.TheVariants as why
 use Rattle.nsc_model.specs.Entry.{Entry}
 use Rattle.nsc_model.specs.Answers.{answer_of}
 use Rattle.nsc_model.specs.History.{Answered, EndedAfter, HasLoad, IsPrefix, Legal, NoneLiveOf, PolledSince, invalidations, loads}
-use Rattle.nsc_model.specs.Machine.{life_of, room_of}
+use Rattle.nsc_model.specs.Machine.{life_of}
 use Rattle.nsc_model.specs.Stores.{GivesAnswer, IsGiven, IsHit, IsMissed, IsMissedAt, IsWhy, reply_of}
 use Rattle.nsc_laws.proofs.Prefixes.{load_below}
 use Rattle.nsc_writer.specs.declared.loaded.Inserted.{Inserted}
@@ -22,7 +22,7 @@ use Rattle.nsc_writer.specs.Loaded.{Loaded, kept_of}
 use Rattle.nsc_writer.specs.Writer.{IsAnswered}
 use Rattle.nsc_writer.proofs.Later.{prefix_through, version_on, load_on, end_on}
 use Rattle.nsc_sourcebook.specs.Book.{Polled}
-use Rattle.nsc_database.specs.Holds.{IsInserted, IsPolled}
+use Rattle.nsc_database.specs.Holds.{IsKept, IsPolled}
 use Rattle.nsc_turns.specs.declared.entries.HitOrMiss.TheVariants as looked
 use Rattle.nsc_database.specs.Lookups.{IsFoundIfCached, IsTried, given_by}
 use Rattle.nsc_database.proofs.Shown.{inserted_since, invalidations_on, loads_on, prefix_length}
@@ -156,7 +156,7 @@ not_seen : (seen mid : List Record) (e : Entry) → Legal seen → IsPrefix seen
 not_seen seen mid e legal p low loaded = let below = load_below seen e legal loaded in let few = loads_on seen mid p in omega arith
 
 by_said : (said : Inserted) (g : Given) (seen mid after : List Record) (last_cycle : Type 0) (request : Request) (epoch : ℕ) (polled : Polled) (settings : DbConf) (now : ℕ) → Anew seen mid request epoch polled → IsPrefix mid after
-    → IsInserted (room_of settings) last_cycle said (loaded_of settings now request polled) mid after → g ≡ given_by said (answer_of polled.content request).bytes → IsGiven g settings now seen after last_cycle request
+    → IsKept settings last_cycle said (loaded_of settings now request polled) mid after → g ≡ given_by said (answer_of polled.content request).bytes → IsGiven g settings now seen after last_cycle request
 by_said (inserted.Done number) g seen mid after last_cycle request epoch polled settings now a p i is =
     let l = loaded_of settings now request polled in
     let e = (kept_of l number).entry in
@@ -178,7 +178,7 @@ by_said (inserted.Full need free) g seen mid after last_cycle request epoch poll
     subst (λ (x : Given). IsGiven x settings now seen after last_cycle request) (sym is) (i, inr (none_on seen after request (prefix_through seen mid after a.on p) a.none))
 
 pub anew_given : (g : Given) (seen mid after : List Record) (last_cycle : Type 0) (request : Request) (epoch : ℕ) (polled : Polled) (settings : DbConf) (now : ℕ) → Anew seen mid request epoch polled → IsPrefix mid after
-    → IsTried (room_of settings) last_cycle (loaded_of settings now request polled) mid after g → IsGiven g settings now seen after last_cycle request
+    → IsTried settings last_cycle (loaded_of settings now request polled) mid after g → IsGiven g settings now seen after last_cycle request
 anew_given g seen mid after last_cycle request epoch polled settings now a p k = by_said k.said g seen mid after last_cycle request epoch polled settings now a p k.inserted k.gives
 
 -- the reply of what is given after an insertion
@@ -190,9 +190,9 @@ said_reply (inserted.Present number) bytes = refl
 said_reply (inserted.Spent count) bytes = refl
 said_reply (inserted.Full need free) bytes = refl
 
-pub kept_reply : (arena : ℕ) (last_cycle : Type 0) (l : Loaded) (seen after : List Record) (g : Given) → IsTried arena last_cycle l seen after g → reply_of g ≡ l.answer.bytes
-kept_reply arena last_cycle l seen after g k = ap reply_of k.gives ∙ said_reply k.said l.answer.bytes
+pub kept_reply : (settings : DbConf) (last_cycle : Type 0) (l : Loaded) (seen after : List Record) (g : Given) → IsTried settings last_cycle l seen after g → reply_of g ≡ l.answer.bytes
+kept_reply settings last_cycle l seen after g k = ap reply_of k.gives ∙ said_reply k.said l.answer.bytes
 
 -- by a call that began earlier
-pub tried_to : (arena : ℕ) (lesser last_cycle : Type 0) (l : Loaded) (seen after : List Record) (g : Given) → (lesser → last_cycle) → IsTried arena lesser l seen after g → IsTried arena last_cycle l seen after g
-tried_to arena lesser last_cycle l seen after g to k = record { said = k.said; inserted = inserted_since arena lesser last_cycle k.said l seen seen after ([], refl) to k.inserted; gives = k.gives }
+pub tried_to : (settings : DbConf) (lesser last_cycle : Type 0) (l : Loaded) (seen after : List Record) (g : Given) → (lesser → last_cycle) → IsTried settings lesser l seen after g → IsTried settings last_cycle l seen after g
+tried_to settings lesser last_cycle l seen after g to k = record { said = k.said; inserted = inserted_since settings lesser last_cycle k.said l seen seen after ([], refl) to k.inserted; gives = k.gives }

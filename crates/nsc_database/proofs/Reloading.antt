@@ -12,7 +12,7 @@ use Rattle.nsc_model.specs.Answers.{answer_of}
 use Rattle.nsc_model.specs.Entry.{Entry}
 use Rattle.nsc_model.specs.History.{IsLive, IsPrefix, load_of}
 use Rattle.nsc_model.specs.Machine.{last_count}
-use Rattle.nsc_model.specs.Stores.{HasFree, IsLoadedAgain}
+use Rattle.nsc_model.specs.Stores.{IsLoadedAgain}
 use Rattle.nsc_laws.specs.Calls.{Tells}
 use Rattle.nsc_shelf.specs.Shelf.{has_number}
 use Rattle.nsc_writer.specs.declared.loaded.Inserted.{Inserted}
@@ -22,7 +22,7 @@ use Rattle.nsc_pruner.specs.Due.{Due, due_cause_of, marked_by, pruned_by, pruned
 use Rattle.nsc_writer.specs.Loaded.{Loaded, kept_of}
 use Rattle.nsc_writer.specs.Writer.{Inserts, IsAnswered, IsRefused, Writer, ending_of, without_entry}
 use Rattle.nsc_pruner.proofs.Pruned.{head_of, tail_of}
-use Rattle.nsc_database.specs.Holds.{IsInserted}
+use Rattle.nsc_database.specs.Holds.{HasFree, IsInserted}
 use Rattle.nsc_database.specs.Rests.{IsPacked, Keeps, LoadsAgain}
 use Rattle.nsc_database.specs.Ticks.{IsDue, IsPending, LoadsBut}
 use Rattle.nsc_laws.proofs.LoadedAgain.{again_on, content_on, end_before, live_later, load_of_is, version_has}
@@ -130,21 +130,21 @@ cycle_inserted (inserted.Spent count) l w w' i = ap (λ (x : Writer). x.cache.cy
 cycle_inserted (inserted.Full need free) l w w' i = ap (λ (x : Writer). x.cache.cycle) i.1
 
 -- what is known of a request whose insertion was tried
-loaded_now : (said : Inserted) (l : Loaded) (w w' : Writer) (number : ℕ) (before : List Record) (e : Entry) → Tells w.seen w.cache → Inserts said l w w' → IsRefused said l w → IsInserted w.layout.arena (last_count ≤ w'.cache.cycle) said l w.seen w'.seen → IsFine w.layout.arena said w'.seen → IsAnswered w.seen l → l.stamp.epoch ≡ w.cache.epoch → l.request ≡ e.request
-    → IsPrefix (End number Replaced ∷ before) w.seen → IsPrefix (End number Replaced ∷ before) w'.seen → load_of before number ≡ Some e → IsPrefix w.seen w'.seen → IsLoadedAgain w.layout.arena (End number Replaced ∷ before) e.request w'.seen
-loaded_now (inserted.Done n) l w w' number before e t i r is fine answered stamp asked p p' found on =
+loaded_now : (arena : ℕ) (said : Inserted) (l : Loaded) (w w' : Writer) (number : ℕ) (before : List Record) (e : Entry) → arena ≤ w.layout.arena → Tells w.seen w.cache → Inserts said l w w' → IsRefused said l w → IsInserted w.layout.arena (last_count ≤ w'.cache.cycle) said l w.seen w'.seen → IsFine w.layout.arena said w'.seen → IsAnswered w.seen l → l.stamp.epoch ≡ w.cache.epoch → l.request ≡ e.request
+    → IsPrefix (End number Replaced ∷ before) w.seen → IsPrefix (End number Replaced ∷ before) w'.seen → load_of before number ≡ Some e → IsPrefix w.seen w'.seen → IsLoadedAgain arena (End number Replaced ∷ before) e.request w'.seen
+loaded_now arena (inserted.Done n) l w w' number before e within t i r is fine answered stamp asked p p' found on =
     inl ((kept_of l w.cache.inserted).entry, w.seen, p, subst (λ (x : Writer). IsPrefix (Load (kept_of l w.cache.inserted).entry ∷ w.seen) x.seen) (sym i.2) ([], refl), asked)
-loaded_now (inserted.TooLarge size) l w w' number before e t i r is fine answered stamp asked p p' found on =
+loaded_now arena (inserted.TooLarge size) l w w' number before e within t i r is fine answered stamp asked p p' found on =
     let bytes : length l.answer.bytes ≡ length (answer_of answered.files e.request).bytes = ap (λ (a : Answer). length a.bytes) answered.answer ∙ ap (λ (q : Request). length (answer_of answered.files q).bytes) asked in
     let long = r.1 in
     let size_is = r.0 in
     inr (inr (inl (answered.files, content_on answered.files w.seen w'.seen on (version_has w.seen l.stamp.version answered.files answered.version), omega arith)))
-loaded_now (inserted.Discarded noted epoch) l w w' number before e t i r is fine answered stamp asked p p' found on = let a = r.0 in let b = r.1 in let c = r.2 in absurd (omega arith)
-loaded_now (inserted.Present n) l w w' number before e t i r is fine answered stamp asked p p' found on =
+loaded_now arena (inserted.Discarded noted epoch) l w w' number before e within t i r is fine answered stamp asked p p' found on = let a = r.0 in let b = r.1 in let c = r.2 in absurd (omega arith)
+loaded_now arena (inserted.Present n) l w w' number before e within t i r is fine answered stamp asked p p' found on =
     let lives : IsLive w.seen is.0 = subst (λ (x : Writer). IsLive x.seen is.0) i.1 is.1 in
-    again_on w.layout.arena (End number Replaced ∷ before) e.request w.seen w'.seen on (inl (live_later w.seen number before e is.0 t.legal p found lives (is.3 ∙ asked)))
-loaded_now (inserted.Spent count) l w w' number before e t i r is fine answered stamp asked p p' found on = let a = is.0 in let b = is.1 in inr (inl (omega arith))
-loaded_now (inserted.Full need free) l w w' number before e t i r is fine answered stamp asked p p' found on =
+    again_on arena (End number Replaced ∷ before) e.request w.seen w'.seen on (inl (live_later w.seen number before e is.0 t.legal p found lives (is.3 ∙ asked)))
+loaded_now arena (inserted.Spent count) l w w' number before e within t i r is fine answered stamp asked p p' found on = let a = is.0 in let b = is.1 in inr (inl (omega arith))
+loaded_now arena (inserted.Full need free) l w w' number before e within t i r is fine answered stamp asked p p' found on =
     let bytes : length l.answer.bytes ≡ length (answer_of answered.files e.request).bytes = ap (λ (a : Answer). length a.bytes) answered.answer ∙ ap (λ (q : Request). length (answer_of answered.files q).bytes) asked in
     let key : length l.request.key ≡ length e.request.key = ap (λ (q : Request). length q.key) asked in
     let words : need ≡ node_words (length e.request.key) (length (answer_of answered.files e.request).bytes) = is.needed ∙ (λ j. node_words (key j) (bytes j)) in
@@ -162,22 +162,22 @@ loaded_now (inserted.Full need free) l w w' number before e t i r is fine answer
     })))
 
 -- the insertion of one that waited
-pub pend_inserted : (said : Inserted) (l : Loaded) (d : Due) (due : List Due) (w w' : Writer) → Tells w.seen w.cache → IsPacked w → Inserts said l w w' → IsRefused said l w → IsAnswered w.seen l → l.stamp.epoch ≡ w.cache.epoch → l.request ≡ d.request
-    → LoadsBut w.layout.arena w.cache.cycle (IsPending (d ∷ due)) w.seen → LoadsBut w.layout.arena w'.cache.cycle (IsPending due) w'.seen
-pend_inserted said l d due w w' t packed i r answered stamp asked waits = by_fine (fine_or w.layout.arena (last_count ≤ w'.cache.cycle) said l w.seen w'.seen is) waits where
+pub pend_inserted : (arena : ℕ) (said : Inserted) (l : Loaded) (d : Due) (due : List Due) (w w' : Writer) → arena ≤ w.layout.arena → Tells w.seen w.cache → IsPacked w → Inserts said l w w' → IsRefused said l w → IsAnswered w.seen l → l.stamp.epoch ≡ w.cache.epoch → l.request ≡ d.request
+    → LoadsBut arena w.cache.cycle (IsPending (d ∷ due)) w.seen → LoadsBut arena w'.cache.cycle (IsPending due) w'.seen
+pend_inserted arena said l d due w w' within t packed i r answered stamp asked waits = by_fine (fine_or w.layout.arena (last_count ≤ w'.cache.cycle) said l w.seen w'.seen is) waits where
   is : IsInserted w.layout.arena (last_count ≤ w'.cache.cycle) said l w.seen w'.seen
   is = is_inserted said l w w' t packed i r
 
   on : IsPrefix w.seen w'.seen
   on = (leaves_inserted said l w w' i).on
 
-  by_fine : IsFine w.layout.arena said w'.seen ⊎ (last_count ≤ w'.cache.cycle) → LoadsBut w.layout.arena w.cache.cycle (IsPending (d ∷ due)) w.seen → LoadsBut w.layout.arena w'.cache.cycle (IsPending due) w'.seen
+  by_fine : IsFine w.layout.arena said w'.seen ⊎ (last_count ≤ w'.cache.cycle) → LoadsBut arena w.cache.cycle (IsPending (d ∷ due)) w.seen → LoadsBut arena w'.cache.cycle (IsPending due) w'.seen
   by_fine (inr last) before = inr last
   by_fine (inl fine) (inr last) = inr (subst (λ (n : ℕ). last_count ≤ n) (sym (cycle_inserted said l w w' i)) last)
   by_fine (inl fine) (inl all) = inl (λ number before e p' found.
       let p = ended_first said l w w' number before i p' in
       elim (all number before e p found) [
-        | inl again ↦ inl (again_on w.layout.arena (End number Replaced ∷ before) e.request w.seen w'.seen on again)
-        | inr (inl this) ↦ inl (loaded_now said l w w' number before e t i r is fine answered stamp (asked ∙ this.2) p p' found on)
+        | inl again ↦ inl (again_on arena (End number Replaced ∷ before) e.request w.seen w'.seen on again)
+        | inr (inl this) ↦ inl (loaded_now arena said l w w' number before e within t i r is fine answered stamp (asked ∙ this.2) p p' found on)
         | inr (inr more) ↦ inr more
       ])

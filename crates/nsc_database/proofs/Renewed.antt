@@ -11,13 +11,14 @@ use Rattle.nsc_model.specs.declared.kind.Db.{Db}
 use Rattle.nsc_model.specs.Content.{Content}
 use Rattle.nsc_model.specs.declared.record.Record.{Record}
 use Rattle.nsc_model.specs.History.{HasEnd, IsPrefix, Legal, PolledSince, version_in}
-use Rattle.nsc_model.specs.Machine.{all_words, last_count, next_count, stopped, unchanged}
+use Rattle.nsc_model.specs.Machine.{all_words, last_count, next_count, room_of, stopped, unchanged}
 use Rattle.nsc_model.specs.Stores.{IsUnmoved}
 use Rattle.nsc_laws.specs.Calls.{Tells}
 use Rattle.nsc_writer.specs.declared.loaded.Inserted.{Inserted}
 use Rattle.nsc_words.specs.declared.layout.Layout.{Layout}
 use Rattle.nsc_pruner.specs.Due.{Due, IsOver, marked_by, pruned_by, pruned_one}
 use Rattle.nsc_writer.specs.Loaded.{Loaded}
+use Rattle.nsc_writer.specs.Former.{Former}
 use Rattle.nsc_writer.specs.Writer.{Inserts, IsAnswered, IsRefused, Writer}
 use Rattle.nsc_pruner.proofs.Pruned.{head_of, tail_of}
 use Rattle.nsc_turns.specs.declared.answering.Answering.{Answering}
@@ -27,6 +28,8 @@ use Rattle.nsc_turns.specs.Turns.{Completes, Stops}
 use Rattle.nsc_turns.proofs.Machines.{all_answered}
 use Rattle.nsc_turns.proofs.Renewed.{answered_on, leaves_inserted, leaves_pruned, spends}
 use Rattle.nsc_writer.proofs.Later.{end_on, polled_on, version_on}
+use Rattle.nsc_growth.specs.Sized.{IsSized}
+use Rattle.nsc_growth.proofs.Sized.{sized_low}
 use Rattle.nsc_database.specs.Rests.{IsAtRest, IsPacked, Keeps, LoadsAgain, Rests}
 use Rattle.nsc_database.specs.Steady.{KeepsVersion}
 use Rattle.nsc_database.specs.Ticks.{AreAnew, AreOver, HasNumber, IsDue, IsPending, IsRenewed, LoadsBut, compacted_by}
@@ -51,14 +54,14 @@ pub record Swept (settings : DbConf) (limit : Option ℕ) (now ticked : ℕ) (du
   pub gone : (n : ℕ) → HasNumber due n → HasEnd w'.seen n
   pub renewed : All (IsRenewed w'.seen) (marked_by now due w)
   pub epoch : w'.cache.epoch ≡ w.cache.epoch
-  pub waits : LoadsAgain w.layout.arena w.cache.cycle w.seen → LoadsBut w'.layout.arena w'.cache.cycle (IsPending (marked_by now due w)) w'.seen
+  pub waits : (arena : ℕ) → LoadsAgain arena w.cache.cycle w.seen → LoadsBut arena w'.cache.cycle (IsPending (marked_by now due w)) w'.seen
   pub version : KeepsVersion w.cache w'.cache
 
 -- what waits after the ends
-waits_of : (settings : DbConf) (limit : Option ℕ) (now ticked : ℕ) (due : List Due) (w : Writer) → All (IsDue limit now w.seen) due → Tells w.seen w.cache → Keeps settings limit ticked w → (pruned_by now due w).layout ≡ w.layout → (pruned_by now due w).cache.cycle ≡ w.cache.cycle
-    → LoadsAgain w.layout.arena w.cache.cycle w.seen → LoadsBut (pruned_by now due w).layout.arena (pruned_by now due w).cache.cycle (IsPending (marked_by now due w)) (pruned_by now due w).seen
-waits_of settings limit now ticked due w all t k layout cycle again =
-    subst (λ (x : ℕ × ℕ). LoadsBut x.0 x.1 (IsPending (marked_by now due w)) (pruned_by now due w).seen) (λ i. (sym (ap (λ (x : Layout). x.arena) layout) i, sym cycle i)) (pends settings limit now ticked w.layout.arena w.cache.cycle due w all t k again)
+waits_of : (settings : DbConf) (limit : Option ℕ) (now ticked : ℕ) (due : List Due) (w : Writer) → All (IsDue limit now w.seen) due → Tells w.seen w.cache → Keeps settings limit ticked w → (pruned_by now due w).cache.cycle ≡ w.cache.cycle
+    → (arena : ℕ) → LoadsAgain arena w.cache.cycle w.seen → LoadsBut arena (pruned_by now due w).cache.cycle (IsPending (marked_by now due w)) (pruned_by now due w).seen
+waits_of settings limit now ticked due w all t k cycle arena again =
+    subst (λ (n : ℕ). LoadsBut arena n (IsPending (marked_by now due w)) (pruned_by now due w).seen) (sym cycle) (pends settings limit now ticked arena w.cache.cycle due w all t k again)
 
 -- nothing ended, and nothing was compacted
 swept_none : (settings : DbConf) (limit : Option ℕ) (now ticked : ℕ) (due : List Due) (w : Writer) → All (IsDue limit now w.seen) due → Tells w.seen w.cache → Keeps settings limit ticked w → IsPacked w → ended_of (marked_by now due w) ≡ [] → Swept settings limit now ticked due w (pruned_by now due w)
@@ -67,7 +70,7 @@ swept_none settings limit now ticked due w all t k p none =
     let c = all_count settings limit now ticked due w all t k in
     let same = c.same (ap (λ (ds : List Due). length ds) none) in
     let v = leaves_pruned now due w in
-    record { legal = l.told.legal; on = v.on; table = v.table; layout = v.layout; slide = v.slide; keeps = l.keeps; packed = subst IsPacked (sym same) p; gone = l.gone; renewed = c.renewed; epoch = v.epoch; waits = waits_of settings limit now ticked due w all t k v.layout l.cycle; version = record { version = v.version; sources = v.sources } }
+    record { legal = l.told.legal; on = v.on; table = v.table; layout = v.layout; slide = v.slide; keeps = l.keeps; packed = subst IsPacked (sym same) p; gone = l.gone; renewed = c.renewed; epoch = v.epoch; waits = waits_of settings limit now ticked due w all t k l.cycle; version = record { version = v.version; sources = v.sources } }
 
 -- some ended, and there was a compaction
 swept_some : (settings : DbConf) (limit : Option ℕ) (now ticked : ℕ) (due : List Due) (w : Writer) → All (IsDue limit now w.seen) due → Tells w.seen w.cache → Keeps settings limit ticked w → Swept settings limit now ticked due w (compacted_by (pruned_by now due w))
@@ -87,7 +90,7 @@ swept_some settings limit now ticked due w all t k =
       gone = l.gone;
       renewed = c.renewed;
       epoch = v.epoch;
-      waits = λ again. but_later w1.layout.arena w1.cache.cycle (w1.cache.cycle + 2) (IsPending (marked_by now due w)) w1.seen (omega arith) (waits_of settings limit now ticked due w all t k v.layout l.cycle again);
+      waits = λ arena again. but_later arena w1.cache.cycle (w1.cache.cycle + 2) (IsPending (marked_by now due w)) w1.seen (omega arith) (waits_of settings limit now ticked due w all t k l.cycle arena again);
       version = record { version = v.version; sources = v.sources };
     }
 
@@ -113,7 +116,7 @@ swept_spent settings limit now ticked due w w' all t k is high =
     let v = leaves_pruned now due w in
     let high1 : last_count ≤ w1.cache.cycle = subst (λ (x : Writer). last_count ≤ x.cache.cycle) is high in
     subst (Swept settings limit now ticked due w) (sym is)
-    (record { legal = l.told.legal; on = v.on; table = v.table; layout = v.layout; slide = v.slide; keeps = l.keeps; packed = packed_spent w1 w1 refl high1; gone = l.gone; renewed = c.renewed; epoch = v.epoch; waits = waits_of settings limit now ticked due w all t k v.layout l.cycle; version = record { version = v.version; sources = v.sources } })
+    (record { legal = l.told.legal; on = v.on; table = v.table; layout = v.layout; slide = v.slide; keeps = l.keeps; packed = packed_spent w1 w1 refl high1; gone = l.gone; renewed = c.renewed; epoch = v.epoch; waits = waits_of settings limit now ticked due w all t k l.cycle; version = record { version = v.version; sources = v.sources } })
 
 pub all_over : (limit : Option ℕ) (now : ℕ) (h : List Record) (due : List Due) → All (IsDue limit now h) due → All (IsOver h now) due
 all_over limit now h due all i d low = let x = all i d low in (x.entry, x.inserted, x.numbered, x.over)
@@ -142,13 +145,15 @@ anew_marked a files now [] w = refl
 anew_marked a files now (d ∷ due) w = ap (λ (l : List (Option Loaded)). anew_of a files d ∷ l) (anew_marked a files now due (pruned_one now d w))
 
 -- the lock's writer after it
-pub at_rest_swept : {settings : DbConf} {limit : Option ℕ} {held : Option Content} {which : Db} {ticked : ℕ} {now : ℕ} {due : List Due} (w w' w'' : Writer) → Swept settings limit now ticked due w w' → Rests w' w'' → LoadsAgain w''.layout.arena w''.cache.cycle w''.seen → IsAtRest settings limit held which ticked w → IsAtRest settings limit held which ticked w''
-at_rest_swept {settings} {limit} {held} {which} {ticked} {now} {due} w w' w'' s r again st = (
+pub at_rest_swept : {settings : DbConf} {limit : Option ℕ} {held : Option Content} {which : Db} {ticked : ℕ} (left : List Former) {now : ℕ} {due : List Due} (w w' w'' : Writer) → Swept settings limit now ticked due w w' → Rests w' w'' → LoadsAgain (room_of settings) w''.cache.cycle w''.seen → IsAtRest settings limit held which ticked left w → IsAtRest settings limit held which ticked left w''
+at_rest_swept {settings} {limit} {held} {which} {ticked} left {now} {due} w w' w'' s r again st = (
   r.keeps settings limit ticked s.keeps,
   r.packed s.packed,
   λ files e. still_kept files which w.cache w''.cache (keeps_through w.cache w'.cache w''.cache s.version r.version) (st.2 files e),
   again,
   r.slide ∙ s.slide ∙ st.4,
+  subst (IsSized settings) (sym (r.layout ∙ s.layout)) st.5,
+  st.6,
 )
 
 next_low : (n : ℕ) → next_count n ≤ n + 1
@@ -157,76 +162,75 @@ next_low n = min-le_left (n + 1) last_count
 -- ---- what waits, one after the other
 
 -- the writer goes on, keeps the count of invalidations, and these wait still
-abbrev Waits : List Due → Writer → Writer → Type 0
-Waits due w0 w = Rests w0 w × (w.cache.epoch ≡ w0.cache.epoch) × LoadsBut w0.layout.arena w.cache.cycle (IsPending due) w.seen
+abbrev Waits : ℕ → List Due → Writer → Writer → Type 0
+Waits arena due w0 w = Rests w0 w × (w.cache.epoch ≡ w0.cache.epoch) × LoadsBut arena w.cache.cycle (IsPending due) w.seen
 
 -- one of them, whose answer was made over the history of the first writer
-one_waits : (a : Answering) (files : Content) (d : Due) (due : List Due) (w0 w mid : Writer) → Legal w0.seen → IsPacked w0 → IsRenewed w0.seen d → IsAnswered w0.seen (loaded_of a files d.request (next_count d.reloads)) → a.stamp.epoch ≡ w0.cache.epoch → Waits (d ∷ due) w0 w → ReloadsOne d (anew_of a files d) w mid → Waits due w0 mid
-one_waits a files d due w0 w mid legal packed renewed answered stamp waits one = by_drop d.dropped refl one where
+one_waits : (arena : ℕ) (a : Answering) (files : Content) (d : Due) (due : List Due) (w0 w mid : Writer) → arena ≤ w0.layout.arena → Legal w0.seen → IsPacked w0 → IsRenewed w0.seen d → IsAnswered w0.seen (loaded_of a files d.request (next_count d.reloads)) → a.stamp.epoch ≡ w0.cache.epoch → Waits arena (d ∷ due) w0 w → ReloadsOne d (anew_of a files d) w mid → Waits arena due w0 mid
+one_waits arena a files d due w0 w mid within legal packed renewed answered stamp waits one = by_drop d.dropped refl one where
   l : Loaded
   l = loaded_of a files d.request (next_count d.reloads)
 
-  passed : (d.ended ≡ true → d.dropped ≡ false → ⊥) → mid ≡ w → Waits due w0 mid
-  passed none same = subst (Waits due w0) (sym same) (waits.0, waits.1, pend_past w0.layout.arena w.cache.cycle d due w.seen none waits.2)
+  passed : (d.ended ≡ true → d.dropped ≡ false → ⊥) → mid ≡ w → Waits arena due w0 mid
+  passed none same = subst (Waits arena due w0) (sym same) (waits.0, waits.1, pend_past arena w.cache.cycle d due w.seen none waits.2)
 
-  by_ended : (b : Bool) → d.ended ≡ b → d.dropped ≡ false → OnTrue b ((said : Inserted) × Inserts said l w mid × IsRefused said l w × Tells w.seen w.cache) × OnFalse b (mid ≡ w) → Waits due w0 mid
+  by_ended : (b : Bool) → d.ended ≡ b → d.dropped ≡ false → OnTrue b ((said : Inserted) × Inserts said l w mid × IsRefused said l w × Tells w.seen w.cache) × OnFalse b (mid ≡ w) → Waits arena due w0 mid
   by_ended true e kept ((said, i, why, told), none) =
-      let room : w.layout.arena ≡ w0.layout.arena = ap (λ (x : Layout). x.arena) waits.0.layout in
+      let same : w.layout.arena ≡ w0.layout.arena = ap (λ (x : Layout). x.arena) waits.0.layout in
       let low = renewed e kept in
       let few = next_low d.reloads in
       let rise = replaced_on w0.seen w.seen d.request waits.0.on in (
         rests_through w0 w mid waits.0 (rests_inserted said l w mid i (omega arith)),
         (leaves_inserted said l w mid i).epoch ∙ waits.1,
-        subst (λ (n : ℕ). LoadsBut n mid.cache.cycle (IsPending due) mid.seen) room
-            (pend_inserted said l d due w mid told (waits.0.packed packed) i why (answered_on w0.seen w.seen l told.legal legal waits.0.on answered) (stamp ∙ sym waits.1) refl (subst (λ (n : ℕ). LoadsBut n w.cache.cycle (IsPending (d ∷ due)) w.seen) (sym room) waits.2)),
+        pend_inserted arena said l d due w mid (omega arith) told (waits.0.packed packed) i why (answered_on w0.seen w.seen l told.legal legal waits.0.on answered) (stamp ∙ sym waits.1) refl waits.2,
       )
   by_ended false e kept (none, same) = passed (λ ended k. false≢true (sym e ∙ ended)) same
 
-  by_drop : (b : Bool) → d.dropped ≡ b → ReloadsOne d (cond b None (Some l)) w mid → Waits due w0 mid
+  by_drop : (b : Bool) → d.dropped ≡ b → ReloadsOne d (cond b None (Some l)) w mid → Waits arena due w0 mid
   by_drop true e same = passed (λ ended kept. false≢true (sym kept ∙ e)) same
   by_drop false e r = by_ended d.ended refl e r
 
-all_reloaded : (a : Answering) (files : Content) (due : List Due) (w0 w w' : Writer) → Legal w0.seen → IsPacked w0 → All (IsRenewed w0.seen) due → version_in w0.seen a.stamp.version ≡ Some files → PolledSince w0.seen a.stamp.version a.stamp.epoch → a.stamp.epoch ≡ w0.cache.epoch → Waits due w0 w → Reloads due (map (anew_of a files) due) w w' → Rests w0 w' × LoadsAgain w'.layout.arena w'.cache.cycle w'.seen
-all_reloaded a files [] w0 w w' legal packed renewed version since stamp waits same = subst (λ (x : Writer). Rests w0 x × LoadsAgain x.layout.arena x.cache.cycle x.seen) (sym same)
-    (waits.0, subst (λ (n : ℕ). LoadsAgain n w.cache.cycle w.seen) (sym (ap (λ (x : Layout). x.arena) waits.0.layout)) (none_but w0.layout.arena w.cache.cycle (IsPending []) w.seen (λ r x. x) waits.2))
-all_reloaded a files (d ∷ due) w0 w w' legal packed renewed version since stamp waits r =
+all_reloaded : (arena : ℕ) (a : Answering) (files : Content) (due : List Due) (w0 w w' : Writer) → arena ≤ w0.layout.arena → Legal w0.seen → IsPacked w0 → All (IsRenewed w0.seen) due → version_in w0.seen a.stamp.version ≡ Some files → PolledSince w0.seen a.stamp.version a.stamp.epoch → a.stamp.epoch ≡ w0.cache.epoch → Waits arena due w0 w → Reloads due (map (anew_of a files) due) w w' → Rests w0 w' × LoadsAgain arena w'.cache.cycle w'.seen
+all_reloaded arena a files [] w0 w w' within legal packed renewed version since stamp waits same =
+    subst (λ (x : Writer). Rests w0 x × LoadsAgain arena x.cache.cycle x.seen) (sym same) (waits.0, none_but arena w.cache.cycle (IsPending []) w.seen (λ r x. x) waits.2)
+all_reloaded arena a files (d ∷ due) w0 w w' within legal packed renewed version since stamp waits r =
     let answered : IsAnswered w0.seen (loaded_of a files d.request (next_count d.reloads)) = record { files = files; version = version; answer = refl; polled = since } in
-    let one = one_waits a files d due w0 w r.0 legal packed (head_of (IsRenewed w0.seen) d due renewed) answered stamp waits r.1 in
-    all_reloaded a files due w0 r.0 w' legal packed (tail_of (IsRenewed w0.seen) d due renewed) version since stamp one r.2
+    let one = one_waits arena a files d due w0 w r.0 within legal packed (head_of (IsRenewed w0.seen) d due renewed) answered stamp waits r.1 in
+    all_reloaded arena a files due w0 r.0 w' within legal packed (tail_of (IsRenewed w0.seen) d due renewed) version since stamp one r.2
 
 -- a renewal of a tick, whose lock is free after it
-renewed_rests : (settings : DbConf) (limit : Option ℕ) (now ticked epoch : ℕ) (due : List Due) (loads : List (Option Loaded)) (w swept w' : Writer) (s : Swept settings limit now ticked due w swept) → Legal w.seen → LoadsAgain w.layout.arena w.cache.cycle w.seen → AreAnew w.seen epoch due loads → w.cache.epoch ≡ epoch → Reloads (marked_by now due w) loads swept w'
-    → Rests swept w' × LoadsAgain w'.layout.arena w'.cache.cycle w'.seen
-renewed_rests settings limit now ticked epoch due loads w swept w' s legal again anew same r =
+renewed_rests : (arena : ℕ) (settings : DbConf) (limit : Option ℕ) (now ticked epoch : ℕ) (due : List Due) (loads : List (Option Loaded)) (w swept w' : Writer) (s : Swept settings limit now ticked due w swept) → arena ≤ w.layout.arena → Legal w.seen → LoadsAgain arena w.cache.cycle w.seen → AreAnew w.seen epoch due loads → w.cache.epoch ≡ epoch → Reloads (marked_by now due w) loads swept w'
+    → Rests swept w' × LoadsAgain arena w'.cache.cycle w'.seen
+renewed_rests arena settings limit now ticked epoch due loads w swept w' s within legal again anew same r =
     let n = anew_on w.seen swept.seen epoch due loads legal s.legal s.on anew in
     let made = n.made ∙ sym (anew_marked n.answering n.files now due w) in
-    all_reloaded n.answering n.files (marked_by now due w) swept swept w' s.legal s.packed s.renewed n.version n.since (n.stamped ∙ sym (s.epoch ∙ same)) (rests_same swept swept refl, refl, s.waits again) (subst (λ (ls : List (Option Loaded)). Reloads (marked_by now due w) ls swept w') made r)
+    all_reloaded arena n.answering n.files (marked_by now due w) swept swept w' (subst (λ (x : Layout). arena ≤ x.arena) (sym s.layout) within) s.legal s.packed s.renewed n.version n.since (n.stamped ∙ sym (s.epoch ∙ same)) (rests_same swept swept refl, refl, s.waits arena again) (subst (λ (ls : List (Option Loaded)). Reloads (marked_by now due w) ls swept w') made r)
 
 -- what a hold for it leaves
-pub record Renewal (settings : DbConf) (limit : Option ℕ) (held : Option Content) (which : Db) (ticked epoch : ℕ) (due : List Due) (w w' : Writer) (r : Result (Unit {0}) Spent) : Type 0 where
-  pub rest : IsAtRest settings limit held which ticked w'
+pub record Renewal (settings : DbConf) (limit : Option ℕ) (held : Option Content) (which : Db) (ticked : ℕ) (left : List Former) (epoch : ℕ) (due : List Due) (w w' : Writer) (r : Result (Unit {0}) Spent) : Type 0 where
+  pub rest : IsAtRest settings limit held which ticked left w'
   pub table : w'.table ≡ w.table
   pub layout : w'.layout ≡ w.layout
   pub over : OnOk r (AreOver epoch w'.seen due)
   pub spent : IfErr r (λ s. IsUnmoved w'.seen (last_count ≤ w'.cache.cycle) s.count (AreOver epoch w'.seen due))
 
-pub renewal : {settings : DbConf} {limit : Option ℕ} {held : Option Content} {which : Db} {ticked : ℕ} (now epoch : ℕ) (due : List Due) (loads : List (Option Loaded)) (w w' : Writer) (r : Result (Unit {0}) Spent) → All (IsDue limit now w.seen) due → AreAnew w.seen epoch due loads → w.cache.epoch ≡ epoch
-    → Tells w.seen w.cache → OnOk r (Renews now due loads w w') → IfErr r (λ s. Stops (compacted_for (ended_of (marked_by now due w)) (pruned_by now due w).cache) s.count (pruned_by now due w) w') → IsAtRest settings limit held which ticked w → Renewal settings limit held which ticked epoch due w w' r
-renewal {settings} {limit} {held} {which} {ticked} now epoch due loads w w' (Ok done) all anew same t r stops rest =
+pub renewal : {settings : DbConf} {limit : Option ℕ} {held : Option Content} {which : Db} {ticked : ℕ} (left : List Former) (now epoch : ℕ) (due : List Due) (loads : List (Option Loaded)) (w w' : Writer) (r : Result (Unit {0}) Spent) → All (IsDue limit now w.seen) due → AreAnew w.seen epoch due loads → w.cache.epoch ≡ epoch
+    → Tells w.seen w.cache → OnOk r (Renews now due loads w w') → IfErr r (λ s. Stops (compacted_for (ended_of (marked_by now due w)) (pruned_by now due w).cache) s.count (pruned_by now due w) w') → IsAtRest settings limit held which ticked left w → Renewal settings limit held which ticked left epoch due w w' r
+renewal {settings} {limit} {held} {which} {ticked} left now epoch due loads w w' (Ok done) all anew same t r stops rest =
     let s = swept_leaves settings limit now ticked due w r.0 all t rest.0 rest.1 r.1 in
-    let l = renewed_rests settings limit now ticked epoch due loads w r.0 w' s t.legal rest.3 anew same r.2 in
+    let l = renewed_rests (room_of settings) settings limit now ticked epoch due loads w r.0 w' s (sized_low settings w.layout rest.5) t.legal rest.3 anew same r.2 in
     record {
-      rest = at_rest_swept w r.0 w' s l.0 l.1 rest;
+      rest = at_rest_swept left w r.0 w' s l.0 l.1 rest;
       table = l.0.table ∙ s.table;
       layout = l.0.layout ∙ s.layout;
       over = inr (λ n has. end_on r.0.seen w'.seen n l.0.on (s.gone n has));
       spent = tt;
     }
-renewal {settings} {limit} {held} {which} {ticked} now epoch due loads w w' (Err spent) all anew same t r stops rest =
+renewal {settings} {limit} {held} {which} {ticked} left now epoch due loads w w' (Err spent) all anew same t r stops rest =
     let e = spends (ended_of (marked_by now due w)) spent.count (pruned_by now due w) w' stops in
     let s = swept_spent settings limit now ticked due w w' all t rest.0 e.same e.high in
     record {
-      rest = at_rest_swept w w' w' s (rests_same w' w' refl) (inr e.high) rest;
+      rest = at_rest_swept left w w' w' s (rests_same w' w' refl) (inr e.high) rest;
       table = s.table;
       layout = s.layout;
       over = tt;

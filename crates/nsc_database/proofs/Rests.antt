@@ -219,18 +219,18 @@ packed_insert (inserted.Present number) loaded w w' i p = subst IsPacked (sym i.
 packed_insert (inserted.Spent count) loaded w w' i p = subst IsPacked (sym i.1) p
 packed_insert (inserted.Full need free) loaded w w' i p = subst IsPacked (sym i.1) (λ low. p low)
 
-again_insert : (said : Inserted) (loaded : Loaded) (w w' : Writer) → Inserts said loaded w w' → LoadsAgain w.layout.arena w.cache.cycle w.seen → LoadsAgain w'.layout.arena w'.cache.cycle w'.seen
-again_insert (inserted.Done number) loaded w w' i l = subst (λ (x : Writer). LoadsAgain x.layout.arena x.cache.cycle x.seen) (sym i.2) (again_more w.layout.arena w.cache.cycle (Load (kept_of loaded w.cache.inserted).entry) w.seen tt l)
-again_insert (inserted.TooLarge size) loaded w w' i l = subst (λ (x : Writer). LoadsAgain x.layout.arena x.cache.cycle x.seen) (sym i.1) l
-again_insert (inserted.Discarded noted epoch) loaded w w' i l = subst (λ (x : Writer). LoadsAgain x.layout.arena x.cache.cycle x.seen) (sym i.1) l
-again_insert (inserted.Present number) loaded w w' i l = subst (λ (x : Writer). LoadsAgain x.layout.arena x.cache.cycle x.seen) (sym i.1) l
-again_insert (inserted.Spent count) loaded w w' i l = subst (λ (x : Writer). LoadsAgain x.layout.arena x.cache.cycle x.seen) (sym i.1) l
-again_insert (inserted.Full need free) loaded w w' i l = subst (λ (x : Writer). LoadsAgain x.layout.arena x.cache.cycle x.seen) (sym i.1) l
+again_insert : (arena : ℕ) (said : Inserted) (loaded : Loaded) (w w' : Writer) → Inserts said loaded w w' → LoadsAgain arena w.cache.cycle w.seen → LoadsAgain arena w'.cache.cycle w'.seen
+again_insert arena (inserted.Done number) loaded w w' i l = subst (λ (x : Writer). LoadsAgain arena x.cache.cycle x.seen) (sym i.2) (again_more arena w.cache.cycle (Load (kept_of loaded w.cache.inserted).entry) w.seen tt l)
+again_insert arena (inserted.TooLarge size) loaded w w' i l = subst (λ (x : Writer). LoadsAgain arena x.cache.cycle x.seen) (sym i.1) l
+again_insert arena (inserted.Discarded noted epoch) loaded w w' i l = subst (λ (x : Writer). LoadsAgain arena x.cache.cycle x.seen) (sym i.1) l
+again_insert arena (inserted.Present number) loaded w w' i l = subst (λ (x : Writer). LoadsAgain arena x.cache.cycle x.seen) (sym i.1) l
+again_insert arena (inserted.Spent count) loaded w w' i l = subst (λ (x : Writer). LoadsAgain arena x.cache.cycle x.seen) (sym i.1) l
+again_insert arena (inserted.Full need free) loaded w w' i l = subst (λ (x : Writer). LoadsAgain arena x.cache.cycle x.seen) (sym i.1) l
 
 -- ---- whole calls
 
 pub rests_same : (w w' : Writer) → w' ≡ w → Rests w w'
-rests_same w w' is = subst (Rests w) (sym is) (record { on = ([], refl); table = refl; layout = refl; slide = refl; keeps = λ settings limit ticked k. k; packed = λ p. p; again = λ l. l; version = record { version = refl; sources = refl } })
+rests_same w w' is = subst (Rests w) (sym is) (record { on = ([], refl); table = refl; layout = refl; slide = refl; keeps = λ settings limit ticked k. k; packed = λ p. p; again = λ arena l. l; version = record { version = refl; sources = refl } })
 
 pub rests_through : (a b c : Writer) → Rests a b → Rests b c → Rests a c
 rests_through a b c r s = record {
@@ -240,7 +240,7 @@ rests_through a b c r s = record {
   slide = s.slide ∙ r.slide;
   keeps = λ settings limit ticked k. s.keeps settings limit ticked (r.keeps settings limit ticked k);
   packed = λ p. s.packed (r.packed p);
-  again = λ l. s.again (r.again l);
+  again = λ arena l. s.again arena (r.again arena l);
   version = keeps_through a.cache b.cache c.cache r.version s.version;
 }
 
@@ -252,7 +252,7 @@ rests_missed m w w' is = subst (Rests w) (sym is) (record {
   slide = refl;
   keeps = λ settings limit ticked k. record { reloaded = k.reloaded; counted = k.counted; found = k.found };
   packed = λ p. λ low. p low;
-  again = λ l. l;
+  again = λ arena l. l;
   version = record { version = refl; sources = refl };
 })
 
@@ -265,7 +265,7 @@ rests_looked found request (looked.Hit hit) w w' reply l = subst (Rests w) (sym 
   slide = refl;
   keeps = λ settings limit ticked k. let u = keeps_used settings limit ticked request w k in record { reloaded = u.reloaded; counted = u.counted; found = u.found };
   packed = λ p. λ low. packed_used request w p low;
-  again = λ l. l;
+  again = λ arena l. l;
   version = record { version = refl; sources = refl };
 })
 
@@ -279,6 +279,6 @@ rests_inserted said loaded w w' i low =
       slide = goes.slide;
       keeps = λ settings limit ticked k. keeps_insert settings limit ticked said loaded w w' i low k;
       packed = λ q. packed_insert said loaded w w' i q;
-      again = λ l. again_insert said loaded w w' i l;
+      again = λ arena l. again_insert arena said loaded w w' i l;
       version = record { version = goes.version; sources = goes.sources };
     }

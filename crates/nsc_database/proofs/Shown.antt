@@ -10,7 +10,9 @@ use Rattle.nsc_model.specs.declared.record.Record.TheVariants.{Change, Poll, Loa
 use Rattle.nsc_model.specs.declared.record.Ending.TheVariants.{Invalidated}
 use Rattle.nsc_model.specs.declared.store.Spent.{Spent as SpentCount}
 use Rattle.nsc_model.specs.declared.store.Stats.{Stats}
+use Rattle.nsc_base.specs.Nodes.{node_words}
 use Rattle.nsc_model.specs.Kinds.{is_request}
+use Rattle.nsc_model.specs.Growth.{IsArena, arena_after}
 use Rattle.nsc_model.specs.Content.{Content}
 use Rattle.nsc_model.specs.Entry.{Entry}
 use Rattle.nsc_model.specs.Files.{same_files}
@@ -18,7 +20,8 @@ use Rattle.nsc_model.specs.History.{HasLoad, IsLive, IsPrefix, Legal, LookedBetw
 use Rattle.nsc_model.specs.Machine.{Kept, Cache, all_words, entry_words, last_count, by_invalidation, ends_of, live_entry, polled}
 use Rattle.nsc_model.specs.declared.fault.CacheFault.{CacheFault}
 use Rattle.nsc_model.specs.declared.fault.CacheFault.TheVariants as cache_fault
-use Rattle.nsc_model.specs.Stores.{FoundLastCycle, IsCounted, IsEmptied, HasFree, IsFull, IsHit, IsInvalidateFault, IsSpent, IsUnmoved, words_of}
+use Rattle.nsc_model.specs.declared.conf.DbConf.{DbConf}
+use Rattle.nsc_model.specs.Stores.{FoundLastCycle, HasNoRoom, IsCounted, IsEmptied, IsFull, IsHit, IsInvalidateFault, IsSpent, IsUnmoved, words_of}
 use Rattle.nsc_rule.specs.declared.view.Search.{Search}
 use Rattle.nsc_rule.specs.Seats.{informed}
 use Rattle.nsc_laws.specs.Calls.{Tells, entries_of}
@@ -38,7 +41,10 @@ use Rattle.nsc_writer.proofs.Later.{prefix_through}
 use Rattle.nsc_turns.specs.declared.entries.HitOrMiss.{HitOrMiss}
 use Rattle.nsc_turns.specs.declared.entries.HitOrMiss.TheVariants as looked
 use Rattle.nsc_turns.specs.Turns.{Looks as LooksUp}
-use Rattle.nsc_database.specs.Holds.{IsInserted, IsLooked, IsPolled}
+use Rattle.nsc_growth.specs.Sized.{IsSized}
+use Rattle.nsc_growth.proofs.Sized.{sized_arena}
+use Rattle.nsc_database.specs.Growing.{IsAboveAll}
+use Rattle.nsc_database.specs.Holds.{FindsNoRoom, HasFree, IsInserted, IsInsertedOr, IsKept, IsLooked, IsPolled, LeavesFull, needed_by}
 use Rattle.nsc_database.specs.Rests.{IsPacked}
 
 -- ---- a look
@@ -232,16 +238,92 @@ is_inserted (inserted.Present number) loaded w w' t packed i r =
     (e.0, subst (λ (x : Writer). IsLive x.seen e.0) (sym i.1) e.1, e.2, e.3)
 is_inserted (inserted.Spent count) loaded w w' t packed i r = (r.0, ap (λ (x : Writer). loads x.seen) i.1 ∙ t.loads_are ∙ r.1)
 is_inserted (inserted.Full need free) loaded w w' t packed i r =
-    subst (λ (x : Writer). IsFull w.layout.arena x.seen (last_count ≤ x.cache.cycle) loaded.request loaded.answer.bytes need free) (sym i.1) (record { needed = r.0; less = r.2; left = is_free w free t packed r.1 })
+    subst (λ (x : Writer). FindsNoRoom w.layout.arena (last_count ≤ x.cache.cycle) loaded x.seen need free) (sym i.1) (record { needed = r.0; less = r.2; left = is_free w free t packed r.1 })
+
+-- what is left where it found no room
+pub leaves_full : (said : Inserted) (loaded : Loaded) (before w w' : Writer) → w.seen ≡ before.seen → Inserts said loaded w w' → IsRefused said loaded w → LeavesFull said before w'
+leaves_full (inserted.Done number) loaded before w w' same i r = tt
+leaves_full (inserted.TooLarge size) loaded before w w' same i r = tt
+leaves_full (inserted.Discarded noted epoch) loaded before w w' same i r = tt
+leaves_full (inserted.Present number) loaded before w w' same i r = tt
+leaves_full (inserted.Spent count) loaded before w w' same i r = tt
+leaves_full (inserted.Full need free) loaded before w w' same i r = (ap (λ (x : Writer). x.seen) i.1 ∙ same, subst (λ (x : Writer). free + x.cache.used ≡ x.layout.arena) (sym i.1) r.1)
+
+-- so an insertion was that needs so many words
+pub record WasFull (need : ℕ) (loaded : Loaded) (w w' : Writer) : Type 0 where
+  pub needed : need ≡ node_words (length loaded.request.key) (length loaded.answer.bytes)
+  pub full : w'.layout.arena < w'.cache.used + need
+  pub same : w'.seen ≡ w.seen
+
+pub was_full : (need : ℕ) (said : Inserted) (loaded : Loaded) (w w' : Writer) (last_cycle : Type 0) → needed_by said ≡ Some need → LeavesFull said w w' → IsInserted w'.layout.arena last_cycle said loaded w.seen w'.seen → WasFull need loaded w w'
+was_full need (inserted.Done number) loaded w w' last_cycle some l i = absurd cc
+was_full need (inserted.TooLarge size) loaded w w' last_cycle some l i = absurd cc
+was_full need (inserted.Discarded noted epoch) loaded w w' last_cycle some l i = absurd cc
+was_full need (inserted.Present number) loaded w w' last_cycle some l i = absurd cc
+was_full need (inserted.Spent count) loaded w w' last_cycle some l i = absurd cc
+was_full need (inserted.Full n free) loaded w w' last_cycle some l i =
+    let same : n ≡ need = cc in
+    let needed = i.needed in
+    let less = i.less in
+    let rest = l.1 in
+    record { needed = sym same ∙ needed; full = omega arith; same = l.0 }
+
+-- where there is room for it, it does not find none
+pub inserted_with_room : (said : Inserted) (loaded : Loaded) (w w' : Writer) → Tells w.seen w.cache → IsPacked w → Inserts said loaded w w' → IsRefused said loaded w → w.cache.used + node_words (length loaded.request.key) (length loaded.answer.bytes) ≤ w.layout.arena
+    → IsInsertedOr (λ need free. ⊥) said loaded w.seen w'.seen
+inserted_with_room (inserted.Done number) loaded w w' t packed i r room = is_inserted (inserted.Done number) loaded w w' t packed i r
+inserted_with_room (inserted.TooLarge size) loaded w w' t packed i r room = r
+inserted_with_room (inserted.Discarded noted epoch) loaded w w' t packed i r room = is_inserted (inserted.Discarded noted epoch) loaded w w' t packed i r
+inserted_with_room (inserted.Present number) loaded w w' t packed i r room = is_inserted (inserted.Present number) loaded w w' t packed i r
+inserted_with_room (inserted.Spent count) loaded w w' t packed i r room = is_inserted (inserted.Spent count) loaded w w' t packed i r
+inserted_with_room (inserted.Full need free) loaded w w' t packed i r room = let needed = r.0 in let rest = r.1 in let less = r.2 in absurd (omega arith)
+
+-- what else it may come to where it found room
+pub inserted_or : (a b : ℕ → ℕ → Type 0) (said : Inserted) (loaded : Loaded) (seen after : List Record) → ((need free : ℕ) → said ≡ inserted.Full need free → a need free → b need free) → IsInsertedOr a said loaded seen after → IsInsertedOr b said loaded seen after
+inserted_or a b (inserted.Done number) loaded seen after to i = i
+inserted_or a b (inserted.TooLarge size) loaded seen after to i = i
+inserted_or a b (inserted.Discarded noted epoch) loaded seen after to i = i
+inserted_or a b (inserted.Present number) loaded seen after to i = i
+inserted_or a b (inserted.Spent count) loaded seen after to i = i
+inserted_or a b (inserted.Full need free) loaded seen after to i = to need free refl i
+
+no_need : (need free : ℕ) (said : Inserted) → said ≡ inserted.Full need free → needed_by said ≡ None → ⊥
+no_need need free said is none = let some : Some need ≡ None = sym (ap needed_by is) ∙ none in absurd cc
+
+-- it found room
+pub kept_at_once : (settings : DbConf) (arena : ℕ) (last_cycle : Type 0) (said : Inserted) (loaded : Loaded) (seen after : List Record) → needed_by said ≡ None → IsInserted arena last_cycle said loaded seen after → IsKept settings last_cycle said loaded seen after
+kept_at_once settings arena last_cycle said loaded seen after none i =
+    inserted_or (FindsNoRoom arena last_cycle loaded after) (IsFull settings after last_cycle loaded.request loaded.answer.bytes) said loaded seen after (λ need free is f. absurd (no_need need free said is none)) i
+
+-- it found none, and no table that there may be has more
+pub kept_not : (settings : DbConf) (need : ℕ) (said : Inserted) (loaded : Loaded) (seen : List Record) (w : Writer) → IsSized settings w.layout → needed_by said ≡ Some need → (before : Writer) → LeavesFull said before w → IsAboveAll settings (w.cache.used + need) ⊎ (last_count ≤ w.cache.cycle)
+    → IsInserted w.layout.arena (last_count ≤ w.cache.cycle) said loaded seen w.seen → IsKept settings (last_count ≤ w.cache.cycle) said loaded seen w.seen
+kept_not settings need said loaded seen w sized some before leaves above i = inserted_or (FindsNoRoom w.layout.arena (last_count ≤ w.cache.cycle) loaded w.seen) (IsFull settings w.seen (last_count ≤ w.cache.cycle) loaded.request loaded.answer.bytes) said loaded seen w.seen no_room i where
+  no_room : (n free : ℕ) → said ≡ inserted.Full n free → FindsNoRoom w.layout.arena (last_count ≤ w.cache.cycle) loaded w.seen n free → IsFull settings w.seen (last_count ≤ w.cache.cycle) loaded.request loaded.answer.bytes n free
+  no_room n free is f = record { needed = f.needed; less = f.less; left = by_left f.left above } where
+    same : n ≡ need
+    same = let both : Some n ≡ Some need = sym (ap needed_by is) ∙ some in cc
+
+    free_is : free + w.cache.used ≡ w.layout.arena
+    free_is = (subst (λ (s : Inserted). LeavesFull s before w) is leaves).1
+
+    by_left : HasFree w.layout.arena free w.seen ⊎ (last_count ≤ w.cache.cycle) → IsAboveAll settings (w.cache.used + need) ⊎ (last_count ≤ w.cache.cycle) → HasNoRoom settings n free w.seen ⊎ (last_count ≤ w.cache.cycle)
+    by_left (inr last) more = inr last
+    by_left (inl left) (inr last) = inr last
+    by_left (inl left) (inl all) = inl (record { entries = left.entries; live = left.live; arena = w.layout.arena; newest = sized_arena settings w.layout sized; rest = left.rest; largest = λ doublings may. let above : arena_after settings doublings < w.cache.used + need = all doublings may in let rest = left.rest in let here = free_is in let as_many = same in omega arith })
+
+-- it was tried once more where it found none
+pub kept_again : (settings : DbConf) (last_cycle : Type 0) (said : Inserted) (loaded : Loaded) (seen after : List Record) → IsInsertedOr (λ need free. ⊥) said loaded seen after → IsKept settings last_cycle said loaded seen after
+kept_again settings last_cycle said loaded seen after i = inserted_or (λ need free. ⊥) (IsFull settings after last_cycle loaded.request loaded.answer.bytes) said loaded seen after (λ need free is none. absurd none) i
 
 -- by a pass that had seen less than the writer, and that loads CYCLE as 2^62 where it stands there
-pub inserted_since : (arena : ℕ) (lesser last_cycle : Type 0) (said : Inserted) (loaded : Loaded) (seen h after : List Record) → IsPrefix seen h → (lesser → last_cycle) → IsInserted arena lesser said loaded h after → IsInserted arena last_cycle said loaded seen after
-inserted_since arena lesser last_cycle (inserted.Done number) loaded seen h after on to i = let low = loads_on seen h on in let more = i.1 in (i.0, omega arith)
-inserted_since arena lesser last_cycle (inserted.TooLarge size) loaded seen h after on to i = i
-inserted_since arena lesser last_cycle (inserted.Discarded noted epoch) loaded seen h after on to i = i
-inserted_since arena lesser last_cycle (inserted.Present number) loaded seen h after on to i = i
-inserted_since arena lesser last_cycle (inserted.Spent count) loaded seen h after on to i = i
-inserted_since arena lesser last_cycle (inserted.Full need free) loaded seen h after on to i = record { needed = i.needed; less = i.less; left = elim i.left [ inl left ↦ inl left | inr last ↦ inr (to last) ] }
+pub inserted_since : (settings : DbConf) (lesser last_cycle : Type 0) (said : Inserted) (loaded : Loaded) (seen h after : List Record) → IsPrefix seen h → (lesser → last_cycle) → IsKept settings lesser said loaded h after → IsKept settings last_cycle said loaded seen after
+inserted_since settings lesser last_cycle (inserted.Done number) loaded seen h after on to i = let low = loads_on seen h on in let more = i.1 in (i.0, omega arith)
+inserted_since settings lesser last_cycle (inserted.TooLarge size) loaded seen h after on to i = i
+inserted_since settings lesser last_cycle (inserted.Discarded noted epoch) loaded seen h after on to i = i
+inserted_since settings lesser last_cycle (inserted.Present number) loaded seen h after on to i = i
+inserted_since settings lesser last_cycle (inserted.Spent count) loaded seen h after on to i = i
+inserted_since settings lesser last_cycle (inserted.Full need free) loaded seen h after on to i = record { needed = i.needed; less = i.less; left = elim i.left [ inl left ↦ inl left | inr last ↦ inr (to last) ] }
 
 -- ---- an invalidation, and counts
 
@@ -290,14 +372,14 @@ pub record Counted (w : Writer) (stats : Stats) : Type 0 where
   pub invalidations_are : stats.invalidations ≡ w.cache.epoch
   pub compactions : stats.compactions ≡ w.cache.cycle / 2
 
-pub is_counted : (w : Writer) (stats : Stats) → Tells w.seen w.cache → IsPacked w → Counted w stats → IsCounted w.layout.arena w.seen stats
-is_counted w stats t p c = record {
+pub is_counted : (settings : DbConf) (w : Writer) (stats : Stats) → Tells w.seen w.cache → IsPacked w → IsSized settings w.layout → Counted w stats → IsCounted settings w.seen stats
+is_counted settings w stats t p sized c = record {
   entries = entries_of w.cache.entries;
   live = t.entries_are;
   counted = c.entries ∙ sym (entries_length w.cache.entries);
   taken = λ low. c.used ∙ p (half_below w.cache.cycle (subst (λ (n : ℕ). n < 2 ^ 61) c.compactions low)) ∙ sym (words_live w.cache.entries);
   invalidations_are = c.invalidations_are ∙ sym t.epochs_are;
-  arena_is = c.arena;
+  allowed = subst (IsArena settings) (sym c.arena) (sized_arena settings w.layout sized);
 } where
   half_below : (n : ℕ) → n / 2 < 2 ^ 61 → n < last_count
   half_below n low = omega arith

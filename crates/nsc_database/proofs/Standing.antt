@@ -1,16 +1,19 @@
 -- What holds of a desk while its lock is free stays so, and what passes see under holds of the lock.
-use Rattle.std.proofs.Common.{◌≡◌, ◌∙◌, ℕ, ◌≤◌, ◌⊎◌, false, Option, Result, Ok, Err, ap, arith, inl, inr, subst, sym}
+use Rattle.std.proofs.Common.{◌≡◌, ◌∙◌, ℕ, ◌≤◌, ◌⊎◌, false, List, [], Option, Result, Ok, Err, arith, inl, inr, refl, subst, sym}
+use Rattle.std.specs.Prelude.{OnOk}
 use Rattle.nsc_outside.specs.declared.files.FileSet as file_set
-use Rattle.nsc_words.specs.declared.layout.Layout.{Layout}
 use Rattle.nsc_model.specs.declared.conf.DbConf.{DbConf}
 use Rattle.nsc_model.specs.declared.kind.Db.{Db}
 use Rattle.nsc_model.specs.Content.{Content}
-use Rattle.nsc_model.specs.Machine.{is_outdated}
+use Rattle.nsc_model.specs.History.{Legal}
+use Rattle.nsc_model.specs.Machine.{is_outdated, room_of}
 use Rattle.nsc_model.specs.Stores.{AreLoadedAgain}
 use Rattle.nsc_model.specs.declared.store.Spent.{Spent as SpentCount}
+use Rattle.nsc_writer.specs.Former.{Former}
 use Rattle.nsc_writer.specs.Writer.{Writer}
 use Rattle.nsc_sourcebook.specs.Book.{Fetched, Polled, PollsBook, SourceBook}
 use Rattle.nsc_writer.proofs.Later.{prefix_through}
+use Rattle.nsc_growth.specs.Sized.{IsSized}
 use Rattle.nsc_database.specs.declared.pass.DbPass.{DbPass}
 use Rattle.nsc_database.specs.declared.room.Room as room
 use Rattle.nsc_database.specs.Frames.{Goes, Held, LoadedLastCycle}
@@ -20,29 +23,44 @@ use Rattle.nsc_database.proofs.Rests.{keeps_current, keeps_stays, packed_stays, 
 use Rattle.nsc_database.proofs.Shown.{polls_spent}
 use Rattle.nsc_database.proofs.Steady.{still_kept, still_polled}
 
-pub at_rest_on : {settings : DbConf} {limit : Option ℕ} {held : Option Content} {which : Db} {ticked : ℕ} (w w' : Writer) → Rests w w' → IsAtRest settings limit held which ticked w → IsAtRest settings limit held which ticked w'
-at_rest_on {settings} {limit} {held} {which} {ticked} w w' r s = (r.keeps settings limit ticked s.0, r.packed s.1, λ files e. still_kept files which w.cache w'.cache r.version (s.2 files e), r.again s.3, r.slide ∙ s.4)
+pub at_rest_on : {settings : DbConf} {limit : Option ℕ} {held : Option Content} {which : Db} {ticked : ℕ} (left : List Former) (w w' : Writer) → Rests w w' → IsAtRest settings limit held which ticked left w → IsAtRest settings limit held which ticked left w'
+at_rest_on {settings} {limit} {held} {which} {ticked} left w w' r s = (r.keeps settings limit ticked s.0, r.packed s.1, λ files e. still_kept files which w.cache w'.cache r.version (s.2 files e), r.again (room_of settings) s.3, r.slide ∙ s.4, subst (IsSized settings) (sym r.layout) s.5, s.6)
 
-pub at_rest_same : {settings : DbConf} {limit : Option ℕ} {held : Option Content} {which : Db} {ticked : ℕ} (w w' : Writer) → w' ≡ w → IsAtRest settings limit held which ticked w → IsAtRest settings limit held which ticked w'
-at_rest_same w w' is s = at_rest_on w w' (rests_same w w' is) s
+pub at_rest_same : {settings : DbConf} {limit : Option ℕ} {held : Option Content} {which : Db} {ticked : ℕ} (left : List Former) (w w' : Writer) → w' ≡ w → IsAtRest settings limit held which ticked left w → IsAtRest settings limit held which ticked left w'
+at_rest_same left w w' is s = at_rest_on left w w' (rests_same w w' is) s
 
-pub at_rest_polled : {settings : DbConf} {limit : Option ℕ} {held : Option Content} {which : Db} {ticked : ℕ} (fetched : Fetched) (epoch : ℕ) (b b' : SourceBook) (w w' : Writer) (result : Result Polled SpentCount) → PollsBook fetched epoch b b' w w' result → IsPart held which fetched.content
-    → IsAtRest settings limit held which ticked w → IsAtRest settings limit held which ticked w'
-at_rest_polled {settings} {limit} {held} {which} {ticked} fetched epoch b b' w w' (Ok p) q part s =
+pub at_rest_polled : {settings : DbConf} {limit : Option ℕ} {held : Option Content} {which : Db} {ticked : ℕ} (left : List Former) (fetched : Fetched) (epoch : ℕ) (b b' : SourceBook) (w w' : Writer) (result : Result Polled SpentCount) → PollsBook fetched epoch b b' w w' result → IsPart held which fetched.content
+    → IsAtRest settings limit held which ticked left w → IsAtRest settings limit held which ticked left w'
+at_rest_polled {settings} {limit} {held} {which} {ticked} left fetched epoch b b' w w' (Ok p) q part s =
     let stays = polls_stay fetched.content epoch w w' p.stamp q.0 in (
       keeps_stays settings limit ticked w w' stays s.0,
       packed_stays w w' stays s.1,
       λ all e. still_polled fetched.content all which epoch w w' p.stamp q.0 (s.2 all e) (part all e),
-      subst (λ (x : ℕ × ℕ). LoadsAgain x.0 x.1 w'.seen) (λ i. (sym (ap (λ (x : Layout). x.arena) stays.layout) i, sym stays.cycle i)) (stays.adds.again w.layout.arena w.cache.cycle s.3),
+      subst (λ (n : ℕ). LoadsAgain (room_of settings) n w'.seen) (sym stays.cycle) (stays.adds.again (room_of settings) w.cache.cycle s.3),
       stays.slide ∙ s.4,
+      subst (IsSized settings) (sym stays.layout) s.5,
+      s.6,
     )
-at_rest_polled {settings} {limit} {held} {which} {ticked} fetched epoch b b' w w' (Err spent) q part s = at_rest_same w w' (polls_spent fetched.content epoch w w' spent q.0).2 s
+at_rest_polled {settings} {limit} {held} {which} {ticked} left fetched epoch b b' w w' (Err spent) q part s = at_rest_same left w w' (polls_spent fetched.content epoch w w' spent q.0).2 s
+
+-- nothing changed
+pub at_rest_kept : {settings : DbConf} {limit : Option ℕ} {held : Option Content} {which : Db} {ticked : ℕ} (left left' : List Former) (w w' : Writer) → left' ≡ left → w' ≡ w → IsAtRest settings limit held which ticked left w → IsAtRest settings limit held which ticked left' w'
+at_rest_kept {settings} {limit} {held} {which} {ticked} left left' w w' same is s = subst (λ (ls : List Former). IsAtRest settings limit held which ticked ls w') (sym same) (at_rest_same left w w' is s)
 
 -- where the newest version is the one that the last tick found, or that does not count
-pub at_rest_current : {settings : DbConf} {limit : Option ℕ} {held : Option Content} {which : Db} {ticked : ℕ} (newest : ℕ) (w w' : Writer) → w' ≡ w → newest ≡ w.cache.newest_version → is_outdated settings w.cache.newest_version ticked ≡ false → IsAtRest settings limit held which ticked w
-    → IsAtRest settings limit held which newest w'
-at_rest_current {settings} {limit} {held} {which} {ticked} newest w w' same is current s =
-    at_rest_same w w' same (keeps_current settings limit ticked newest w (subst (λ (n : ℕ). is_outdated settings n ticked ≡ false) (sym is) current) s.0, s.1, s.2, s.3, s.4)
+pub at_rest_current : {settings : DbConf} {limit : Option ℕ} {held : Option Content} {which : Db} {ticked : ℕ} (left : List Former) (newest : ℕ) (w w' : Writer) → w' ≡ w → newest ≡ w.cache.newest_version → is_outdated settings w.cache.newest_version ticked ≡ false → IsAtRest settings limit held which ticked left w
+    → IsAtRest settings limit held which newest left w'
+at_rest_current {settings} {limit} {held} {which} {ticked} left newest w w' same is current s =
+    at_rest_same left w w' same (keeps_current settings limit ticked newest w (subst (λ (n : ℕ). is_outdated settings n ticked ≡ false) (sym is) current) s.0, s.1, s.2, s.3, s.4, s.5, s.6)
+
+-- what holds in any case
+pub in_any_case : {T E P : Type 0} (r : Result T E) → P → OnOk r P
+in_any_case (Ok x) p = p
+in_any_case (Err e) p = tt
+
+-- no hold
+pub held_still : {F B : Type 0} {G : file_set.Ghosts F} {R : room.Ghosts B} (p : DbPass F B G R) → Legal p.pass.seen → Held p p
+held_still p legal = record { db = refl; files = refl; before = ([], refl); legal = legal; searches = omega arith }
 
 -- one hold after the other
 pub held_through : {F B : Type 0} {G : file_set.Ghosts F} {R : room.Ghosts B} (a b c : DbPass F B G R) → Held a b → Held b c → Held a c

@@ -1,6 +1,7 @@
 -- The one version of a database whose file sets all tell one content.
-use Rattle.std.proofs.Common.{◌≡◌, ◌∙◌, ℕ, ◌+◌, Bool, true, false, cond, eqb, List, [], ◌∷◌, Option, Some, None, Ok, Err, refl, sym, ap, subst, arith, inl, inr}
+use Rattle.std.proofs.Common.{◌≡◌, ◌∙◌, ℕ, ◌+◌, ◌≤◌, Bool, true, false, cond, eqb, All, List, [], ◌∷◌, ◌++◌, Option, Some, None, Result, Ok, Err, refl, sym, ap, subst, arith, inl, inr}
 use Rattle.std.proofs.lemmas.Bool.{false≢true}
+use Rattle.std.specs.Prelude.{OnErr, OnOk}
 use Rattle.nsc_model.specs.declared.answer.Request.{Request}
 use Rattle.nsc_model.specs.declared.kind.Db.{Db}
 use Rattle.nsc_model.specs.declared.record.Record.{Record}
@@ -9,17 +10,22 @@ use Rattle.nsc_model.specs.Answers.{answer_of}
 use Rattle.nsc_model.specs.Content.{Content}
 use Rattle.nsc_model.specs.Entry.{Entry}
 use Rattle.nsc_model.specs.Files.{part_of, same_files}
-use Rattle.nsc_model.specs.History.{Answered, HasLoad, IsTrueAnswer, Legal, changes, version_in}
+use Rattle.nsc_model.specs.History.{Answered, HasLoad, IsPrefix, IsTrueAnswer, Legal, changes, version_in}
 use Rattle.nsc_model.specs.Machine.{Cache, last_count, polled}
 use Rattle.nsc_model.specs.Reads.{IsOfHeld}
 use Rattle.nsc_model.proofs.Contents.{content_same}
 use Rattle.nsc_laws.specs.Calls.{Tells}
+use Rattle.nsc_laws.proofs.CoreLawRecords.{version_held}
+use Rattle.nsc_laws.proofs.RunReplies.{changes_grow}
 use Rattle.nsc_laws.proofs.SpelledHistories.{version_below}
+use Rattle.nsc_pruner.proofs.Pruned.{head_of, tail_of}
+use Rattle.nsc_seats.specs.Seats.{IsBefore}
+use Rattle.nsc_writer.specs.Former.{Former}
 use Rattle.nsc_writer.specs.declared.loaded.Stamp.{Stamp}
 use Rattle.nsc_writer.specs.Writer.{Writer, Polls, emptied_by}
 use Rattle.nsc_writer.proofs.Later.{version_on}
 use Rattle.nsc_model.specs.Steady.{HasOne, IsSteady}
-use Rattle.nsc_database.specs.Steady.{IsStill, KeepsVersion}
+use Rattle.nsc_database.specs.Steady.{IsStill, KeepsVersion, StaysStill, WasSteady}
 
 -- ---- a cache that keeps its version
 
@@ -50,6 +56,36 @@ one_of_still files which h cache t s =
     let counted : changes h ≡ cache.newest_version + 1 = t.counted in
     let first : cache.newest_version ≡ 0 = s.first in
     record { one = omega arith; part = subst (λ (n : ℕ). version_in h n ≡ Some (part_of which files)) s.first (t.held ∙ ap (λ (c : Content). Some c) s.part) }
+
+-- and every beginning of it
+first_version : (h : List Record) → Legal h → 1 ≤ changes h
+first_version [] l = absurd l
+first_version (Change v c ∷ []) l = omega arith
+first_version (Change v c ∷ s ∷ before) l = let low = first_version (s ∷ before) l.0 in omega arith
+first_version (Poll v ∷ before) l = first_version before l.0
+first_version (Load e ∷ before) l = first_version before l.0
+first_version (End n cause ∷ before) l = first_version before l.0
+first_version (Invalid n ∷ before) l = first_version before l.0
+
+one_before : (files : Content) (which : Db) (seen h : List Record) → Legal seen → Legal h → IsPrefix seen h → HasOne files which h → HasOne files which seen
+one_before files which seen h legal legal_h p one =
+    let some = first_version seen legal in
+    let grows = changes_grow p.0 seen in
+    let all : changes h ≡ changes (p.0 ++ seen) = ap changes p.1 in
+    let only : changes h ≡ 1 = one.one in
+    let first = version_held seen 0 legal (omega arith) in
+    record { one = omega arith; part = first.1 ∙ sym (version_on seen h 0 first.0 legal_h legal p first.1) ∙ one.part }
+
+-- so is what had been seen by the time that a table was left
+pub steady_before : (held : Option Content) (which : Db) (seen : List Record) (left : List Former) → Legal seen → IsBefore seen left → All (WasSteady held which) left → IsSteady held which seen
+steady_before held which seen [] legal before all = absurd before
+steady_before held which seen (f ∷ left) legal (inl here) all = λ files e. let was = head_of (WasSteady held which) f left all in one_before files which seen f.stock.seen legal was.0 here (was.1 files e)
+steady_before held which seen (f ∷ left) legal (inr later) all = steady_before held which seen left legal later (tail_of (WasSteady held which) f left all)
+
+-- and what was seen by a caller that went on to the table that is written, or to one before it
+pub steady_followed : {E : Type 0} (r : Result (Unit {0}) E) (held : Option Content) (which : Db) (seen : List Record) (left : List Former) (w : Writer) → OnOk r (seen ≡ w.seen) → OnErr r (IsBefore seen left) → Legal seen → Tells w.seen w.cache → StaysStill held which w.cache → All (WasSteady held which) left → IsSteady held which seen
+steady_followed (Ok done) held which seen left w whole before legal t still all = λ files e. subst (HasOne files which) (sym whole) (one_of_still files which w.seen w.cache t (still files e))
+steady_followed (Err fault) held which seen left w whole before legal t still all = steady_before held which seen left legal before all
 
 -- ---- answers over it
 

@@ -3,6 +3,7 @@ pub mod Steady
 pub mod Rests
 pub mod Frames
 pub mod Holds
+pub mod Growing
 pub mod Ticks
 pub mod Lookups
 pub mod Database

@@ -13,7 +13,7 @@ use Rattle.nsc_writer.specs.declared.loaded.Inserted.TheVariants as inserted
 use Rattle.nsc_writer.specs.Loaded.{Loaded}
 use Rattle.nsc_turns.specs.declared.entries.HitOrMiss.{HitOrMiss}
 use Rattle.nsc_turns.specs.declared.entries.HitOrMiss.TheVariants as looked
-use Rattle.nsc_database.specs.Holds.{IsInserted}
+use Rattle.nsc_database.specs.Holds.{IsKept}
 
 -- a look for a live entry of the request, where the database is cached; where it is not, none is found, and the count of invalidations that is told is 0
 abbrev pub IsFoundIfCached : DbConf → HitOrMiss → List Record → Request → List ℕ → Type 0
@@ -29,8 +29,9 @@ given_by (inserted.Present number) bytes = given.Fresh bytes (why.Present number
 given_by (inserted.Spent count) bytes = given.Fresh bytes (why.Spent count)
 given_by (inserted.Full need free) bytes = given.Fresh bytes (why.Full need free)
 
--- an insertion into an arena of so many words was tried, where there may be no more compactions, and the lookup gives this
-pub record IsTried (arena : ℕ) (last_cycle : Type 0) (loaded : Loaded) (seen after : List Record) (g : Given) : Type 0 where
+-- an insertion was tried, and once more where the table could become large enough; there may be no more compactions; and the lookup
+-- gives this
+pub record IsTried (settings : DbConf) (last_cycle : Type 0) (loaded : Loaded) (seen after : List Record) (g : Given) : Type 0 where
   pub said : Inserted
-  pub inserted : IsInserted arena last_cycle said loaded seen after
+  pub inserted : IsKept settings last_cycle said loaded seen after
   pub gives : g ≡ given_by said loaded.answer.bytes

@@ -7,20 +7,23 @@ use Rattle.nsc_model.specs.declared.record.Record.TheVariants.{Change}
 use Rattle.nsc_model.specs.Content.{Content}
 use Rattle.nsc_model.specs.Entry.{Entry}
 use Rattle.nsc_model.specs.History.{IsLive, IsPrefix, changes}
-use Rattle.nsc_model.specs.Machine.{Kept, all_words, last_count, new_cache}
+use Rattle.nsc_model.specs.Machine.{Kept, all_words, last_count, new_cache, room_of}
 use Rattle.nsc_model.specs.Reloads.{Reloaded, invalidated_at, replaced}
 use Rattle.nsc_model.specs.Stores.{AreLoadedAgain}
 use Rattle.nsc_model.specs.declared.kind.Db.{Db}
+use Rattle.nsc_writer.specs.Former.{Former}
 use Rattle.nsc_writer.specs.Writer.{Writer}
-use Rattle.nsc_database.specs.Steady.{KeepsVersion, StaysStill}
+use Rattle.nsc_growth.specs.Sized.{IsSized, first_layout}
+use Rattle.nsc_database.specs.Steady.{KeepsVersion, StaysStill, WasSteady}
 
 -- an entry was reloaded at most as often as entries of its request ended for that
 abbrev pub IsReloaded : List Record → Kept → Type 0
 IsReloaded history k = k.reloads ≤ replaced history k.entry.request
 
--- the writer of a database, and the version that the last tick found
+-- the writer of a database, the tables that it left, and the version that the last tick found
 pub record Desk : Type 0 where
   pub writer : Writer
+  pub left : List Former
   pub ticked : ℕ
 
 -- entries end for good as ticks and invalidations end them, and, where changes of the files count, the version that the last tick
@@ -38,15 +41,15 @@ IsPacked w = w.cache.cycle < last_count → w.cache.used ≡ all_words w.cache.e
 abbrev pub LoadsAgain : ℕ → ℕ → List Record → Type 0
 LoadsAgain arena cycle history = AreLoadedAgain arena history ⊎ (last_count ≤ cycle)
 
--- what holds of a writer while its lock is free
-abbrev pub IsAtRest : DbConf → Option ℕ → Option Content → Db → ℕ → Writer → Type 0
-IsAtRest settings limit held which ticked w = Keeps settings limit ticked w × IsPacked w × StaysStill held which w.cache × LoadsAgain w.layout.arena w.cache.cycle w.seen × (w.slide ≡ None)
+-- what holds of a writer, and of the tables that it left, while its lock is free
+abbrev pub IsAtRest : DbConf → Option ℕ → Option Content → Db → ℕ → List Former → Writer → Type 0
+IsAtRest settings limit held which ticked left w = Keeps settings limit ticked w × IsPacked w × StaysStill held which w.cache × LoadsAgain (room_of settings) w.cache.cycle w.seen × (w.slide ≡ None) × IsSized settings w.layout × All (WasSteady held which) left
 
--- a writer of an empty cache over this content as its first version, in an arena of so many words, with no slide under way
-pub record IsNew (w : Writer) (content : Content) (arena : ℕ) : Type 0 where
+-- a writer of an empty cache over this content as its first version, in the first table of these settings, with no slide under way
+pub record IsNew (w : Writer) (content : Content) (settings : DbConf) : Type 0 where
   pub seen : w.seen ≡ Change 0 content ∷ []
   pub cache : w.cache ≡ new_cache content
-  pub room : w.layout.arena ≡ arena
+  pub room : w.layout ≡ first_layout settings
   pub still : w.slide ≡ None
 
 -- the writer goes on, and what held of it while its lock was free holds still
@@ -57,7 +60,7 @@ pub record Rests (w w' : Writer) : Type 0 where
   pub slide : w'.slide ≡ w.slide
   pub keeps : (settings : DbConf) (limit : Option ℕ) (ticked : ℕ) → Keeps settings limit ticked w → Keeps settings limit ticked w'
   pub packed : IsPacked w → IsPacked w'
-  pub again : LoadsAgain w.layout.arena w.cache.cycle w.seen → LoadsAgain w'.layout.arena w'.cache.cycle w'.seen
+  pub again : (arena : ℕ) → LoadsAgain arena w.cache.cycle w.seen → LoadsAgain arena w'.cache.cycle w'.seen
   pub version : KeepsVersion w.cache w'.cache
 
 -- the newest version is known to be there when the database was last invalidated, where changes of the files count

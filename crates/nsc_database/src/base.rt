@@ -4,14 +4,13 @@ ghost use Rattle.nsc_model.specs.Entry.{key_limit};
 ghost use Rattle.nsc_model.specs.History.{Legal, invalidations};
 ghost use Rattle.nsc_writer.specs.Writer.{IsAnswered};
 ghost use Rattle.nsc_model.specs.Reads.{IsLookedUp};
-ghost use Rattle.nsc_model.specs.Machine.{room_of};
 ghost use Rattle.nsc_model.specs.Settings.{settings_of};
-ghost use Rattle.nsc_model.specs.Stores.{IsCounted, IsEmptied, IsFault, IsInvalidateFault, IsSpent};
+ghost use Rattle.nsc_model.specs.Stores.{IsCounted, IsEmptied, IsFault, IsInvalidateFault};
 ghost use Rattle.nsc_sourcebook.specs.Book.{FitsBook};
 ghost use Rattle.nsc_sourcebook.specs.Reads.{IsPart, NoneFailed};
 ghost use Rattle.nsc_turns.specs.Loads.{loaded_of};
 ghost use Rattle.nsc_database.specs.Frames.{Goes, Held, LoadedLastCycle};
-ghost use Rattle.nsc_database.specs.Holds.{IsLooked, IsPolled};
+ghost use Rattle.nsc_database.specs.Holds.{IsLooked, IsPollFault, IsPolled};
 ghost use Rattle.nsc_database.specs.Lookups.{IsTried, given_by};
 ghost use Rattle.nsc_model.specs.Steady.{IsSteady};
 ghost use Rattle.nsc_database.specs.Steady.{StaysSteady};
@@ -20,9 +19,8 @@ use crate::desk::{Desk, Shelved};
 use crate::pass::DbPass;
 use crate::room::{OfDb, Room};
 use nsc_base::{Buf, Bytes, NoMemory};
-use nsc_model::{Answerer, CacheFault, Db, DbConf, Given, Kind, LookupFault, Spent, Stats, Why};
+use nsc_model::{Answerer, CacheFault, Db, DbConf, Given, Kind, LookupFault, Stats, Why};
 use nsc_outside::FileSet;
-use nsc_rule::Map;
 use nsc_sourcebook::{Fetched, Polled};
 use nsc_turns::{Answering, HitOrMiss, load};
 use nsc_writer::{Inserted, Loaded};
@@ -39,50 +37,58 @@ pub struct Base<D: OfDb, F: FileSet + Drop, A: Answerer, B: Room> {
     pub db: Db,
     pub settings: DbConf,
     pub reloads: Option<u32>,
-    pub map: Map,
-    pub ghost own: { (db ≡ D.db) × (map.table ≡ B.table D.db) },
+    pub ghost own: { db ≡ D.db },
     pub ghost conf: { (settings ≡ settings_of B.conf D.db) × (reloads ≡ B.conf.reloads) },
 }
 
 impl<D: OfDb, F: FileSet + Drop, A: Answerer + Drop, B: Room> Base<D, F, A, B> {
-    /// A new pass, which has seen the whole history, with a file set of its own.
+    /// A new pass, which has seen the whole history, with a file set of its own. Fails only for want of memory.
     pub fn attach<R: Wait>(&self, rt: &R, alloc: Global) -> Result<DbPass<F, B>, NoMemory>
         ensures db { IfOk result (λ pass. pass.db ≡ D.db) }
         ensures legal { IfOk result (λ pass. Legal pass.pass.seen) }
         ensures steady { IfOk result (λ pass. IsSteady B.held D.db pass.pass.seen) }
         ensures calm { IfOk result (λ pass. F.faults pass.files ≡ 0) }
     {
+        let mut pass = self.newcomer(rt, alloc)?;
+        self.desk.lock(rt).follow(&mut pass)?;
+        Ok(pass)
+    }
+
+    // A new pass, which has seen as much as the source book. Fails only for want of memory.
+    fn newcomer<R: Wait>(&self, rt: &R, alloc: Global) -> Result<DbPass<F, B>, NoMemory>
+        ensures db { IfOk result (λ pass. pass.db ≡ D.db) }
+        ensures calm { IfOk result (λ pass. F.faults pass.files ≡ 0) }
+    {
         let reply = Buf::new(alloc, 65_536)?;
-        let map = self.map.share()?;
-        let files = self.shelved.lock(rt).split(alloc)?;
-        let pass = self.desk.lock(rt).pass();
+        let mut shelved = self.shelved.lock(rt);
+        let pass = shelved.seats(alloc)?;
+        let files = shelved.split(alloc)?;
         Ok(DbPass {
             db: self.db,
             pass,
-            map,
             files,
             reply,
             room: PhantomData,
         })
     }
 
-    /// Looks for the live entry of the request.
+    /// Looks for the live entry of the request. Fails only for want of memory.
     pub fn look<R: Wait>(
         &self,
         rt: &R,
         pass: &mut DbPass<F, B>,
         kind: Kind,
         key: &[u8],
-    ) -> HitOrMiss
+    ) -> Result<HitOrMiss, NoMemory>
         requires { pass.old.db ≡ D.db }
         ensures frame { Held pass.old pass.new }
-        ensures looked { IsLooked result pass.new.pass.seen (record { kind = kind; key = key.now }) pass.new.reply.content }
+        ensures looked { IfOk result (λ found. IsLooked found pass.new.pass.seen (record { kind = kind; key = key.now }) pass.new.reply.content) }
         ensures steady { IsSteady B.held D.db pass.new.pass.seen }
     {
         let mut lock = self.desk.lock(rt);
         let desk = &mut *lock;
-        desk.show(pass);
-        desk.look(kind, key, &mut pass.reply)
+        desk.follow(pass)?;
+        Ok(desk.look(kind, key, &mut pass.reply))
     }
 
     /// Reads the files of the database and polls them, where so many invalidations were noted before.
@@ -107,7 +113,8 @@ impl<D: OfDb, F: FileSet + Drop, A: Answerer + Drop, B: Room> Base<D, F, A, B> {
         match shelved.fetch(alloc, pass, &self.answers) {
             Ok(fetched) => match self.enter(rt, &mut shelved, pass, fetched, epoch) {
                 Ok(polled) => Ok(polled),
-                Err(spent) => Err(LookupFault::Spent { count: spent.count }),
+                Err(CacheFault::NoMemory) => Err(LookupFault::NoMemory),
+                Err(CacheFault::Spent { count }) => Err(LookupFault::Spent { count }),
             },
             Err(fault) => Err(LookupFault::from(fault)),
         }
@@ -121,7 +128,7 @@ impl<D: OfDb, F: FileSet + Drop, A: Answerer + Drop, B: Room> Base<D, F, A, B> {
         pass: &mut DbPass<F, B>,
         fetched: Fetched<A>,
         epoch: u64,
-    ) -> Result<Polled<A>, Spent>
+    ) -> Result<Polled<A>, CacheFault>
         requires db { pass.old.db ≡ D.db }
         requires fits { FitsBook shelved.old.book fetched }
         requires epoch { epoch ≤ invalidations pass.old.pass.seen }
@@ -130,32 +137,43 @@ impl<D: OfDb, F: FileSet + Drop, A: Answerer + Drop, B: Room> Base<D, F, A, B> {
         ensures content { IfOk result (λ polled. polled.content ≡ fetched.content) }
         ensures polled { IfOk result (λ polled. IsPolled pass.old.pass.seen pass.new.pass.seen epoch polled) }
         ensures steady { IsSteady B.held D.db pass.new.pass.seen }
-        ensures spent { IfErr result (λ spent. IsSpent pass.new.pass.seen spent.count) }
+        ensures fault { IfErr result (λ fault. IsPollFault fault pass.new.pass.seen) }
     {
         let mut lock = self.desk.lock(rt);
         let desk = &mut *lock;
-        desk.show(pass);
+        desk.follow(pass)?;
+        desk.bring(shelved)?;
         let polled = desk.poll(shelved, fetched, epoch);
         desk.show(pass);
-        polled
+        match polled {
+            Ok(polled) => Ok(polled),
+            Err(spent) => Err(CacheFault::Spent { count: spent.count }),
+        }
     }
 
-    /// Counts a miss, and tries an insertion.
-    pub fn keep<R: Wait>(&self, rt: &R, pass: &mut DbPass<F, B>, loaded: Loaded) -> Given
+    /// Counts a miss, and tries an insertion; once more in a larger table, where it finds no room and the table may become large enough.
+    /// For want of memory nothing was inserted.
+    pub fn keep<R: Wait>(
+        &self,
+        rt: &R,
+        alloc: Global,
+        pass: &mut DbPass<F, B>,
+        loaded: Loaded,
+    ) -> Result<Given, NoMemory>
         requires db { pass.old.db ≡ D.db }
         requires answered { IsAnswered pass.old.pass.seen loaded }
         requires new { loaded.reloads ≡ 0 }
         ensures frame { Held pass.old pass.new }
-        ensures kept { IsTried (room_of self.now.settings) (LoadedLastCycle pass.old pass.new) loaded pass.old.pass.seen pass.new.pass.seen result }
+        ensures kept { IfOk result (λ given. IsTried self.now.settings (LoadedLastCycle pass.old pass.new) loaded pass.old.pass.seen pass.new.pass.seen given) }
         ensures steady { IsSteady B.held D.db pass.new.pass.seen }
     {
-        pass.pass.learn();
+        pass.learn();
         let mut lock = self.desk.lock(rt);
         let desk = &mut *lock;
-        desk.show(pass);
-        let (said, loaded) = desk.insert(loaded);
+        desk.follow(pass)?;
+        let (said, loaded) = desk.keep(alloc, &self.settings, pass, loaded)?;
         desk.show_cycle(pass);
-        given_after(said, loaded.into_reply())
+        Ok(given_after(said, loaded.into_reply()))
     }
 
     /// The answer over a polled content, as it is to be inserted.
@@ -206,38 +224,38 @@ impl<D: OfDb, F: FileSet + Drop, A: Answerer + Drop, B: Room> Base<D, F, A, B> {
     {
         let mut lock = self.desk.lock(rt);
         let desk = &mut *lock;
-        desk.show(pass);
+        desk.follow(pass)?;
         let ended = desk.invalidate();
         desk.show_cycle(pass);
         ended
     }
 
-    /// The number of invalidations.
-    pub fn note<R: Wait>(&self, rt: &R, pass: &mut DbPass<F, B>) -> u64
+    /// The number of invalidations. Fails only for want of memory.
+    pub fn note<R: Wait>(&self, rt: &R, pass: &mut DbPass<F, B>) -> Result<u64, NoMemory>
         requires { pass.old.db ≡ D.db }
         ensures frame { Held pass.old pass.new }
         ensures steady { IsSteady B.held D.db pass.new.pass.seen }
-        ensures noted { result ≡ invalidations pass.new.pass.seen }
+        ensures noted { IfOk result (λ epoch. epoch ≡ invalidations pass.new.pass.seen) }
     {
         let mut lock = self.desk.lock(rt);
         let desk = &mut *lock;
-        desk.show(pass);
-        desk.epoch()
+        desk.follow(pass)?;
+        Ok(desk.epoch())
     }
 
-    /// What the database counts.
-    pub fn stats<R: Wait>(&self, rt: &R, pass: &mut DbPass<F, B>) -> Stats
+    /// What the database counts. Fails only for want of memory.
+    pub fn stats<R: Wait>(&self, rt: &R, pass: &mut DbPass<F, B>) -> Result<Stats, NoMemory>
         requires { pass.old.db ≡ D.db }
         ensures frame { Held pass.old pass.new }
         ensures steady { IsSteady B.held D.db pass.new.pass.seen }
-        ensures counted { IsCounted (room_of self.now.settings) pass.new.pass.seen result }
-        ensures enabled { result.enabled ≡ self.now.settings.enabled }
+        ensures counted { IfOk result (λ stats. IsCounted self.now.settings pass.new.pass.seen stats) }
+        ensures enabled { IfOk result (λ stats. stats.enabled ≡ self.now.settings.enabled) }
     {
         let mut lock = self.desk.lock(rt);
         let desk = &mut *lock;
-        desk.show(pass);
+        desk.follow(pass)?;
         let counted = desk.stats();
-        with_enabled(counted, self.settings.enabled)
+        Ok(with_enabled(counted, self.settings.enabled))
     }
 }
 

@@ -120,10 +120,10 @@ impl<F: FileSet + Drop, A: Answerer + Drop, B: Room> Store for Database<F, A, B>
 
     fn stats<R: Wait>(&self, rt: &R, pass: &mut DbPass<F, B>) -> Result<Stats, NoMemory> {
         match &self.bases {
-            Bases::Passwd(base) => Ok(base.stats(rt, pass)),
-            Bases::Group(base) => Ok(base.stats(rt, pass)),
-            Bases::Hosts(base) => Ok(base.stats(rt, pass)),
-            Bases::Services(base) => Ok(base.stats(rt, pass)),
+            Bases::Passwd(base) => base.stats(rt, pass),
+            Bases::Group(base) => base.stats(rt, pass),
+            Bases::Hosts(base) => base.stats(rt, pass),
+            Bases::Services(base) => base.stats(rt, pass),
         }
     }
 

@@ -1,9 +1,10 @@
 // What the locks of a database keep.
-ghost use Rattle.std.specs.Prelude.{◌≡◌, ◌≤◌, ◌⊎◌, All, IfOk, IfErr, OnOk};
+ghost use Rattle.std.specs.Prelude.{◌≡◌, ◌+◌, ◌≤◌, ◌<◌, ◌⊎◌, All, IfOk, IfErr, OnOk, length};
 ghost use Rattle.nsc_model.specs.Entry.{kept_limit};
 ghost use Rattle.nsc_model.specs.History.{Legal, NoneLive, invalidations};
-ghost use Rattle.nsc_writer.specs.Writer.{IsAnswered};
-ghost use Rattle.nsc_sourcebook.specs.Book.{FitsBook};
+ghost use Rattle.nsc_model.specs.Sizes.{SizeFits};
+ghost use Rattle.nsc_seats.specs.Tables.{IsChain};
+ghost use Rattle.nsc_sourcebook.specs.Book.{Fetched as Read, FitsBook};
 ghost use Rattle.nsc_sourcebook.specs.Reads.{IsFetched, IsPart, NoneFailed, NotFetched};
 ghost use Rattle.nsc_model.specs.Machine.{is_outdated, last_count, room_of};
 ghost use Rattle.nsc_model.specs.Reloads.{Reloaded};
@@ -12,7 +13,7 @@ ghost use Rattle.nsc_model.specs.Stores.{AreLoadedAgain, IsCounted, IsEmptied, I
 ghost use Rattle.nsc_rule.specs.Seats.{informed};
 ghost use Rattle.nsc_shelf.specs.Uses.{counted};
 ghost use Rattle.nsc_database.specs.Frames.{Held, LoadedLastCycle};
-ghost use Rattle.nsc_database.specs.Holds.{IsInserted, IsLooked, IsPolled};
+ghost use Rattle.nsc_database.specs.Holds.{IsLooked, IsPolled};
 ghost use Rattle.nsc_database.specs.Rests.{LoadsAgain};
 ghost use Rattle.nsc_model.specs.Steady.{IsSteady};
 ghost use Rattle.nsc_database.specs.Ticks.{AreAnew, AreOver, EmptiesOutdated, IsChecked, IsDue, IsHoldFault};
@@ -23,21 +24,23 @@ use nsc_base::{Buf, NoMemory};
 use nsc_model::{Answerer, CacheFault, DbConf, Kind, LookupFault, Spent, Stats};
 use nsc_outside::FileSet;
 use nsc_pruner::Due;
-use nsc_rule::Pass;
+use nsc_seats::{Left, Seats};
 use nsc_sourcebook::{Fetched, PollFault, Polled, SourceBook};
-use nsc_turns::{Checked, HitOrMiss, check, insert, invalidate, look, renew};
-use nsc_writer::{Inserted, Loaded, Writer};
+use nsc_turns::{Checked, HitOrMiss, check, invalidate, look, renew};
+use nsc_writer::{Loaded, Writer};
 use std::alloc::Global;
 use std::marker::{Model, PhantomData};
 
-/// The writer of a database, and the version that the last tick found, 0 before the first.
+/// The writer of a database, the tables that it left, and the version that the last tick found, 0 before the first.
 #[derive(Drop)]
 pub struct Desk<D: OfDb, B: Room> {
     pub writer: Writer,
+    pub left: Left,
     pub ticked: u64,
     pub of: PhantomData<D>,
     pub room: PhantomData<B>,
-    pub ghost own: { (writer.table ≡ B.table D.db) × (writer.layout.arena ≡ room_of (settings_of B.conf D.db)) },
+    pub ghost own: { IsChain (B.table D.db) left writer.table },
+    pub ghost sizes: { SizeFits (settings_of B.conf D.db) },
 }
 
 impl<D: OfDb, B: Room> Model for Desk<D, B> {
@@ -46,9 +49,9 @@ impl<D: OfDb, B: Room> Model for Desk<D, B> {
 
     ghost Value = { Desk };
 
-    ghost view = { λ d. record { writer = d.writer; ticked = d.ticked } };
+    ghost view = { λ d. record { writer = d.writer; left = d.left; ticked = d.ticked } };
 
-    ghost invariant = { λ d. IsAtRest (settings_of B.conf D.db) B.conf.reloads B.held D.db d.ticked d.writer };
+    ghost invariant = { λ d. IsAtRest (settings_of B.conf D.db) B.conf.reloads B.held D.db d.ticked d.left d.writer };
 }
 
 /// Its source book.
@@ -61,14 +64,34 @@ pub struct Shelved<D: OfDb, F: FileSet + Drop, A: Answerer, B: Room> {
 }
 
 impl<D: OfDb, B: Room> Desk<D, B> {
-    /// A pass of the words of this database, which has seen all of its history.
-    pub fn pass(&mut self) -> Pass
-        ensures table { result.table ≡ B.table D.db }
-        ensures legal { Legal result.seen }
-        ensures steady { IsSteady B.held D.db result.seen }
+    /// The pass goes on to the table that is written, and has seen the whole history then, which begins with what it had seen. What else
+    /// is done under a hold of the lock knows no pass. For want of memory it may have gone on to a table before that one.
+    pub fn follow<F: FileSet + Drop>(&mut self, pass: &mut DbPass<F, B>) -> Result<(), NoMemory>
+        requires { pass.old.db ≡ D.db }
+        ensures same { self.new ≡ self.old }
+        ensures frame { Held pass.old pass.new }
+        ensures seen { OnOk result (pass.new.pass.seen ≡ self.old.writer.seen) }
+        ensures present { OnOk result (pass.new.pass.present ≡ self.old.writer.table) }
+        ensures steady { IsSteady B.held D.db pass.new.pass.seen }
+        ensures reply { pass.new.reply ≡ pass.old.reply }
     {
         self.writer.learn();
-        self.writer.pass()
+        let followed = pass.pass.follow(&mut self.left, &mut self.writer);
+        pass.learn();
+        followed
+    }
+
+    /// The source book goes on to the table that is written. What was fetched may be entered still. For want of memory it may have gone
+    /// on to a table before that one.
+    pub fn bring<F: FileSet + Drop, A: Answerer>(
+        &mut self,
+        shelved: &mut Shelved<D, F, A, B>,
+    ) -> Result<(), NoMemory>
+        ensures same { self.new ≡ self.old }
+        ensures fits { (fetched : Read) → FitsBook shelved.old.book fetched → FitsBook shelved.new.book fetched }
+        ensures present { OnOk result (shelved.new.book.present ≡ self.old.writer.table) }
+    {
+        shelved.book.follow(&mut self.left, &mut self.writer)
     }
 
     /// Counts a lookup that made an answer anew.
@@ -78,12 +101,13 @@ impl<D: OfDb, B: Room> Desk<D, B> {
         self.writer.miss(not_found);
     }
 
-    /// The pass has seen the whole history then, which begins with what it had seen, and knows CYCLE. What else is done under a hold of
-    /// the lock knows no pass.
+    /// A pass of the table that is written has seen the whole history then, which begins with what it had seen, and knows CYCLE.
     pub fn show<F: FileSet + Drop>(&mut self, pass: &mut DbPass<F, B>)
-        requires { pass.old.db ≡ D.db }
+        requires db { pass.old.db ≡ D.db }
+        requires present { pass.old.pass.present ≡ self.old.writer.table }
         ensures same { self.new ≡ self.old }
         ensures frame { Held pass.old pass.new }
+        ensures present { pass.new.pass.present ≡ pass.old.pass.present }
         ensures seen { pass.new.pass.seen ≡ self.old.writer.seen }
         ensures searching { pass.new.pass.searching ≡ informed pass.old.pass.searching self.old.writer.cache.cycle }
         ensures steady { IsSteady B.held D.db pass.new.pass.seen }
@@ -92,13 +116,15 @@ impl<D: OfDb, B: Room> Desk<D, B> {
         ensures reply { pass.new.reply ≡ pass.old.reply }
     {
         self.writer.learn();
-        self.writer.show(&mut pass.pass);
+        pass.pass.show(&mut self.writer);
+        pass.learn();
     }
 
     /// The same, and the pass has loaded CYCLE. It is shown the history again after that, since a load without the lock may show more
     /// than the lock tells of.
     pub fn show_cycle<F: FileSet + Drop>(&mut self, pass: &mut DbPass<F, B>)
-        requires { pass.old.db ≡ D.db }
+        requires db { pass.old.db ≡ D.db }
+        requires present { pass.old.pass.present ≡ self.old.writer.table }
         ensures same { self.new ≡ self.old }
         ensures frame { Held pass.old pass.new }
         ensures seen { pass.new.pass.seen ≡ self.old.writer.seen }
@@ -122,7 +148,7 @@ impl<D: OfDb, B: Room> Desk<D, B> {
 
     /// What the writer counts.
     pub fn stats(&self) -> Stats
-        ensures { IsCounted (room_of (settings_of B.conf D.db)) self.now.writer.seen result }
+        ensures { IsCounted (settings_of B.conf D.db) self.now.writer.seen result }
     {
         self.writer.learn();
         self.writer.stats()
@@ -148,8 +174,10 @@ impl<D: OfDb, B: Room> Desk<D, B> {
         epoch: u64,
     ) -> Result<Polled<A>, Spent>
         requires fits { FitsBook shelved.old.book fetched }
+        requires present { shelved.old.book.present ≡ self.old.writer.table }
         requires epoch { epoch ≤ invalidations self.old.writer.seen }
         requires part { IsPart B.held D.db fetched.content }
+        ensures table { self.new.writer.table ≡ self.old.writer.table }
         ensures content { IfOk result (λ polled. polled.content ≡ fetched.content) }
         ensures polled { IfOk result (λ polled. IsPolled self.old.writer.seen self.new.writer.seen epoch polled) }
         ensures spent { IfErr result (λ spent. IsSpent self.new.writer.seen spent.count) }
@@ -160,20 +188,10 @@ impl<D: OfDb, B: Room> Desk<D, B> {
         polled
     }
 
-    /// Counts a miss, tries an insertion, and hands back what was to be inserted.
-    pub fn insert(&mut self, loaded: Loaded) -> (Inserted, Loaded)
-        requires answered { IsAnswered self.old.writer.seen loaded }
-        requires new { loaded.reloads ≡ 0 }
-        ensures inserted { IsInserted (room_of (settings_of B.conf D.db)) (last_count ≤ self.new.writer.cache.cycle) result.0 loaded self.old.writer.seen self.new.writer.seen }
-        ensures back { result.1 ≡ loaded }
-    {
-        self.writer.learn();
-        insert(&mut self.writer, loaded)
-    }
-
     /// Ends every entry, and gives the new number of invalidations. At `Spent` that number stands at its end; or every entry
     /// ended, and the count of the beginnings and the ends of slides does.
     pub fn invalidate(&mut self) -> Result<u64, CacheFault>
+        ensures table { self.new.writer.table ≡ self.old.writer.table }
         ensures done { IfOk result (λ epoch. IsEmptied self.old.writer.seen self.new.writer.seen epoch) }
         ensures fault { IfErr result (λ fault. IsInvalidateFault fault self.new.writer.seen (last_count ≤ self.new.writer.cache.cycle)) }
     {
@@ -197,6 +215,7 @@ impl<D: OfDb, B: Room> Desk<D, B> {
     ) -> Result<Checked, LookupFault>
         requires settings { settings.now ≡ settings_of B.conf D.db }
         requires limit { limit ≡ B.conf.reloads }
+        ensures table { self.new.writer.table ≡ self.old.writer.table }
         ensures checked { IfOk result (λ checked. IsChecked checked settings.now limit now self.new.writer.seen) }
         ensures cause { IfOk result (λ checked. EmptiesOutdated checked (is_outdated settings.now self.old.writer.cache.newest_version self.old.ticked)) }
         ensures fault { IfErr result (λ fault. IsHoldFault fault self.new.writer.seen (last_count ≤ self.new.writer.cache.cycle) (NoneLive self.new.writer.seen)) }
@@ -226,6 +245,7 @@ impl<D: OfDb, B: Room> Desk<D, B> {
         requires noted { epoch ≤ invalidations self.old.writer.seen }
         requires due { All (IsDue B.conf.reloads now self.old.writer.seen) due.old }
         requires loads { AreAnew self.old.writer.seen epoch due.old loads.now }
+        ensures table { self.new.writer.table ≡ self.old.writer.table }
         ensures over { OnOk result (AreOver epoch self.new.writer.seen due.old) }
         ensures spent { IfErr result (λ spent. IsUnmoved self.new.writer.seen (last_count ≤ self.new.writer.cache.cycle) spent.count (AreOver epoch self.new.writer.seen due.old)) }
     {
@@ -238,6 +258,13 @@ impl<D: OfDb, B: Room> Desk<D, B> {
 }
 
 impl<D: OfDb, F: FileSet + Drop, A: Answerer, B: Room> Shelved<D, F, A, B> {
+    /// The seats of another caller, which has seen as much as the source book. Fails only for want of memory.
+    pub fn seats(&mut self, alloc: Global) -> Result<Seats, NoMemory>
+        ensures { IfOk result (λ seats. seats.table ≡ B.table D.db) }
+    {
+        self.book.seats(alloc)
+    }
+
     /// A file set that is split from the kept one. Fails only for want of memory.
     pub fn split(&self, alloc: Global) -> Result<F, NoMemory>
         ensures calm { IfOk result (λ set. F.faults set ≡ 0) }

@@ -4,6 +4,7 @@
 mod base;
 mod database;
 mod desk;
+mod growing;
 mod lookup;
 mod opened;
 mod pass;

@@ -40,7 +40,11 @@ impl<D: OfDb, F: FileSet + Drop, A: Answerer + Drop, B: Room> Base<D, F, A, B> {
         ensures fault { IfErr result (GivesUp self.now.settings pass.old.pass.seen pass.new.pass.seen (record { kind = kind; key = key.now }) (F.faults pass.old.files) (F.faults pass.new.files) (F.file_faults pass.old.files) (F.file_faults pass.new.files)) }
         ensures no_fault { OnOk result (NoneFailed F.FileSet pass.old.files pass.new.files) }
     {
-        let epoch = match self.find(rt, pass, kind, key) {
+        let found = match self.find(rt, pass, kind, key) {
+            Ok(found) => found,
+            Err(_) => return Err(LookupFault::NoMemory),
+        };
+        let epoch = match found {
             HitOrMiss::Hit(hit) => match Bytes::copy(alloc, pass.reply.bytes()) {
                 Ok(bytes) => {
                     return Ok(Given::Hit {
@@ -70,21 +74,30 @@ impl<D: OfDb, F: FileSet + Drop, A: Answerer + Drop, B: Room> Base<D, F, A, B> {
             Ok(loaded) => loaded,
             Err(_) => return Err(LookupFault::NoMemory),
         };
-        Ok(self.keep(rt, pass, loaded))
+        match self.keep(rt, alloc, pass, loaded) {
+            Ok(given) => Ok(given),
+            Err(_) => Err(LookupFault::NoMemory),
+        }
     }
 
     // Looks for the live entry of the request, where the database is cached. The pass has seen the whole history in either case.
-    fn find<R: Wait>(&self, rt: &R, pass: &mut DbPass<F, B>, kind: Kind, key: &[u8]) -> HitOrMiss
+    fn find<R: Wait>(
+        &self,
+        rt: &R,
+        pass: &mut DbPass<F, B>,
+        kind: Kind,
+        key: &[u8],
+    ) -> Result<HitOrMiss, NoMemory>
         requires { pass.old.db ≡ D.db }
         ensures frame { Held pass.old pass.new }
-        ensures found { IsFoundIfCached self.now.settings result pass.new.pass.seen (record { kind = kind; key = key.now }) pass.new.reply.content }
+        ensures found { IfOk result (λ found. IsFoundIfCached self.now.settings found pass.new.pass.seen (record { kind = kind; key = key.now }) pass.new.reply.content) }
         ensures steady { IsSteady B.held D.db pass.new.pass.seen }
     {
         if self.settings.enabled {
             return self.look(rt, pass, kind, key);
         }
-        let _epoch = self.note(rt, pass);
-        HitOrMiss::Missed { epoch: 0 }
+        let _epoch = self.note(rt, pass)?;
+        Ok(HitOrMiss::Missed { epoch: 0 })
     }
 
     // The answer over a polled content, which is not to be inserted. Counts a miss.

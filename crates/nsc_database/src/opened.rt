@@ -1,7 +1,6 @@
 ghost use Rattle.std.specs.Prelude.{◌≡◌, ◌≤◌, ◌∷◌, [], IfOk, IfErr, OnOk};
 ghost use Rattle.nsc_model.specs.declared.record.Record.TheVariants as record_of;
 ghost use Rattle.nsc_model.specs.Entry.{kept_limit};
-ghost use Rattle.nsc_model.specs.Machine.{room_of};
 ghost use Rattle.nsc_model.specs.Settings.{settings_of};
 ghost use Rattle.nsc_model.specs.Sizes.{SizeFits};
 ghost use Rattle.nsc_database.specs.Rests.{IsNew};
@@ -13,10 +12,10 @@ use crate::database::{Bases, Database};
 use crate::desk::{Desk, Shelved};
 use crate::pass::DbPass;
 use crate::room::{OfDb, Room};
-use nsc_base::{Buf, NoMemory};
+use nsc_base::Buf;
 use nsc_model::{Answerer, Conf, Db, DbConf};
 use nsc_outside::FileSet;
-use nsc_rule::{Map, Pass};
+use nsc_seats::{Left, Seats};
 use nsc_sourcebook::{PollFault, SourceBook};
 use nsc_words::Layout;
 use nsc_writer::Writer;
@@ -29,7 +28,8 @@ use std::sync::Mutex;
 pub struct Opened<F: FileSet + Drop, A: Answerer + Drop> {
     book: SourceBook<F, A>,
     writer: Writer,
-    pub pass: Pass,
+    left: Left,
+    pub pass: Seats,
     pub files: F,
     reply: Buf,
     answers: A,
@@ -37,7 +37,9 @@ pub struct Opened<F: FileSet + Drop, A: Answerer + Drop> {
     pub settings: DbConf,
     pub reloads: Option<u32>,
     pub ghost tied: { (book.table ≡ pass.table) × (book.db ≡ db) × (writer.table ≡ pass.table) },
-    pub ghost new: { IsNew writer book.newest (room_of settings) },
+    pub ghost new: { IsNew writer book.newest settings },
+    pub ghost sizes: { SizeFits settings },
+    pub ghost none: { left ≡ [] },
     pub ghost buffer: { reply.limit ≡ kept_limit },
     pub ghost held: { book.held ≡ F.held files },
     pub ghost part: { IsPart (F.held files) db book.newest },
@@ -73,6 +75,7 @@ impl<F: FileSet + Drop, A: Answerer + Drop> Opened<F, A> {
         Ok(Opened {
             book,
             writer,
+            left: Left::none(alloc),
             pass,
             files: own,
             reply,
@@ -83,19 +86,19 @@ impl<F: FileSet + Drop, A: Answerer + Drop> Opened<F, A> {
         })
     }
 
-    /// Enters a room, whose words for this database are its own: from then on threads may share it. Fails only for want of
-    /// memory.
-    pub fn enter<B: Room>(self) -> Result<(Database<F, A, B>, DbPass<F, B>), NoMemory>
+    /// Enters a room, whose first words for this database are its own: from then on threads may share it.
+    pub fn enter<B: Room>(self) -> (Database<F, A, B>, DbPass<F, B>)
         requires table { self.pass.table ≡ B.table self.db }
         requires conf { (self.settings ≡ settings_of B.conf self.db) × (self.reloads ≡ B.conf.reloads) }
         requires held { F.held self.files ≡ B.held }
-        ensures database { IfOk result (λ r. r.0 ≡ record { db = self.db; settings = self.settings; reloads = self.reloads }) }
-        ensures pass { IfOk result (λ r. (r.1.db ≡ self.db) × (r.1.pass.seen ≡ self.pass.seen)) }
-        ensures steady { IfOk result (λ r. IsSteady B.held self.db r.1.pass.seen) }
+        ensures database { result.0 ≡ record { db = self.db; settings = self.settings; reloads = self.reloads } }
+        ensures pass { (result.1.db ≡ self.db) × (result.1.pass.seen ≡ self.pass.seen) }
+        ensures steady { IsSteady B.held self.db result.1.pass.seen }
     {
         let Opened {
             book,
             writer,
+            left,
             pass,
             files,
             reply,
@@ -104,16 +107,14 @@ impl<F: FileSet + Drop, A: Answerer + Drop> Opened<F, A> {
             settings,
             reloads,
         } = self;
-        let map = writer.map().share()?;
-        let theirs = writer.map().share()?;
         let parts = Parts {
             book,
             writer,
+            left,
             answers,
             db,
             settings,
             reloads,
-            map,
         };
         let bases = match db {
             Db::Passwd => Bases::Passwd(parts.base()),
@@ -124,12 +125,11 @@ impl<F: FileSet + Drop, A: Answerer + Drop> Opened<F, A> {
         let pass = DbPass {
             db,
             pass,
-            map: theirs,
             files,
             reply,
             room: PhantomData,
         };
-        Ok((Database { bases }, pass))
+        (Database { bases }, pass)
     }
 }
 
@@ -138,20 +138,21 @@ impl<F: FileSet + Drop, A: Answerer + Drop> Opened<F, A> {
 struct Parts<F: FileSet + Drop, A: Answerer + Drop> {
     book: SourceBook<F, A>,
     writer: Writer,
+    left: Left,
     answers: A,
     db: Db,
     settings: DbConf,
     reloads: Option<u32>,
-    map: Map,
 }
 
 impl<F: FileSet + Drop, A: Answerer + Drop> Parts<F, A> {
     // The database of which it is known which one it is.
     fn base<D: OfDb, B: Room>(self) -> Base<D, F, A, B>
         requires db { (self.db ≡ D.db) × (self.book.db ≡ D.db) }
-        requires tables { (self.book.table ≡ B.table D.db) × (self.writer.table ≡ B.table D.db) × (self.map.table ≡ B.table D.db) }
+        requires tables { (self.book.table ≡ B.table D.db) × (self.writer.table ≡ B.table D.db) × (self.left ≡ []) }
         requires conf { (self.settings ≡ settings_of B.conf D.db) × (self.reloads ≡ B.conf.reloads) }
-        requires new { IsNew self.writer self.book.newest (room_of self.settings) }
+        requires new { IsNew self.writer self.book.newest self.settings }
+        requires sizes { SizeFits self.settings }
         requires held { self.book.held ≡ B.held }
         requires part { IsPart B.held D.db self.book.newest }
         ensures { (result.settings ≡ self.settings) × (result.reloads ≡ self.reloads) }
@@ -159,11 +160,11 @@ impl<F: FileSet + Drop, A: Answerer + Drop> Parts<F, A> {
         let Parts {
             book,
             writer,
+            left,
             answers,
             db,
             settings,
             reloads,
-            map,
         } = self;
         Base {
             shelved: Mutex::new(Shelved {
@@ -173,6 +174,7 @@ impl<F: FileSet + Drop, A: Answerer + Drop> Parts<F, A> {
             }),
             desk: Mutex::new(Desk {
                 writer,
+                left,
                 ticked: 0,
                 of: PhantomData,
                 room: PhantomData,
@@ -181,7 +183,6 @@ impl<F: FileSet + Drop, A: Answerer + Drop> Parts<F, A> {
             db,
             settings,
             reloads,
-            map,
         }
     }
 }

@@ -9,20 +9,19 @@ use crate::room::Room;
 use nsc_base::Buf;
 use nsc_model::{Db, InPlace, Kind};
 use nsc_outside::FileSet;
-use nsc_reader::search;
-use nsc_rule::{Map, Pass};
+use nsc_seats::Seats;
 use std::marker::PhantomData;
 
-/// A caller's pass of a database: what it has seen of the history, a file set of its own, and a buffer for replies.
+/// A caller's pass of a database: its seats at the tables, which have seen a part of the history, a file set of its own, and a buffer
+/// for replies.
 #[derive(Drop)]
 pub struct DbPass<F: FileSet + Drop, B: Room> {
     pub(crate) db: Db,
-    pub(crate) pass: Pass,
-    pub(crate) map: Map,
+    pub(crate) pass: Seats,
     pub(crate) files: F,
     pub(crate) reply: Buf,
     pub(crate) room: PhantomData<B>,
-    pub ghost own: { (pass.table ≡ B.table db) × (map.table ≡ B.table db) },
+    pub ghost own: { pass.table ≡ B.table db },
     pub ghost buffer: { reply.limit ≡ kept_limit },
     pub ghost held: { F.held files ≡ B.held },
 }
@@ -49,7 +48,7 @@ impl<F: FileSet + Drop, B: Room> DbPass<F, B> {
         ensures searches { self.new.pass.searching.searches ≡ self.old.pass.searching.searches + 1 }
         ensures answer { InPlaceClause self.old.pass.seen self.new.pass.seen (record { kind = kind; key = key.now }) self.new.pass.searching.first self.new.pass.searching.last out.new.content result }
     {
-        let answer = search(&mut self.pass, &self.map, kind, key, out);
+        let answer = self.pass.search(kind, key, out);
         self.pass.learn();
         answer
     }
@@ -57,12 +56,13 @@ impl<F: FileSet + Drop, B: Room> DbPass<F, B> {
     /// Loads CYCLE, so that it is known whether there are more compactions.
     pub(crate) fn look_at_cycle(&mut self)
         ensures frame { Held self.old self.new }
+        ensures present { self.new.pass.present ≡ self.old.pass.present }
         ensures reply { self.new.reply ≡ self.old.reply }
         ensures searches { self.new.pass.searching.searches ≡ self.old.pass.searching.searches + 1 }
         ensures known { self.old.pass.searching.known ≤ self.new.pass.searching.last }
         ensures most { self.new.pass.searching.last ≤ last_count }
     {
-        let _cycle = self.pass.first_cycle(&self.map);
+        self.pass.look_at_cycle();
         self.pass.learn();
     }
 
@@ -71,7 +71,7 @@ impl<F: FileSet + Drop, B: Room> DbPass<F, B> {
         requires { other.db ≡ self.old.db }
         ensures db { self.new.db ≡ self.old.db }
         ensures files { self.new.files ≡ self.old.files }
-        ensures searching { self.new.pass.searching ≡ self.old.pass.searching }
+        ensures searches { self.old.pass.searching.searches ≤ self.new.pass.searching.searches }
         ensures before { IsPrefix self.old.pass.seen self.new.pass.seen }
         ensures other { IsPrefix other.pass.seen self.new.pass.seen }
         ensures legal { Legal self.new.pass.seen }
@@ -79,12 +79,11 @@ impl<F: FileSet + Drop, B: Room> DbPass<F, B> {
         let DbPass {
             db: _,
             pass,
-            map: _,
             files: _,
             reply: _,
             room: _,
         } = other;
-        self.pass.meet(&self.map, pass);
+        self.pass.meet(pass);
         self.learn();
     }
 }

@@ -47,7 +47,10 @@ impl<D: OfDb, F: FileSet + Drop, A: Answerer + Drop, B: Room> Base<D, F, A, B> {
             pass.learn();
             return Ok(());
         }
-        let epoch = self.note(rt, pass);
+        let epoch = match self.note(rt, pass) {
+            Ok(epoch) => epoch,
+            Err(_) => return Err(LookupFault::NoMemory),
+        };
         let polled = match self.poll(rt, alloc, pass, epoch) {
             Ok(polled) => polled,
             Err(fault) => return Err(fault),
@@ -79,12 +82,13 @@ impl<D: OfDb, F: FileSet + Drop, A: Answerer + Drop, B: Room> Base<D, F, A, B> {
         ensures frame { Held pass.old pass.new }
         ensures steady { IsSteady B.held D.db pass.new.pass.seen }
         ensures checked { IfOk result (λ checked. IsChecked checked self.now.settings self.now.reloads now pass.new.pass.seen) }
-        ensures reloaded { Reloaded self.now.reloads pass.new.pass.seen }
-        ensures again { AreLoadedAgain (room_of self.now.settings) pass.new.pass.seen ⊎ LoadedLastCycle pass.old pass.new }
+        ensures reloaded { OnOk result (Reloaded self.now.reloads pass.new.pass.seen) }
+        ensures again { OnOk result (AreLoadedAgain (room_of self.now.settings) pass.new.pass.seen ⊎ LoadedLastCycle pass.old pass.new) }
         ensures fault { IfErr result (λ fault. IsHoldFault fault pass.new.pass.seen (LoadedLastCycle pass.old pass.new) (NoneLive pass.new.pass.seen)) }
     {
         let mut lock = self.desk.lock(rt);
         let desk = &mut *lock;
+        desk.follow(pass)?;
         let checked = desk.check(alloc, &self.settings, self.reloads, now);
         desk.show_cycle(pass);
         checked
@@ -120,7 +124,7 @@ impl<D: OfDb, F: FileSet + Drop, A: Answerer + Drop, B: Room> Base<D, F, A, B> {
         };
         let mut lock = self.desk.lock(rt);
         let desk = &mut *lock;
-        desk.show(pass);
+        desk.follow(pass)?;
         let renewed = desk.renew(epoch, &mut due, &loads, now);
         desk.show_cycle(pass);
         match renewed {

@@ -4,8 +4,8 @@ use denote.Param.Send.{IsSend, IsSync, sendable}
 use Rattle.std.proofs.Crossing.{crosses}
 use Rattle.nsc_model.specs.declared.answerer.Answerer as answerer
 use Rattle.nsc_outside.specs.declared.files.FileSet as file_set
-use Rattle.nsc_rule.proofs.Crossing.{pass-send}
+use Rattle.nsc_seats.proofs.Crossing.{seats-send}
 use Rattle.nsc_sourcebook.specs.contracts.book.SourceBook as book
 
 pub book-send : (F A R : RattleType) (f : file_set.Ghosts F.Denot) (a : answerer.Ghosts A.Denot R.Denot) → IsSend F → IsSend R → IsSync R → IsSend (book.the_row F A R f a)
-book-send F A R f a files ready shared = search (sendable, crosses, pass-send) depth 30
+book-send F A R f a files ready shared = search (sendable, crosses, seats-send) depth 30

@@ -11,11 +11,12 @@ use Rattle.nsc_model.specs.Machine.{polled}
 use Rattle.nsc_writer.specs.declared.loaded.Stamp.{Stamp}
 use Rattle.nsc_writer.specs.Writer.{Writer, Polls}
 
--- the database, the words of its writer, what was seen of its history, the newest content then, and the files that its file set
--- holds, where that tells them
+-- the database, its first table and the one that its book has come to, what was seen of its history, the newest content then, and the
+-- files that its file set holds, where that tells them
 pub record SourceBook : Type 0 where
   pub db : Db
   pub table : TableId
+  pub present : TableId
   pub seen : List Record
   pub newest : Content
   pub held : Option Content

@@ -8,8 +8,9 @@ ghost use Rattle.nsc_model.specs.Machine.{new_cache, polled};
 ghost use Rattle.nsc_model.specs.Reads.{NoneFell};
 ghost use Rattle.nsc_words.specs.Layout.{IsLayout};
 ghost use Rattle.nsc_writer.specs.Writer.{IsNewest, Polls};
+ghost use Rattle.nsc_seats.specs.Tables.{IsChain};
 ghost use Rattle.nsc_sourcebook.specs.Reads.{IsFetched, NoneFailed, NotFetched};
-ghost use Rattle.nsc_sourcebook.specs.Book.{FitsBook, PollsBook};
+ghost use Rattle.nsc_sourcebook.specs.Book.{Fetched as Read, FitsBook, PollsBook};
 ghost use Rattle.nsc_sourcebook.specs.declared.fault.PollFault.TheVariants.{NoMemory as Memory};
 
 use crate::comparing::are_still;
@@ -18,7 +19,7 @@ use crate::reading::read_files;
 use nsc_base::NoMemory;
 use nsc_model::{Answerer, Content, Db, Spent};
 use nsc_outside::FileSet;
-use nsc_rule::Pass;
+use nsc_seats::{Left, Seats};
 use nsc_words::Layout;
 use nsc_writer::{Stamp, Writer};
 use std::alloc::Global;
@@ -87,7 +88,7 @@ pub struct SourceBook<F: FileSet + Drop, A: Answerer> {
     db: Db,
     ready: Arc<A::Ready>,
     version: u64,
-    pass: Pass,
+    seats: Seats,
 }
 
 impl<F: FileSet + Drop, A: Answerer> Model for SourceBook<F, A> {
@@ -99,26 +100,26 @@ impl<F: FileSet + Drop, A: Answerer> Model for SourceBook<F, A> {
 
     ghost Value = { SourceBook };
 
-    ghost view = { λ b. record { db = b.db; table = b.pass.table; seen = b.pass.seen; newest = A.prepared_from (arc_value b.ready); held = F.held b.files } };
+    ghost view = { λ b. record { db = b.db; table = b.seats.table; present = b.seats.present; seen = b.seats.seen; newest = A.prepared_from (arc_value b.ready); held = F.held b.files } };
 
-    ghost invariant = { λ b. (version_in b.pass.seen b.version ≡ Some (A.prepared_from (arc_value b.ready))) × (A.prepared_from (arc_value b.ready) ≡ part_of b.db (A.prepared_from (arc_value b.ready))) };
+    ghost invariant = { λ b. (version_in b.seats.seen b.version ≡ Some (A.prepared_from (arc_value b.ready))) × (A.prepared_from (arc_value b.ready) ≡ part_of b.db (A.prepared_from (arc_value b.ready))) };
 }
 
 impl<F: FileSet + Drop, A: Answerer> SourceBook<F, A> {
     /// Reads the files of a database through this set as version 0, prepares them for many answers, and keeps a handle that is split
-    /// from it. It gives the book, the writer of the database, and a pass that has seen its history.
+    /// from it. It gives the book, the writer of the database, and the seats of a caller that has seen its history.
     pub fn new(
         alloc: Global,
         layout: Layout,
         files: &mut F,
         answers: &A,
         db: Db,
-    ) -> Result<(SourceBook<F, A>, Writer, Pass), PollFault>
+    ) -> Result<(SourceBook<F, A>, Writer, Seats), PollFault>
         requires { IsLayout layout }
         ensures book { IfOk result (λ r. (r.0.db ≡ db) × (r.0.table ≡ r.2.table)) }
         ensures held { IfOk result (λ r. (r.0.held ≡ F.held files.old) × (F.held files.new ≡ F.held files.old)) }
         ensures writer { IfOk result (λ r. r.1 ≡ record { table = r.2.table; layout = layout; seen = record_of.Change 0 r.0.newest ∷ []; cache = new_cache r.0.newest; hits = record { found = 0; not_found = 0 }; misses = record { found = 0; not_found = 0 }; slide = None }) }
-        ensures pass { IfOk result (λ r. r.2.seen ≡ record_of.Change 0 r.0.newest ∷ []) }
+        ensures seats { IfOk result (λ r. r.2.seen ≡ record_of.Change 0 r.0.newest ∷ []) }
         ensures fetched { IfOk result (λ r. IsFetched F.FileSet db files.old files.new r.0.newest) }
         ensures no_fault { OnOk result (NoneFailed F.FileSet files.old files.new) }
         ensures fault { IfErr result (NotFetched F.FileSet files.old files.new) }
@@ -126,15 +127,41 @@ impl<F: FileSet + Drop, A: Answerer> SourceBook<F, A> {
         let content = Arc::new(alloc, read_files(alloc, files, db)?)?;
         let ready = Arc::new(alloc, prepared_further(alloc, answers, content.clone()?)?)?;
         let files = files.split(alloc)?;
-        let (mut writer, pass) = Writer::new(alloc, layout, content)?;
+        let (writer, pass) = Writer::new(alloc, layout, content)?;
+        let mut seats = Seats::new(alloc, writer.map().share()?, pass)?;
         let book = SourceBook {
             files,
             db,
             ready,
             version: 0,
-            pass: writer.pass(),
+            seats: seats.split(alloc)?,
         };
-        Ok((book, writer, pass))
+        Ok((book, writer, seats))
+    }
+
+    /// The seats of another caller, which has seen as much as the book. Fails only for want of memory.
+    pub fn seats(&mut self, alloc: Global) -> Result<Seats, NoMemory>
+        ensures same { self.new ≡ self.old }
+        ensures table { IfOk result (λ seats. seats.table ≡ self.old.table) }
+    {
+        self.seats.split(alloc)
+    }
+
+    /// It goes on to the table that is written, and has seen the whole history then; what was fetched may still be entered. For want of
+    /// memory it may have gone on to a table before that one.
+    pub fn follow(&mut self, left: &mut Left, writer: &mut Writer) -> Result<(), NoMemory>
+        requires chain { IsChain self.old.table left.old writer.old.table }
+        requires still { writer.old.slide ≡ None }
+        ensures writer { writer.new ≡ writer.old }
+        ensures left { left.new ≡ left.old }
+        ensures book { self.new ≡ record self.old { seen = self.new.seen; present = self.new.present } }
+        ensures fits { (fetched : Read) → FitsBook self.old fetched → FitsBook self.new fetched }
+        ensures present { OnOk result (self.new.present ≡ writer.old.table) }
+    {
+        self.seats.learn();
+        let followed = self.seats.follow(left, writer);
+        self.seats.learn();
+        followed
     }
 
     /// A file set that is split from the kept one. Fails only for want of memory.
@@ -227,7 +254,7 @@ impl<F: FileSet + Drop, A: Answerer> SourceBook<F, A> {
         fetched: Fetched<A>,
         epoch: u64,
     ) -> Result<Polled<A>, Spent>
-        requires table { writer.old.table ≡ self.old.table }
+        requires present { self.old.present ≡ writer.old.table }
         requires fits { FitsBook self.old fetched }
         requires epoch { epoch ≤ writer.old.cache.epoch }
         requires still { writer.old.slide ≡ None }
@@ -243,7 +270,7 @@ impl<F: FileSet + Drop, A: Answerer> SourceBook<F, A> {
         } = fetched;
         let stamp = self.enter(writer, content, version, epoch)?;
         writer.learn();
-        writer.show(&mut self.pass);
+        self.seats.show(writer);
         self.version = stamp.version;
         self.ready = kept;
         Ok(Polled { ready, stamp })
@@ -258,7 +285,7 @@ impl<F: FileSet + Drop, A: Answerer> SourceBook<F, A> {
         version: Option<u64>,
         epoch: u64,
     ) -> Result<Stamp, Spent>
-        requires table { writer.old.table ≡ self.old.table }
+        requires present { self.old.present ≡ writer.old.table }
         requires named { IfSome version (λ n. version_in self.old.seen n ≡ Some (arc_value content)) }
         requires epoch { epoch ≤ writer.old.cache.epoch }
         requires still { writer.old.slide ≡ None }
@@ -278,7 +305,7 @@ impl<F: FileSet + Drop, A: Answerer> SourceBook<F, A> {
 
     // Whether a version that was seen is the writer's newest one: then its content is.
     fn is_newest_of(&mut self, writer: &mut Writer, version: u64) -> bool
-        requires table { writer.old.table ≡ self.old.table }
+        requires present { self.old.present ≡ writer.old.table }
         requires still { writer.old.slide ≡ None }
         ensures newest { OnTrue result ((content : Content) → version_in self.old.seen version ≡ Some content → writer.old.cache.sources ≡ content) }
         ensures writer { writer.new ≡ writer.old }
@@ -289,8 +316,8 @@ impl<F: FileSet + Drop, A: Answerer> SourceBook<F, A> {
             return false;
         }
         writer.learn();
-        self.pass.learn();
-        writer.show(&mut self.pass);
+        self.seats.learn();
+        self.seats.show(writer);
         true
     }
 }

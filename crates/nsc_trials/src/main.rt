@@ -7,6 +7,7 @@ mod asked;
 mod caller;
 mod dice;
 mod discarded;
+mod growing;
 mod loads;
 mod mode;
 mod opening;

@@ -27,10 +27,7 @@ pub fn done_in<B: Room + Send, R: Threads + Wait + Clock + Clone + Drop + Send +
     requires users { opened.db ≡ db.Passwd }
     requires held { B.held ≡ None }
 {
-    match opened.enter::<B>() {
-        Ok((database, pass)) => task
-            .run(rt, alloc, &database, pass)
-            .unwrap_or(Outcome::NoMemory),
-        Err(_) => Outcome::NoMemory,
-    }
+    let (database, pass) = opened.enter::<B>();
+    task.run(rt, alloc, &database, pass)
+        .unwrap_or(Outcome::NoMemory)
 }

@@ -3,6 +3,7 @@ ghost use Rattle.nsc_model.specs.declared.kind.Db.TheVariants as db;
 
 use crate::caller::Caller;
 use crate::discarded::{Gates, discards};
+use crate::growing::grows;
 use crate::loads::Load;
 use crate::outcome::Outcome;
 use crate::reads::Reads;
@@ -23,6 +24,8 @@ pub enum Task {
     Script(Script, Release),
     /// A lookup during which the database is invalidated.
     Discarded(Gates, Release),
+    /// Lookups that fill a table, which becomes larger.
+    Growing,
     /// An interleaving of this seed.
     Interleaving(u64, Release),
     /// Many calls, for their time.
@@ -51,6 +54,7 @@ impl Task {
             Task::Discarded(mut gates, mut changed) => {
                 discards(rt, &mut caller, &mut gates, &mut changed)?
             }
+            Task::Growing => grows(alloc, &mut caller)?,
             Task::Interleaving(seed, mut changed) => {
                 interleaves(rt, alloc, &mut caller, &mut changed, seed)?
             }

@@ -1,4 +1,5 @@
 use crate::discarded::Gates;
+use crate::growing::growing;
 use crate::opening::{changing, done};
 use crate::outcome::Outcome;
 use crate::script::Script;
@@ -29,6 +30,8 @@ pub fn run_trials<R: Threads + Wait + Clock + Print + Clone + Drop + Send + Sync
     }
     let outcome = run_discarded(rt, alloc).unwrap_or(Outcome::NoMemory);
     println!(rt; "a lookup during an invalidation: {outcome}")?;
+    let outcome = run_growing(rt, alloc).unwrap_or(Outcome::NoMemory);
+    println!(rt; "a table that grows: {outcome}")?;
     let outcome = run_interleavings(rt, alloc).unwrap_or(Outcome::NoMemory);
     println!(rt; "{INTERLEAVINGS} interleavings: {outcome}")
 }
@@ -63,6 +66,15 @@ fn run_discarded<R: Threads + Wait + Clock + Clone + Drop + Send + Sync>(
         files,
         Task::Discarded(gates, changed),
     ))
+}
+
+fn run_growing<R: Threads + Wait + Clock + Clone + Drop + Send + Sync>(
+    rt: &R,
+    alloc: Global,
+) -> Result<Outcome, NoMemory> {
+    let changed = Release::new(alloc)?;
+    let files = changing(rt, alloc, BASH, BASH, &changed)?;
+    Ok(done(rt, alloc, &growing(), files, Task::Growing))
 }
 
 // Up to the first that comes to anything else.

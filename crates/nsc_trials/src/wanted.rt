@@ -11,6 +11,8 @@ pub enum Wanted {
     /// It was made anew, and is not kept, since the database was invalidated so many times before the files were read, and so
     /// many times by the insertion.
     Discarded(u64, u64),
+    /// It was made anew, and is not kept, since it needs so many words, and so many are free.
+    Full(u64, u64),
 }
 
 impl Wanted {
@@ -25,6 +27,9 @@ impl Wanted {
             }
             (Wanted::Discarded(loaded, epoch), Ok(Given::Fresh { bytes, why })) => {
                 *why == Why::Discarded { loaded, epoch } && equal(bytes.as_slice(), reply)
+            }
+            (Wanted::Full(need, free), Ok(Given::Fresh { bytes, why })) => {
+                *why == Why::Full { need, free } && equal(bytes.as_slice(), reply)
             }
             _ => false,
         }

@@ -67,16 +67,12 @@ fn lines_in<B: Room + Send, C: OfContent + Send, R: Threads + Wait + Sync>(
     requires held { B.held ≡ Some C.files }
     ensures { IfOk result (λ outcome. outcome.text.items ≡ workload_of number) }
 {
-    match opened.enter::<B>() {
-        Ok((database, _)) => {
-            let assignment = Assignment {
-                database: &database,
-                number,
-                workers,
-            };
-            let replies = all_replies(rt, alloc, &assignment)?;
-            Outcome::of(alloc, &replies)
-        }
-        Err(_) => Err(NoMemory),
-    }
+    let (database, _) = opened.enter::<B>();
+    let assignment = Assignment {
+        database: &database,
+        number,
+        workers,
+    };
+    let replies = all_replies(rt, alloc, &assignment)?;
+    Outcome::of(alloc, &replies)
 }

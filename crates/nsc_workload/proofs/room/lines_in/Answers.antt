@@ -9,5 +9,5 @@ use Rattle.nsc_workload.proofs.room.lines_in.Goals as goal
 pub all_replies-requires-sync-W : goal.all_replies-requires-sync-W
 all_replies-requires-sync-W g c κs within = search (sendable, crosses, assignment-sync, c.type_bounds) depth 40
 
-pub returns-in-Ok : goal.returns-in-Ok
-returns-in-Ok g c = IfOk-weaker c.of.result _ _ (λ outcome is. is ∙ told c.args.number _ c.in_ok-replies-in-Ok.ensures) c.of.ensures.text
+pub returns : goal.returns
+returns g c = IfOk-weaker c.of.result _ _ (λ outcome is. is ∙ told c.args.number _ c.in_ok-replies.ensures) c.of.ensures.text

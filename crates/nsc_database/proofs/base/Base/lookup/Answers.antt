@@ -1,12 +1,12 @@
 use Rattle.std.proofs.Common.{◌∙◌, ℕ, List, [], ap, inl, refl, rules, sym, subst}
 use Rattle.std.proofs.lemmas.Bool.{OnFalse_from, false≢true}
 use Rattle.nsc_model.specs.declared.answer.Request.{Request}
-use Rattle.nsc_model.specs.Machine.{room_of}
 use Rattle.nsc_model.specs.Stores.{IsHit, reply_of}
 use Rattle.nsc_writer.specs.Loaded.{Loaded}
 use Rattle.nsc_writer.specs.Writer.{IsAnswered}
 use Rattle.nsc_database.specs.Frames.{LoadedLastCycle}
-use Rattle.nsc_database.specs.Lookups.{IsTried}
+use Rattle.nsc_turns.specs.declared.entries.HitOrMiss.TheVariants as looked
+use Rattle.nsc_database.specs.Lookups.{IsFoundIfCached, IsTried}
 use Rattle.nsc_database.proofs.Lookups.{Anew, anew_answers, anew_given, answered_before, found_none, given_before, hit_answer, is_missed, kept_reply, missed_at, poll_answered, tried_to}
 use Rattle.nsc_database.proofs.Standing.{goes_after, goes_on, loaded_before}
 use Rattle.nsc_database.proofs.Steady.{is_of_held}
@@ -14,20 +14,21 @@ use Rattle.nsc_database.proofs.base.Base.lookup.Goals as goal
 
 -- ---- a hit
 
-pub returns-in-Ok-clause-answer : goal.returns-in-Ok-clause-answer
-returns-in-Ok-clause-answer g c =
+pub returns-in-Ok-copy-clause-answer : goal.returns-in-Ok-copy-clause-answer
+returns-in-Ok-copy-clause-answer g c =
     let request : Request = record { kind = c.args.kind; key = c.args.key.now } in
     let seen = c.find.new.pass.pass.seen in
-    let hit = subst (λ (bytes : List ℕ). IsHit seen request bytes c.in-Hit.hit.number) (sym (c.in-Ok.ensures ∙ c.bytes.ensures.content)) c.in-Hit.ensures.found.1 in
-    hit_answer c.args.self.now.settings c.args.now c.args.pass.now.pass.seen seen _ request c.in-Ok.bytes c.in-Hit.hit.number c.find.ensures.frame.before c.in-Hit.ensures.found.0 hit
+    let found : IsFoundIfCached c.args.self.now.settings (looked.Hit c.in-Hit.hit) c.find.new.pass.pass.seen request c.find.new.pass.reply.content = rw c.in-Hit.is at c.in-Ok.ensures.found in
+    let hit = subst (λ (bytes : List ℕ). IsHit seen request bytes c.in-Hit.hit.number) (sym (c.in-Ok-copy.ensures ∙ c.bytes.ensures.content)) found.1 in
+    hit_answer c.args.self.now.settings c.args.now c.args.pass.now.pass.seen seen _ request c.in-Ok-copy.bytes c.in-Hit.hit.number c.find.ensures.frame.before found.0 hit
 
-pub returns-in-Ok-clause-files : goal.returns-in-Ok-clause-files
-returns-in-Ok-clause-files g c =
+pub returns-in-Ok-copy-clause-files : goal.returns-in-Ok-copy-clause-files
+returns-in-Ok-copy-clause-files g c =
     let request : Request = record { kind = c.args.kind; key = c.args.key.now } in
     let seen = c.find.new.pass.pass.seen in
     record {
       made = ap g.F.FileSet.reads c.find.ensures.frame.files;
-      of_held = is_of_held g.B.Room.held g.D.OfDb.db c.args.pass.now.pass.seen seen request _ c.find.ensures.frame.legal c.find.ensures.steady (returns-in-Ok-clause-answer g c).answered;
+      of_held = is_of_held g.B.Room.held g.D.OfDb.db c.args.pass.now.pass.seen seen request _ c.find.ensures.frame.legal c.find.ensures.steady (returns-in-Ok-copy-clause-answer g c).answered;
     }
 
 -- ---- files that could not be read
@@ -41,9 +42,10 @@ returns-in-Err-poll-clause-steady g c = c.poll.ensures.steady c.find.ensures.ste
 pub returns-in-Err-poll-clause-fault : goal.returns-in-Err-poll-clause-fault
 returns-in-Err-poll-clause-fault g c =
     let request : Request = record { kind = c.args.kind; key = c.args.key.now } in
+    let found_is : IsFoundIfCached c.args.self.now.settings (looked.Missed c.in-Missed.epoch) c.find.new.pass.pass.seen request c.find.new.pass.reply.content = rw c.in-Missed.is at c.in-Ok.ensures.found in
     record {
       missed = missed_at _ c.args.self.now.settings c.args.pass.now.pass.seen c.poll.new.pass.pass.seen request
-          (is_missed c.args.self.now.settings c.args.pass.now.pass.seen c.find.new.pass.pass.seen c.poll.new.pass.pass.seen request c.in-Missed.epoch c.find.new.pass.reply.content c.find.ensures.frame.before c.poll.ensures.frame.before c.in-Missed.ensures.found);
+          (is_missed c.args.self.now.settings c.args.pass.now.pass.seen c.find.new.pass.pass.seen c.poll.new.pass.pass.seen request c.in-Missed.epoch c.find.new.pass.reply.content c.find.ensures.frame.before c.poll.ensures.frame.before found_is);
       fault = search rules;
     }
 
@@ -77,27 +79,31 @@ keep-requires-clause-answered g c =
 pub returns-in-Err-load-clause-frame : goal.returns-in-Err-load-clause-frame
 returns-in-Err-load-clause-frame g c = goes_after _ _ _ c.find.ensures.frame c.poll.ensures.frame
 
+pub returns-in-Ok-keep-clause-frame : goal.returns-in-Ok-keep-clause-frame
+returns-in-Ok-keep-clause-frame g c = goes_on _ _ _ (goes_after _ _ _ c.find.ensures.frame c.poll.ensures.frame) c.keep.ensures.frame
+
 pub returns-clause-frame : goal.returns-clause-frame
 returns-clause-frame g c = goes_on _ _ _ (goes_after _ _ _ c.find.ensures.frame c.poll.ensures.frame) c.keep.ensures.frame
 
-pub returns-clause-answer : goal.returns-clause-answer
-returns-clause-answer g c =
+pub returns-in-Ok-keep-clause-answer : goal.returns-in-Ok-keep-clause-answer
+returns-in-Ok-keep-clause-answer g c =
     let request : Request = record { kind = c.args.kind; key = c.args.key.now } in
+    let found_is : IsFoundIfCached c.args.self.now.settings (looked.Missed c.in-Missed.epoch) c.find.new.pass.pass.seen request c.find.new.pass.reply.content = rw c.in-Missed.is at c.in-Ok.ensures.found in
     let settings = c.args.self.now.settings in
     let found = c.find.new.pass.pass.seen in
     let mid = c.poll.new.pass.pass.seen in
     let after = c.keep.new.pass.pass.seen in
     let last_cycle : Type 0 = LoadedLastCycle c.args.pass.now c.keep.new.pass in
     let begun = (goes_after _ _ _ c.find.ensures.frame c.poll.ensures.frame).searches in
-    let tried = tried_to (room_of settings) _ last_cycle c.in-Ok-load.loaded mid after c.keep.result (loaded_before c.args.pass.now c.poll.new.pass c.keep.new.pass begun) c.keep.ensures.kept in
-    let reply = kept_reply (room_of settings) last_cycle c.in-Ok-load.loaded mid after c.keep.result tried ∙ ap (λ (l : Loaded). l.answer.bytes) c.in-Ok-load.ensures in
-    let none = found_none settings found request c.in-Missed.epoch c.find.new.pass.reply.content c.if-not-self.false c.in-Missed.ensures.found in
+    let tried = tried_to settings _ last_cycle c.in-Ok-load.loaded mid after c.in-Ok-keep.given (loaded_before c.args.pass.now c.poll.new.pass c.keep.new.pass begun) c.in-Ok-keep.ensures.kept in
+    let reply = kept_reply settings last_cycle c.in-Ok-load.loaded mid after c.in-Ok-keep.given tried ∙ ap (λ (l : Loaded). l.answer.bytes) c.in-Ok-load.ensures in
+    let none = found_none settings found request c.in-Missed.epoch c.find.new.pass.reply.content c.if-not-self.false found_is in
     let anew : Anew found mid request c.in-Missed.epoch c.in-Ok-poll.polled = record { legal = c.find.ensures.frame.legal; legal_mid = c.poll.ensures.frame.legal; on = c.poll.ensures.frame.before; none = none.1; noted = none.0; is_polled = c.in-Ok-poll.ensures.polled } in
     record {
-      answered = answered_before c.args.pass.now.pass.seen found after request (reply_of c.keep.result) c.find.ensures.frame.before
+      answered = answered_before c.args.pass.now.pass.seen found after request (reply_of c.in-Ok-keep.given) c.find.ensures.frame.before
           (poll_answered found mid after request c.in-Missed.epoch c.in-Ok-poll.polled _ c.keep.ensures.frame.legal c.poll.ensures.frame.legal c.poll.ensures.frame.before c.keep.ensures.frame.before c.in-Ok-poll.ensures.polled (sym reply));
-      source = given_before c.keep.result settings c.args.now c.args.pass.now.pass.seen found after last_cycle request c.find.ensures.frame.before
-          (anew_given c.keep.result found mid after last_cycle request c.in-Missed.epoch c.in-Ok-poll.polled settings c.args.now anew c.keep.ensures.frame.before
-          (subst (λ (l : Loaded). IsTried (room_of settings) last_cycle l mid after c.keep.result) c.in-Ok-load.ensures tried));
+      source = given_before c.in-Ok-keep.given settings c.args.now c.args.pass.now.pass.seen found after last_cycle request c.find.ensures.frame.before
+          (anew_given c.in-Ok-keep.given found mid after last_cycle request c.in-Missed.epoch c.in-Ok-poll.polled settings c.args.now anew c.keep.ensures.frame.before
+          (subst (λ (l : Loaded). IsTried settings last_cycle l mid after c.in-Ok-keep.given) c.in-Ok-load.ensures tried));
       uncached = OnFalse_from settings.enabled _ (λ off. absurd (false≢true (sym off ∙ c.if-not-self.false)));
     }

@@ -8,64 +8,64 @@ use Rattle.nsc_database.proofs.Standing.{again_before, goes_after, goes_on, held
 use Rattle.nsc_database.proofs.Ticked.{emptied_stale, emptied_ticked, files_kept, hold_fault, listed_stale, listed_ticked, noted_low, ticking, was_polled}
 use Rattle.nsc_database.proofs.base.Base.tick.Goals as goal
 
-pub returns-in-Err-clause-frame : goal.returns-in-Err-clause-frame
-returns-in-Err-clause-frame g c = goes_after _ _ _ c.note-epoch.ensures.frame c.in-Err.ensures.frame
+pub returns-in-Err-poll-clause-frame : goal.returns-in-Err-poll-clause-frame
+returns-in-Err-poll-clause-frame g c = goes_after _ _ _ c.in-Ok.ensures.frame c.in-Err-poll.ensures.frame
 
-pub returns-in-Err-clause-steady : goal.returns-in-Err-clause-steady
-returns-in-Err-clause-steady g c = OnTrue_from c.args.self.now.settings.enabled _ (λ on. c.in-Err.ensures.steady c.note-epoch.ensures.steady)
+pub returns-in-Err-poll-clause-steady : goal.returns-in-Err-poll-clause-steady
+returns-in-Err-poll-clause-steady g c = OnTrue_from c.args.self.now.settings.enabled _ (λ on. c.in-Err-poll.ensures.steady c.in-Ok.ensures.steady)
 
 pub returns-in-Err-check-clause-frame : goal.returns-in-Err-check-clause-frame
-returns-in-Err-check-clause-frame g c = goes_on _ _ _ (goes_after _ _ _ c.note-epoch.ensures.frame c.in-Ok.ensures.frame) c.in-Err-check.ensures.frame
+returns-in-Err-check-clause-frame g c = goes_on _ _ _ (goes_after _ _ _ c.in-Ok.ensures.frame c.in-Ok-poll.ensures.frame) c.in-Err-check.ensures.frame
 
 pub returns-in-Err-check-clause-fault : goal.returns-in-Err-check-clause-fault
 returns-in-Err-check-clause-fault g c =
     let after = c.check.new.pass.pass.seen in
-    let t = ticking _ _ _ _ _ _ c.note-epoch.ensures.frame c.note-epoch.ensures.noted c.in-Ok.ensures.frame c.in-Ok.ensures.polled c.in-Err-check.ensures.frame in
-    let begun = (goes_after _ _ _ c.note-epoch.ensures.frame c.in-Ok.ensures.frame).searches in
+    let t = ticking _ _ _ _ _ _ c.in-Ok.ensures.frame c.in-Ok.ensures.noted c.in-Ok-poll.ensures.frame c.in-Ok-poll.ensures.polled c.in-Err-check.ensures.frame in
+    let begun = (goes_after _ _ _ c.in-Ok.ensures.frame c.in-Ok-poll.ensures.frame).searches in
     hold_fault c.in-Err-check.fault c.args.self.now.settings c.args.now c.args.pass.now.pass.seen after _ _ _ _ _ _ (NoneLive after) (loaded_before c.args.pass.now c.poll.new.pass c.check.new.pass begun) (emptied_stale _ _ _ _ _ _ _ _ t)
-    (files_kept (NoneFailed g.F.FileSet) _ _ _ _ c.note-epoch.ensures.frame.files c.in-Err-check.ensures.frame.files c.in-Ok.ensures.no_fault) c.in-Err-check.ensures.fault
+    (files_kept (NoneFailed g.F.FileSet) _ _ _ _ c.in-Ok.ensures.frame.files c.in-Err-check.ensures.frame.files c.in-Ok-poll.ensures.no_fault) c.in-Err-check.ensures.fault
 
 pub returns-in-Emptied-clause-frame : goal.returns-in-Emptied-clause-frame
-returns-in-Emptied-clause-frame g c = goes_on _ _ _ (goes_after _ _ _ c.note-epoch.ensures.frame c.in-Ok.ensures.frame) c.in-Ok-check.ensures.frame
+returns-in-Emptied-clause-frame g c = goes_on _ _ _ (goes_after _ _ _ c.in-Ok.ensures.frame c.in-Ok-poll.ensures.frame) c.in-Ok-check.ensures.frame
 
 pub returns-in-Emptied-clause-ticked : goal.returns-in-Emptied-clause-ticked
 returns-in-Emptied-clause-ticked g c = OnTrue_from c.args.self.now.settings.enabled _ (λ on.
-    let t = ticking _ _ _ _ _ _ c.note-epoch.ensures.frame c.note-epoch.ensures.noted c.in-Ok.ensures.frame c.in-Ok.ensures.polled c.in-Ok-check.ensures.frame in
+    let t = ticking _ _ _ _ _ _ c.in-Ok.ensures.frame c.in-Ok.ensures.noted c.in-Ok-poll.ensures.frame c.in-Ok-poll.ensures.polled c.in-Ok-check.ensures.frame in
     let none : NoneLive c.check.new.pass.pass.seen = rw c.in-Emptied.is at c.in-Ok-check.ensures.checked in
-    let begun = (goes_after _ _ _ c.note-epoch.ensures.frame c.in-Ok.ensures.frame).searches in
+    let begun = (goes_after _ _ _ c.in-Ok.ensures.frame c.in-Ok-poll.ensures.frame).searches in
     emptied_ticked _ _ _ _ _ _ _ _ _ _ _ _ _ _ t
-    (files_kept (λ a b. IsLookedUp g.D.OfDb.db (g.F.FileSet.reads a) (g.F.FileSet.reads b) (g.F.FileSet.latest b) c.in-Ok.polled.content) _ _ _ _ c.note-epoch.ensures.frame.files c.in-Ok-check.ensures.frame.files c.in-Ok.ensures.files)
+    (files_kept (λ a b. IsLookedUp g.D.OfDb.db (g.F.FileSet.reads a) (g.F.FileSet.reads b) (g.F.FileSet.latest b) c.in-Ok-poll.polled.content) _ _ _ _ c.in-Ok.ensures.frame.files c.in-Ok-check.ensures.frame.files c.in-Ok-poll.ensures.files)
     none c.in-Ok-check.ensures.reloaded (again_before _ c.args.pass.now c.poll.new.pass c.check.new.pass begun c.in-Ok-check.ensures.again))
 
 pub renew-requires-clause-noted : goal.renew-requires-clause-noted
 renew-requires-clause-noted g c =
-    noted_low _ _ _ _ _ _ (ticking _ _ _ _ _ _ c.note-epoch.ensures.frame c.note-epoch.ensures.noted c.in-Ok.ensures.frame c.in-Ok.ensures.polled c.in-Ok-check.ensures.frame)
+    noted_low _ _ _ _ _ _ (ticking _ _ _ _ _ _ c.in-Ok.ensures.frame c.in-Ok.ensures.noted c.in-Ok-poll.ensures.frame c.in-Ok-poll.ensures.polled c.in-Ok-check.ensures.frame)
 
 pub renew-requires-clause-polled : goal.renew-requires-clause-polled
 renew-requires-clause-polled g c =
-    was_polled _ _ _ _ _ _ (ticking _ _ _ _ _ _ c.note-epoch.ensures.frame c.note-epoch.ensures.noted c.in-Ok.ensures.frame c.in-Ok.ensures.polled c.in-Ok-check.ensures.frame)
+    was_polled _ _ _ _ _ _ (ticking _ _ _ _ _ _ c.in-Ok.ensures.frame c.in-Ok.ensures.noted c.in-Ok-poll.ensures.frame c.in-Ok-poll.ensures.polled c.in-Ok-check.ensures.frame)
 
 pub returns-in-Ok-renew-clause-frame : goal.returns-in-Ok-renew-clause-frame
-returns-in-Ok-renew-clause-frame g c = goes_on _ _ _ (goes_after _ _ _ c.note-epoch.ensures.frame c.in-Ok.ensures.frame) (held_through _ _ _ c.in-Ok-check.ensures.frame c.renew.ensures.frame)
+returns-in-Ok-renew-clause-frame g c = goes_on _ _ _ (goes_after _ _ _ c.in-Ok.ensures.frame c.in-Ok-poll.ensures.frame) (held_through _ _ _ c.in-Ok-check.ensures.frame c.renew.ensures.frame)
 
 pub returns-clause-frame : goal.returns-clause-frame
-returns-clause-frame g c = goes_on _ _ _ (goes_after _ _ _ c.note-epoch.ensures.frame c.in-Ok.ensures.frame) (held_through _ _ _ c.in-Ok-check.ensures.frame c.renew.ensures.frame)
+returns-clause-frame g c = goes_on _ _ _ (goes_after _ _ _ c.in-Ok.ensures.frame c.in-Ok-poll.ensures.frame) (held_through _ _ _ c.in-Ok-check.ensures.frame c.renew.ensures.frame)
 
 pub returns-clause-fault : goal.returns-clause-fault
 returns-clause-fault g c =
     let last = c.renew.new.pass.pass.seen in
-    let t = ticking _ _ _ _ _ _ c.note-epoch.ensures.frame c.note-epoch.ensures.noted c.in-Ok.ensures.frame c.in-Ok.ensures.polled c.in-Ok-check.ensures.frame in
+    let t = ticking _ _ _ _ _ _ c.in-Ok.ensures.frame c.in-Ok.ensures.noted c.in-Ok-poll.ensures.frame c.in-Ok-poll.ensures.polled c.in-Ok-check.ensures.frame in
     let listed : AreListed c.args.self.now.settings c.args.self.now.reloads c.args.now c.check.new.pass.pass.seen c.in-Listed.due.items = rw c.in-Listed.is at c.in-Ok-check.ensures.checked in
-    let begun = (goes_on _ _ _ (goes_after _ _ _ c.note-epoch.ensures.frame c.in-Ok.ensures.frame) c.in-Ok-check.ensures.frame).searches in
-    hold_fault c.in-Err-renew.fault c.args.self.now.settings c.args.now c.args.pass.now.pass.seen last _ _ _ _ _ _ (AreOver c.note-epoch.result last c.in-Listed.due.items) (loaded_before c.args.pass.now c.check.new.pass c.renew.new.pass begun)
+    let begun = (goes_on _ _ _ (goes_after _ _ _ c.in-Ok.ensures.frame c.in-Ok-poll.ensures.frame) c.in-Ok-check.ensures.frame).searches in
+    hold_fault c.in-Err-renew.fault c.args.self.now.settings c.args.now c.args.pass.now.pass.seen last _ _ _ _ _ _ (AreOver c.in-Ok.epoch last c.in-Listed.due.items) (loaded_before c.args.pass.now c.check.new.pass c.renew.new.pass begun)
     (listed_stale _ _ _ _ _ _ _ _ _ _ _ t listed c.renew.ensures.frame.before c.renew.ensures.frame.legal)
-    (files_kept (NoneFailed g.F.FileSet) _ _ _ _ c.note-epoch.ensures.frame.files (c.renew.ensures.frame.files ∙ c.in-Ok-check.ensures.frame.files) c.in-Ok.ensures.no_fault) c.in-Err-renew.ensures.fault
+    (files_kept (NoneFailed g.F.FileSet) _ _ _ _ c.in-Ok.ensures.frame.files (c.renew.ensures.frame.files ∙ c.in-Ok-check.ensures.frame.files) c.in-Ok-poll.ensures.no_fault) c.in-Err-renew.ensures.fault
 
 pub returns-in-Ok-renew-clause-ticked : goal.returns-in-Ok-renew-clause-ticked
 returns-in-Ok-renew-clause-ticked g c = OnTrue_from c.args.self.now.settings.enabled _ (λ on.
-    let t = ticking _ _ _ _ _ _ c.note-epoch.ensures.frame c.note-epoch.ensures.noted c.in-Ok.ensures.frame c.in-Ok.ensures.polled c.in-Ok-check.ensures.frame in
+    let t = ticking _ _ _ _ _ _ c.in-Ok.ensures.frame c.in-Ok.ensures.noted c.in-Ok-poll.ensures.frame c.in-Ok-poll.ensures.polled c.in-Ok-check.ensures.frame in
     let listed : AreListed c.args.self.now.settings c.args.self.now.reloads c.args.now c.check.new.pass.pass.seen c.in-Listed.due.items = rw c.in-Listed.is at c.in-Ok-check.ensures.checked in
-    let begun = (goes_on _ _ _ (goes_after _ _ _ c.note-epoch.ensures.frame c.in-Ok.ensures.frame) c.in-Ok-check.ensures.frame).searches in
+    let begun = (goes_on _ _ _ (goes_after _ _ _ c.in-Ok.ensures.frame c.in-Ok-poll.ensures.frame) c.in-Ok-check.ensures.frame).searches in
     listed_ticked _ _ _ _ _ _ _ _ _ _ _ _ _ _ _ _ t
-    (files_kept (λ a b. IsLookedUp g.D.OfDb.db (g.F.FileSet.reads a) (g.F.FileSet.reads b) (g.F.FileSet.latest b) c.in-Ok.polled.content) _ _ _ _ c.note-epoch.ensures.frame.files (c.renew.ensures.frame.files ∙ c.in-Ok-check.ensures.frame.files) c.in-Ok.ensures.files) listed
+    (files_kept (λ a b. IsLookedUp g.D.OfDb.db (g.F.FileSet.reads a) (g.F.FileSet.reads b) (g.F.FileSet.latest b) c.in-Ok-poll.polled.content) _ _ _ _ c.in-Ok.ensures.frame.files (c.renew.ensures.frame.files ∙ c.in-Ok-check.ensures.frame.files) c.in-Ok-poll.ensures.files) listed
     c.renew.ensures.frame.before c.renew.ensures.frame.legal c.in-Ok-renew.ensures.over c.in-Ok-renew.ensures.reloaded (again_before _ c.args.pass.now c.check.new.pass c.renew.new.pass begun c.in-Ok-renew.ensures.again))

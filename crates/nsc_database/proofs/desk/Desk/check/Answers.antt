@@ -15,17 +15,17 @@ invariant_of-self g c =
     let w = c.self.inside.writer in
     let w' = c.check.new.writer in
     let checks = subst (λ (s : DbConf). Checks (is_outdated s w.cache.newest_version c.self.inside.ticked) c.args.limit c.args.now w w' (Ok c.in-Ok.checked)) c.requires.settings c.in-Ok.ensures in
-    at_rest_checked c.in-Ok.checked c.args.limit c.args.now c.version-newest.result w w' checks c.learn.ensures.told c.version-newest.ensures c.self.invariant
+    at_rest_checked c.self.inside.left c.in-Ok.checked c.args.limit c.args.now c.version-newest.result w w' checks c.learn.ensures.told c.version-newest.ensures c.self.invariant
 
 pub invariant_of-self-in-Err-NoMemory : goal.invariant_of-self-in-Err-NoMemory
 invariant_of-self-in-Err-NoMemory g c =
     let same = rw c.in-Err-NoMemory.field-0-is at c.in-Err-NoMemory.ensures in
-    at_rest_same c.self.inside.writer c.check.new.writer same.1 c.self.invariant
+    at_rest_same c.self.inside.left c.self.inside.writer c.check.new.writer same.1 c.self.invariant
 
 pub invariant_of-self-in-Err-Spent : goal.invariant_of-self-in-Err-Spent
 invariant_of-self-in-Err-Spent g c =
     let stops = rw c.in-Err-Spent.field-0-is at c.in-Err-Spent.ensures in
-    at_rest_on c.self.inside.writer c.check.new.writer (rests_stopped c.self.inside.writer c.check.new.writer c.in-Err-Spent.count stops.1 c.learn.ensures.told) c.self.invariant
+    at_rest_on c.self.inside.left c.self.inside.writer c.check.new.writer (rests_stopped c.self.inside.writer c.check.new.writer c.in-Err-Spent.count stops.1 c.learn.ensures.told) c.self.invariant
 
 pub returns-in-Ok-clause-checked : goal.returns-in-Ok-clause-checked
 returns-in-Ok-clause-checked g c =

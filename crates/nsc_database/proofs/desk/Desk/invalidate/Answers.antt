@@ -11,7 +11,7 @@ use Rattle.nsc_database.proofs.desk.Desk.invalidate.Goals as goal
 use Rattle.nsc_database.proofs.desk.Desk.invalidate.Goals.{in-Err, in-Ok}
 
 pub invariant_of-self : goal.invariant_of-self
-invariant_of-self g c = at_rest_on c.self.inside.writer c.invalidate.new.writer (rests_invalidated c.invalidate.result c.self.inside.writer c.invalidate.new.writer c.invalidate.ensures.completes c.invalidate.ensures.stops c.learn.ensures.told) c.self.invariant
+invariant_of-self g c = at_rest_on c.self.inside.left c.self.inside.writer c.invalidate.new.writer (rests_invalidated c.invalidate.result c.self.inside.writer c.invalidate.new.writer c.invalidate.ensures.completes c.invalidate.ensures.stops c.learn.ensures.told) c.self.invariant
 
 pub returns-clause-done : goal.returns-clause-done
 returns-clause-done g c =

@@ -13,7 +13,7 @@ pub invariant_of-self : goal.invariant_of-self
 invariant_of-self g c =
     let request : Request = record { kind = c.args.kind; key = c.args.key.now } in
     let w = c.self.inside.writer in
-    at_rest_on w c.look.new.writer (rests_looked (live_entry request w.cache.entries) request c.look.result w c.look.new.writer c.look.new.reply.content c.look.ensures.looks) c.self.invariant
+    at_rest_on c.self.inside.left w c.look.new.writer (rests_looked (live_entry request w.cache.entries) request c.look.result w c.look.new.writer c.look.new.reply.content c.look.ensures.looks) c.self.invariant
 
 pub returns-clause-looked : goal.returns-clause-looked
 returns-clause-looked g c =

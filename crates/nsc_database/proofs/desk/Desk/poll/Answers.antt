@@ -1,8 +1,8 @@
-use Rattle.std.proofs.Common.{◌∙◌, List, ap, arith, subst}
+use Rattle.std.proofs.Common.{◌∙◌, List, ap, arith, subst, sym}
 use Rattle.std.specs.Prelude.{IfOk}
-use Rattle.nsc_words.specs.declared.layout.Layout.{Layout}
 use Rattle.nsc_model.specs.declared.record.Record.{Record}
 use Rattle.nsc_model.specs.History.{invalidations}
+use Rattle.nsc_seats.specs.Tables.{IsChain}
 use Rattle.nsc_database.specs.Holds.{IsPolled}
 use Rattle.nsc_database.specs.Rests.{Desk}
 use Rattle.nsc_database.proofs.Shown.{is_polled, is_spent, polls_on}
@@ -17,12 +17,16 @@ poll-polled-requires-clause-epoch g c =
     omega arith
 
 pub invariant_of-self : goal.invariant_of-self
-invariant_of-self g c = at_rest_polled c.args.fetched c.args.epoch _ _ c.self.inside.writer c.poll-polled.new.writer c.poll-polled.result c.poll-polled.ensures.polls c.requires.part c.self.invariant
+invariant_of-self g c = at_rest_polled c.self.inside.left c.args.fetched c.args.epoch _ _ c.self.inside.writer c.poll-polled.new.writer c.poll-polled.result c.poll-polled.ensures.polls c.requires.part c.self.invariant
 
 pub invariant_of-self-inside : goal.invariant_of-self-inside
 invariant_of-self-inside g c =
     let goes = polls_on c.args.fetched c.args.epoch _ _ c.self.inside.writer c.poll-polled.new.writer c.poll-polled.result c.poll-polled.ensures.polls in
-    ((goes.table ∙ c.self.inside.own.0, ap (λ (x : Layout). x.arena) goes.layout ∙ c.self.inside.own.1), tt)
+    (subst (IsChain (g.B.Room.table g.D.OfDb.db) c.self.inside.left) (sym goes.table) c.self.inside.own, (c.self.inside.sizes, tt))
+
+pub returns-clause-table : goal.returns-clause-table
+returns-clause-table g c =
+    (polls_on c.args.fetched c.args.epoch _ _ c.self.inside.writer c.poll-polled.new.writer c.poll-polled.result c.poll-polled.ensures.polls).table ∙ ap (λ (d : Desk). d.writer.table) c.self.view_is
 
 pub returns-clause-polled : goal.returns-clause-polled
 returns-clause-polled g c =

@@ -1,6 +1,7 @@
-use Rattle.std.proofs.Common.{ℕ, List, ap, subst}
+use Rattle.std.proofs.Common.{List, ap, subst}
 use Rattle.nsc_model.specs.declared.record.Record.{Record}
 use Rattle.nsc_model.specs.declared.store.Stats.{Stats}
+use Rattle.nsc_model.specs.Settings.{settings_of}
 use Rattle.nsc_model.specs.Stores.{IsCounted}
 use Rattle.nsc_database.specs.Rests.{Desk}
 use Rattle.nsc_database.proofs.Shown.{Counted, is_counted}
@@ -16,4 +17,5 @@ returns g c =
       invalidations_are = ap (λ (s : Stats). s.invalidations) c.stats.ensures.value;
       compactions = ap (λ (s : Stats). s.compactions) c.stats.ensures.value;
     } in
-    subst (λ (x : ℕ × List Record). IsCounted x.0 x.1 c.stats.result) (λ i. (c.self.inside.own.1 i, ap (λ (d : Desk). d.writer.seen) c.self.view_is i)) (is_counted w c.stats.result c.learn.ensures.told c.self.invariant.1 counts)
+    subst (λ (h : List Record). IsCounted (settings_of g.B.Room.conf g.D.OfDb.db) h c.stats.result) (ap (λ (d : Desk). d.writer.seen) c.self.view_is)
+    (is_counted (settings_of g.B.Room.conf g.D.OfDb.db) w c.stats.result c.learn.ensures.told c.self.invariant.1 c.self.invariant.5 counts)
