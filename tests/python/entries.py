@@ -6,9 +6,11 @@ free, the table becomes twice as large, or four times, and so on: the first one 
 """
 
 import random
+import resource
 import struct
 import sys
 from dataclasses import dataclass, field
+from pathlib import Path
 
 sys.dont_write_bytecode = True
 import rules
@@ -69,6 +71,11 @@ class Room:
                 return True
             size *= 2
         return False
+
+    def refuse(self):
+        """A lookup of no user, which finds no room, nor memory for more."""
+        self.counts["negative misses"] += 1
+        self.counts["not added"] += 1
 
     def invalidate(self):
         self.counts["invalidations"] += 1
@@ -228,10 +235,34 @@ def by_default(dice):
         return f"{len(names)} users under the default settings: all are kept, and the table grew {counts['compactions']} times"
 
 
+def without_memory():
+    """No memory for a larger table: a lookup that wants one has no reply, and nothing is lost."""
+    with daemon(started=False) as run:
+        trial = Trial(run, DEFAULT_SIZE, {}, DEFAULT_LIMIT, settings="")
+        names = [b"absent-user-name%04d" % number for number in range(trial.room.arena // 16 + 1)]
+        for name in names[:-1]:
+            trial.look_up(name)
+        process = run.process.pid
+        taken = int(Path(f"/proc/{process}/statm").read_text().split()[0]) * resource.getpagesize()
+        limits = resource.prlimit(process, resource.RLIMIT_AS)
+        resource.prlimit(process, resource.RLIMIT_AS, (taken + (128 << 10), limits[1]))
+        check(run.ask(request(PASSWD_BY_NAME, names[-1] + b"\0")) == b"", "there is memory for a larger table")
+        trial.room.refuse()
+        trial.look_up(names[0])
+        trial.count()
+        resource.prlimit(process, resource.RLIMIT_AS, limits)
+        trial.look_up(names[-1])
+        trial.look_up(names[-1])
+        told = trial.count()
+        check({"compactions 1", "not added 2", "negative hits 2"} <= set(told), "the table does not grow once there is memory")
+        run.shut_down()
+        return "where memory is wanting for a larger table a lookup has no reply, and all entries stay"
+
+
 def main():
     steps = int(sys.argv[1]) if len(sys.argv) > 1 else 10000
     dice = random.Random(int(sys.argv[2]) if len(sys.argv) > 2 else 1)
-    cases = [full, grown, at_a_limit, lambda: one_chain(dice), lambda: by_default(dice)]
+    cases = [full, grown, at_a_limit, without_memory, lambda: one_chain(dice), lambda: by_default(dice)]
     cases += [lambda size=size, limit=limit: by_chance(size, limit, steps // 4, dice) for size, limit in RUNS]
     broken = 0
     for case in cases:

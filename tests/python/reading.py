@@ -3,7 +3,8 @@
 The rows are typed here. A search loads CYCLE, the word of the bucket, at each entry of another key that word and NEXT, at the entry itself twelve
 words, six of them those of its reply, and CYCLE again.
 
-How many interleavings there are of one search with a writer's calls, and with which answers, is counted by interleavings.py in another way.
+How many interleavings there are of one search with a writer's calls, and with which answers, is counted by interleavings.py in another way; how a
+table grows, and what callers beside it find, by growths.py.
 
 Of the threads each reply must have the bytes of the answer over its version, and a search must at times find an entry, none, and a compaction
 that began meanwhile.
@@ -17,6 +18,7 @@ import sys
 sys.dont_write_bytecode = True
 from pathlib import Path
 
+import growths
 from interleavings import counted
 from running import ROOT
 
@@ -42,6 +44,7 @@ def wanted_lines():
     answers = counted()
     yield f"interleavings: {sum(answers.values())}, wrong answers: 0"
     yield "  " + ", ".join(f"{kind}: {answers[kind]}" for kind in ("hits", "none", "odd", "moved"))
+    yield from growths.lines()
 
 
 def lines_of(*words):
@@ -51,7 +54,7 @@ def lines_of(*words):
 
 
 def row_faults(found):
-    """What is wrong about the lines of the rows and the interleavings."""
+    """What is wrong about the lines of the rows, the interleavings and the growths."""
     wanted = list(wanted_lines())
     faults = [f"{one!r}, and not {other!r}" for one, other in zip(found, wanted) if one != other]
     return faults if len(found) == len(wanted) else faults + [f"{len(found)} lines"]
@@ -71,7 +74,7 @@ def main():
         return 1
     lines, faults = lines_of()
     faults += row_faults(lines)
-    told = lines[-2] if len(lines) > 1 else ""
+    told = "; ".join(line for line in lines if line.startswith(("interleavings", "a table")))
     lines, ends = lines_of(seconds)
     threads = lines[-1] if lines else ""
     faults += ends + count_faults(threads, ("hits", "none", "moved", "inserted", "compactions"))

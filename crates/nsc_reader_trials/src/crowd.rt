@@ -60,8 +60,8 @@ impl Tally {
             .saturating_add(self.moved)
     }
 
-    // An answer that is reached in so many ways.
-    fn count(&mut self, answer: InPlace, ways: u128, is_right: bool) {
+    /// An answer that is reached in so many ways.
+    pub fn count(&mut self, answer: InPlace, ways: u128, is_right: bool) {
         let kind = match answer {
             InPlace::Hit { .. } => &mut self.hits,
             InPlace::NoEntry => &mut self.none,

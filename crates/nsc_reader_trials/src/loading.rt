@@ -1,4 +1,5 @@
-ghost use Rattle.std.specs.Prelude.{◌≡◌, None};
+ghost use Rattle.std.specs.Prelude.{◌≡◌, ◌≤◌, None, length};
+ghost use Rattle.nsc_model.specs.Entry.{key_limit};
 
 // Insertions by a writer.
 use crate::files::name_of;
@@ -21,7 +22,23 @@ pub fn insert_user(
     requires { writer.old.slide ≡ None }
     ensures { writer.new.slide ≡ None }
 {
-    let name = name_of(user);
+    let said = insert_key(alloc, writer, files, &name_of(user))?;
+    Ok(number_in(said))
+}
+
+/// Polls the files, answers for a name over them, and tries to insert the answer: what became of it, or `None` where the poll cannot be
+/// counted. Fails only for want of memory.
+pub fn insert_key(
+    alloc: Global,
+    writer: &mut Writer,
+    files: &Arc<Content>,
+    name: &[u8],
+) -> Result<Option<Inserted>, NoMemory>
+    requires name { length name.now ≤ key_limit }
+    requires still { writer.old.slide ≡ None }
+    ensures still { writer.new.slide ≡ None }
+    ensures table { writer.new.table ≡ writer.old.table }
+{
     writer.learn();
     let epoch = writer.epoch();
     let Ok(stamp) = writer.record_poll(files.clone()?, epoch) else {
@@ -33,16 +50,16 @@ pub fn insert_user(
         moment: 0,
     };
     let ready = Plain.prepare(alloc, files.clone()?)?;
-    let loaded = load(alloc, &Plain, &ready, &answering, Kind::PwName, &name, 0)?;
+    let loaded = load(alloc, &Plain, &ready, &answering, Kind::PwName, name, 0)?;
     writer.learn();
     let (said, _) = insert(writer, loaded);
-    Ok(number_in(said))
+    Ok(Some(said))
 }
 
-// The number of what was inserted.
-fn number_in(said: Inserted) -> Option<u64> {
+/// The number of what was inserted.
+pub fn number_in(said: Option<Inserted>) -> Option<u64> {
     match said {
-        Inserted::Done { number } => Some(number),
+        Some(Inserted::Done { number }) => Some(number),
         _ => None,
     }
 }
