@@ -6,6 +6,7 @@ free, the table becomes twice as large, or four times, and so on: the first one 
 """
 
 import random
+import re
 import resource
 import struct
 import sys
@@ -239,18 +240,19 @@ def without_memory():
     """No memory for a larger table: a lookup that wants one has no reply, and nothing is lost."""
     with daemon(started=False) as run:
         trial = Trial(run, DEFAULT_SIZE, {}, DEFAULT_LIMIT, settings="")
-        names = [b"absent-user-name%04d" % number for number in range(trial.room.arena // 16 + 1)]
+        names = [b"absent-user-name%04d" % number for number in range(trial.room.arena() // 16 + 1)]
         for name in names[:-1]:
             trial.look_up(name)
         process = run.process.pid
-        taken = int(Path(f"/proc/{process}/statm").read_text().split()[0]) * resource.getpagesize()
-        limits = resource.prlimit(process, resource.RLIMIT_AS)
-        resource.prlimit(process, resource.RLIMIT_AS, (taken + (128 << 10), limits[1]))
+        status = Path(f"/proc/{process}/status").read_text()
+        taken = int(re.search(r"VmData:\s+(\d+) kB", status)[1]) << 10
+        limits = resource.prlimit(process, resource.RLIMIT_DATA)
+        resource.prlimit(process, resource.RLIMIT_DATA, (taken + (128 << 10), limits[1]))
         check(run.ask(request(PASSWD_BY_NAME, names[-1] + b"\0")) == b"", "there is memory for a larger table")
         trial.room.refuse()
         trial.look_up(names[0])
         trial.count()
-        resource.prlimit(process, resource.RLIMIT_AS, limits)
+        resource.prlimit(process, resource.RLIMIT_DATA, limits)
         trial.look_up(names[-1])
         trial.look_up(names[-1])
         told = trial.count()
