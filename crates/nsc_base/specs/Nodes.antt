@@ -8,3 +8,7 @@ words_for bytes = (bytes + 7) / 8
 -- an entry takes eight words, and those of its key and of its reply, of so many bytes each
 abbrev pub node_words : ℕ → ℕ → ℕ
 node_words key reply = 8 + words_for key + words_for reply
+
+-- the most words that entries may take: 64 MiB of them
+abbrev pub most_words : ℕ
+most_words = 8388608

@@ -1,5 +1,6 @@
 -- What a table becomes by doublings, and which of them is the first with room.
 use Rattle.std.specs.Prelude.{◌≡◌, ℕ, ◌+◌, ◌*◌, ◌^◌, ◌<◌, ◌≤◌, Option, Some, None}
+use Rattle.nsc_base.specs.Nodes.{most_words}
 use Rattle.nsc_words.specs.declared.layout.Layout.{Layout}
 use Rattle.nsc_words.specs.Layout.{table_words}
 
@@ -10,7 +11,7 @@ doubled k layout = record { buckets = layout.buckets * 2 ^ k; arena = layout.are
 -- the whole table takes at most so many bytes, and its entries at most 64 MiB
 pub record Fits (limit : ℕ) (layout : Layout) : Type 0 where
   pub bytes : 8 * table_words layout ≤ limit
-  pub words : layout.arena ≤ 8388608
+  pub words : layout.arena ≤ most_words
 
 -- the next layout is this one doubled once or more: it fits, it has room for so many words, and fewer doublings give no room for them
 pub record HasRoom (limit : ℕ) (layout : Layout) (wanted : ℕ) (next : Layout) : Type 0 where

@@ -1,6 +1,7 @@
--- How large the tables of a database are: each has twice the buckets and twice the words of the one before, up to max-db-size
+-- How large the tables of a database may become: the buckets and the words of the first one, doubled once or more, up to max-db-size
 -- (nscd.conf(5)).
 use Rattle.std.specs.Prelude.{◌≡◌, ℕ, ◌+◌, ◌*◌, ◌^◌, ◌≤◌, ◌⊎◌}
+use Rattle.nsc_base.specs.Nodes.{most_words}
 use Rattle.nsc_model.specs.declared.conf.DbConf.{DbConf}
 use Rattle.nsc_model.specs.Machine.{room_of}
 
@@ -12,7 +13,7 @@ arena_after settings doublings = room_of settings * 2 ^ doublings
 -- at most 64 MiB
 pub record MayGrow (settings : DbConf) (doublings : ℕ) : Type 0 where
   pub bytes : 8 * (16 + settings.size * 2 ^ doublings + arena_after settings doublings) ≤ settings.max_size
-  pub words : arena_after settings doublings ≤ 8388608
+  pub words : arena_after settings doublings ≤ most_words
 
 -- entries may take so many words of the first table, or of one that it may become
 pub record IsArena (settings : DbConf) (arena : ℕ) : Type 0 where

@@ -1,5 +1,6 @@
 -- Where the parts of a table stand, each place a word's number in the whole table.
 use Rattle.std.specs.Prelude.{ℕ, ◌+◌, ◌%◌, ◌≤◌, ◌^◌, List}
+use Rattle.nsc_base.specs.Nodes.{most_words}
 use Rattle.nsc_words.specs.declared.layout.Layout.{Layout}
 use Rattle.nsc_words.specs.Hash.{hash_of}
 
@@ -8,7 +9,7 @@ pub record IsLayout (layout : Layout) : Type 0 where
   pub some_bucket : 1 ≤ layout.buckets
   pub buckets : layout.buckets ≤ 2 ^ 29
   pub some_room : 128 ≤ layout.arena
-  pub room : layout.arena ≤ 8388608
+  pub room : layout.arena ≤ most_words
 
 -- sixteen head words, then the buckets, and then the words that entries take
 abbrev pub arena_start : Layout → ℕ

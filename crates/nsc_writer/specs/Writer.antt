@@ -35,10 +35,6 @@ pub record Writer : Type 0 where
   pub misses : Uses
   pub slide : Option (List ℕ)
 
--- the most words that entries may take: 64 MiB of them
-abbrev pub most_words : ℕ
-most_words = 8388608
-
 -- the cache of the newest content with its number, the number of invalidations, and the entries with their counts
 abbrev pub cache_of : Content → ℕ → ℕ → Shelf → Cache
 cache_of sources version epoch shelf =
