@@ -10,9 +10,9 @@ use Rattle.nsc_model.specs.Answers.{answer_of}
 use Rattle.nsc_model.specs.Content.{Content}
 use Rattle.nsc_model.specs.Files.{FilesFit}
 use Rattle.nsc_model.specs.Entry.{Entry}
-use Rattle.nsc_model.specs.History.{Answered, FromEntry, FromPoll, HasLoad, Legal, changes, version_in}
+use Rattle.nsc_model.specs.History.{Answered, FromEntry, FromPoll, HasLoad, IsFit, Legal, changes, version_in}
 use Rattle.nsc_model.specs.Answer.{Answer}
-use Rattle.nsc_laws.specs.Within.{IsWithin, SpellsVersion}
+use Rattle.nsc_laws.specs.Spelled.{SpellsVersion}
 use Rattle.nsc_laws.proofs.Spelled.{answer_spells}
 
 -- ---- versions are numbered from 0, and none has the number of an earlier one
@@ -43,7 +43,7 @@ version_stays version content before n files l is h =
 
 -- ---- answers
 
-version_fits : (history : List Record) (n : ℕ) (files : Content) → AllByRecursion IsWithin history → version_in history n ≡ Some files → FilesFit files
+version_fits : (history : List Record) (n : ℕ) (files : Content) → AllByRecursion IsFit history → version_in history n ≡ Some files → FilesFit files
 version_fits [] n files within h = absurd cc
 version_fits (Change version content ∷ before) n files within h =
     elim (version == n) as (λ v. (if v then Some content else version_in before n) ≡ Some files → FilesFit files) [
@@ -55,7 +55,7 @@ version_fits (Load entry ∷ before) n files within h = version_fits before n fi
 version_fits (End number cause ∷ before) n files within h = version_fits before n files within.1 h
 version_fits (Invalid epoch ∷ before) n files within h = version_fits before n files within.1 h
 
-spelled_over : (history : List Record) (n : ℕ) (files : Content) (request : Request) (bytes : List ℕ) → AllByRecursion IsWithin history
+spelled_over : (history : List Record) (n : ℕ) (files : Content) (request : Request) (bytes : List ℕ) → AllByRecursion IsFit history
     → version_in history n ≡ Some files → (answer_of files request).bytes ≡ bytes → SpellsVersion history request bytes
 spelled_over history n files request bytes within holds said =
     let fits = version_fits history n files within holds in
@@ -66,7 +66,7 @@ still_spelled : (r : Record) (before : List Record) (e : Entry) → ((n : ℕ) (
     → SpellsVersion before e.request e.answer.bytes → SpellsVersion (r ∷ before) e.request e.answer.bytes
 still_spelled r before e stay spelled = record { version = spelled.version; files = spelled.files; holds = stay spelled.version spelled.files spelled.holds; fits = spelled.fits; spells = spelled.spells }
 
-load_spells : (history : List Record) (e : Entry) → Legal history → AllByRecursion IsWithin history → HasLoad history e → SpellsVersion history e.request e.answer.bytes
+load_spells : (history : List Record) (e : Entry) → Legal history → AllByRecursion IsFit history → HasLoad history e → SpellsVersion history e.request e.answer.bytes
 load_spells [] e l within has = absurd has
 load_spells (Change version content ∷ []) e l within has = absurd has
 load_spells (Change version content ∷ r ∷ before) e l within has =
@@ -81,16 +81,16 @@ load_spells (Load entry ∷ before) e l within (inr has) = still_spelled (Load e
 load_spells (End number cause ∷ before) e l within has = still_spelled (End number cause) before e (λ n files h. h) (load_spells before e l.0 within.1 has)
 load_spells (Invalid epoch ∷ before) e l within has = still_spelled (Invalid epoch) before e (λ n files h. h) (load_spells before e l.0 within.1 has)
 
-pub loaded_law : (history : List Record) (entry : Entry) → Legal history → All IsWithin history → HasLoad history entry → SpellsVersion history entry.request entry.answer.bytes
-loaded_law history entry l within has = load_spells history entry l (recursion_from_All IsWithin history within) has
+pub loaded_law : (history : List Record) (entry : Entry) → Legal history → All IsFit history → HasLoad history entry → SpellsVersion history entry.request entry.answer.bytes
+loaded_law history entry l within has = load_spells history entry l (recursion_from_All IsFit history within) has
 
-source_spells : (seen history : List Record) (request : Request) (bytes : List ℕ) → Legal history → All IsWithin history
+source_spells : (seen history : List Record) (request : Request) (bytes : List ℕ) → Legal history → All IsFit history
     → FromEntry seen history request bytes ⊎ FromPoll seen history request bytes → SpellsVersion history request bytes
 source_spells seen history request bytes l within (inl from) =
     let e = from.entry_is in
     let spelled = subst (λ (asked : Request). SpellsVersion history asked e.answer.bytes) from.answers (loaded_law history e l within from.inserted) in
     subst (λ (said : List ℕ). SpellsVersion history request said) from.said spelled
-source_spells seen history request bytes l within (inr from) = spelled_over history from.version_is from.files_are request bytes (recursion_from_All IsWithin history within) from.holds from.said
+source_spells seen history request bytes l within (inr from) = spelled_over history from.version_is from.files_are request bytes (recursion_from_All IsFit history within) from.holds from.said
 
-pub answered_law : (seen history : List Record) (request : Request) (bytes : List ℕ) → Legal history → All IsWithin history → Answered seen history request bytes → SpellsVersion history request bytes
+pub answered_law : (seen history : List Record) (request : Request) (bytes : List ℕ) → Legal history → All IsFit history → Answered seen history request bytes → SpellsVersion history request bytes
 answered_law seen history request bytes l within answered = source_spells seen history request bytes l within answered.source

@@ -6,4 +6,4 @@ pub mod Moments
 pub mod Turns
 pub mod ServiceLists
 pub mod Origins
-pub mod Within
+pub mod Spelled

@@ -9,10 +9,10 @@ ghost use Rattle.nsc_model.specs.Answers.{answer_of, looked_up};
 ghost use Rattle.nsc_model.specs.Content.{Content};
 ghost use Rattle.nsc_model.specs.Files.{FilesFit};
 ghost use Rattle.nsc_model.specs.Entry.{Entry};
-ghost use Rattle.nsc_model.specs.History.{Answered, HasLoad, Legal};
+ghost use Rattle.nsc_model.specs.History.{Answered, HasLoad, IsFit, Legal};
 ghost use Rattle.nsc_model.specs.Outcomes.{reply_to};
 ghost use Rattle.nsc_model.specs.Wire.{Spells};
-ghost use Rattle.nsc_laws.specs.Within.{IsWithin, SpellsVersion};
+ghost use Rattle.nsc_laws.specs.Spelled.{SpellsVersion};
 
 /// Over all files within their limits, the answer to every request spells the reply to what the switch finds: a row of the
 /// request's kind with no zero byte in its texts, or that there is none, in at most 2^30 bytes. Its mark says exactly that
@@ -22,9 +22,9 @@ pub fn answers_spell_their_rows()
     ensures marked { (files : Content) (request : Request) → IsTrue (answer_of files request).not_found ↔ ((row : Row) → looked_up files request ≢ Found row) }
 {}
 
-/// In a legal history whose records are within their limits, each answer of an entry, and each reply to a call, spells
-/// what the switch finds over some version of the history.
+/// In a legal history, where the files of each version are within their limits, each answer of an entry, and each reply to a call,
+/// spells what the switch finds over some version of the history.
 pub fn answers_in_histories_spell_their_rows()
-    ensures loaded { (history : List Record) (entry : Entry) → Legal history → All IsWithin history → HasLoad history entry → SpellsVersion history entry.request entry.answer.bytes }
-    ensures answered { (seen history : List Record) (request : Request) (bytes : List ℕ) → Legal history → All IsWithin history → Answered seen history request bytes → SpellsVersion history request bytes }
+    ensures loaded { (history : List Record) (entry : Entry) → Legal history → All IsFit history → HasLoad history entry → SpellsVersion history entry.request entry.answer.bytes }
+    ensures answered { (seen history : List Record) (request : Request) (bytes : List ℕ) → Legal history → All IsFit history → Answered seen history request bytes → SpellsVersion history request bytes }
 {}

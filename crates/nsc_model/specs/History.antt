@@ -6,6 +6,7 @@ use Rattle.nsc_model.specs.declared.record.Ending.TheVariants.{Expired, Invalida
 use Rattle.nsc_model.specs.declared.record.Record.{Record}
 use Rattle.nsc_model.specs.declared.record.Record.TheVariants.{Change, Poll, Load, End, Invalid}
 use Rattle.nsc_model.specs.Content.{Content}
+use Rattle.nsc_model.specs.Files.{FilesFit}
 use Rattle.nsc_model.specs.Entry.{Entry}
 use Rattle.nsc_model.specs.Answers.{answer_of}
 
@@ -121,6 +122,14 @@ Legal (Load entry ∷ before) =
     Legal before × (entry.number ≡ loads before) × NoneLiveOf before entry.request × IsTrueAnswer before entry × WasPolled before entry.version
 Legal (End number cause ∷ before) = Legal before × (e : Entry) × IsLive before e × (e.number ≡ number) × Allows cause e
 Legal (Invalid epoch ∷ before) = Legal before × (epoch ≡ invalidations before + 1) × NoneLive before
+
+-- no file of the version is longer than a file may be, where the record is a version
+abbrev pub IsFit : Record → Type 0
+IsFit (Change version content) = FilesFit content
+IsFit (Poll version) = Unit {0}
+IsFit (Load entry) = Unit {0}
+IsFit (End number cause) = Unit {0}
+IsFit (Invalid epoch) = Unit {0}
 
 -- the first of two histories is where the second began
 abbrev pub IsPrefix : List Record → List Record → Type 0

@@ -1,6 +1,6 @@
 -- What a lookup in a store gives a caller who had seen one beginning of the database's history before, and has seen another one
 -- after it.
-use Rattle.std.specs.Prelude.{◌≡◌, ◌≢◌, ℕ, ◌+◌, ◌^◌, ◌<◌, ◌≤◌, ◌⊎◌, false, List, ◌∷◌, length, sum_by, Option, Some}
+use Rattle.std.specs.Prelude.{◌≡◌, ◌≢◌, ℕ, ◌+◌, ◌^◌, ◌<◌, ◌≤◌, ◌⊎◌, false, All, List, ◌∷◌, length, sum_by, Option, Some}
 use Rattle.std.specs.Bool.{OnFalse, OnTrue}
 use Rattle.nsc_base.specs.Nodes.{node_words}
 use Rattle.nsc_model.specs.declared.answer.Request.{Request}
@@ -24,16 +24,18 @@ use Rattle.nsc_model.specs.Content.{Content}
 use Rattle.nsc_model.specs.Files.{file_limit}
 use Rattle.nsc_model.specs.Entry.{Entry, kept_limit}
 use Rattle.nsc_model.specs.Growth.{IsArena, MayGrow, arena_after}
-use Rattle.nsc_model.specs.History.{Answered, HasLoad, HasEnd, IsLive, EndedAfter, IsPrefix, Legal, LookedBetween, NoneLive, invalidations, load_of, loads, version_in}
+use Rattle.nsc_model.specs.History.{Answered, HasLoad, HasEnd, IsFit, IsLive, EndedAfter, IsPrefix, Legal, LookedBetween, NoneLive, invalidations, load_of, loads, version_in}
 use Rattle.nsc_model.specs.Live.{AreLive}
 use Rattle.nsc_model.specs.Reads.{FaultsStay, FileFailed, IsLookedUp, IsMade, IsOfHeld}
 use Rattle.nsc_model.specs.Reloads.{Reloaded}
 use Rattle.nsc_model.specs.Machine.{entry_words, last_count, life_of, room_of}
 
--- what a call leaves of what its caller has seen: it goes on from what was seen before, and is legal
+-- what a call leaves of what its caller has seen: it goes on from what was seen before, is legal, and the files of its versions are within
+-- their limits
 pub record Continues (seen after : List Record) : Type 0 where
   pub before : IsPrefix seen after
   pub legal : Legal after
+  pub fit : All IsFit after
 
 -- the reply
 abbrev pub reply_of : Given → List ℕ
@@ -198,6 +200,7 @@ pub record IsCounted (settings : DbConf) (after : List Record) (stats : Stats) :
   pub counted : stats.entries ≡ length entries
   pub taken : stats.compactions < 2 ^ 61 → stats.used ≡ words_of entries
   pub invalidations_are : stats.invalidations ≡ invalidations after
+  pub within : stats.used ≤ stats.arena
   pub allowed : IsArena settings stats.arena
 
 -- a tick at this moment looked at a version, and the stale entries ended: every one that had been seen whose time was over, and, where

@@ -92,6 +92,13 @@ impl Content {
     /// The longest file, in bytes.
     pub const LIMIT: usize = 16_777_216;
 
+    /// No file of it is longer than a file may be.
+    pub fn learn(&self)
+        ensures { FilesFit self.now }
+    {
+        let _ = &self.files;
+    }
+
     /// The content in which every file is absent.
     pub fn none() -> Content
         ensures { result ≡ no_files }

@@ -1,6 +1,7 @@
 -- A node is changed where it stands: its reloads are counted, or it ends.
 use Rattle.std.proofs.Common.{◌≡◌, ◌≢◌, ◌∙◌, ℕ, ◌+◌, ◌≤◌, Bool, true, false, true≢false, cond, eqb, eq-eqb, inl, inr, ⊎_elim, List, [], ◌∷◌, map, set, slice_index, refl, sym, ap, subst, arith, None}
 use Rattle.std.proofs.lemmas.Bool.{cases_eq, ne_eqb}
+use Rattle.std.proofs.lemmas.List.Elements.{All-cons}
 use Rattle.nsc_words.specs.declared.layout.Layout.{Layout}
 use Rattle.nsc_words.specs.declared.node.Placed.{Placed}
 use Rattle.nsc_words.specs.Laid.{Among, InRow, Laid, Rising}
@@ -12,7 +13,7 @@ use Rattle.nsc_model.specs.declared.record.Ending.{Ending}
 use Rattle.nsc_model.specs.declared.record.Record.{Record}
 use Rattle.nsc_model.specs.declared.record.Record.TheVariants.{End}
 use Rattle.nsc_model.specs.Entry.{Entry}
-use Rattle.nsc_model.specs.History.{loads, IsLive, Legal}
+use Rattle.nsc_model.specs.History.{loads, IsFit, IsLive, Legal}
 use Rattle.nsc_model.proofs.Beginnings.{prefix_all, prefix_more}
 use Rattle.nsc_rule.specs.declared.view.Plan.{Plan}
 use Rattle.nsc_model.specs.Kinds.{type_number}
@@ -89,7 +90,7 @@ pub sound_reloaded : (p : Plan) (place n : ℕ) → IsEven p → HasNode p place
 sound_reloaded p place n even node sound =
     let inside = node_inside p node.0 even sound node.1 in
     let is = node.2 in
-    sound_above p p.seen (place + 5) n (changed_at place (with_reloads n) p.nodes) (omega arith) (λ i low less. omega (arith, inside.0)) sound sound.legal refl refl refl
+    sound_above p p.seen (place + 5) n (changed_at place (with_reloads n) p.nodes) (omega arith) (λ i low less. omega (arith, inside.0)) sound sound.legal sound.fit refl refl refl
     (same_end (at_place place (with_reloads n)) (arena_start p.layout) p.nodes (change_at place (with_reloads n) (reloads_is n))) (λ still. counted_shows p place n even node sound)
 
 pub later_reloaded : (p : Plan) (place n : ℕ) → p.retired ≡ None → Later p (reloads_stored place n p)
@@ -170,7 +171,7 @@ pub sound_cleared : (p : Plan) (place : ℕ) (cause : Ending) → IsEven p → M
 sound_cleared p place cause even may sound =
     let inside = node_inside p may.0 even sound may.1 in
     let is = may.2 in
-    sound_above p (End (slice_index p.words place) cause ∷ p.seen) (place + 6) 0 (changed_at place ended p.nodes) (omega arith) (λ i low less. omega (arith, inside.0)) sound (legal_ended p place cause even may sound) refl refl refl
+    sound_above p (End (slice_index p.words place) cause ∷ p.seen) (place + 6) 0 (changed_at place ended p.nodes) (omega arith) (λ i low less. omega (arith, inside.0)) sound (legal_ended p place cause even may sound) (All-cons IsFit (End (slice_index p.words place) cause) p.seen tt sound.fit) refl refl refl
     (same_end (at_place place ended) (arena_start p.layout) p.nodes (change_at place ended ended_is)) (λ still. ended_shows p place cause even may sound)
 
 pub later_cleared : (p : Plan) (place : ℕ) (cause : Ending) → p.retired ≡ None → Later p (cleared place cause p)

@@ -1,12 +1,12 @@
 -- Words with FIRST_FREE put right, once another word was set; and plans of which one word was set.
-use Rattle.std.proofs.Common.{◌≡◌, ◌≢◌, ◌∙◌, ℕ, zero, suc, ◌+◌, ◌%◌, ◌<◌, ◌≤◌, Bool, true, inr, List, [], ◌∷◌, length-set, set, slice_index, refl, sym, ap, arith, get_or-set_other, None}
+use Rattle.std.proofs.Common.{◌≡◌, ◌≢◌, ◌∙◌, ℕ, zero, suc, ◌+◌, ◌%◌, ◌<◌, ◌≤◌, Bool, true, inr, All, List, [], ◌∷◌, length-set, set, slice_index, refl, sym, ap, arith, get_or-set_other, None}
 use Rattle.std.proofs.lemmas.List.{set-get_or, set_comm}
 use Rattle.nsc_words.specs.declared.layout.Layout.{Layout}
 use Rattle.nsc_words.specs.declared.node.Placed.{Placed}
 use Rattle.nsc_words.specs.Laid.{Laid, end_of}
 use Rattle.nsc_words.specs.Layout.{arena_start}
 use Rattle.nsc_arena.proofs.Rows.{set_head}
-use Rattle.nsc_model.specs.History.{changes, invalidations, loads, IsLive, IsPrefix, Legal}
+use Rattle.nsc_model.specs.History.{changes, invalidations, loads, IsFit, IsLive, IsPrefix, Legal}
 use Rattle.nsc_model.specs.Entry.{Entry}
 use Rattle.nsc_model.specs.declared.record.Record.{Record}
 use Rattle.nsc_rule.specs.declared.view.Plan.{Plan}
@@ -53,10 +53,10 @@ pub first_stays : (p : Plan) (at word : ℕ) (nodes : List Placed) → 3 ≢ at 
 first_stays p at word nodes apart same sound on even = get_or-set_other p.words at 3 word 0 apart ∙ sound.first_free on even ∙ sym same
 
 -- one from 3 on
-pub sound_at : (p : Plan) (seen : List Record) (at word : ℕ) (nodes : List Placed) (counted : Bool) → 3 ≤ at → ((i : ℕ) → 10 ≤ i → i < 16 → i ≢ at) → Sound p → Legal seen → invalidations seen ≡ invalidations p.seen → changes seen ≡ changes p.seen → (IsEven p → Shows p.layout (set p.words at word) seen nodes)
+pub sound_at : (p : Plan) (seen : List Record) (at word : ℕ) (nodes : List Placed) (counted : Bool) → 3 ≤ at → ((i : ℕ) → 10 ≤ i → i < 16 → i ≢ at) → Sound p → Legal seen → All IsFit seen → invalidations seen ≡ invalidations p.seen → changes seen ≡ changes p.seen → (IsEven p → Shows p.layout (set p.words at word) seen nodes)
     → (counted ≡ true → slice_index (set p.words at word) 4 ≡ loads seen) → (counted ≡ true → IsEven p → slice_index (set p.words at word) 3 ≡ end_of (arena_start p.layout) nodes)
     → Sound (record { layout = p.layout; seen = seen; words = set p.words at word; nodes = nodes; counted = counted; retired = p.retired })
-sound_at p seen at word nodes counted high apart sound legal invalid change shows number first =
+sound_at p seen at word nodes counted high apart sound legal fit invalid change shows number first =
     let same : (i : ℕ) → i < 3 → slice_index (set p.words at word) i ≡ slice_index p.words i = λ i low. let other : i ≢ at = omega arith in get_or-set_other p.words at i word 0 other in
     let zero_is = same 0 (omega arith) in
     let one_is = same 1 (omega arith) in
@@ -68,6 +68,7 @@ sound_at p seen at word nodes counted high apart sound legal invalid change show
     record {
       sizes = sound.sizes;
       legal = legal;
+      fit = fit;
       wide = length-set p.words at word ∙ sound.wide;
       cycle = omega arith;
       epoch = one_is ∙ sound.epoch ∙ sym invalid;
@@ -81,13 +82,13 @@ sound_at p seen at word nodes counted high apart sound legal invalid change show
     }
 
 -- one from 5 on
-pub sound_above : (p : Plan) (seen : List Record) (at word : ℕ) (nodes : List Placed) → 5 ≤ at → ((i : ℕ) → 10 ≤ i → i < 16 → i ≢ at) → Sound p → Legal seen → invalidations seen ≡ invalidations p.seen → changes seen ≡ changes p.seen → loads seen ≡ loads p.seen
+pub sound_above : (p : Plan) (seen : List Record) (at word : ℕ) (nodes : List Placed) → 5 ≤ at → ((i : ℕ) → 10 ≤ i → i < 16 → i ≢ at) → Sound p → Legal seen → All IsFit seen → invalidations seen ≡ invalidations p.seen → changes seen ≡ changes p.seen → loads seen ≡ loads p.seen
     → end_of (arena_start p.layout) nodes ≡ end_of (arena_start p.layout) p.nodes → (IsEven p → Shows p.layout (set p.words at word) seen nodes)
     → Sound (record { layout = p.layout; seen = seen; words = set p.words at word; nodes = nodes; counted = p.counted; retired = p.retired })
-sound_above p seen at word nodes high apart sound legal invalid change loaded end shows =
+sound_above p seen at word nodes high apart sound legal fit invalid change loaded end shows =
     let four : 4 ≢ at = omega arith in
     let three : 3 ≢ at = omega arith in
-    sound_at p seen at word nodes p.counted (omega arith) apart sound legal invalid change shows (number_stays p seen at word four loaded sound) (first_stays p at word nodes three end sound)
+    sound_at p seen at word nodes p.counted (omega arith) apart sound legal fit invalid change shows (number_stays p seen at word four loaded sound) (first_stays p at word nodes three end sound)
 
 pub later_at : (p : Plan) (seen : List Record) (at word : ℕ) (nodes : List Placed) (counted : Bool) → 1 ≤ at → p.retired ≡ None → IsPrefix p.seen seen → (IsEven p → Grows (loads p.seen) p.nodes nodes)
     → Later p (record { layout = p.layout; seen = seen; words = set p.words at word; nodes = nodes; counted = counted; retired = p.retired })

@@ -1,6 +1,7 @@
 -- A node is linked, and its entry inserted.
 use Rattle.std.proofs.Common.{◌≡◌, ◌≢◌, ◌∙◌, ℕ, ◌+◌, ◌%◌, ◌<◌, ◌≤◌, true, false, true≢false, inl, inr, ⊎_elim, List, ◌∷◌, set, slice_index, refl, sym, ap, subst, arith, None}
 use Rattle.std.proofs.lemmas.List.{set-get_or}
+use Rattle.std.proofs.lemmas.List.Elements.{All-cons}
 use Rattle.nsc_words.specs.declared.layout.Layout.{Layout}
 use Rattle.nsc_words.specs.declared.node.Placed.{Placed}
 use Rattle.nsc_words.specs.Hash.{hash_of}
@@ -12,7 +13,7 @@ use Rattle.nsc_arena.proofs.Chains.{chained}
 use Rattle.nsc_arena.proofs.Rows.{end_after, kept}
 use Rattle.nsc_model.specs.declared.record.Record.{Record}
 use Rattle.nsc_model.specs.declared.record.Record.TheVariants.{Load}
-use Rattle.nsc_model.specs.History.{loads, IsLive, Legal}
+use Rattle.nsc_model.specs.History.{loads, IsFit, IsLive, Legal}
 use Rattle.nsc_model.specs.Kinds.{type_number}
 use Rattle.nsc_model.proofs.Beginnings.{prefix_all, prefix_more}
 use Rattle.nsc_rule.specs.declared.view.Plan.{Plan}
@@ -104,7 +105,7 @@ pub sound_linked : (p : Plan) (link at : ℕ) → IsReady p link at → Sound p 
 sound_linked p link at ready sound =
     let n : Placed = placed_in p.words at in
     let high = link_high p link at sound ready in
-    sound_at p (Load (entry_of n) ∷ p.seen) link at (n ∷ p.nodes) false (omega arith) (λ i low less. omega arith) sound ready.legal refl refl
+    sound_at p (Load (entry_of n) ∷ p.seen) link at (n ∷ p.nodes) false (omega arith) (λ i low less. omega arith) sound ready.legal (All-cons IsFit (Load (entry_of n)) p.seen tt sound.fit) refl refl
     (λ even. record { laid = linked_laid p link at sound ready; sits = sits_linked p.seen p.nodes n ready.legal ready.usable ready.kind (sound.shows even).sits })
     (λ on. absurd (true≢false (sym on))) (λ on even. absurd (true≢false (sym on)))
 

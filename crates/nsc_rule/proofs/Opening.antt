@@ -1,6 +1,7 @@
 -- A table at its start keeps the rule.
 use Rattle.std.proofs.Common.{◌≡◌, ◌≢◌, ◌∙◌, ℕ, zero, suc, ◌+◌, ◌-◌, ◌<◌, List, [], ◌∷◌, length, length-append, length-set, replicate, slice_index, refl, sym, subst, arith, get_or-set_other, get_or-set_same}
 use Rattle.std.proofs.lemmas.List.{get_or-append_right, get_or-replicate, length-replicate}
+use Rattle.std.proofs.lemmas.List.Elements.{All-cons, All-nil}
 use Rattle.std.proofs.lemmas.Option.{none-some}
 use mathlib.Core.Option.{some, some-ne-none, some-injective}
 use lib.ListN.{get_elem?}
@@ -9,6 +10,8 @@ use Rattle.nsc_words.specs.declared.layout.Layout.{Layout}
 use Rattle.nsc_words.specs.Layout.{IsLayout, arena_start, table_words}
 use Rattle.nsc_arena.proofs.Cleared as clear
 use Rattle.nsc_model.specs.Content.{Content}
+use Rattle.nsc_model.specs.Files.{FilesFit}
+use Rattle.nsc_model.specs.History.{IsFit}
 use Rattle.nsc_model.specs.Machine.{last_count}
 use Rattle.nsc_model.specs.declared.record.Record.TheVariants.{Change}
 use Rattle.nsc_model.proofs.Beginnings.{prefix_none}
@@ -26,8 +29,8 @@ size layout = let zeros : List ℕ = replicate (table_words layout) 0 in length-
 sits_none : (content : Content) → Sits (Change 0 content ∷ []) []
 sits_none content = record { live = λ q among. absurd among; found = λ e live. absurd live.inserted; numbers = λ q among. absurd among; kinds = λ q among. absurd among }
 
-pub sound_first : (layout : Layout) (content : Content) → IsLayout layout → Sound (first_plan layout content)
-sound_first layout content sizes =
+pub sound_first : (layout : Layout) (content : Content) → FilesFit content → IsLayout layout → Sound (first_plan layout content)
+sound_first layout content fits sizes =
     let room = sizes.some_room in
     let none : (i : ℕ) → i < 3 → slice_index (no_nodes layout) i ≡ 0 = λ i low. let other : i ≢ 3 = omega arith in zero_at layout i (omega arith) other in
     let cycle = none 0 (omega arith) in
@@ -36,6 +39,7 @@ sound_first layout content sizes =
     record {
       sizes = sizes;
       legal = refl;
+      fit = All-cons IsFit (Change 0 content) [] fits (All-nil IsFit);
       wide = size layout;
       cycle = omega arith;
       epoch = epoch;
@@ -60,6 +64,7 @@ sound_succeeding layout p sizes even room sound =
     record {
       sizes = sizes;
       legal = sound.legal;
+      fit = sound.fit;
       wide = let all : length (words_after layout p.words) ≡ 10 + length rest = length-append (heads_after p.words) rest in let few = length-replicate {A = ℕ} (table_words layout - 10) 0 in omega arith;
       cycle = omega arith;
       epoch = sound.epoch;

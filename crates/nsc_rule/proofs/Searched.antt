@@ -55,7 +55,7 @@ begins seat request seen retired searching p sound was =
           bound = λ q among usable is low. let shows = shown_at p (cycle_of p) sound refl even in let at = within (arena_start p.layout) p.nodes q shows.laid.row among in let room = shows.laid.room in omega arith;
         };
       },
-      record { view = refl; legal = sound.legal; before = was.seen; known = was.known; most = sound.cycle },
+      record { view = refl; legal = sound.legal; fit = sound.fit; before = was.seen; known = was.known; most = sound.cycle },
     )
 
 -- ---- a search goes on to where a word of a chain leads
@@ -268,6 +268,7 @@ states seat seen retired searching p at is sound was =
       record {
         view = refl;
         legal = sound.legal;
+        fit = sound.fit;
         before = was.seen;
         known = known;
         live = λ steady e on one.
@@ -289,6 +290,7 @@ ends seat seen retired searching p sound was =
       record {
         view = refl;
         legal = sound.legal;
+        fit = sound.fit;
         before = was.seen;
         first = first;
         known = known;

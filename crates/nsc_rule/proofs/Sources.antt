@@ -1,12 +1,14 @@
 -- The database is invalidated, or its files are looked at.
 use Rattle.std.proofs.Common.{◌≡◌, ◌≢◌, ◌∙◌, ℕ, ◌+◌, ◌%◌, ◌<◌, ◌≤◌, List, [], ◌∷◌, Some, length-set, set, slice_index, refl, sym, ap, arith, get_or-set_other, get_or-set_same, None}
+use Rattle.std.proofs.lemmas.List.Elements.{All-cons}
 use Rattle.nsc_words.specs.declared.node.Placed.{Placed}
 use Rattle.nsc_model.specs.Content.{Content}
+use Rattle.nsc_model.specs.Files.{FilesFit}
 use Rattle.nsc_model.specs.Entry.{Entry}
 use Rattle.nsc_model.specs.Machine.{last_count}
 use Rattle.nsc_model.specs.declared.record.Record.{Record}
 use Rattle.nsc_model.specs.declared.record.Record.TheVariants.{Change, Poll, Invalid}
-use Rattle.nsc_model.specs.History.{changes, invalidations, loads, newest, IsLive, Legal, NoneLive}
+use Rattle.nsc_model.specs.History.{changes, invalidations, loads, newest, IsFit, IsLive, Legal, NoneLive}
 use Rattle.nsc_model.proofs.Beginnings.{prefix_all, prefix_more}
 use Rattle.nsc_rule.specs.declared.view.Plan.{Plan}
 use Rattle.nsc_rule.specs.Plans.{Later, Shows, Sits, Sound}
@@ -41,6 +43,7 @@ sound_invalidated p none room sound =
     record {
       sizes = sound.sizes;
       legal = (sound.legal, next, none);
+      fit = All-cons IsFit r p.seen tt sound.fit;
       wide = length-set p.words 1 word ∙ sound.wide;
       cycle = omega arith;
       epoch = here ∙ next;
@@ -60,9 +63,9 @@ later_invalidated p active = later_said p (Invalid (slice_index p.words 1 + 1)) 
 
 -- ---- a poll, and a new version
 
-sound_source : (p : Plan) (r : Record) (word : ℕ) → Legal (r ∷ p.seen) → invalidations (r ∷ p.seen) ≡ invalidations p.seen → loads (r ∷ p.seen) ≡ loads p.seen → word + 1 ≡ changes (r ∷ p.seen) → word ≤ last_count → (Sits p.seen p.nodes → Sits (r ∷ p.seen) p.nodes) → Sound p
+sound_source : (p : Plan) (r : Record) (word : ℕ) → Legal (r ∷ p.seen) → IsFit r → invalidations (r ∷ p.seen) ≡ invalidations p.seen → loads (r ∷ p.seen) ≡ loads p.seen → word + 1 ≡ changes (r ∷ p.seen) → word ≤ last_count → (Sits p.seen p.nodes → Sits (r ∷ p.seen) p.nodes) → Sound p
     → Sound (record { layout = p.layout; seen = r ∷ p.seen; words = set p.words 2 word; nodes = p.nodes; counted = p.counted; retired = p.retired })
-sound_source p r word legal invalid loaded change room sits sound =
+sound_source p r word legal fits invalid loaded change room sits sound =
     let wide = sound.wide in
     let here : slice_index (set p.words 2 word) 2 ≡ word = get_or-set_same p.words 2 word 0 (omega arith) in
     let zero_is : slice_index (set p.words 2 word) 0 ≡ slice_index p.words 0 = get_or-set_other p.words 2 0 word 0 (omega arith) in
@@ -72,6 +75,7 @@ sound_source p r word legal invalid loaded change room sits sound =
     record {
       sizes = sound.sizes;
       legal = legal;
+      fit = All-cons IsFit r p.seen fits sound.fit;
       wide = length-set p.words 2 word ∙ sound.wide;
       cycle = omega arith;
       epoch = one_is ∙ sound.epoch ∙ sym invalid;
@@ -89,7 +93,7 @@ sound_polled p word is sound =
     let source = sound.source in
     let last = sound.last_version in
     let same : word + 1 ≡ changes p.seen = omega arith in
-    sound_source p (Poll word) word (sound.legal, same) refl refl same (omega arith) (sits_said (Poll word) p.seen p.nodes (λ e l. record { inserted = l.inserted; not_ended = l.not_ended }) (λ e l. record { inserted = l.inserted; not_ended = l.not_ended }) refl) sound
+    sound_source p (Poll word) word (sound.legal, same) tt refl refl same (omega arith) (sits_said (Poll word) p.seen p.nodes (λ e l. record { inserted = l.inserted; not_ended = l.not_ended }) (λ e l. record { inserted = l.inserted; not_ended = l.not_ended }) refl) sound
 
 pub later_polled : (p : Plan) (word : ℕ) → p.retired ≡ None → Later p (after stroke.Poll 2 word p)
 later_polled p word active = later_said p (Poll word) 2 word (omega arith) active
@@ -98,10 +102,10 @@ legal_change : (h : List Record) (version : ℕ) (content : Content) → Legal h
 legal_change [] version content legal is new = absurd legal
 legal_change (r ∷ h) version content legal is new = (legal, is, new)
 
-pub sound_changed : (p : Plan) (content : Content) → newest p.seen ≢ Some content → slice_index p.words 2 < last_count → Sound p → Sound (changed content p)
-sound_changed p content new room sound =
+pub sound_changed : (p : Plan) (content : Content) → FilesFit content → newest p.seen ≢ Some content → slice_index p.words 2 < last_count → Sound p → Sound (changed content p)
+sound_changed p content fits new room sound =
     let word : ℕ = slice_index p.words 2 + 1 in
-    sound_source p (Change word content) word (legal_change p.seen word content sound.legal sound.source new) refl refl (ap (λ (n : ℕ). n + 1) sound.source) (omega arith)
+    sound_source p (Change word content) word (legal_change p.seen word content sound.legal sound.source new) fits refl refl (ap (λ (n : ℕ). n + 1) sound.source) (omega arith)
     (sits_said (Change word content) p.seen p.nodes (λ e l. record { inserted = l.inserted; not_ended = l.not_ended }) (λ e l. record { inserted = l.inserted; not_ended = l.not_ended }) refl) sound
 
 pub later_changed : (p : Plan) (content : Content) → p.retired ≡ None → Later p (changed content p)

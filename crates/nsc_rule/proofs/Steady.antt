@@ -31,7 +31,7 @@ free_high : (p : Plan) (at : ℕ) → IsFree p at → Sound p → 16 ≤ at
 free_high p at free sound = let after = end_after (arena_start p.layout) p.nodes (sound.shows free.even).laid.row in let behind = free.behind in omega arith
 
 pub sound_free : (p : Plan) (at word : ℕ) → IsFree p at → Sound p → Sound (stored at word p)
-sound_free p at word free sound = let high = free_high p at free sound in sound_above p p.seen at word p.nodes (omega arith) (λ i low less. omega arith) sound sound.legal refl refl refl refl (λ even. free_shows p at word free (sound.shows even))
+sound_free p at word free sound = let high = free_high p at free sound in sound_above p p.seen at word p.nodes (omega arith) (λ i low less. omega arith) sound sound.legal sound.fit refl refl refl refl (λ even. free_shows p at word free (sound.shows even))
 
 pub later_free : (p : Plan) (at word : ℕ) → p.retired ≡ None → IsFree p at → Sound p → Later p (stored at word p)
 later_free p at word active free sound = let high = free_high p at free sound in later_at p p.seen at word p.nodes p.counted (omega arith) active (prefix_all p.seen) (λ even. grows_same _ p.nodes)
@@ -48,20 +48,20 @@ count_shows p at word high shows = record { laid = laid; sits = shows.sits } whe
       (cases_eq at 3)
 
 pub sound_count : (p : Plan) (at word : ℕ) → 5 ≤ at → at ≤ 9 → Sound p → Sound (stored at word p)
-sound_count p at word low high sound = sound_above p p.seen at word p.nodes low (λ i more less. omega arith) sound sound.legal refl refl refl refl (λ even. count_shows p at word high (sound.shows even))
+sound_count p at word low high sound = sound_above p p.seen at word p.nodes low (λ i more less. omega arith) sound sound.legal sound.fit refl refl refl refl (λ even. count_shows p at word high (sound.shows even))
 
 -- FIRST_FREE is put right
 pub sound_first_free : (p : Plan) (word : ℕ) → word ≡ end_in p → Sound p → Sound (stored 3 word p)
 sound_first_free p word is sound =
     let wide = sound.wide in
-    sound_at p p.seen 3 word p.nodes p.counted (omega arith) (λ i more less. omega arith) sound sound.legal refl refl (λ even. count_shows p 3 word (omega arith) (sound.shows even))
+    sound_at p p.seen 3 word p.nodes p.counted (omega arith) (λ i more less. omega arith) sound sound.legal sound.fit refl refl (λ even. count_shows p 3 word (omega arith) (sound.shows even))
     (number_stays p p.seen 3 word (omega arith) refl sound) (λ on even. get_or-set_same p.words 3 word 0 (omega arith) ∙ is)
 
 -- and LOADS
 pub sound_node_counted : (p : Plan) (word : ℕ) → slice_index p.words 3 ≡ end_in p → word ≡ loads p.seen → Sound p → Sound (node_counted word p)
 sound_node_counted p word first is sound =
     let wide = sound.wide in
-    sound_at p p.seen 4 word p.nodes true (omega arith) (λ i more less. omega arith) sound sound.legal refl refl (λ even. count_shows p 4 word (omega arith) (sound.shows even))
+    sound_at p p.seen 4 word p.nodes true (omega arith) (λ i more less. omega arith) sound sound.legal sound.fit refl refl (λ even. count_shows p 4 word (omega arith) (sound.shows even))
     (λ on. get_or-set_same p.words 4 word 0 (omega arith) ∙ is) (λ on even. get_or-set_other p.words 4 3 word 0 (omega arith) ∙ first)
 
 pub later_node_counted : (p : Plan) (word : ℕ) → p.retired ≡ None → Later p (node_counted word p)
@@ -81,7 +81,7 @@ sound_slide p at word place odd sound = ⊎_elim
     (λ (h : 16 ≤ at). sound_slid (omega arith) (λ i more less. omega arith) (omega arith))
     place where
       sound_slid : 3 ≤ at → ((i : ℕ) → 10 ≤ i → i < 16 → i ≢ at) → 4 ≢ at → Sound (stored at word p)
-      sound_slid low apart four = sound_at p p.seen at word p.nodes p.counted low apart sound sound.legal refl refl (λ even. absurd (not_both p even odd)) (number_stays p p.seen at word four refl sound) (λ on even. absurd (not_both p even odd))
+      sound_slid low apart four = sound_at p p.seen at word p.nodes p.counted low apart sound sound.legal sound.fit refl refl (λ even. absurd (not_both p even odd)) (number_stays p p.seen at word four refl sound) (λ on even. absurd (not_both p even odd))
 
 -- ---- CYCLE goes on
 
@@ -108,6 +108,7 @@ sound_cycle p nodes retired room sound shows first =
     record {
       sizes = sound.sizes;
       legal = sound.legal;
+      fit = sound.fit;
       wide = length-set p.words 0 word ∙ sound.wide;
       cycle = omega arith;
       epoch = one_is ∙ sound.epoch;

@@ -102,4 +102,4 @@ unlinked_shows p from to may sound =
     }
 
 pub sound_unlinked : (p : Plan) (from to : ℕ) → MayUnlink p from to → Sound p → Sound (stored from to p)
-sound_unlinked p from to may sound = let at = link_within p from may.even may.link sound in sound_above p p.seen from to p.nodes (omega arith) (λ i low less. omega (arith, at.0)) sound sound.legal refl refl refl refl (λ even. unlinked_shows p from to may sound)
+sound_unlinked p from to may sound = let at = link_within p from may.even may.link sound in sound_above p p.seen from to p.nodes (omega arith) (λ i low less. omega (arith, at.0)) sound sound.legal sound.fit refl refl refl refl (λ even. unlinked_shows p from to may sound)

@@ -1,12 +1,12 @@
 -- What the pen knows of a table, and what holds of it between any two steps.
-use Rattle.std.specs.Prelude.{◌≡◌, ℕ, ◌+◌, ◌-◌, ◌%◌, ◌^◌, ◌<◌, ◌≤◌, true, false, None, ◌⊎◌, List, [], ◌∷◌, ◌++◌, length, replicate, slice_index, slice_set}
+use Rattle.std.specs.Prelude.{◌≡◌, ℕ, ◌+◌, ◌-◌, ◌%◌, ◌^◌, ◌<◌, ◌≤◌, true, false, None, ◌⊎◌, All, List, [], ◌∷◌, ◌++◌, length, replicate, slice_index, slice_set}
 use Rattle.nsc_words.specs.declared.layout.Layout.{Layout}
 use Rattle.nsc_words.specs.declared.node.Placed.{Placed}
 use Rattle.nsc_words.specs.Laid.{Among, Laid, end_of}
 use Rattle.nsc_words.specs.Layout.{IsLayout, arena_start, table_words}
 use Rattle.nsc_model.specs.Content.{Content}
 use Rattle.nsc_model.specs.Entry.{Entry}
-use Rattle.nsc_model.specs.History.{changes, invalidations, loads, IsLive, IsPrefix, Legal}
+use Rattle.nsc_model.specs.History.{changes, invalidations, loads, IsFit, IsLive, IsPrefix, Legal}
 use Rattle.nsc_model.specs.Kinds.{type_number}
 use Rattle.nsc_model.specs.Machine.{last_count}
 use Rattle.nsc_model.specs.declared.record.Record.{Record}
@@ -50,6 +50,7 @@ pub record Shows (layout : Layout) (words : List ℕ) (history : List Record) (n
 pub record Sound (p : Plan) : Type 0 where
   pub sizes : IsLayout p.layout
   pub legal : Legal p.seen
+  pub fit : All IsFit p.seen
   pub wide : length p.words ≡ table_words p.layout
   pub cycle : cycle_of p ≤ 2 ^ 62
   pub epoch : slice_index p.words 1 ≡ invalidations p.seen

@@ -7,7 +7,7 @@ use Rattle.nsc_words.specs.Layout.{arena_start, table_words}
 use Rattle.nsc_words.specs.Packing.{shape_word, size_word}
 use Rattle.nsc_words.specs.Words.{word_of}
 use Rattle.nsc_model.specs.Entry.{Entry, key_limit, kept_limit}
-use Rattle.nsc_model.specs.History.{loads, IsLive, IsPrefix, Legal}
+use Rattle.nsc_model.specs.History.{loads, IsFit, IsLive, IsPrefix, Legal}
 use Rattle.nsc_model.specs.Kinds.{type_number}
 use Rattle.nsc_model.specs.Machine.{last_count}
 use Rattle.nsc_model.specs.declared.answer.Request.{Request}
@@ -70,6 +70,7 @@ NoneOlder seen w = (e : Entry) → IsLive seen e → e.request ≡ w.request →
 pub record BeginTells (layout : Layout) (request : Request) (v : View) (found : ℕ) (w : View) : Type 0 where
   pub view : w ≡ reading (seen_by w) (retired_by v) (begun_search layout request (seen_by w) found (searching_by v))
   pub legal : Legal (seen_by w)
+  pub fit : All IsFit (seen_by w)
   pub before : IsPrefix (seen_by v) (seen_by w)
   pub known : (searching_by v).known ≤ found
   pub most : found ≤ last_count
@@ -95,6 +96,7 @@ pub record FixedTells (at : ℕ) (v : View) (found : ℕ) (w : View) : Type 0 wh
 pub record StateTells (v : View) (found : ℕ) (w : View) : Type 0 where
   pub view : w ≡ reading (seen_by w) (retired_by v) (record (searching_by v) { steps = (searching_by v).steps + 1; known = (searching_by w).known; gone = not (found == 1) })
   pub legal : Legal (seen_by w)
+  pub fit : All IsFit (seen_by w)
   pub before : IsPrefix (seen_by v) (seen_by w)
   pub known : (searching_by v).known ≤ (searching_by w).known
   pub live : IsSteady (searching_by w) → (e : Entry) → (searching_by v).on ≡ Some e → found ≡ 1 → IsLive (seen_by w) e
@@ -103,6 +105,7 @@ pub record StateTells (v : View) (found : ℕ) (w : View) : Type 0 where
 pub record LastTells (v : View) (found : ℕ) (w : View) : Type 0 where
   pub view : w ≡ reading (seen_by w) (retired_by v) (record (searching_by v) { steps = (searching_by v).steps + 1; known = found; last = found })
   pub legal : Legal (seen_by w)
+  pub fit : All IsFit (seen_by w)
   pub before : IsPrefix (seen_by v) (seen_by w)
   pub first : (searching_by v).first ≤ (searching_by v).known
   pub known : (searching_by v).known ≤ found

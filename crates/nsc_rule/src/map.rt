@@ -76,6 +76,7 @@ pub fn start(alloc: Global, layout: Layout, content: &Content) -> Result<(Map, P
     ensures pen { IfOk result (λ r. r.1 ≡ record { table = r.0.table; plan = first_plan layout content.now }) }
     ensures pass { IfOk result (λ r. r.2 ≡ record { table = r.0.table; seen = (first_plan layout content.now).seen; retired = None; searching = rested (cycle_of (first_plan layout content.now)) }) }
 {
+    content.learn();
     let words = first_words(alloc, layout)?;
     let origin = Origin::Fresh(Snapshot::of(content));
     begin(alloc, layout, origin, words.as_slice())

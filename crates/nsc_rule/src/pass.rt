@@ -1,6 +1,6 @@
-ghost use Rattle.std.specs.Prelude.{◌≡◌, ◌+◌, ◌⊎◌, Some, IsSome, [], ◌∷◌};
+ghost use Rattle.std.specs.Prelude.{◌≡◌, ◌+◌, ◌⊎◌, All, Some, IsSome, [], ◌∷◌};
 ghost use Rattle.atomic_table.specs.Seated.{TableId};
-ghost use Rattle.nsc_model.specs.History.{Legal, IsPrefix};
+ghost use Rattle.nsc_model.specs.History.{IsFit, IsPrefix, Legal};
 ghost use Rattle.nsc_rule.specs.Seats.{AreOne, informed, retired_by, reading, seen_by, searching_by};
 
 use crate::map::Map;
@@ -18,8 +18,8 @@ pub struct Pass {
 }
 
 impl Model for Pass {
-    ghost use Rattle.std.specs.Prelude.{◌≡◌, []};
-    ghost use Rattle.nsc_model.specs.History.{Legal};
+    ghost use Rattle.std.specs.Prelude.{◌≡◌, All, []};
+    ghost use Rattle.nsc_model.specs.History.{IsFit, Legal};
     ghost use Rattle.nsc_rule.specs.Pass.{Pass};
     ghost use Rattle.nsc_rule.specs.Seats.{retired_by, reading, seen_by, searching_by};
 
@@ -27,13 +27,13 @@ impl Model for Pass {
 
     ghost view = { λ p. record { table = p.seat.table_id; seen = seen_by p.seat.me.0; retired = retired_by p.seat.me.0; searching = searching_by p.seat.me.0 } };
 
-    ghost invariant = { λ p. (p.seat.me ≡ (reading (seen_by p.seat.me.0) (retired_by p.seat.me.0) (searching_by p.seat.me.0), [])) × Legal (seen_by p.seat.me.0) };
+    ghost invariant = { λ p. (p.seat.me ≡ (reading (seen_by p.seat.me.0) (retired_by p.seat.me.0) (searching_by p.seat.me.0), [])) × Legal (seen_by p.seat.me.0) × All IsFit (seen_by p.seat.me.0) };
 }
 
 impl Pass {
     // The pass of a seat that has seen this.
     pub(crate) fn new(seat: Seat<(), View>) -> Pass
-        requires { (seat.me ≡ (reading (seen_by seat.me.0) (retired_by seat.me.0) (searching_by seat.me.0), [])) × Legal (seen_by seat.me.0) }
+        requires { (seat.me ≡ (reading (seen_by seat.me.0) (retired_by seat.me.0) (searching_by seat.me.0), [])) × Legal (seen_by seat.me.0) × All IsFit (seen_by seat.me.0) }
         ensures { result ≡ record { table = seat.table_id; seen = seen_by seat.me.0; retired = retired_by seat.me.0; searching = searching_by seat.me.0 } }
     {
         Pass { seat }
@@ -43,13 +43,15 @@ impl Pass {
     pub(crate) fn into_seat(self) -> Seat<(), View>
         ensures seat { (result.table_id ≡ self.table) × (result.me ≡ (reading self.seen self.retired self.searching, [])) }
         ensures legal { Legal self.seen }
+        ensures fit { All IsFit self.seen }
     {
         self.seat
     }
 
-    /// What it has seen is legal.
+    /// What it has seen is legal, and the files of its versions are within their limits.
     pub fn learn(&self)
-        ensures { Legal self.now.seen }
+        ensures legal { Legal self.now.seen }
+        ensures fit { All IsFit self.now.seen }
     {
         let _ = &self.seat;
     }

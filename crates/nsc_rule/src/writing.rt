@@ -194,6 +194,7 @@ impl Pen {
         ensures { self.new ≡ record self.old { plan = changed content.now self.old.plan } }
     {
         self.learn();
+        content.learn();
         let version = self.head(SOURCE);
         let content = Snapshot::of(content);
         self.write(map, SOURCE, version + 1, &Stroke::Change { content });

@@ -1,8 +1,8 @@
 // A caller's seat at one table.
-ghost use Rattle.std.specs.Prelude.{◌≡◌, ◌+◌, ◌⊎◌, ◌≤◌, IfOk, OnErr, None, Some, IsSome, length};
+ghost use Rattle.std.specs.Prelude.{◌≡◌, ◌+◌, ◌⊎◌, ◌≤◌, All, IfOk, OnErr, None, Some, IsSome, length};
 ghost use Rattle.atomic_table.specs.Seated.{TableId};
 ghost use Rattle.nsc_model.specs.Entry.{key_limit, kept_limit};
-ghost use Rattle.nsc_model.specs.History.{IsPrefix, Legal};
+ghost use Rattle.nsc_model.specs.History.{IsFit, IsPrefix, Legal};
 ghost use Rattle.nsc_model.specs.InPlace.{InPlaceClause};
 ghost use Rattle.nsc_model.specs.Machine.{last_count};
 ghost use Rattle.nsc_rule.specs.Seats.{AreOne, informed};
@@ -41,9 +41,10 @@ impl Seat {
         Seat { map, pass }
     }
 
-    /// What it has seen is legal.
+    /// What it has seen is legal, and the files of its versions are within their limits.
     pub fn learn(&self)
-        ensures { Legal self.now.seen }
+        ensures legal { Legal self.now.seen }
+        ensures fit { All IsFit self.now.seen }
     {
         self.pass.learn();
     }

@@ -1,6 +1,6 @@
-ghost use Rattle.std.specs.Prelude.{◌≡◌, ◌+◌, ◌<◌, ◌≤◌, IfOk, OnOk, OnErr, None, Some, length, slice_index_or};
+ghost use Rattle.std.specs.Prelude.{◌≡◌, ◌+◌, ◌<◌, ◌≤◌, All, IfOk, OnOk, OnErr, None, Some, length, slice_index_or};
 ghost use Rattle.nsc_model.specs.Entry.{key_limit, kept_limit};
-ghost use Rattle.nsc_model.specs.History.{IsPrefix, Legal};
+ghost use Rattle.nsc_model.specs.History.{IsFit, IsPrefix, Legal};
 ghost use Rattle.nsc_model.specs.InPlace.{InPlaceClause};
 ghost use Rattle.nsc_model.specs.Machine.{last_count};
 ghost use Rattle.nsc_rule.specs.Seats.{informed};
@@ -51,9 +51,10 @@ impl Seats {
         })
     }
 
-    /// What it has seen is legal.
+    /// What it has seen is legal, and the files of its versions are within their limits.
     pub fn learn(&self)
-        ensures { Legal self.now.seen }
+        ensures legal { Legal self.now.seen }
+        ensures fit { All IsFit self.now.seen }
     {
         self.present.learn();
     }

@@ -1,12 +1,12 @@
 ghost use Rattle.std.specs.Prelude.{◌≡◌, true, ◌≤◌, ◌*◌, ◌/◌, ◌==◌, [], ◌∷◌, None, length, IfOk};
 ghost use Rattle.std.specs.Arc.{arc_value};
+ghost use Rattle.nsc_base.specs.Nodes.{most_words};
 ghost use Rattle.nsc_model.specs.declared.record.Record.TheVariants as record_of;
 ghost use Rattle.nsc_model.specs.History.{IsPrefix};
 ghost use Rattle.nsc_model.specs.Machine.{last_count, new_cache};
 ghost use Rattle.nsc_laws.specs.Calls.{Tells};
 ghost use Rattle.nsc_words.specs.Layout.{IsLayout};
 ghost use Rattle.nsc_rule.specs.Seats.{informed, rested};
-ghost use Rattle.nsc_writer.specs.Writer.{most_words};
 
 use nsc_base::NoMemory;
 use nsc_model::{Content, Stats};
@@ -54,7 +54,7 @@ impl Model for Writer {
 
 impl Writer {
     /// A writer of an empty database, and a pass that has seen its history: this content as version 0. All words that its entries
-    /// will ever take are taken here; no other call takes memory. Fails only for want of it.
+    /// take until it goes over to a larger table are taken here; no other call but that takes memory. Fails only for want of it.
     pub fn new(
         alloc: Global,
         layout: Layout,
@@ -139,6 +139,7 @@ impl Writer {
         requires { self.now.slide ≡ None }
         ensures compactions { 2 * result.compactions ≡ self.now.cache.cycle }
         ensures bound { self.now.cache.cycle ≤ last_count }
+        ensures within { self.now.cache.used ≤ self.now.layout.arena }
         ensures value { result ≡ record { enabled = true; hits = self.now.hits.found; negative_hits = self.now.hits.not_found; misses = self.now.misses.found; negative_misses = self.now.misses.not_found; entries = length self.now.cache.entries; used = self.now.cache.used; arena = self.now.layout.arena; invalidations = self.now.cache.epoch; compactions = self.now.cache.cycle / 2; addfailed = self.now.cache.add_failed } }
     {
         self.sheet.learn();

@@ -6,6 +6,7 @@ use Rattle.nsc_words.specs.Layout.{IsLayout, arena_start}
 use Rattle.nsc_arena.proofs.Passed.{mark_at_start}
 use Rattle.nsc_model.specs.declared.record.Record.TheVariants.{Change}
 use Rattle.nsc_model.specs.Content.{Content}
+use Rattle.nsc_model.specs.Files.{no_files}
 use Rattle.nsc_model.specs.Machine.{new_cache}
 use Rattle.nsc_laws.specs.Calls.{Tells}
 use Rattle.nsc_rule.specs.Pass.{Pass}
@@ -45,11 +46,11 @@ no_shelf layout =
     λ i. record { entries = []; used = used i; inserted = e4 i; cycle = e0 i; add_failed = e9 i; hits = record { found = e5 i; not_found = e6 i }; misses = record { found = e7 i; not_found = e8 i } }
 
 -- the words hold no node
-no_node : (layout : Layout) (content : Content) → IsLayout layout → Laid (no_nodes layout) layout []
-no_node layout content sizes =
+no_node : (layout : Layout) → IsLayout layout → Laid (no_nodes layout) layout []
+no_node layout sizes =
     let z = zeros layout in
     let even : slice_index (no_nodes layout) 0 % 2 ≡ 0 = ap (λ (n : ℕ). n % 2) (z.zero 0 (omega arith)) in
-    whole (first_plan layout content) (sound_first layout content sizes) refl even
+    whole (first_plan layout no_files) (sound_first layout no_files (record { switch_fits = tt; passwd_fits = tt; group_fits = tt; hosts_fits = tt; services_fits = tt; extra_passwd_fits = tt; extra_group_fits = tt }) sizes) refl even
 
 pub invariant_of-writer : goal.invariant_of-writer
 invariant_of-writer c =
@@ -66,7 +67,7 @@ invariant_of-writer c =
         laid_out = refl;
         settled = refl;
         sizes = c.requires;
-        laid = λ even. no_node m content c.requires;
+        laid = λ even. no_node m c.requires;
         entries = none (slice_index (no_nodes m) 4);
         counted = omega (arith, four);
         live = refl;

@@ -1,23 +1,13 @@
--- Histories whose records are within their limits, and what answers in them spell.
-use Rattle.std.specs.Prelude.{◌≡◌, ◌≤◌, ℕ, List, Some, length}
+-- What answers in a history spell.
+use Rattle.std.specs.Prelude.{◌≡◌, ℕ, List, Some}
 use Rattle.nsc_model.specs.declared.answer.Request.{Request}
 use Rattle.nsc_model.specs.declared.record.Record.{Record}
-use Rattle.nsc_model.specs.declared.record.Record.TheVariants.{Change, Poll, Load, End, Invalid}
 use Rattle.nsc_model.specs.Answers.{looked_up}
 use Rattle.nsc_model.specs.Content.{Content}
 use Rattle.nsc_model.specs.Files.{FilesFit}
-use Rattle.nsc_model.specs.Entry.{kept_limit, key_limit}
 use Rattle.nsc_model.specs.History.{version_in}
 use Rattle.nsc_model.specs.Outcomes.{reply_to}
 use Rattle.nsc_model.specs.Wire.{Spells}
-
--- no file of a content is longer than a file may be, and no key or kept reply of an entry longer than those may be
-abbrev pub IsWithin : Record → Type 0
-IsWithin (Change version content) = FilesFit content
-IsWithin (Poll version) = Unit {0}
-IsWithin (Load entry) = (length entry.request.key ≤ key_limit) × (length entry.answer.bytes ≤ kept_limit)
-IsWithin (End number cause) = Unit {0}
-IsWithin (Invalid epoch) = Unit {0}
 
 -- the bytes spell what is replied to the outcome of the switch over some version of the history, whose files are within their
 -- limits; so there are no more of them than a reply may have
