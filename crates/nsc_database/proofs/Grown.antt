@@ -1,18 +1,19 @@
 -- What a growth leaves of what holds of a writer while its lock is free.
-use Rattle.std.proofs.Common.{◌≡◌, ℕ, zero, suc, ◌+◌, ◌≤◌, All, List, [], ◌∷◌, ◌++◌, Option, Result, Ok, Err, refl, sym, subst, arith}
+use Rattle.std.proofs.Common.{◌≡◌, ◌∙◌, ℕ, zero, suc, ◌+◌, ◌≤◌, All, List, [], ◌∷◌, ◌++◌, Option, Result, Ok, Err, inl, refl, sym, ap, subst, arith}
 use Rattle.std.proofs.lemmas.List.Elements.{All-append}
 use Rattle.std.specs.Prelude.{OnErr, OnOk}
 use Rattle.nsc_words.specs.declared.layout.Layout.{Layout}
 use Rattle.nsc_model.specs.declared.conf.DbConf.{DbConf}
 use Rattle.nsc_model.specs.declared.kind.Db.{Db}
 use Rattle.nsc_model.specs.Content.{Content}
-use Rattle.nsc_model.specs.Machine.{all_words, room_of}
+use Rattle.nsc_model.specs.Machine.{all_words, next_count, room_of}
 use Rattle.nsc_laws.specs.Calls.{Tells}
 use Rattle.nsc_writer.specs.Enlarged.{IsEnlarged}
 use Rattle.nsc_writer.specs.Former.{Former}
 use Rattle.nsc_writer.specs.Writer.{Writer}
 use Rattle.nsc_growth.specs.Sized.{IsSized}
-use Rattle.nsc_database.specs.Rests.{IsAtRest}
+use Rattle.nsc_database.specs.Growing.{GoesOver, GrowsOnce, HasLeft}
+use Rattle.nsc_database.specs.Rests.{Desk, IsAtRest}
 use Rattle.nsc_database.specs.Steady.{StaysStill, WasSteady}
 use Rattle.nsc_database.proofs.Again.{again_later}
 use Rattle.nsc_database.proofs.Standing.{at_rest_kept}
@@ -49,3 +50,27 @@ at_rest_enlarged {E} {settings} {limit} {held} {which} {ticked} (Err fault) layo
 -- the words that entries take then, and no others
 pub used_grown : (layout : Layout) (w w' : Writer) (former : Former) (need : ℕ) → IsEnlarged layout w w' former → all_words w.cache.entries + need ≤ layout.arena → w'.cache.used + need ≤ w'.layout.arena
 used_grown layout w w' former need e room = subst (λ (x : Writer). x.cache.used + need ≤ x.layout.arena) (sym e.is) room
+
+-- ---- an insertion that may go to a larger table
+
+-- no table was left
+pub once_stayed : (before tried after : Desk) → tried.left ≡ before.left → tried.writer.table ≡ before.writer.table → after ≡ tried → GrowsOnce before after
+once_stayed before tried after left table same = inl (ap (λ (d : Desk). d.left) same ∙ left, ap (λ (d : Desk). d.writer.table) same ∙ table)
+
+-- one was, after a first try that found no room in it
+pub once_over : (settings : DbConf) (need : ℕ) (before tried after : Desk) → tried.left ≡ before.left → tried.writer.table ≡ before.writer.table → tried.writer.cache.add_failed ≡ next_count before.writer.cache.add_failed → GoesOver settings need tried after → HasLeft before after
+once_over settings need before tried after left table failed over = record {
+  former = over.former;
+  left = over.left ∙ ap (λ (l : List Former). l ++ over.former ∷ []) left;
+  from = ap (λ (f : Former). f.table) over.enlarged.left ∙ table;
+  to = sym (ap (λ (w : Writer). w.table) over.enlarged.is);
+  refused = ap (λ (w : Writer). w.cache.add_failed) over.enlarged.is ∙ failed;
+}
+
+-- and whatever follows leaves no more
+pub left_still : (before grown after : Desk) → after.left ≡ grown.left → after.writer.table ≡ grown.writer.table → after.writer.cache.add_failed ≡ grown.writer.cache.add_failed → HasLeft before grown → HasLeft before after
+left_still before grown after left table failed h = record { former = h.former; left = left ∙ h.left; from = h.from; to = h.to ∙ sym table; refused = failed ∙ h.refused }
+
+-- the history stays
+pub over_seen : (settings : DbConf) (need : ℕ) (before after : Desk) → GoesOver settings need before after → after.writer.seen ≡ before.writer.seen
+over_seen settings need before after over = ap (λ (w : Writer). w.seen) over.enlarged.is

@@ -94,3 +94,11 @@ stops_unmoved w w' count s t = by_cause (stops_left w w' count s) where
 pub rests_invalidated : (r : Result ℕ Spent) (w w' : Writer) → IfOk r (λ epoch. Completes (invalidated w.cache) w w') → IfErr r (λ spent. Stops (invalidated w.cache) spent.count w w') → Tells w.seen w.cache → Rests w w'
 rests_invalidated (Ok epoch) w w' p s t = rests_emptied w w' p t
 rests_invalidated (Err spent) w w' p s t = rests_stopped w w' spent.count s t
+
+pub all_emptied : (r : Result ℕ Spent) (w w' : Writer) → IfOk r (λ epoch. Completes (invalidated w.cache) w w') → IfOk r (λ epoch. epoch ≡ w'.cache.epoch) → Tells w.seen w.cache → IfOk r (λ epoch. IsEmptied w.seen w'.seen epoch)
+all_emptied (Ok epoch) w w' p counted t = completes_emptied w w' epoch p t counted
+all_emptied (Err spent) w w' p counted t = tt
+
+pub none_emptied : (r : Result ℕ Spent) (w w' : Writer) → IfErr r (λ spent. Stops (invalidated w.cache) spent.count w w') → Tells w.seen w.cache → IfErr r (λ spent. IsUnmoved w'.seen (last_count ≤ w'.cache.cycle) spent.count (NoneLive w'.seen))
+none_emptied (Ok epoch) w w' s t = tt
+none_emptied (Err spent) w w' s t = stops_unmoved w w' spent.count s t

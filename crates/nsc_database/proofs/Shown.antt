@@ -17,11 +17,9 @@ use Rattle.nsc_model.specs.Content.{Content}
 use Rattle.nsc_model.specs.Entry.{Entry}
 use Rattle.nsc_model.specs.Files.{same_files}
 use Rattle.nsc_model.specs.History.{HasLoad, IsLive, IsPrefix, Legal, LookedBetween, NoneLive, NoneLiveOf, PolledSince, LooksAt, invalidations, loads, version_in}
-use Rattle.nsc_model.specs.Machine.{Kept, Cache, all_words, entry_words, last_count, by_invalidation, ends_of, live_entry, polled}
-use Rattle.nsc_model.specs.declared.fault.CacheFault.{CacheFault}
-use Rattle.nsc_model.specs.declared.fault.CacheFault.TheVariants as cache_fault
+use Rattle.nsc_model.specs.Machine.{Kept, Cache, all_words, entry_words, last_count, next_count, by_invalidation, ends_of, live_entry, polled}
 use Rattle.nsc_model.specs.declared.conf.DbConf.{DbConf}
-use Rattle.nsc_model.specs.Stores.{FoundLastCycle, HasNoRoom, IsCounted, IsEmptied, IsFull, IsHit, IsInvalidateFault, IsSpent, IsUnmoved, words_of}
+use Rattle.nsc_model.specs.Stores.{FoundLastCycle, HasNoRoom, IsCounted, IsEmptied, IsFull, IsHit, IsSpent, IsUnmoved, words_of}
 use Rattle.nsc_rule.specs.declared.view.Search.{Search}
 use Rattle.nsc_rule.specs.Seats.{informed}
 use Rattle.nsc_laws.specs.Calls.{Tells, entries_of}
@@ -241,19 +239,20 @@ is_inserted (inserted.Full need free) loaded w w' t packed i r =
     subst (λ (x : Writer). FindsNoRoom w.layout.arena (last_count ≤ x.cache.cycle) loaded x.seen need free) (sym i.1) (record { needed = r.0; less = r.2; left = is_free w free t packed r.1 })
 
 -- what is left where it found no room
-pub leaves_full : (said : Inserted) (loaded : Loaded) (before w w' : Writer) → w.seen ≡ before.seen → Inserts said loaded w w' → IsRefused said loaded w → LeavesFull said before w'
-leaves_full (inserted.Done number) loaded before w w' same i r = tt
-leaves_full (inserted.TooLarge size) loaded before w w' same i r = tt
-leaves_full (inserted.Discarded noted epoch) loaded before w w' same i r = tt
-leaves_full (inserted.Present number) loaded before w w' same i r = tt
-leaves_full (inserted.Spent count) loaded before w w' same i r = tt
-leaves_full (inserted.Full need free) loaded before w w' same i r = (ap (λ (x : Writer). x.seen) i.1 ∙ same, subst (λ (x : Writer). free + x.cache.used ≡ x.layout.arena) (sym i.1) r.1)
+pub leaves_full : (said : Inserted) (loaded : Loaded) (before w w' : Writer) → w.seen ≡ before.seen → w.cache.add_failed ≡ before.cache.add_failed → Inserts said loaded w w' → IsRefused said loaded w → LeavesFull said before w'
+leaves_full (inserted.Done number) loaded before w w' same failed i r = tt
+leaves_full (inserted.TooLarge size) loaded before w w' same failed i r = tt
+leaves_full (inserted.Discarded noted epoch) loaded before w w' same failed i r = tt
+leaves_full (inserted.Present number) loaded before w w' same failed i r = tt
+leaves_full (inserted.Spent count) loaded before w w' same failed i r = tt
+leaves_full (inserted.Full need free) loaded before w w' same failed i r = (ap (λ (x : Writer). x.seen) i.1 ∙ same, subst (λ (x : Writer). free + x.cache.used ≡ x.layout.arena) (sym i.1) r.1, ap (λ (x : Writer). x.cache.add_failed) i.1 ∙ ap next_count failed)
 
 -- so an insertion was that needs so many words
 pub record WasFull (need : ℕ) (loaded : Loaded) (w w' : Writer) : Type 0 where
   pub needed : need ≡ node_words (length loaded.request.key) (length loaded.answer.bytes)
   pub full : w'.layout.arena < w'.cache.used + need
   pub same : w'.seen ≡ w.seen
+  pub failed : w'.cache.add_failed ≡ next_count w.cache.add_failed
 
 pub was_full : (need : ℕ) (said : Inserted) (loaded : Loaded) (w w' : Writer) (last_cycle : Type 0) → needed_by said ≡ Some need → LeavesFull said w w' → IsInserted w'.layout.arena last_cycle said loaded w.seen w'.seen → WasFull need loaded w w'
 was_full need (inserted.Done number) loaded w w' last_cycle some l i = absurd cc
@@ -266,7 +265,7 @@ was_full need (inserted.Full n free) loaded w w' last_cycle some l i =
     let needed = i.needed in
     let less = i.less in
     let rest = l.1 in
-    record { needed = sym same ∙ needed; full = omega arith; same = l.0 }
+    record { needed = sym same ∙ needed; full = omega arith; same = l.0; failed = l.2 }
 
 -- where there is room for it, it does not find none
 pub inserted_with_room : (said : Inserted) (loaded : Loaded) (w w' : Writer) → Tells w.seen w.cache → IsPacked w → Inserts said loaded w w' → IsRefused said loaded w → w.cache.used + node_words (length loaded.request.key) (length loaded.answer.bytes) ≤ w.layout.arena
@@ -277,6 +276,15 @@ inserted_with_room (inserted.Discarded noted epoch) loaded w w' t packed i r roo
 inserted_with_room (inserted.Present number) loaded w w' t packed i r room = is_inserted (inserted.Present number) loaded w w' t packed i r
 inserted_with_room (inserted.Spent count) loaded w w' t packed i r room = is_inserted (inserted.Spent count) loaded w w' t packed i r
 inserted_with_room (inserted.Full need free) loaded w w' t packed i r room = let needed = r.0 in let rest = r.1 in let less = r.2 in absurd (omega arith)
+
+-- it is not counted as one that found none
+pub not_failed : (said : Inserted) (loaded : Loaded) (w w' : Writer) → Inserts said loaded w w' → IsRefused said loaded w → w.cache.used + node_words (length loaded.request.key) (length loaded.answer.bytes) ≤ w.layout.arena → w'.cache.add_failed ≡ w.cache.add_failed
+not_failed (inserted.Done number) loaded w w' i r room = ap (λ (x : Writer). x.cache.add_failed) i.2
+not_failed (inserted.TooLarge size) loaded w w' i r room = ap (λ (x : Writer). x.cache.add_failed) i.1
+not_failed (inserted.Discarded noted epoch) loaded w w' i r room = ap (λ (x : Writer). x.cache.add_failed) i.1
+not_failed (inserted.Present number) loaded w w' i r room = ap (λ (x : Writer). x.cache.add_failed) i.1
+not_failed (inserted.Spent count) loaded w w' i r room = ap (λ (x : Writer). x.cache.add_failed) i.1
+not_failed (inserted.Full need free) loaded w w' i r room = let needed = r.0 in let rest = r.1 in let less = r.2 in absurd (omega arith)
 
 -- what else it may come to where it found room
 pub inserted_or : (a b : ℕ → ℕ → Type 0) (said : Inserted) (loaded : Loaded) (seen after : List Record) → ((need free : ℕ) → said ≡ inserted.Full need free → a need free → b need free) → IsInsertedOr a said loaded seen after → IsInsertedOr b said loaded seen after
@@ -341,10 +349,6 @@ is_emptied w w' epoch t t' next is =
 pub unmoved_to : (after : List Record) (lesser last_cycle : Type 0) (count : ℕ) (ended : Type 0) → (lesser → last_cycle) → IsUnmoved after lesser count ended → IsUnmoved after last_cycle count ended
 unmoved_to after lesser last_cycle count ended to u = record { last = u.last; cause = elim u.cause [ inl all ↦ inl all | inr unmoved ↦ inr (to unmoved.0, unmoved.1) ] }
 
-pub fault_to : (f : CacheFault) (after : List Record) (lesser last_cycle : Type 0) → (lesser → last_cycle) → IsInvalidateFault f after lesser → IsInvalidateFault f after last_cycle
-fault_to cache_fault.NoMemory after lesser last_cycle to f = f
-fault_to (cache_fault.Spent count) after lesser last_cycle to f = unmoved_to after lesser last_cycle count (NoneLive after) to f
-
 pub emptied_since : (seen h after : List Record) (epoch : ℕ) → IsPrefix seen h → IsEmptied h after epoch → IsEmptied seen after epoch
 emptied_since seen h after epoch on e = record { last = e.last; new = (let low = invalidations_on seen h on in let more = e.new in omega arith); none = e.none }
 
@@ -371,6 +375,7 @@ pub record Counted (w : Writer) (stats : Stats) : Type 0 where
   pub arena : stats.arena ≡ w.layout.arena
   pub invalidations_are : stats.invalidations ≡ w.cache.epoch
   pub compactions : stats.compactions ≡ w.cache.cycle / 2
+  pub within : w.cache.used ≤ w.layout.arena
 
 pub is_counted : (settings : DbConf) (w : Writer) (stats : Stats) → Tells w.seen w.cache → IsPacked w → IsSized settings w.layout → Counted w stats → IsCounted settings w.seen stats
 is_counted settings w stats t p sized c = record {
@@ -379,6 +384,7 @@ is_counted settings w stats t p sized c = record {
   counted = c.entries ∙ sym (entries_length w.cache.entries);
   taken = λ low. c.used ∙ p (half_below w.cache.cycle (subst (λ (n : ℕ). n < 2 ^ 61) c.compactions low)) ∙ sym (words_live w.cache.entries);
   invalidations_are = c.invalidations_are ∙ sym t.epochs_are;
+  within = subst (λ (x : ℕ × ℕ). x.0 ≤ x.1) (λ i. (sym c.used i, sym c.arena i)) c.within;
   allowed = subst (IsArena settings) (sym c.arena) (sized_arena settings w.layout sized);
 } where
   half_below : (n : ℕ) → n / 2 < 2 ^ 61 → n < last_count

@@ -5,7 +5,6 @@ use Rattle.nsc_outside.specs.declared.files.FileSet as file_set
 use Rattle.nsc_model.specs.declared.conf.DbConf.{DbConf}
 use Rattle.nsc_model.specs.declared.kind.Db.{Db}
 use Rattle.nsc_model.specs.Content.{Content}
-use Rattle.nsc_model.specs.History.{Legal}
 use Rattle.nsc_model.specs.Machine.{is_outdated, room_of}
 use Rattle.nsc_model.specs.Stores.{AreLoadedAgain}
 use Rattle.nsc_model.specs.declared.store.Spent.{Spent as SpentCount}
@@ -58,19 +57,15 @@ pub in_any_case : {T E P : Type 0} (r : Result T E) → P → OnOk r P
 in_any_case (Ok x) p = p
 in_any_case (Err e) p = tt
 
--- no hold
-pub held_still : {F B : Type 0} {G : file_set.Ghosts F} {R : room.Ghosts B} (p : DbPass F B G R) → Legal p.pass.seen → Held p p
-held_still p legal = record { db = refl; files = refl; before = ([], refl); legal = legal; searches = omega arith }
-
 -- one hold after the other
 pub held_through : {F B : Type 0} {G : file_set.Ghosts F} {R : room.Ghosts B} (a b c : DbPass F B G R) → Held a b → Held b c → Held a c
-held_through a b c h i = record { db = i.db ∙ h.db; files = i.files ∙ h.files; before = prefix_through a.pass.seen b.pass.seen c.pass.seen h.before i.before; legal = i.legal; searches = let low = h.searches in let more = i.searches in omega arith }
+held_through a b c h i = record { db = i.db ∙ h.db; files = i.files ∙ h.files; before = prefix_through a.pass.seen b.pass.seen c.pass.seen h.before i.before; legal = i.legal; fit = i.fit; searches = let low = h.searches in let more = i.searches in omega arith }
 
 pub goes_after : {F B : Type 0} {G : file_set.Ghosts F} {R : room.Ghosts B} (a b c : DbPass F B G R) → Held a b → Goes b c → Goes a c
-goes_after a b c h i = record { db = i.db ∙ h.db; before = prefix_through a.pass.seen b.pass.seen c.pass.seen h.before i.before; legal = i.legal; searches = let low = h.searches in let more = i.searches in omega arith }
+goes_after a b c h i = record { db = i.db ∙ h.db; before = prefix_through a.pass.seen b.pass.seen c.pass.seen h.before i.before; legal = i.legal; fit = i.fit; searches = let low = h.searches in let more = i.searches in omega arith }
 
 pub goes_on : {F B : Type 0} {G : file_set.Ghosts F} {R : room.Ghosts B} (a b c : DbPass F B G R) → Goes a b → Held b c → Goes a c
-goes_on a b c h i = record { db = i.db ∙ h.db; before = prefix_through a.pass.seen b.pass.seen c.pass.seen h.before i.before; legal = i.legal; searches = let low = h.searches in let more = i.searches in omega arith }
+goes_on a b c h i = record { db = i.db ∙ h.db; before = prefix_through a.pass.seen b.pass.seen c.pass.seen h.before i.before; legal = i.legal; fit = i.fit; searches = let low = h.searches in let more = i.searches in omega arith }
 
 -- CYCLE was loaded as 2^62 in a call that began earlier
 pub loaded_before : {F B : Type 0} {G : file_set.Ghosts F} {R : room.Ghosts B} (a b c : DbPass F B G R) → a.pass.searching.searches ≤ b.pass.searching.searches → LoadedLastCycle b c → LoadedLastCycle a c

@@ -1,6 +1,6 @@
 -- What a call leaves of a pass.
-use Rattle.std.specs.Prelude.{◌≡◌, ◌≤◌}
-use Rattle.nsc_model.specs.History.{IsPrefix, Legal}
+use Rattle.std.specs.Prelude.{◌≡◌, ◌≤◌, All}
+use Rattle.nsc_model.specs.History.{IsFit, IsPrefix, Legal}
 use Rattle.nsc_model.specs.Stores.{FoundLastCycle}
 use Rattle.nsc_outside.specs.declared.files.FileSet as file_set
 use Rattle.nsc_database.specs.declared.room.Room as room
@@ -11,6 +11,7 @@ pub record Goes {F B : Type 0} {G : file_set.Ghosts F} {R : room.Ghosts B} (p p'
   pub db : p'.db ≡ p.db
   pub before : IsPrefix p.pass.seen p'.pass.seen
   pub legal : Legal p'.pass.seen
+  pub fit : All IsFit p'.pass.seen
   pub searches : p.pass.searching.searches ≤ p'.pass.searching.searches
 
 -- the same, and it has read no file, as under a hold of the writer's lock
@@ -19,6 +20,7 @@ pub record Held {F B : Type 0} {G : file_set.Ghosts F} {R : room.Ghosts B} (p p'
   pub files : p'.files ≡ p.files
   pub before : IsPrefix p.pass.seen p'.pass.seen
   pub legal : Legal p'.pass.seen
+  pub fit : All IsFit p'.pass.seen
   pub searches : p.pass.searching.searches ≤ p'.pass.searching.searches
 
 -- it loaded CYCLE as 2^62 in the call, at which there are no more compactions

@@ -9,7 +9,7 @@ use Rattle.nsc_model.specs.declared.record.Record.{Record}
 use Rattle.nsc_model.specs.Entry.{Entry, kept_limit}
 use Rattle.nsc_model.specs.History.{HasLoad, IsLive, LookedBetween, NoneLiveOf, PolledSince, changes, invalidations, loads, version_in}
 use Rattle.nsc_model.specs.Live.{AreLive}
-use Rattle.nsc_model.specs.Machine.{last_count}
+use Rattle.nsc_model.specs.Machine.{last_count, next_count}
 use Rattle.nsc_model.specs.Stores.{IsFull, IsHit, IsSpent, words_of}
 use Rattle.nsc_writer.specs.declared.loaded.Inserted.{Inserted}
 use Rattle.nsc_writer.specs.declared.loaded.Inserted.TheVariants as inserted
@@ -83,11 +83,11 @@ needed_by (inserted.Present number) = None
 needed_by (inserted.Spent count) = None
 needed_by (inserted.Full need free) = Some need
 
--- where it found no room, the history is as before, and the words that it found free are those that no entry takes
+-- where it found no room, the history is as before, the words that it found free are those that no entry takes, and that is counted
 abbrev pub LeavesFull : Inserted → Writer → Writer → Type 0
 LeavesFull (inserted.Done number) before after = Unit {0}
 LeavesFull (inserted.TooLarge size) before after = Unit {0}
 LeavesFull (inserted.Discarded noted epoch) before after = Unit {0}
 LeavesFull (inserted.Present number) before after = Unit {0}
 LeavesFull (inserted.Spent count) before after = Unit {0}
-LeavesFull (inserted.Full need free) before after = (after.seen ≡ before.seen) × (free + after.cache.used ≡ after.layout.arena)
+LeavesFull (inserted.Full need free) before after = (after.seen ≡ before.seen) × (free + after.cache.used ≡ after.layout.arena) × (after.cache.add_failed ≡ next_count before.cache.add_failed)

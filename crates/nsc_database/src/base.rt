@@ -227,7 +227,10 @@ impl<D: OfDb, F: FileSet + Drop, A: Answerer + Drop, B: Room> Base<D, F, A, B> {
         desk.follow(pass)?;
         let ended = desk.invalidate();
         desk.show_cycle(pass);
-        ended
+        match ended {
+            Ok(epoch) => Ok(epoch),
+            Err(spent) => Err(CacheFault::Spent { count: spent.count }),
+        }
     }
 
     /// The number of invalidations. Fails only for want of memory.

@@ -1,5 +1,5 @@
 // What the locks of a database keep.
-ghost use Rattle.std.specs.Prelude.{◌≡◌, ◌+◌, ◌≤◌, ◌<◌, ◌⊎◌, All, IfOk, IfErr, OnOk, length};
+ghost use Rattle.std.specs.Prelude.{◌≡◌, ◌≤◌, ◌⊎◌, All, IfOk, IfErr, OnOk};
 ghost use Rattle.nsc_model.specs.Entry.{kept_limit};
 ghost use Rattle.nsc_model.specs.History.{Legal, NoneLive, invalidations};
 ghost use Rattle.nsc_model.specs.Sizes.{SizeFits};
@@ -9,7 +9,8 @@ ghost use Rattle.nsc_sourcebook.specs.Reads.{IsFetched, IsPart, NoneFailed, NotF
 ghost use Rattle.nsc_model.specs.Machine.{is_outdated, last_count, room_of};
 ghost use Rattle.nsc_model.specs.Reloads.{Reloaded};
 ghost use Rattle.nsc_model.specs.Settings.{settings_of};
-ghost use Rattle.nsc_model.specs.Stores.{AreLoadedAgain, IsCounted, IsEmptied, IsInvalidateFault, IsSpent, IsUnmoved};
+ghost use Rattle.nsc_model.specs.declared.store.LookupFault.TheVariants.{NoMemory as Memory};
+ghost use Rattle.nsc_model.specs.Stores.{AreLoadedAgain, IsCounted, IsEmptied, IsSpent, IsUnmoved};
 ghost use Rattle.nsc_rule.specs.Seats.{informed};
 ghost use Rattle.nsc_shelf.specs.Uses.{counted};
 ghost use Rattle.nsc_database.specs.Frames.{Held, LoadedLastCycle};
@@ -64,8 +65,8 @@ pub struct Shelved<D: OfDb, F: FileSet + Drop, A: Answerer, B: Room> {
 }
 
 impl<D: OfDb, B: Room> Desk<D, B> {
-    /// The pass goes on to the table that is written, and has seen the whole history then, which begins with what it had seen. What else
-    /// is done under a hold of the lock knows no pass. For want of memory it may have gone on to a table before that one.
+    /// The pass goes on to the table that is written, and has seen the whole history then, which begins with what it had seen. Each
+    /// hold of the lock begins so. For want of memory it may have gone on to a table before that one.
     pub fn follow<F: FileSet + Drop>(&mut self, pass: &mut DbPass<F, B>) -> Result<(), NoMemory>
         requires { pass.old.db ≡ D.db }
         ensures same { self.new ≡ self.old }
@@ -146,9 +147,11 @@ impl<D: OfDb, B: Room> Desk<D, B> {
         self.writer.epoch()
     }
 
-    /// What the writer counts.
+    /// What the writer counts, in the table that it writes.
     pub fn stats(&self) -> Stats
-        ensures { IsCounted (settings_of B.conf D.db) self.now.writer.seen result }
+        ensures counted { IsCounted (settings_of B.conf D.db) self.now.writer.seen result }
+        ensures used { result.used ≡ self.now.writer.cache.used }
+        ensures arena { result.arena ≡ self.now.writer.layout.arena }
     {
         self.writer.learn();
         self.writer.stats()
@@ -190,16 +193,13 @@ impl<D: OfDb, B: Room> Desk<D, B> {
 
     /// Ends every entry, and gives the new number of invalidations. At `Spent` that number stands at its end; or every entry
     /// ended, and the count of the beginnings and the ends of slides does.
-    pub fn invalidate(&mut self) -> Result<u64, CacheFault>
+    pub fn invalidate(&mut self) -> Result<u64, Spent>
         ensures table { self.new.writer.table ≡ self.old.writer.table }
         ensures done { IfOk result (λ epoch. IsEmptied self.old.writer.seen self.new.writer.seen epoch) }
-        ensures fault { IfErr result (λ fault. IsInvalidateFault fault self.new.writer.seen (last_count ≤ self.new.writer.cache.cycle)) }
+        ensures spent { IfErr result (λ spent. IsUnmoved self.new.writer.seen (last_count ≤ self.new.writer.cache.cycle) spent.count (NoneLive self.new.writer.seen)) }
     {
         self.writer.learn();
-        match invalidate(&mut self.writer) {
-            Ok(epoch) => Ok(epoch),
-            Err(spent) => Err(CacheFault::Spent { count: spent.count }),
-        }
+        invalidate(&mut self.writer)
     }
 }
 
@@ -219,6 +219,7 @@ impl<D: OfDb, B: Room> Desk<D, B> {
         ensures checked { IfOk result (λ checked. IsChecked checked settings.now limit now self.new.writer.seen) }
         ensures cause { IfOk result (λ checked. EmptiesOutdated checked (is_outdated settings.now self.old.writer.cache.newest_version self.old.ticked)) }
         ensures fault { IfErr result (λ fault. IsHoldFault fault self.new.writer.seen (last_count ≤ self.new.writer.cache.cycle) (NoneLive self.new.writer.seen)) }
+        ensures memory { IfErr result (λ fault. fault ≡ Memory → self.new.writer ≡ self.old.writer) }
     {
         self.writer.learn();
         let newest = self.writer.version();

@@ -1,12 +1,12 @@
 // Insertions, and the larger table that one goes to where it finds no room.
-ghost use Rattle.std.specs.Prelude.{◌≡◌, ◌+◌, ◌≤◌, ◌<◌, IfOk, length};
+ghost use Rattle.std.specs.Prelude.{◌≡◌, ◌+◌, ◌≤◌, ◌<◌, IfOk, OnErr, length};
 ghost use Rattle.nsc_base.specs.Nodes.{node_words};
 ghost use Rattle.nsc_model.specs.Machine.{last_count};
 ghost use Rattle.nsc_model.specs.Settings.{settings_of};
 ghost use Rattle.nsc_model.specs.Steady.{IsSteady};
 ghost use Rattle.nsc_writer.specs.Writer.{IsAnswered};
 ghost use Rattle.nsc_database.specs.Frames.{Held};
-ghost use Rattle.nsc_database.specs.Growing.{Grows};
+ghost use Rattle.nsc_database.specs.Growing.{GrowsOnce, IsGrowth};
 ghost use Rattle.nsc_database.specs.Holds.{IsInserted, IsInsertedOr, IsKept, LeavesFull, needed_by};
 
 use crate::desk::Desk;
@@ -23,7 +23,7 @@ use std::alloc::Global;
 impl<D: OfDb, B: Room> Desk<D, B> {
     /// Counts a miss and tries an insertion. Where it finds no room, and the table may become large enough, the writer goes over to a
     /// larger one, the pass goes on to that, and the insertion is tried once more. Hands back what was to be inserted. For want of
-    /// memory nothing was inserted.
+    /// memory nothing was inserted, though the writer may have gone over.
     pub fn keep<F: FileSet + Drop>(
         &mut self,
         alloc: Global,
@@ -42,6 +42,8 @@ impl<D: OfDb, B: Room> Desk<D, B> {
         ensures steady { IsSteady B.held D.db pass.new.pass.seen }
         ensures kept { IfOk result (λ kept. IsKept settings.now (last_count ≤ self.new.writer.cache.cycle) kept.0 loaded self.old.writer.seen self.new.writer.seen) }
         ensures back { IfOk result (λ kept. kept.1 ≡ loaded) }
+        ensures once { GrowsOnce self.old self.new }
+        ensures stays { OnErr result (self.new.writer.seen ≡ self.old.writer.seen) }
     {
         pass.learn();
         let (said, loaded) = self.insert(loaded);
@@ -64,6 +66,7 @@ impl<D: OfDb, B: Room> Desk<D, B> {
         ensures inserted { IsInserted self.new.writer.layout.arena (last_count ≤ self.new.writer.cache.cycle) result.0 loaded self.old.writer.seen self.new.writer.seen }
         ensures full { LeavesFull result.0 self.old.writer self.new.writer }
         ensures back { result.1 ≡ loaded }
+        ensures left { self.new.left ≡ self.old.left }
     {
         self.writer.learn();
         insert(&mut self.writer, loaded)
@@ -77,6 +80,8 @@ impl<D: OfDb, B: Room> Desk<D, B> {
         ensures table { self.new.writer.table ≡ self.old.writer.table }
         ensures inserted { IsInsertedOr (λ need free. ⊥) result.0 loaded self.old.writer.seen self.new.writer.seen }
         ensures back { result.1 ≡ loaded }
+        ensures left { self.new.left ≡ self.old.left }
+        ensures counted { self.new.writer.cache.add_failed ≡ self.old.writer.cache.add_failed }
     {
         self.writer.learn();
         self.writer.insert(loaded)
@@ -87,7 +92,7 @@ impl<D: OfDb, B: Room> Desk<D, B> {
     fn grow(&mut self, alloc: Global, settings: &DbConf, need: u64) -> Result<bool, NoMemory>
         requires settings { settings.now ≡ settings_of B.conf D.db }
         requires full { self.old.writer.layout.arena < self.old.writer.cache.used + need }
-        ensures { Grows settings.now need self.old self.new result }
+        ensures { IsGrowth settings.now need self.old self.new result }
     {
         self.writer.learn();
         let stats = self.writer.stats();
@@ -102,7 +107,7 @@ impl<D: OfDb, B: Room> Desk<D, B> {
         match self.left.enlarge(alloc, &mut self.writer, next) {
             Ok(()) => Ok(true),
             Err(CacheFault::NoMemory) => Err(NoMemory),
-            // The count of compactions goes on.
+            // That count is not at its end, as was asked above.
             Err(CacheFault::Spent { .. }) => Ok(false),
         }
     }

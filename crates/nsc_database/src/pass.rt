@@ -1,6 +1,6 @@
-ghost use Rattle.std.specs.Prelude.{◌≡◌, ◌+◌, ◌≤◌, length};
+ghost use Rattle.std.specs.Prelude.{◌≡◌, ◌+◌, ◌≤◌, All, length};
 ghost use Rattle.nsc_model.specs.Entry.{key_limit, kept_limit};
-ghost use Rattle.nsc_model.specs.History.{IsPrefix, Legal};
+ghost use Rattle.nsc_model.specs.History.{IsFit, IsPrefix, Legal};
 ghost use Rattle.nsc_model.specs.InPlace.{InPlaceClause};
 ghost use Rattle.nsc_model.specs.Machine.{last_count};
 ghost use Rattle.nsc_model.specs.Stores.{Continues};
@@ -29,9 +29,10 @@ pub struct DbPass<F: FileSet + Drop, B: Room> {
 impl<F: FileSet + Drop, B: Room> DbPass<F, B> {
     ghost use Rattle.nsc_database.specs.Frames.{Held};
 
-    /// What it has seen is legal.
+    /// What it has seen is legal, and the files of its versions are within their limits.
     pub fn learn(&self)
-        ensures { Legal self.now.pass.seen }
+        ensures legal { Legal self.now.pass.seen }
+        ensures fit { All IsFit self.now.pass.seen }
     {
         self.pass.learn();
     }
@@ -75,6 +76,7 @@ impl<F: FileSet + Drop, B: Room> DbPass<F, B> {
         ensures before { IsPrefix self.old.pass.seen self.new.pass.seen }
         ensures other { IsPrefix other.pass.seen self.new.pass.seen }
         ensures legal { Legal self.new.pass.seen }
+        ensures fit { All IsFit self.new.pass.seen }
     {
         let DbPass {
             db: _,

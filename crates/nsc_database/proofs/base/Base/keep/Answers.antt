@@ -14,7 +14,7 @@ use Rattle.nsc_database.proofs.base.Base.keep.Goals as goal
 pub keep-requires-clause-answered : goal.keep-requires-clause-answered
 keep-requires-clause-answered g c =
     let seen = c.in_ok-follow.ensures.seen ∙ sym (ap (λ (d : Desk). d.writer.seen) c.in_ok-follow.ensures.same) in
-    subst (λ (h : List Record). IsAnswered h c.args.loaded) seen (answered_on c.args.pass.now.pass.seen c.follow.new.pass.pass.seen c.args.loaded c.in_ok-follow.ensures.frame.legal c.learn.ensures c.in_ok-follow.ensures.frame.before c.requires.answered)
+    subst (λ (h : List Record). IsAnswered h c.args.loaded) seen (answered_on c.args.pass.now.pass.seen c.follow.new.pass.pass.seen c.args.loaded c.in_ok-follow.ensures.frame.legal c.learn.ensures.legal c.in_ok-follow.ensures.frame.before c.requires.answered)
 
 pub returns-in_err-said-clause-frame : goal.returns-in_err-said-clause-frame
 returns-in_err-said-clause-frame g c = held_through _ _ _ c.in_ok-follow.ensures.frame c.in_err-said.ensures.frame

@@ -35,7 +35,7 @@ renew-renewed-requires-clause-loads g c =
     let a : Answering = record { settings = c.args.self.now.settings; stamp = c.args.polled.now.stamp; moment = c.args.now } in
     let anew : AreAnew c.args.pass.now.pass.seen c.args.epoch c.deref.result.now c.deref-2.result.now = record { answering = a; files = c.args.polled.now.content; version = c.requires.polled.version; since = c.requires.polled.since; stamped = c.requires.polled.epoch_is; made = c.deref-2.ensures.value ∙ c.in-Ok.ensures } in
     subst (λ (x : List Record × List Due). AreAnew x.0 c.args.epoch x.1 c.deref-2.result.now) (λ i. (seen i, (c.deref.ensures.value ∙ sym c.deref_mut.ensures.value) i))
-    (anew_on c.args.pass.now.pass.seen c.follow.new.pass.pass.seen c.args.epoch c.deref.result.now c.deref-2.result.now c.learn.ensures c.in_ok-follow.ensures.frame.legal c.in_ok-follow.ensures.frame.before anew)
+    (anew_on c.args.pass.now.pass.seen c.follow.new.pass.pass.seen c.args.epoch c.deref.result.now c.deref-2.result.now c.learn.ensures.legal c.in_ok-follow.ensures.frame.legal c.in_ok-follow.ensures.frame.before anew)
 
 pub returns-in-Ok-renewed-clause-frame : goal.returns-in-Ok-renewed-clause-frame
 returns-in-Ok-renewed-clause-frame g c = held_through _ _ _ c.in_ok-follow.ensures.frame c.show_cycle.ensures.frame

@@ -7,4 +7,4 @@ invariant_of-self g c = at_rest_kept c.self.inside.left c.follow-followed.new.le
 
 pub returns-clause-steady : goal.returns-clause-steady
 returns-clause-steady g c =
-    steady_followed c.follow-followed.result g.B.Room.held g.D.OfDb.db c.follow-followed.new.self.seen c.self.inside.left c.self.inside.writer c.follow-followed.ensures.whole c.follow-followed.ensures.fault c.learn-2.ensures c.learn.ensures.told c.self.invariant.2 c.self.invariant.6
+    steady_followed c.follow-followed.result g.B.Room.held g.D.OfDb.db c.follow-followed.new.self.seen c.self.inside.left c.self.inside.writer c.follow-followed.ensures.whole c.follow-followed.ensures.fault c.learn-2.ensures.legal c.learn.ensures.told c.self.invariant.2 c.self.invariant.6

@@ -32,7 +32,7 @@ returns-clause-inserted g c =
 pub returns-clause-full : goal.returns-clause-full
 returns-clause-full g c =
     subst (λ (d : Desk). LeavesFull c.insert.result.0 d.writer c.insert.new.writer) c.self.view_is
-    (leaves_full c.insert.result.0 c.args.loaded c.self.inside.writer (missed c.args.loaded c.self.inside.writer) c.insert.new.writer refl c.insert.ensures.inserted c.insert.ensures.why)
+    (leaves_full c.insert.result.0 c.args.loaded c.self.inside.writer (missed c.args.loaded c.self.inside.writer) c.insert.new.writer refl refl c.insert.ensures.inserted c.insert.ensures.why)
 
 pub returns-clause-table : goal.returns-clause-table
 returns-clause-table g c = (leaves_inserted c.insert.result.0 c.args.loaded (missed c.args.loaded c.self.inside.writer) c.insert.new.writer c.insert.ensures.inserted).table ∙ ap (λ (d : Desk). d.writer.table) c.self.view_is

@@ -5,7 +5,7 @@ use Rattle.nsc_database.specs.Holds.{IsInsertedOr}
 use Rattle.nsc_database.specs.Rests.{Desk}
 use Rattle.nsc_turns.proofs.Renewed.{leaves_inserted}
 use Rattle.nsc_database.proofs.Rests.{rests_inserted}
-use Rattle.nsc_database.proofs.Shown.{inserted_with_room}
+use Rattle.nsc_database.proofs.Shown.{inserted_with_room, not_failed}
 use Rattle.nsc_database.proofs.Standing.{at_rest_on}
 use Rattle.nsc_database.proofs.desk.Desk.insert_again.Goals as goal
 
@@ -21,3 +21,8 @@ returns-clause-inserted g c =
 
 pub returns-clause-table : goal.returns-clause-table
 returns-clause-table g c = (leaves_inserted c.insert.result.0 c.args.loaded c.self.inside.writer c.insert.new.self c.insert.ensures.inserted).table ∙ ap (λ (d : Desk). d.writer.table) c.self.view_is
+
+pub returns-clause-counted : goal.returns-clause-counted
+returns-clause-counted g c =
+    let room = subst (λ (d : Desk). d.writer.cache.used + node_words (length c.args.loaded.request.key) (length c.args.loaded.answer.bytes) ≤ d.writer.layout.arena) (sym c.self.view_is) c.requires.room in
+    not_failed c.insert.result.0 c.args.loaded c.self.inside.writer c.insert.new.self c.insert.ensures.inserted c.insert.ensures.why room ∙ ap (λ (d : Desk). d.writer.cache.add_failed) c.self.view_is

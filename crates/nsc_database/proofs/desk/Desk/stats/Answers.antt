@@ -7,8 +7,8 @@ use Rattle.nsc_database.specs.Rests.{Desk}
 use Rattle.nsc_database.proofs.Shown.{Counted, is_counted}
 use Rattle.nsc_database.proofs.desk.Desk.stats.Goals as goal
 
-pub returns : goal.returns
-returns g c =
+pub returns-clause-counted : goal.returns-clause-counted
+returns-clause-counted g c =
     let w = c.self.inside.writer in
     let counts : Counted w c.stats.result = record {
       entries = ap (λ (s : Stats). s.entries) c.stats.ensures.value;
@@ -16,6 +16,7 @@ returns g c =
       arena = ap (λ (s : Stats). s.arena) c.stats.ensures.value;
       invalidations_are = ap (λ (s : Stats). s.invalidations) c.stats.ensures.value;
       compactions = ap (λ (s : Stats). s.compactions) c.stats.ensures.value;
+      within = c.stats.ensures.within;
     } in
     subst (λ (h : List Record). IsCounted (settings_of g.B.Room.conf g.D.OfDb.db) h c.stats.result) (ap (λ (d : Desk). d.writer.seen) c.self.view_is)
     (is_counted (settings_of g.B.Room.conf g.D.OfDb.db) w c.stats.result c.learn.ensures.told c.self.invariant.1 c.self.invariant.5 counts)
