@@ -6,7 +6,7 @@ ghost use Rattle.nsc_server.specs.Requests.{TakesRequests};
 ghost use Rattle.nsc_daemon.specs.Ends.{IsToldEnd, StopsSo, TellsEnd};
 ghost use Rattle.nsc_daemon.specs.Workers.{TicksSo};
 
-use crate::gate::{Gate, Gatekeeper};
+use crate::gate::{Gatekeeper, ServesGate};
 use crate::intake::{Waiting, Waitings, Way};
 use nsc_model::{Databases, Exit, Store};
 use nsc_outside::{Sink, Source};

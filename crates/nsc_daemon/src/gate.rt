@@ -16,7 +16,7 @@ use std::sync::{Arc, Wait};
 const ROOM: usize = 65_536;
 
 /// Who serves connections to the gate.
-pub trait Gate {
+pub trait ServesGate {
     /// Serves one, whose moment is this one, in seconds, as far as it comes. Then it is closed, or comes back for the lines that its
     /// peer sends later.
     fn serve<RT: AllocGlobal + Wait, R: Source, K: Sink>(
@@ -69,7 +69,7 @@ impl<S: Store + Drop> Gatekeeper<S> {
     }
 }
 
-impl<S: Store + Drop> Gate for Gatekeeper<S> {
+impl<S: Store + Drop> ServesGate for Gatekeeper<S> {
     fn serve<RT: AllocGlobal + Wait, R: Source, K: Sink>(
         &mut self,
         rt: &RT,

@@ -1,7 +1,7 @@
 ghost use Rattle.std.specs.Prelude.{◌≡◌, ◌<◌, ◌^◌, IfNone, IfSome, true};
 ghost use Rattle.nsc_server.specs.Jobs.{IsServable, given_after};
 
-use crate::gate::Gate;
+use crate::gate::ServesGate;
 use nsc_jobs::JobList;
 use nsc_model::next_count;
 use nsc_outside::{Sink, Source};
@@ -44,7 +44,7 @@ pub struct Intake<R: Drop, K: Drop, G: Drop> {
     pub is_over: bool,
 }
 
-impl<R: Source + Drop, K: Sink + Drop, G: Gate + Drop> Intake<R, K, G> {
+impl<R: Source + Drop, K: Sink + Drop, G: ServesGate + Drop> Intake<R, K, G> {
     // Hands a connection out, or serves it where it came to the gate.
     fn pass_on<RT: AllocGlobal + Wait>(
         &mut self,
@@ -81,7 +81,7 @@ impl<R: Source + Drop, K: Sink + Drop, G: Gate + Drop> Intake<R, K, G> {
     }
 }
 
-impl<R: Source + Drop, K: Sink + Drop, G: Gate + Drop> Jobs for Intake<R, K, G> {
+impl<R: Source + Drop, K: Sink + Drop, G: ServesGate + Drop> Jobs for Intake<R, K, G> {
     type In = R;
 
     type Out = K;

@@ -159,11 +159,7 @@ where
         Ok(stores) => stores,
         Err(_) => return Exit::NoMemory,
     };
-    let processors = match thread::available_parallelism(rt) {
-        Ok(number) => number.get(),
-        Err(_) => 1,
-    };
-    let list = match Arc::new(alloc, JobList::new(alloc, processors, most)) {
+    let list = match waitings(rt, most) {
         Ok(list) => list,
         Err(_) => return Exit::NoMemory,
     };
@@ -193,6 +189,21 @@ where
         waitings: None,
     };
     run(rt, terms.workers, &mut acceptor, &list, clock, net)
+}
+
+// An empty list for the connections that wait, so many at most. Fails only for want of memory.
+fn waitings<RT: AllocGlobal + Threads, R: Drop, K: Drop>(
+    rt: &RT,
+    most: usize,
+) -> Result<Waitings<R, K>, NoMemory> {
+    let processors = match thread::available_parallelism(rt) {
+        Ok(number) => number.get(),
+        Err(_) => 1,
+    };
+    Ok(Arc::new(
+        rt.alloc(),
+        JobList::new(rt.alloc(), processors, most),
+    )?)
 }
 
 // The paths of the two sockets: that of every user, and that of the administrator.

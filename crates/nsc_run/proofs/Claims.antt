@@ -124,6 +124,11 @@ served_tells told etc held a b exit (inr h) sources net output =
 
 -- ---- a run
 
+-- words are not refused with Ok
+pub no_refusal : {A : Type 0} (form : Option A) (exit : Exit) → RefusesForm form exit → exit ≡ exits.Ok → ⊥
+no_refusal form exit (inl memory) ok = let never : exits.NoMemory ≡ exits.Ok = sym memory ∙ ok in cc
+no_refusal form exit (inr usage) ok = let never : exits.Usage ≡ exits.Ok = sym usage.0 ∙ ok in cc
+
 module _ {I O : Type 0} (i : source.Ghosts I) (o : sink.Ghosts O) (a b : Outside) (exit : Exit) where
   pub run_done : (form : Option Form) → RunsByForm i o form a b exit → exit ≡ exits.Ok → IsDone i o form a b
   run_done None h e = absurd (elim h.0 [

@@ -6,7 +6,7 @@ use Rattle.nsc_model.specs.Reads.{Rose}
 use Rattle.nsc_outside.specs.declared.stream.Source as source
 use Rattle.nsc_outside.specs.declared.stream.Sink as sink
 use Rattle.nsc_outside.specs.declared.files.FileSet as files
-use Rattle.nsc_sockets.specs.Connections.{Connection, IsPeer}
+use Rattle.nsc_sockets.specs.Connections.{Connection, IsPeer, Socket}
 use Rattle.nsc_sockets.specs.declared.listener.Listener as listener
 use Rattle.nsc_model.specs.declared.conf.Conf.{Conf}
 use Rattle.nsc_model.specs.Content.{Content}
@@ -16,7 +16,7 @@ use Rattle.nsc_model.specs.declared.exit.Exit.TheVariants as exits
 use Rattle.nsc_replay.specs.Streams.{Counted, Streams, StreamsAt, streams_at}
 use Rattle.nsc_control.specs.Commands.{Commands}
 use Rattle.nsc_control.specs.declared.ask.AdminAsk.{AdminAsk}
-use Rattle.nsc_daemon.specs.Ends.{DaemonAt, EndsSo, IsReady, LastTellsEnd, TellsHeldLength}
+use Rattle.nsc_daemon.specs.Ends.{DaemonAt, EndsSo, IsBound, IsReady, LastTellsEnd, TellsHeldLength, sockets_of}
 use Rattle.nsc_workload.specs.Runs.{PutsText}
 use Rattle.nsc_workload.specs.Workload.{workload_of}
 use Rattle.nsc_run.specs.Forms.{Ask, Daemon, DaemonOptions, Form, Replay, Workload}
@@ -177,3 +177,13 @@ TellsByForm i o (Some (Workload number workers)) before after exit = OutputCalm 
 TellsByForm i o (Some (Daemon service)) before after exit =
     SourcesCalm before after → NetCalm before after → OutputCalm before after
     → IfSome (daemon_told before service) (λ text. TellsServed (settings_by text) exit)
+
+-- ---- sockets
+
+-- a daemon bound the two of its folder and the gate, where one is said, and no more; whoever is none bound nothing
+abbrev pub BindsByForm : Option Form → Option (List Socket) → Option (List Socket) → Type 0
+BindsByForm None before after = after ≡ before
+BindsByForm (Some (Replay config)) before after = after ≡ before
+BindsByForm (Some (Ask asked folder)) before after = after ≡ before
+BindsByForm (Some (Workload number workers)) before after = after ≡ before
+BindsByForm (Some (Daemon service)) before after = IsBound before after (sockets_of service.run_dir service.gate)

@@ -2,7 +2,7 @@
 ghost use Rattle.std.specs.Prelude.{◌≡◌, IfErr, IfOk, None, option_map};
 ghost use Rattle.nsc_outside.specs.StreamAt.{stream_out};
 ghost use Rattle.nsc_replay.specs.Streams.{Counted, streams};
-ghost use Rattle.nsc_daemon.specs.Ends.{daemon_at};
+ghost use Rattle.nsc_daemon.specs.Ends.{IsBound, daemon_at, sockets_of};
 ghost use Rattle.nsc_run.specs.Commands.{Course, IsSet, NotSet, config_told, worker_count};
 ghost use Rattle.nsc_run.specs.Runs.{Asks, DaemonCourse};
 ghost use Rattle.nsc_run.specs.Shown.{conf_path_for};
@@ -47,6 +47,7 @@ pub fn ask<K: Sink, N: Listener>(
 ) -> Exit
     ensures asks { Asks N.In.Source N.Out.Sink asked (N.peer net.old) (stream_out K.Sink output.old) (stream_out K.Sink output.new) (N.faults net.old) (N.faults net.new) result }
     ensures given { N.given net.new ≡ N.given net.old }
+    ensures bound { N.bound net.new ≡ N.bound net.old }
 {
     let Ok(path) = format!(in alloc; "{run_dir}/admin") else {
         return Exit::NoMemory;
@@ -77,7 +78,8 @@ pub fn serve<
 where
     N::In: 'static,
     N::Out: 'static,
-    ensures { DaemonCourse (F.conf_held files.old (conf_path_for service.now)) (option_map (λ p. p.now) service.now.etc) (F.held files.old) (daemon_at K.Sink F.FileSet N.Listener output.old files.old net.old) (daemon_at K.Sink F.FileSet N.Listener output.new files.new net.new) result }
+    ensures course { DaemonCourse (F.conf_held files.old (conf_path_for service.now)) (option_map (λ p. p.now) service.now.etc) (F.held files.old) (daemon_at K.Sink F.FileSet N.Listener output.old files.old net.old) (daemon_at K.Sink F.FileSet N.Listener output.new files.new net.new) result }
+    ensures bound { result ≡ Exit.Ok → IsBound (N.bound net.old) (N.bound net.new) (sockets_of service.now.run_dir.now (option_map (λ p. p.now) service.now.gate)) }
 {
     match settings(rt.alloc(), service, files) {
         Ok(conf) => {

@@ -5,7 +5,7 @@ ghost use Rattle.nsc_replay.specs.Runs.{ReplayRun};
 ghost use Rattle.nsc_replay.specs.Streams.{Counted, streams};
 ghost use Rattle.nsc_run.specs.Commands.{IsReplayed, StreamsCalm, TellsFinish};
 ghost use Rattle.nsc_run.specs.Forms.{form_of, texts};
-ghost use Rattle.nsc_run.specs.Runs.{IsDone, RunsByForm, TellsByForm, outside};
+ghost use Rattle.nsc_run.specs.Runs.{BindsByForm, IsDone, RunsByForm, TellsByForm, outside};
 
 use crate::actions::{ask, replay_under, serve};
 use crate::form::Form;
@@ -94,6 +94,9 @@ where
 
     // At Ok the command was done.
     ensures ok { result ≡ Exit.Ok → IsDone N.In.Source N.Out.Sink (form_of (texts words.now)) (outside R.Source K.Sink F.FileSet N.Listener input.old output.old files.old net.old) (outside R.Source K.Sink F.FileSet N.Listener input.new output.new files.new net.new) }
+
+    // At Ok a daemon bound its sockets, with the gate where one is said, and no others.
+    ensures bound { result ≡ Exit.Ok → BindsByForm (form_of (texts words.now)) (N.bound net.old) (N.bound net.new) }
 
     // Where no fault came, the exit tells what is known of it, unless memory was wanting.
     ensures complete { TellsByForm N.In.Source N.Out.Sink (form_of (texts words.now)) (outside R.Source K.Sink F.FileSet N.Listener input.old output.old files.old net.old) (outside R.Source K.Sink F.FileSet N.Listener input.new output.new files.new net.new) result }
