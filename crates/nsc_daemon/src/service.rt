@@ -200,10 +200,7 @@ fn waitings<RT: AllocGlobal + Threads, R: Drop, K: Drop>(
         Ok(number) => number.get(),
         Err(_) => 1,
     };
-    Ok(Arc::new(
-        rt.alloc(),
-        JobList::new(rt.alloc(), processors, most),
-    )?)
+    Ok(Arc::new(rt.alloc(), JobList::new(rt.alloc(), processors, most))?)
 }
 
 // The paths of the two sockets: that of every user, and that of the administrator.
