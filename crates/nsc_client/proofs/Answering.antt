@@ -54,7 +54,7 @@ told_before g before mid after t more is =
 
 more_on : (a b c : List Record) → (b ≡ a) ⊎ Continues a b → (c ≡ b) ⊎ Continues b c → (c ≡ a) ⊎ Continues a c
 more_on a b c p (inl same) = subst (λ (h : List Record). (h ≡ a) ⊎ Continues a h) (sym same) p
-more_on a b c p (inr on) = inr (record { before = prefix_through a b c (goes_on a b p) on.before; legal = on.legal })
+more_on a b c p (inr on) = inr (record { before = prefix_through a b c (goes_on a b p) on.before; legal = on.legal; fit = on.fit })
 
 pub sees_on : {S P : Type 0} (g : store.Ghosts S P) (before mid after : Databases P) → SeeMore g before mid → SeeMore g mid after → SeeMore g before after
 sees_on g before mid after p q which = more_on (seen_in g before which) (seen_in g mid which) (seen_in g after which) (p which) (q which)

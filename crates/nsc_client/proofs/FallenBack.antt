@@ -21,7 +21,7 @@ use Rattle.nsc_client.specs.Replying.{IsRefusedAt, IsReplied}
 use Rattle.nsc_client.proofs.Later.{answered_before, ended_before, prefix_through}
 
 pub seen_on : (a b c : List Record) → Continues a b → Continues b c → Continues a c
-seen_on a b c p q = record { before = prefix_through a b c p.before q.before; legal = q.legal }
+seen_on a b c p q = record { before = prefix_through a b c p.before q.before; legal = q.legal; fit = q.fit }
 
 -- no count changed in a first part of a call, and none in the rest
 pub stay_on : (a b c : ℕ) (each each' each'' : FileId → ℕ) → FaultsStay a b each each' → FaultsStay b c each' each'' → FaultsStay a c each each''

@@ -1,4 +1,6 @@
 pub mod LastSlash
+pub mod Spelling
+pub mod Requests
 pub mod Joined
 pub mod Later
 pub mod FallenBack

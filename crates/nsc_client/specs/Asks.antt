@@ -1,6 +1,7 @@
 -- What comes of a request that is asked in place first, and then over a link.
 use Rattle.std.specs.Prelude.{◌≡◌, ℕ, ◌+◌, Bool, List, Result, Ok, Err}
 use Rattle.nsc_model.specs.declared.answer.Request.{Request}
+use Rattle.nsc_model.specs.declared.kind.Kind.{Kind}
 use Rattle.nsc_model.specs.declared.in_place.InPlace.{InPlace}
 use Rattle.nsc_model.specs.declared.in_place.InPlace.TheVariants.{Hit, Odd, Moved, NoEntry}
 use Rattle.nsc_model.specs.declared.store.Store as store
@@ -12,6 +13,7 @@ use Rattle.nsc_client.specs.declared.asking.Asked.TheVariants as asked
 use Rattle.nsc_client.specs.declared.link.Link as link
 use Rattle.nsc_client.specs.declared.link.LinkFault.{LinkFault}
 use Rattle.nsc_client.specs.Links.{FailsBy}
+use Rattle.nsc_client.specs.Sent.{SpellsReply}
 
 -- a link takes every pass of a store, for requests of its database
 abbrev pub TakesPassesOf : {S P L : Type 0} → store.Ghosts S P → link.Ghosts L P → S → L → Type 0
@@ -54,3 +56,8 @@ IsAsked g h base before after request now bytes (Ok (asked.InPlace number versio
     (not_found : Bool) × SearchesInPlace g base before.pass after.pass request bytes (Hit number version not_found) × (after.way ≡ before.way)
 IsAsked g h base before after request now bytes (Ok (asked.Linked found reply)) = FallsBack g h base before after request now bytes found (Ok reply)
 IsAsked g h base before after request now bytes (Err fault) = (found : InPlace) × FallsBack g h base before after request now bytes found (Err fault)
+
+-- what an answer in place left in the buffer spells a reply of the kind
+abbrev pub SpellsInPlace : Kind → List ℕ → Asked → Type 0
+SpellsInPlace by bytes (asked.InPlace number version) = SpellsReply by bytes
+SpellsInPlace by bytes (asked.Linked found reply) = Unit {0}

@@ -6,6 +6,7 @@ use Rattle.nsc_model.specs.Reads.{Rose}
 use Rattle.nsc_model.specs.Entry.{line_limit}
 use Rattle.nsc_client.specs.declared.gate.Gated.{Gated}
 use Rattle.nsc_client.specs.declared.gate.Gated.TheVariants as gated
+use Rattle.nsc_client.specs.declared.link.LinkFault.{LinkFault}
 use Rattle.nsc_client.specs.declared.link.LinkFault.TheVariants as link
 
 -- bytes came after those that were held
@@ -19,6 +20,13 @@ pub record ComesIn (before after : StreamAt) (held new : List ℕ) : Type 0 wher
 abbrev pub ComesOrEnds : StreamAt → StreamAt → List ℕ → List ℕ → Bool → Type 0
 ComesOrEnds before after held new true = ComesIn before after held new
 ComesOrEnds before after held new false = ComesIn before after held new × (new ≡ held) × IsDrained after.bytes
+
+-- nothing was read: memory was wanting, or the input failed
+abbrev pub ReadsNone : StreamAt → StreamAt → LinkFault → Type 0
+ReadsNone before after link.NoMemory = after ≡ before
+ReadsNone before after link.Failed = (after.bytes ≡ before.bytes) × Rose before.faults after.faults
+ReadsNone before after (link.Refused cause) = ⊥
+ReadsNone before after (link.BadReply at) = ⊥
 
 -- the bytes that are held are no line; or the input failed; or memory was wanting
 abbrev pub GivesNone : StreamAt → StreamAt → List ℕ → Gated → Type 0

@@ -1,11 +1,12 @@
 pub mod Links
+pub mod Sent
 pub mod Lookups
 pub mod Asks
 pub mod GateText
-pub mod Sent
 pub mod Gate
 pub mod Replying
 pub mod Exchanges
 pub mod LinesRead
 pub mod Serving
 pub mod Held
+pub mod SocketLink

@@ -9,6 +9,7 @@ use Rattle.nsc_model.specs.Reads.{FaultsStay}
 use Rattle.nsc_model.specs.Stores.{Continues, FoundLastCycle, GivesAnswer, GivesUp, IsOfFiles, reply_of}
 use Rattle.nsc_client.specs.declared.link.LinkFault.{LinkFault}
 use Rattle.nsc_client.specs.declared.link.LinkFault.TheVariants.{NoMemory, Failed, Refused, BadReply}
+use Rattle.nsc_client.specs.Sent.{SpellsReply}
 
 -- what each lookup leaves of its caller's pass: it is one of the store, has seen what it had seen, and searched as often or more often
 pub record LeavesPass {S P : Type 0} (g : store.Ghosts S P) (base : S) (before after : P) : Type 0 where
@@ -16,11 +17,12 @@ pub record LeavesPass {S P : Type 0} (g : store.Ghosts S P) (base : S) (before a
   pub seen : Continues (g.seen before) (g.seen after)
   pub searches : g.searches before ≤ g.searches after
 
--- a lookup gave these bytes
+-- a lookup gave these bytes, which spell a reply of the kind that was asked for
 pub record GivesBytes {S P : Type 0} (g : store.Ghosts S P) (base : S) (before after : P) (request : Request) (now : ℕ) (bytes : List ℕ) : Type 0 where
   pub left : LeavesPass g base before after
   pub gave : Given
   pub said : reply_of gave ≡ bytes
+  pub spelled : SpellsReply request.kind bytes
   pub answer : GivesAnswer (g.settings base) now (g.seen before) (g.seen after) (FoundLastCycle (g.searches before) (g.searches after) (g.last after)) request gave
   pub files : IsOfFiles (g.db base) (g.reads before) (g.reads after) (g.latest after) (g.held base) request gave
   pub no_fault : FaultsStay (g.faults before) (g.faults after) (g.file_faults before) (g.file_faults after)

@@ -1,7 +1,7 @@
-ghost use Rattle.std.specs.Prelude.{◌≡◌, ◌≤◌, ◌<◌, ◌^◌, length};
+ghost use Rattle.std.specs.Prelude.{◌≡◌, ◌≤◌, ◌<◌, ◌^◌, length, IfOk};
 ghost use Rattle.nsc_model.specs.Entry.{key_limit, kept_limit};
 ghost use Rattle.nsc_model.specs.Kinds.{database_of};
-ghost use Rattle.nsc_client.specs.Asks.{IsAsked, TakesPassesOf, caller_at};
+ghost use Rattle.nsc_client.specs.Asks.{IsAsked, SpellsInPlace, TakesPassesOf, caller_at};
 
 use crate::link::{Link, LinkFault};
 use nsc_base::{Buf, Bytes};
@@ -51,6 +51,7 @@ pub fn ask<S: Store, L: Link<S::Pass>, R: Wait>(
     ensures link { TakesPassesOf S.Store L.Link store.now link.new }
     ensures limit { out.new.limit ≡ out.old.limit }
     ensures asked { IsAsked S.Store L.Link store.now (caller_at pass.old link.old) (caller_at pass.new link.new) (record { kind = kind; key = key.now }) now out.new.content result }
+    ensures spelled { IfOk result (SpellsInPlace kind out.new.content) }
 {
     let after = store.in_place(pass, kind, key, out);
     if let InPlace::Hit {

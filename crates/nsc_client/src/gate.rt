@@ -8,15 +8,13 @@ ghost use Rattle.nsc_client.specs.Serving.{AnswersAll, AnswersEnded, IsStopped, 
 
 use crate::line::cut_at;
 use crate::link::LinkFault;
+use crate::reading::read_part;
 use crate::serving::serve_line;
 use nsc_base::Buf;
 use nsc_model::{Databases, LINE_LIMIT, Store, next_count};
 use nsc_outside::{Sink, Source};
 use std::alloc::Global;
 use std::sync::Wait;
-
-// How many bytes are read at once, at most.
-const PART: usize = 2048;
 
 // A line is longer than that.
 const TOO_LONG: Gated = Gated::TooLongLine { length: 1101 };
@@ -173,16 +171,10 @@ fn read_more<R: Source>(conn_in: &mut R, held: &mut Vec<u8>) -> Result<bool, Gat
     if held.len() > LINE_LIMIT {
         return Err(TOO_LONG);
     }
-    let mut part = [0; PART];
-    if held.try_reserve(PART).is_err() {
-        return Err(Gated::Refused(LinkFault::NoMemory));
-    }
-    match conn_in.read(&mut part) {
-        Ok(count) => {
-            held.extend_from_slice(&part[..count]).unwrap();
-            Ok(count > 0)
-        }
-        Err(_) => Err(Gated::ReadFault),
+    match read_part(conn_in, held) {
+        Ok(more) => Ok(more),
+        Err(LinkFault::Failed) => Err(Gated::ReadFault),
+        Err(fault) => Err(Gated::Refused(fault)),
     }
 }
 

@@ -3,15 +3,19 @@
 
 mod answers;
 mod asking;
+mod exchange;
 mod gate;
 mod line;
 mod link;
+mod reading;
 mod replies;
 mod serving;
+mod socket_link;
 mod store_link;
 mod texts;
 
 pub use asking::{Asked, ask};
 pub use gate::{Gated, serve_gate};
 pub use link::{Link, LinkFault};
+pub use socket_link::SocketLink;
 pub use store_link::StoreLink;

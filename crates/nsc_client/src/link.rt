@@ -8,6 +8,7 @@ ghost use Rattle.nsc_client.specs.Links.{FailsBy};
 
 use nsc_base::Bytes;
 use nsc_model::{Kind, LookupFault};
+use nsc_wire::ReplyFault;
 use std::alloc::Global;
 use std::sync::Wait;
 use thiserror::Error;
@@ -44,6 +45,20 @@ impl From<LookupFault> for LinkFault {
             LookupFault::Spent { .. }
             | LookupFault::SourceFault { .. }
             | LookupFault::TooLong { .. } => LinkFault::Refused(fault),
+        }
+    }
+}
+
+impl From<ReplyFault> for LinkFault {
+    ghost use Rattle.std.specs.Prelude.{◌≡◌};
+    ghost use Rattle.nsc_client.specs.Links.{fault_read};
+
+    ghost from_gives = { λ fault made. made ≡ fault_read fault };
+
+    fn from(fault: ReplyFault) -> LinkFault {
+        match fault {
+            ReplyFault::NoMemory => LinkFault::NoMemory,
+            ReplyFault::BadReply { at } => LinkFault::BadReply { at },
         }
     }
 }

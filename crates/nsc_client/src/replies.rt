@@ -7,6 +7,7 @@ ghost use Rattle.nsc_client.specs.declared.link.LinkFault.TheVariants.{NoMemory 
 ghost use Rattle.nsc_model.specs.Databases.{database_in};
 ghost use Rattle.nsc_client.specs.Gate.{AreNamed, ArePasses, IsRefusal, SeeMore};
 ghost use Rattle.nsc_client.specs.Replying.{IsGiven, IsRefusedAt, IsReplied};
+ghost use Rattle.nsc_client.specs.Sent.{SpellsReply};
 
 use crate::asking::{Asked, ask};
 use crate::link::LinkFault;
@@ -87,11 +88,11 @@ pub(crate) fn store_reply<R: Wait, S: Store>(
     }
 }
 
-// The reply that these bytes spell. What answers a request spells a reply, of at most 2^30 bytes, wherever its files are within their
-// limit; bytes that spell none are more than there is memory for.
+// The reply that these bytes spell. Fails only for want of memory.
 fn read_back(alloc: Global, kind: Kind, bytes: &[u8]) -> Result<Reply, LinkFault>
+    requires { SpellsReply kind bytes.now }
     ensures spelled { IfOk result (λ reply. Spells kind reply bytes.now) }
     ensures fault { IfErr result (λ fault. fault ≡ Memory) }
 {
-    decode_reply(alloc, kind, bytes).map_err(|_| LinkFault::NoMemory)
+    Ok(decode_reply(alloc, kind, bytes)?)
 }

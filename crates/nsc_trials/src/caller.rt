@@ -5,6 +5,7 @@ ghost use Rattle.nsc_model.specs.Kinds.{database_of};
 
 use crate::asked::Asked;
 use nsc_base::{Buf, NoMemory};
+use nsc_client::{LinkFault, StoreLink, ask};
 use nsc_model::{CacheFault, Given, InPlace, Kind, LookupFault, Stats, Store};
 use std::alloc::Global;
 use std::marker::Model;
@@ -79,6 +80,32 @@ impl<'r, 's, S: Store, R: Wait> Caller<'r, 's, S, R> {
         ensures limit { out.new.limit ≡ out.old.limit }
     {
         self.store.in_place(&mut self.pass, kind, key, out)
+    }
+
+    /// Asks for a user as a client does: beside whoever writes, and by a lookup at moment 0 where that finds nothing.
+    pub fn ask(
+        &mut self,
+        kind: Kind,
+        key: &[u8],
+        out: &mut Buf,
+    ) -> Result<nsc_client::Asked, LinkFault>
+        requires kind { database_of kind ≡ db.Passwd }
+        requires key { length key.now ≤ key_limit }
+        requires limit { out.old.limit ≡ kept_limit }
+        ensures limit { out.new.limit ≡ out.old.limit }
+    {
+        let mut link = StoreLink { store: self.store };
+        ask(
+            self.rt,
+            self.alloc,
+            &mut self.pass,
+            self.store,
+            &mut link,
+            out,
+            kind,
+            key,
+            0,
+        )
     }
 
     /// A tick at this moment, in seconds.

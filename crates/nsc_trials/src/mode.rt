@@ -18,8 +18,10 @@ impl Mode {
         let Some(word) = words.first() else {
             return Some(Mode::Trials);
         };
-        if word.as_str() == "reads" {
-            return Some(Mode::Reads(reads_of(words)?));
+        match word.as_str() {
+            "reads" => return Some(Mode::Reads(reads_of(words, false)?)),
+            "asks" => return Some(Mode::Reads(reads_of(words, true)?)),
+            _ => {}
         }
         Some(Mode::Load(load_of(word.as_str(), words)?))
     }
@@ -59,7 +61,7 @@ fn load_of(name: &str, words: &[String]) -> Option<Load> {
 }
 
 // The searches that the words ask for.
-fn reads_of(words: &[String]) -> Option<Reads> {
+fn reads_of(words: &[String], by_client: bool) -> Option<Reads> {
     if words.len() > 5 {
         return None;
     }
@@ -72,6 +74,7 @@ fn reads_of(words: &[String]) -> Option<Reads> {
         entries: number(words.get(2)?)?,
         count: number(words.get(3)?)?,
         rate,
+        by_client,
     })
 }
 

@@ -6,6 +6,7 @@ ghost use Rattle.nsc_model.specs.Sizes.{SizeFits};
 use crate::caller::Caller;
 use crate::loads::{Load, name_of};
 use nsc_base::{Buf, NoMemory};
+use nsc_client::Asked;
 use nsc_model::{Conf, Given, InPlace, KEPT_LIMIT, Kind, Store};
 use std::alloc::Global;
 use std::sync::Wait;
@@ -45,6 +46,8 @@ pub struct Reads {
     pub count: u32,
     /// How many entries a second one more thread makes meanwhile, which ends them and compacts once a second; none where this is 0.
     pub rate: u32,
+    /// Whether they are a client's, each with a link to the database behind it.
+    pub by_client: bool,
 }
 
 /// What they took.
@@ -210,7 +213,11 @@ impl Reads {
         let count = self.count / self.threads.max(1);
         for turn in 0..count {
             let name = name_of(turn % self.entries.max(1));
-            let is_right = is_read(caller, &name, out, took);
+            let is_right = if self.by_client {
+                is_asked(caller, &name, out, took)
+            } else {
+                is_read(caller, &name, out, took)
+            };
             took.is_right = is_right && took.is_right;
         }
     }
@@ -294,6 +301,30 @@ fn is_read<S: Store, R: Wait>(
             took.moved = took.moved.saturating_add(1);
             is_hit(caller, name)
         }
+    }
+}
+
+// Asks for a user as a client, in place first. Whether there was an entry.
+fn is_asked<S: Store, R: Wait>(
+    caller: &mut Caller<'_, '_, S, R>,
+    name: &[u8; 11],
+    out: &mut Buf,
+    took: &mut Took,
+) -> bool
+    requires { out.old.limit ≡ kept_limit }
+    ensures { out.new.limit ≡ out.old.limit }
+{
+    match caller.ask(Kind::PwName, name, out) {
+        Ok(Asked::InPlace { .. }) => out.bytes().len() == ABSENT,
+        Ok(Asked::Linked { after, bytes }) => {
+            match after {
+                InPlace::Odd { .. } => took.odd = took.odd.saturating_add(1),
+                InPlace::Moved { .. } => took.moved = took.moved.saturating_add(1),
+                InPlace::Hit { .. } | InPlace::NoEntry => return false,
+            }
+            bytes.len() == ABSENT
+        }
+        Err(_) => false,
     }
 }
 

@@ -1,0 +1,69 @@
+-- A request that is sent is read as what it asks.
+use Rattle.std.proofs.Common.{◌≡◌, ◌∙◌, ℕ, ◌+◌, ◌≤◌, ◌==◌, ◌++◌, nat_lt, if◌then◌else◌, ℤ, true, false, List, length, take, Some, refl, ap, arith}
+use Rattle.std.proofs.lemmas.Bool.{le-ltb}
+use Rattle.std.proofs.lemmas.List.{take_all}
+use Rattle.byteorder.specs.Numbers.{little_number-reads_back}
+use Rattle.nsc_model.specs.declared.kind.Kind.{Kind}
+use Rattle.nsc_model.specs.declared.kind.Kind.TheVariants as kind
+use Rattle.nsc_model.specs.Entry.{key_limit}
+use Rattle.nsc_model.specs.Kinds.{kind_numbered, type_number}
+use Rattle.nsc_model.specs.Wire.{Asked, Look, Short, BadVersion, BadType, BadLength, asked_look, field, field_in, request_of, signed_field_in, stored_key}
+use Rattle.nsc_client.specs.SocketLink.{request_for}
+
+numbered : (by : Kind) → kind_numbered (type_number by) ≡ Some by
+numbered kind.PwName = refl
+numbered kind.PwUid = refl
+numbered kind.GrName = refl
+numbered kind.GrGid = refl
+numbered kind.HostName = refl
+numbered kind.HostName6 = refl
+numbered kind.HostAddr = refl
+numbered kind.HostAddr6 = refl
+numbered kind.Ai = refl
+numbered kind.InitGroups = refl
+numbered kind.ServName = refl
+numbered kind.ServPort = refl
+
+type_low : (by : Kind) → type_number by ≤ 17
+type_low kind.PwName = omega arith
+type_low kind.PwUid = omega arith
+type_low kind.GrName = omega arith
+type_low kind.GrGid = omega arith
+type_low kind.HostName = omega arith
+type_low kind.HostName6 = omega arith
+type_low kind.HostAddr = omega arith
+type_low kind.HostAddr6 = omega arith
+type_low kind.Ai = omega arith
+type_low kind.InitGroups = omega arith
+type_low kind.ServName = omega arith
+type_low kind.ServPort = omega arith
+
+-- what is read of fields and of what stands after them
+abbrev read_of : (count version type size : ℕ) (v t s : ℤ) (rest : List ℕ) → Asked
+read_of count version type size v t s rest =
+    if nat_lt count 12 then Short count else (
+    if version == 2 then (
+    if nat_lt 21 type then BadType t else (
+    if nat_lt key_limit size then BadLength s else (
+    if nat_lt count (12 + size) then Short count else
+    asked_look (kind_numbered type) type (take size rest))))
+    else BadVersion v)
+
+read_as : (count version type size : ℕ) (v t s : ℤ) (rest key : List ℕ) (by : Kind) → count ≡ 12 + length key → version ≡ 2 → type ≡ type_number by → size ≡ length key → rest ≡ key
+    → length key ≤ key_limit → read_of count version type size v t s rest ≡ Look (record { kind = by; key = stored_key by key })
+read_as count version type size v t s rest key by count_is version_is type_is size_is rest_is fits =
+    let few : nat_lt count 12 ≡ false = le-ltb count 12 (omega arith) in
+    let known : (version == 2) ≡ true = ap (λ (n : ℕ). n == 2) version_is in
+    let low : nat_lt 21 type ≡ false = le-ltb 21 type (omega (arith, type_low by)) in
+    let short : nat_lt key_limit size ≡ false = le-ltb key_limit size (omega arith) in
+    let whole : nat_lt count (12 + size) ≡ false = le-ltb count (12 + size) (omega arith) in
+    let look : kind_numbered type ≡ Some by = ap kind_numbered type_is ∙ numbered by in
+    let all : take size rest ≡ key = ap (λ (l : List ℕ). take size l) rest_is ∙ take_all size key (omega arith) in
+    rw (few, known, low, short, whole, look, all) refl
+
+pub asks : (by : Kind) (key : List ℕ) → length key ≤ key_limit → request_of (request_for by key) ≡ Look (record { kind = by; key = stored_key by key })
+asks by key fits =
+    let bytes = request_for by key in
+    let type : field_in bytes 4 ≡ type_number by = little_number-reads_back 4 (type_number by) (field (length key) ++ key) (let low = type_low by in omega arith) in
+    let size : field_in bytes 8 ≡ length key = little_number-reads_back 4 (length key) key (omega arith) in
+    read_as (length bytes) (field_in bytes 0) (field_in bytes 4) (field_in bytes 8) (signed_field_in bytes 0) (signed_field_in bytes 4) (signed_field_in bytes 8) key key by (omega arith) refl type size refl fits

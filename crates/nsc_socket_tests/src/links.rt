@@ -1,0 +1,89 @@
+use nsc_base::{Bytes, NoMemory};
+use nsc_client::{Link, LinkFault, SocketLink};
+use nsc_model::Kind;
+use nsc_sockets::{CalmListener, Listener, MemListener, Peer, SharedSink};
+use std::alloc::Global;
+use std::sync::Wait;
+use std::test::Fail;
+
+// The reply that has root, and the one on a user who is not there.
+const ROOT: &[u8] =
+    b"\x02\0\0\0\x01\0\0\0\x05\0\0\0\x02\0\0\0\0\0\0\0\0\0\0\0\x05\0\0\0\x06\0\0\0\x0a\0\0\0root\0x\0root\0/root\0/bin/bash\0";
+
+const NOBODY: &[u8] =
+    b"\x02\0\0\0\0\0\0\0\0\0\0\0\0\0\0\0\xff\xff\xff\xff\xff\xff\xff\xff\0\0\0\0\0\0\0\0\0\0\0\0";
+
+// The same reply with one byte less, and with one more.
+const CUT: &[u8] =
+    b"\x02\0\0\0\x01\0\0\0\x05\0\0\0\x02\0\0\0\0\0\0\0\0\0\0\0\x05\0\0\0\x06\0\0\0\x0a\0\0\0root\0x\0root\0/root\0/bin/bash";
+
+const LONGER: &[u8] =
+    b"\x02\0\0\0\x01\0\0\0\x05\0\0\0\x02\0\0\0\0\0\0\0\0\0\0\0\x05\0\0\0\x06\0\0\0\x0a\0\0\0root\0x\0root\0/root\0/bin/bash\0\0";
+
+// The request for root: the version 2, the type 0, four bytes of a key, and these.
+const REQUEST: &[u8] = b"\x02\0\0\0\0\0\0\0\x04\0\0\0root";
+
+// What peers send, and what is answered then to a lookup of a kind.
+const PEERS: [(&[u8], Kind, Result<&[u8], LinkFault>); 5] = [
+    (ROOT, Kind::PwName, Ok(ROOT)),
+    (CUT, Kind::PwName, Err(LinkFault::BadReply { at: 63 })),
+    (LONGER, Kind::PwName, Err(LinkFault::BadReply { at: 64 })),
+    (NOBODY, Kind::PwName, Ok(NOBODY)),
+    (ROOT, Kind::GrName, Err(LinkFault::BadReply { at: 24 })),
+];
+
+// Whether a call over a link is answered so.
+fn answers<R: Wait, N: Listener>(
+    rt: &R,
+    alloc: Global,
+    link: &mut SocketLink<'_, N>,
+    kind: Kind,
+    want: Result<&[u8], LinkFault>,
+) -> bool {
+    match link.call(rt, alloc, &mut (), kind, b"root", 0) {
+        Ok(bytes) => want == Ok(bytes.as_slice()),
+        Err(fault) => want == Err(fault),
+    }
+}
+
+fn peers(alloc: Global) -> Result<Vec<Bytes>, NoMemory> {
+    let mut peers = Vec::new(alloc);
+    for (sent, _, _) in &PEERS {
+        peers.push(Bytes::copy(alloc, sent)?)?;
+    }
+    Ok(peers)
+}
+
+// Each peer is reached once, and after the last one nobody is.
+#[test]
+fn replies_over_a_socket(rt: HostRuntime) -> Result<(), Fail> {
+    let alloc = rt.alloc();
+    let mut link = SocketLink::new(CalmListener::new(peers(alloc)?), "/run/s");
+    for (_, kind, want) in &PEERS {
+        assert!(rt; answers(&rt, alloc, &mut link, *kind, *want), "{want:?}");
+    }
+    assert_eq!(rt; link.faults(), 0);
+    assert!(rt; answers(&rt, alloc, &mut link, Kind::PwName, Err(LinkFault::Failed)));
+    assert_eq!(rt; (link.faults(), link.listener().faults()), (1, 1));
+    Ok(())
+}
+
+// A peer is sent the request; one that takes no more than four bytes is not asked.
+#[test]
+fn requests_over_a_socket(rt: HostRuntime) -> Result<(), Fail> {
+    let alloc = rt.alloc();
+    let output = SharedSink::new(alloc, 16)?;
+    let sent = output.reader()?;
+    let input = Bytes::copy(alloc, ROOT)?;
+    let narrow = Peer {
+        input: Bytes::copy(alloc, ROOT)?,
+        output: SharedSink::new(alloc, 4)?,
+    };
+    let peers = vec![in alloc; Peer { input, output }, narrow]?;
+    let mut link = SocketLink::new(MemListener::new(alloc, Vec::new(alloc), peers)?, "/run/s");
+    assert!(rt; answers(&rt, alloc, &mut link, Kind::PwName, Ok(ROOT)));
+    assert_eq!(rt; sent.bytes(alloc)?.as_slice(), REQUEST);
+    assert!(rt; answers(&rt, alloc, &mut link, Kind::PwName, Err(LinkFault::Failed)));
+    assert_eq!(rt; (link.faults(), link.listener().faults()), (1, 0));
+    Ok(())
+}
