@@ -23,14 +23,19 @@ const LONGER: &[u8] =
 // The request for root: the version 2, the type 0, four bytes of a key, and these.
 const REQUEST: &[u8] = b"\x02\0\0\0\0\0\0\0\x04\0\0\0root";
 
-// What peers send, and what is answered then to a lookup of a kind.
-const PEERS: [(&[u8], Kind, Result<&[u8], LinkFault>); 5] = [
-    (ROOT, Kind::PwName, Ok(ROOT)),
-    (CUT, Kind::PwName, Err(LinkFault::BadReply { at: 63 })),
-    (LONGER, Kind::PwName, Err(LinkFault::BadReply { at: 64 })),
-    (NOBODY, Kind::PwName, Ok(NOBODY)),
-    (ROOT, Kind::GrName, Err(LinkFault::BadReply { at: 24 })),
-];
+// How many peers there are.
+const PEERS: usize = 5;
+
+// What a peer sends, and what is answered then to a lookup of a kind.
+fn peer(number: usize) -> (&'static [u8], Kind, Result<&'static [u8], LinkFault>) {
+    match number {
+        0 => (ROOT, Kind::PwName, Ok(ROOT)),
+        1 => (CUT, Kind::PwName, Err(LinkFault::BadReply { at: 63 })),
+        2 => (LONGER, Kind::PwName, Err(LinkFault::BadReply { at: 64 })),
+        3 => (NOBODY, Kind::PwName, Ok(NOBODY)),
+        _ => (ROOT, Kind::GrName, Err(LinkFault::BadReply { at: 24 })),
+    }
+}
 
 // Whether a call over a link is answered so.
 fn answers<R: Wait, N: Listener>(
@@ -48,8 +53,8 @@ fn answers<R: Wait, N: Listener>(
 
 fn peers(alloc: Global) -> Result<Vec<Bytes>, NoMemory> {
     let mut peers = Vec::new(alloc);
-    for (sent, _, _) in &PEERS {
-        peers.push(Bytes::copy(alloc, sent)?)?;
+    for number in 0..PEERS {
+        peers.push(Bytes::copy(alloc, peer(number).0)?)?;
     }
     Ok(peers)
 }
@@ -59,8 +64,9 @@ fn peers(alloc: Global) -> Result<Vec<Bytes>, NoMemory> {
 fn replies_over_a_socket(rt: HostRuntime) -> Result<(), Fail> {
     let alloc = rt.alloc();
     let mut link = SocketLink::new(CalmListener::new(peers(alloc)?), "/run/s");
-    for (_, kind, want) in &PEERS {
-        assert!(rt; answers(&rt, alloc, &mut link, *kind, *want), "{want:?}");
+    for number in 0..PEERS {
+        let (_, kind, want) = peer(number);
+        assert!(rt; answers(&rt, alloc, &mut link, kind, want), "{want:?}");
     }
     assert_eq!(rt; link.faults(), 0);
     assert!(rt; answers(&rt, alloc, &mut link, Kind::PwName, Err(LinkFault::Failed)));

@@ -24,8 +24,8 @@ const CUT: &[u8] = b"passwd root\nhosts ::1";
 
 const FIRST: &[u8] = b"root:x:0:0:root:/root:/bin/bash\n";
 
-// A line of one letter more than a line may have.
-const LONG: [u8; 1101] = [b'a'; 1101];
+// How many letters a line has, which is one more than it may have.
+const LONG: usize = 1101;
 
 // How many bytes a connection takes.
 const ROOM: usize = 4096;
@@ -40,20 +40,13 @@ struct Connection {
     sent: &'static [u8],
 }
 
-const CONNECTIONS: [Connection; 7] = [
+const CONNECTIONS: [Connection; 6] = [
     Connection {
         lines: LINES,
         read: 0,
         write: 0,
         gated: Gated::Done { lines: 5 },
         sent: ANSWERS,
-    },
-    Connection {
-        lines: &LONG,
-        read: 0,
-        write: 0,
-        gated: Gated::TooLongLine { length: 1101 },
-        sent: b"",
     },
     Connection {
         lines: LINES,
@@ -108,13 +101,16 @@ pub fn connections<R: AllocGlobal + Wait, S: Store>(
             return Ok(Outcome::Wrong(place + 1));
         }
     }
+    if !refuses_long(rt, stores, passes, &mut out)? {
+        return Ok(Outcome::Wrong(CONNECTIONS.len() + 1));
+    }
     let store = &stores.passwd;
     let pass = &mut passes.passwd;
     if !finds_root(rt, rt.alloc(), store, pass, &mut out) {
-        return Ok(Outcome::Wrong(CONNECTIONS.len() + 1));
+        return Ok(Outcome::Wrong(CONNECTIONS.len() + 2));
     }
     if !looks_up(rt, rt.alloc(), store, pass, &mut out) {
-        return Ok(Outcome::Wrong(CONNECTIONS.len() + 2));
+        return Ok(Outcome::Wrong(CONNECTIONS.len() + 3));
     }
     Ok(Outcome::Right)
 }
@@ -137,6 +133,32 @@ fn comes<R: AllocGlobal + Wait, S: Store>(
     let mut output = output(rt.alloc(), connection)?;
     let gated = serve_gate(rt, stores, passes, out, &mut input, &mut output, 0);
     Ok(gated == connection.gated && output.taken() == connection.sent)
+}
+
+// Whether a line that is too long is refused, and nothing written for it.
+fn refuses_long<R: AllocGlobal + Wait, S: Store>(
+    rt: &R,
+    stores: &Databases<S>,
+    passes: &mut Databases<S::Pass>,
+    out: &mut Buf,
+) -> Result<bool, NoMemory>
+    requires named { AreNamed S.Store stores.now }
+    requires passes { ArePasses S.Store stores.now passes.old }
+    requires limit { out.old.limit ≡ kept_limit }
+    ensures passes { ArePasses S.Store stores.now passes.new }
+    ensures limit { out.new.limit ≡ kept_limit }
+{
+    let alloc = rt.alloc();
+    let mut input = MemSource::new(vec![in alloc; b'a'; LONG]?);
+    let mut output = MemSink::new(alloc, ROOM)?;
+    let gated = serve_gate(rt, stores, passes, out, &mut input, &mut output, 0);
+    Ok(
+        gated
+            == Gated::TooLongLine {
+                length: LONG as u64,
+            }
+            && output.taken().is_empty(),
+    )
 }
 
 // What a connection sends.

@@ -2,3 +2,4 @@ mod Joined
 mod Marks
 mod Told
 pub mod Crossing
+pub mod Counted

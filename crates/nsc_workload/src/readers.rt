@@ -1,6 +1,7 @@
 // Readers that ask as the gate does: in place first, and by a lookup where that finds nothing.
-ghost use Rattle.std.specs.Prelude.{◌≡◌, ◌<◌};
+ghost use Rattle.std.specs.Prelude.{◌≡◌, ◌<◌, IfOk, length};
 ghost use Rattle.nsc_model.specs.Entry.{kept_limit};
+ghost use Rattle.nsc_workload.specs.Runs.{asked_count};
 ghost use Rattle.nsc_workload.specs.Workload.{request_count};
 
 use crate::asked::request;
@@ -21,7 +22,9 @@ const ROOM: usize = 65_536;
 
 impl<C: OfContent, B: Room> Assignment<'_, C, B> {
     /// What a reader is answered to the first 64 requests in order, by a pass of its own. Fails only for want of memory.
-    pub(crate) fn answers<R: Wait>(&self, rt: &R, alloc: Global) -> Result<Texts, NoMemory> {
+    pub(crate) fn answers<R: Wait>(&self, rt: &R, alloc: Global) -> Result<Texts, NoMemory>
+        ensures { IfOk result (λ answers. length answers ≡ asked_count) }
+    {
         let mut pass = self.database.attach(rt, alloc)?;
         let mut found = Buf::new(alloc, ROOM)?;
         let mut answers = Vec::new(alloc);

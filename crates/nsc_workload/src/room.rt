@@ -1,7 +1,8 @@
 ghost use Rattle.std.specs.Prelude.{◌≡◌, ◌≤◌, ◌<◌, IfOk, Some};
 ghost use Rattle.nsc_model.specs.declared.kind.Db.TheVariants as db;
 ghost use Rattle.nsc_model.specs.Settings.{settings_of};
-ghost use Rattle.nsc_workload.specs.Workload.{files_of, workload_of};
+ghost use Rattle.nsc_workload.specs.Runs.{CountsDiffering, replies_from};
+ghost use Rattle.nsc_workload.specs.Workload.{files_of, request_count, workload_of};
 
 use crate::assignment::Assignment;
 use crate::fixed_files::{FixedFiles, OfContent};
@@ -29,7 +30,8 @@ pub(crate) fn lines_over<C: OfContent + Send, R: Threads + Wait + Sync>(
     requires workers { (0 < workers) × (workers ≤ 64) }
     requires content { content ≡ C.files }
     requires files { C.files ≡ files_of number }
-    ensures { IfOk result (λ outcome. outcome.text.items ≡ workload_of number) }
+    ensures text { IfOk result (λ outcome. outcome.text.items ≡ workload_of number) }
+    ensures differing { IfOk result (λ outcome. CountsDiffering (replies_from number 0 (request_count number)) outcome.differing) }
 {
     let conf = conf();
     let mut files: FixedFiles<C> = FixedFiles::new(alloc, content)?;
@@ -65,7 +67,8 @@ fn lines_in<B: Room + Send, C: OfContent + Send, R: Threads + Wait + Sync>(
     requires settings { (opened.settings ≡ settings_of conf.now opened.db) × (opened.reloads ≡ conf.now.reloads) }
     requires users { opened.db ≡ db.Passwd }
     requires held { B.held ≡ Some C.files }
-    ensures { IfOk result (λ outcome. outcome.text.items ≡ workload_of number) }
+    ensures text { IfOk result (λ outcome. outcome.text.items ≡ workload_of number) }
+    ensures differing { IfOk result (λ outcome. CountsDiffering (replies_from number 0 (request_count number)) outcome.differing) }
 {
     let (database, _) = opened.enter::<B>();
     let assignment = Assignment {

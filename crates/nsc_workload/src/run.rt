@@ -1,8 +1,8 @@
 ghost use Rattle.std.specs.Prelude.{◌≡◌, ◌≤◌, ◌<◌, IfOk};
 ghost use Rattle.nsc_outside.specs.StreamAt.{stream_out};
 ghost use Rattle.nsc_model.specs.Exits.{IsExitOf, Working};
-ghost use Rattle.nsc_workload.specs.Runs.{PutsText};
-ghost use Rattle.nsc_workload.specs.Workload.{workload_of};
+ghost use Rattle.nsc_workload.specs.Runs.{CountsDiffering, PutsText, TellsDiffering, replies_from};
+ghost use Rattle.nsc_workload.specs.Workload.{request_count, workload_of};
 
 use crate::outcome::Outcome;
 use crate::room::lines_over;
@@ -27,7 +27,7 @@ pub struct Worked {
 /// Runs the workload of a number, 1 to 1,000, by 1 to 64 workers, and writes how many requests were found, how many were not,
 /// and the SHA-256 of all replies in the order of the requests. The workers look the requests up in one database in threads,
 /// and another thread ticks meanwhile; what is written is the same however many there are. Two more threads ask the first 64 requests in
-/// place first, as the gate does, and what they are answered is compared with the replies. At `WriteFault` the output took a front of the
+/// place first, as the gate does, and their answers that differ from the reply to the same request are counted. At `WriteFault` the output took a front of the
 /// lines, and at `NoMemory` nothing.
 pub fn workload<RT: AllocGlobal + Threads + Wait + Sync, K: Sink>(
     rt: &RT,
@@ -39,7 +39,7 @@ pub fn workload<RT: AllocGlobal + Threads + Wait + Sync, K: Sink>(
     requires workers { (0 < workers) × (workers ≤ 64) }
     ensures exits { IsExitOf Working result.exit }
     ensures written { PutsText result.exit (workload_of number) (stream_out K.Sink output.old) (stream_out K.Sink output.new) }
-    ensures none { result.exit ≡ Exit.NoMemory → result.differing ≡ 0 }
+    ensures differing { TellsDiffering result.exit (replies_from number 0 (request_count number)) result.differing }
 {
     match lines(rt, rt.alloc(), number, workers) {
         Err(_) => Worked {
@@ -74,7 +74,8 @@ fn lines<R: Threads + Wait + Sync>(
 ) -> Result<Outcome, NoMemory>
     requires number { (0 < number) × (number ≤ 1000) }
     requires workers { (0 < workers) × (workers ≤ 64) }
-    ensures { IfOk result (λ outcome. outcome.text.items ≡ workload_of number) }
+    ensures text { IfOk result (λ outcome. outcome.text.items ≡ workload_of number) }
+    ensures differing { IfOk result (λ outcome. CountsDiffering (replies_from number 0 (request_count number)) outcome.differing) }
 {
     let content = content(alloc, number)?;
     lines_over::<Brand, R>(rt, alloc, content, number, workers)

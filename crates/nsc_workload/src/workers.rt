@@ -1,5 +1,5 @@
-ghost use Rattle.std.specs.Prelude.{◌≡◌, ◌≤◌, ◌<◌, ◌++◌, IfOk, OnOk, length, vec_len};
-ghost use Rattle.nsc_workload.specs.Runs.{AreShares, IsShare, replies_from};
+ghost use Rattle.std.specs.Prelude.{◌≡◌, ◌≤◌, ◌<◌, ◌++◌, All, IfOk, OnOk, Some, length, map, sum_by, vec_len};
+ghost use Rattle.nsc_workload.specs.Runs.{AreRead, AreShares, CountsDiffering, IsRead, IsShare, asked_count, differing_of, reader_count, replies_from};
 ghost use Rattle.nsc_workload.specs.Workload.{request_count};
 
 use nsc_base::{Bytes, NoMemory, Texts};
@@ -29,7 +29,8 @@ pub(crate) trait Work {
         ensures { IsShare (number self.now) (workers self.now) worker result };
 
     /// What a reader is answered to the first requests, in order; `None` where memory was wanting.
-    fn read<R: Wait>(&self, rt: &R, alloc: Global) -> Option<Texts>;
+    fn read<R: Wait>(&self, rt: &R, alloc: Global) -> Option<Texts>
+        ensures { IsRead result };
 
     /// Ticks. Fails only for want of memory.
     fn tick<R: Wait>(&self, rt: &R, alloc: Global) -> Result<(), NoMemory>;
@@ -51,7 +52,8 @@ pub(crate) fn all_replies<W: Work + Sync, R: Threads + Wait + Sync>(
     alloc: Global,
     work: &W,
 ) -> Result<Replies, NoMemory>
-    ensures { IfOk result (λ replies. replies.all.items ≡ replies_from (W.number work.now) 0 (request_count (W.number work.now))) }
+    ensures all { IfOk result (λ replies. replies.all.items ≡ replies_from (W.number work.now) 0 (request_count (W.number work.now))) }
+    ensures differing { IfOk result (λ replies. CountsDiffering replies.all.items replies.differing) }
 {
     let (shares, (ticked, answers)) = thread::join(
         rt,
@@ -62,49 +64,82 @@ pub(crate) fn all_replies<W: Work + Sync, R: Threads + Wait + Sync>(
     let shares = shares?;
     let answers = answers?;
     let all = gathered(alloc, work, shares.as_slice())?;
-    let differing = all_differing(all.as_slice(), answers.as_slice())?;
+    let differing = all_differing(all.as_slice(), answers.as_slice());
     Ok(Replies { all, differing })
 }
 
 // How many threads read.
 const READERS: usize = 2;
 
-// What each reader is answered.
+// What each reader is answered. Fails only for want of memory.
 fn answers<W: Work + Sync, R: Threads + Wait + Sync>(
     rt: &R,
     alloc: Global,
     work: &W,
-) -> Result<Vec<Option<Texts>>, NoMemory> {
-    let answers = thread::map_indices(
+) -> Result<Vec<Texts>, NoMemory>
+    ensures len { IfOk result (λ answers. vec_len answers ≡ reader_count) }
+    ensures each { IfOk result (λ answers. All (λ a. length a ≡ asked_count) answers.items) }
+{
+    let given = read_by_each(rt, alloc, work)?;
+    all_given(alloc, given)
+}
+
+// What each reader is answered, where it is.
+fn read_by_each<W: Work + Sync, R: Threads + Wait + Sync>(
+    rt: &R,
+    alloc: Global,
+    work: &W,
+) -> Result<Vec<Option<Texts>>, NoMemory>
+    ensures len { IfOk result (λ given. vec_len given ≡ reader_count) }
+    ensures each { IfOk result (λ given. AreRead given.items) }
+{
+    let given = thread::map_indices(
         rt,
         alloc,
         READERS,
-        &|_reader: usize| { work.read(rt, alloc) },
+        &|_reader: usize|
+            ensures { IsRead result }
+        { work.read(rt, alloc) },
     )?;
-    Ok(answers)
+    Ok(given)
 }
 
-// How many answers of all readers differ from the reply to the same request.
-fn all_differing(replies: &[Bytes], answers: &[Option<Texts>]) -> Result<u64, NoMemory> {
-    let mut count: u64 = 0;
-    for texts in answers {
+// All of these, where none is wanting.
+fn all_given(alloc: Global, given: Vec<Option<Texts>>) -> Result<Vec<Texts>, NoMemory>
+    ensures { IfOk result (λ all. map Some all.items ≡ given.items) }
+{
+    let mut all = Vec::new(alloc);
+    for texts in given {
         match texts {
-            Some(texts) => count = count.saturating_add(differing(replies, texts.as_slice())),
+            Some(texts) => all.push(texts)?,
             None => return Err(NoMemory),
         }
     }
-    Ok(count)
+    Ok(all)
 }
 
-// How many answers of a reader differ.
-fn differing(replies: &[Bytes], answers: &[Bytes]) -> u64 {
+// How many answers of all readers differ from the reply to the same request.
+fn all_differing(replies: &[Bytes], answers: &[Texts]) -> u64
+    requires readers { length answers.now ≡ reader_count }
+    requires asked { All (λ a. length a ≡ asked_count) answers.now }
+    ensures { result ≡ sum_by (λ a. differing_of replies.now a) answers.now }
+{
     let mut count: u64 = 0;
-    for (reply, answer) in replies.iter().zip(answers) {
-        if reply != answer {
-            count = count.saturating_add(1);
-        }
+    for texts in answers {
+        count += differing(replies, texts.as_slice());
     }
     count
+}
+
+// How many answers of a reader differ from the reply to the same request.
+fn differing(replies: &[Bytes], answers: &[Bytes]) -> u64
+    ensures { result ≡ differing_of replies.now answers.now }
+{
+    replies
+        .iter()
+        .zip(answers)
+        .filter(|pair| pair.0 != pair.1)
+        .count() as u64
 }
 
 // What each worker gives, in order.

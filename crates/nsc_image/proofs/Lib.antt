@@ -1,0 +1,11 @@
+mod KindNumbers
+mod Checks
+mod Fields
+mod ReadBack
+mod Walk
+mod ListsBack
+mod HeadBack
+mod Laws
+mod OneFault
+mod Drafts
+mod Saves
