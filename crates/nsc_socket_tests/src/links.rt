@@ -1,7 +1,7 @@
 use nsc_base::{Bytes, NoMemory};
 use nsc_client::{Link, LinkFault, SocketLink};
 use nsc_model::Kind;
-use nsc_sockets::{CalmListener, Listener, MemListener, Peer, SharedSink};
+use nsc_sockets::{CalmListener, Listener};
 use std::alloc::Global;
 use std::sync::Wait;
 use std::test::Fail;
@@ -19,9 +19,6 @@ const CUT: &[u8] =
 
 const LONGER: &[u8] =
     b"\x02\0\0\0\x01\0\0\0\x05\0\0\0\x02\0\0\0\0\0\0\0\0\0\0\0\x05\0\0\0\x06\0\0\0\x0a\0\0\0root\0x\0root\0/root\0/bin/bash\0\0";
-
-// The request for root: the version 2, the type 0, four bytes of a key, and these.
-const REQUEST: &[u8] = b"\x02\0\0\0\0\0\0\0\x04\0\0\0root";
 
 // How many peers there are.
 const PEERS: usize = 5;
@@ -71,25 +68,5 @@ fn replies_over_a_socket(rt: HostRuntime) -> Result<(), Fail> {
     assert_eq!(rt; link.faults(), 0);
     assert!(rt; answers(&rt, alloc, &mut link, Kind::PwName, Err(LinkFault::Failed)));
     assert_eq!(rt; (link.faults(), link.listener().faults()), (1, 1));
-    Ok(())
-}
-
-// A peer is sent the request; one that takes no more than four bytes is not asked.
-#[test]
-fn requests_over_a_socket(rt: HostRuntime) -> Result<(), Fail> {
-    let alloc = rt.alloc();
-    let output = SharedSink::new(alloc, 16)?;
-    let sent = output.reader()?;
-    let input = Bytes::copy(alloc, ROOT)?;
-    let narrow = Peer {
-        input: Bytes::copy(alloc, ROOT)?,
-        output: SharedSink::new(alloc, 4)?,
-    };
-    let peers = vec![in alloc; Peer { input, output }, narrow]?;
-    let mut link = SocketLink::new(MemListener::new(alloc, Vec::new(alloc), peers)?, "/run/s");
-    assert!(rt; answers(&rt, alloc, &mut link, Kind::PwName, Ok(ROOT)));
-    assert_eq!(rt; sent.bytes(alloc)?.as_slice(), REQUEST);
-    assert!(rt; answers(&rt, alloc, &mut link, Kind::PwName, Err(LinkFault::Failed)));
-    assert_eq!(rt; (link.faults(), link.listener().faults()), (1, 0));
     Ok(())
 }
