@@ -27,8 +27,8 @@ pub struct Worked {
 /// Runs the workload of a number, 1 to 1,000, by 1 to 64 workers, and writes how many requests were found, how many were not,
 /// and the SHA-256 of all replies in the order of the requests. The workers look the requests up in one database in threads,
 /// and another thread ticks meanwhile; what is written is the same however many there are. Two more threads ask the first 64 requests in
-/// place first, as the gate does, and their answers that differ from the reply to the same request are counted. At `WriteFault` the output took a front of the
-/// lines, and at `NoMemory` nothing.
+/// place first, as the gate does, and their answers that differ from the reply to the same request are counted. At `WriteFault` the
+/// output took a front of the lines, and at `NoMemory` nothing.
 pub fn workload<RT: AllocGlobal + Threads + Wait + Sync, K: Sink>(
     rt: &RT,
     number: u32,
