@@ -1,8 +1,9 @@
-ghost use Rattle.std.specs.Prelude.{◌≡◌, ◌+◌, ◌≤◌, length};
+ghost use Rattle.std.specs.Prelude.{◌≡◌, ◌+◌, ◌≤◌, Some, length};
+ghost use Rattle.atomic_table.specs.Seated.{TableId};
 ghost use Rattle.nsc_model.specs.Entry.{key_limit, kept_limit};
 ghost use Rattle.nsc_model.specs.History.{IsPrefix, Legal};
 ghost use Rattle.nsc_model.specs.InPlace.{InPlaceClause};
-ghost use Rattle.nsc_reader.specs.Stages.{asked};
+ghost use Rattle.nsc_reader.specs.Stages.{IsOdd, asked};
 
 use crate::walk::Walk;
 use nsc_base::Buf;
@@ -10,7 +11,8 @@ use nsc_model::{InPlace, Kind};
 use nsc_rule::{Map, Pass};
 
 /// Searches for the newest usable entry of this kind and key while the one who writes goes on. It takes the steps of a walk until that
-/// answers, and no lock, no memory and no runtime.
+/// answers, and no lock, no memory and no runtime. It answers `Odd` where the pass has seen that another table goes on in place of these
+/// words.
 pub fn search(pass: &mut Pass, map: &Map, kind: Kind, key: &[u8], out: &mut Buf) -> InPlace
     requires map { map.now.table ≡ pass.old.table }
     requires key { length key.now ≤ key_limit }
@@ -20,8 +22,12 @@ pub fn search(pass: &mut Pass, map: &Map, kind: Kind, key: &[u8], out: &mut Buf)
     ensures before { IsPrefix pass.old.seen pass.new.seen }
     ensures searches { pass.new.searching.searches ≡ pass.old.searching.searches + 1 }
     ensures answer { InPlaceClause pass.old.seen pass.new.seen (asked kind key.now) pass.new.searching.first pass.new.searching.last out.new.content result }
+    ensures left { (newer : TableId) → pass.old.retired ≡ Some newer → IsOdd (Some result) }
 {
     let mut walk = Walk::new(kind);
+    if let Some(answer) = walk.step(pass, map, key, out) {
+        return answer;
+    }
     'walk: loop {
         walk.past_node(pass, map, key, out);
         if let Some(answer) = walk.step(pass, map, key, out) {

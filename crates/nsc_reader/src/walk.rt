@@ -1,6 +1,7 @@
-ghost use Rattle.std.specs.Prelude.{◌≡◌, ◌≤◌, List, ℕ, length};
+ghost use Rattle.std.specs.Prelude.{◌≡◌, ◌≤◌, List, ℕ, Some, length};
+ghost use Rattle.atomic_table.specs.Seated.{TableId};
 ghost use Rattle.nsc_model.specs.Entry.{key_limit, kept_limit};
-ghost use Rattle.nsc_reader.specs.Stages.{AtStage, Comes, HasCome, IsOpen, Nears, Steps, answer_in, asked, left_at};
+ghost use Rattle.nsc_reader.specs.Stages.{AtStage, Comes, HasCome, IsOdd, IsOpen, Nears, Steps, answer_in, asked, left_at};
 
 use crate::chain::{load_bucket, load_next, past_bucket};
 use crate::ends::{load_first, load_last};
@@ -38,7 +39,8 @@ impl Walk {
     }
 
     /// Takes one step, which loads one word. Gives the answer where this was the last one. The pass, the key and the buffer are those of the
-    /// steps before, as these left them. It takes no memory.
+    /// steps before, as these left them. The first step answers where the pass has seen that another table goes on in place of these
+    /// words. It takes no memory.
     pub fn step(&mut self, pass: &mut Pass, map: &Map, key: &[u8], out: &mut Buf) -> Option<InPlace>
         requires map { map.now.table ≡ pass.old.table }
         requires key { length key.now ≤ key_limit }
@@ -49,6 +51,7 @@ impl Walk {
         ensures limit { out.new.limit ≡ out.old.limit }
         ensures steps { Steps map.now.layout (asked self.old.kind key.now) self.old.progress pass.old pass.new out.new.content self.new.progress }
         ensures answer { result ≡ answer_in self.new.progress }
+        ensures left { self.old.progress ≡ Progress.New → (newer : TableId) → pass.old.retired ≡ Some newer → IsOdd result }
     {
         self.progress = match self.progress {
             Progress::New => load_first(self.kind, key, pass, map, out),

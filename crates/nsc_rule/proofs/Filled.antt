@@ -79,6 +79,7 @@ sound_at p seen at word nodes counted high apart sound legal fit invalid change 
       next_number = number;
       first_free = λ on even. first on (ap (λ (n : ℕ). n % 2) (sym zero_is) ∙ even);
       shows = λ even. shows (ap (λ (n : ℕ). n % 2) (sym zero_is) ∙ even);
+      left = λ newer is. ap (λ (n : ℕ). n % 2) zero_is ∙ sound.left newer is;
     }
 
 -- one from 5 on

@@ -53,6 +53,7 @@ sound_first layout content fits sizes =
         laid = clear.cleared (no_nodes layout) (filled layout (no_nodes layout) []) layout (arena_start layout) (size layout) refl refl (λ i low high. let other : i ≢ 3 = omega arith in zero_at layout i (omega arith) other);
         sits = sits_none content;
       };
+      left = λ newer is. absurd (none-some newer is);
     }
 
 -- a table that goes on in place of another one: its CYCLE is odd, so nothing is said of its nodes
@@ -75,6 +76,7 @@ sound_succeeding layout p sizes even room sound =
       next_number = sound.next_number;
       first_free = λ on again. absurd (odd again);
       shows = λ again. absurd (odd again);
+      left = λ newer is. absurd (none-some newer is);
     }
 
 -- a table opens with a plan that is sound

@@ -55,7 +55,7 @@ begins seat request seen retired searching p sound was =
           bound = λ q among usable is low. let shows = shown_at p (cycle_of p) sound refl even in let at = within (arena_start p.layout) p.nodes q shows.laid.row among in let room = shows.laid.room in omega arith;
         };
       },
-      record { view = refl; legal = sound.legal; fit = sound.fit; before = was.seen; known = was.known; most = sound.cycle },
+      record { view = refl; legal = sound.legal; fit = sound.fit; before = was.seen; known = was.known; most = sound.cycle; left = λ newer is. sound.left newer (was.retired newer is).0 },
     )
 
 -- ---- a search goes on to where a word of a chain leads

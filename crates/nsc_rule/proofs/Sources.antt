@@ -56,6 +56,7 @@ sound_invalidated p none room sound =
       shows = λ even.
           let shows = sound.shows (ap (λ (n : ℕ). n % 2) (sym zero_is) ∙ even) in
           head_shows p r 1 word (omega arith) (sits_said r p.seen p.nodes (λ e l. record { inserted = l.inserted; not_ended = l.not_ended }) (λ e l. record { inserted = l.inserted; not_ended = l.not_ended }) refl shows.sits) shows;
+      left = λ newer is. ap (λ (n : ℕ). n % 2) zero_is ∙ sound.left newer is;
     }
 
 pub later_invalidated : (p : Plan) → p.retired ≡ None → Later p (invalidation_added p)
@@ -86,6 +87,7 @@ sound_source p r word legal fits invalid loaded change room sits sound =
       next_number = number_stays p (r ∷ p.seen) 2 word (omega arith) loaded sound;
       first_free = λ on even. first_stays p 2 word p.nodes (omega arith) refl sound on (ap (λ (n : ℕ). n % 2) (sym zero_is) ∙ even);
       shows = λ even. let shows = sound.shows (ap (λ (n : ℕ). n % 2) (sym zero_is) ∙ even) in head_shows p r 2 word (omega arith) (sits shows.sits) shows;
+      left = λ newer is. ap (λ (n : ℕ). n % 2) zero_is ∙ sound.left newer is;
     }
 
 pub sound_polled : (p : Plan) (word : ℕ) → word ≡ slice_index p.words 2 → Sound p → Sound (after stroke.Poll 2 word p)

@@ -1,6 +1,7 @@
 -- Steps of the pen that leave the history as it is.
 use Rattle.std.proofs.Common.{◌≡◌, ◌≢◌, ◌∙◌, ℕ, ◌+◌, ◌%◌, ◌^◌, ◌<◌, ◌≤◌, true, ◌⊎◌, ⊎_elim, List, length-set, set, slice_index, refl, sym, ap, subst, arith, get_or-set_other, get_or-set_same, Option, Some, None}
 use Rattle.std.proofs.lemmas.Bool.{cases_eq}
+use Rattle.std.proofs.lemmas.Option.{none-some}
 use Rattle.nsc_words.specs.declared.node.Placed.{Placed}
 use Rattle.nsc_words.specs.Laid.{Laid, end_of}
 use Rattle.nsc_words.specs.Layout.{arena_start}
@@ -95,8 +96,8 @@ later_cycle p nodes retired active sound =
     record { active = active; layout = refl; grown = prefix_all p.seen; forward = omega arith; same = λ is even. absurd (omega arith) }
 
 sound_cycle : (p : Plan) (nodes : List Placed) (retired : Option TableId) → cycle_of p < 2 ^ 62 → Sound p → ((slice_index p.words 0 + 1) % 2 ≡ 0 → Shows p.layout (set p.words 0 (slice_index p.words 0 + 1)) p.seen nodes) → ((slice_index p.words 0 + 1) % 2 ≡ 0 → slice_index p.words 3 ≡ end_of (arena_start p.layout) nodes)
-    → Sound (record { layout = p.layout; seen = p.seen; words = set p.words 0 (slice_index p.words 0 + 1); nodes = nodes; counted = p.counted; retired = retired })
-sound_cycle p nodes retired room sound shows first =
+    → ((newer : TableId) → retired ≡ Some newer → (slice_index p.words 0 + 1) % 2 ≡ 1) → Sound (record { layout = p.layout; seen = p.seen; words = set p.words 0 (slice_index p.words 0 + 1); nodes = nodes; counted = p.counted; retired = retired })
+sound_cycle p nodes retired room sound shows first odd =
     let word : ℕ = slice_index p.words 0 + 1 in
     let next = next_cycle p sound in
     let same : (i : ℕ) → 0 < i → slice_index (set p.words 0 word) i ≡ slice_index p.words i = λ i low. let other : i ≢ 0 = omega arith in get_or-set_other p.words 0 i word 0 other in
@@ -119,16 +120,17 @@ sound_cycle p nodes retired room sound shows first =
       next_number = number_stays p p.seen 0 word (omega arith) refl sound;
       first_free = λ on even. same 3 (omega arith) ∙ first (ap (λ (n : ℕ). n % 2) (sym next) ∙ even);
       shows = λ even. shows (ap (λ (n : ℕ). n % 2) (sym next) ∙ even);
+      left = λ newer is. ap (λ (n : ℕ). n % 2) next ∙ odd newer is;
     }
 
 pub sound_begun : (p : Plan) → IsEven p → cycle_of p < last_count → Sound p → Sound (begun p)
-sound_begun p even room sound = sound_cycle p p.nodes p.retired room sound (λ again. absurd (omega arith)) (λ again. absurd (omega arith))
+sound_begun p even room sound = sound_cycle p p.nodes p.retired room sound (λ again. absurd (omega arith)) (λ again. absurd (omega arith)) (λ newer is. omega arith)
 
 pub later_begun : (p : Plan) → p.retired ≡ None → Sound p → Later p (begun p)
 later_begun p active sound = later_cycle p p.nodes p.retired active sound
 
 pub sound_left : (newer : TableId) (p : Plan) → IsEven p → cycle_of p < last_count → Sound p → Sound (left newer p)
-sound_left newer p even room sound = sound_cycle p p.nodes (Some newer) room sound (λ again. absurd (omega arith)) (λ again. absurd (omega arith))
+sound_left newer p even room sound = sound_cycle p p.nodes (Some newer) room sound (λ again. absurd (omega arith)) (λ again. absurd (omega arith)) (λ other is. omega arith)
 
 pub later_left : (newer : TableId) (p : Plan) → p.retired ≡ None → Sound p → Later p (left newer p)
 later_left newer p active sound = later_cycle p p.nodes (Some newer) active sound
@@ -138,8 +140,8 @@ odd_room p odd sound = let cycle = sound.cycle in let differs : cycle_of p ≢ 2
   two_parts : (n : ℕ) → n % 2 ≡ 1 → n ≡ 2 ^ 62 → ⊥
   two_parts n odd e = omega arith
 
-pub sound_finished : (p : Plan) → IsOdd p → ShowsAgain p → Sound p → Sound (finished p)
-sound_finished p odd slid sound = sound_cycle p (nodes_in p.words p.layout) p.retired (odd_room p odd sound) sound (λ even. record { laid = head_set p.layout p.words (nodes_in p.words p.layout) 0 (slice_index p.words 0 + 1) (omega arith) (omega arith) slid.shows.laid; sits = slid.shows.sits }) (λ even. slid.first_free)
+pub sound_finished : (p : Plan) → p.retired ≡ None → IsOdd p → ShowsAgain p → Sound p → Sound (finished p)
+sound_finished p active odd slid sound = sound_cycle p (nodes_in p.words p.layout) p.retired (odd_room p odd sound) sound (λ even. record { laid = head_set p.layout p.words (nodes_in p.words p.layout) 0 (slice_index p.words 0 + 1) (omega arith) (omega arith) slid.shows.laid; sits = slid.shows.sits }) (λ even. slid.first_free) (λ newer is. absurd (none-some newer (sym active ∙ is)))
 
 pub later_finished : (p : Plan) → p.retired ≡ None → Sound p → Later p (finished p)
 later_finished p active sound = later_cycle p (nodes_in p.words p.layout) p.retired active sound

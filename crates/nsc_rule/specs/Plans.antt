@@ -1,5 +1,6 @@
 -- What the pen knows of a table, and what holds of it between any two steps.
-use Rattle.std.specs.Prelude.{◌≡◌, ℕ, ◌+◌, ◌-◌, ◌%◌, ◌^◌, ◌<◌, ◌≤◌, true, false, None, ◌⊎◌, All, List, [], ◌∷◌, ◌++◌, length, replicate, slice_index, slice_set}
+use Rattle.std.specs.Prelude.{◌≡◌, ℕ, ◌+◌, ◌-◌, ◌%◌, ◌^◌, ◌<◌, ◌≤◌, true, false, Some, None, ◌⊎◌, All, List, [], ◌∷◌, ◌++◌, length, replicate, slice_index, slice_set}
+use Rattle.atomic_table.specs.Seated.{TableId}
 use Rattle.nsc_words.specs.declared.layout.Layout.{Layout}
 use Rattle.nsc_words.specs.declared.node.Placed.{Placed}
 use Rattle.nsc_words.specs.Laid.{Among, Laid, end_of}
@@ -46,7 +47,7 @@ pub record Shows (layout : Layout) (words : List ℕ) (history : List Record) (n
   pub sits : Sits history nodes
 
 -- what holds of a plan between any two steps. Nothing is said of its nodes while a compaction is under way, and nothing of FIRST_FREE
--- and LOADS while an insertion is. The head words behind the counts are 0
+-- and LOADS while an insertion is. The head words behind the counts are 0. Once another table goes on, CYCLE is odd
 pub record Sound (p : Plan) : Type 0 where
   pub sizes : IsLayout p.layout
   pub legal : Legal p.seen
@@ -61,6 +62,7 @@ pub record Sound (p : Plan) : Type 0 where
   pub next_number : p.counted ≡ true → slice_index p.words 4 ≡ loads p.seen
   pub first_free : p.counted ≡ true → IsEven p → slice_index p.words 3 ≡ end_in p
   pub shows : IsEven p → Shows p.layout p.words p.seen p.nodes
+  pub left : (newer : TableId) → p.retired ≡ Some newer → IsOdd p
 
 -- ---- a plan goes on
 

@@ -1,6 +1,7 @@
 -- What the steps of a search tell. Each speaks of the moment of its own load, and holds where CYCLE was then still what the search
 -- began with, and even: the last load tells that of all steps at once.
 use Rattle.std.specs.Prelude.{◌≡◌, ◌≢◌, ℕ, ◌+◌, ◌%◌, ◌<◌, ◌≤◌, ◌==◌, not, true, false, ◌⊎◌, if◌then◌else◌, All, List, length, Option, Some, None}
+use Rattle.atomic_table.specs.Seated.{TableId}
 use Rattle.nsc_base.specs.Nodes.{node_words, words_for}
 use Rattle.nsc_words.specs.declared.layout.Layout.{Layout}
 use Rattle.nsc_words.specs.Layout.{arena_start, table_words}
@@ -66,7 +67,7 @@ NoneOlder seen w = (e : Entry) → IsLive seen e → e.request ≡ w.request →
 
 -- ---- what the loads tell: of the view before, the word, and the view after
 
--- CYCLE, where a search begins
+-- CYCLE, where a search begins: odd for good at a table in whose place another one is known to go on
 pub record BeginTells (layout : Layout) (request : Request) (v : View) (found : ℕ) (w : View) : Type 0 where
   pub view : w ≡ reading (seen_by w) (retired_by v) (begun_search layout request (seen_by w) found (searching_by v))
   pub legal : Legal (seen_by w)
@@ -74,6 +75,7 @@ pub record BeginTells (layout : Layout) (request : Request) (v : View) (found : 
   pub before : IsPrefix (seen_by v) (seen_by w)
   pub known : (searching_by v).known ≤ found
   pub most : found ≤ last_count
+  pub left : (newer : TableId) → retired_by v ≡ Some newer → found % 2 ≡ 1
 
 -- a bucket's word
 pub record BucketTells (layout : Layout) (v : View) (found : ℕ) (w : View) : Type 0 where

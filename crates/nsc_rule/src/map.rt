@@ -54,6 +54,7 @@ impl Map {
     pub fn layout(&self) -> Layout
         ensures layout { result ≡ self.now.layout }
         ensures sizes { IsLayout self.now.layout }
+        ensures wide { self.now.table.words ≡ table_words self.now.layout }
     {
         self.layout
     }

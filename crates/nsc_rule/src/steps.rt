@@ -1,7 +1,8 @@
 // The steps of a search, which takes no lock: each is one load. What a step tells holds where the search is steady: where CYCLE, at the
 // step's moment, was what the search began with, and even. CYCLE never falls, so a last load that finds it unchanged tells that all
 // steps were steady.
-ghost use Rattle.std.specs.Prelude.{◌≡◌, ◌≢◌, ℕ, ◌+◌, ◌<◌, ◌≤◌, ◌==◌, not, [], Some, slice_index};
+ghost use Rattle.std.specs.Prelude.{◌≡◌, ◌≢◌, ℕ, ◌+◌, ◌%◌, ◌<◌, ◌≤◌, ◌==◌, not, [], Some, slice_index};
+ghost use Rattle.atomic_table.specs.Seated.{TableId};
 ghost use Rattle.nsc_model.specs.Entry.{Entry};
 ghost use Rattle.nsc_model.specs.History.{IsLive, IsPrefix};
 ghost use Rattle.nsc_model.specs.Machine.{last_count};
@@ -23,7 +24,8 @@ use nsc_words::CYCLE;
 use std::marker::Brand;
 
 impl Pass {
-    /// Begins a search for a request, which is picked at the call: loads CYCLE, and has seen the whole history.
+    /// Begins a search for a request, which is picked at the call: loads CYCLE, and has seen the whole history. CYCLE is odd where it had
+    /// seen that another table goes on in place of these words.
     pub fn first_cycle(&mut self, map: &Map) -> u64
         ghost request: { Request }
         requires { map.now.table ≡ self.old.table }
@@ -33,6 +35,7 @@ impl Pass {
         ensures searching { self.new.searching ≡ begun_search map.now.layout request self.new.seen result self.old.searching }
         ensures known { self.old.searching.known ≤ result }
         ensures most { result ≤ last_count }
+        ensures left { (newer : TableId) → self.old.retired ≡ Some newer → result % 2 ≡ 1 }
     {
         look::<Brand>(&mut self.seat, map, CYCLE)
     }
