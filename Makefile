@@ -4,6 +4,7 @@ PROGRAM = crates/nscd/out/nscd
 TRIALS = crates/nsc_trials/out/nsc_trials
 TABLE_TRIALS = crates/nsc_table_trials/out/nsc_table_trials
 READER_TRIALS = crates/nsc_reader_trials/out/nsc_reader_trials
+IMAGE_TRIALS = crates/nsc_image_trials/out/nsc_image_trials
 EXAMPLE = crates/nscd/stdin
 WORDS = $(shell cat crates/nscd/args)
 
@@ -44,7 +45,7 @@ build/frames: tools/make-frames examples/machine.txt $(wildcard examples/machine
 test:
 	@.ci/run
 
-build: build/nscd build/nscd-trials build/nscd-table-trials build/nscd-reader-trials
+build: build/nscd build/nscd-trials build/nscd-table-trials build/nscd-reader-trials build/nscd-image-trials
 
 # A copy under another name first: a run that is cut off leaves no half of a program behind.
 build/nscd: $(PROGRAM)
@@ -67,6 +68,11 @@ build/nscd-reader-trials: $(READER_TRIALS)
 	cp $(READER_TRIALS) build/nscd-reader-trials.new
 	mv build/nscd-reader-trials.new build/nscd-reader-trials
 
+build/nscd-image-trials: $(IMAGE_TRIALS)
+	@mkdir -p build
+	cp $(IMAGE_TRIALS) build/nscd-image-trials.new
+	mv build/nscd-image-trials.new build/nscd-image-trials
+
 # rt links the program once all is proved. The touch comes since rt leaves a program alone that a change of the sources
 # did not alter, as one in a comment, and make would then prove again each time.
 $(PROGRAM): $(SOURCES)
@@ -88,6 +94,11 @@ $(READER_TRIALS): $(SOURCES)
 	cd crates/nsc_reader_trials && rt run < /dev/null > /dev/null
 	@touch $(READER_TRIALS)
 
+# Images that are checked and brought back.
+$(IMAGE_TRIALS): $(SOURCES)
+	cd crates/nsc_image_trials && rt run < stdin > /dev/null
+	@touch $(IMAGE_TRIALS)
+
 # The proved program and all that belongs to it, as docs/INSTALL.md says. Nothing is built or proved here.
 install:
 	@PREFIX='$(PREFIX)' SYSCONFDIR='$(SYSCONFDIR)' DESTDIR='$(DESTDIR)' NSCD='$(NSCD)' START='$(START)' dist/install in
@@ -100,6 +111,7 @@ deb:
 	@NSCD='$(NSCD)' dist/make-deb build
 
 bench: build
+	bench/machine
 	bench/replay
 	bench/store
 	bench/daemon

@@ -6,7 +6,7 @@ use std::test::Fail;
 use std::{fs, process};
 
 // Whether an answer is this: absent, the bytes of a file, or why there is none.
-fn is_answer(
+pub(crate) fn is_answer(
     outcome: &Result<Option<Bytes>, ReadCause>,
     want: Result<Option<&[u8]>, ReadCause>,
 ) -> bool {

@@ -6,7 +6,7 @@ use Rattle.nsc_model.specs.Entry.{key_limit, kept_limit}
 use Rattle.nsc_model.specs.Kinds.{kind_numbered}
 use Rattle.nsc_model.specs.Wire.{field_in}
 use Rattle.nsc_image.specs.Faults.{entry_checks, first_failing, is_kind_of}
-use Rattle.nsc_image.specs.Image.{is_above}
+use Rattle.nsc_model.specs.Image.{is_above}
 use Rattle.nsc_image.specs.Reading.{wide_field_in}
 
 -- an entry may stand at the front of the bytes, behind the entry of this number

@@ -8,7 +8,7 @@ use Rattle.sha2.specs.Sha256.{sha256}
 use Rattle.nsc_model.specs.declared.kind.Db.{Db}
 use Rattle.nsc_model.specs.Wire.{field}
 use Rattle.nsc_image.specs.Draft.{Draft, IsDraft, counted, draft_of}
-use Rattle.nsc_image.specs.Image.{ImageBytes, IsSaved, Saved, digested, image_head, is_above, last_number, saved_bytes}
+use Rattle.nsc_model.specs.Image.{ImageBytes, IsSaved, Saved, digested, image_head, is_above, last_number, saved_bytes}
 use Rattle.nsc_image.specs.Layout.{Fill}
 use Rattle.nsc_image.specs.Reading.{saved_in}
 use Rattle.nsc_image.proofs.Laws.{fill_read}

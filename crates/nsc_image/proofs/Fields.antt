@@ -6,7 +6,7 @@ use Rattle.std.proofs.lemmas.Nat.{le_bytes_4, le_bytes_8}
 use Rattle.byteorder.specs.Endian.{little_from, little_number}
 use Rattle.byteorder.specs.Numbers.{little_from-take, little_from-lt}
 use Rattle.nsc_model.specs.Wire.{field, field_in}
-use Rattle.nsc_image.specs.Image.{wide_field}
+use Rattle.nsc_model.specs.Image.{wide_field}
 use Rattle.nsc_image.specs.Reading.{wide_field_in}
 
 -- numbers that are bytes

@@ -9,7 +9,7 @@ use Rattle.nsc_model.specs.declared.kind.Db.{Db}
 use Rattle.nsc_model.specs.declared.kind.Db.TheVariants as db
 use Rattle.nsc_model.specs.Wire.{field, field_in}
 use Rattle.nsc_image.specs.Faults.{HasDatabase, front_of, kept_digest}
-use Rattle.nsc_image.specs.Image.{ImageBytes, Saved, db_number, digested, image_head, image_version, magic, saved_bytes}
+use Rattle.nsc_model.specs.Image.{ImageBytes, Saved, db_number, digested, image_head, image_version, magic, saved_bytes}
 use Rattle.nsc_image.proofs.Fields.{IsBytes, field_at, then}
 
 -- bytes with the fields of a head begin with it

@@ -7,7 +7,7 @@ use Rattle.nsc_model.specs.declared.kind.Kind.{Kind}
 use Rattle.nsc_model.specs.declared.kind.Kind.TheVariants.{PwName, PwUid, GrName, GrGid, HostName, HostName6, HostAddr, HostAddr6, Ai, InitGroups, ServName, ServPort}
 use Rattle.nsc_model.specs.Kinds.{database_of, kind_numbered, type_number}
 use Rattle.nsc_image.specs.Faults.{is_kind_of}
-use Rattle.nsc_image.specs.Image.{db_number}
+use Rattle.nsc_model.specs.Image.{db_number}
 use Rattle.nsc_image.specs.Reading.{kind_or_any}
 
 -- if there is a kind, it has this number

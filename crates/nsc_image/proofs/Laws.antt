@@ -7,7 +7,7 @@ use Rattle.nsc_model.specs.declared.kind.Db.{Db}
 use Rattle.nsc_model.specs.Wire.{field_in}
 use Rattle.nsc_image.specs.Faults.{HasDatabase, IsOpened, front_of}
 use Rattle.nsc_image.specs.Layout.{Fill}
-use Rattle.nsc_image.specs.Image.{ImageBytes, Saved, digested, image_head, magic, saved_bytes}
+use Rattle.nsc_model.specs.Image.{ImageBytes, Saved, digested, image_head, magic, saved_bytes}
 use Rattle.nsc_image.specs.Reading.{AreReadable, saved_in}
 use Rattle.nsc_image.proofs.ListsBack.{readable_again, saved_in-again}
 use Rattle.nsc_image.proofs.HeadBack.{head_is, image_read}

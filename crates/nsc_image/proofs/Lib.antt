@@ -9,3 +9,4 @@ mod Laws
 mod OneFault
 mod Drafts
 mod Saves
+mod Restores

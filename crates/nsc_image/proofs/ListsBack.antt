@@ -4,7 +4,7 @@ use Rattle.std.specs.Prelude.{IsTrue, All}
 use Rattle.std.specs.List.{flat_map}
 use Rattle.std.proofs.lemmas.List.Elements.{All-head, All-tail}
 use Rattle.nsc_model.specs.declared.kind.Db.{Db}
-use Rattle.nsc_image.specs.Image.{IsSaved, Rise, Saved, is_above, last_number, saved_bytes}
+use Rattle.nsc_model.specs.Image.{IsSaved, Rise, Saved, is_above, last_number, saved_bytes}
 use Rattle.nsc_image.specs.Reading.{AreReadable, IsReadable, saved_at, saved_in, saved_size}
 use Rattle.nsc_image.proofs.Checks.{IsSound}
 use Rattle.nsc_image.proofs.ReadBack.{read_back, saved_sound}
@@ -41,6 +41,11 @@ readable_again db (s ∷ entries) rest each =
     let both : AreReadable (suc (length entries)) (saved_bytes s ++ after) =
     (readable_first db s after first, subst (AreReadable (length entries)) (sym (read_back db s after first).behind) (readable_again db entries rest (All-tail (IsSaved db) s entries each))) in
     subst (AreReadable (suc (length entries))) (sym (regrouped s entries rest)) both
+
+pub length-saved_in : (count : ℕ) (bytes : List ℕ) → length (saved_in count bytes) ≡ count
+unfolding saved_in
+length-saved_in zero bytes = refl
+length-saved_in (suc count) bytes = ap (λ (n : ℕ). suc n) (length-saved_in count (drop (saved_size bytes) bytes))
 
 -- ---- one step of the list
 

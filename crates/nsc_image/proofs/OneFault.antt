@@ -10,7 +10,7 @@ use Rattle.nsc_image.specs.declared.fault.ImageFault.{ImageFault}
 use Rattle.nsc_image.specs.declared.fault.ImageFault.TheVariants as fault
 use Rattle.nsc_image.specs.Faults.{BreaksBehind, EntriesBreak, HasDigest, IsFault, IsMarked, entry_checks, first_failing, front_of}
 use Rattle.nsc_image.specs.Layout.{Stand}
-use Rattle.nsc_image.specs.Image.{ImageBytes, IsSaved, Rise, Saved, last_number, saved_bytes}
+use Rattle.nsc_model.specs.Image.{ImageBytes, IsSaved, Rise, Saved, last_number, saved_bytes}
 use Rattle.nsc_image.proofs.Checks.{sound_again}
 use Rattle.nsc_image.proofs.ReadBack.{saved_sound}
 use Rattle.nsc_image.proofs.ListsBack.{begins, rise_behind}

@@ -9,7 +9,7 @@ use Rattle.nsc_model.specs.declared.kind.Kind.TheVariants as kind
 use Rattle.nsc_model.specs.Kinds.{kind_numbered, type_number}
 use Rattle.nsc_model.specs.Wire.{field, field_in}
 use Rattle.nsc_image.specs.Faults.{is_kind_of}
-use Rattle.nsc_image.specs.Image.{IsSaved, Saved, is_above, mark_of, saved_bytes, wide_field}
+use Rattle.nsc_model.specs.Image.{IsSaved, Saved, is_above, mark_of, saved_bytes, wide_field}
 use Rattle.nsc_image.specs.Reading.{kind_or_any, saved_at, saved_size, wide_field_in}
 use Rattle.nsc_image.proofs.KindNumbers.{kind_again, kind_is, is_kind}
 use Rattle.nsc_image.proofs.Checks.{IsSound}

@@ -16,7 +16,7 @@ use Rattle.nsc_shelf.specs.Shelf.{IsTold, entry_from}
 use Rattle.nsc_writer.specs.Writer.{IsListed, Writer}
 use Rattle.nsc_writer.proofs.Rest.{rest_all, rest_from, rest_next, rest_none, told_of}
 use Rattle.nsc_image.specs.Draft.{Draft}
-use Rattle.nsc_image.specs.Image.{IsSaved, Saved, is_above, last_number}
+use Rattle.nsc_model.specs.Image.{IsSaved, Saved, is_above, last_number}
 use Rattle.nsc_image.specs.Saving.{IsEntryOf, saved_entries, saved_of}
 use Rattle.nsc_image.proofs.Walk.{last_number-push}
 

@@ -7,7 +7,7 @@ use Rattle.std.proofs.lemmas.List.Elements.{All-nil, All-push}
 use Rattle.nsc_model.specs.declared.kind.Db.{Db}
 use Rattle.nsc_image.specs.Faults.{EntriesBreak, entry_checks, first_failing}
 use Rattle.nsc_image.specs.Layout.{Fill, Stand}
-use Rattle.nsc_image.specs.Image.{IsSaved, Rise, Saved, is_above, last_number, saved_bytes}
+use Rattle.nsc_model.specs.Image.{IsSaved, Rise, Saved, is_above, last_number, saved_bytes}
 use Rattle.nsc_image.specs.Reading.{saved_at, saved_size, wide_field_in}
 use Rattle.nsc_image.proofs.Checks.{sound_from}
 use Rattle.nsc_image.proofs.ReadBack.{taken}

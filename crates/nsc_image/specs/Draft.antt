@@ -2,7 +2,7 @@
 use Rattle.std.specs.Prelude.{◌≡◌, ℕ, ◌<◌, ◌^◌, List, ◌++◌, take, drop}
 use Rattle.nsc_model.specs.declared.kind.Db.{Db}
 use Rattle.nsc_model.specs.Wire.{field}
-use Rattle.nsc_image.specs.Image.{Saved, image_head}
+use Rattle.nsc_model.specs.Image.{Saved, image_head}
 use Rattle.nsc_image.specs.Layout.{Fill}
 use Rattle.nsc_image.specs.Reading.{saved_in}
 

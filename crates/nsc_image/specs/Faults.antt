@@ -9,7 +9,7 @@ use Rattle.nsc_model.specs.Kinds.{database_of, kind_numbered}
 use Rattle.nsc_model.specs.Wire.{field_in}
 use Rattle.nsc_image.specs.declared.fault.ImageFault.{ImageFault}
 use Rattle.nsc_image.specs.declared.fault.ImageFault.TheVariants as fault
-use Rattle.nsc_image.specs.Image.{Saved, db_number, image_version, is_above, last_number, magic, saved_bytes}
+use Rattle.nsc_model.specs.Image.{Saved, db_number, image_version, is_above, last_number, magic, saved_bytes}
 use Rattle.nsc_image.specs.Layout.{Stand}
 use Rattle.nsc_image.specs.Reading.{wide_field_in}
 

@@ -2,7 +2,7 @@
 use Rattle.std.specs.Prelude.{◌≡◌, ℕ, List, [], ◌++◌, length, All, None}
 use Rattle.std.specs.List.{flat_map}
 use Rattle.nsc_model.specs.declared.kind.Db.{Db}
-use Rattle.nsc_image.specs.Image.{IsSaved, Rise, Saved, saved_bytes}
+use Rattle.nsc_model.specs.Image.{IsSaved, Rise, Saved, saved_bytes}
 
 -- these entries stand at the front of the bytes, one after the other, and the rest behind them
 pub record Stand (db : Db) (bytes : List ℕ) (entries : List Saved) (rest : List ℕ) : Type 0 where

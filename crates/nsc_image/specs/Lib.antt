@@ -1,6 +1,6 @@
-pub mod Image
 pub mod Reading
 pub mod Layout
 pub mod Faults
 pub mod Draft
 pub mod Saving
+pub mod Restoring

@@ -6,7 +6,7 @@ use Rattle.nsc_model.specs.declared.kind.Kind.TheVariants.{PwName}
 use Rattle.nsc_model.specs.Entry.{key_limit, kept_limit}
 use Rattle.nsc_model.specs.Kinds.{kind_numbered}
 use Rattle.nsc_model.specs.Wire.{field_in}
-use Rattle.nsc_image.specs.Image.{Saved}
+use Rattle.nsc_model.specs.Image.{Saved}
 
 abbrev pub wide_field_in : List ℕ → ℕ → ℕ
 wide_field_in bytes at = little_number 8 (drop at bytes)

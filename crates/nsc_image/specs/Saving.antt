@@ -3,7 +3,7 @@ use Rattle.std.specs.Prelude.{◌≡◌, ◌<◌, ◌^◌, List, map}
 use Rattle.nsc_model.specs.declared.kind.Db.{Db}
 use Rattle.nsc_model.specs.Kinds.{database_of}
 use Rattle.nsc_model.specs.Machine.{Kept}
-use Rattle.nsc_image.specs.Image.{Saved}
+use Rattle.nsc_model.specs.Image.{Saved}
 
 abbrev pub saved_of : Kept → Saved
 saved_of k = record { number = k.entry.number; request = k.entry.request; answer = k.entry.answer; timeout = k.entry.timeout }

@@ -1,7 +1,7 @@
 ghost use Rattle.std.specs.Prelude.{◌≡◌, ◌≤◌, ◌++◌, IfOk, vec_len};
 ghost use Rattle.sha2.specs.Sha256.{sha256};
 ghost use Rattle.nsc_image.specs.Draft.{counted};
-ghost use Rattle.nsc_image.specs.Image.{image_head};
+ghost use Rattle.nsc_model.specs.Image.{image_head};
 
 use crate::layout::{COUNT_FIELD, ENTRIES, MAGIC, VERSION, db_number};
 use crate::room::{put, put_field, put_saved};
@@ -34,7 +34,7 @@ impl Model for ImageBuilder {
 impl ImageBuilder {
     ghost use Rattle.std.specs.Prelude.{◌≡◌, ◌+◌, ◌<◌, ◌^◌, ◌++◌, ◌∷◌, [], None, IsTrue, length, IfOk, OnOk, OnErr};
     ghost use Rattle.nsc_image.specs.Draft.{Draft, IsDraft, draft_of};
-    ghost use Rattle.nsc_image.specs.Image.{ImageBytes, IsSaved, is_above, last_number};
+    ghost use Rattle.nsc_model.specs.Image.{ImageBytes, IsSaved, is_above, last_number};
 
     /// Begins an image of this database, without entries. Fails only for want of memory.
     pub fn new(alloc: Global, db: Db) -> Result<ImageBuilder, NoMemory>

@@ -11,7 +11,7 @@ pub struct Image<'a> {
 
 impl<'a> Model for Image<'a> {
     ghost use Rattle.std.specs.Prelude.{List};
-    ghost use Rattle.nsc_image.specs.Image.{Saved};
+    ghost use Rattle.nsc_model.specs.Image.{Saved};
     ghost use Rattle.nsc_image.specs.Reading.{AreReadable, saved_in};
 
     ghost Value = { List Saved };
@@ -22,7 +22,7 @@ impl<'a> Model for Image<'a> {
 }
 
 impl<'a> Image<'a> {
-    ghost use Rattle.std.specs.Prelude.{◌≡◌};
+    ghost use Rattle.std.specs.Prelude.{◌≡◌, ◌<◌, ◌^◌, length};
     ghost use Rattle.nsc_image.specs.Reading.{AreReadable, saved_in};
 
     // The image of so many entries, which stand in these bytes.
@@ -31,6 +31,14 @@ impl<'a> Image<'a> {
         ensures { result ≡ saved_in count bytes.now }
     {
         Image { count, bytes }
+    }
+
+    // How many entries it has.
+    pub(crate) fn count(&self) -> u64
+        ensures value { result ≡ length self.now }
+        ensures bound { result < 2 ^ 32 }
+    {
+        u64::from(self.count)
     }
 
     /// The entries, in the order of their numbers. They are lent from the bytes of the image.
@@ -53,7 +61,7 @@ pub struct Entries<'a> {
 
 impl<'a> Model for Entries<'a> {
     ghost use Rattle.std.specs.Prelude.{List};
-    ghost use Rattle.nsc_image.specs.Image.{Saved};
+    ghost use Rattle.nsc_model.specs.Image.{Saved};
     ghost use Rattle.nsc_image.specs.Reading.{AreReadable, saved_in};
 
     ghost Value = { List Saved };

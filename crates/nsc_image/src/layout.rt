@@ -2,7 +2,7 @@
 ghost use Rattle.std.specs.Prelude.{◌≡◌, ◌+◌, ◌≤◌, length, IfSome, IfNone, drop};
 ghost use Rattle.nsc_model.specs.Kinds.{kind_numbered};
 ghost use Rattle.nsc_image.specs.Faults.{EntriesBreak, entry_checks, first_failing, is_kind_of as kind_is_of};
-ghost use Rattle.nsc_image.specs.Image.{db_number, is_above};
+ghost use Rattle.nsc_model.specs.Image.{db_number, is_above};
 ghost use Rattle.nsc_image.specs.Layout.{Fill};
 ghost use Rattle.nsc_image.specs.Reading.{IsReadable, kind_or_any, saved_at, saved_size};
 

@@ -1,11 +1,13 @@
 //! The image of a database: its entries as bytes, which outlive the process. They are written behind a head, in the order of their
-//! numbers, and SHA-256 of all that stands at the end; what is read back is checked whole first.
+//! numbers, and SHA-256 of all that stands at the end; what is read back is checked whole first. A new database takes those entries
+//! that still are the answers to their requests.
 #![tactic(auto)]
 
 mod builder;
 mod fault;
 mod image;
 mod layout;
+mod restoring;
 mod room;
 mod saved;
 mod saving;
@@ -14,6 +16,7 @@ mod verification;
 pub use builder::ImageBuilder;
 pub use fault::ImageFault;
 pub use image::{Entries, Image};
+pub use restoring::{Kept, restore};
 pub use saved::Saved;
 pub use saving::save;
 pub use verification::verify;

@@ -2,7 +2,7 @@
 ghost use Rattle.std.specs.Prelude.{◌≡◌, ◌+◌, ◌≤◌, ◌++◌, length, OnOk, OnErr};
 ghost use Rattle.std.specs.Vec.{vec_capacity, vec_len};
 ghost use Rattle.nsc_model.specs.Wire.{field};
-ghost use Rattle.nsc_image.specs.Image.{mark_of, saved_bytes, wide_field};
+ghost use Rattle.nsc_model.specs.Image.{mark_of, saved_bytes, wide_field};
 
 use crate::layout::KEY;
 use crate::saved::Saved;

@@ -16,7 +16,7 @@ pub struct Saved<'a> {
 impl<'a> Model for Saved<'a> {
     ghost use Rattle.std.specs.Prelude.{◌≤◌, length};
     ghost use Rattle.nsc_model.specs.Entry.{key_limit, kept_limit};
-    ghost use Rattle.nsc_image.specs.Image.{Saved};
+    ghost use Rattle.nsc_model.specs.Image.{Saved};
 
     ghost Value = { Saved };
 

@@ -1,6 +1,6 @@
 // The image of the entries that a writer has.
 ghost use Rattle.std.specs.Prelude.{◌≡◌, ◌<◌, ◌^◌, All, None, IfOk, length};
-ghost use Rattle.nsc_image.specs.Image.{ImageBytes};
+ghost use Rattle.nsc_model.specs.Image.{ImageBytes};
 ghost use Rattle.nsc_image.specs.Saving.{IsEntryOf, saved_entries};
 
 use crate::builder::ImageBuilder;

@@ -1,7 +1,7 @@
 // The checks of an image.
 ghost use Rattle.std.specs.Prelude.{◌≡◌, List, length, IfOk, IfErr};
 ghost use Rattle.nsc_image.specs.Faults.{IsFault, IsOpened};
-ghost use Rattle.nsc_image.specs.Image.{ImageBytes, Saved};
+ghost use Rattle.nsc_model.specs.Image.{ImageBytes, Saved};
 
 use crate::fault::ImageFault;
 use crate::image::Image;

@@ -31,5 +31,6 @@ pub mod Reads
 pub mod InPlace
 pub mod Steady
 pub mod Growth
+pub mod Image
 pub mod Stores
 pub mod Exits

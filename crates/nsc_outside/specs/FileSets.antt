@@ -85,3 +85,9 @@ abbrev pub IsLong : Option (List ℕ) → ReadCause → Type 0
 IsLong left causes.NoMemory = Unit {0}
 IsLong left causes.Failed = Unit {0}
 IsLong left (causes.TooLong size) = IfSome left (λ all. file_limit < length all)
+
+-- what was too long has more bytes than a limit, as far as is told, and of them a reader had more left, where it tells that
+abbrev pub IsOver : ℕ → Option (List ℕ) → ReadCause → Type 0
+IsOver limit left causes.NoMemory = Unit {0}
+IsOver limit left causes.Failed = Unit {0}
+IsOver limit left (causes.TooLong size) = (limit < size) × IfSome left (λ all. limit < length all)

@@ -14,3 +14,8 @@ pub mod HostFiles
 pub mod Release
 pub mod Hold
 pub mod HeldFiles
+pub mod ImageStores
+pub mod ImageTally
+pub mod FailPlan
+pub mod MemImages
+pub mod HostImages

@@ -14,7 +14,7 @@ use nsc_model::FileId;
 use std::alloc::{AllocError, Global};
 use thiserror::Error;
 
-/// Why a read of a file gave no answer.
+/// Why a read of a file, or of an image, gave no answer.
 #[derive(Clone, Copy, Debug, PartialEq, Eq, Error)]
 pub enum ReadCause {
     /// Memory was wanting: no fault of the file, and none is counted.
@@ -23,10 +23,10 @@ pub enum ReadCause {
     /// The file is there, or may be, and could not be read.
     #[error("the file could not be read")]
     Failed,
-    /// The file is longer than 16,777,216 bytes.
+    /// The file is longer than 16,777,216 bytes, or the image than 134,217,728.
     #[error("the file of {length} bytes is too long")]
     TooLong {
-        /// The length in bytes, as far as it is known: above 16,777,216.
+        /// The length in bytes, as far as it is known: above 16,777,216, and of an image above 134,217,728.
         length: u64,
     },
 }

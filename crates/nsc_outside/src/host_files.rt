@@ -1,4 +1,4 @@
-ghost use Rattle.std.specs.Prelude.{◌≡◌, ◌↔◌, None, IfOk, IfErr, OnOk, OnErr, IsOk, IsTrue};
+ghost use Rattle.std.specs.Prelude.{◌≡◌, None, IfOk, IfErr, OnOk, OnErr, IsTrue};
 ghost use Rattle.std.specs.Bool.{OnTrue, OnFalse};
 ghost use Rattle.std.specs.IoError.{error_kind};
 ghost use Rattle.std.specs.Fs.{file_type, IsFile};
@@ -11,7 +11,7 @@ use crate::comparing::has_just;
 use crate::files::{FileSet, ReadCause};
 use crate::notices::Notices;
 use crate::paths::path_of;
-use crate::reading::{cause_of, read_whole};
+use crate::reading::{absent_or, read_whole};
 use crate::tally::Tally;
 use nsc_base::{Bytes, NoMemory};
 use nsc_model::FileId;
@@ -252,6 +252,7 @@ impl<R: Files + Clock + Eprint + Clone + Drop> FileSet for HostFiles<R> {
 }
 
 // Reads the file at a path, if there is one.
+#[tactic(auto, using(crate::proofs::Wholes::no_length_no_cause))]
 fn read_path<R: Files>(system: &R, alloc: Global, path: &str) -> Result<Option<Bytes>, ReadCause>
     ensures fits { IfOk result (λ f. FileFits f) }
     ensures cause { IfErr result (λ cause. IsCause None cause) }
@@ -297,20 +298,6 @@ fn check_prompt(metadata: &Metadata) -> io::Result<()>
         Ok(())
     } else {
         Err(Error::from(ErrorKind::InvalidInput))
-    }
-}
-
-// Only that nothing is found is absence.
-#[tactic(auto, using(crate::proofs::Wholes::no_length_no_cause))]
-fn absent_or(error: &Error) -> Result<Option<Bytes>, ReadCause>
-    ensures absent { IfOk result (λ f. f ≡ None) }
-    ensures found { IsOk result ↔ (error_kind error.now ≡ ErrorKind.NotFound) }
-    ensures cause { IfErr result (λ cause. IsCause None cause) }
-{
-    if error.kind() == ErrorKind::NotFound {
-        Ok(None)
-    } else {
-        Err(cause_of(error))
     }
 }
 

@@ -1,8 +1,8 @@
 // Reading a file into memory.
-ghost use Rattle.std.specs.Prelude.{◌≡◌, ◌↔◌, Some, None, IfOk, IfErr};
+ghost use Rattle.std.specs.Prelude.{◌≡◌, ◌≤◌, ◌↔◌, length, Some, None, IfOk, IfErr, IsOk};
 ghost use Rattle.std.specs.IoError.{error_kind};
 ghost use Rattle.nsc_model.specs.Files.{FileFits};
-ghost use Rattle.nsc_outside.specs.FileSets.{IsCause, IsAllOf, IsLong, TellsNoLength};
+ghost use Rattle.nsc_outside.specs.FileSets.{IsCause, IsAllOf, IsLong, IsOver, TellsNoLength};
 
 use crate::files::ReadCause;
 use nsc_base::Bytes;
@@ -13,12 +13,11 @@ use std::io::{Error, ErrorKind, Read};
 // How many bytes are read at once: few enough to stay close to the processor until they are copied, and many to a call.
 const PART: usize = 131_072;
 
-/// Reads to the end of a file, whose length was told; one that has more than the limit is read no further than a part past it. Each
-/// part is copied behind the others: the memory of the whole is written once, where a read into it would need zeros there first.
-#[tactic(auto, using(crate::proofs::Wholes::no_length_no_cause, crate::proofs::Wholes::no_length_left))]
+/// Reads to the end of a file of a set, as `read_within` does, with the limit of such files.
+#[tactic(auto, using(crate::proofs::Wholes::over_no_cause, crate::proofs::Wholes::over_long))]
 pub(crate) fn read_whole<F: Read + Drop>(
     alloc: Global,
-    mut file: F,
+    file: F,
     told: u64,
 ) -> Result<Bytes, ReadCause>
     ensures fits { IfOk result (λ bytes. FileFits (Some bytes)) }
@@ -28,8 +27,24 @@ pub(crate) fn read_whole<F: Read + Drop>(
     ensures whole { IfOk result (λ bytes. IsAllOf (F.remaining file) bytes) }
     ensures long { IfErr result (λ cause. IsLong (F.remaining file) cause) }
 {
-    const MOST: u64 = Content::LIMIT as u64 + 1;
-    let mut bytes = Vec::with_capacity(alloc, told.min(MOST) as usize)?;
+    read_within(alloc, file, told, Content::LIMIT as u32)
+}
+
+/// Reads to the end of a file, whose length was told; one that has more bytes than the limit is read no further than a part past it.
+/// Each part is copied behind the others: the memory of the whole is written once, where a read into it would need zeros there first.
+#[tactic(auto, using(crate::proofs::Wholes::no_length_over))]
+pub(crate) fn read_within<F: Read + Drop>(
+    alloc: Global,
+    mut file: F,
+    told: u64,
+    limit: u32,
+) -> Result<Bytes, ReadCause>
+    ensures fits { IfOk result (λ bytes. length bytes ≤ limit) }
+    ensures whole { IfOk result (λ bytes. IsAllOf (F.remaining file) bytes) }
+    ensures over { IfErr result (λ cause. IsOver limit (F.remaining file) cause) }
+{
+    let most = u64::from(limit) + 1;
+    let mut bytes = Vec::with_capacity(alloc, told.min(most) as usize)?;
     let mut part = [0; PART];
     'parts: for _ in 0..u64::MAX {
         match file.read(&mut part) {
@@ -41,13 +56,26 @@ pub(crate) fn read_whole<F: Read + Drop>(
                 }
             }
         }
-        if bytes.len() > Content::LIMIT {
+        if bytes.len() > limit as usize {
             return Err(ReadCause::TooLong {
-                length: told.max(MOST),
+                length: told.max(most),
             });
         }
     }
     Err(ReadCause::Failed)
+}
+
+/// What a file gives that could not be opened: only that nothing is found is absence.
+pub(crate) fn absent_or(error: &Error) -> Result<Option<Bytes>, ReadCause>
+    ensures absent { IfOk result (λ f. f ≡ None) }
+    ensures found { IsOk result ↔ (error_kind error.now ≡ ErrorKind.NotFound) }
+    ensures cause { IfErr result (λ cause. TellsNoLength cause) }
+{
+    if error.kind() == ErrorKind::NotFound {
+        Ok(None)
+    } else {
+        Err(cause_of(error))
+    }
 }
 
 /// Why there are no bytes, by the system's error.

@@ -1,7 +1,7 @@
 use Rattle.std.proofs.Common.{◌≡◌, ℕ, ◌++◌, List, length, ap, ◌∙◌}
 use Rattle.nsc_model.specs.Kinds.{type_number}
 use Rattle.nsc_model.specs.Wire.{field}
-use Rattle.nsc_image.specs.Image.{Saved, mark_of, wide_field}
+use Rattle.nsc_model.specs.Image.{Saved, mark_of, wide_field}
 use Rattle.nsc_image.proofs.Fields.{more}
 use Rattle.nsc_image.proofs.room.put_saved.Goals as goal
 

@@ -2,7 +2,7 @@ use Rattle.std.proofs.Common.{None, IfOk, ap, subst, sym, ◌∙◌, arith}
 use Rattle.std.specs.Prelude.{IsTrue}
 use Rattle.nsc_base.specs.Buf.{Buf}
 use Rattle.nsc_image.specs.Draft.{Draft}
-use Rattle.nsc_image.specs.Image.{ImageBytes, IsSaved, Saved, is_above, last_number}
+use Rattle.nsc_model.specs.Image.{ImageBytes, IsSaved, Saved, is_above, last_number}
 use Rattle.nsc_image.proofs.Saves.{fewer_left, saves_all, saves_next, saves_none, step_of}
 use Rattle.nsc_image.proofs.saving.save.Goals as goal
 

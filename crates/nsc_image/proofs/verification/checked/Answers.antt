@@ -1,5 +1,5 @@
 use Rattle.std.proofs.Common.{List, subst, sym, arith}
-use Rattle.nsc_image.specs.Image.{ImageBytes, Saved}
+use Rattle.nsc_model.specs.Image.{ImageBytes, Saved}
 use Rattle.nsc_image.proofs.Laws.{all_passed, fill_readable}
 use Rattle.nsc_image.proofs.verification.checked.Goals as goal
 

@@ -1,6 +1,6 @@
 use Rattle.std.proofs.Common.{◌+◌, List, [], ◌∷◌, ◌++◌, length, sym, ap, subst, ◌∙◌, arith}
 use Rattle.nsc_image.specs.Draft.{Draft, IsDraft, draft_of}
-use Rattle.nsc_image.specs.Image.{Saved}
+use Rattle.nsc_model.specs.Image.{Saved}
 use Rattle.nsc_image.proofs.Drafts.{draft_count, pushed_on}
 use Rattle.nsc_image.proofs.builder.ImageBuilder.push.Goals as goal
 

@@ -1,6 +1,6 @@
 use Rattle.std.proofs.Common.{List, ℕ, sym, subst, ◌∙◌}
 use Rattle.nsc_image.specs.Draft.{Draft, draft_of}
-use Rattle.nsc_image.specs.Image.{ImageBytes}
+use Rattle.nsc_model.specs.Image.{ImageBytes}
 use Rattle.nsc_image.proofs.Drafts.{sealed_image}
 use Rattle.nsc_image.proofs.builder.ImageBuilder.seal.Goals as goal
 

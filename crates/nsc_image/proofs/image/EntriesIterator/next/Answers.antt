@@ -1,5 +1,5 @@
 use Rattle.std.proofs.Common.{◌≡◌, ◌<◌, ◌-◌, List, ◌∷◌, length, sym, ap, ◌∙◌, arith, rules}
-use Rattle.nsc_image.specs.Image.{Saved}
+use Rattle.nsc_model.specs.Image.{Saved}
 use Rattle.nsc_image.specs.Reading.{saved_in}
 use Rattle.nsc_image.proofs.ListsBack.{readable_next, saved_in-next, saved_in-none}
 use Rattle.nsc_image.proofs.image.EntriesIterator.next.Goals as goal

@@ -1,0 +1,179 @@
+"""A second reading of images of a database of users, and of what each brings back into a new cache, for tests/images."""
+
+import hashlib
+import os
+import random
+import re
+import struct
+import subprocess
+import sys
+from collections import Counter
+from pathlib import Path
+
+ROOT = Path(__file__).resolve().parent.parent.parent
+PROGRAM = Path(os.environ.get("IMAGES", ROOT / "build" / "nscd-image-trials")).resolve()
+COUNT = 100_000
+BATCH = 10_000
+SEED = 1
+# The users of the program; the first line of a name or of an id counts. Its table has room for so many words, and the moment is this one.
+USERS = (
+    ("root", "x", 0, 0, "root", "/root", "/bin/bash"),
+    ("ann", "x", 1000, 1000, "Ann,,,", "/home/ann", "/bin/sh"),
+    ("root", "x", 7, 7, "", "", ""),
+)
+ROOM, NOW = 128, 20
+FOUND_LIFE, ABSENT_LIFE = 3600, 20  # seconds, by default
+NAMES = {0: "PwName", 1: "PwUid"}  # the kinds of the database
+ABSENT = struct.pack("<9i", 2, 0, 0, 0, -1, -1, 0, 0, 0)
+HEAD, DIGEST, FIXED = 20, 32, 32
+
+
+def found(user):
+    name, password, uid, gid, gecos, home, shell = user
+    texts = [text.encode() + b"\0" for text in (name, password, gecos, home, shell)]
+    lengths = [len(text) for text in texts]
+    return struct.pack("<4i", 2, 1, *lengths[:2]) + struct.pack("<2I3i", uid, gid, *lengths[2:]) + b"".join(texts)
+
+
+def number(key):
+    """The id that a key spells, up to 32 bits."""
+    value = int(key) if key.isdigit() else 2**32
+    return value if value < 2**32 else None
+
+
+def answer(kind, key):
+    """The reply to a request over the users, and whether it says that there is none."""
+    for user in USERS:
+        if (user[0].encode() == key) if kind == 0 else (user[2] == number(key)):
+            return found(user), False
+    return ABSENT, True
+
+
+def entry(number, kind, key, reply, mark, timeout):
+    return struct.pack("<QIIIIQ", number, kind, len(key), len(reply), mark, timeout) + key + reply
+
+
+def sealed(body):
+    return body + hashlib.sha256(body).digest()
+
+
+def image(entries):
+    return sealed(b"NSCIMAGE" + struct.pack("<III", 2, 0, len(entries)) + b"".join(entries))
+
+
+def read(data):
+    """The entries of an image, or the line of the first check that fails."""
+    if len(data) < HEAD + DIGEST or data[:8] != b"NSCIMAGE":
+        return "no image of a database"
+    version, database, count = struct.unpack_from("<III", data, 8)
+    if version != 2:
+        return f"an image of version {version}"
+    end = len(data) - DIGEST
+    if hashlib.sha256(data[:end]).digest() != data[end:]:
+        return "an image whose digest is not that of its bytes"
+    if database != 0:
+        return "an image at fault at byte 12"
+    entries, at, last = [], HEAD, -1
+    for _ in range(count):
+        if end - at < FIXED:
+            return f"an image at fault at byte {at}"
+        number, kind, key, reply, mark, timeout = struct.unpack_from("<QIIIIQ", data, at)
+        checks = ((0, number > last), (8, kind in NAMES), (12, key <= 1024), (16, reply <= 65536), (20, mark <= 1), (24, timeout < 2**63))
+        wrong = [place for place, holds in checks if not holds]
+        if wrong:
+            return f"an image at fault at byte {at + wrong[0]}"
+        if end - at < FIXED + key + reply:
+            return f"an image at fault at byte {at}"
+        key_at = at + FIXED
+        entries.append((kind, data[key_at : key_at + key], data[key_at + key : key_at + key + reply], mark == 1, timeout))
+        at, last = key_at + key + reply, number
+    return entries if at == end else f"an image at fault at byte {at}"
+
+
+def words(length):
+    return (length + 7) // 8
+
+
+def told(data):
+    """The lines that the program must print of an image."""
+    entries = read(data)
+    if isinstance(entries, str):
+        return [entries]
+    kept, used = [], 0
+    for kind, key, reply, mark, timeout in entries:
+        size = 8 + words(len(key)) + words(len(reply))
+        if answer(kind, key) != (reply, mark) or used + size > ROOM or any(one[:2] == (kind, key) for one in kept):
+            continue
+        used += size
+        kept.append((kind, key, reply, mark, min(timeout, NOW + (ABSENT_LIFE if mark else FOUND_LIFE))))
+    rows = [f"{place} {NAMES[kind]} {key.hex()} {reply.hex()} {str(mark).lower()} {timeout}" for place, (kind, key, reply, mark, timeout) in enumerate(kept)]
+    return [f"kept {len(kept)} dropped {len(entries) - len(kept)}", *rows]
+
+
+def made(dice):
+    """An image of some entries: most of them true, some of another shell, mark or name."""
+    entries, last = [], -1
+    for _ in range(dice.choice((0, 1, 1, 2, 3, 6, 12))):
+        kind = dice.choice((0, 0, 1))
+        key = dice.choice((b"root", b"ann", b"nobody", b"a" * 40, b"") if kind == 0 else (b"0", b"00", b"7", b"1000", b"12", b"4294967296", b"x"))
+        reply, mark = answer(kind, key)
+        if dice.random() < 0.15:
+            reply, mark = dice.choice(((found(USERS[1]), False), (reply[:-1], mark), (reply, not mark), (ABSENT, True)))
+        last += dice.choice((1, 1, 2, 1000))
+        entries.append(entry(last, kind, key, reply, mark, dice.choice((0, 19, 600, 3600, 10**6, 2**63 - 1))))
+    return image(entries)
+
+
+def changed(dice, data):
+    """The image with a byte, a field, a length or an entry changed; its digest is made right again, but for some."""
+    body = bytearray(data[:-DIGEST])
+    how = dice.randrange(6)
+    if how == 0:
+        body[dice.randrange(len(body))] ^= 1 << dice.randrange(8)
+    elif how == 1:
+        at = dice.randrange(8, len(body) - 3)
+        struct.pack_into("<I", body, at, dice.choice((0, 1, 2, 3, 1024, 1025, 65536, 65537, 2**31, 2**32 - 1)))
+    elif how == 2:
+        del body[dice.randrange(len(body)) :]
+    elif how == 3:
+        body += bytes(dice.randrange(1, 60))
+    elif how == 4:
+        at = dice.randrange(len(body))
+        body[at:at] = body[HEAD : HEAD + dice.randrange(1, 140)]
+    else:
+        struct.pack_into("<I", body, 16, max(0, struct.unpack_from("<I", body, 16)[0] + dice.choice((-1, 1))))
+    if dice.random() < 0.9:
+        return sealed(bytes(body))
+    return bytes(body) + data[-DIGEST:]
+
+
+def compare(images, seen):
+    """Has the program read the images, and counts what comes of them, each number in a line taken for N."""
+    asked = b"".join(struct.pack("<I", len(one)) + one for one in images)
+    done = subprocess.run([PROGRAM], input=asked, capture_output=True, check=False)
+    if done.returncode != 0:
+        sys.exit(f"images: status {done.returncode}: {done.stderr.decode()}")
+    lines, at = done.stdout.decode().splitlines(), 0
+    for one in images:
+        right = told(one)
+        if lines[at : at + len(right)] != right:
+            sys.exit(f"images: {one.hex()}: it says {lines[at : at + len(right)]}, and not {right}")
+        at += len(right)
+        seen[re.sub(r"\d+", "N", right[0])] += 1
+    if at != len(lines):
+        sys.exit(f"images: {len(lines) - at} lines too many")
+
+
+def main():
+    if not os.access(PROGRAM, os.X_OK):
+        sys.exit(f"images: there is no {PROGRAM}; run make build")
+    count = int(sys.argv[1]) if sys.argv[1:] else COUNT
+    dice, seen = random.Random(SEED), Counter()
+    for first in range(0, count, BATCH):
+        images = [made(dice) for _ in range(min(BATCH, count - first))]
+        compare([changed(dice, one) if dice.random() < 0.8 else one for one in images], seen)
+    print(f"images: {count}, each as another reading has it: {', '.join(f'{many} {what}' for what, many in seen.most_common())}")
+
+
+if __name__ == "__main__":
+    main()
