@@ -9,5 +9,6 @@ mod service;
 mod terms;
 mod worker;
 
+pub use opening::Openings;
 pub use service::daemon;
 pub use terms::Terms;

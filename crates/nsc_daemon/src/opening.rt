@@ -13,12 +13,16 @@ use nsc_outside::FileSet;
 use nsc_sourcebook::PollFault;
 use std::alloc::Global;
 
-/// The databases, each with its first pass.
+/// The four databases, opened, each with its first pass. They are not shared until they enter a room.
 #[derive(Drop)]
 pub struct Openings<F: FileSet + Drop> {
+    /// The users.
     pub passwd: Opened<F, Indexed>,
+    /// The groups.
     pub group: Opened<F, Indexed>,
+    /// The hosts.
     pub hosts: Opened<F, Indexed>,
+    /// The services.
     pub services: Opened<F, Indexed>,
 }
 
@@ -53,7 +57,8 @@ pub fn opening_exit(fault: PollFault) -> Exit
 }
 
 impl<F: FileSet + Drop> Openings<F> {
-    /// Opens the four databases over what their files hold.
+    /// Opens the four databases over what their files hold. A fault is that of the first file that cannot be read, or want of memory;
+    /// no database is open then.
     pub fn open(alloc: Global, files: &mut F, conf: &Conf) -> Result<Openings<F>, PollFault>
         requires { SizesFit conf.now }
         ensures passwd { IfOk result (λ o. (o.passwd.db ≡ db_is.Passwd) × (o.passwd.settings ≡ settings_of conf.now db_is.Passwd) × (o.passwd.reloads ≡ conf.now.reloads) × (F.held o.passwd.files ≡ F.held files.old)) }
@@ -76,7 +81,7 @@ impl<F: FileSet + Drop> Openings<F> {
         })
     }
 
-    /// Enters a room, in which threads may share them.
+    /// Enters a room, in which threads may share them: the databases, and the first pass of each.
     pub fn enter<B: Room>(self) -> (Databases<Database<F, Indexed, B>>, Databases<DbPass<F, B>>)
         requires names { (self.passwd.db ≡ db_is.Passwd) × (self.group.db ≡ db_is.Group) × (self.hosts.db ≡ db_is.Hosts) × (self.services.db ≡ db_is.Services) }
         requires tables { (self.passwd.pass.table ≡ B.table db_is.Passwd) × (self.group.pass.table ≡ B.table db_is.Group) × (self.hosts.pass.table ≡ B.table db_is.Hosts) × (self.services.pass.table ≡ B.table db_is.Services) }

@@ -1,4 +1,5 @@
 use crate::discarded::Gates;
+use crate::four::run_gate;
 use crate::growing::growing;
 use crate::opening::{changing, done};
 use crate::outcome::Outcome;
@@ -20,7 +21,7 @@ use std::time::Clock;
 const INTERLEAVINGS: u64 = 1000;
 
 /// Runs every trial, and prints a line for each.
-pub fn run_trials<R: Threads + Wait + Clock + Print + Clone + Drop + Send + Sync>(
+pub fn run_trials<R: AllocGlobal + Threads + Wait + Clock + Print + Clone + Drop + Send + Sync>(
     rt: &R,
     alloc: Global,
 ) -> io::Result<()> {
@@ -32,6 +33,8 @@ pub fn run_trials<R: Threads + Wait + Clock + Print + Clone + Drop + Send + Sync
     println!(rt; "a lookup during an invalidation: {outcome}")?;
     let outcome = run_growing(rt, alloc).unwrap_or(Outcome::NoMemory);
     println!(rt; "a table that grows: {outcome}")?;
+    let outcome = run_gate(rt).unwrap_or(Outcome::NoMemory);
+    println!(rt; "connections to the gate: {outcome}")?;
     let outcome = run_interleavings(rt, alloc).unwrap_or(Outcome::NoMemory);
     println!(rt; "{INTERLEAVINGS} interleavings: {outcome}")
 }
