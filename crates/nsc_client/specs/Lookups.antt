@@ -23,7 +23,7 @@ pub record GivesBytes {S P : Type 0} (g : store.Ghosts S P) (base : S) (before a
   pub gave : Given
   pub said : reply_of gave ≡ bytes
   pub spelled : SpellsReply request.kind bytes
-  pub answer : GivesAnswer (g.settings base) now (g.seen before) (g.seen after) (FoundLastCycle (g.searches before) (g.searches after) (g.last after)) request gave
+  pub answer : GivesAnswer (g.settings base) (g.words after) now (g.seen before) (g.seen after) (FoundLastCycle (g.searches before) (g.searches after) (g.last after)) request gave
   pub files : IsOfFiles (g.db base) (g.reads before) (g.reads after) (g.latest after) (g.held base) request gave
   pub no_fault : FaultsStay (g.faults before) (g.faults after) (g.file_faults before) (g.file_faults after)
 

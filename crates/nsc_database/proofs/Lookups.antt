@@ -41,8 +41,8 @@ hit_answered seen after request bytes number p hit = record {
   });
 }
 
-pub hit_answer : (settings : DbConf) (now : ℕ) (seen after : List Record) (last_cycle : Type 0) (request : Request) (bytes : List ℕ) (number : ℕ) → IsPrefix seen after → settings.enabled ≡ true → IsHit after request bytes number → GivesAnswer settings now seen after last_cycle request (given.Hit bytes number)
-hit_answer settings now seen after last_cycle request bytes number p on hit = record {
+pub hit_answer : (settings : DbConf) (words now : ℕ) (seen after : List Record) (last_cycle : Type 0) (request : Request) (bytes : List ℕ) (number : ℕ) → IsPrefix seen after → settings.enabled ≡ true → IsHit after request bytes number → GivesAnswer settings words now seen after last_cycle request (given.Hit bytes number)
+hit_answer settings words now seen after last_cycle request bytes number p on hit = record {
   answered = hit_answered seen after request bytes number p hit;
   source = hit;
   uncached = OnFalse_from settings.enabled _ (λ off. absurd (false≢true (sym off ∙ on)));
@@ -89,17 +89,17 @@ answered_before less seen after request bytes p a = record {
 ended_before : (less seen after : List Record) (request : Request) → IsPrefix less seen → EndedAfter seen after request → EndedAfter less after request
 ended_before less seen after request p ended e loaded same = ended e (load_on less seen e p loaded) same
 
-why_before : (why_is : Why) (settings : DbConf) (less seen after : List Record) (last_cycle : Type 0) (request : Request) (bytes : List ℕ) → IsPrefix less seen → IsWhy why_is settings seen after last_cycle request bytes → IsWhy why_is settings less after last_cycle request bytes
-why_before why.Disabled settings less seen after last_cycle request bytes p w = w
-why_before (why.TooLarge size) settings less seen after last_cycle request bytes p w = w
-why_before (why.Discarded loaded epoch) settings less seen after last_cycle request bytes p w = let low = invalidations_on less seen p in let from = w.0 in (omega arith, w.1, w.2)
-why_before (why.Present number) settings less seen after last_cycle request bytes p w = (w.0, w.1, w.2, w.3, λ loaded. w.4 (load_on less seen w.0 p loaded))
-why_before (why.Spent count) settings less seen after last_cycle request bytes p w = w
-why_before (why.Full need free) settings less seen after last_cycle request bytes p w = w
+why_before : (why_is : Why) (settings : DbConf) (words : ℕ) (less seen after : List Record) (last_cycle : Type 0) (request : Request) (bytes : List ℕ) → IsPrefix less seen → IsWhy why_is settings words seen after last_cycle request bytes → IsWhy why_is settings words less after last_cycle request bytes
+why_before why.Disabled settings words less seen after last_cycle request bytes p w = w
+why_before (why.TooLarge size) settings words less seen after last_cycle request bytes p w = w
+why_before (why.Discarded loaded epoch) settings words less seen after last_cycle request bytes p w = let low = invalidations_on less seen p in let from = w.0 in (omega arith, w.1, w.2)
+why_before (why.Present number) settings words less seen after last_cycle request bytes p w = (w.0, w.1, w.2, w.3, λ loaded. w.4 (load_on less seen w.0 p loaded))
+why_before (why.Spent count) settings words less seen after last_cycle request bytes p w = w
+why_before (why.Full need free) settings words less seen after last_cycle request bytes p w = w
 
-pub given_before : (g : Given) (settings : DbConf) (now : ℕ) (less seen after : List Record) (last_cycle : Type 0) (request : Request) → IsPrefix less seen → IsGiven g settings now seen after last_cycle request → IsGiven g settings now less after last_cycle request
-given_before (given.Hit bytes number) settings now less seen after last_cycle request p g = g
-given_before (given.Loaded bytes number) settings now less seen after last_cycle request p g = (
+pub given_before : (g : Given) (settings : DbConf) (words now : ℕ) (less seen after : List Record) (last_cycle : Type 0) (request : Request) → IsPrefix less seen → IsGiven g settings words now seen after last_cycle request → IsGiven g settings words now less after last_cycle request
+given_before (given.Hit bytes number) settings words now less seen after last_cycle request p g = g
+given_before (given.Loaded bytes number) settings words now less seen after last_cycle request p g = (
   record {
     entry = g.0.entry;
     inserted = g.0.inserted;
@@ -111,8 +111,8 @@ given_before (given.Loaded bytes number) settings now less seen after last_cycle
   },
   ended_before less seen after request p g.1,
 )
-given_before (given.Fresh bytes why_is) settings now less seen after last_cycle request p g =
-    (why_before why_is settings less seen after last_cycle request bytes p g.0, elim g.1 [ inl off ↦ inl off | inr ended ↦ inr (ended_before less seen after request p ended) ])
+given_before (given.Fresh bytes why_is) settings words now less seen after last_cycle request p g =
+    (why_before why_is settings words less seen after last_cycle request bytes p g.0, elim g.1 [ inl off ↦ inl off | inr ended ↦ inr (ended_before less seen after request p ended) ])
 
 -- ---- a lookup that found no live entry
 
@@ -155,31 +155,31 @@ anew_answers seen mid request epoch polled settings now is = record { files = po
 not_seen : (seen mid : List Record) (e : Entry) → Legal seen → IsPrefix seen mid → loads mid ≤ e.number → HasLoad seen e → ⊥
 not_seen seen mid e legal p low loaded = let below = load_below seen e legal loaded in let few = loads_on seen mid p in omega arith
 
-by_said : (said : Inserted) (g : Given) (seen mid after : List Record) (last_cycle : Type 0) (request : Request) (epoch : ℕ) (polled : Polled) (settings : DbConf) (now : ℕ) → Anew seen mid request epoch polled → IsPrefix mid after
-    → IsKept settings last_cycle said (loaded_of settings now request polled) mid after → g ≡ given_by said (answer_of polled.content request).bytes → IsGiven g settings now seen after last_cycle request
-by_said (inserted.Done number) g seen mid after last_cycle request epoch polled settings now a p i is =
+by_said : (said : Inserted) (g : Given) (seen mid after : List Record) (last_cycle : Type 0) (request : Request) (epoch : ℕ) (polled : Polled) (settings : DbConf) (words now : ℕ) → Anew seen mid request epoch polled → IsPrefix mid after
+    → IsKept settings words last_cycle said (loaded_of settings now request polled) mid after → g ≡ given_by said (answer_of polled.content request).bytes → IsGiven g settings words now seen after last_cycle request
+by_said (inserted.Done number) g seen mid after last_cycle request epoch polled settings words now a p i is =
     let l = loaded_of settings now request polled in
     let e = (kept_of l number).entry in
-    subst (λ (x : Given). IsGiven x settings now seen after last_cycle request) (sym is)
+    subst (λ (x : Given). IsGiven x settings words now seen after last_cycle request) (sym is)
     (record { entry = e; inserted = i.0; numbered = refl; answers = refl; said = refl; timeout = refl; new = not_seen seen mid e a.legal a.on i.1 }, none_on seen after request (prefix_through seen mid after a.on p) a.none)
-by_said (inserted.TooLarge size) g seen mid after last_cycle request epoch polled settings now a p i is =
-    subst (λ (x : Given). IsGiven x settings now seen after last_cycle request) (sym is) (i, inr (none_on seen after request (prefix_through seen mid after a.on p) a.none))
-by_said (inserted.Discarded noted now_epoch) g seen mid after last_cycle request epoch polled settings now a p i is =
+by_said (inserted.TooLarge size) g seen mid after last_cycle request epoch polled settings words now a p i is =
+    subst (λ (x : Given). IsGiven x settings words now seen after last_cycle request) (sym is) (i, inr (none_on seen after request (prefix_through seen mid after a.on p) a.none))
+by_said (inserted.Discarded noted now_epoch) g seen mid after last_cycle request epoch polled settings words now a p i is =
     let at : noted ≡ invalidations seen = i.0 ∙ a.is_polled.epoch_is ∙ a.noted in
     let to = i.1 in
     let low = i.2 in
-    subst (λ (x : Given). IsGiven x settings now seen after last_cycle request) (sym is) ((omega arith, low, omega arith), inr (none_on seen after request (prefix_through seen mid after a.on p) a.none))
-by_said (inserted.Present number) g seen mid after last_cycle request epoch polled settings now a p i is =
+    subst (λ (x : Given). IsGiven x settings words now seen after last_cycle request) (sym is) ((omega arith, low, omega arith), inr (none_on seen after request (prefix_through seen mid after a.on p) a.none))
+by_said (inserted.Present number) g seen mid after last_cycle request epoch polled settings words now a p i is =
     let ended = none_on seen after request (prefix_through seen mid after a.on p) a.none in
-    subst (λ (x : Given). IsGiven x settings now seen after last_cycle request) (sym is) ((i.0, i.1, i.2, i.3, λ loaded. i.1.not_ended (ended i.0 loaded i.3)), inr ended)
-by_said (inserted.Spent count) g seen mid after last_cycle request epoch polled settings now a p i is =
-    subst (λ (x : Given). IsGiven x settings now seen after last_cycle request) (sym is) (i, inr (none_on seen after request (prefix_through seen mid after a.on p) a.none))
-by_said (inserted.Full need free) g seen mid after last_cycle request epoch polled settings now a p i is =
-    subst (λ (x : Given). IsGiven x settings now seen after last_cycle request) (sym is) (i, inr (none_on seen after request (prefix_through seen mid after a.on p) a.none))
+    subst (λ (x : Given). IsGiven x settings words now seen after last_cycle request) (sym is) ((i.0, i.1, i.2, i.3, λ loaded. i.1.not_ended (ended i.0 loaded i.3)), inr ended)
+by_said (inserted.Spent count) g seen mid after last_cycle request epoch polled settings words now a p i is =
+    subst (λ (x : Given). IsGiven x settings words now seen after last_cycle request) (sym is) (i, inr (none_on seen after request (prefix_through seen mid after a.on p) a.none))
+by_said (inserted.Full need free) g seen mid after last_cycle request epoch polled settings words now a p i is =
+    subst (λ (x : Given). IsGiven x settings words now seen after last_cycle request) (sym is) (i, inr (none_on seen after request (prefix_through seen mid after a.on p) a.none))
 
-pub anew_given : (g : Given) (seen mid after : List Record) (last_cycle : Type 0) (request : Request) (epoch : ℕ) (polled : Polled) (settings : DbConf) (now : ℕ) → Anew seen mid request epoch polled → IsPrefix mid after
-    → IsTried settings last_cycle (loaded_of settings now request polled) mid after g → IsGiven g settings now seen after last_cycle request
-anew_given g seen mid after last_cycle request epoch polled settings now a p k = by_said k.said g seen mid after last_cycle request epoch polled settings now a p k.inserted k.gives
+pub anew_given : (g : Given) (seen mid after : List Record) (last_cycle : Type 0) (request : Request) (epoch : ℕ) (polled : Polled) (settings : DbConf) (words now : ℕ) → Anew seen mid request epoch polled → IsPrefix mid after
+    → IsTried settings words last_cycle (loaded_of settings now request polled) mid after g → IsGiven g settings words now seen after last_cycle request
+anew_given g seen mid after last_cycle request epoch polled settings words now a p k = by_said k.said g seen mid after last_cycle request epoch polled settings words now a p k.inserted k.gives
 
 -- the reply of what is given after an insertion
 said_reply : (said : Inserted) (bytes : List ℕ) → reply_of (given_by said bytes) ≡ bytes
@@ -190,9 +190,9 @@ said_reply (inserted.Present number) bytes = refl
 said_reply (inserted.Spent count) bytes = refl
 said_reply (inserted.Full need free) bytes = refl
 
-pub kept_reply : (settings : DbConf) (last_cycle : Type 0) (l : Loaded) (seen after : List Record) (g : Given) → IsTried settings last_cycle l seen after g → reply_of g ≡ l.answer.bytes
-kept_reply settings last_cycle l seen after g k = ap reply_of k.gives ∙ said_reply k.said l.answer.bytes
+pub kept_reply : (settings : DbConf) (words : ℕ) (last_cycle : Type 0) (l : Loaded) (seen after : List Record) (g : Given) → IsTried settings words last_cycle l seen after g → reply_of g ≡ l.answer.bytes
+kept_reply settings words last_cycle l seen after g k = ap reply_of k.gives ∙ said_reply k.said l.answer.bytes
 
 -- by a call that began earlier
-pub tried_to : (settings : DbConf) (lesser last_cycle : Type 0) (l : Loaded) (seen after : List Record) (g : Given) → (lesser → last_cycle) → IsTried settings lesser l seen after g → IsTried settings last_cycle l seen after g
-tried_to settings lesser last_cycle l seen after g to k = record { said = k.said; inserted = inserted_since settings lesser last_cycle k.said l seen seen after ([], refl) to k.inserted; gives = k.gives }
+pub tried_to : (settings : DbConf) (words : ℕ) (lesser last_cycle : Type 0) (l : Loaded) (seen after : List Record) (g : Given) → (lesser → last_cycle) → IsTried settings words lesser l seen after g → IsTried settings words last_cycle l seen after g
+tried_to settings words lesser last_cycle l seen after g to k = record { said = k.said; inserted = inserted_since settings words lesser last_cycle k.said l seen seen after ([], refl) to k.inserted; gives = k.gives }

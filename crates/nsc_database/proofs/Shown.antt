@@ -39,6 +39,7 @@ use Rattle.nsc_writer.proofs.Later.{prefix_through}
 use Rattle.nsc_turns.specs.declared.entries.HitOrMiss.{HitOrMiss}
 use Rattle.nsc_turns.specs.declared.entries.HitOrMiss.TheVariants as looked
 use Rattle.nsc_turns.specs.Turns.{Looks as LooksUp}
+use Rattle.nsc_words.specs.Layout.{table_words}
 use Rattle.nsc_growth.specs.Sized.{IsSized}
 use Rattle.nsc_growth.proofs.Sized.{sized_arena}
 use Rattle.nsc_database.specs.Growing.{IsAboveAll}
@@ -299,15 +300,15 @@ no_need : (need free : ℕ) (said : Inserted) → said ≡ inserted.Full need fr
 no_need need free said is none = let some : Some need ≡ None = sym (ap needed_by is) ∙ none in absurd cc
 
 -- it found room
-pub kept_at_once : (settings : DbConf) (arena : ℕ) (last_cycle : Type 0) (said : Inserted) (loaded : Loaded) (seen after : List Record) → needed_by said ≡ None → IsInserted arena last_cycle said loaded seen after → IsKept settings last_cycle said loaded seen after
-kept_at_once settings arena last_cycle said loaded seen after none i =
-    inserted_or (FindsNoRoom arena last_cycle loaded after) (IsFull settings after last_cycle loaded.request loaded.answer.bytes) said loaded seen after (λ need free is f. absurd (no_need need free said is none)) i
+pub kept_at_once : (settings : DbConf) (words arena : ℕ) (last_cycle : Type 0) (said : Inserted) (loaded : Loaded) (seen after : List Record) → needed_by said ≡ None → IsInserted arena last_cycle said loaded seen after → IsKept settings words last_cycle said loaded seen after
+kept_at_once settings words arena last_cycle said loaded seen after none i =
+    inserted_or (FindsNoRoom arena last_cycle loaded after) (IsFull settings words after last_cycle loaded.request loaded.answer.bytes) said loaded seen after (λ need free is f. absurd (no_need need free said is none)) i
 
 -- it found none, and no table that there may be has more
-pub kept_not : (settings : DbConf) (need : ℕ) (said : Inserted) (loaded : Loaded) (seen : List Record) (w : Writer) → IsSized settings w.layout → needed_by said ≡ Some need → (before : Writer) → LeavesFull said before w → IsAboveAll settings (w.cache.used + need) ⊎ (last_count ≤ w.cache.cycle)
-    → IsInserted w.layout.arena (last_count ≤ w.cache.cycle) said loaded seen w.seen → IsKept settings (last_count ≤ w.cache.cycle) said loaded seen w.seen
-kept_not settings need said loaded seen w sized some before leaves above i = inserted_or (FindsNoRoom w.layout.arena (last_count ≤ w.cache.cycle) loaded w.seen) (IsFull settings w.seen (last_count ≤ w.cache.cycle) loaded.request loaded.answer.bytes) said loaded seen w.seen no_room i where
-  no_room : (n free : ℕ) → said ≡ inserted.Full n free → FindsNoRoom w.layout.arena (last_count ≤ w.cache.cycle) loaded w.seen n free → IsFull settings w.seen (last_count ≤ w.cache.cycle) loaded.request loaded.answer.bytes n free
+pub kept_not : (settings : DbConf) (need : ℕ) (said : Inserted) (loaded : Loaded) (seen : List Record) (w : Writer) → IsArena settings w.table.words w.layout.arena → needed_by said ≡ Some need → (before : Writer) → LeavesFull said before w → IsAboveAll settings (w.cache.used + need) ⊎ (last_count ≤ w.cache.cycle)
+    → IsInserted w.layout.arena (last_count ≤ w.cache.cycle) said loaded seen w.seen → IsKept settings w.table.words (last_count ≤ w.cache.cycle) said loaded seen w.seen
+kept_not settings need said loaded seen w newest some before leaves above i = inserted_or (FindsNoRoom w.layout.arena (last_count ≤ w.cache.cycle) loaded w.seen) (IsFull settings w.table.words w.seen (last_count ≤ w.cache.cycle) loaded.request loaded.answer.bytes) said loaded seen w.seen no_room i where
+  no_room : (n free : ℕ) → said ≡ inserted.Full n free → FindsNoRoom w.layout.arena (last_count ≤ w.cache.cycle) loaded w.seen n free → IsFull settings w.table.words w.seen (last_count ≤ w.cache.cycle) loaded.request loaded.answer.bytes n free
   no_room n free is f = record { needed = f.needed; less = f.less; left = by_left f.left above } where
     same : n ≡ need
     same = let both : Some n ≡ Some need = sym (ap needed_by is) ∙ some in cc
@@ -315,23 +316,23 @@ kept_not settings need said loaded seen w sized some before leaves above i = ins
     free_is : free + w.cache.used ≡ w.layout.arena
     free_is = (subst (λ (s : Inserted). LeavesFull s before w) is leaves).1
 
-    by_left : HasFree w.layout.arena free w.seen ⊎ (last_count ≤ w.cache.cycle) → IsAboveAll settings (w.cache.used + need) ⊎ (last_count ≤ w.cache.cycle) → HasNoRoom settings n free w.seen ⊎ (last_count ≤ w.cache.cycle)
+    by_left : HasFree w.layout.arena free w.seen ⊎ (last_count ≤ w.cache.cycle) → IsAboveAll settings (w.cache.used + need) ⊎ (last_count ≤ w.cache.cycle) → HasNoRoom settings w.table.words n free w.seen ⊎ (last_count ≤ w.cache.cycle)
     by_left (inr last) more = inr last
     by_left (inl left) (inr last) = inr last
-    by_left (inl left) (inl all) = inl (record { entries = left.entries; live = left.live; arena = w.layout.arena; newest = sized_arena settings w.layout sized; rest = left.rest; largest = λ doublings may. let above : arena_after settings doublings < w.cache.used + need = all doublings may in let rest = left.rest in let here = free_is in let as_many = same in omega arith })
+    by_left (inl left) (inl all) = inl (record { entries = left.entries; live = left.live; arena = w.layout.arena; newest = newest; rest = left.rest; largest = λ doublings may. let above : arena_after settings doublings < w.cache.used + need = all doublings may in let rest = left.rest in let here = free_is in let as_many = same in omega arith })
 
 -- it was tried once more where it found none
-pub kept_again : (settings : DbConf) (last_cycle : Type 0) (said : Inserted) (loaded : Loaded) (seen after : List Record) → IsInsertedOr (λ need free. ⊥) said loaded seen after → IsKept settings last_cycle said loaded seen after
-kept_again settings last_cycle said loaded seen after i = inserted_or (λ need free. ⊥) (IsFull settings after last_cycle loaded.request loaded.answer.bytes) said loaded seen after (λ need free is none. absurd none) i
+pub kept_again : (settings : DbConf) (words : ℕ) (last_cycle : Type 0) (said : Inserted) (loaded : Loaded) (seen after : List Record) → IsInsertedOr (λ need free. ⊥) said loaded seen after → IsKept settings words last_cycle said loaded seen after
+kept_again settings words last_cycle said loaded seen after i = inserted_or (λ need free. ⊥) (IsFull settings words after last_cycle loaded.request loaded.answer.bytes) said loaded seen after (λ need free is none. absurd none) i
 
 -- by a pass that had seen less than the writer, and that loads CYCLE as 2^62 where it stands there
-pub inserted_since : (settings : DbConf) (lesser last_cycle : Type 0) (said : Inserted) (loaded : Loaded) (seen h after : List Record) → IsPrefix seen h → (lesser → last_cycle) → IsKept settings lesser said loaded h after → IsKept settings last_cycle said loaded seen after
-inserted_since settings lesser last_cycle (inserted.Done number) loaded seen h after on to i = let low = loads_on seen h on in let more = i.1 in (i.0, omega arith)
-inserted_since settings lesser last_cycle (inserted.TooLarge size) loaded seen h after on to i = i
-inserted_since settings lesser last_cycle (inserted.Discarded noted epoch) loaded seen h after on to i = i
-inserted_since settings lesser last_cycle (inserted.Present number) loaded seen h after on to i = i
-inserted_since settings lesser last_cycle (inserted.Spent count) loaded seen h after on to i = i
-inserted_since settings lesser last_cycle (inserted.Full need free) loaded seen h after on to i = record { needed = i.needed; less = i.less; left = elim i.left [ inl left ↦ inl left | inr last ↦ inr (to last) ] }
+pub inserted_since : (settings : DbConf) (words : ℕ) (lesser last_cycle : Type 0) (said : Inserted) (loaded : Loaded) (seen h after : List Record) → IsPrefix seen h → (lesser → last_cycle) → IsKept settings words lesser said loaded h after → IsKept settings words last_cycle said loaded seen after
+inserted_since settings words lesser last_cycle (inserted.Done number) loaded seen h after on to i = let low = loads_on seen h on in let more = i.1 in (i.0, omega arith)
+inserted_since settings words lesser last_cycle (inserted.TooLarge size) loaded seen h after on to i = i
+inserted_since settings words lesser last_cycle (inserted.Discarded noted epoch) loaded seen h after on to i = i
+inserted_since settings words lesser last_cycle (inserted.Present number) loaded seen h after on to i = i
+inserted_since settings words lesser last_cycle (inserted.Spent count) loaded seen h after on to i = i
+inserted_since settings words lesser last_cycle (inserted.Full need free) loaded seen h after on to i = record { needed = i.needed; less = i.less; left = elim i.left [ inl left ↦ inl left | inr last ↦ inr (to last) ] }
 
 -- ---- an invalidation, and counts
 
@@ -368,6 +369,10 @@ entries_length : (ks : List Kept) → length (entries_of ks) ≡ length ks
 entries_length [] = refl
 entries_length (k ∷ ks) = ap (λ (n : ℕ). suc n) (entries_length ks)
 
+-- the table of a writer at rest is one that there may be
+pub in_table : (settings : DbConf) (w : Writer) → IsSized settings w.layout → w.table.words ≡ table_words w.layout → IsArena settings w.table.words w.layout.arena
+in_table settings w sized wide = subst (λ (n : ℕ). IsArena settings n w.layout.arena) (sym wide) (sized_arena settings w.layout sized)
+
 -- what the writer counts of itself
 pub record Counted (w : Writer) (stats : Stats) : Type 0 where
   pub entries : stats.entries ≡ length w.cache.entries
@@ -377,15 +382,15 @@ pub record Counted (w : Writer) (stats : Stats) : Type 0 where
   pub compactions : stats.compactions ≡ w.cache.cycle / 2
   pub within : w.cache.used ≤ w.layout.arena
 
-pub is_counted : (settings : DbConf) (w : Writer) (stats : Stats) → Tells w.seen w.cache → IsPacked w → IsSized settings w.layout → Counted w stats → IsCounted settings w.seen stats
-is_counted settings w stats t p sized c = record {
+pub is_counted : (settings : DbConf) (w : Writer) (stats : Stats) → Tells w.seen w.cache → IsPacked w → IsArena settings w.table.words w.layout.arena → Counted w stats → IsCounted settings w.table.words w.seen stats
+is_counted settings w stats t p newest c = record {
   entries = entries_of w.cache.entries;
   live = t.entries_are;
   counted = c.entries ∙ sym (entries_length w.cache.entries);
   taken = λ low. c.used ∙ p (half_below w.cache.cycle (subst (λ (n : ℕ). n < 2 ^ 61) c.compactions low)) ∙ sym (words_live w.cache.entries);
   invalidations_are = c.invalidations_are ∙ sym t.epochs_are;
   within = subst (λ (x : ℕ × ℕ). x.0 ≤ x.1) (λ i. (sym c.used i, sym c.arena i)) c.within;
-  allowed = subst (IsArena settings) (sym c.arena) (sized_arena settings w.layout sized);
+  newest = subst (IsArena settings w.table.words) (sym c.arena) newest;
 } where
   half_below : (n : ℕ) → n / 2 < 2 ^ 61 → n < last_count
   half_below n low = omega arith

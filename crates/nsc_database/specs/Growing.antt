@@ -1,12 +1,11 @@
 -- What a growth of a database's table comes to.
 use Rattle.std.specs.Prelude.{◌≡◌, ℕ, ◌+◌, ◌<◌, ◌≤◌, ◌⊎◌, [], ◌∷◌, ◌++◌, Bool, true, false, Some, Result, Ok, Err}
 use Rattle.nsc_model.specs.declared.conf.DbConf.{DbConf}
-use Rattle.nsc_model.specs.Growth.{MayGrow, arena_after}
+use Rattle.nsc_model.specs.Growth.{IsArena, MayGrow, arena_after}
 use Rattle.nsc_model.specs.Machine.{last_count, next_count}
 use Rattle.nsc_writer.specs.Enlarged.{IsEnlarged}
 use Rattle.nsc_writer.specs.Former.{Former}
 use Rattle.nsc_growth.specs.Doubled.{IsNext}
-use Rattle.nsc_growth.specs.Sized.{IsSized}
 use Rattle.nsc_database.specs.Rests.{Desk}
 
 -- no table that a database may grow to has so many words for its entries
@@ -26,7 +25,7 @@ pub record GoesOver (settings : DbConf) (need : ℕ) (before after : Desk) : Typ
 -- wanting, and nothing changed
 abbrev pub IsGrowth : {A : Type 0} → DbConf → ℕ → Desk → Desk → Result Bool A → Type 0
 IsGrowth settings need before after (Ok true) = GoesOver settings need before after
-IsGrowth settings need before after (Ok false) = (after ≡ before) × IsSized settings before.writer.layout × (IsAboveAll settings (before.writer.cache.used + need) ⊎ (last_count ≤ before.writer.cache.cycle))
+IsGrowth settings need before after (Ok false) = (after ≡ before) × IsArena settings before.writer.table.words before.writer.layout.arena × (IsAboveAll settings (before.writer.cache.used + need) ⊎ (last_count ≤ before.writer.cache.cycle))
 IsGrowth settings need before after (Err fault) = after ≡ before
 
 -- one table was left, after an insertion that found no room in it and was counted

@@ -70,9 +70,9 @@ IsInsertedOr no_room (inserted.Full need free) loaded seen after = no_room need 
 abbrev pub IsInserted : ℕ → Type 0 → Inserted → Loaded → List Record → List Record → Type 0
 IsInserted arena last_cycle said loaded seen after = IsInsertedOr (FindsNoRoom arena last_cycle loaded after) said loaded seen after
 
--- and of one that was tried once more where the table could become large enough
-abbrev pub IsKept : DbConf → Type 0 → Inserted → Loaded → List Record → List Record → Type 0
-IsKept settings last_cycle said loaded seen after = IsInsertedOr (IsFull settings after last_cycle loaded.request loaded.answer.bytes) said loaded seen after
+-- and of one that was tried once more where the table could become large enough, which has so many words then
+abbrev pub IsKept : DbConf → ℕ → Type 0 → Inserted → Loaded → List Record → List Record → Type 0
+IsKept settings words last_cycle said loaded seen after = IsInsertedOr (IsFull settings words after last_cycle loaded.request loaded.answer.bytes) said loaded seen after
 
 -- how many words an insertion needs that found no room
 abbrev pub needed_by : Inserted → Option ℕ

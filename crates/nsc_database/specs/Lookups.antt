@@ -29,9 +29,9 @@ given_by (inserted.Present number) bytes = given.Fresh bytes (why.Present number
 given_by (inserted.Spent count) bytes = given.Fresh bytes (why.Spent count)
 given_by (inserted.Full need free) bytes = given.Fresh bytes (why.Full need free)
 
--- an insertion was tried, and once more where the table could become large enough; there may be no more compactions; and the lookup
--- gives this
-pub record IsTried (settings : DbConf) (last_cycle : Type 0) (loaded : Loaded) (seen after : List Record) (g : Given) : Type 0 where
+-- an insertion was tried, and once more where the table could become large enough, which has so many words then; there may be no more
+-- compactions; and the lookup gives this
+pub record IsTried (settings : DbConf) (words : ℕ) (last_cycle : Type 0) (loaded : Loaded) (seen after : List Record) (g : Given) : Type 0 where
   pub said : Inserted
-  pub inserted : IsKept settings last_cycle said loaded seen after
+  pub inserted : IsKept settings words last_cycle said loaded seen after
   pub gives : g ≡ given_by said loaded.answer.bytes

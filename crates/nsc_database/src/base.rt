@@ -164,7 +164,7 @@ impl<D: OfDb, F: FileSet + Drop, A: Answerer + Drop, B: Room> Base<D, F, A, B> {
         requires answered { IsAnswered pass.old.pass.seen loaded }
         requires new { loaded.reloads ≡ 0 }
         ensures frame { Held pass.old pass.new }
-        ensures kept { IfOk result (λ given. IsTried self.now.settings (LoadedLastCycle pass.old pass.new) loaded pass.old.pass.seen pass.new.pass.seen given) }
+        ensures kept { IfOk result (λ given. IsTried self.now.settings pass.new.pass.present.words (LoadedLastCycle pass.old pass.new) loaded pass.old.pass.seen pass.new.pass.seen given) }
         ensures steady { IsSteady B.held D.db pass.new.pass.seen }
     {
         pass.learn();
@@ -251,7 +251,7 @@ impl<D: OfDb, F: FileSet + Drop, A: Answerer + Drop, B: Room> Base<D, F, A, B> {
         requires { pass.old.db ≡ D.db }
         ensures frame { Held pass.old pass.new }
         ensures steady { IsSteady B.held D.db pass.new.pass.seen }
-        ensures counted { IfOk result (λ stats. IsCounted self.now.settings pass.new.pass.seen stats) }
+        ensures counted { IfOk result (λ stats. IsCounted self.now.settings pass.new.pass.present.words pass.new.pass.seen stats) }
         ensures enabled { IfOk result (λ stats. stats.enabled ≡ self.now.settings.enabled) }
     {
         let mut lock = self.desk.lock(rt);

@@ -62,6 +62,8 @@ impl<F: FileSet + Drop, A: Answerer + Drop, B: Room> Store for Database<F, A, B>
 
     ghost last = { λ p. p.pass.searching.last };
 
+    ghost words = { λ p. p.pass.present.words };
+
     ghost held = { λ d. B.held };
 
     fn attach<R: Wait>(&self, rt: &R, alloc: Global) -> Result<DbPass<F, B>, NoMemory> {

@@ -129,6 +129,7 @@ impl<D: OfDb, B: Room> Desk<D, B> {
         ensures same { self.new ≡ self.old }
         ensures frame { Held pass.old pass.new }
         ensures seen { pass.new.pass.seen ≡ self.old.writer.seen }
+        ensures present { pass.new.pass.present ≡ pass.old.pass.present }
         ensures cycle { last_count ≤ self.old.writer.cache.cycle → LoadedLastCycle pass.old pass.new }
         ensures steady { IsSteady B.held D.db pass.new.pass.seen }
         ensures reloaded { Reloaded B.conf.reloads pass.new.pass.seen }
@@ -149,7 +150,7 @@ impl<D: OfDb, B: Room> Desk<D, B> {
 
     /// What the writer counts, in the table that it writes.
     pub fn stats(&self) -> Stats
-        ensures counted { IsCounted (settings_of B.conf D.db) self.now.writer.seen result }
+        ensures counted { IsCounted (settings_of B.conf D.db) self.now.writer.table.words self.now.writer.seen result }
         ensures used { result.used ≡ self.now.writer.cache.used }
         ensures arena { result.arena ≡ self.now.writer.layout.arena }
     {

@@ -40,7 +40,7 @@ impl<D: OfDb, B: Room> Desk<D, B> {
         ensures frame { Held pass.old pass.new }
         ensures present { IfOk result (λ kept. pass.new.pass.present ≡ self.new.writer.table) }
         ensures steady { IsSteady B.held D.db pass.new.pass.seen }
-        ensures kept { IfOk result (λ kept. IsKept settings.now (last_count ≤ self.new.writer.cache.cycle) kept.0 loaded self.old.writer.seen self.new.writer.seen) }
+        ensures kept { IfOk result (λ kept. IsKept settings.now self.new.writer.table.words (last_count ≤ self.new.writer.cache.cycle) kept.0 loaded self.old.writer.seen self.new.writer.seen) }
         ensures back { IfOk result (λ kept. kept.1 ≡ loaded) }
         ensures once { GrowsOnce self.old self.new }
         ensures stays { OnErr result (self.new.writer.seen ≡ self.old.writer.seen) }

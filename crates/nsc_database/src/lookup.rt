@@ -35,7 +35,7 @@ impl<D: OfDb, F: FileSet + Drop, A: Answerer + Drop, B: Room> Base<D, F, A, B> {
         requires moment { now < 2 ^ 62 }
         ensures frame { Goes pass.old pass.new }
         ensures steady { IsSteady B.held D.db pass.new.pass.seen }
-        ensures answer { IfOk result (GivesAnswer self.now.settings now pass.old.pass.seen pass.new.pass.seen (LoadedLastCycle pass.old pass.new) (record { kind = kind; key = key.now })) }
+        ensures answer { IfOk result (GivesAnswer self.now.settings pass.new.pass.present.words now pass.old.pass.seen pass.new.pass.seen (LoadedLastCycle pass.old pass.new) (record { kind = kind; key = key.now })) }
         ensures files { IfOk result (IsOfFiles D.db (F.reads pass.old.files) (F.reads pass.new.files) (F.latest pass.new.files) B.held (record { kind = kind; key = key.now })) }
         ensures fault { IfErr result (GivesUp self.now.settings pass.old.pass.seen pass.new.pass.seen (record { kind = kind; key = key.now }) (F.faults pass.old.files) (F.faults pass.new.files) (F.file_faults pass.old.files) (F.file_faults pass.new.files)) }
         ensures no_fault { OnOk result (NoneFailed F.FileSet pass.old.files pass.new.files) }

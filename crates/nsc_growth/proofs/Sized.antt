@@ -7,7 +7,7 @@ use Rattle.nsc_model.specs.Growth.{IsArena, MayGrow, arena_after}
 use Rattle.nsc_model.specs.Machine.{room_of}
 use Rattle.nsc_model.specs.Sizes.{SizeFits}
 use Rattle.nsc_words.specs.declared.layout.Layout.{Layout}
-use Rattle.nsc_words.specs.Layout.{IsLayout}
+use Rattle.nsc_words.specs.Layout.{IsLayout, table_words}
 use Rattle.nsc_growth.specs.Doubled.{Fits, IsNext, doubled}
 use Rattle.nsc_growth.specs.Sized.{IsSized, first_layout}
 use Rattle.nsc_growth.proofs.Doublings.{doubled_again, product_less}
@@ -20,9 +20,9 @@ sized_first settings = record {
   is = λ i. record { buckets = sym (mul-one settings.size) i; arena = sym (mul-one (room_of settings)) i };
 }
 
--- entries may take so many words
-pub sized_arena : (settings : DbConf) (layout : Layout) → IsSized settings layout → IsArena settings layout.arena
-sized_arena settings layout sized = record { doublings = sized.doublings; grown = sized.grown; is = ap (λ (l : Layout). l.arena) sized.is }
+-- entries may take so many words of the whole table
+pub sized_arena : (settings : DbConf) (layout : Layout) → IsSized settings layout → IsArena settings (table_words layout) layout.arena
+sized_arena settings layout sized = record { doublings = sized.doublings; grown = sized.grown; all = ap table_words sized.is; is = ap (λ (l : Layout). l.arena) sized.is }
 
 -- they are no fewer than in the first table
 pub sized_low : (settings : DbConf) (layout : Layout) → IsSized settings layout → room_of settings ≤ layout.arena

@@ -9,14 +9,18 @@ use Rattle.nsc_model.specs.Machine.{room_of}
 abbrev pub arena_after : DbConf → ℕ → ℕ
 arena_after settings doublings = room_of settings * 2 ^ doublings
 
--- it may become so large: the sixteen words at its head, its buckets and its entries' words take at most max-db-size bytes, and entries
--- at most 64 MiB
+-- the words of the whole table then: the sixteen at its head, its buckets, and those that entries may take
+abbrev pub words_after : DbConf → ℕ → ℕ
+words_after settings doublings = 16 + settings.size * 2 ^ doublings + arena_after settings doublings
+
+-- it may become so large: the whole table takes at most max-db-size bytes, and entries at most 64 MiB
 pub record MayGrow (settings : DbConf) (doublings : ℕ) : Type 0 where
-  pub bytes : 8 * (16 + settings.size * 2 ^ doublings + arena_after settings doublings) ≤ settings.max_size
+  pub bytes : 8 * words_after settings doublings ≤ settings.max_size
   pub words : arena_after settings doublings ≤ most_words
 
--- entries may take so many words of the first table, or of one that it may become
-pub record IsArena (settings : DbConf) (arena : ℕ) : Type 0 where
+-- a table of so many words is the first one, or one that it may become, and entries may take so many of them
+pub record IsArena (settings : DbConf) (words arena : ℕ) : Type 0 where
   pub doublings : ℕ
   pub grown : (doublings ≡ 0) ⊎ MayGrow settings doublings
+  pub all : words ≡ words_after settings doublings
   pub is : arena ≡ arena_after settings doublings

@@ -104,30 +104,30 @@ IsLoadedAgain arena ended request history = IsLoadedAfter ended request history 
 abbrev pub AreLoadedAgain : ℕ → List Record → Type 0
 AreLoadedAgain arena history = (number : ℕ) (before : List Record) (e : Entry) → IsPrefix (End number Replaced ∷ before) history → load_of before number ≡ Some e → IsLoadedAgain arena (End number Replaced ∷ before) e.request history
 
--- so many words of the table are free, those that no live entry takes, and the live entries leave fewer than are needed of every table
--- that it may become
-pub record HasNoRoom (settings : DbConf) (need free : ℕ) (history : List Record) : Type 0 where
+-- so many words of the table of this size are free, those that no live entry takes, and the live entries leave fewer than are needed of
+-- every table that it may become
+pub record HasNoRoom (settings : DbConf) (words need free : ℕ) (history : List Record) : Type 0 where
   pub entries : List Entry
   pub live : AreLive history entries
   pub arena : ℕ
-  pub newest : IsArena settings arena
+  pub newest : IsArena settings words arena
   pub rest : free + words_of entries ≡ arena
   pub largest : (doublings : ℕ) → MayGrow settings doublings → arena_after settings doublings < words_of entries + need
 
--- an entry needs more words than are free of the table, or of any that it may become, unless there are no more compactions
-pub record IsFull (settings : DbConf) (history : List Record) (last_cycle : Type 0) (request : Request) (bytes : List ℕ) (need free : ℕ) : Type 0 where
+-- an entry needs more words than are free of the table of this size, or of any that it may become, unless there are no more compactions
+pub record IsFull (settings : DbConf) (words : ℕ) (history : List Record) (last_cycle : Type 0) (request : Request) (bytes : List ℕ) (need free : ℕ) : Type 0 where
   pub needed : need ≡ node_words (length request.key) (length bytes)
   pub less : free < need
-  pub left : HasNoRoom settings need free history ⊎ last_cycle
+  pub left : HasNoRoom settings words need free history ⊎ last_cycle
 
--- why a reply that was made anew is not kept
-abbrev pub IsWhy : Why → DbConf → List Record → List Record → Type 0 → Request → List ℕ → Type 0
-IsWhy why.Disabled settings seen after last_cycle request bytes = settings.enabled ≡ false
-IsWhy (why.TooLarge size) settings seen after last_cycle request bytes = (size ≡ length bytes) × (kept_limit < size)
-IsWhy (why.Discarded loaded epoch) settings seen after last_cycle request bytes = (invalidations seen ≤ loaded) × (loaded < epoch) × (epoch ≤ invalidations after)
-IsWhy (why.Present number) settings seen after last_cycle request bytes = (e : Entry) × IsLive after e × (e.number ≡ number) × (e.request ≡ request) × (HasLoad seen e → ⊥)
-IsWhy (why.Spent count) settings seen after last_cycle request bytes = (count ≡ last_count) × (loads after ≡ count)
-IsWhy (why.Full need free) settings seen after last_cycle request bytes = IsFull settings after last_cycle request bytes need free
+-- why a reply that was made anew is not kept, where the table has so many words
+abbrev pub IsWhy : Why → DbConf → ℕ → List Record → List Record → Type 0 → Request → List ℕ → Type 0
+IsWhy why.Disabled settings words seen after last_cycle request bytes = settings.enabled ≡ false
+IsWhy (why.TooLarge size) settings words seen after last_cycle request bytes = (size ≡ length bytes) × (kept_limit < size)
+IsWhy (why.Discarded loaded epoch) settings words seen after last_cycle request bytes = (invalidations seen ≤ loaded) × (loaded < epoch) × (epoch ≤ invalidations after)
+IsWhy (why.Present number) settings words seen after last_cycle request bytes = (e : Entry) × IsLive after e × (e.number ≡ number) × (e.request ≡ request) × (HasLoad seen e → ⊥)
+IsWhy (why.Spent count) settings words seen after last_cycle request bytes = (count ≡ last_count) × (loads after ≡ count)
+IsWhy (why.Full need free) settings words seen after last_cycle request bytes = IsFull settings words after last_cycle request bytes need free
 
 -- a new version was needed, and the count of versions stands at its end
 pub record IsSpent (after : List Record) (count : ℕ) : Type 0 where
@@ -153,20 +153,21 @@ IsMissedAt fault.NoMemory settings seen after request = Unit {0}
 IsMissedAt _ settings seen after request = IsMissed settings seen after request
 
 -- which entry gave the reply of a lookup, or why none did
-abbrev pub IsGiven : Given → DbConf → ℕ → List Record → List Record → Type 0 → Request → Type 0
-IsGiven (given.Hit bytes number) settings now seen after last_cycle request = IsHit after request bytes number
-IsGiven (given.Loaded bytes number) settings now seen after last_cycle request = IsLoaded settings now seen after request bytes number × EndedAfter seen after request
-IsGiven (given.Fresh bytes why) settings now seen after last_cycle request = IsWhy why settings seen after last_cycle request bytes × IsMissed settings seen after request
+abbrev pub IsGiven : Given → DbConf → ℕ → ℕ → List Record → List Record → Type 0 → Request → Type 0
+IsGiven (given.Hit bytes number) settings words now seen after last_cycle request = IsHit after request bytes number
+IsGiven (given.Loaded bytes number) settings words now seen after last_cycle request = IsLoaded settings now seen after request bytes number × EndedAfter seen after request
+IsGiven (given.Fresh bytes why) settings words now seen after last_cycle request = IsWhy why settings words seen after last_cycle request bytes × IsMissed settings seen after request
 
 -- a lookup gave up, for this cause, and no entry answers, unless memory was wanting
 pub record GivesUp (settings : DbConf) (seen after : List Record) (request : Request) (before_faults after_faults : ℕ) (before_each after_each : FileId → ℕ) (cause : LookupFault) : Type 0 where
   pub missed : IsMissedAt cause settings seen after request
   pub fault : IsFault cause after before_faults after_faults before_each after_each
 
--- a lookup gave this, by what its caller has seen: its reply answers the request, and is not kept where the database is not cached
-pub record GivesAnswer (settings : DbConf) (now : ℕ) (seen after : List Record) (last_cycle : Type 0) (request : Request) (g : Given) : Type 0 where
+-- a lookup gave this, by what its caller has seen, and by the words of the table that it has come to: its reply answers the request, and is
+-- not kept where the database is not cached
+pub record GivesAnswer (settings : DbConf) (words now : ℕ) (seen after : List Record) (last_cycle : Type 0) (request : Request) (g : Given) : Type 0 where
   pub answered : Answered seen after request (reply_of g)
-  pub source : IsGiven g settings now seen after last_cycle request
+  pub source : IsGiven g settings words now seen after last_cycle request
   pub uncached : OnFalse settings.enabled (g ≡ given.Fresh (reply_of g) why.Disabled)
 
 -- a lookup gave this, by its files: by what it read of them, and by those that are held
@@ -193,15 +194,15 @@ abbrev pub IsInvalidateFault : CacheFault → List Record → Type 0 → Type 0
 IsInvalidateFault cache_fault.NoMemory after last_cycle = Unit {0}
 IsInvalidateFault (cache_fault.Spent count) after last_cycle = IsUnmoved after last_cycle count (NoneLive after)
 
--- the counts are those of this history, and the words those of its live entries, in a table that the settings allow
-pub record IsCounted (settings : DbConf) (after : List Record) (stats : Stats) : Type 0 where
+-- the counts are those of this history, and the words those of its live entries, in the table of this size
+pub record IsCounted (settings : DbConf) (words : ℕ) (after : List Record) (stats : Stats) : Type 0 where
   pub entries : List Entry
   pub live : AreLive after entries
   pub counted : stats.entries ≡ length entries
   pub taken : stats.compactions < 2 ^ 61 → stats.used ≡ words_of entries
   pub invalidations_are : stats.invalidations ≡ invalidations after
   pub within : stats.used ≤ stats.arena
-  pub allowed : IsArena settings stats.arena
+  pub newest : IsArena settings words stats.arena
 
 -- a tick at this moment looked at a version, and the stale entries ended: every one that had been seen whose time was over, and, where
 -- changes of the files count, whose version is another one

@@ -204,6 +204,9 @@ pub trait Store {
 
     ghost last: { Self.Pass → ℕ };
 
+    // How many words the table has that a pass has come to: a table that becomes larger is another one.
+    ghost words: { Self.Pass → ℕ };
+
     // The files that every read of the store gives, where these are told.
     ghost held: { Self → Option Content };
 
@@ -232,7 +235,7 @@ pub trait Store {
         ensures seen { Continues (seen pass.old) (seen pass.new) }
         ensures steady { IsSteady (held self.now) (db self.now) (seen pass.new) }
         ensures searches { searches pass.old ≤ searches pass.new }
-        ensures answer { IfOk result (GivesAnswer (settings self.now) now (seen pass.old) (seen pass.new) (FoundLastCycle (searches pass.old) (searches pass.new) (last pass.new)) (record { kind = kind; key = key.now })) }
+        ensures answer { IfOk result (GivesAnswer (settings self.now) (words pass.new) now (seen pass.old) (seen pass.new) (FoundLastCycle (searches pass.old) (searches pass.new) (last pass.new)) (record { kind = kind; key = key.now })) }
         ensures files { IfOk result (IsOfFiles (db self.now) (reads pass.old) (reads pass.new) (latest pass.new) (held self.now) (record { kind = kind; key = key.now })) }
         ensures fault { IfErr result (GivesUp (settings self.now) (seen pass.old) (seen pass.new) (record { kind = kind; key = key.now }) (faults pass.old) (faults pass.new) (file_faults pass.old) (file_faults pass.new)) }
         ensures no_fault { OnOk result (FaultsStay (faults pass.old) (faults pass.new) (file_faults pass.old) (file_faults pass.new)) };
@@ -293,7 +296,7 @@ pub trait Store {
         ensures seen { Continues (seen pass.old) (seen pass.new) }
         ensures steady { IsSteady (held self.now) (db self.now) (seen pass.new) }
         ensures searches { searches pass.old ≤ searches pass.new }
-        ensures counted { IfOk result (λ stats. IsCounted (settings self.now) (seen pass.new) stats) }
+        ensures counted { IfOk result (λ stats. IsCounted (settings self.now) (words pass.new) (seen pass.new) stats) }
         ensures enabled { IfOk result (λ stats. stats.enabled ≡ (settings self.now).enabled) }
         ensures no_fault { FaultsStay (faults pass.old) (faults pass.new) (file_faults pass.old) (file_faults pass.new) };
 

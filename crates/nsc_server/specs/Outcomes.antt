@@ -54,7 +54,7 @@ pub record IsLookReply (settings : DbConf) (moment : ℕ) (request : Request) (b
   pub legal : Legal after.seen
   pub given : Given
   pub says : reply_of given ≡ reply
-  pub gives : GivesAnswer settings moment before.seen after.seen (LoadedLastCycle before after) request given
+  pub gives : GivesAnswer settings after.words moment before.seen after.seen (LoadedLastCycle before after) request given
 
 -- a database was emptied, or none has the name
 abbrev pub IsInvalidateReply : Option Db → Databases PassAt → Databases PassAt → List ℕ → Type 0
@@ -64,7 +64,7 @@ IsInvalidateReply None before after reply = (reply ≡ no_database) × (after �
 -- the counts are those of a database of these settings, as the pass has seen it
 pub record IsCountOf (settings : DbConf) (after : PassAt) (stats : Stats) : Type 0 where
   pub legal : Legal after.seen
-  pub counted : IsCounted settings after.seen stats
+  pub counted : IsCounted settings after.words after.seen stats
   pub enabled : stats.enabled ≡ settings.enabled
 
 -- the counts of the four databases, in the order passwd, group, hosts and services

@@ -73,7 +73,7 @@ pub(crate) fn look_up<R: Wait, S: Store>(
     ensures before { SawMore (passes_at S.Store passes.old) (passes_at S.Store passes.new) }
     ensures others { OthersThan db (passes_at S.Store passes.old) (passes_at S.Store passes.new) }
     ensures legal { Legal (database_in (passes_at S.Store passes.new) db).seen }
-    ensures answer { IfOk result (GivesAnswer (database_in (settings_of S.Store stores.now) db) now (database_in (passes_at S.Store passes.old) db).seen (database_in (passes_at S.Store passes.new) db).seen (LoadedLastCycle (database_in (passes_at S.Store passes.old) db) (database_in (passes_at S.Store passes.new) db)) (record { kind = kind; key = key.now })) }
+    ensures answer { IfOk result (GivesAnswer (database_in (settings_of S.Store stores.now) db) (database_in (passes_at S.Store passes.new) db).words now (database_in (passes_at S.Store passes.old) db).seen (database_in (passes_at S.Store passes.new) db).seen (LoadedLastCycle (database_in (passes_at S.Store passes.old) db) (database_in (passes_at S.Store passes.new) db)) (record { kind = kind; key = key.now })) }
     ensures fault { IfErr result (GivesUp (database_in (settings_of S.Store stores.now) db) (database_in (passes_at S.Store passes.old) db).seen (database_in (passes_at S.Store passes.new) db).seen (record { kind = kind; key = key.now }) (database_in (passes_at S.Store passes.old) db).faults (database_in (passes_at S.Store passes.new) db).faults (database_in (passes_at S.Store passes.old) db).file_faults (database_in (passes_at S.Store passes.new) db).file_faults) }
 {
     match db {

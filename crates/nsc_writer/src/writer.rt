@@ -5,7 +5,7 @@ ghost use Rattle.nsc_model.specs.declared.record.Record.TheVariants as record_of
 ghost use Rattle.nsc_model.specs.History.{IsPrefix};
 ghost use Rattle.nsc_model.specs.Machine.{last_count, new_cache};
 ghost use Rattle.nsc_laws.specs.Calls.{Tells};
-ghost use Rattle.nsc_words.specs.Layout.{IsLayout};
+ghost use Rattle.nsc_words.specs.Layout.{IsLayout, table_words};
 ghost use Rattle.nsc_rule.specs.Seats.{informed, rested};
 
 use nsc_base::NoMemory;
@@ -77,12 +77,14 @@ impl Writer {
         Ok((writer, pass))
     }
 
-    /// What its history tells.
+    /// What its history tells, and how many words its table has.
     pub fn learn(&self)
         ensures told { Tells self.now.seen self.now.cache }
         ensures room { self.now.layout.arena ≤ most_words }
+        ensures wide { self.now.table.words ≡ table_words self.now.layout }
     {
         self.sheet.learn();
+        self.sheet.map().layout();
     }
 
     /// The words that it writes.

@@ -1,4 +1,5 @@
-use Rattle.std.proofs.Common.{◌∙◌, ◌≤◌, List, ap, rules, subst, sym}
+use Rattle.std.proofs.Common.{◌∙◌, ◌≤◌, ℕ, List, ap, rules, subst, sym}
+use Rattle.atomic_table.specs.Seated.{TableId}
 use Rattle.nsc_model.specs.declared.record.Record.{Record}
 use Rattle.nsc_model.specs.History.{IsPrefix}
 use Rattle.nsc_model.specs.Machine.{last_count}
@@ -30,9 +31,11 @@ returns-clause-kept g c =
     let last_cycle : Type 0 = LoadedLastCycle c.args.pass.now c.show_cycle.new.pass in
     let begun = (held_through _ _ _ c.in_ok-follow.ensures.frame c.in_ok-said.ensures.frame).searches in
     let found : last_count ≤ c.keep.new.self.writer.cache.cycle → last_cycle = λ high. loaded_before c.args.pass.now c.keep.new.pass c.show_cycle.new.pass begun (c.show_cycle.ensures.cycle high) in
-    let kept = inserted_since settings _ last_cycle _ c.args.loaded c.args.pass.now.pass.seen c.follow.new.self.writer.seen c.keep.new.self.writer.seen before found c.in_ok-said.ensures.kept in
+    let words = c.show_cycle.new.pass.pass.present.words in
+    let is = ap (λ (t : TableId). t.words) (c.show_cycle.ensures.present ∙ c.in_ok-said.ensures.present) in
+    let kept = inserted_since settings words _ last_cycle _ c.args.loaded c.args.pass.now.pass.seen c.follow.new.self.writer.seen c.keep.new.self.writer.seen before found (subst (λ (n : ℕ). IsKept settings n (last_count ≤ c.keep.new.self.writer.cache.cycle) c.in_ok-said.said c.args.loaded c.follow.new.self.writer.seen c.keep.new.self.writer.seen) (sym is) c.in_ok-said.ensures.kept) in
     record {
       said = c.in_ok-said.said;
-      inserted = subst (λ (h : List Record). IsKept settings last_cycle c.in_ok-said.said c.args.loaded c.args.pass.now.pass.seen h) (sym c.show_cycle.ensures.seen) kept;
+      inserted = subst (λ (h : List Record). IsKept settings words last_cycle c.in_ok-said.said c.args.loaded c.args.pass.now.pass.seen h) (sym c.show_cycle.ensures.seen) kept;
       gives = search rules;
     }

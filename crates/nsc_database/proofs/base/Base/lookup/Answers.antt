@@ -20,7 +20,7 @@ returns-in-Ok-copy-clause-answer g c =
     let seen = c.find.new.pass.pass.seen in
     let found : IsFoundIfCached c.args.self.now.settings (looked.Hit c.in-Hit.hit) c.find.new.pass.pass.seen request c.find.new.pass.reply.content = rw c.in-Hit.is at c.in-Ok.ensures.found in
     let hit = subst (λ (bytes : List ℕ). IsHit seen request bytes c.in-Hit.hit.number) (sym (c.in-Ok-copy.ensures ∙ c.bytes.ensures.content)) found.1 in
-    hit_answer c.args.self.now.settings c.args.now c.args.pass.now.pass.seen seen _ request c.in-Ok-copy.bytes c.in-Hit.hit.number c.find.ensures.frame.before found.0 hit
+    hit_answer c.args.self.now.settings _ c.args.now c.args.pass.now.pass.seen seen _ request c.in-Ok-copy.bytes c.in-Hit.hit.number c.find.ensures.frame.before found.0 hit
 
 pub returns-in-Ok-copy-clause-files : goal.returns-in-Ok-copy-clause-files
 returns-in-Ok-copy-clause-files g c =
@@ -95,15 +95,16 @@ returns-in-Ok-keep-clause-answer g c =
     let after = c.keep.new.pass.pass.seen in
     let last_cycle : Type 0 = LoadedLastCycle c.args.pass.now c.keep.new.pass in
     let begun = (goes_after _ _ _ c.find.ensures.frame c.poll.ensures.frame).searches in
-    let tried = tried_to settings _ last_cycle c.in-Ok-load.loaded mid after c.in-Ok-keep.given (loaded_before c.args.pass.now c.poll.new.pass c.keep.new.pass begun) c.in-Ok-keep.ensures.kept in
-    let reply = kept_reply settings last_cycle c.in-Ok-load.loaded mid after c.in-Ok-keep.given tried ∙ ap (λ (l : Loaded). l.answer.bytes) c.in-Ok-load.ensures in
+    let words = c.keep.new.pass.pass.present.words in
+    let tried = tried_to settings words _ last_cycle c.in-Ok-load.loaded mid after c.in-Ok-keep.given (loaded_before c.args.pass.now c.poll.new.pass c.keep.new.pass begun) c.in-Ok-keep.ensures.kept in
+    let reply = kept_reply settings words last_cycle c.in-Ok-load.loaded mid after c.in-Ok-keep.given tried ∙ ap (λ (l : Loaded). l.answer.bytes) c.in-Ok-load.ensures in
     let none = found_none settings found request c.in-Missed.epoch c.find.new.pass.reply.content c.if-not-self.false found_is in
     let anew : Anew found mid request c.in-Missed.epoch c.in-Ok-poll.polled = record { legal = c.find.ensures.frame.legal; legal_mid = c.poll.ensures.frame.legal; on = c.poll.ensures.frame.before; none = none.1; noted = none.0; is_polled = c.in-Ok-poll.ensures.polled } in
     record {
       answered = answered_before c.args.pass.now.pass.seen found after request (reply_of c.in-Ok-keep.given) c.find.ensures.frame.before
           (poll_answered found mid after request c.in-Missed.epoch c.in-Ok-poll.polled _ c.keep.ensures.frame.legal c.poll.ensures.frame.legal c.poll.ensures.frame.before c.keep.ensures.frame.before c.in-Ok-poll.ensures.polled (sym reply));
-      source = given_before c.in-Ok-keep.given settings c.args.now c.args.pass.now.pass.seen found after last_cycle request c.find.ensures.frame.before
-          (anew_given c.in-Ok-keep.given found mid after last_cycle request c.in-Missed.epoch c.in-Ok-poll.polled settings c.args.now anew c.keep.ensures.frame.before
-          (subst (λ (l : Loaded). IsTried settings last_cycle l mid after c.in-Ok-keep.given) c.in-Ok-load.ensures tried));
+      source = given_before c.in-Ok-keep.given settings words c.args.now c.args.pass.now.pass.seen found after last_cycle request c.find.ensures.frame.before
+          (anew_given c.in-Ok-keep.given found mid after last_cycle request c.in-Missed.epoch c.in-Ok-poll.polled settings words c.args.now anew c.keep.ensures.frame.before
+          (subst (λ (l : Loaded). IsTried settings words last_cycle l mid after c.in-Ok-keep.given) c.in-Ok-load.ensures tried));
       uncached = OnFalse_from settings.enabled _ (λ off. absurd (false≢true (sym off ∙ c.if-not-self.false)));
     }

@@ -1,10 +1,9 @@
-use Rattle.std.proofs.Common.{List, ap, subst}
-use Rattle.nsc_model.specs.declared.record.Record.{Record}
+use Rattle.std.proofs.Common.{ap, subst}
 use Rattle.nsc_model.specs.declared.store.Stats.{Stats}
 use Rattle.nsc_model.specs.Settings.{settings_of}
 use Rattle.nsc_model.specs.Stores.{IsCounted}
 use Rattle.nsc_database.specs.Rests.{Desk}
-use Rattle.nsc_database.proofs.Shown.{Counted, is_counted}
+use Rattle.nsc_database.proofs.Shown.{Counted, in_table, is_counted}
 use Rattle.nsc_database.proofs.desk.Desk.stats.Goals as goal
 
 pub returns-clause-counted : goal.returns-clause-counted
@@ -18,5 +17,6 @@ returns-clause-counted g c =
       compactions = ap (λ (s : Stats). s.compactions) c.stats.ensures.value;
       within = c.stats.ensures.within;
     } in
-    subst (λ (h : List Record). IsCounted (settings_of g.B.Room.conf g.D.OfDb.db) h c.stats.result) (ap (λ (d : Desk). d.writer.seen) c.self.view_is)
-    (is_counted (settings_of g.B.Room.conf g.D.OfDb.db) w c.stats.result c.learn.ensures.told c.self.invariant.1 c.self.invariant.5 counts)
+    let settings = settings_of g.B.Room.conf g.D.OfDb.db in
+    subst (λ (d : Desk). IsCounted settings d.writer.table.words d.writer.seen c.stats.result) c.self.view_is
+    (is_counted settings w c.stats.result c.learn.ensures.told c.self.invariant.1 (in_table settings w c.self.invariant.5 c.learn.ensures.wide) counts)
