@@ -17,6 +17,7 @@ from tables import DATABASES, MAN, options
 # Where make install has things, under PREFIX and SYSCONFDIR, and their modes.
 PLACES = {
     "sbin/nscd": 0o755,
+    "libexec/nscd/nscd": 0o755,
     "libexec/nscd/nscd-serve": 0o755,
     "lib/systemd/system/nscd.service": 0o644,
     "lib/tmpfiles.d/nscd.conf": 0o644,
@@ -88,10 +89,10 @@ def places_case():
             after = tree(root)
             files = {f"/{name}": mode for name, (mode, text) in after.items() if text is not None and name not in before}
             check(files == wanted, f"make install: {set(files.items()) ^ set(wanted.items())}")
-            check(after[f"{prefix}/sbin/nscd"[1:]][1] == program.read_bytes(), "make install: another program")
+            check(after[f"{prefix}/libexec/nscd/nscd"[1:]][1] == program.read_bytes(), "make install: another program")
             for name, (mode, text) in after.items():
                 check(text is not None or mode == 0o755, f"{name}: mode {mode:o}")
-                is_filled = text is None or name.endswith("sbin/nscd") or not re.search(rb"@[A-Z]+@", text)
+                is_filled = text is None or name.endswith("libexec/nscd/nscd") or not re.search(rb"@[A-Z]+@", text)
                 check(is_filled, f"{name}: something is not filled in")
             for name in ("share/man/man8/nscd.8", "share/man/man5/nscd.conf.5"):
                 check(f"version {VERSION}." in after[f"{prefix}/{name}"[1:]][1].decode(), f"{name}: not version {VERSION}")

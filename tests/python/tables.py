@@ -10,7 +10,8 @@ from running import PROGRAM, check
 
 DIST, MAN = ROOT / "dist", ROOT / "man"
 DATABASES = ["passwd", "group", "hosts", "services"]
-FORMS = "dgikrw"  # in the order of the manual page's synopsis
+FORMS = "dgikrw"  # of the program, in the order of the manual page's synopsis
+OF_COMMAND = "chuv"  # of the command alone, which follow there
 
 
 @dataclass(frozen=True)
@@ -22,6 +23,9 @@ class Option:
 
     def words(self):
         return ([f"-{self.letter}"] if self.letter else []) + [f"--{self.long}"]
+
+    def is_of_program(self):
+        return any(form in FORMS for form in self.forms)
 
 
 @dataclass(frozen=True)
@@ -72,7 +76,7 @@ def section(text, title):
 
 def manual_options():
     """The letter, the long name and the value of each option that the manual page has."""
-    pattern = r"^\.It Fl (?:(\w) , )?-([\w-]+)(?: Ar (\w+))?$"
+    pattern = r"^\.It Fl (?:(\w) , |\\&\? , )?-([\w-]+)(?: Ar (\w+))?$"
     page = section((MAN / "nscd.8").read_text(), "DESCRIPTION")
     return [(letter, long, value.upper()) for letter, long, value in re.findall(pattern, page, re.M)]
 
@@ -157,18 +161,19 @@ def check_options(table):
     found = re.findall(pattern, source("nsc_run/src/words.rt"))
     alike(
         "options of the table and of the sources",
-        [(option.letter, option.long, bool(option.value)) for option in table],
+        [(option.letter, option.long, bool(option.value)) for option in table if option.is_of_program()],
         [(letter, long, kinds[kind]) for kind, long, letter in found],
     )
     alike("options of the table and of nscd(8)", [(o.letter, o.long, o.value) for o in table], manual_options())
     forms = manual_forms()
-    check(len(forms) == len(FORMS), f"synopsis: {len(forms)} forms")
-    for form, (must, may) in zip(FORMS, forms):
+    check(len(forms) == len(FORMS + OF_COMMAND), f"synopsis: {len(forms)} forms")
+    for form, (must, may) in zip(FORMS + OF_COMMAND, forms):
         alike(f"form {form}", [o.letter or o.long for o in table if form in o.forms], must | may)
         check(len(must) == (form != "d"), f"form {form}: {must} must stand")
     statuses = re.findall(r"Exit::\w+(?: \{ \.\. \})? => (\d+),", source("nsc_model/src/exit.rt"))
     said = re.findall(r"^\.It (\d+)$", section((MAN / "nscd.8").read_text(), "EXIT STATUS"), re.M)
-    alike("exits", statuses, said)
+    # The command alone ends with 1, where no daemon runs.
+    alike("exits", [*statuses, "1"], said)
     return len(statuses)
 
 
@@ -177,12 +182,12 @@ def options_case():
     said = f"{len(table)} options and {check_options(table)} exits are those of the sources and of nscd(8)"
     if not PROGRAM.exists():
         return said + "; there is no program to ask"
-    count = sum(tried(option, form) for option in table for form in FORMS)
-    letters = {option.letter for option in table}
+    count = sum(tried(option, form) for option in table if option.is_of_program() for form in FORMS)
+    letters = {option.letter for option in table if option.is_of_program()}
     others = [letter for letter in string.ascii_letters + string.digits + "?" if letter not in letters]
     for letter in others:
         check(is_refused(f"-{letter}"), f"-{letter} is taken")
-    for word in ("debug", "foregroun", "help", "usage", "version", "secure", "gat", "start", "stat"):
+    for word in ("check", "debug", "foregroun", "help", "usage", "version", "secure", "gat", "start", "stat"):
         check(is_refused(f"--{word}"), f"--{word} is taken")
     return f"{said}; the program takes and refuses them so in {count} uses, and {len(others)} other letters are refused"
 
