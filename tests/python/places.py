@@ -243,13 +243,24 @@ def completions_case():
 # ---- manual pages
 
 
+def linted_by_man():
+    if shutil.which("man") is None or shutil.which("groff") is None:
+        return "man --warnings was not tried, since there is no man or no groff"
+    for page in ("nscd.8", "nscd.conf.5"):
+        done = subprocess.run(["man", "--warnings", "-l", MAN / page], capture_output=True, timeout=60, check=False)
+        check(done.returncode == 0 and done.stderr == b"", f"man --warnings {page}: {done.stderr.decode()}")
+        check(len(done.stdout) > 2000, f"man {page}: nothing is shown")
+    return "man --warnings says nothing of either"
+
+
 def manuals_case():
     for page in ("nscd.8", "nscd.conf.5"):
         text = (MAN / page).read_text()
         check(text.count("@VERSION@") == 1, f"{page}: not one place for the version")
     check(re.search(rf"^## {re.escape(VERSION)}\b", (ROOT / "CHANGELOG.md").read_text(), re.M), f"CHANGELOG.md: no {VERSION}")
+    said = f"both pages have version {VERSION}; {linted_by_man()}"
     if shutil.which("mandoc") is None:
-        return "skipped but for their version, since there is no mandoc"
+        return f"{said}; there is no mandoc"
     with folder() as where:
         began = time.monotonic()
         for page in ("nscd.8", "nscd.conf.5"):
@@ -261,4 +272,4 @@ def manuals_case():
             shown = subprocess.run(["mandoc", "-Tutf8", where / page], capture_output=True, timeout=20, check=False)
             check(len(shown.stdout) > 2000, f"mandoc {page}: nothing is shown")
         check(time.monotonic() - began < 60, "mandoc takes long")
-        return f"mandoc -Tlint says nothing of either page, and both have version {VERSION}"
+        return f"{said}; mandoc -Tlint says nothing of either"
