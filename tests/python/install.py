@@ -11,7 +11,8 @@ sys.dont_write_bytecode = True
 from machine import init_case, package_case, systemd_case
 from places import completions_case, manuals_case, places_case
 from running import PROGRAM, Fault
-from service import calls_case, left_case, unit_case
+from service import calls_case, unit_case
+from serving import left_case, reload_case
 from settings import settings_case
 from tables import attributes_case, options_case
 
@@ -23,6 +24,7 @@ CASES = {
     "completions": completions_case,
     "places": places_case,
     "left": left_case,
+    "reload": reload_case,
     "unit": unit_case,
     "calls": calls_case,
     "init": init_case,
@@ -30,7 +32,7 @@ CASES = {
     "systemd": systemd_case,
 }
 # These run the program.
-RUNNING = ("settings", "calls", "init", "package", "systemd")
+RUNNING = ("settings", "reload", "calls", "init", "package", "systemd")
 
 
 def main(names):

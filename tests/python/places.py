@@ -20,6 +20,8 @@ PLACES = {
     "libexec/nscd/nscd": 0o755,
     "libexec/nscd/nscd-serve": 0o755,
     "lib/systemd/system/nscd.service": 0o644,
+    "lib/systemd/system/nscd-switch.path": 0o644,
+    "lib/systemd/system/nscd-switch.service": 0o644,
     "lib/tmpfiles.d/nscd.conf": 0o644,
     "lib/sysusers.d/nscd.conf": 0o644,
     "share/man/man8/nscd.8": 0o644,
@@ -59,6 +61,20 @@ def make(target, program, root, **places):
     kept = {name: value for name, value in os.environ.items() if name not in ("MAKEFLAGS", "MFLAGS", "MAKELEVEL")}
     done = subprocess.run(words, capture_output=True, env=kept, timeout=60, check=False)
     return done.returncode, (done.stdout + done.stderr).decode()
+
+
+def installed(top, program, *changes):
+    """What make install has put below a folder, with nscd-serve over an etc and a run folder of ours."""
+    where = {"PREFIX": f"{top}/usr", "SYSCONFDIR": f"{top}/etc"}
+    status, said = make("install", program, "", **where)
+    check(status == 0, f"make install: {said}")
+    serve = top / "usr/libexec/nscd/nscd-serve"
+    text = serve.read_text()
+    for old, new in changes:
+        check(text.count(old) == 1, f"nscd-serve: {old!r}")
+        text = text.replace(old, new)
+    serve.write_text(text)
+    return serve
 
 
 def tree(root):

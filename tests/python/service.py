@@ -1,4 +1,4 @@
-"""What the service is started with: the databases that it leaves to the C library, its unit, and its list of system calls."""
+"""What the service is started with: its units, and its list of system calls."""
 
 import ctypes
 import ctypes.util
@@ -10,70 +10,9 @@ import subprocess
 import sys
 
 from frames import ROOT
-from places import a_program, folder, make
+from places import a_program, folder, installed
 from running import ASK_ROOT, FILES, PASSWD_BY_NAME, ROOT_REPLY, Fault, check, read_all, request
 from tables import DATABASES
-
-# nsswitch.conf, files beside it, and the databases that are then left to the C library, each with what is not known of it.
-LISTS = (
-    ("", {}, "hosts dns"),
-    (None, {}, "hosts dns"),
-    ("passwd: files\ngroup: files\nhosts: files\nservices: files\n", {}, ""),
-    ("hosts: files dns\n", {}, "hosts dns"),
-    ("hosts: files\n", {}, ""),
-    ("hosts: files # dns\n", {}, ""),
-    ("#hosts: files\nhosts: files mdns4_minimal [NOTFOUND=return] dns\n", {}, "hosts mdns4_minimal"),
-    ("hosts: files\nhosts: dns\n", {}, ""),
-    ("hosts:\tfiles [NOTFOUND=return]\n", {}, ""),
-    (" hosts : files\npasswd:files systemd\n", {}, "passwd systemd"),
-    ("hosts: files\npasswd: files\ngroup: files [SUCCESS=merge] extrausers\n", {}, "group merge"),
-    ("hosts: files\npasswd: extrausers files\ngroup: files extrausers\n", {}, ""),
-    ("hosts: files extrausers\n", {}, "hosts extrausers"),
-    ("hosts: files\nservices: db files\n", {}, ""),
-    ("hosts: files\npasswd: compat\ngroup: compat\n", {}, ""),
-    ("hosts: files\npasswd: compat\n", {"passwd": "root:x:0:0:::\n+\n"}, "passwd nis"),
-    ("hosts: files\npasswd: compat\npasswd_compat: extrausers\n", {"passwd": "root:x:0:0:::\n+\n"}, ""),
-    ("hosts: files\npasswd: compat\npasswd_compat: ldap\n", {"passwd": "-nobody\n"}, "passwd ldap"),
-    ("hosts: files\npasswd: compat\npasswd_compat: files\n", {"passwd": "-@staff\n+\n"}, "passwd netgroups"),
-    ("hosts: files\npasswd: compat files\npasswd_compat: compat\n", {"passwd": "a:x:1:1:::\n"}, ""),
-    ("hosts: files\ngroup: files\ninitgroups: files sss\n", {}, "group sss"),
-    ("hosts: dns\npasswd: sss\ngroup: sss\nservices: sss\n", {}, "passwd sss, group sss, hosts dns, services sss"),
-)
-
-
-def installed(top, program, *changes):
-    """What make install has put below a folder, with nscd-serve over an etc and a run folder of ours."""
-    where = {"PREFIX": f"{top}/usr", "SYSCONFDIR": f"{top}/etc"}
-    status, said = make("install", program, "", **where)
-    check(status == 0, f"make install: {said}")
-    serve = top / "usr/libexec/nscd/nscd-serve"
-    text = serve.read_text()
-    for old, new in changes:
-        check(text.count(old) == 1, f"nscd-serve: {old!r}")
-        text = text.replace(old, new)
-    serve.write_text(text)
-    return serve
-
-
-def left_case():
-    with folder() as top:
-        serve = installed(top, a_program(top), ("\netc=/etc\n", f"\netc={top}/files\n"))
-        for switch, files, wanted in LISTS:
-            etc = top / "files"
-            etc.mkdir()
-            if switch is not None:
-                (etc / "nsswitch.conf").write_text(switch)
-            for name, text in files.items():
-                (etc / name).write_text(text)
-            done = subprocess.run([serve, "left"], capture_output=True, timeout=20, check=False)
-            found = re.findall(r"^nscd: (\w+) is left to the C library, since nsswitch.conf asks (\w+) for it$", done.stdout.decode(), re.M)
-            check(", ".join(map(" ".join, found)) == wanted, f"{switch!r}, {files}: {done.stdout!r}, and not {wanted!r}")
-            check(done.stderr == b"" and done.returncode == 0, f"{switch!r}: {done.stderr!r}")
-            kept = subprocess.run([serve, "left"], capture_output=True, env={"NSCD_SERVE": " ".join(DATABASES)}, timeout=20, check=False)
-            check(kept.stdout == b"", f"{switch!r}: NSCD_SERVE does not count")
-            shutil.rmtree(etc)
-        return f"of {len(LISTS)} lists of services nscd-serve leaves those to the C library that ask for more than is built in"
-
 
 # ---- the unit
 

@@ -1,0 +1,167 @@
+"""Which databases nscd-serve leaves to the C library, at a start and when it is told to judge anew."""
+
+import os
+import shutil
+import socket
+import subprocess
+from contextlib import contextmanager
+
+from places import a_program, folder, installed
+from running import FILES, NO_REPLY, PASSWD_BY_NAME, ROOT_REPLY, check, read_all, request
+from tables import DATABASES
+
+# nsswitch.conf, files beside it, and the databases that are then left to the C library, each with the service that is not known, or with
+# another reason behind a colon.
+LISTS = (
+    ("", {}, "hosts dns"),
+    (None, {}, "hosts dns"),
+    ("passwd: files\ngroup: files\nhosts: files\nservices: files\n", {}, ""),
+    ("hosts: files dns\n", {}, "hosts dns"),
+    ("hosts: files\n", {}, ""),
+    ("hosts: files # dns\n", {}, ""),
+    ("#hosts: files\nhosts: files mdns4_minimal [NOTFOUND=return] dns\n", {}, "hosts mdns4_minimal"),
+    ("hosts: files\nhosts: dns\n", {}, ""),
+    ("hosts:\tfiles [NOTFOUND=return]\n", {}, ""),
+    (" hosts : files\npasswd:files systemd\n", {}, "passwd systemd"),
+    ("hosts: files\npasswd: files\ngroup: files [SUCCESS=merge] extrausers\n", {}, "group: its list in nsswitch.conf has the action merge"),
+    ("hosts: files\npasswd: extrausers files\ngroup: files extrausers\n", {}, ""),
+    ("hosts: files extrausers\n", {}, "hosts extrausers"),
+    ("hosts: files\nservices: db files\n", {}, ""),
+    ("hosts: files\npasswd: compat\ngroup: compat\n", {}, ""),
+    ("hosts: files\npasswd: compat\n", {"passwd": "root:x:0:0:::\n+\n"}, "passwd nis"),
+    ("hosts: files\npasswd: compat\npasswd_compat: extrausers\n", {"passwd": "root:x:0:0:::\n+\n"}, ""),
+    ("hosts: files\npasswd: compat\npasswd_compat: ldap\n", {"passwd": "-nobody\n"}, "passwd ldap"),
+    ("hosts: files\npasswd: compat\npasswd_compat: files\n", {"passwd": "-@staff\n+\n"}, "passwd: ETC/passwd has lines of netgroups"),
+    ("hosts: files\npasswd: compat files\npasswd_compat: compat\n", {"passwd": "a:x:1:1:::\n"}, ""),
+    ("hosts: files\ngroup: files\ninitgroups: files sss\n", {}, "group sss"),
+    ("hosts: files\npasswd: files\r\ngroup: files\n", {}, "passwd: its list in nsswitch.conf has a carriage return"),
+    ("hosts: files # dns\r\n", {}, ""),
+    ("hosts: dns\npasswd: sss\ngroup: sss\nservices: sss\n", {}, "passwd sss; group sss; hosts dns; services sss"),
+)
+
+NOT_RUNNING = "nscd: it does not run; where it is started:\n"
+
+
+def line_of(reason):
+    """What is said of a database that is left, by its name and its service, or its name and why behind a colon."""
+    name, _, why = reason.partition(" ")
+    return f"nscd: {name.rstrip(':')} is left to the C library, since " + (why if name.endswith(":") else f"nsswitch.conf asks {why} for it")
+
+
+def lines_of(wanted):
+    return "".join(line_of(reason) + "\n" for reason in wanted.split("; ") if reason)
+
+
+def says(serve, word, **environment):
+    """The output of nscd-serve, which says nothing on standard error and ends with 0."""
+    kept = {name: value for name, value in os.environ.items() if name != "NSCD_SERVE"}
+    done = subprocess.run([serve, word], capture_output=True, env=kept | environment, timeout=20, check=False)
+    check(done.stderr == b"" and done.returncode == 0, f"nscd-serve {word}: status {done.returncode}: {done.stderr!r}")
+    return done.stdout.decode()
+
+
+def left_case():
+    with folder() as top:
+        etc = top / "files"
+        serve = installed(top, a_program(top), ("\netc=/etc\n", f"\netc={etc}\n"))
+        for switch, files, wanted in LISTS:
+            etc.mkdir()
+            if switch is not None:
+                (etc / "nsswitch.conf").write_text(switch)
+            for name, text in files.items():
+                (etc / name).write_text(text)
+            found, lines = says(serve, "left"), lines_of(wanted.replace("ETC", str(etc)))
+            check(found == (NOT_RUNNING + lines if lines else ""), f"{switch!r}, {files}: {found!r}, and not {wanted!r}")
+            check(says(serve, "left", NSCD_SERVE=" ".join(DATABASES)) == "", f"{switch!r}: NSCD_SERVE does not count")
+            shutil.rmtree(etc)
+        etc.mkdir()
+        (etc / "nsswitch.conf").write_text("hosts: files dns\n")
+        found = says(serve, "left", NSCD_SERVE="passwd,group hosts * shadow")
+        wanted = "".join(f"nscd: NSCD_SERVE: {word} is no database\n" for word in ("passwd,group", "*", "shadow"))
+        check(found == wanted, f"words of NSCD_SERVE: {found!r}")
+        return f"of {len(LISTS)} lists of services nscd-serve leaves those to the C library that ask for more than is built in"
+
+
+# ---- a daemon that is started so
+
+
+class Served:
+    """A daemon that nscd-serve has started over files of ours."""
+
+    def __init__(self, top):
+        self.etc, self.run = top / "files", top / "run"
+        self.etc.mkdir()
+        self.run.mkdir()
+        for name, text in FILES.items():
+            (self.etc / name).write_bytes(text)
+        changes = (("\netc=/etc\n", f"\netc={self.etc}\n"), ("\nrun=/run/nscd\n", f"\nrun={self.run}\n"))
+        self.serve = installed(top, a_program(top), *changes)
+        self.program = top / "usr/libexec/nscd/nscd"
+        self.process = None
+
+    def start(self):
+        self.process = subprocess.Popen([self.serve, "start"], stdout=subprocess.PIPE, stderr=subprocess.PIPE)
+        self.does("open")
+
+    def does(self, word):
+        """What nscd-serve says on standard error."""
+        done = subprocess.run([self.serve, word], capture_output=True, timeout=20, check=False)
+        check(done.returncode == 0, f"nscd-serve {word}: status {done.returncode}: {done.stderr.decode()}")
+        return done.stderr.decode()
+
+    def ask(self, name):
+        """The reply for a user; nothing where the request is closed."""
+        with socket.socket(socket.AF_UNIX) as peer:
+            peer.settimeout(5)
+            peer.connect(str(self.run / "socket"))
+            peer.sendall(request(PASSWD_BY_NAME, name + b"\0"))
+            return read_all(peer)
+
+    def switch(self, text):
+        """Another nsswitch.conf takes the place of the one that is there, as an editor does it."""
+        (self.etc / "next").write_text(text)
+        os.replace(self.etc / "next", self.etc / "nsswitch.conf")
+
+
+@contextmanager
+def served():
+    with folder() as top:
+        run = Served(top)
+        try:
+            yield run
+        finally:
+            if run.process is not None:
+                run.process.kill()
+                run.process.communicate()
+
+
+FILES_ALONE = "passwd: files\ngroup: files\nhosts: files\nservices: files\n"
+
+
+def reload_case():
+    """Lists that become longer and shorter while the daemon runs."""
+    with served() as run:
+        run.start()
+        check(run.ask(b"root") == ROOT_REPLY and says(run.serve, "left") == "", "files alone: another reply, or something is left")
+        for service in ("sss", "ldap [NOTFOUND=return]"):
+            run.switch(FILES_ALONE.replace("passwd: files", f"passwd: files {service}"))
+            told = says(run.serve, "left")
+            check(told == "nscd: it would be judged otherwise now; a reload of the service does so\n", f"before a reload left says {told!r}")
+            wanted = lines_of(f"passwd {service.split()[0]}")
+            check(run.does("reload") == wanted, "a reload does not tell what is left")
+            check(run.ask(b"root") == b"" and run.ask(b"nobody1") == b"", f"passwd: files {service}: a reply")
+            check(says(run.serve, "left") == wanted, "left does not say what runs")
+            check(run.does("reload") == "", "a second reload tells something")
+            run.switch(FILES_ALONE)
+            check(run.does("reload") == "nscd: passwd is served\n", "a reload does not tell what is served again")
+            check(run.ask(b"root") == ROOT_REPLY and run.ask(b"nobody1") == NO_REPLY, "files alone again: another reply")
+            check(says(run.serve, "left") == "", "files alone again: something is left")
+        # What is answered from memory is forgotten, too.
+        (run.etc / "passwd").write_bytes(FILES["passwd"].replace(b"/bin/bash", b"/bin/dash"))
+        run.does("reload")
+        check(b"/bin/dash" in run.ask(b"root"), "a reload empties nothing")
+        done = subprocess.run([run.program, "-K", "--run-dir", run.run], timeout=20, check=False)
+        check(done.returncode == 0 and run.process.wait(10) == 0, "it does not end as it is told")
+        refused = subprocess.run([run.serve, "reload"], capture_output=True, timeout=20, check=False)
+        check((refused.returncode, refused.stderr) == (1, b"nscd: it does not run\n"), f"a reload of none: {refused}")
+        return "while it runs, a reload leaves a database to the C library whose list asks for more, serves it again, and tells so"
