@@ -12,7 +12,7 @@ from machine import init_case, package_case, systemd_case
 from places import completions_case, manuals_case, places_case
 from running import PROGRAM, Fault
 from service import calls_case, unit_case
-from serving import left_case, reload_case
+from serving import left_case, lines_case, reload_case
 from settings import settings_case
 from tables import attributes_case, options_case
 
@@ -24,6 +24,7 @@ CASES = {
     "completions": completions_case,
     "places": places_case,
     "left": left_case,
+    "lines": lines_case,
     "reload": reload_case,
     "unit": unit_case,
     "calls": calls_case,

@@ -1,5 +1,6 @@
 """Which databases nscd-serve leaves to the C library, at a start and when it is told to judge anew."""
 
+import ctypes
 import os
 import shutil
 import socket
@@ -80,6 +81,139 @@ def left_case():
         wanted = "".join(f"nscd: NSCD_SERVE: {word} is no database\n" for word in ("passwd,group", "*", "shadow"))
         check(found == wanted, f"words of NSCD_SERVE: {found!r}")
         return f"of {len(LISTS)} lists of services nscd-serve leaves those to the C library that ask for more than is built in"
+
+
+# ---- lines that the C library reads otherwise
+
+# A database, a line of its file, and what it has that nscd does not take; nothing where both read it in one way. Each stands behind a good line.
+LINES = (
+    ("passwd", "ann:x:5:6:Ann:/home/ann:/bin/sh", ""),
+    ("passwd", "  ann:x:0005:4294967295::/:", ""),
+    ("passwd", "# ann:x:5", ""),
+    ("passwd", "ann:x:5", ""),
+    ("passwd", "ann:x::6:::", ""),
+    ("passwd", "ann:x:five:6:::", ""),
+    ("passwd", "ann:x:5 :6:::", ""),
+    ("passwd", "ann:x:5:6:Ann:/home/ann", "fewer than seven fields"),
+    ("passwd", "ann:x:5:6", "fewer than seven fields"),
+    ("passwd", "ann:x:5:6:Ann:/home/ann:/bin/sh:", "more than seven fields"),
+    ("passwd", "ann:x:5:6:Ann:/home/ann:/bin/sh:more:fields", "more than seven fields"),
+    ("passwd", "ann:x:+5:6:::", "a number with a sign"),
+    ("passwd", "ann:x:5:+6:::", "a number with a sign"),
+    ("passwd", "ann:x: 5:6:::", "a blank before a number"),
+    ("passwd", ":x:5:6:::", "no name"),
+    ("group", "crew:x:7:ann,bob", ""),
+    ("group", "crew:x:7:", ""),
+    ("group", "crew:x:7:ann,,bob,", ""),
+    ("group", "crew:x:7:ann ,bob", ""),
+    ("group", "crew:x::ann", ""),
+    ("group", "crew:x", ""),
+    ("group", "crew:x:7:ann, bob", "a blank before a member"),
+    ("group", "crew:x:7: ann", "a blank before a member"),
+    ("group", "crew:x:7:ann,\tbob", "a blank before a member"),
+    ("group", "crew:x:7", "no last colon"),
+    ("group", "crew:x:7:ann:bob", "more than four fields"),
+    ("group", "crew:x:+7:ann", "a number with a sign"),
+    ("group", ":x:7:ann", "no name"),
+)
+# Some versions of the C library refuse these as nscd does, and others take the largest number for them.
+SOMETIMES = (
+    ("passwd", "ann:x:-5:6:::", "a number with a sign"),
+    ("passwd", "ann:x:5:4294967296:::", "a number above 4294967295"),
+    ("group", "crew:x:-7:ann", "a number with a sign"),
+    ("group", "crew:x:4294967296:ann", "a number above 4294967295"),
+)
+GOOD = {"passwd": "root:x:0:0:root:/root:/bin/bash", "group": "root:x:0:"}
+# Files of hosts under a host.conf, and the line that is found.
+MULTI = "a host of line %d, where host.conf says multi on"
+HOSTS = (
+    ("multi on\n", "192.0.2.1 box\n192.0.2.2 Box\n", 2, MULTI % 1),
+    ("order hosts\n multi  on\n", "192.0.2.1 a box\n# 192.0.2.2 box\n\n192.0.2.3 b c box # d\n", 4, MULTI % 1),
+    ("multi on\n", "::1 localhost\n127.0.0.1 localhost box\nfe80::1 localhost\n", 3, MULTI % 1),
+    ("multi on\n", "127.0.0.1 localhost localhost\n::1 localhost ip6-localhost\n127.0.1.1 box\nbox localhost\n", 0, ""),
+    ("multi off\n", "192.0.2.1 box\n192.0.2.2 box\n", 0, ""),
+    ("# multi on\n", "192.0.2.1 box\n192.0.2.2 box\n", 0, ""),
+    ("", "192.0.2.1 box\n192.0.2.2 box\n", 0, ""),
+    (None, "192.0.2.1 box\n192.0.2.2 box\n", 0, ""),
+)
+
+
+class Passwd(ctypes.Structure):
+    _fields_ = [("name", ctypes.c_char_p), ("word", ctypes.c_char_p), ("uid", ctypes.c_uint32), ("gid", ctypes.c_uint32)]
+    _fields_ += [(name, ctypes.c_char_p) for name in ("gecos", "dir", "shell")]
+
+
+class Group(ctypes.Structure):
+    _fields_ = [("name", ctypes.c_char_p), ("word", ctypes.c_char_p), ("gid", ctypes.c_uint32), ("members", ctypes.POINTER(ctypes.c_char_p))]
+
+
+def by_library(path, kind):
+    """The last entry of a file that the C library finds there, as a line of its form."""
+    library = ctypes.CDLL(None)
+    library.fopen.restype = ctypes.c_void_p
+    library.fclose.argtypes = [ctypes.c_void_p]
+    call = library.fgetpwent if kind == "passwd" else library.fgetgrent
+    call.argtypes, call.restype = [ctypes.c_void_p], ctypes.POINTER(Passwd if kind == "passwd" else Group)
+    stream, found = library.fopen(str(path).encode(), b"r"), b""
+    while one := call(stream):
+        it = one.contents
+        if kind == "passwd":
+            found = b":".join([it.name, it.word, b"%d" % it.uid, b"%d" % it.gid, it.gecos, it.dir, it.shell])
+        else:
+            members = []
+            while it.members[len(members)]:
+                members.append(it.members[len(members)])
+            found = b":".join([it.name, it.word, b"%d" % it.gid, b",".join(members)])
+    library.fclose(stream)
+    return found.decode()
+
+
+def by_nscd(line, kind):
+    """The same of one line by the rules of nscd, or the good line before it."""
+    fields = line.strip(" \t").split(":")
+    numbers = fields[2:4] if kind == "passwd" else fields[2:3]
+    has_form = len(fields) == (7 if kind == "passwd" else 4) and fields[0] and fields[0][0] not in "#+-"
+    if not has_form or not all(it.isdigit() and int(it) < 1 << 32 for it in numbers):
+        return GOOD[kind]
+    fields[2 : 2 + len(numbers)] = [str(int(it)) for it in numbers]
+    if kind == "group":
+        fields[3] = ",".join(name for name in fields[3].split(",") if name)
+    return ":".join(fields)
+
+
+def lines_case():
+    with folder() as top:
+        etc = top / "files"
+        etc.mkdir()
+        changes = (("\netc=/etc\n", f"\netc={etc}\n"), ("\nextra=/var/lib/extrausers\n", f"\nextra={etc}/extra\n"))
+        serve = installed(top, a_program(top), *changes)
+        (etc / "extra").mkdir()
+        for kind, line, what in LINES + SOMETIMES:
+            (etc / kind).write_text(f"{GOOD[kind]}\n{line}\n")
+            # Whether the C library does read it otherwise.
+            theirs, ours = by_library(etc / kind, kind), by_nscd(line, kind)
+            check((theirs != ours) == bool(what) or (kind, line, what) in SOMETIMES, f"{line!r} is {theirs!r} for the C library, and {ours!r} here")
+            for service, file in (("files", etc / kind), ("compat", etc / kind), ("extrausers", etc / "extra" / kind)):
+                (etc / "nsswitch.conf").write_text(FILES_ALONE.replace(f"{kind}: files", f"{kind}: {service}"))
+                if service == "extrausers":
+                    (etc / kind).rename(file)
+                found = says(serve, "left")
+                wanted = f"{NOT_RUNNING}nscd: {kind} is left to the C library, since line 2 of {file} has {what}\n" if what else ""
+                check(found == wanted, f"{line!r} of {service}: {found!r}")
+                check(says(serve, "left", NSCD_SERVE=kind) == "", f"{line!r}: NSCD_SERVE does not count")
+            file.unlink()
+        (etc / "nsswitch.conf").write_text(FILES_ALONE)
+        for conf, hosts, line, what in HOSTS:
+            (etc / "host.conf").unlink(missing_ok=True)
+            if conf is not None:
+                (etc / "host.conf").write_text(conf)
+            (etc / "hosts").write_text(hosts)
+            found = says(serve, "left")
+            wanted = f"{NOT_RUNNING}nscd: hosts is left to the C library, since line {line} of {etc}/hosts has {what}\n" if what else ""
+            check(found == wanted, f"{hosts!r} under {conf!r}: {found!r}")
+        return (
+            f"of {len(LINES + SOMETIMES)} lines of users and groups and {len(HOSTS)} files of hosts, a database is left where the C library reads one otherwise"
+        )
 
 
 # ---- a daemon that is started so
