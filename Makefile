@@ -108,7 +108,7 @@ uninstall:
 
 # A Debian package, in build.
 deb:
-	@NSCD='$(NSCD)' dist/make-deb build
+	@NSCD='$(NSCD)' MAINTAINER='$(MAINTAINER)' HOMEPAGE='$(HOMEPAGE)' dist/make-deb build
 
 bench: build
 	bench/machine

@@ -63,6 +63,7 @@ def packages():
     given = Path(tempfile.mkdtemp(prefix="nscd-packages-"))
     atexit.register(shutil.rmtree, given)
     environment = {**os.environ, "NSCD": str(a_program(given)), "SOURCE_DATE_EPOCH": "1700000000"}
+    environment |= {"MAINTAINER": "A. Person <person@example.org>", "HOMEPAGE": "https://example.org/nscd"}
     made = []
     for where in (given, given / "again"):
         done = subprocess.run([ROOT / "dist/make-deb", where], capture_output=True, timeout=60, check=False, env=environment)
@@ -71,7 +72,10 @@ def packages():
     check(made[0].read_bytes() == made[1].read_bytes(), "make-deb makes another package of the same")
     made = made[0]
     fields = subprocess.run(["dpkg-deb", "-f", made], capture_output=True, timeout=60, check=True).stdout.decode()
-    for line in (f"Version: {VERSION}", "Provides: nscd", "Conflicts: nscd"):
+    # What asks for nscd wants a cache of more than files, so this is none.
+    check("Provides:" not in fields, "control: it provides what it does not serve")
+    named = ("Maintainer: A. Person <person@example.org>", "Homepage: https://example.org/nscd")
+    for line in (f"Version: {VERSION}", "Conflicts: nscd, unscd, nsncd", *named):
         check(line in fields.splitlines(), f"control: no line '{line}'")
     listed = subprocess.run(["dpkg-deb", "-c", made], capture_output=True, timeout=60, check=True).stdout.decode()
     check(not [line for line in listed.splitlines() if " root/root " not in line], "the package has files that are not root's")
