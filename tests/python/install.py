@@ -8,7 +8,7 @@ import subprocess
 import sys
 
 sys.dont_write_bytecode = True
-from machine import init_case, package_case, systemd_case
+from machine import container_case, init_case, package_case, systemd_case
 from places import completions_case, manuals_case, places_case
 from running import PROGRAM, Fault
 from service import calls_case, unit_case
@@ -29,11 +29,12 @@ CASES = {
     "unit": unit_case,
     "calls": calls_case,
     "init": init_case,
+    "container": container_case,
     "package": package_case,
     "systemd": systemd_case,
 }
 # These run the program.
-RUNNING = ("settings", "reload", "calls", "init", "package", "systemd")
+RUNNING = ("settings", "reload", "calls", "init", "container", "package", "systemd")
 
 
 def main(names):

@@ -35,6 +35,12 @@ def init_case():
         return in_own_root(given, "by-make")
 
 
+def container_case():
+    with folder() as given:
+        a_program(given)
+        return in_own_root(given, "by-run")
+
+
 def repacked(package, where, changes):
     """A package like this one, with other lines in its control file."""
     subprocess.run(["dpkg-deb", "-R", package, where], check=True, timeout=60)
