@@ -9,6 +9,7 @@ import sys
 
 sys.dont_write_bytecode = True
 from machine import container_case, init_case, package_case, systemd_case
+from monitoring import monitoring_case
 from places import completions_case, manuals_case, places_case
 from running import PROGRAM, Fault
 from service import calls_case, unit_case
@@ -26,6 +27,7 @@ CASES = {
     "left": left_case,
     "lines": lines_case,
     "reload": reload_case,
+    "monitoring": monitoring_case,
     "unit": unit_case,
     "calls": calls_case,
     "init": init_case,
@@ -34,7 +36,7 @@ CASES = {
     "systemd": systemd_case,
 }
 # These run the program.
-RUNNING = ("settings", "reload", "calls", "init", "container", "package", "systemd")
+RUNNING = ("settings", "reload", "monitoring", "calls", "init", "container", "package", "systemd")
 
 
 def main(names):

@@ -1,0 +1,90 @@
+"""What contrib/nscd-prometheus makes of the counts of a daemon."""
+
+import os
+import re
+import stat
+import subprocess
+
+from frames import ROOT
+from places import folder
+from running import check
+from serving import FILES_ALONE, served
+from tables import DATABASES
+
+SCRIPT = ROOT / "contrib/nscd-prometheus"
+LINE = r'nscd_[a-z_]+(\{[a-z]+="[a-z]+"(,[a-z]+="[a-z]+")*\})? \d+'
+
+
+def told(*words, **environment):
+    """The status, the output and what is said on standard error."""
+    done = subprocess.run([SCRIPT, *words], capture_output=True, env=os.environ | environment, timeout=20, check=False)
+    return done.returncode, done.stdout.decode(), done.stderr.decode()
+
+
+def check_form(text):
+    """Each sample stands behind the head of its name, which stands once."""
+    name, seen = None, set()
+    for line in text.splitlines():
+        head = re.fullmatch(r"# (HELP|TYPE) (nscd_[a-z_]+) (.+)", line)
+        if head and head.group(1) == "HELP":
+            check(head.group(2) not in seen, f"{line}: a second time")
+            name = head.group(2)
+            seen.add(name)
+        elif head:
+            check(head.group(2) == name, f"{line}: no help before")
+            wanted = "counter" if name.endswith("_total") else "gauge"
+            check(head.group(3) == wanted, f"{line}: no {wanted}")
+        else:
+            check(re.fullmatch(LINE, line) and re.match(r"[a-z_]+", line).group(0) == name, f"{line}: no sample of {name}")
+    return len(seen)
+
+
+def stands_for(top, status, text):
+    """A command in the place of nscd."""
+    path = top / "nscd"
+    path.write_text(f"#!/bin/sh\necho '{text}' >&2\nexit {status}\n")
+    path.chmod(path.stat().st_mode | stat.S_IXUSR)
+    return str(path)
+
+
+def monitoring_case():
+    with folder() as top:
+        one = told(NSCD=stands_for(top, 8, "nscd: /var/run/nscd/admin: nscd is not running, or does not answer there"))
+        check(one == (0, "# HELP nscd_up Whether nscd runs and answers.\n# TYPE nscd_up gauge\nnscd_up 0\n", ""), f"no daemon: {one}")
+        for status, text in ((8, "nscd: /var/run/nscd/admin: not allowed; its owner and root may ask there"), (12, "nscd: bad reply from server")):
+            one = told(NSCD=stands_for(top, status, text))
+            check(one == (1, "", text + "\n"), f"status {status}: {one}")
+        check(told("a", "b")[0] == 64, "two words: another status")
+    with served() as run:
+        run.switch(FILES_ALONE.replace("hosts: files", "hosts: files dns"))
+        run.start()
+        for name in (b"root", b"root", b"root", b"nobody1", b"nobody1", b"maud"):
+            run.ask(name)
+        run.does("reload")
+        run.ask(b"root")
+        where = {"NSCD": str(run.program), "SERVE": str(run.serve)}
+        status, text, said = told(str(run.run), **where)
+        check((status, said) == (0, ""), f"status {status}: {said}")
+        names = check_form(text)
+        lines = text.splitlines()
+        # Of root before the reload two replies were kept, and of nobody1 one.
+        passwd = 'database="passwd"'
+        for line in (
+            "nscd_up 1",
+            'nscd_served{database="hosts"} 0',
+            *(f'nscd_served{{database="{name}"}} 1' for name in ("passwd", "group", "services")),
+            *(f'nscd_cache_enabled{{database="{name}"}} 1' for name in DATABASES),
+            f'nscd_lookups_total{{{passwd},found="yes",kept="yes"}} 2',
+            f'nscd_lookups_total{{{passwd},found="no",kept="yes"}} 1',
+            f'nscd_lookups_total{{{passwd},found="yes",kept="no"}} 3',
+            f'nscd_lookups_total{{{passwd},found="no",kept="no"}} 1',
+            f"nscd_entries{{{passwd}}} 1",
+            # A key of five bytes takes one word, a reply of 64 eight, and an entry eight beside them.
+            f"nscd_used_words{{{passwd}}} 17",
+            f"nscd_room_words{{{passwd}}} 27008",
+            f"nscd_invalidations_total{{{passwd}}} 1",
+            f"nscd_not_added_total{{{passwd}}} 0",
+        ):
+            check(line in lines, f"no line {line!r} in {text}")
+        check(len([line for line in lines if line.startswith("nscd_compactions_total{")]) == len(DATABASES), "no compactions")
+        return f"contrib/nscd-prometheus says the counts of a daemon by {names} names, and that none runs; what it may not ask it does not guess"
