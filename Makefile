@@ -1,4 +1,5 @@
-# What there is to do here. rt, make, python3 (which rt needs too) and a POSIX shell are needed.
+# What there is to do here: make help. rt, make, python3 (which rt needs too) and a POSIX shell are needed, and for an installation of a
+# program that is built make and the shell alone.
 
 PROGRAM = crates/nscd/out/nscd
 TRIALS = crates/nsc_trials/out/nsc_trials
@@ -18,13 +19,15 @@ SYSCONFDIR ?= /etc
 DESTDIR ?=
 NSCD ?= build/nscd
 
-.PHONY: run test build bench install uninstall deb clean
+.PHONY: run help test build bench install uninstall deb clean
 
 # The first target, so plain `make` shows the program at work on the shipped example. The proved program runs where it is
 # there and no source is newer; else rt makes one from the sources as they stand, in less than a minute and a half.
 run: build/frames
 	@if [ -x build/nscd ] && [ -z "$$(find $(SOURCES) -newer build/nscd)" ]; then \
 	    build/nscd --replay < build/frames > build/replies; \
+	elif ! command -v rt > /dev/null; then \
+	    echo 'make run: there is no rt, the Rattle toolchain, and no build/nscd that is as new as the sources; one of them is needed' >&2; exit 1; \
 	else \
 	    echo 'This runs the sources before any proof, and takes about a minute; make test proves them.'; \
 	    (cd crates/nscd && rt try -- --replay) < build/frames > build/replies 2> build/try.log || { cat build/try.log; exit 1; }; \
@@ -40,6 +43,17 @@ build/frames: tools/make-frames examples/machine.txt $(wildcard examples/machine
 	@mkdir -p build
 	@tools/make-frames examples/machine.txt > $@.new
 	@mv $@.new $@
+
+help:
+	@echo 'make run          shows a small machine, its questions and replies; needs rt, or a program that is built'
+	@echo 'make build        proves and builds the program, build/nscd; needs rt'
+	@echo 'make test         proves everything, and runs every test; needs rt, and takes an hour or more'
+	@echo 'make bench        measures; needs rt'
+	@echo 'make deb          makes a Debian package of the program, in build; MAINTAINER and HOMEPAGE name whose it is'
+	@echo 'make install      installs the program; PREFIX, SYSCONFDIR and DESTDIR say where, and START=no starts nothing'
+	@echo 'make uninstall    takes away what make install has put'
+	@echo 'make clean        removes what was built and proved'
+	@echo 'docs/INSTALL.md says more, and docs/CONTRIBUTING.md how to change nscd.'
 
 # The whole gate: every proof, every edit that must be refused, every test and program.
 test:

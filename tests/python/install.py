@@ -10,7 +10,7 @@ import sys
 sys.dont_write_bytecode = True
 from machine import container_case, init_case, package_case, systemd_case
 from monitoring import monitoring_case
-from places import completions_case, manuals_case, places_case
+from places import completions_case, made_case, manuals_case, places_case
 from running import PROGRAM, Fault
 from service import calls_case, unit_case
 from serving import left_case, lines_case, reload_case
@@ -24,6 +24,7 @@ CASES = {
     "manuals": manuals_case,
     "completions": completions_case,
     "places": places_case,
+    "make": made_case,
     "left": left_case,
     "lines": lines_case,
     "reload": reload_case,

@@ -55,11 +55,14 @@ def a_program(where):
     return path
 
 
+def without_make():
+    return {name: value for name, value in os.environ.items() if name not in ("MAKEFLAGS", "MFLAGS", "MAKELEVEL")}
+
+
 def make(target, program, root, **places):
     words = ["make", "-s", "-C", ROOT, target, f"NSCD={program}", f"DESTDIR={root}"]
     words += [f"{name}={value}" for name, value in places.items()]
-    kept = {name: value for name, value in os.environ.items() if name not in ("MAKEFLAGS", "MFLAGS", "MAKELEVEL")}
-    done = subprocess.run(words, capture_output=True, env=kept, timeout=60, check=False)
+    done = subprocess.run(words, capture_output=True, env=without_make(), timeout=60, check=False)
     return done.returncode, (done.stdout + done.stderr).decode()
 
 
@@ -121,6 +124,36 @@ def places_case():
             check(tree(root) == before, f"make uninstall leaves {set(tree(root)) ^ set(before)}")
         said = f"make install puts {len(wanted)} files under either prefix, and make uninstall leaves what was there before"
         return f"{said}; {kept_case(top, program)}"
+
+
+def made_case():
+    """What make says of itself, and what make run needs, over a copy of what it reads."""
+    if shutil.which("make") is None:
+        return "skipped, since there is no make"
+    text = (ROOT / "Makefile").read_text()
+    targets = re.search(r"^\.PHONY: (.*)$", text, re.M).group(1).split()
+    done = subprocess.run(["make", "-s", "-C", ROOT, "help"], capture_output=True, timeout=60, check=False, env=without_make())
+    told = re.findall(r"^make (\w+) ", done.stdout.decode(), re.M)
+    check(sorted(told + ["help"]) == sorted(targets), f"make help: {told}, and not {targets}")
+    with folder() as top:
+        for name in ("Makefile", "crates.txt", "HANDLES"):
+            shutil.copy(ROOT / name, top / name)
+        for name in ("tools", "examples"):
+            shutil.copytree(ROOT / name, top / name)
+        (top / "crates/nscd").mkdir(parents=True)
+        shutil.copy(ROOT / "crates/nscd/args", top / "crates/nscd/args")
+        # All tools but rt.
+        tools = top / "bin"
+        tools.mkdir()
+        for place in ("/usr/bin", "/bin"):
+            for path in Path(place).iterdir():
+                if path.name != "rt" and not (tools / path.name).exists():
+                    (tools / path.name).symlink_to(path)
+        words = ["make", "-s", "-C", top, "run"]
+        done = subprocess.run(words, capture_output=True, timeout=60, check=False, env=without_make() | {"PATH": str(tools)})
+        line = "make run: there is no rt, the Rattle toolchain, and no build/nscd that is as new as the sources; one of them is needed"
+        check(done.returncode != 0 and line in done.stderr.decode().splitlines() and done.stdout == b"", f"make run without rt: {done}")
+    return f"make help says {len(told)} targets, and make run without rt says what is missing"
 
 
 def kept_case(top, program):
@@ -269,7 +302,18 @@ def linted_by_man():
     return "man --warnings says nothing of either"
 
 
+def check_first_page():
+    """What a reader of the first lines has to find there, and how long the page is."""
+    text = (ROOT / "README.md").read_text()
+    check(len(text.split()) < 1000, f"README.md: {len(text.split())} words")
+    first = "\n".join(text.splitlines()[:20])
+    for word in ("**For** machines", "**Not for**", "**It never**", "make deb", "dpkg -i", "`files`", "`extrausers`", "`compat`"):
+        check(word in first, f"README.md: no {word} in its first twenty lines")
+    check(text.index("the daemon, in the foreground") < text.index("--replay"), "README.md: a replay before the daemon")
+
+
 def manuals_case():
+    check_first_page()
     for page in ("nscd.8", "nscd.conf.5"):
         text = (MAN / page).read_text()
         check(text.count("@VERSION@") == 1, f"{page}: not one place for the version")
