@@ -18,6 +18,7 @@ from tables import DATABASES, MAN, options
 PLACES = {
     "sbin/nscd": 0o755,
     "libexec/nscd/nscd": 0o755,
+    "libexec/nscd/nscd-lists": 0o644,
     "libexec/nscd/nscd-serve": 0o755,
     "lib/systemd/system/nscd.service": 0o644,
     "lib/systemd/system/nscd-switch.path": 0o644,
