@@ -41,7 +41,7 @@ run: build/frames
 
 build/frames: tools/make-frames examples/machine.txt $(wildcard examples/machine/*)
 	@mkdir -p build
-	@tools/make-frames examples/machine.txt > $@.new
+	@tools/make-frames examples/machine.txt > $@.new || { rm -f $@.new; exit 1; }
 	@mv $@.new $@
 
 help:

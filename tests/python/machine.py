@@ -19,7 +19,7 @@ def in_own_root(given, script, *mode):
         if shutil.which(word) is None:
             return f"skipped, since there is no {word}"
     words = [ROOT / "tests/machine/enter", ROOT, given, script, *mode]
-    done = subprocess.run(words, stdin=subprocess.DEVNULL, capture_output=True, timeout=70, check=False)
+    done = subprocess.run(words, stdin=subprocess.DEVNULL, capture_output=True, timeout=110, check=False)
     lines = done.stdout.decode(errors="replace").strip().splitlines()
     said = lines[-1] if lines else ""
     if done.returncode == 77:

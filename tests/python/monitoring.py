@@ -47,7 +47,29 @@ def stands_for(top, status, text):
     return str(path)
 
 
-def monitoring_case():
+# What is told of a daemon that was asked for root three times, nobody1 twice and maud once, reloaded, and asked for root again. Before the
+# reload two replies were kept that were found, and one that was not.
+PASSWD = 'database="passwd"'
+WANTED = (
+    "nscd_up 1",
+    'nscd_served{database="hosts"} 0',
+    *(f'nscd_served{{database="{name}"}} 1' for name in ("passwd", "group", "services")),
+    *(f'nscd_cache_enabled{{database="{name}"}} 1' for name in DATABASES),
+    f'nscd_lookups_total{{{PASSWD},found="yes",kept="yes"}} 2',
+    f'nscd_lookups_total{{{PASSWD},found="no",kept="yes"}} 1',
+    f'nscd_lookups_total{{{PASSWD},found="yes",kept="no"}} 3',
+    f'nscd_lookups_total{{{PASSWD},found="no",kept="no"}} 1',
+    f"nscd_entries{{{PASSWD}}} 1",
+    # A key of five bytes takes one word, a reply of 64 eight, and an entry eight beside them.
+    f"nscd_used_words{{{PASSWD}}} 17",
+    f"nscd_room_words{{{PASSWD}}} 27008",
+    f"nscd_invalidations_total{{{PASSWD}}} 1",
+    f"nscd_not_added_total{{{PASSWD}}} 0",
+)
+
+
+def check_absent():
+    """No daemon is told as such, and what may not be asked is not guessed."""
     with folder() as top:
         one = told(NSCD=stands_for(top, 8, "nscd: /var/run/nscd/admin: nscd is not running, or does not answer there"))
         check(one == (0, "# HELP nscd_up Whether nscd runs and answers.\n# TYPE nscd_up gauge\nnscd_up 0\n", ""), f"no daemon: {one}")
@@ -55,6 +77,10 @@ def monitoring_case():
             one = told(NSCD=stands_for(top, status, text))
             check(one == (1, "", text + "\n"), f"status {status}: {one}")
         check(told("a", "b")[0] == 64, "two words: another status")
+
+
+def monitoring_case():
+    check_absent()
     with served() as run:
         run.switch(FILES_ALONE.replace("hosts: files", "hosts: files dns"))
         run.start()
@@ -62,29 +88,10 @@ def monitoring_case():
             run.ask(name)
         run.does("reload")
         run.ask(b"root")
-        where = {"NSCD": str(run.program), "SERVE": str(run.serve)}
-        status, text, said = told(str(run.run), **where)
+        status, text, said = told(str(run.run), NSCD=str(run.program), SERVE=str(run.serve))
         check((status, said) == (0, ""), f"status {status}: {said}")
-        names = check_form(text)
-        lines = text.splitlines()
-        # Of root before the reload two replies were kept, and of nobody1 one.
-        passwd = 'database="passwd"'
-        for line in (
-            "nscd_up 1",
-            'nscd_served{database="hosts"} 0',
-            *(f'nscd_served{{database="{name}"}} 1' for name in ("passwd", "group", "services")),
-            *(f'nscd_cache_enabled{{database="{name}"}} 1' for name in DATABASES),
-            f'nscd_lookups_total{{{passwd},found="yes",kept="yes"}} 2',
-            f'nscd_lookups_total{{{passwd},found="no",kept="yes"}} 1',
-            f'nscd_lookups_total{{{passwd},found="yes",kept="no"}} 3',
-            f'nscd_lookups_total{{{passwd},found="no",kept="no"}} 1',
-            f"nscd_entries{{{passwd}}} 1",
-            # A key of five bytes takes one word, a reply of 64 eight, and an entry eight beside them.
-            f"nscd_used_words{{{passwd}}} 17",
-            f"nscd_room_words{{{passwd}}} 27008",
-            f"nscd_invalidations_total{{{passwd}}} 1",
-            f"nscd_not_added_total{{{passwd}}} 0",
-        ):
+        names, lines = check_form(text), text.splitlines()
+        for line in WANTED:
             check(line in lines, f"no line {line!r} in {text}")
         check(len([line for line in lines if line.startswith("nscd_compactions_total{")]) == len(DATABASES), "no compactions")
         return f"contrib/nscd-prometheus says the counts of a daemon by {names} names, and that none runs; what it may not ask it does not guess"
