@@ -23,6 +23,7 @@ PLACES = {
     "lib/systemd/system/nscd.service": 0o644,
     "lib/systemd/system/nscd-switch.path": 0o644,
     "lib/systemd/system/nscd-switch.service": 0o644,
+    "lib/systemd/system/nscd-judge.service": 0o644,
     "lib/tmpfiles.d/nscd.conf": 0o644,
     "lib/sysusers.d/nscd.conf": 0o644,
     "share/man/man8/nscd.8": 0o644,

@@ -25,7 +25,9 @@ def unit_case():
     with folder() as top:
         serve = installed(top, a_program(top))
         unit = top / "usr/lib/systemd/system/nscd.service"
-        done = subprocess.run(["systemd-analyze", "verify", "--man=no", unit], capture_output=True, timeout=60, check=False)
+        units = [unit, *sorted(unit.parent.glob("nscd-*"))]
+        check(len(units) == 4, f"units: {units}")
+        done = subprocess.run(["systemd-analyze", "verify", "--man=no", *units], capture_output=True, timeout=60, check=False)
         said = (done.stdout + done.stderr).decode()
         # Only what is said of this unit counts, and not of others that it stands on.
         lines = [line for line in said.splitlines() if "nscd" in line]
@@ -42,7 +44,7 @@ def unit_case():
             return "systemd-analyze verify says nothing of the unit; this one knows no threshold"
         check(safe.returncode == 0, f"systemd-analyze security: {safe.stdout.decode()[-300:]}{safe.stderr.decode()}")
         found = re.search(r"exposure level for nscd.service: ([\d.]+)", safe.stdout.decode())
-        return f"systemd-analyze verify says nothing of the unit, and finds its exposure to be {found.group(1) if found else 'low'} of 10"
+        return f"systemd-analyze verify says nothing of the units, and finds the daemon's exposure to be {found.group(1) if found else 'low'} of 10"
 
 
 # ---- the list of system calls
