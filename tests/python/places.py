@@ -119,12 +119,13 @@ def places_case():
                 check(f"version {VERSION}." in after[f"{prefix}/{name}"[1:]][1].decode(), f"{name}: not version {VERSION}")
             serve = after[f"{prefix}/libexec/nscd/nscd-serve"[1:]][1]
             check(f"conf={sysconf}/nscd.conf\n".encode() in serve, "nscd-serve: another nscd.conf")
+            read = check_scripts([path for path in root.rglob("*") if str(path).endswith(SCRIPTS) and path.is_file()])
             # Once more, and all of it away.
             check(make("install", program, root, **where) == (0, ""), "make install again")
             check(tree(root) == after, "make install again changes something")
             check(make("uninstall", program, root, **where) == (0, ""), "make uninstall")
             check(tree(root) == before, f"make uninstall leaves {set(tree(root)) ^ set(before)}")
-        said = f"make install puts {len(wanted)} files under either prefix, and make uninstall leaves what was there before"
+        said = f"make install puts {len(wanted)} files under either prefix, and make uninstall leaves what was there before; {read}"
         return f"{said}; {kept_case(top, program)}"
 
 
@@ -156,6 +157,20 @@ def made_case():
         line = "make run: there is no rt, the Rattle toolchain, and no build/nscd that is as new as the sources; one of them is needed"
         check(done.returncode != 0 and line in done.stderr.decode().splitlines() and done.stdout == b"", f"make run without rt: {done}")
     return f"make help says {len(told)} targets, and make run without rt says what is missing"
+
+
+SCRIPTS = ("sbin/nscd", "libexec/nscd/nscd-serve", "libexec/nscd/nscd-lists", "init.d/nscd")
+
+
+def check_scripts(paths):
+    """What is installed is for the shell of POSIX, and for dash where that is here."""
+    for shell in ("sh", "dash"):
+        if shutil.which(shell) is None:
+            return f"there is no {shell} to read the scripts"
+        for path in paths:
+            done = subprocess.run([shell, "-n", path], capture_output=True, timeout=20, check=False)
+            check(done.returncode == 0 and done.stderr == b"", f"{shell} -n {path}: {done.stderr.decode()}")
+    return f"sh and dash read {len(paths)} scripts"
 
 
 def kept_case(top, program):
