@@ -9,7 +9,7 @@ from frames import ROOT
 from places import folder
 from running import check
 from serving import FILES_ALONE, served
-from tables import DATABASES
+from tables import DATABASES, source
 
 SCRIPT = ROOT / "contrib/nscd-prometheus"
 LINE = r'nscd_[a-z_]+(\{[a-z]+="[a-z]+"(,[a-z]+="[a-z]+")*\})? \d+'
@@ -36,7 +36,7 @@ def check_form(text):
             check(head.group(3) == wanted, f"{line}: no {wanted}")
         else:
             check(re.fullmatch(LINE, line) and re.match(r"[a-z_]+", line).group(0) == name, f"{line}: no sample of {name}")
-    return len(seen)
+    return seen
 
 
 def stands_for(top, status, text):
@@ -79,6 +79,19 @@ def check_absent():
         check(told("a", "b")[0] == 64, "two words: another status")
 
 
+def check_document(metrics):
+    """docs/MONITORING.md has each name that is told to Prometheus, and each line that the adapters say; how many lines these are."""
+    page = (ROOT / "docs/MONITORING.md").read_text()
+    lines = []
+    for path in ("nsc_outside/src/host_files.rt", "nsc_sockets/src/entrance.rt", "nscd/src/main.rt"):
+        lines += re.findall(r'"nscd: (?:\{path\}: )?([^"{}]+)"', source(path))
+    lines += [line.replace("{length}", "LENGTH") for line in re.findall(r'#\[error\("(the file [^"]+)"\)\]', source("nsc_outside/src/files.rt"))]
+    check(len(lines) >= 6, f"lines of the adapters: {lines}")
+    for word in [*metrics, *lines]:
+        check(word in page, f"docs/MONITORING.md: no {word!r}")
+    return len(lines)
+
+
 def monitoring_case():
     check_absent()
     with served() as run:
@@ -90,8 +103,12 @@ def monitoring_case():
         run.ask(b"root")
         status, text, said = told(str(run.run), NSCD=str(run.program), SERVE=str(run.serve))
         check((status, said) == (0, ""), f"status {status}: {said}")
-        names, lines = check_form(text), text.splitlines()
+        metrics, lines = check_form(text), text.splitlines()
+        count = check_document(metrics)
         for line in WANTED:
             check(line in lines, f"no line {line!r} in {text}")
         check(len([line for line in lines if line.startswith("nscd_compactions_total{")]) == len(DATABASES), "no compactions")
-        return f"contrib/nscd-prometheus says the counts of a daemon by {names} names, and that none runs; what it may not ask it does not guess"
+        return (
+            f"contrib/nscd-prometheus says the counts of a daemon by {len(metrics)} names, and that none runs; what it may not ask it does not"
+            f" guess; docs/MONITORING.md has these names, and {count} lines of the adapters"
+        )
