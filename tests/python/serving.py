@@ -197,6 +197,26 @@ def by_nscd(line, kind):
     return ":".join(fields)
 
 
+def check_line(serve, kind, path, line, what):
+    """The second line of this file leaves the database to the C library for this reason, if any, but where NSCD_SERVE names the database."""
+    found = says(serve, "left")
+    wanted = f"{NOT_RUNNING}nscd: {kind} is left to the C library, since line 2 of {path} has {what}\n" if what else ""
+    check(found == wanted, f"{line!r} of {path}: {found!r}")
+    check(not what or says(serve, "left", NSCD_SERVE=kind) == "", f"{line!r}: NSCD_SERVE does not count")
+
+
+def check_hosts(serve, etc):
+    (etc / "nsswitch.conf").write_text(FILES_ALONE)
+    for conf, hosts, line, what in HOSTS:
+        (etc / "host.conf").unlink(missing_ok=True)
+        if conf is not None:
+            (etc / "host.conf").write_text(conf)
+        (etc / "hosts").write_text(hosts)
+        found = says(serve, "left")
+        wanted = f"{NOT_RUNNING}nscd: hosts is left to the C library, since line {line} of {etc}/hosts has {what}\n" if what else ""
+        check(found == wanted, f"{hosts!r} under {conf!r}: {found!r}")
+
+
 def lines_case():
     with folder() as top:
         etc = top / "files"
@@ -209,27 +229,21 @@ def lines_case():
             # Whether the C library does read it otherwise.
             theirs, ours = by_library(etc / kind, kind), by_nscd(line, kind)
             check((theirs != ours) == bool(what) or (kind, line, what) in SOMETIMES, f"{line!r} is {theirs!r} for the C library, and {ours!r} here")
-            for service, file in (("files", etc / kind), ("compat", etc / kind), ("extrausers", etc / "extra" / kind)):
-                (etc / "nsswitch.conf").write_text(FILES_ALONE.replace(f"{kind}: files", f"{kind}: {service}"))
-                if service == "extrausers":
-                    (etc / kind).rename(file)
-                found = says(serve, "left")
-                wanted = f"{NOT_RUNNING}nscd: {kind} is left to the C library, since line 2 of {file} has {what}\n" if what else ""
-                check(found == wanted, f"{line!r} of {service}: {found!r}")
-                check(says(serve, "left", NSCD_SERVE=kind) == "", f"{line!r}: NSCD_SERVE does not count")
-            file.unlink()
-        (etc / "nsswitch.conf").write_text(FILES_ALONE)
-        for conf, hosts, line, what in HOSTS:
-            (etc / "host.conf").unlink(missing_ok=True)
-            if conf is not None:
-                (etc / "host.conf").write_text(conf)
-            (etc / "hosts").write_text(hosts)
-            found = says(serve, "left")
-            wanted = f"{NOT_RUNNING}nscd: hosts is left to the C library, since line {line} of {etc}/hosts has {what}\n" if what else ""
-            check(found == wanted, f"{hosts!r} under {conf!r}: {found!r}")
-        return (
-            f"of {len(LINES + SOMETIMES)} lines of users and groups and {len(HOSTS)} files of hosts, a database is left where the C library reads one otherwise"
-        )
+            (etc / "nsswitch.conf").write_text(FILES_ALONE)
+            check_line(serve, kind, f"{etc}/{kind}", line, what)
+            (etc / kind).unlink()
+        for kind, text in (("passwd", "ann:x:5:6\n"), ("group", "crew:x:7\n")):
+            what = "fewer than seven fields" if kind == "passwd" else "no last colon"
+            (etc / "nsswitch.conf").write_text(FILES_ALONE.replace(f"{kind}: files", f"{kind}: compat"))
+            (etc / kind).write_text(f"{GOOD[kind]}\n{text}")
+            check_line(serve, kind, f"{etc}/{kind}", text, what)
+            (etc / "nsswitch.conf").write_text(FILES_ALONE.replace(f"{kind}: files", f"{kind}: files extrausers"))
+            (etc / kind).rename(etc / "extra" / kind)
+            check_line(serve, kind, f"{etc}/extra/{kind}", text, what)
+            (etc / "extra" / kind).unlink()
+        check_hosts(serve, etc)
+        count = len(LINES + SOMETIMES)
+        return f"of {count} lines of users and groups and {len(HOSTS)} files of hosts, a database is left where the C library reads one otherwise"
 
 
 # ---- a daemon that is started so
