@@ -47,12 +47,7 @@ fn restored(alloc: Global, image: &Image) -> Result<(Kept, Writer), NoMemory>
 }
 
 // Tells each of so many entries in a line: its number, its kind, its key and its reply by digits, its mark and its timeout.
-fn show_entries<R: Print>(
-    rt: &R,
-    alloc: Global,
-    mut writer: Writer,
-    count: u64,
-) -> io::Result<()>
+fn show_entries<R: Print>(rt: &R, alloc: Global, mut writer: Writer, count: u64) -> io::Result<()>
     requires { writer.slide ≡ None }
 {
     let mut key = Buf::new(alloc, KEY_LIMIT).map_err(wanting)?;

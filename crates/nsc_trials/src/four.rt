@@ -25,10 +25,18 @@ const FILES: [(FileId, &[u8]); 3] = [
 /// Serves connections to the gate over the four databases.
 pub fn run_gate<R: AllocGlobal + Wait + Clock + Clone + Drop>(rt: &R) -> Result<Outcome, NoMemory> {
     let alloc = rt.alloc();
+    let files = HeldFiles::new(rt.clone()?, alloc, content(alloc)?)?;
+    over::<R, HeldFiles<R>>(rt, files)
+}
+
+// The same over any files.
+fn over<R: AllocGlobal + Wait, F: FileSet + Drop>(
+    rt: &R,
+    mut files: F,
+) -> Result<Outcome, NoMemory> {
     let conf = Conf::defaults();
-    let mut files = HeldFiles::new(rt.clone()?, alloc, content(alloc)?)?;
-    match Openings::open(alloc, &mut files, &conf) {
-        Ok(openings) => in_room::<Brand, R, HeldFiles<R>>(rt, openings),
+    match Openings::open(rt.alloc(), &mut files, &conf) {
+        Ok(openings) => in_room::<Brand, R, F>(rt, openings),
         Err(_) => Err(NoMemory),
     }
 }
