@@ -1,5 +1,5 @@
 -- Sockets that a listener bound.
-use Rattle.std.proofs.Common.{◌≡◌, ℕ, List, [], ◌∷◌, ◌++◌, Option, Some, None, refl, subst}
+use Rattle.std.proofs.Common.{◌≡◌, ℕ, List, [], ◌∷◌, Option, Some, None, refl, subst}
 use Rattle.nsc_sockets.specs.Connections.{BindsOne, Socket}
 use Rattle.nsc_sockets.specs.declared.role.Role.{Role}
 use Rattle.nsc_model.specs.declared.exit.Exit.TheVariants as exits

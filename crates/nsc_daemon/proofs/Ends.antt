@@ -84,7 +84,7 @@ at_length g files files' (poll.TooLong file size) failed = failed.1
 -- then the daemon ends so, and nothing was written
 pub unopened : (fault : PollFault) (held : Option Content) (before after : DaemonAt) → after.output ≡ before.output → IsOpeningFault fault before.source_faults after.source_faults → TellsFileLength fault held
     → EndsSo (opening_exit fault) before after
-unopened poll.NoMemory held before after silent rose told = silent
+unopened poll.NoMemory held before after silent rose told = inl silent
 unopened (poll.SourceFault file) held before after silent rose told = (rose, silent)
 unopened (poll.TooLong file size) held before after silent rose told = (rose, silent, told.past)
 

@@ -1,5 +1,4 @@
 -- Whoever serves the gate sees stores and passes by the database.
-use Rattle.std.proofs.Common.{◌≡◌}
 use Rattle.nsc_model.specs.declared.databases.Databases.{Databases}
 use Rattle.nsc_model.specs.declared.kind.Db.TheVariants as db
 use Rattle.nsc_model.specs.declared.store.Store as store

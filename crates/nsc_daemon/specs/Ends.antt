@@ -112,7 +112,7 @@ EndsSo exits.WriteFault before after = Rose before.output.faults after.output.fa
 EndsSo exits.SourceFault before after = Rose before.source_faults after.source_faults × IsSilent before after
 EndsSo (exits.TooLong size) before after = Rose before.source_faults after.source_faults × IsSilent before after × (file_limit < size)
 EndsSo exits.NetFault before after = Rose before.net_faults after.net_faults × (IsSilent before after ⊎ IsReady before after)
-EndsSo exits.NoMemory before after = IsSilent before after
+EndsSo exits.NoMemory before after = IsSilent before after ⊎ IsReady before after
 EndsSo _ before after = ⊥
 
 -- where a file was too long, the length is that of one of these files, where they are told, and past the limit

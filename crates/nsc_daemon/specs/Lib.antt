@@ -1,2 +1,3 @@
 pub mod Workers
 pub mod Ends
+pub mod Images

@@ -3,6 +3,7 @@
 
 mod acceptor;
 mod gate;
+mod images;
 mod intake;
 mod opening;
 mod service;

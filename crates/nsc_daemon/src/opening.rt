@@ -1,15 +1,16 @@
 // The four databases, opened and not yet shared.
-ghost use Rattle.std.specs.Prelude.{◌≡◌, ◌≤◌, IfErr, IfOk, OnOk};
+ghost use Rattle.std.specs.Prelude.{◌≡◌, ◌≤◌, ◌<◌, ◌^◌, IfErr, IfOk, OnOk};
 ghost use Rattle.nsc_model.specs.Exits.{IsExitOf, Serving};
 ghost use Rattle.nsc_model.specs.Sizes.{SizeFits, SizesFit};
 ghost use Rattle.nsc_model.specs.Settings.{settings_of};
 ghost use Rattle.nsc_model.specs.declared.kind.Db.TheVariants as db_is;
 ghost use Rattle.nsc_daemon.specs.Ends.{IsOpeningFault, TellsFileLength, opening_exit};
 
+use crate::images::image_for;
 use nsc_database::{Database, DbPass, Opened, Room};
 use nsc_index::Indexed;
 use nsc_model::{Conf, Databases, Db, Exit};
-use nsc_outside::FileSet;
+use nsc_outside::{FileSet, ImageStore};
 use nsc_sourcebook::PollFault;
 use std::alloc::Global;
 
@@ -26,22 +27,32 @@ pub struct Openings<F: FileSet + Drop> {
     pub services: Opened<F, Indexed>,
 }
 
-/// Opens a database over what its files hold.
-fn opened<F: FileSet + Drop>(
+/// Opens a database over what its files hold, with its image, if it has use for one and there is one.
+fn opened<F: FileSet + Drop, I: ImageStore>(
     alloc: Global,
     files: &mut F,
     db: Db,
     conf: &Conf,
+    images: &mut I,
+    now: u64,
 ) -> Result<Opened<F, Indexed>, PollFault>
-    requires { SizeFits (settings_of conf.now db) }
+    requires sizes { SizeFits (settings_of conf.now db) }
+    requires moment { now < 2 ^ 62 }
     ensures db { IfOk result (λ o. (o.db ≡ db) × (o.settings ≡ settings_of conf.now db) × (o.reloads ≡ conf.now.reloads)) }
     ensures held { IfOk result (λ o. F.held o.files ≡ F.held files.old) }
     ensures stays { OnOk result (F.held files.new ≡ F.held files.old) }
     ensures calm { OnOk result (F.faults files.new ≡ F.faults files.old) }
     ensures fault { IfErr result (λ fault. IsOpeningFault fault (F.faults files.old) (F.faults files.new)) }
     ensures length { IfErr result (λ fault. TellsFileLength fault (F.held files.old)) }
+    ensures puts { I.puts images.new ≡ I.puts images.old }
+    ensures failed { I.failed_puts images.new ≡ I.failed_puts images.old }
 {
-    Opened::open(alloc, files, Indexed, db, conf)
+    let image = image_for(alloc, images, db, conf);
+    let bytes = match &image {
+        Some(image) => Some(image.as_slice()),
+        None => None,
+    };
+    Opened::open(alloc, files, Indexed, db, conf, bytes, now)
 }
 
 /// The exit where the files of a database could not be read.
@@ -57,10 +68,17 @@ pub fn opening_exit(fault: PollFault) -> Exit
 }
 
 impl<F: FileSet + Drop> Openings<F> {
-    /// Opens the four databases over what their files hold. A fault is that of the first file that cannot be read, or want of memory;
-    /// no database is open then.
-    pub fn open(alloc: Global, files: &mut F, conf: &Conf) -> Result<Openings<F>, PollFault>
-        requires { SizesFit conf.now }
+    /// Opens the four databases over what their files hold, with what the images of those bring back that are cached and persistent, at
+    /// this moment, in seconds. A fault is that of the first file that cannot be read, or want of memory; no database is open then.
+    pub fn open<I: ImageStore>(
+        alloc: Global,
+        files: &mut F,
+        conf: &Conf,
+        images: &mut I,
+        now: u64,
+    ) -> Result<Openings<F>, PollFault>
+        requires sizes { SizesFit conf.now }
+        requires moment { now < 2 ^ 62 }
         ensures passwd { IfOk result (λ o. (o.passwd.db ≡ db_is.Passwd) × (o.passwd.settings ≡ settings_of conf.now db_is.Passwd) × (o.passwd.reloads ≡ conf.now.reloads) × (F.held o.passwd.files ≡ F.held files.old)) }
         ensures group { IfOk result (λ o. (o.group.db ≡ db_is.Group) × (o.group.settings ≡ settings_of conf.now db_is.Group) × (o.group.reloads ≡ conf.now.reloads) × (F.held o.group.files ≡ F.held files.old)) }
         ensures hosts { IfOk result (λ o. (o.hosts.db ≡ db_is.Hosts) × (o.hosts.settings ≡ settings_of conf.now db_is.Hosts) × (o.hosts.reloads ≡ conf.now.reloads) × (F.held o.hosts.files ≡ F.held files.old)) }
@@ -68,11 +86,13 @@ impl<F: FileSet + Drop> Openings<F> {
         ensures calm { OnOk result (F.faults files.new ≡ F.faults files.old) }
         ensures fault { IfErr result (λ fault. IsOpeningFault fault (F.faults files.old) (F.faults files.new)) }
         ensures length { IfErr result (λ fault. TellsFileLength fault (F.held files.old)) }
+        ensures puts { OnOk result (I.puts images.new ≡ I.puts images.old) }
+        ensures failed { OnOk result (I.failed_puts images.new ≡ I.failed_puts images.old) }
     {
-        let passwd = opened(alloc, files, Db::Passwd, conf)?;
-        let group = opened(alloc, files, Db::Group, conf)?;
-        let hosts = opened(alloc, files, Db::Hosts, conf)?;
-        let services = opened(alloc, files, Db::Services, conf)?;
+        let passwd = opened(alloc, files, Db::Passwd, conf, images, now)?;
+        let group = opened(alloc, files, Db::Group, conf, images, now)?;
+        let hosts = opened(alloc, files, Db::Hosts, conf, images, now)?;
+        let services = opened(alloc, files, Db::Services, conf, images, now)?;
         Ok(Openings {
             passwd,
             group,

@@ -8,10 +8,12 @@ ghost use Rattle.nsc_model.specs.Settings.{settings_of};
 ghost use Rattle.nsc_model.specs.Sizes.{SizesFit};
 ghost use Rattle.nsc_model.specs.declared.kind.Db.TheVariants as db_is;
 ghost use Rattle.nsc_server.specs.Passes.{AreNamed, ArePasses};
+ghost use Rattle.nsc_daemon.specs.Images.{PutsImages, images_at};
 ghost use Rattle.nsc_daemon.specs.Ends.{EndsSo, IsBound, StopsSo, TellsHeldLength, daemon_at, sockets_at, sockets_of};
 
 use crate::acceptor::{Acceptor, accept_all};
 use crate::gate::Gatekeeper;
+use crate::images::save_all;
 use crate::intake::Waitings;
 use crate::opening::{Openings, opening_exit};
 use crate::terms::Terms;
@@ -20,7 +22,7 @@ use nsc_base::NoMemory;
 use nsc_database::Room;
 use nsc_jobs::JobList;
 use nsc_model::{Databases, Exit, Store};
-use nsc_outside::{Failed, FileSet, Sink, Source, write_all};
+use nsc_outside::{Failed, FileSet, ImageStore, Sink, Source, write_all};
 use nsc_server::RequestBuffer;
 use nsc_sockets::{Clock, Listener, Role};
 use std::alloc::Global;
@@ -29,20 +31,32 @@ use std::sync::{Arc, Wait};
 use std::thread::{JoinHandle, Threads};
 use std::{thread, time};
 
-/// Runs the daemon: opens the four databases over these files, binds `socket` and `admin` in the folder, and the gate where there is to
-/// be one, tells the output that it is ready, and serves connections and ticks until one on the admin socket tells it to end.
+/// Runs the daemon: opens the four databases over these files, with the images in the folder of those that are cached and persistent,
+/// binds `socket` and `admin` in the folder, and the gate where there is to be one, tells the output that it is ready, and serves
+/// connections and ticks until one on the admin socket tells it to end. Once its workers are done it puts an image of each persistent
+/// database. A store of images that fails changes neither the service nor the exit.
 ///
-/// At `Ok` these sockets were bound, and no others, the line was written, and the newest connection that the listener gave asked for the end. `SourceFault` and
-/// `TooLong` come only where a file failed at the start, and the length of one that is too long is as the files are told; `NetFault`
-/// comes only where a call on the listener failed, and `WriteFault` where one on the output did, which may have taken a front of the
-/// line. At `NoMemory` nothing was written.
+/// At `Ok` these sockets were bound, and no others, the line was written, the newest connection that the listener gave asked for the end,
+/// and of each persistent database an image was put, or that failed. `SourceFault` and `TooLong` come only where a file failed at the
+/// start, and the length of one that is too long is as the files are told; `NetFault` comes only where a call on the listener failed, and
+/// `WriteFault` where one on the output did, which may have taken a front of the line. At `NoMemory` nothing was written; or the line
+/// was, and an image could not be made.
 pub fn daemon<
     RT: AllocGlobal + Threads + Wait + time::Clock + Clone + Drop + Send + Sync + 'static,
     K: Sink,
     F: FileSet + Send + Drop + 'static,
     C: Clock,
+    I: ImageStore,
     N: Listener,
->(rt: &RT, terms: &Terms<'_>, output: &mut K, files: &mut F, clock: &mut C, net: &mut N) -> Exit
+>(
+    rt: &RT,
+    terms: &Terms<'_>,
+    output: &mut K,
+    files: &mut F,
+    clock: &mut C,
+    images: &mut I,
+    net: &mut N,
+) -> Exit
 where
     N::In: 'static,
     N::Out: 'static,
@@ -50,10 +64,18 @@ where
     ensures exits { IsExitOf Serving result }
     ensures ends { EndsSo result (daemon_at K.Sink F.FileSet N.Listener output.old files.old net.old) (daemon_at K.Sink F.FileSet N.Listener output.new files.new net.new) }
     ensures length { TellsHeldLength result (F.held files.old) }
+    ensures images { result ≡ Exit.Ok → PutsImages terms.now.conf.now (images_at I.ImageStore images.old) (images_at I.ImageStore images.new) }
     ensures bound { result ≡ Exit.Ok → IsBound (N.bound net.old) (N.bound net.new) (sockets_of terms.now.run_dir.now (option_map (λ p. p.now) terms.now.gate)) }
 {
-    match Openings::open(rt.alloc(), files, terms.conf) {
-        Ok(openings) => in_room::<Brand, RT, K, F, C, N>(rt, terms, openings, output, clock, net),
+    match images.under(terms.run_dir) {
+        Ok(()) => {}
+        Err(_) => return Exit::NoMemory,
+    }
+    let now = clock.now();
+    match Openings::open(rt.alloc(), files, terms.conf, images, now) {
+        Ok(openings) => {
+            in_room::<Brand, RT, K, F, C, I, N>(rt, terms, openings, output, clock, images, net)
+        }
         Err(fault) => opening_exit(fault),
     }
 }
@@ -65,6 +87,7 @@ fn in_room<
     K: Sink,
     F: FileSet + Send + Drop + 'static,
     C: Clock,
+    I: ImageStore,
     N: Listener,
 >(
     rt: &RT,
@@ -72,6 +95,7 @@ fn in_room<
     openings: Openings<F>,
     output: &mut K,
     clock: &mut C,
+    images: &mut I,
     net: &mut N,
 ) -> Exit
 where
@@ -85,10 +109,11 @@ where
     requires services { (openings.services.settings ≡ settings_of B.conf db_is.Services) × (openings.services.reloads ≡ B.conf.reloads) × (F.held openings.services.files ≡ B.held) }
     ensures exits { IsExitOf Serving result }
     ensures ends { (faults : ℕ) → EndsSo result (record { output = stream_out K.Sink output.old; source_faults = faults; given = N.given net.old; net_faults = N.faults net.old }) (record { output = stream_out K.Sink output.new; source_faults = faults; given = N.given net.new; net_faults = N.faults net.new }) }
+    ensures images { result ≡ Exit.Ok → PutsImages terms.now.conf.now (images_at I.ImageStore images.old) (images_at I.ImageStore images.new) }
     ensures bound { result ≡ Exit.Ok → IsBound (N.bound net.old) (N.bound net.new) (sockets_of terms.now.run_dir.now (option_map (λ p. p.now) terms.now.gate)) }
 {
     let (stores, passes) = openings.enter::<B>();
-    serve(rt, terms, stores, passes, output, clock, net)
+    serve(rt, terms, stores, passes, output, clock, images, net)
 }
 
 // Binds the sockets, tells that the daemon is ready, and serves. Afterwards no socket is left, also where the start failed.
@@ -97,6 +122,7 @@ fn serve<
     S: Store + Drop + Send + Sync + 'static,
     K: Sink,
     C: Clock,
+    I: ImageStore,
     N: Listener,
 >(
     rt: &RT,
@@ -105,6 +131,7 @@ fn serve<
     passes: Databases<S::Pass>,
     output: &mut K,
     clock: &mut C,
+    images: &mut I,
     net: &mut N,
 ) -> Exit
 where
@@ -115,10 +142,11 @@ where
     requires passes { ArePasses S.Store stores passes }
     ensures exits { IsExitOf Serving result }
     ensures ends { (faults : ℕ) → EndsSo result (record { output = stream_out K.Sink output.old; source_faults = faults; given = N.given net.old; net_faults = N.faults net.old }) (record { output = stream_out K.Sink output.new; source_faults = faults; given = N.given net.new; net_faults = N.faults net.new }) }
+    ensures images { result ≡ Exit.Ok → PutsImages terms.now.conf.now (images_at I.ImageStore images.old) (images_at I.ImageStore images.new) }
     ensures bound { result ≡ Exit.Ok → IsBound (N.bound net.old) (N.bound net.new) (sockets_of terms.now.run_dir.now (option_map (λ p. p.now) terms.now.gate)) }
 {
     let most = net.room_for(terms.workers);
-    let exit = serve_at_most(rt, terms, most, stores, passes, output, clock, net);
+    let exit = serve_at_most(rt, terms, most, stores, passes, output, clock, images, net);
     net.close();
     exit
 }
@@ -129,6 +157,7 @@ fn serve_at_most<
     S: Store + Drop + Send + Sync + 'static,
     K: Sink,
     C: Clock,
+    I: ImageStore,
     N: Listener,
 >(
     rt: &RT,
@@ -138,6 +167,7 @@ fn serve_at_most<
     passes: Databases<S::Pass>,
     output: &mut K,
     clock: &mut C,
+    images: &mut I,
     net: &mut N,
 ) -> Exit
 where
@@ -148,6 +178,7 @@ where
     requires passes { ArePasses S.Store stores passes }
     ensures exits { IsExitOf Serving result }
     ensures ends { (faults : ℕ) → EndsSo result (record { output = stream_out K.Sink output.old; source_faults = faults; given = N.given net.old; net_faults = N.faults net.old }) (record { output = stream_out K.Sink output.new; source_faults = faults; given = N.given net.new; net_faults = N.faults net.new }) }
+    ensures images { result ≡ Exit.Ok → PutsImages terms.now.conf.now (images_at I.ImageStore images.old) (images_at I.ImageStore images.new) }
     ensures bound { result ≡ Exit.Ok → IsBound (N.bound net.old) (N.bound net.new) (sockets_of terms.now.run_dir.now (option_map (λ p. p.now) terms.now.gate)) }
 {
     let alloc = rt.alloc();
@@ -188,7 +219,19 @@ where
         ticked,
         waitings: None,
     };
-    run(rt, terms.workers, &mut acceptor, &list, clock, net)
+    let exit = run(rt, terms.workers, &mut acceptor, &list, clock, net);
+    let Acceptor {
+        stores,
+        mut passes,
+        buffer: _,
+        gate: _,
+        ticked: _,
+        waitings: _,
+    } = acceptor;
+    match save_all(rt, &stores, &mut passes, terms.conf, images) {
+        Ok(()) => exit,
+        Err(_) => Exit::NoMemory,
+    }
 }
 
 // An empty list for the connections that wait, so many at most. Fails only for want of memory.

@@ -1,8 +1,9 @@
-//! Trials of the whole program as a daemon, over connections, files and moments in memory. Each trial prints how the program ended,
-//! what it wrote, and what every peer was sent.
+//! Trials of the whole program as a daemon, over connections, files, moments and images in memory. Each trial prints how the program
+//! ended, what it wrote, what every peer was sent, and the images that are there then.
 #![tactic(auto)]
 
 mod files;
+mod kept;
 mod requests;
 mod showing;
 mod trial;
@@ -10,20 +11,21 @@ mod trials;
 
 use files::files;
 use nsc_base::NoMemory;
-use nsc_outside::{MemSink, MemSource};
+use nsc_outside::{MemImages, MemSink, MemSource};
 use nsc_run::run;
 use nsc_sockets::{MemClock, MemListener};
-use showing::{show, show_sent};
+use showing::{show, show_images, show_sent};
 use std::alloc::Global;
 use std::io;
-use trial::Trial;
+use trial::{Images, Trial};
 use trials::trials;
 
-// How many bytes the program may write.
+// How many bytes the program may write, and an image may have.
 const ROOM: usize = 4096;
 
 fn main(rt: HostRuntime) -> io::Result<()> {
     let alloc = rt.alloc();
+    let mut store = MemImages::new(alloc, ROOM).map_err(wanting)?;
     for trial in trials(alloc).map_err(wanting)? {
         let Trial {
             name,
@@ -36,7 +38,11 @@ fn main(rt: HostRuntime) -> io::Result<()> {
             arrivals,
             peers,
             readers,
+            images,
         } = trial;
+        if images != Images::Left {
+            store = images_for(alloc, images).map_err(wanting)?;
+        }
         let words = owned(alloc, words).map_err(wanting)?;
         let mut output = MemSink::new(alloc, ROOM).map_err(wanting)?;
         let system: Result<_, _> = rt.clone();
@@ -47,12 +53,23 @@ fn main(rt: HostRuntime) -> io::Result<()> {
             &mut output,
             &mut files(system?, alloc, changed, hold, conf).map_err(wanting)?,
             &mut MemClock::new(start, step),
+            &mut store,
             &mut MemListener::new(alloc, arrivals, peers).map_err(wanting)?,
         );
         show(&rt, name, exit, output.taken())?;
         show_sent(&rt, alloc, readers.as_slice())?;
+        show_images(&rt, alloc, &store)?;
     }
     Ok(())
+}
+
+// A store of no images, into which none can be put if that is to fail.
+fn images_for(alloc: Global, images: Images) -> Result<MemImages, NoMemory> {
+    let store = MemImages::new(alloc, ROOM)?;
+    if images == Images::Failing {
+        return Ok(store.failing_puts(Vec::from_slice(alloc, &[1, 2, 3, 4])?));
+    }
+    Ok(store)
 }
 
 // The words as the program has them.

@@ -25,6 +25,9 @@ pub const DB: &[u8] = b"\x02\0\0\0\x04\0\0\0\x03\0\0\0db\0";
 /// A service over tcp that is there then, by name.
 pub const HTTP: &[u8] = b"\x02\0\0\0\x10\0\0\0\x09\0\0\0http/tcp\0";
 
+/// The counts of the databases.
+pub const STATISTICS: &[u8] = b"\x02\0\0\0\x09\0\0\0\0\0\0\0";
+
 /// The end of the daemon.
 pub const SHUTDOWN: &[u8] = b"\x02\0\0\0\x08\0\0\0\0\0\0\0";
 

@@ -1,6 +1,8 @@
 // What a trial came to, in lines.
 
 use nsc_base::NoMemory;
+use nsc_model::Db;
+use nsc_outside::MemImages;
 use nsc_run::Exit;
 use nsc_sockets::SinkReader;
 use std::alloc::Global;
@@ -27,12 +29,35 @@ pub fn show_sent<R: Print>(rt: &R, alloc: Global, readers: &[SinkReader]) -> io:
     Ok(())
 }
 
+/// Prints the images that are there.
+pub fn show_images<R: Print>(rt: &R, alloc: Global, images: &MemImages) -> io::Result<()> {
+    for (db, name) in [
+        (Db::Passwd, "passwd"),
+        (Db::Group, "group"),
+        (Db::Hosts, "hosts"),
+        (Db::Services, "services"),
+    ] {
+        if let Some(image) = images.image(db) {
+            match shown(alloc, image) {
+                Ok(text) => println!(rt; "  {name}: {}", text.as_str())?,
+                Err(_) => println!(rt; "  no memory")?,
+            }
+        }
+    }
+    Ok(())
+}
+
 // How many bytes a peer was sent, and which.
 fn sent(alloc: Global, reader: &SinkReader) -> Result<String, NoMemory> {
     let bytes = reader.bytes(alloc)?;
-    let digits = hex::encode(alloc, bytes.as_slice())?;
+    shown(alloc, bytes.as_slice())
+}
+
+// How many bytes these are, and which.
+fn shown(alloc: Global, bytes: &[u8]) -> Result<String, NoMemory> {
+    let digits = hex::encode(alloc, bytes)?;
     if digits.is_empty() {
         return Ok(String::from_str(alloc, "nothing")?);
     }
-    Ok(format!(in alloc; "{} bytes {}", bytes.as_slice().len(), digits.as_str())?)
+    Ok(format!(in alloc; "{} bytes {}", bytes.len(), digits.as_str())?)
 }

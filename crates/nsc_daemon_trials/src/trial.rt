@@ -7,9 +7,20 @@ use std::alloc::Global;
 // How many bytes a peer takes at most.
 const ROOM: usize = 4096;
 
+/// With which images a trial begins.
+#[derive(Clone, Copy, PartialEq, Eq)]
+pub enum Images {
+    /// None.
+    Absent,
+    /// None, and no image can be put.
+    Failing,
+    /// Those that the trial before it left.
+    Left,
+}
+
 /// A trial: the words of the program, its configuration, the first moment, how many seconds lie between two looks at the clock, when
-/// the files change, which reads wait, who comes, in order, and to whom the program connects. What each peer is sent can be read
-/// after it.
+/// the files change, which reads wait, who comes, in order, to whom the program connects, and its images. What each peer is sent can
+/// be read after it.
 #[derive(Drop)]
 pub struct Trial {
     pub name: &'static str,
@@ -22,10 +33,11 @@ pub struct Trial {
     pub arrivals: Vec<Arrival>,
     pub peers: Vec<Peer>,
     pub readers: Vec<SinkReader>,
+    pub images: Images,
 }
 
 impl Trial {
-    /// Nobody comes, nothing changes, no read waits, the configuration is empty, and the clock stands at 0.
+    /// Nobody comes, nothing changes, no read waits, the configuration is empty, the clock stands at 0, and there are no images.
     pub fn new(
         alloc: Global,
         name: &'static str,
@@ -42,6 +54,7 @@ impl Trial {
             arrivals: Vec::new(alloc),
             peers: Vec::new(alloc),
             readers: Vec::new(alloc),
+            images: Images::Absent,
         })
     }
 

@@ -1,3 +1,4 @@
+use crate::kept::kept;
 use crate::requests::{
     DB, DESCRIPTOR, EVE, HTTP, INVALIDATE_PASSWD, INVALIDATE_SHADOW, LINE, LINES, LOCALHOST,
     LONG_KEY, LONGEST_KEY, NEGATIVE_KEY, NO_KEY, NO_TYPE, OLD_VERSION, ROOT, ROOT_GROUP, SHORT,
@@ -36,6 +37,7 @@ pub fn trials(alloc: Global) -> Result<Vec<Trial>, NoMemory> {
     trials.push(moments(alloc)?)?;
     trials.push(gate(alloc, "a gate", WITH_GATE)?)?;
     trials.push(gate(alloc, "no gate", ONE)?)?;
+    kept(alloc, &mut trials)?;
     Ok(trials)
 }
 

@@ -22,7 +22,7 @@ pub at_rest_checked : {settings : DbConf} {limit : Option ℕ} {held : Option Co
     → IsAtRest settings limit held which ticked left w → IsAtRest settings limit held which newest left w'
 at_rest_checked {settings} {limit} {held} {which} {ticked} left checked.Emptied most now newest w w' c t is s =
     let on = at_rest_on left w w' (rests_emptied w w' c.1 t) s in
-    (subst (λ (n : ℕ). Keeps settings limit n w') (sym is) (finds_emptied w w' c.1 t settings limit ticked s.0), on.1, on.2, on.3, on.4, on.5, on.6)
+    (subst (λ (n : ℕ). Keeps settings limit n w') (sym is) (finds_emptied w w' c.1 t settings limit ticked s.0), on.1, on.2, on.3, on.4, on.5, on.6, on.7)
 at_rest_checked {settings} {limit} {held} {which} {ticked} left (checked.Listed due) most now newest w w' c t is s = at_rest_current left newest w w' c.2 is c.0 s
 
 pub is_checked : {settings : DbConf} {ticked : ℕ} (c : Checked) (limit : Option ℕ) (now : ℕ) (w w' : Writer) → Checks (is_outdated settings w.cache.newest_version ticked) limit now w w' (Ok c) → Tells w.seen w.cache → Keeps settings limit ticked w → IsChecked c settings limit now w'.seen

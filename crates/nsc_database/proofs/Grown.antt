@@ -39,6 +39,7 @@ at_rest_grown {settings} {limit} {held} {which} {ticked} left layout w w' former
   s.4,
   sized,
   steady_left held which layout w w' former left e t s.2 s.6,
+  s.7,
 )
 
 -- it grew, or nothing changed

@@ -1,9 +1,11 @@
 -- What an invalidation leaves of a writer, with and without its compaction.
-use Rattle.std.proofs.Common.{◌≡◌, ℕ, ◌+◌, ◌≤◌, List, [], ◌∷◌, length, refl, sym, ap, subst, ◌∙◌, arith, inl, inr, Result, Ok, Err}
+use Rattle.std.proofs.Common.{◌≡◌, ℕ, ◌+◌, ◌≤◌, ◌⊎◌, List, [], ◌∷◌, length, refl, sym, ap, subst, ◌∙◌, arith, inl, inr, Result, Ok, Err}
 use Rattle.std.specs.Prelude.{IfErr, IfOk}
+use Rattle.nsc_model.specs.declared.kind.Db.{Db}
 use Rattle.nsc_model.specs.declared.record.Record.{Record}
 use Rattle.nsc_model.specs.declared.store.Spent.{Spent}
-use Rattle.nsc_model.specs.History.{NoneLive, invalidations}
+use Rattle.nsc_model.specs.Entry.{Entry}
+use Rattle.nsc_model.specs.History.{HasLoad, NoneLive, invalidations}
 use Rattle.nsc_model.specs.Machine.{Kept, all_words, by_invalidation, ends_of, invalidated, last_count}
 use Rattle.nsc_model.specs.Stores.{IsEmptied, IsUnmoved}
 use Rattle.nsc_laws.specs.Calls.{Tells}
@@ -11,9 +13,10 @@ use Rattle.nsc_writer.specs.Writer.{Writer, emptied_by}
 use Rattle.nsc_writer.proofs.Told.{emptied_tells}
 use Rattle.nsc_turns.specs.Turns.{Completes, Stops}
 use Rattle.nsc_turns.proofs.Emptied.{IsStopped, completes_left, stops_left}
+use Rattle.nsc_image.specs.Saving.{IsEntryOf}
 use Rattle.nsc_database.specs.Rests.{FindsNewest, IsPacked, LoadsAgain, Rests}
 use Rattle.nsc_database.specs.Ticks.{compacted_by}
-use Rattle.nsc_model.specs.declared.record.Record.TheVariants.{Invalid}
+use Rattle.nsc_model.specs.declared.record.Record.TheVariants.{End, Invalid}
 use Rattle.nsc_database.proofs.Again.{again_ends, again_later, again_more}
 use Rattle.nsc_database.proofs.Rests.{rests_same}
 use Rattle.nsc_database.proofs.Shown.{emptied_on, is_emptied}
@@ -24,25 +27,33 @@ again_emptied : (w w' : Writer) → w' ≡ emptied_by w → (arena : ℕ) → Lo
 again_emptied w w' is arena l =
     subst (λ (x : Writer). LoadsAgain arena x.cache.cycle x.seen) (sym is) (again_more arena w.cache.cycle (Invalid (w.cache.epoch + 1)) (ends_of by_invalidation w.cache.entries w.seen) tt (again_ends arena w.cache.cycle w.cache.entries w.seen l))
 
-rests_from : (w w' : Writer) → w' ≡ emptied_by w → Tells w.seen w.cache → (IsPacked w → IsPacked w') → Rests w w'
+-- which entries were inserted stays
+loads_ended : (ks : List Kept) (h : List Record) (e : Entry) → HasLoad (ends_of by_invalidation ks h) e → HasLoad h e
+loads_ended [] h e a = a
+loads_ended (k ∷ ks) h e a = loads_ended ks (End k.entry.number (by_invalidation k) ∷ h) e a
+
+loads_emptied : {which : Db} (w w' : Writer) → w' ≡ emptied_by w → (e : Entry) → HasLoad w'.seen e → HasLoad w.seen e ⊎ IsEntryOf which e
+loads_emptied w w' is e a = inl (loads_ended w.cache.entries w.seen e (subst (λ (x : Writer). HasLoad x.seen e) is a))
+
+rests_from : {which : Db} (w w' : Writer) → w' ≡ emptied_by w → Tells w.seen w.cache → (IsPacked w → IsPacked w') → Rests which w w'
 rests_from w w' is t packed =
     let goes = emptied_on w w' is in
-    record { on = goes.on; table = goes.table; layout = goes.layout; slide = goes.slide; keeps = λ settings limit ticked k. keeps_emptied settings limit ticked w w' is t k; packed = packed; again = again_emptied w w' is; version = version_emptied w w' is }
+    record { on = goes.on; table = goes.table; layout = goes.layout; slide = goes.slide; keeps = λ settings limit ticked k. keeps_emptied settings limit ticked w w' is t k; packed = packed; again = again_emptied w w' is; version = version_emptied w w' is; inserts = loads_emptied w w' is }
 
 no_entries : (ks : List Kept) → length ks ≡ 0 → ks ≡ []
 no_entries [] e = refl
 no_entries (k ∷ ks) e = absurd (omega arith)
 
 -- where no entry was live
-pub rests_left : (w w' : Writer) → w' ≡ emptied_by w → Tells w.seen w.cache → length w.cache.entries ≡ 0 → Rests w w'
+pub rests_left : {which : Db} (w w' : Writer) → w' ≡ emptied_by w → Tells w.seen w.cache → length w.cache.entries ≡ 0 → Rests which w w'
 rests_left w w' is t none = rests_from w w' is t (λ p. subst IsPacked (sym is) (λ low. p low ∙ ap all_words (no_entries w.cache.entries none)))
 
 -- where it was compacted
-pub rests_compacted : (w w' w'' : Writer) → w' ≡ emptied_by w → Tells w.seen w.cache → w'' ≡ compacted_by w' → Rests w w''
-rests_compacted w w' w'' empty t is =
+pub rests_compacted : {which : Db} (w w' w'' : Writer) → w' ≡ emptied_by w → Tells w.seen w.cache → w'' ≡ compacted_by w' → Rests which w w''
+rests_compacted {which} w w' w'' empty t is =
     let goes = emptied_on w w' empty in
     let version = version_emptied w w' empty in
-    subst (Rests w) (sym is) (record {
+    subst (Rests which w) (sym is) (record {
       on = goes.on;
       table = goes.table;
       layout = goes.layout;
@@ -51,11 +62,12 @@ rests_compacted w w' w'' empty t is =
       packed = λ p. packed_compacted w' (compacted_by w') refl;
       again = λ arena l. again_later arena w'.cache.cycle (w'.cache.cycle + 2) w'.seen (omega arith) (again_emptied w w' empty arena l);
       version = record { version = version.version; sources = version.sources };
+      inserts = loads_emptied w w' empty;
     })
 
 -- where the count of the beginnings and the ends of slides stands at its end
-pub rests_spent : (w w' w'' : Writer) → w' ≡ emptied_by w → Tells w.seen w.cache → last_count ≤ w'.cache.cycle → w'' ≡ w' → Rests w w''
-rests_spent w w' w'' empty t last is = subst (Rests w) (sym is) (rests_from w w' empty t (λ p. packed_spent w' w' refl last))
+pub rests_spent : {which : Db} (w w' w'' : Writer) → w' ≡ emptied_by w → Tells w.seen w.cache → last_count ≤ w'.cache.cycle → w'' ≡ w' → Rests which w w''
+rests_spent {which} w w' w'' empty t last is = subst (Rests which w) (sym is) (rests_from w w' empty t (λ p. packed_spent w' w' refl last))
 
 pub is_unmoved : (w : Writer) (count : ℕ) (ended : Type 0) → last_count ≤ w.cache.cycle → count ≡ last_count → ended → IsUnmoved w.seen (last_count ≤ w.cache.cycle) count ended
 is_unmoved w count ended high is made = record { last = is; cause = inr (high, made) }
@@ -69,7 +81,7 @@ finds_compacted w w' w'' empty t is settings limit ticked k =
 
 -- ---- the turn
 
-pub rests_emptied : (w w' : Writer) → Completes (invalidated w.cache) w w' → Tells w.seen w.cache → Rests w w'
+pub rests_emptied : {which : Db} (w w' : Writer) → Completes (invalidated w.cache) w w' → Tells w.seen w.cache → Rests which w w'
 rests_emptied w w' p t = elim (completes_left w w' p) [ inl (none, is) ↦ rests_left w w' is t none | inr (some, is) ↦ rests_compacted w (emptied_by w) w' refl t is ]
 
 pub finds_emptied : (w w' : Writer) → Completes (invalidated w.cache) w w' → Tells w.seen w.cache → FindsNewest w w'
@@ -80,7 +92,7 @@ completes_emptied w w' epoch p t counted =
     let left : (w'.seen ≡ (emptied_by w).seen) × (w'.cache.epoch ≡ w.cache.epoch + 1) = elim (completes_left w w' p) [ inl (none, is) ↦ (ap (λ (x : Writer). x.seen) is, ap (λ (x : Writer). x.cache.epoch) is) | inr (some, is) ↦ (ap (λ (x : Writer). x.seen) is, ap (λ (x : Writer). x.cache.epoch) is) ] in
     subst (λ (h : List Record). IsEmptied w.seen h epoch) (sym left.0) (is_emptied w (emptied_by w) epoch t (emptied_tells w.seen w.cache t) (counted ∙ left.1) refl)
 
-pub rests_stopped : (w w' : Writer) (count : ℕ) → Stops (invalidated w.cache) count w w' → Tells w.seen w.cache → Rests w w'
+pub rests_stopped : {which : Db} (w w' : Writer) (count : ℕ) → Stops (invalidated w.cache) count w w' → Tells w.seen w.cache → Rests which w w'
 rests_stopped w w' count s t = elim (stops_left w w' count s).1 [ inl (last, is) ↦ rests_same w w' is | inr (high, is) ↦ rests_spent w (emptied_by w) w' refl t high is ]
 
 pub stops_unmoved : (w w' : Writer) (count : ℕ) → Stops (invalidated w.cache) count w w' → Tells w.seen w.cache → IsUnmoved w'.seen (last_count ≤ w'.cache.cycle) count (NoneLive w'.seen)
@@ -91,7 +103,7 @@ stops_unmoved w w' count s t = by_cause (stops_left w w' count s) where
       let none = (is_emptied w (emptied_by w) (w.cache.epoch + 1) t (emptied_tells w.seen w.cache t) refl refl).none in
       is_unmoved w' count (NoneLive w'.seen) (subst (λ (x : Writer). last_count ≤ x.cache.cycle) (sym is) high) at (subst (λ (x : Writer). NoneLive x.seen) (sym is) none)
 
-pub rests_invalidated : (r : Result ℕ Spent) (w w' : Writer) → IfOk r (λ epoch. Completes (invalidated w.cache) w w') → IfErr r (λ spent. Stops (invalidated w.cache) spent.count w w') → Tells w.seen w.cache → Rests w w'
+pub rests_invalidated : {which : Db} (r : Result ℕ Spent) (w w' : Writer) → IfOk r (λ epoch. Completes (invalidated w.cache) w w') → IfErr r (λ spent. Stops (invalidated w.cache) spent.count w w') → Tells w.seen w.cache → Rests which w w'
 rests_invalidated (Ok epoch) w w' p s t = rests_emptied w w' p t
 rests_invalidated (Err spent) w w' p s t = rests_stopped w w' spent.count s t
 

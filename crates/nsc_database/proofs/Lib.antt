@@ -3,6 +3,7 @@ pub mod Lookups
 pub mod Rests
 pub mod Steady
 pub mod Standing
+pub mod Opening
 pub mod Ended
 pub mod Pruning
 pub mod Invalidations

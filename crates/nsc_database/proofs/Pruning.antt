@@ -6,7 +6,7 @@ use Rattle.nsc_model.specs.declared.record.Ending.{Ending}
 use Rattle.nsc_model.specs.declared.record.Record.{Record}
 use Rattle.nsc_model.specs.declared.record.Record.TheVariants.{End}
 use Rattle.nsc_model.specs.Entry.{Entry}
-use Rattle.nsc_model.specs.History.{Allows, HasEnd, IsLive, IsPrefix, Legal, load_of}
+use Rattle.nsc_model.specs.History.{Allows, HasEnd, HasLoad, IsLive, IsPrefix, Legal, load_of}
 use Rattle.nsc_model.specs.Kinds.{is_request}
 use Rattle.nsc_model.specs.Reloads.{IsDropped, one_of, replaced}
 use Rattle.nsc_laws.specs.Calls.{Tells}
@@ -47,6 +47,7 @@ pub record Leaves (settings : DbConf) (limit : Option ℕ) (ticked : ℕ) (due :
   pub cycle : w'.cache.cycle ≡ w.cache.cycle
   pub used : w'.cache.used ≡ w.cache.used
   pub gone : (n : ℕ) → HasNumber due n → HasEnd w'.seen n
+  pub loads : (e : Entry) → HasLoad w'.seen e → HasLoad w.seen e
 
 -- the cause of an end is right
 right_cause : (limit : Option ℕ) (now : ℕ) (h : List Record) (d : Due) → Legal h → IsDue limit now h d → IsRight limit h d.number (ending_of (due_cause_of now d))
@@ -91,6 +92,7 @@ one_leaves settings limit now ticked d w due t k = by_live (has_number d.number 
     cycle = refl;
     used = refl;
     gone = λ n has. elim has [ inl same ↦ inl same | inr none ↦ absurd none ];
+    loads = λ e a. a;
   }
   by_live false there = record {
     keeps = k;
@@ -99,10 +101,11 @@ one_leaves settings limit now ticked d w due t k = by_live (has_number d.number 
     cycle = refl;
     used = refl;
     gone = λ n has. elim has [ inl same ↦ subst (HasEnd w.seen) same (gone_ended w.seen w.cache d.number due.entry t due.inserted due.numbered there) | inr none ↦ absurd none ];
+    loads = λ e a. a;
   }
 
 pub all_leave : (settings : DbConf) (limit : Option ℕ) (now ticked : ℕ) (due : List Due) (w : Writer) → All (IsDue limit now w.seen) due → Tells w.seen w.cache → Keeps settings limit ticked w → Leaves settings limit ticked due w (pruned_by now due w)
-all_leave settings limit now ticked [] w all t k = record { keeps = k; told = t; on = ([], refl); cycle = refl; used = refl; gone = λ n has. absurd has }
+all_leave settings limit now ticked [] w all t k = record { keeps = k; told = t; on = ([], refl); cycle = refl; used = refl; gone = λ n has. absurd has; loads = λ e a. a }
 all_leave settings limit now ticked (d ∷ due) w all t k =
     let first = one_leaves settings limit now ticked d w (head_of (IsDue limit now w.seen) d due all) t k in
     let w1 = pruned_one now d w in
@@ -114,6 +117,7 @@ all_leave settings limit now ticked (d ∷ due) w all t k =
       cycle = rest.cycle ∙ first.cycle;
       used = rest.used ∙ first.used;
       gone = λ n has. elim has [ inl same ↦ end_on w1.seen (pruned_by now due w1).seen n rest.on (first.gone n (inl same)) | inr more ↦ rest.gone n more ];
+      loads = λ e a. first.loads e (rest.loads e a);
     }
 
 renewed_on : (a b : List Record) (d : Due) → IsPrefix a b → IsRenewed a d → IsRenewed b d

@@ -1,11 +1,12 @@
 -- What holds of a writer while its lock is free stays so through each of its calls.
-use Rattle.std.proofs.Common.{◌≡◌, ℕ, zero, suc, ◌+◌, ◌<◌, ◌≤◌, Bool, true, false, not, ◌&&◌, cond, eqb, All, List, [], ◌∷◌, ◌++◌, get_or, sum_by, add-zero, Option, Ok, Err, refl, sym, ap, subst, ◌∙◌, arith, inl, inr}
+use Rattle.std.proofs.Common.{◌≡◌, ℕ, zero, suc, ◌+◌, ◌<◌, ◌≤◌, ◌⊎◌, Bool, true, false, not, ◌&&◌, cond, eqb, All, List, [], ◌∷◌, ◌++◌, get_or, sum_by, add-zero, Option, Ok, Err, refl, sym, ap, subst, ◌∙◌, arith, inl, inr}
 use Rattle.std.specs.Bool.{OnTrue}
 use Rattle.std.proofs.lemmas.Bool.{eqb-true, false≢true}
 use Rattle.std.proofs.lemmas.List.Elements.{All-append}
 use Rattle.std.proofs.lemmas.List.Sums.{sum_by-append, sum_by-cons}
 use Rattle.nsc_model.specs.declared.answer.Request.{Request}
 use Rattle.nsc_model.specs.declared.conf.DbConf.{DbConf}
+use Rattle.nsc_model.specs.declared.kind.Db.{Db}
 use Rattle.nsc_model.specs.declared.record.Record.{Record}
 use Rattle.nsc_model.specs.declared.record.Record.TheVariants.{Change, Poll, Load, End, Invalid}
 use Rattle.nsc_model.specs.Content.{Content}
@@ -25,7 +26,8 @@ use Rattle.nsc_turns.specs.declared.entries.HitOrMiss.TheVariants as looked
 use Rattle.nsc_turns.specs.Turns.{Looks}
 use Rattle.nsc_shelf.specs.Uses.{Uses}
 use Rattle.nsc_writer.proofs.Later.{prefix_through}
-use Rattle.nsc_database.specs.Rests.{IsPacked, IsReloaded, Keeps, LoadsAgain, Rests}
+use Rattle.nsc_image.specs.Saving.{IsEntryOf}
+use Rattle.nsc_database.specs.Rests.{IsLoadedOf, IsPacked, IsReloaded, Keeps, LoadsAgain, Rests}
 use Rattle.nsc_database.proofs.Again.{again_more}
 use Rattle.nsc_turns.proofs.Renewed.{leaves_inserted}
 use Rattle.nsc_database.proofs.Steady.{keeps_through}
@@ -95,12 +97,13 @@ pub record AddsNone (h h' : List Record) : Type 0 where
   pub replaced_is : (request : Request) → replaced h' request ≡ replaced h request
   pub invalidated_is : invalidated_at h' ≡ invalidated_at h
   pub again : (arena cycle : ℕ) → LoadsAgain arena cycle h → LoadsAgain arena cycle h'
+  pub loads : (e : Entry) → HasLoad h' e → HasLoad h e
 
 poll_adds_none : (v : ℕ) (h : List Record) → AddsNone h (Poll v ∷ h)
-poll_adds_none v h = record { reloaded = λ limit r. record { dropped = r.dropped; invalidated = r.invalidated }; replaced_is = λ request. refl; invalidated_is = refl; again = λ arena cycle l. again_more arena cycle (Poll v) h tt l }
+poll_adds_none v h = record { reloaded = λ limit r. record { dropped = r.dropped; invalidated = r.invalidated }; replaced_is = λ request. refl; invalidated_is = refl; again = λ arena cycle l. again_more arena cycle (Poll v) h tt l; loads = λ e a. a }
 
 change_adds_none : (v : ℕ) (c : Content) (h : List Record) → AddsNone h (Change v c ∷ h)
-change_adds_none v c h = record { reloaded = λ limit r. record { dropped = r.dropped; invalidated = r.invalidated }; replaced_is = λ request. refl; invalidated_is = refl; again = λ arena cycle l. again_more arena cycle (Change v c) h tt l }
+change_adds_none v c h = record { reloaded = λ limit r. record { dropped = r.dropped; invalidated = r.invalidated }; replaced_is = λ request. refl; invalidated_is = refl; again = λ arena cycle l. again_more arena cycle (Change v c) h tt l; loads = λ e a. a }
 
 -- a writer with such a history, and the same entries in as many words
 pub keeps_with : (settings : DbConf) (limit : Option ℕ) (ticked : ℕ) (w w' : Writer) → AddsNone w.seen w'.seen → w'.cache.entries ≡ w.cache.entries → Keeps settings limit ticked w → Keeps settings limit ticked w'
@@ -190,7 +193,7 @@ words_one ks k =
     let f : Kept → ℕ = λ x. entry_words x.entry in
     sum_by-append f ks (k ∷ []) ∙ ap (λ (n : ℕ). sum_by f ks + n) (sum_by-cons f k [] ∙ add-zero (entry_words k.entry))
 
-keeps_entry : (settings : DbConf) (limit : Option ℕ) (ticked : ℕ) (k : Kept) (w : Writer) → k.reloads ≤ replaced w.seen k.entry.request → Keeps settings limit ticked w → Keeps settings limit ticked (with_entry k w)
+pub keeps_entry : (settings : DbConf) (limit : Option ℕ) (ticked : ℕ) (k : Kept) (w : Writer) → k.reloads ≤ replaced w.seen k.entry.request → Keeps settings limit ticked w → Keeps settings limit ticked (with_entry k w)
 keeps_entry settings limit ticked k w low keeps = record {
   reloaded = record { dropped = keeps.reloaded.dropped; invalidated = keeps.reloaded.invalidated };
   counted = All-append (IsReloaded w.seen) w.cache.entries (k ∷ []) keeps.counted one;
@@ -200,7 +203,7 @@ keeps_entry settings limit ticked k w low keeps = record {
   one zero d l = low
   one (suc i) d l = absurd (omega arith)
 
-packed_entry : (k : Kept) (w : Writer) → IsPacked w → IsPacked (with_entry k w)
+pub packed_entry : (k : Kept) (w : Writer) → IsPacked w → IsPacked (with_entry k w)
 packed_entry k w p low = ap (λ (n : ℕ). n + entry_words k.entry) (p low) ∙ sym (words_one w.cache.entries k)
 
 pub keeps_insert : (settings : DbConf) (limit : Option ℕ) (ticked : ℕ) (said : Inserted) (loaded : Loaded) (w w' : Writer) → Inserts said loaded w w' → loaded.reloads ≤ replaced w.seen loaded.request → Keeps settings limit ticked w → Keeps settings limit ticked w'
@@ -229,10 +232,10 @@ again_insert arena (inserted.Full need free) loaded w w' i l = subst (λ (x : Wr
 
 -- ---- whole calls
 
-pub rests_same : (w w' : Writer) → w' ≡ w → Rests w w'
-rests_same w w' is = subst (Rests w) (sym is) (record { on = ([], refl); table = refl; layout = refl; slide = refl; keeps = λ settings limit ticked k. k; packed = λ p. p; again = λ arena l. l; version = record { version = refl; sources = refl } })
+pub rests_same : {which : Db} (w w' : Writer) → w' ≡ w → Rests which w w'
+rests_same {which} w w' is = subst (Rests which w) (sym is) (record { on = ([], refl); table = refl; layout = refl; slide = refl; keeps = λ settings limit ticked k. k; packed = λ p. p; again = λ arena l. l; version = record { version = refl; sources = refl }; inserts = λ e a. inl a })
 
-pub rests_through : (a b c : Writer) → Rests a b → Rests b c → Rests a c
+pub rests_through : {which : Db} (a b c : Writer) → Rests which a b → Rests which b c → Rests which a c
 rests_through a b c r s = record {
   on = prefix_through a.seen b.seen c.seen r.on s.on;
   table = s.table ∙ r.table;
@@ -242,10 +245,11 @@ rests_through a b c r s = record {
   packed = λ p. s.packed (r.packed p);
   again = λ arena l. s.again arena (r.again arena l);
   version = keeps_through a.cache b.cache c.cache r.version s.version;
+  inserts = λ e a. elim (s.inserts e a) [ inl old ↦ r.inserts e old | inr own ↦ inr own ];
 }
 
-pub rests_missed : (m : Uses) (w w' : Writer) → w' ≡ record w { misses = m } → Rests w w'
-rests_missed m w w' is = subst (Rests w) (sym is) (record {
+pub rests_missed : {which : Db} (m : Uses) (w w' : Writer) → w' ≡ record w { misses = m } → Rests which w w'
+rests_missed {which} m w w' is = subst (Rests which w) (sym is) (record {
   on = ([], refl);
   table = refl;
   layout = refl;
@@ -254,11 +258,12 @@ rests_missed m w w' is = subst (Rests w) (sym is) (record {
   packed = λ p. λ low. p low;
   again = λ arena l. l;
   version = record { version = refl; sources = refl };
+  inserts = λ e a. inl a;
 })
 
-pub rests_looked : (found : Option Kept) (request : Request) (r : HitOrMiss) (w w' : Writer) (reply : List ℕ) → Looks found request r w w' reply → Rests w w'
-rests_looked found request (looked.Missed epoch) w w' reply l = rests_same w w' l.2
-rests_looked found request (looked.Hit hit) w w' reply l = subst (Rests w) (sym l.1) (record {
+pub rests_looked : {which : Db} (found : Option Kept) (request : Request) (r : HitOrMiss) (w w' : Writer) (reply : List ℕ) → Looks found request r w w' reply → Rests which w w'
+rests_looked {which} found request (looked.Missed epoch) w w' reply l = rests_same w w' l.2
+rests_looked {which} found request (looked.Hit hit) w w' reply l = subst (Rests which w) (sym l.1) (record {
   on = ([], refl);
   table = refl;
   layout = refl;
@@ -267,10 +272,20 @@ rests_looked found request (looked.Hit hit) w w' reply l = subst (Rests w) (sym 
   packed = λ p. λ low. packed_used request w p low;
   again = λ arena l. l;
   version = record { version = refl; sources = refl };
+  inserts = λ e a. inl a;
 })
 
-pub rests_inserted : (said : Inserted) (loaded : Loaded) (w w' : Writer) → Inserts said loaded w w' → loaded.reloads ≤ replaced w.seen loaded.request → Rests w w'
-rests_inserted said loaded w w' i low =
+-- an entry more is of what was to be inserted
+insert_own : (which : Db) (said : Inserted) (loaded : Loaded) (w w' : Writer) → Inserts said loaded w w' → ((number : ℕ) → IsEntryOf which (kept_of loaded number).entry) → (e : Entry) → HasLoad w'.seen e → HasLoad w.seen e ⊎ IsEntryOf which e
+insert_own which (inserted.Done number) loaded w w' i own e a = elim (subst (λ (x : Writer). HasLoad x.seen e) i.2 a) [ inl same ↦ inr (subst (IsEntryOf which) same (own w.cache.inserted)) | inr old ↦ inl old ]
+insert_own which (inserted.TooLarge size) loaded w w' i own e a = inl (subst (λ (x : Writer). HasLoad x.seen e) i.1 a)
+insert_own which (inserted.Discarded noted epoch) loaded w w' i own e a = inl (subst (λ (x : Writer). HasLoad x.seen e) i.1 a)
+insert_own which (inserted.Present number) loaded w w' i own e a = inl (subst (λ (x : Writer). HasLoad x.seen e) i.1 a)
+insert_own which (inserted.Spent count) loaded w w' i own e a = inl (subst (λ (x : Writer). HasLoad x.seen e) i.1 a)
+insert_own which (inserted.Full need free) loaded w w' i own e a = inl (subst (λ (x : Writer). HasLoad x.seen e) i.1 a)
+
+pub rests_inserted : {which : Db} (said : Inserted) (loaded : Loaded) (w w' : Writer) → Inserts said loaded w w' → loaded.reloads ≤ replaced w.seen loaded.request → IsLoadedOf which loaded → Rests which w w'
+rests_inserted {which} said loaded w w' i low own =
     let goes = leaves_inserted said loaded w w' i in
     record {
       on = goes.on;
@@ -281,4 +296,5 @@ rests_inserted said loaded w w' i low =
       packed = λ q. packed_insert said loaded w w' i q;
       again = λ arena l. again_insert arena said loaded w w' i l;
       version = record { version = goes.version; sources = goes.sources };
+      inserts = insert_own which said loaded w w' i (λ number. record { of_database = own.0; timeout_fits = own.1 });
     }

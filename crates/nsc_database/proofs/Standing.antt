@@ -1,5 +1,5 @@
 -- What holds of a desk while its lock is free stays so, and what passes see under holds of the lock.
-use Rattle.std.proofs.Common.{◌≡◌, ◌∙◌, ℕ, ◌≤◌, ◌⊎◌, false, List, [], Option, Result, Ok, Err, arith, inl, inr, refl, subst, sym}
+use Rattle.std.proofs.Common.{◌≡◌, ◌∙◌, ℕ, ◌≤◌, ◌⊎◌, false, List, Option, Result, Ok, Err, arith, inl, inr, subst, sym}
 use Rattle.std.specs.Prelude.{OnOk}
 use Rattle.nsc_outside.specs.declared.files.FileSet as file_set
 use Rattle.nsc_model.specs.declared.conf.DbConf.{DbConf}
@@ -22,8 +22,8 @@ use Rattle.nsc_database.proofs.Rests.{keeps_current, keeps_stays, packed_stays, 
 use Rattle.nsc_database.proofs.Shown.{polls_spent}
 use Rattle.nsc_database.proofs.Steady.{still_kept, still_polled}
 
-pub at_rest_on : {settings : DbConf} {limit : Option ℕ} {held : Option Content} {which : Db} {ticked : ℕ} (left : List Former) (w w' : Writer) → Rests w w' → IsAtRest settings limit held which ticked left w → IsAtRest settings limit held which ticked left w'
-at_rest_on {settings} {limit} {held} {which} {ticked} left w w' r s = (r.keeps settings limit ticked s.0, r.packed s.1, λ files e. still_kept files which w.cache w'.cache r.version (s.2 files e), r.again (room_of settings) s.3, r.slide ∙ s.4, subst (IsSized settings) (sym r.layout) s.5, s.6)
+pub at_rest_on : {settings : DbConf} {limit : Option ℕ} {held : Option Content} {which : Db} {ticked : ℕ} (left : List Former) (w w' : Writer) → Rests which w w' → IsAtRest settings limit held which ticked left w → IsAtRest settings limit held which ticked left w'
+at_rest_on {settings} {limit} {held} {which} {ticked} left w w' r s = (r.keeps settings limit ticked s.0, r.packed s.1, λ files e. still_kept files which w.cache w'.cache r.version (s.2 files e), r.again (room_of settings) s.3, r.slide ∙ s.4, subst (IsSized settings) (sym r.layout) s.5, s.6, λ e a. elim (r.inserts e a) [ inl old ↦ s.7 e old | inr own ↦ own ])
 
 pub at_rest_same : {settings : DbConf} {limit : Option ℕ} {held : Option Content} {which : Db} {ticked : ℕ} (left : List Former) (w w' : Writer) → w' ≡ w → IsAtRest settings limit held which ticked left w → IsAtRest settings limit held which ticked left w'
 at_rest_same left w w' is s = at_rest_on left w w' (rests_same w w' is) s
@@ -39,6 +39,7 @@ at_rest_polled {settings} {limit} {held} {which} {ticked} left fetched epoch b b
       stays.slide ∙ s.4,
       subst (IsSized settings) (sym stays.layout) s.5,
       s.6,
+      λ e a. s.7 e (stays.adds.loads e a),
     )
 at_rest_polled {settings} {limit} {held} {which} {ticked} left fetched epoch b b' w w' (Err spent) q part s = at_rest_same left w w' (polls_spent fetched.content epoch w w' spent q.0).2 s
 
@@ -50,7 +51,7 @@ at_rest_kept {settings} {limit} {held} {which} {ticked} left left' w w' same is 
 pub at_rest_current : {settings : DbConf} {limit : Option ℕ} {held : Option Content} {which : Db} {ticked : ℕ} (left : List Former) (newest : ℕ) (w w' : Writer) → w' ≡ w → newest ≡ w.cache.newest_version → is_outdated settings w.cache.newest_version ticked ≡ false → IsAtRest settings limit held which ticked left w
     → IsAtRest settings limit held which newest left w'
 at_rest_current {settings} {limit} {held} {which} {ticked} left newest w w' same is current s =
-    at_rest_same left w w' same (keeps_current settings limit ticked newest w (subst (λ (n : ℕ). is_outdated settings n ticked ≡ false) (sym is) current) s.0, s.1, s.2, s.3, s.4, s.5, s.6)
+    at_rest_same left w w' same (keeps_current settings limit ticked newest w (subst (λ (n : ℕ). is_outdated settings n ticked ≡ false) (sym is) current) s.0, s.1, s.2, s.3, s.4, s.5, s.6, s.7)
 
 -- what holds in any case
 pub in_any_case : {T E P : Type 0} (r : Result T E) → P → OnOk r P

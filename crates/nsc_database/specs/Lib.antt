@@ -1,6 +1,7 @@
 pub mod Rooms
 pub mod Steady
 pub mod Rests
+pub mod Openings
 pub mod Frames
 pub mod Holds
 pub mod Growing

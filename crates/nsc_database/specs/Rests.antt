@@ -1,19 +1,22 @@
 -- What holds of the writer of a database while its lock is free.
-use Rattle.std.specs.Prelude.{◌≡◌, ℕ, ◌+◌, ◌<◌, ◌≤◌, ◌⊎◌, All, List, [], ◌∷◌, Option, None}
+use Rattle.std.specs.Prelude.{◌≡◌, ℕ, ◌+◌, ◌<◌, ◌≤◌, ◌^◌, ◌⊎◌, All, List, [], ◌∷◌, Option, None}
 use Rattle.std.specs.Bool.{OnTrue}
 use Rattle.nsc_model.specs.declared.conf.DbConf.{DbConf}
 use Rattle.nsc_model.specs.declared.record.Record.{Record}
 use Rattle.nsc_model.specs.declared.record.Record.TheVariants.{Change}
 use Rattle.nsc_model.specs.Content.{Content}
 use Rattle.nsc_model.specs.Entry.{Entry}
-use Rattle.nsc_model.specs.History.{IsLive, IsPrefix, changes}
+use Rattle.nsc_model.specs.History.{HasLoad, IsLive, IsPrefix, changes}
+use Rattle.nsc_model.specs.Kinds.{database_of}
 use Rattle.nsc_model.specs.Machine.{Kept, all_words, last_count, new_cache, room_of}
 use Rattle.nsc_model.specs.Reloads.{Reloaded, invalidated_at, replaced}
 use Rattle.nsc_model.specs.Stores.{AreLoadedAgain}
 use Rattle.nsc_model.specs.declared.kind.Db.{Db}
 use Rattle.nsc_writer.specs.Former.{Former}
+use Rattle.nsc_writer.specs.Loaded.{Loaded}
 use Rattle.nsc_writer.specs.Writer.{Writer}
 use Rattle.nsc_growth.specs.Sized.{IsSized, first_layout}
+use Rattle.nsc_image.specs.Saving.{IsEntryOf}
 use Rattle.nsc_database.specs.Steady.{KeepsVersion, StaysStill, WasSteady}
 
 -- an entry was reloaded at most as often as entries of its request ended for that
@@ -41,9 +44,17 @@ IsPacked w = w.cache.cycle < last_count → w.cache.used ≡ all_words w.cache.e
 abbrev pub LoadsAgain : ℕ → ℕ → List Record → Type 0
 LoadsAgain arena cycle history = AreLoadedAgain arena history ⊎ (last_count ≤ cycle)
 
+-- each entry that was inserted is one that an image of the database may have
+abbrev pub InsertsOwn : Db → List Record → Type 0
+InsertsOwn which history = (e : Entry) → HasLoad history e → IsEntryOf which e
+
+-- and what is to be inserted will be one
+abbrev pub IsLoadedOf : Db → Loaded → Type 0
+IsLoadedOf which loaded = (database_of loaded.request.kind ≡ which) × (loaded.timeout < 2 ^ 63)
+
 -- what holds of a writer, and of the tables that it left, while its lock is free
 abbrev pub IsAtRest : DbConf → Option ℕ → Option Content → Db → ℕ → List Former → Writer → Type 0
-IsAtRest settings limit held which ticked left w = Keeps settings limit ticked w × IsPacked w × StaysStill held which w.cache × LoadsAgain (room_of settings) w.cache.cycle w.seen × (w.slide ≡ None) × IsSized settings w.layout × All (WasSteady held which) left
+IsAtRest settings limit held which ticked left w = Keeps settings limit ticked w × IsPacked w × StaysStill held which w.cache × LoadsAgain (room_of settings) w.cache.cycle w.seen × (w.slide ≡ None) × IsSized settings w.layout × All (WasSteady held which) left × InsertsOwn which w.seen
 
 -- a writer of an empty cache over this content as its first version, in the first table of these settings, with no slide under way
 pub record IsNew (w : Writer) (content : Content) (settings : DbConf) : Type 0 where
@@ -52,8 +63,8 @@ pub record IsNew (w : Writer) (content : Content) (settings : DbConf) : Type 0 w
   pub room : w.layout ≡ first_layout settings
   pub still : w.slide ≡ None
 
--- the writer goes on, and what held of it while its lock was free holds still
-pub record Rests (w w' : Writer) : Type 0 where
+-- the writer of a database goes on, and what held of it while its lock was free holds still
+pub record Rests (which : Db) (w w' : Writer) : Type 0 where
   pub on : IsPrefix w.seen w'.seen
   pub table : w'.table ≡ w.table
   pub layout : w'.layout ≡ w.layout
@@ -62,6 +73,7 @@ pub record Rests (w w' : Writer) : Type 0 where
   pub packed : IsPacked w → IsPacked w'
   pub again : (arena : ℕ) → LoadsAgain arena w.cache.cycle w.seen → LoadsAgain arena w'.cache.cycle w'.seen
   pub version : KeepsVersion w.cache w'.cache
+  pub inserts : (e : Entry) → HasLoad w'.seen e → HasLoad w.seen e ⊎ IsEntryOf which e
 
 -- the newest version is known to be there when the database was last invalidated, where changes of the files count
 abbrev pub FindsNewest : Writer → Writer → Type 0

@@ -1,5 +1,5 @@
 -- What the holds of a tick come to.
-use Rattle.std.specs.Prelude.{◌≡◌, ℕ, ◌+◌, ◌<◌, ◌≤◌, ◌⊎◌, Bool, true, false, All, List, [], ◌∷◌, map, Option, Some}
+use Rattle.std.specs.Prelude.{◌≡◌, ℕ, ◌+◌, ◌<◌, ◌≤◌, ◌⊎◌, ◌^◌, Bool, true, false, All, List, [], ◌∷◌, map, Option, Some}
 use Rattle.std.specs.Bool.{OnTrue}
 use Rattle.nsc_model.specs.declared.conf.DbConf.{DbConf}
 use Rattle.nsc_model.specs.declared.answer.Request.{Request}
@@ -9,9 +9,10 @@ use Rattle.nsc_model.specs.declared.record.Record.TheVariants.{End}
 use Rattle.nsc_model.specs.declared.store.LookupFault.{LookupFault}
 use Rattle.nsc_model.specs.declared.store.LookupFault.TheVariants as fault
 use Rattle.nsc_model.specs.Entry.{Entry}
+use Rattle.nsc_model.specs.Answer.{Answer}
 use Rattle.nsc_model.specs.Content.{Content}
 use Rattle.nsc_model.specs.History.{HasEnd, HasLoad, IsPrefix, NoneLive, PolledSince, invalidations, load_of, version_in}
-use Rattle.nsc_model.specs.Machine.{all_words, last_count}
+use Rattle.nsc_model.specs.Machine.{all_words, last_count, life_of}
 use Rattle.nsc_model.specs.Reloads.{replaced}
 use Rattle.nsc_model.specs.Stores.{IsLoadedAgain, IsUnmoved}
 use Rattle.nsc_pruner.specs.Due.{Due}
@@ -66,6 +67,10 @@ IsHoldFault (fault.Spent count) after last_cycle ended = IsUnmoved after last_cy
 IsHoldFault (fault.SourceFault file) after last_cycle ended = ⊥
 IsHoldFault (fault.TooLong file size) after last_cycle ended = ⊥
 
+-- the time of what is answered is over before 2^63
+abbrev pub EndsInTime : Answering → Type 0
+EndsInTime a = (answer : Answer) → a.moment + life_of a.settings answer < 2 ^ 63
+
 -- what is to be loaded again for those that are due, over one version, polled after so many invalidations
 pub record AreAnew (history : List Record) (epoch : ℕ) (due : List Due) (loads : List (Option Loaded)) : Type 0 where
   pub answering : Answering
@@ -73,6 +78,7 @@ pub record AreAnew (history : List Record) (epoch : ℕ) (due : List Due) (loads
   pub version : version_in history answering.stamp.version ≡ Some files
   pub since : PolledSince history answering.stamp.version answering.stamp.epoch
   pub stamped : answering.stamp.epoch ≡ epoch
+  pub soon : EndsInTime answering
   pub made : loads ≡ map (anew_of answering files) due
 
 -- the request of one of them, which ended to be loaded again

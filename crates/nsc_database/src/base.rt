@@ -5,13 +5,16 @@ ghost use Rattle.nsc_model.specs.History.{Legal, invalidations};
 ghost use Rattle.nsc_writer.specs.Writer.{IsAnswered};
 ghost use Rattle.nsc_model.specs.Reads.{IsLookedUp};
 ghost use Rattle.nsc_model.specs.Settings.{settings_of};
-ghost use Rattle.nsc_model.specs.Stores.{IsCounted, IsEmptied, IsFault, IsInvalidateFault};
+ghost use Rattle.nsc_model.specs.Kinds.{database_of};
+ghost use Rattle.nsc_model.specs.Stores.{IsCounted, IsEmptied, IsFault, IsImageOf, IsInvalidateFault};
 ghost use Rattle.nsc_sourcebook.specs.Book.{FitsBook};
 ghost use Rattle.nsc_sourcebook.specs.Reads.{IsPart, NoneFailed};
 ghost use Rattle.nsc_turns.specs.Loads.{loaded_of};
 ghost use Rattle.nsc_database.specs.Frames.{Goes, Held, LoadedLastCycle};
 ghost use Rattle.nsc_database.specs.Holds.{IsLooked, IsPollFault, IsPolled};
 ghost use Rattle.nsc_database.specs.Lookups.{IsTried, given_by};
+ghost use Rattle.nsc_database.specs.Rests.{IsLoadedOf};
+ghost use Rattle.nsc_database.specs.Ticks.{EndsInTime};
 ghost use Rattle.nsc_model.specs.Steady.{IsSteady};
 ghost use Rattle.nsc_database.specs.Steady.{StaysSteady};
 
@@ -23,7 +26,7 @@ use nsc_model::{Answerer, CacheFault, Db, DbConf, Given, Kind, LookupFault, Stat
 use nsc_outside::FileSet;
 use nsc_sourcebook::{Fetched, Polled};
 use nsc_turns::{Answering, HitOrMiss, load};
-use nsc_writer::{Inserted, Loaded};
+use nsc_writer::{Inserted, Loaded, Stamp};
 use std::alloc::Global;
 use std::marker::PhantomData;
 use std::sync::{Mutex, Wait};
@@ -163,6 +166,7 @@ impl<D: OfDb, F: FileSet + Drop, A: Answerer + Drop, B: Room> Base<D, F, A, B> {
         requires db { pass.old.db ≡ D.db }
         requires answered { IsAnswered pass.old.pass.seen loaded }
         requires new { loaded.reloads ≡ 0 }
+        requires own { IsLoadedOf D.db loaded }
         ensures frame { Held pass.old pass.new }
         ensures kept { IfOk result (λ given. IsTried self.now.settings pass.new.pass.present.words (LoadedLastCycle pass.old pass.new) loaded pass.old.pass.seen pass.new.pass.seen given) }
         ensures steady { IsSteady B.held D.db pass.new.pass.seen }
@@ -186,8 +190,10 @@ impl<D: OfDb, F: FileSet + Drop, A: Answerer + Drop, B: Room> Base<D, F, A, B> {
         now: u64,
     ) -> Result<Loaded, NoMemory>
         requires key { length key.now ≤ key_limit }
+        requires kind { database_of kind ≡ D.db }
         requires moment { now < 2 ^ 62 }
-        ensures { IfOk result (λ l. l ≡ loaded_of (record { settings = self.now.settings; stamp = polled.now.stamp; moment = now }) polled.now.content (record { kind = kind; key = key.now }) 0) }
+        ensures loaded { IfOk result (λ l. l ≡ loaded_of (record { settings = self.now.settings; stamp = polled.now.stamp; moment = now }) polled.now.content (record { kind = kind; key = key.now }) 0) }
+        ensures own { IfOk result (IsLoadedOf D.db) }
     {
         let answering = self.answering(polled, now);
         load(
@@ -203,13 +209,11 @@ impl<D: OfDb, F: FileSet + Drop, A: Answerer + Drop, B: Room> Base<D, F, A, B> {
 
     /// What answers over a polled content have in common, that are made at this moment, in seconds.
     pub fn answering(&self, polled: &Polled<A>, now: u64) -> Answering
-        ensures { result ≡ record { settings = self.now.settings; stamp = polled.now.stamp; moment = now } }
+        requires { now < 2 ^ 62 }
+        ensures value { result ≡ record { settings = self.now.settings; stamp = polled.now.stamp; moment = now } }
+        ensures soon { EndsInTime result }
     {
-        Answering {
-            settings: self.settings,
-            stamp: polled.stamp(),
-            moment: now,
-        }
+        answering_at(self.settings, polled.stamp(), now)
     }
 }
 
@@ -246,6 +250,24 @@ impl<D: OfDb, F: FileSet + Drop, A: Answerer + Drop, B: Room> Base<D, F, A, B> {
         Ok(desk.epoch())
     }
 
+    /// The image of the live entries. Fails only for want of memory.
+    pub fn save<R: Wait>(
+        &self,
+        rt: &R,
+        alloc: Global,
+        pass: &mut DbPass<F, B>,
+    ) -> Result<Bytes, NoMemory>
+        requires { pass.old.db ≡ D.db }
+        ensures frame { Held pass.old pass.new }
+        ensures steady { IsSteady B.held D.db pass.new.pass.seen }
+        ensures image { IfOk result (IsImageOf D.db pass.new.pass.seen) }
+    {
+        let mut lock = self.desk.lock(rt);
+        let desk = &mut *lock;
+        desk.follow(pass)?;
+        desk.save(alloc, self.db)
+    }
+
     /// What the database counts. Fails only for want of memory.
     pub fn stats<R: Wait>(&self, rt: &R, pass: &mut DbPass<F, B>) -> Result<Stats, NoMemory>
         requires { pass.old.db ≡ D.db }
@@ -259,6 +281,19 @@ impl<D: OfDb, F: FileSet + Drop, A: Answerer + Drop, B: Room> Base<D, F, A, B> {
         desk.follow(pass)?;
         let counted = desk.stats();
         Ok(with_enabled(counted, self.settings.enabled))
+    }
+}
+
+// What answers have in common that are made at this moment, over this version.
+fn answering_at(settings: DbConf, stamp: Stamp, moment: u64) -> Answering
+    requires { moment < 2 ^ 62 }
+    ensures value { result ≡ record { settings = settings; stamp = stamp; moment = moment } }
+    ensures soon { EndsInTime result }
+{
+    Answering {
+        settings,
+        stamp,
+        moment,
     }
 }
 

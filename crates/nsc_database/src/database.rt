@@ -3,7 +3,7 @@ ghost use Rattle.std.specs.Prelude.{◌≡◌};
 use crate::base::Base;
 use crate::pass::DbPass;
 use crate::room::{OfGroup, OfHosts, OfPasswd, OfServices, Room};
-use nsc_base::{Buf, NoMemory};
+use nsc_base::{Buf, Bytes, NoMemory};
 use nsc_model::{Answerer, CacheFault, Given, InPlace, Kind, LookupFault, Stats, Store};
 use nsc_outside::FileSet;
 use std::alloc::Global;
@@ -126,6 +126,20 @@ impl<F: FileSet + Drop, A: Answerer + Drop, B: Room> Store for Database<F, A, B>
             Bases::Group(base) => base.stats(rt, pass),
             Bases::Hosts(base) => base.stats(rt, pass),
             Bases::Services(base) => base.stats(rt, pass),
+        }
+    }
+
+    fn save<R: Wait>(
+        &self,
+        rt: &R,
+        alloc: Global,
+        pass: &mut DbPass<F, B>,
+    ) -> Result<Bytes, NoMemory> {
+        match &self.bases {
+            Bases::Passwd(base) => base.save(rt, alloc, pass),
+            Bases::Group(base) => base.save(rt, alloc, pass),
+            Bases::Hosts(base) => base.save(rt, alloc, pass),
+            Bases::Services(base) => base.save(rt, alloc, pass),
         }
     }
 

@@ -10,7 +10,7 @@ ghost use Rattle.nsc_model.specs.Machine.{is_outdated, last_count, room_of};
 ghost use Rattle.nsc_model.specs.Reloads.{Reloaded};
 ghost use Rattle.nsc_model.specs.Settings.{settings_of};
 ghost use Rattle.nsc_model.specs.declared.store.LookupFault.TheVariants.{NoMemory as Memory};
-ghost use Rattle.nsc_model.specs.Stores.{AreLoadedAgain, IsCounted, IsEmptied, IsSpent, IsUnmoved};
+ghost use Rattle.nsc_model.specs.Stores.{AreLoadedAgain, IsCounted, IsEmptied, IsImageOf, IsSpent, IsUnmoved};
 ghost use Rattle.nsc_rule.specs.Seats.{informed};
 ghost use Rattle.nsc_shelf.specs.Uses.{counted};
 ghost use Rattle.nsc_database.specs.Frames.{Held, LoadedLastCycle};
@@ -21,8 +21,9 @@ ghost use Rattle.nsc_database.specs.Ticks.{AreAnew, AreOver, EmptiesOutdated, Is
 
 use crate::pass::DbPass;
 use crate::room::{OfDb, Room};
-use nsc_base::{Buf, NoMemory};
-use nsc_model::{Answerer, CacheFault, DbConf, Kind, LookupFault, Spent, Stats};
+use nsc_base::{Buf, Bytes, NoMemory};
+use nsc_image::save;
+use nsc_model::{Answerer, CacheFault, Db, DbConf, Kind, LookupFault, Spent, Stats};
 use nsc_outside::FileSet;
 use nsc_pruner::Due;
 use nsc_seats::{Left, Seats};
@@ -156,6 +157,16 @@ impl<D: OfDb, B: Room> Desk<D, B> {
     {
         self.writer.learn();
         self.writer.stats()
+    }
+
+    /// The image of the live entries. Fails only for want of memory.
+    pub fn save(&mut self, alloc: Global, db: Db) -> Result<Bytes, NoMemory>
+        requires { db ≡ D.db }
+        ensures same { self.new ≡ self.old }
+        ensures image { IfOk result (IsImageOf D.db self.old.writer.seen) }
+    {
+        self.writer.learn();
+        save(alloc, db, &mut self.writer)
     }
 
     /// Looks for the live entry of the request of this kind and key, whose reply the buffer has then; at a miss it gives the number

@@ -8,6 +8,7 @@ ghost use Rattle.nsc_writer.specs.Writer.{IsAnswered};
 ghost use Rattle.nsc_database.specs.Frames.{Held};
 ghost use Rattle.nsc_database.specs.Growing.{GrowsOnce, IsGrowth};
 ghost use Rattle.nsc_database.specs.Holds.{IsInserted, IsInsertedOr, IsKept, LeavesFull, needed_by};
+ghost use Rattle.nsc_database.specs.Rests.{IsLoadedOf};
 
 use crate::desk::Desk;
 use crate::pass::DbPass;
@@ -37,6 +38,7 @@ impl<D: OfDb, B: Room> Desk<D, B> {
         requires steady { IsSteady B.held D.db pass.old.pass.seen }
         requires answered { IsAnswered self.old.writer.seen loaded }
         requires new { loaded.reloads ≡ 0 }
+        requires own { IsLoadedOf D.db loaded }
         ensures frame { Held pass.old pass.new }
         ensures present { IfOk result (λ kept. pass.new.pass.present ≡ self.new.writer.table) }
         ensures steady { IsSteady B.held D.db pass.new.pass.seen }
@@ -62,6 +64,7 @@ impl<D: OfDb, B: Room> Desk<D, B> {
     fn insert(&mut self, loaded: Loaded) -> (Inserted, Loaded)
         requires answered { IsAnswered self.old.writer.seen loaded }
         requires new { loaded.reloads ≡ 0 }
+        requires own { IsLoadedOf D.db loaded }
         ensures table { self.new.writer.table ≡ self.old.writer.table }
         ensures inserted { IsInserted self.new.writer.layout.arena (last_count ≤ self.new.writer.cache.cycle) result.0 loaded self.old.writer.seen self.new.writer.seen }
         ensures full { LeavesFull result.0 self.old.writer self.new.writer }
@@ -76,6 +79,7 @@ impl<D: OfDb, B: Room> Desk<D, B> {
     fn insert_again(&mut self, loaded: Loaded) -> (Inserted, Loaded)
         requires answered { IsAnswered self.old.writer.seen loaded }
         requires new { loaded.reloads ≡ 0 }
+        requires own { IsLoadedOf D.db loaded }
         requires room { self.old.writer.cache.used + node_words (length loaded.request.key) (length loaded.answer.bytes) ≤ self.old.writer.layout.arena }
         ensures table { self.new.writer.table ≡ self.old.writer.table }
         ensures inserted { IsInsertedOr (λ need free. ⊥) result.0 loaded self.old.writer.seen self.new.writer.seen }

@@ -2,6 +2,7 @@
 ghost use Rattle.std.specs.Prelude.{◌≡◌, ◌≤◌, ◌<◌, ◌^◌, length, IfOk, IfErr, OnOk};
 ghost use Rattle.nsc_model.specs.Answers.{answer_of};
 ghost use Rattle.nsc_model.specs.Entry.{key_limit};
+ghost use Rattle.nsc_model.specs.Kinds.{database_of};
 ghost use Rattle.nsc_model.specs.Stores.{GivesAnswer, GivesUp, IsOfFiles};
 ghost use Rattle.nsc_sourcebook.specs.Reads.{NoneFailed};
 ghost use Rattle.nsc_database.specs.Frames.{Goes, Held, LoadedLastCycle};
@@ -31,6 +32,7 @@ impl<D: OfDb, F: FileSet + Drop, A: Answerer + Drop, B: Room> Base<D, F, A, B> {
         now: u64,
     ) -> Result<Given, LookupFault>
         requires db { pass.old.db ≡ D.db }
+        requires kind { database_of kind ≡ D.db }
         requires key { length key.now ≤ key_limit }
         requires moment { now < 2 ^ 62 }
         ensures frame { Goes pass.old pass.new }

@@ -10,7 +10,7 @@ ghost use Rattle.nsc_database.specs.Holds.{IsPolledVersion};
 ghost use Rattle.nsc_model.specs.Steady.{IsSteady};
 ghost use Rattle.nsc_database.specs.Steady.{StaysSteady};
 ghost use Rattle.nsc_turns.specs.Loads.{anew_of};
-ghost use Rattle.nsc_database.specs.Ticks.{AreOver, IsChecked, IsDue, IsHoldFault};
+ghost use Rattle.nsc_database.specs.Ticks.{AreOver, EndsInTime, IsChecked, IsDue, IsHoldFault};
 
 use crate::base::Base;
 use crate::pass::DbPass;
@@ -143,20 +143,16 @@ impl<D: OfDb, F: FileSet + Drop, A: Answerer + Drop, B: Room> Base<D, F, A, B> {
         now: u64,
     ) -> Result<Vec<Option<Loaded>>, NoMemory>
         requires { now < 2 ^ 62 }
-        ensures { IfOk result (λ loads. loads.items ≡ map (anew_of (record { settings = self.now.settings; stamp = polled.now.stamp; moment = now }) polled.now.content) due.now) }
+        ensures made { IfOk result (λ loads. loads.items ≡ map (anew_of (record { settings = self.now.settings; stamp = polled.now.stamp; moment = now }) polled.now.content) due.now) }
+        ensures soon { EndsInTime (record { settings = self.now.settings; stamp = polled.now.stamp; moment = now }) }
     {
         let further = self.further(alloc, polled, due.len());
         let ready = match &further {
             Some(further) => further,
             None => polled.ready(),
         };
-        loads(
-            alloc,
-            &self.answers,
-            ready,
-            &self.answering(polled, now),
-            due,
-        )
+        let answering = self.answering(polled, now);
+        loads(alloc, &self.answers, ready, &answering, due)
     }
 
     // The content that was polled, prepared further where that serves so many answers better.

@@ -16,8 +16,8 @@ use Rattle.nsc_shelf.specs.Shelf.{IsTold, entry_from}
 use Rattle.nsc_writer.specs.Writer.{IsListed, Writer}
 use Rattle.nsc_writer.proofs.Rest.{rest_all, rest_from, rest_next, rest_none, told_of}
 use Rattle.nsc_image.specs.Draft.{Draft}
-use Rattle.nsc_model.specs.Image.{IsSaved, Saved, is_above, last_number}
-use Rattle.nsc_image.specs.Saving.{IsEntryOf, saved_entries, saved_of}
+use Rattle.nsc_model.specs.Image.{IsSaved, Saved, is_above, last_number, saved_of}
+use Rattle.nsc_image.specs.Saving.{IsEntryOf, saved_entries}
 use Rattle.nsc_image.proofs.Walk.{last_number-push}
 
 -- any number from this one on is above those of the entries
@@ -66,7 +66,7 @@ listed_entry (Some k) e key reply told = (k, refl, (let is : e ≡ told_of k = c
 abbrev pub saved_from : EntryAt → List ℕ → List ℕ → Saved
 saved_from e key reply = record { number = e.number; request = record { kind = e.kind; key = key }; answer = record { bytes = reply; not_found = e.not_found }; timeout = e.timeout }
 
-saved_told : (k : Kept) (e : EntryAt) (key reply : List ℕ) → e ≡ told_of k → key ≡ k.entry.request.key → reply ≡ k.entry.answer.bytes → saved_from e key reply ≡ saved_of k
+saved_told : (k : Kept) (e : EntryAt) (key reply : List ℕ) → e ≡ told_of k → key ≡ k.entry.request.key → reply ≡ k.entry.answer.bytes → saved_from e key reply ≡ saved_of k.entry
 saved_told k e key reply e_is key_is reply_is =
     ap (λ (x : EntryAt). saved_from x key reply) e_is ∙ ap (λ (x : List ℕ). saved_from (told_of k) x reply) key_is ∙ ap (λ (x : List ℕ). saved_from (told_of k) k.entry.request.key x) reply_is
 
@@ -75,26 +75,26 @@ pub record Step (db : Db) (before : Writer) (from : ℕ) (draft : Draft) (e : En
   pub kept : Kept
   pub next_is : e.next ≡ kept.entry.number + 1
   pub left : rest_from from before.cache.entries ≡ kept ∷ rest_from e.next before.cache.entries
-  pub value : saved_from e key reply ≡ saved_of kept
+  pub value : saved_from e key reply ≡ saved_of kept.entry
   pub saved : IsSaved draft.db (saved_from e key reply)
   pub above : IsTrue (is_above (last_number None draft.entries) e.number)
   pub room : length draft.entries + 1 < 2 ^ 32
 
 pub step_of : (db : Db) (before w : Writer) (from : ℕ) (kb rb kb' rb' : Buf) (draft : Draft) (e : EntryAt) (key reply : List ℕ) → Saves db before w from kb rb draft → Rise (entries_of before.cache.entries)
-    → All (IsEntryOf db) before.cache.entries → length before.cache.entries < 2 ^ 32 → IsListed (entry_from from w.cache.entries) (Some e) kb'.content rb'.content
+    → All (λ (k : Kept). IsEntryOf db k.entry) before.cache.entries → length before.cache.entries < 2 ^ 32 → IsListed (entry_from from w.cache.entries) (Some e) kb'.content rb'.content
     → kb'.limit ≡ kb.limit → rb'.limit ≡ rb.limit → key ≡ kb'.content → length key ≤ kb'.limit → reply ≡ rb'.content → length reply ≤ rb'.limit → e.number < 2 ^ 64 → Step db before from draft e key reply
 step_of db before w from kb rb kb' rb' draft e key reply saves rising all room told key_limit_is reply_limit_is key_is key_fits reply_is reply_fits number_fits =
     let ks : List Kept = before.cache.entries in
     let t = listed_entry (entry_from from ks) e kb'.content rb'.content (subst (λ (x : Writer). IsListed (entry_from from x.cache.entries) (Some e) kb'.content rb'.content) saves.same told) in
     let k : Kept = t.0 in
     let next = rest_next from ks k rising t.1 in
-    let own = found_all (IsEntryOf db) from ks k all t.1 in
+    let own = found_all (λ (x : Kept). IsEntryOf db x.entry) from ks k all t.1 in
     let next_is : e.next ≡ k.entry.number + 1 = ap (λ (x : EntryAt). x.next) t.2 in
     let number_is : e.number ≡ k.entry.number = ap (λ (x : EntryAt). x.number) t.2 in
     let left : rest_from from ks ≡ k ∷ rest_from e.next ks = next.0 ∙ ap (λ n. k ∷ rest_from n ks) (sym next_is) in
     let size : length draft.entries + length (rest_from from ks) ≡ length ks =
     (let all_listed = ap length saves.listed in
-    omega (arith, all_listed, length-append draft.entries (saved_entries (rest_from from ks)), length-map (rest_from from ks) saved_of, length-map ks saved_of)) in
+    omega (arith, all_listed, length-append draft.entries (saved_entries (rest_from from ks)), length-map (entries_of (rest_from from ks)) saved_of, length-map (rest_from from ks) (λ (k : Kept). k.entry), length-map (entries_of ks) saved_of, length-map ks (λ (k : Kept). k.entry))) in
     record {
       kept = k;
       next_is = next_is;
@@ -126,16 +126,16 @@ pub saves_next : (db : Db) (before w w' : Writer) (from : ℕ) (kb rb kb' rb' : 
     → Saves db before w' e.next kb' rb' draft'
 saves_next db before w w' from kb rb kb' rb' draft draft' e key reply s saves step s_is same key_is reply_is draft_is =
     let ks : List Kept = before.cache.entries in
-    let value : s ≡ saved_of step.kept = s_is ∙ step.value in
-    let entries_are : draft'.entries ≡ draft.entries ++ saved_of step.kept ∷ [] = ap (λ (d : Draft). d.entries) draft_is ∙ ap (λ (x : Saved). draft.entries ++ x ∷ []) value in
+    let value : s ≡ saved_of step.kept.entry = s_is ∙ step.value in
+    let entries_are : draft'.entries ≡ draft.entries ++ saved_of step.kept.entry ∷ [] = ap (λ (d : Draft). d.entries) draft_is ∙ ap (λ (x : Saved). draft.entries ++ x ∷ []) value in
     record {
       same = same ∙ saves.same;
       key_limit_is = key_is ∙ saves.key_limit_is;
       reply_limit_is = reply_is ∙ saves.reply_limit_is;
       db_is = ap (λ (d : Draft). d.db) draft_is ∙ saves.db_is;
-      below = subst (λ (l : List Saved). EndsBelow l e.next) (sym entries_are) (ends_below draft.entries (saved_of step.kept) e.next step.next_is);
+      below = subst (λ (l : List Saved). EndsBelow l e.next) (sym entries_are) (ends_below draft.entries (saved_of step.kept.entry) e.next step.next_is);
       listed =
-          ap (λ (l : List Saved). l ++ saved_entries (rest_from e.next ks)) entries_are ∙ append_assoc draft.entries (saved_of step.kept ∷ []) (saved_entries (rest_from e.next ks))
+          ap (λ (l : List Saved). l ++ saved_entries (rest_from e.next ks)) entries_are ∙ append_assoc draft.entries (saved_of step.kept.entry ∷ []) (saved_entries (rest_from e.next ks))
           ∙ ap (λ (l : List Kept). draft.entries ++ saved_entries l) (sym step.left) ∙ saves.listed;
     }
 

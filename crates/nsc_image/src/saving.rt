@@ -1,5 +1,5 @@
 // The image of the entries that a writer has.
-ghost use Rattle.std.specs.Prelude.{◌≡◌, ◌<◌, ◌^◌, All, None, IfOk, length};
+ghost use Rattle.std.specs.Prelude.{◌≡◌, All, None, IfOk};
 ghost use Rattle.nsc_model.specs.Image.{ImageBytes};
 ghost use Rattle.nsc_image.specs.Saving.{IsEntryOf, saved_entries};
 
@@ -10,12 +10,11 @@ use nsc_model::{Db, KEPT_LIMIT, KEY_LIMIT};
 use nsc_writer::Writer;
 use std::alloc::Global;
 
-/// The image of the live entries of a database, in the order of their numbers. No compaction is under way; there are fewer than 2^32
-/// entries, each of this database, with a timeout below 2^63. Fails only for want of memory. The writer stays as it is.
+/// The image of the live entries of a database, in the order of their numbers. No compaction is under way, and each entry is of this
+/// database, with a timeout below 2^63. Fails only for want of memory. The writer stays as it is.
 pub fn save(alloc: Global, db: Db, writer: &mut Writer) -> Result<Bytes, NoMemory>
     requires still { writer.old.slide ≡ None }
-    requires entries { All (IsEntryOf db) writer.old.cache.entries }
-    requires count { length writer.old.cache.entries < 2 ^ 32 }
+    requires entries { All (λ k. IsEntryOf db k.entry) writer.old.cache.entries }
     ensures image { IfOk result (ImageBytes db (saved_entries writer.old.cache.entries)) }
     ensures same { writer.new ≡ writer.old }
 {

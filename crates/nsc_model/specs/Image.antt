@@ -8,7 +8,7 @@ use Rattle.nsc_model.specs.declared.kind.Db.{Db}
 use Rattle.nsc_model.specs.declared.kind.Db.TheVariants as db
 use Rattle.nsc_model.specs.declared.answer.Request.{Request}
 use Rattle.nsc_model.specs.Answer.{Answer}
-use Rattle.nsc_model.specs.Entry.{key_limit, kept_limit}
+use Rattle.nsc_model.specs.Entry.{Entry, key_limit, kept_limit}
 use Rattle.nsc_model.specs.Kinds.{database_of, type_number}
 use Rattle.nsc_model.specs.Wire.{field}
 
@@ -18,6 +18,9 @@ pub record Saved : Type 0 where
   pub request : Request
   pub answer : Answer
   pub timeout : ℕ
+
+abbrev pub saved_of : Entry → Saved
+saved_of e = record { number = e.number; request = e.request; answer = e.answer; timeout = e.timeout }
 
 -- ---- the bytes
 

@@ -1,6 +1,6 @@
 -- What a lookup in a store gives a caller who had seen one beginning of the database's history before, and has seen another one
 -- after it.
-use Rattle.std.specs.Prelude.{◌≡◌, ◌≢◌, ℕ, ◌+◌, ◌^◌, ◌<◌, ◌≤◌, ◌⊎◌, false, All, List, ◌∷◌, length, sum_by, Option, Some}
+use Rattle.std.specs.Prelude.{◌≡◌, ◌≢◌, ℕ, ◌+◌, ◌^◌, ◌<◌, ◌≤◌, ◌⊎◌, false, All, List, ◌∷◌, length, map, sum_by, Option, Some}
 use Rattle.std.specs.Bool.{OnFalse, OnTrue}
 use Rattle.nsc_base.specs.Nodes.{node_words}
 use Rattle.nsc_model.specs.declared.answer.Request.{Request}
@@ -25,6 +25,7 @@ use Rattle.nsc_model.specs.Files.{file_limit}
 use Rattle.nsc_model.specs.Entry.{Entry, kept_limit}
 use Rattle.nsc_model.specs.Growth.{IsArena, MayGrow, arena_after}
 use Rattle.nsc_model.specs.History.{Answered, HasLoad, HasEnd, IsFit, IsLive, EndedAfter, IsPrefix, Legal, LookedBetween, NoneLive, invalidations, load_of, loads, version_in}
+use Rattle.nsc_model.specs.Image.{ImageBytes, saved_of}
 use Rattle.nsc_model.specs.Live.{AreLive}
 use Rattle.nsc_model.specs.Reads.{FaultsStay, FileFailed, IsLookedUp, IsMade, IsOfHeld}
 use Rattle.nsc_model.specs.Reloads.{Reloaded}
@@ -203,6 +204,12 @@ pub record IsCounted (settings : DbConf) (words : ℕ) (after : List Record) (st
   pub invalidations_are : stats.invalidations ≡ invalidations after
   pub within : stats.used ≤ stats.arena
   pub newest : IsArena settings words stats.arena
+
+-- the bytes are the image of the live entries of this history
+pub record IsImageOf (which : Db) (history : List Record) (bytes : List ℕ) : Type 0 where
+  pub entries : List Entry
+  pub live : AreLive history entries
+  pub spelled : ImageBytes which (map saved_of entries) bytes
 
 -- a tick at this moment looked at a version, and the stale entries ended: every one that had been seen whose time was over, and, where
 -- changes of the files count, whose version is another one

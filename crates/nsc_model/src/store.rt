@@ -11,7 +11,7 @@ ghost use Rattle.nsc_model.specs.Kinds.{database_of};
 ghost use Rattle.nsc_model.specs.History.{IsPrefix, Legal};
 ghost use Rattle.nsc_model.specs.Reads.{FaultsStay};
 ghost use Rattle.nsc_model.specs.Steady.{IsSteady};
-ghost use Rattle.nsc_model.specs.Stores.{Continues, FoundLastCycle, GivesAnswer, GivesUp, IsCounted, IsEmptied, IsInvalidateFault, IsOfFiles, IsTicked, IsTickFault};
+ghost use Rattle.nsc_model.specs.Stores.{Continues, FoundLastCycle, GivesAnswer, GivesUp, IsCounted, IsEmptied, IsImageOf, IsInvalidateFault, IsOfFiles, IsTicked, IsTickFault};
 
 use crate::fault::CacheFault;
 use crate::in_place::InPlace;
@@ -298,6 +298,16 @@ pub trait Store {
         ensures searches { searches pass.old ≤ searches pass.new }
         ensures counted { IfOk result (λ stats. IsCounted (settings self.now) (words pass.new) (seen pass.new) stats) }
         ensures enabled { IfOk result (λ stats. stats.enabled ≡ (settings self.now).enabled) }
+        ensures no_fault { FaultsStay (faults pass.old) (faults pass.new) (file_faults pass.old) (file_faults pass.new) };
+
+    /// The image of the live entries, in the order of their numbers. Fails only for want of memory.
+    fn save<R: Wait>(&self, rt: &R, alloc: Global, pass: &mut Self::Pass) -> Result<Bytes, NoMemory>
+        requires { is_pass self.now pass.old }
+        ensures pass { is_pass self.now pass.new }
+        ensures seen { Continues (seen pass.old) (seen pass.new) }
+        ensures steady { IsSteady (held self.now) (db self.now) (seen pass.new) }
+        ensures searches { searches pass.old ≤ searches pass.new }
+        ensures image { IfOk result (IsImageOf (db self.now) (seen pass.new)) }
         ensures no_fault { FaultsStay (faults pass.old) (faults pass.new) (file_faults pass.old) (file_faults pass.new) };
 
     /// The pass has seen, then, all that it and the other one had seen.

@@ -16,7 +16,7 @@ use nsc_base::{Bytes, NoMemory};
 use nsc_model::Db;
 use std::alloc::Global;
 use std::fs::{File, Metadata, OpenFile};
-use std::io::{Error, ErrorKind, Write};
+use std::io::{Eprint, Error, ErrorKind, Write};
 use std::marker::Model;
 use std::os::unix::fs::{MetadataExt, OpenOptionsExt};
 use std::rt::Files;
@@ -35,7 +35,8 @@ const ROOT: u32 = 0;
 ///
 /// The folder must belong to this user or root, and nobody else may write it: else each call fails, and nothing is touched. What has
 /// an image's name and is a link, or no regular file, is left alone, and a call that meets it fails. Only one store at a time may use
-/// a folder: each call for a database removes what another one has half written of its image.
+/// a folder: each call for a database removes what another one has half written of its image. Why a call failed is told on standard
+/// error.
 #[derive(Drop)]
 pub struct HostImages<R: Files + Drop> {
     system: R,
@@ -87,7 +88,9 @@ impl<R: Files + Drop> HostImages<R> {
     {
         self.tally.failed_puts(db)
     }
+}
 
+impl<R: Files + Eprint + Drop> HostImages<R> {
     // One get of an image.
     fn fetch(&self, alloc: Global, db: Db) -> Result<Option<Bytes>, ReadCause>
         ensures fits { IfOk result (λ image. ImageFits image) }
@@ -114,12 +117,18 @@ impl<R: Files + Drop> HostImages<R> {
         let Ok(new) = new_path(self.alloc, folder, db) else {
             return false;
         };
-        let outcome = replace_file(&self.system, folder, path.as_str(), new.as_str(), image);
-        outcome.is_ok()
+        let path = path.as_str();
+        match replace_file(&self.system, folder, path, new.as_str(), image) {
+            Ok(()) => true,
+            Err(error) => {
+                let _ = eprintln!(self.system; "nscd: {path}: {error}: the image is not kept");
+                false
+            }
+        }
     }
 }
 
-impl<R: Files + Drop> ImageStore for HostImages<R> {
+impl<R: Files + Eprint + Drop> ImageStore for HostImages<R> {
     ghost use Rattle.std.specs.Prelude.{None};
     ghost use Rattle.nsc_outside.specs.ImageTally.{db_count};
 
@@ -181,7 +190,7 @@ impl<R: Files + Drop> ImageStore for HostImages<R> {
 
 // Reads the image at a path, if there is one, once what stands at the other path is removed.
 #[tactic(auto, using(crate::proofs::Wholes::no_length_no_image_cause, crate::proofs::Wholes::over_no_image_cause))]
-fn read_image<R: Files>(
+fn read_image<R: Files + Eprint>(
     system: &R,
     alloc: Global,
     folder: &str,
@@ -192,8 +201,20 @@ fn read_image<R: Files>(
     ensures cause { IfErr result (λ cause. IsImageCause None cause) }
 {
     match open_image(system, folder, path, new) {
-        Ok((file, length)) => Ok(Some(read_within(alloc, file, length, IMAGE_LIMIT)?)),
-        Err(error) => absent_or(&error),
+        Ok((file, length)) => match read_within(alloc, file, length, IMAGE_LIMIT) {
+            Ok(image) => Ok(Some(image)),
+            Err(cause) => {
+                let _ = eprintln!(system; "nscd: {path}: {cause}");
+                Err(cause)
+            }
+        },
+        Err(error) => {
+            let found = absent_or(&error);
+            if found.is_err() {
+                let _ = eprintln!(system; "nscd: {path}: {error}");
+            }
+            found
+        }
     }
 }
 

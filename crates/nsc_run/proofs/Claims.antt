@@ -13,12 +13,13 @@ use Rattle.nsc_model.specs.declared.exit.Exit.{Exit}
 use Rattle.nsc_model.specs.declared.exit.Exit.TheVariants as exits
 use Rattle.nsc_replay.specs.Streams.{Counted, Streams}
 use Rattle.nsc_control.specs.declared.ask.AdminAsk.{AdminAsk}
+use Rattle.nsc_daemon.specs.Images.{ImagesAt}
 use Rattle.nsc_daemon.specs.Ends.{DaemonAt, EndsSo, IsReady, LastTellsEnd}
 use Rattle.nsc_workload.specs.Runs.{PutsText}
 use Rattle.nsc_workload.specs.Workload.{workload_of}
 use Rattle.nsc_run.specs.Commands.{ConfGives, Course, NotSet, RefusesForm, StreamsCalm, TellsAll, settings_by}
 use Rattle.nsc_run.specs.Forms.{Form, Replay, Ask, Workload, Daemon}
-use Rattle.nsc_run.specs.Runs.{Asks, DaemonCourse, IsAsked, IsDone, NeverFail, Outside, RunsByForm, TellsAnswered, TellsByForm, TellsServed, TellsWorked}
+use Rattle.nsc_run.specs.Runs.{Asks, DaemonCourse, IsAsked, IsDone, NeverFail, Outside, PutsBySettings, RunsByForm, TellsAnswered, TellsByForm, TellsServed, TellsWorked}
 use Rattle.nsc_run.proofs.Courses.{done_by}
 use Rattle.nsc_run.proofs.Ends.{tells}
 
@@ -95,11 +96,11 @@ work_tells text a b _ h calm = absurd h
 
 -- ---- the daemon
 
-served_done : (told : Option (Option (List ℕ))) (etc : Option (List ℕ)) (held : Option Content) (a b : DaemonAt) (exit : Exit) → DaemonCourse told etc held a b exit → exit ≡ exits.Ok → IsReady a b × LastTellsEnd a.given b.given
-served_done told etc held a b exit (inl h) e =
+served_done : (told : Option (Option (List ℕ))) (etc : Option (List ℕ)) (held : Option Content) (i j : ImagesAt) (a b : DaemonAt) (exit : Exit) → DaemonCourse told etc held i j a b exit → exit ≡ exits.Ok → IsReady a b × LastTellsEnd a.given b.given × PutsBySettings told i j
+served_done told etc held i j a b exit (inl h) e =
     let ends = subst (λ (by : Exit). EndsSo by a b) e h.ends in
-    (ends.0, ends.1)
-served_done told etc held a b exit (inr h) e = absurd (subst (NotSet told a.source_faults b.source_faults) e h.0)
+    (ends.0, ends.1, record { settings = h.settings; of_config = h.of_config; put = h.put e })
+served_done told etc held i j a b exit (inr h) e = absurd (subst (NotSet told a.source_faults b.source_faults) e h.0)
 
 end_tells : (settings : Conf) (exit : Exit) (a b : DaemonAt) → EndsSo exit a b
     → (Rose a.source_faults b.source_faults → ⊥) → (Rose a.net_faults b.net_faults → ⊥) → (Rose a.output.faults b.output.faults → ⊥) → TellsServed (Ok settings) exit
@@ -115,11 +116,11 @@ no_memory_serves : (r : Result Conf ConfFault) → TellsServed r exits.NoMemory
 no_memory_serves (Ok settings) = inr refl
 no_memory_serves (Err fault) = inr refl
 
-served_tells : (told : Option (Option (List ℕ))) (etc : Option (List ℕ)) (held : Option Content) (a b : DaemonAt) (exit : Exit) → DaemonCourse told etc held a b exit
+served_tells : (told : Option (Option (List ℕ))) (etc : Option (List ℕ)) (held : Option Content) (i j : ImagesAt) (a b : DaemonAt) (exit : Exit) → DaemonCourse told etc held i j a b exit
     → (Rose a.source_faults b.source_faults → ⊥) → (Rose a.net_faults b.net_faults → ⊥) → (Rose a.output.faults b.output.faults → ⊥) → IfSome told (λ text. TellsServed (settings_by text) exit)
-served_tells told etc held a b exit (inl h) sources net output =
+served_tells told etc held i j a b exit (inl h) sources net output =
     gives_told told (Ok h.settings) (λ r. TellsServed r exit) h.of_config (end_tells h.settings exit a b h.ends sources net output)
-served_tells told etc held a b exit (inr h) sources net output =
+served_tells told etc held i j a b exit (inr h) sources net output =
     unset_tells told a.source_faults b.source_faults TellsServed (λ fault. inl refl) no_memory_serves exit h.0 sources
 
 -- ---- a run
@@ -138,23 +139,23 @@ module _ {I O : Type 0} (i : source.Ghosts I) (o : sink.Ghosts O) (a b : Outside
   run_done (Some (Replay config)) h e = done_by _ _ _ _ exit h.0 e
   run_done (Some (Ask asked folder)) h e = ask_done i o asked a.peer _ _ _ _ exit h.0 e
   run_done (Some (Workload number workers)) h e = work_done (workload_of number) _ _ exit h.0 e
-  run_done (Some (Daemon service)) h e = served_done _ _ _ _ _ exit h.0 e
+  run_done (Some (Daemon service)) h e = served_done _ _ _ _ _ _ _ exit h.0 e
 
   pub run_tells : (form : Option Form) → RunsByForm i o form a b exit → TellsByForm i o form a b exit
   run_tells None h = h.0
   run_tells (Some (Replay config)) h = replay_tells _ _ _ _ exit h.0 h.1
   run_tells (Some (Ask asked folder)) h = ask_tells i o asked a.peer _ _ _ _ exit h.0
   run_tells (Some (Workload number workers)) h = work_tells (workload_of number) _ _ exit h.0
-  run_tells (Some (Daemon service)) h = served_tells _ _ _ _ _ exit h.0
+  run_tells (Some (Daemon service)) h = served_tells _ _ _ _ _ _ _ exit h.0
 
 module _ {I O : Type 0} (i : source.Ghosts I) (o : sink.Ghosts O) (a : Outside) where
   -- memory was wanting for the words
   unread : (form : Option Form) → RunsByForm i o form a a exits.NoMemory
   unread None = (inr refl, refl)
-  unread (Some (Replay config)) = (inr (refl, refl), record { input_stays = refl; output_stays = refl }, record { given_stays = refl; peer_stays = refl; calm = refl })
-  unread (Some (Ask asked folder)) = (inr (inl (refl, refl, refl)), refl, record { held_stays = refl; conf_stays = refl; calm = refl })
-  unread (Some (Workload number workers)) = (refl, refl, record { held_stays = refl; conf_stays = refl; calm = refl }, record { given_stays = refl; peer_stays = refl; calm = refl })
-  unread (Some (Daemon service)) = (inr (refl, refl), refl)
+  unread (Some (Replay config)) = (inr (refl, refl), record { input_stays = refl; output_stays = refl }, record { given_stays = refl; peer_stays = refl; calm = refl }, refl)
+  unread (Some (Ask asked folder)) = (inr (inl (refl, refl, refl)), refl, record { held_stays = refl; conf_stays = refl; calm = refl }, refl)
+  unread (Some (Workload number workers)) = (refl, refl, record { held_stays = refl; conf_stays = refl; calm = refl }, record { given_stays = refl; peer_stays = refl; calm = refl }, refl)
+  unread (Some (Daemon service)) = (inr (refl, refl, refl), refl)
 
   -- the words were refused
   pub refused : (form : Option Form) (exit : Exit) → RefusesForm form exit → RunsByForm i o form a a exit

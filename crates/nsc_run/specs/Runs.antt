@@ -6,6 +6,7 @@ use Rattle.nsc_model.specs.Reads.{Rose}
 use Rattle.nsc_outside.specs.declared.stream.Source as source
 use Rattle.nsc_outside.specs.declared.stream.Sink as sink
 use Rattle.nsc_outside.specs.declared.files.FileSet as files
+use Rattle.nsc_outside.specs.declared.images.ImageStore as image_store
 use Rattle.nsc_sockets.specs.Connections.{Connection, IsPeer, Socket}
 use Rattle.nsc_sockets.specs.declared.listener.Listener as listener
 use Rattle.nsc_model.specs.declared.conf.Conf.{Conf}
@@ -16,28 +17,31 @@ use Rattle.nsc_model.specs.declared.exit.Exit.TheVariants as exits
 use Rattle.nsc_replay.specs.Streams.{Counted, Streams, StreamsAt, streams_at}
 use Rattle.nsc_control.specs.Commands.{Commands}
 use Rattle.nsc_control.specs.declared.ask.AdminAsk.{AdminAsk}
+use Rattle.nsc_daemon.specs.Images.{ImagesAt, PutsImages, images_at}
 use Rattle.nsc_daemon.specs.Ends.{DaemonAt, EndsSo, IsBound, IsReady, LastTellsEnd, TellsHeldLength, sockets_of}
 use Rattle.nsc_workload.specs.Runs.{PutsText}
 use Rattle.nsc_workload.specs.Workload.{workload_of}
 use Rattle.nsc_run.specs.Forms.{Ask, Daemon, DaemonOptions, Form, Replay, Workload}
 use Rattle.nsc_run.specs.Commands.{ConfGives, Course, IsReplayedBy, NotSet, StreamsCalm, TellsAll, TellsFault, conf_path, config_told, settings_by}
 
--- What the outside tells at one moment: of the input and the output, of the files, and of the listener.
+-- What the outside tells at one moment: of the input and the output, of the files, of the images, and of the listener.
 pub record Outside : Type 0 where
   pub streams : StreamsAt
   pub held : Option Content
   pub conf_held : List ℕ → Option (Option (List ℕ))
   pub source_faults : ℕ
+  pub images : ImagesAt
   pub given : Option (List Connection)
   pub peer : Option (List ℕ)
   pub net_faults : ℕ
 
-abbrev pub outside : {R K F N I O : Type 0} → source.Ghosts R → sink.Ghosts K → files.Ghosts F → listener.Ghosts N I O → R → K → F → N → Outside
-outside r k f n input output set net = record {
+abbrev pub outside : {R K F S N I O : Type 0} → source.Ghosts R → sink.Ghosts K → files.Ghosts F → image_store.Ghosts S → listener.Ghosts N I O → R → K → F → S → N → Outside
+outside r k f s n input output set images net = record {
   streams = streams_at r k input output;
   held = f.held set;
   conf_held = f.conf_held set;
   source_faults = f.faults set;
+  images = images_at s images;
   given = n.given net;
   peer = n.peer net;
   net_faults = n.faults net;
@@ -54,7 +58,10 @@ streams_of before after = record { before = before.streams; after = after.stream
 abbrev pub InputStays : Outside → Outside → Type 0
 InputStays before after = after.streams.input ≡ before.streams.input
 
--- the listener and the files tell what they told
+-- the images, the listener and the files tell what they told
+abbrev pub ImagesStay : Outside → Outside → Type 0
+ImagesStay before after = after.images ≡ before.images
+
 pub record NetStays (before after : Outside) : Type 0 where
   pub given_stays : after.given ≡ before.given
   pub peer_stays : after.peer ≡ before.peer
@@ -114,23 +121,30 @@ TellsWorked exit = (exit ≡ exits.Ok) ⊎ (exit ≡ exits.NoMemory)
 -- ---- the daemon
 
 -- settings were read, and a daemon ended so under them; where no folder is named, a length that is told is that of one of the files that
--- were held, where these are told
-pub record DaemonRan (told : Option (Option (List ℕ))) (etc : Option (List ℕ)) (held : Option Content) (before after : DaemonAt) (exit : Exit) : Type 0 where
+-- were held, where these are told; at Ok an image of each persistent database was put, or that failed
+pub record DaemonRan (told : Option (Option (List ℕ))) (etc : Option (List ℕ)) (held : Option Content) (images images' : ImagesAt) (before after : DaemonAt) (exit : Exit) : Type 0 where
   pub settings : Conf
   pub of_config : ConfGives told (Ok settings)
   pub ends : EndsSo exit before after
   pub length : etc ≡ None → TellsHeldLength exit held
+  pub put : exit ≡ exits.Ok → PutsImages settings images images'
 
 -- a daemon ended, or no settings were read and it did not begin
-abbrev pub DaemonCourse : Option (Option (List ℕ)) → Option (List ℕ) → Option Content → DaemonAt → DaemonAt → Exit → Type 0
-DaemonCourse told etc held before after exit =
-    DaemonRan told etc held before after exit
-    ⊎ (NotSet told before.source_faults after.source_faults exit × (after ≡ record before { source_faults = after.source_faults }))
+abbrev pub DaemonCourse : Option (Option (List ℕ)) → Option (List ℕ) → Option Content → ImagesAt → ImagesAt → DaemonAt → DaemonAt → Exit → Type 0
+DaemonCourse told etc held images images' before after exit =
+    DaemonRan told etc held images images' before after exit
+    ⊎ (NotSet told before.source_faults after.source_faults exit × (after ≡ record before { source_faults = after.source_faults }) × (images' ≡ images))
 
 -- the daemon was told to end, or why a line is refused, unless memory was wanting
 abbrev pub TellsServed : Result Conf ConfFault → Exit → Type 0
 TellsServed (Ok settings) exit = (exit ≡ exits.Ok) ⊎ (exit ≡ exits.NoMemory)
 TellsServed (Err fault) exit = TellsFault fault exit
+
+-- under settings that were read, an image of each persistent database was put, or that failed
+pub record PutsBySettings (told : Option (Option (List ℕ))) (images images' : ImagesAt) : Type 0 where
+  pub settings : Conf
+  pub of_config : ConfGives told (Ok settings)
+  pub put : PutsImages settings images images'
 
 -- ---- by the form
 
@@ -146,24 +160,25 @@ abbrev pub RunsByForm : {I O : Type 0} → source.Ghosts I → sink.Ghosts O →
 RunsByForm i o None before after exit = ((exit ≡ exits.Usage) ⊎ (exit ≡ exits.NoMemory)) × (after ≡ before)
 RunsByForm i o (Some (Replay config)) before after exit =
     Course (replay_told before config) before.source_faults after.source_faults (streams_of before after) exit
-    × Counted exit (streams_of before after) × NetStays before after
+    × Counted exit (streams_of before after) × NetStays before after × ImagesStay before after
 RunsByForm i o (Some (Ask asked folder)) before after exit =
     Asks i o asked before.peer before.streams.output after.streams.output before.net_faults after.net_faults exit
-    × InputStays before after × FilesStay before after
+    × InputStays before after × FilesStay before after × ImagesStay before after
 RunsByForm i o (Some (Workload number workers)) before after exit =
     PutsText exit (workload_of number) before.streams.output after.streams.output
-    × InputStays before after × FilesStay before after × NetStays before after
+    × InputStays before after × FilesStay before after × NetStays before after × ImagesStay before after
 RunsByForm i o (Some (Daemon service)) before after exit =
-    DaemonCourse (daemon_told before service) service.etc before.held (daemon_outside before) (daemon_outside after) exit × InputStays before after
+    DaemonCourse (daemon_told before service) service.etc before.held before.images after.images (daemon_outside before) (daemon_outside after) exit × InputStays before after
 
 -- The command was done: the input was read to the end of its first E, and the output is that of the replay; or a daemon did what
--- was asked; or the lines of the workload were written; or the daemon was ready, and was told to end.
+-- was asked; or the lines of the workload were written; or the daemon was ready, was told to end, and put the images that its settings
+-- ask for, or that failed.
 abbrev pub IsDone : {I O : Type 0} → source.Ghosts I → sink.Ghosts O → Option Form → Outside → Outside → Type 0
 IsDone i o None before after = ⊥
 IsDone i o (Some (Replay config)) before after = IsReplayedBy (replay_told before config) (streams_of before after)
 IsDone i o (Some (Ask asked folder)) before after = IsAsked i o asked before.peer before.streams.output after.streams.output exits.Ok
 IsDone i o (Some (Workload number workers)) before after = Grows before.streams.output.bytes after.streams.output.bytes (workload_of number)
-IsDone i o (Some (Daemon service)) before after = IsReady (daemon_outside before) (daemon_outside after) × LastTellsEnd before.given after.given
+IsDone i o (Some (Daemon service)) before after = IsReady (daemon_outside before) (daemon_outside after) × LastTellsEnd before.given after.given × PutsBySettings (daemon_told before service) before.images after.images
 
 -- What the exit tells where no fault came.
 abbrev pub TellsByForm : {I O : Type 0} → source.Ghosts I → sink.Ghosts O → Option Form → Outside → Outside → Exit → Type 0

@@ -3,6 +3,7 @@ ghost use Rattle.std.specs.Prelude.{◌≡◌, IfErr, IfOk, None, option_map};
 ghost use Rattle.nsc_outside.specs.StreamAt.{stream_out};
 ghost use Rattle.nsc_replay.specs.Streams.{Counted, streams};
 ghost use Rattle.nsc_daemon.specs.Ends.{IsBound, daemon_at, sockets_of};
+ghost use Rattle.nsc_daemon.specs.Images.{images_at};
 ghost use Rattle.nsc_run.specs.Commands.{Course, IsSet, NotSet, config_told, worker_count};
 ghost use Rattle.nsc_run.specs.Runs.{Asks, DaemonCourse};
 ghost use Rattle.nsc_run.specs.Shown.{conf_path_for};
@@ -13,7 +14,7 @@ use crate::form::DaemonOptions;
 use nsc_control::{AdminAsk, command};
 use nsc_daemon::{Terms, daemon};
 use nsc_model::{Conf, Exit};
-use nsc_outside::{FileSet, Sink, Source};
+use nsc_outside::{FileSet, ImageStore, Sink, Source};
 use nsc_sockets::{Clock, Listener};
 use std::alloc::Global;
 use std::sync::Wait;
@@ -66,6 +67,7 @@ pub fn serve<
     K: Sink,
     F: FileSet + Send + Drop + 'static,
     C: Clock,
+    I: ImageStore,
     N: Listener,
 >(
     rt: &RT,
@@ -73,12 +75,13 @@ pub fn serve<
     output: &mut K,
     files: &mut F,
     clock: &mut C,
+    images: &mut I,
     net: &mut N,
 ) -> Exit
 where
     N::In: 'static,
     N::Out: 'static,
-    ensures course { DaemonCourse (F.conf_held files.old (conf_path_for service.now)) (option_map (λ p. p.now) service.now.etc) (F.held files.old) (daemon_at K.Sink F.FileSet N.Listener output.old files.old net.old) (daemon_at K.Sink F.FileSet N.Listener output.new files.new net.new) result }
+    ensures course { DaemonCourse (F.conf_held files.old (conf_path_for service.now)) (option_map (λ p. p.now) service.now.etc) (F.held files.old) (images_at I.ImageStore images.old) (images_at I.ImageStore images.new) (daemon_at K.Sink F.FileSet N.Listener output.old files.old net.old) (daemon_at K.Sink F.FileSet N.Listener output.new files.new net.new) result }
     ensures bound { result ≡ Exit.Ok → IsBound (N.bound net.old) (N.bound net.new) (sockets_of service.now.run_dir.now (option_map (λ p. p.now) service.now.gate)) }
 {
     match settings(rt.alloc(), service, files) {
@@ -89,7 +92,7 @@ where
                 run_dir: service.run_dir,
                 gate: service.gate,
             };
-            daemon(rt, &terms, output, files, clock, net)
+            daemon(rt, &terms, output, files, clock, images, net)
         }
         Err(exit) => exit,
     }

@@ -12,7 +12,7 @@ use crate::form::Form;
 use crate::words::read_words;
 use nsc_index::Indexed;
 use nsc_model::{Conf, Exit};
-use nsc_outside::{FileSet, Sink, Source};
+use nsc_outside::{FileSet, ImageStore, Sink, Source};
 use nsc_sockets::{Clock, Listener};
 use nsc_workload::workload;
 use std::sync::Wait;
@@ -63,7 +63,7 @@ pub fn replay<RT: AllocGlobal, R: Source, K: Sink>(
 ///
 /// Without any of these it is the daemon, until it is told to end. It takes its files from the folder of `--etc`, and its
 /// settings from the file of `-f`, or else from the nscd.conf beside nsswitch.conf. With `--gate PATH` it answers lines at a socket
-/// there, too.
+/// there, too. A persistent database begins with what its image in the folder of `--run-dir` brings back, and is put there at the end.
 ///
 /// Where the settings' file could not be read, the exit is `SourceFault`, where it is longer than a file may be, `TooLong`, and
 /// where it is no nscd.conf(5), `BadConf`. Then nothing is read of the input and nothing written.
@@ -73,6 +73,7 @@ pub fn run<
     K: Sink,
     F: FileSet + Send + Drop + 'static,
     C: Clock,
+    I: ImageStore,
     N: Listener,
 >(
     rt: &RT,
@@ -81,6 +82,7 @@ pub fn run<
     output: &mut K,
     files: &mut F,
     clock: &mut C,
+    images: &mut I,
     net: &mut N,
 ) -> Exit
 where
@@ -89,17 +91,17 @@ where
     // Usage tells that the words have no form.
     ensures usage { result ≡ Exit.Usage → form_of (texts words.now) ≡ None }
 
-    // What was read and written, and which counts of faults rose, by the form and the exit.
-    ensures runs { RunsByForm N.In.Source N.Out.Sink (form_of (texts words.now)) (outside R.Source K.Sink F.FileSet N.Listener input.old output.old files.old net.old) (outside R.Source K.Sink F.FileSet N.Listener input.new output.new files.new net.new) result }
+    // What was read and written, which images were put, and which counts of faults rose, by the form and the exit.
+    ensures runs { RunsByForm N.In.Source N.Out.Sink (form_of (texts words.now)) (outside R.Source K.Sink F.FileSet I.ImageStore N.Listener input.old output.old files.old images.old net.old) (outside R.Source K.Sink F.FileSet I.ImageStore N.Listener input.new output.new files.new images.new net.new) result }
 
     // At Ok the command was done.
-    ensures ok { result ≡ Exit.Ok → IsDone N.In.Source N.Out.Sink (form_of (texts words.now)) (outside R.Source K.Sink F.FileSet N.Listener input.old output.old files.old net.old) (outside R.Source K.Sink F.FileSet N.Listener input.new output.new files.new net.new) }
+    ensures ok { result ≡ Exit.Ok → IsDone N.In.Source N.Out.Sink (form_of (texts words.now)) (outside R.Source K.Sink F.FileSet I.ImageStore N.Listener input.old output.old files.old images.old net.old) (outside R.Source K.Sink F.FileSet I.ImageStore N.Listener input.new output.new files.new images.new net.new) }
 
     // At Ok a daemon bound its sockets, with the gate where one is said, and no others.
     ensures bound { result ≡ Exit.Ok → BindsByForm (form_of (texts words.now)) (N.bound net.old) (N.bound net.new) }
 
     // Where no fault came, the exit tells what is known of it, unless memory was wanting.
-    ensures complete { TellsByForm N.In.Source N.Out.Sink (form_of (texts words.now)) (outside R.Source K.Sink F.FileSet N.Listener input.old output.old files.old net.old) (outside R.Source K.Sink F.FileSet N.Listener input.new output.new files.new net.new) result }
+    ensures complete { TellsByForm N.In.Source N.Out.Sink (form_of (texts words.now)) (outside R.Source K.Sink F.FileSet I.ImageStore N.Listener input.old output.old files.old images.old net.old) (outside R.Source K.Sink F.FileSet I.ImageStore N.Listener input.new output.new files.new images.new net.new) result }
 {
     match read_words(rt.alloc(), words) {
         Ok(Form::Replay { config }) => replay_under(rt, config, input, output, files),
@@ -110,7 +112,7 @@ where
             },
         ) => ask(rt.alloc(), asked, run_dir, output, net),
         Ok(Form::Workload { number, workers }) => workload(rt, number, workers, output).exit,
-        Ok(Form::Daemon { service }) => serve(rt, &service, output, files, clock, net),
+        Ok(Form::Daemon { service }) => { serve(rt, &service, output, files, clock, images, net) },
         Err(exit) => exit,
     }
 }

@@ -2,14 +2,17 @@ use nsc_outside::{Failed, Sink, Source, fill, write_all};
 use nsc_sockets::{Accepted, Clock, HostClock, Listener, Role, UnixListener};
 use std::os::unix::fs::PermissionsExt;
 use std::test::Fail;
-use std::{fs, process};
+use std::{fs, process, time};
 
 #[test]
-fn clock_of_the_system(rt: HostRuntime) {
+fn clock_of_the_system(rt: HostRuntime) -> Result<(), Fail> {
+    let date = time::Clock::since_1970(&rt)?.as_secs();
     let mut clock = HostClock::new(&rt);
     let first = clock.now();
     assert!(rt; first <= clock.now());
     assert!(rt; clock.now() < first + 60);
+    assert!(rt; date <= first.saturating_add(1) && first < date.saturating_add(60));
+    Ok(())
 }
 
 // The permissions of the file at a path, without its kind.

@@ -139,6 +139,13 @@ impl<F: FileSet + Drop, A: Answerer> SourceBook<F, A> {
         Ok((book, writer, seats))
     }
 
+    /// What was made ready of the newest content.
+    pub fn ready(&self) -> &A::Ready
+        ensures { A.prepared_from result.now ≡ self.now.newest }
+    {
+        &self.ready
+    }
+
     /// The seats of another caller, which has seen as much as the book. Fails only for want of memory.
     pub fn seats(&mut self, alloc: Global) -> Result<Seats, NoMemory>
         ensures same { self.new ≡ self.old }

@@ -4,7 +4,7 @@ ghost use Rattle.nsc_model.specs.Entry.{key_limit, kept_limit};
 ghost use Rattle.nsc_model.specs.Kinds.{database_of};
 
 use crate::asked::Asked;
-use nsc_base::{Buf, NoMemory};
+use nsc_base::{Buf, Bytes, NoMemory};
 use nsc_client::{LinkFault, StoreLink, ask};
 use nsc_model::{CacheFault, Given, InPlace, Kind, LookupFault, Stats, Store};
 use std::alloc::Global;
@@ -122,6 +122,11 @@ impl<'r, 's, S: Store, R: Wait> Caller<'r, 's, S, R> {
     /// What the database counts.
     pub fn stats(&mut self) -> Result<Stats, NoMemory> {
         self.store.stats(self.rt, &mut self.pass)
+    }
+
+    /// The image of the database.
+    pub fn save(&mut self) -> Result<Bytes, NoMemory> {
+        self.store.save(self.rt, self.alloc, &mut self.pass)
     }
 
     /// Looks a user up through another pass, which is met then.

@@ -9,7 +9,7 @@ use nsc_base::{Bytes, NoMemory};
 use nsc_daemon::Openings;
 use nsc_database::Room;
 use nsc_model::{Conf, Content, FileId};
-use nsc_outside::{FileSet, HeldFiles};
+use nsc_outside::{FileSet, HeldFiles, MemImages};
 use std::alloc::Global;
 use std::marker::Brand;
 use std::sync::Wait;
@@ -35,7 +35,8 @@ fn over<R: AllocGlobal + Wait, F: FileSet + Drop>(
     mut files: F,
 ) -> Result<Outcome, NoMemory> {
     let conf = Conf::defaults();
-    match Openings::open(rt.alloc(), &mut files, &conf) {
+    let mut images = MemImages::new(rt.alloc(), 0)?;
+    match Openings::open(rt.alloc(), &mut files, &conf, &mut images, 0) {
         Ok(openings) => in_room::<Brand, R, F>(rt, openings),
         Err(_) => Err(NoMemory),
     }

@@ -10,6 +10,7 @@ mod dice;
 mod discarded;
 mod four;
 mod growing;
+mod kept;
 mod lines;
 mod loads;
 mod mode;

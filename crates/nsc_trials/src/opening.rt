@@ -46,7 +46,8 @@ pub fn done<R: Threads + Wait + Clock + Clone + Drop + Send + Sync>(
 ) -> Outcome
     requires { SizeFits conf.now.passwd }
 {
-    match Opened::open(alloc, &mut files, Plain, Db::Passwd, conf) {
+    let image = task.image();
+    match Opened::open(alloc, &mut files, Plain, Db::Passwd, conf, image, 0) {
         Ok(opened) => done_in::<Brand, R>(rt, alloc, conf, opened, task),
         Err(_) => Outcome::NoMemory,
     }

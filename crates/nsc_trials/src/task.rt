@@ -4,6 +4,7 @@ ghost use Rattle.nsc_model.specs.declared.kind.Db.TheVariants as db;
 use crate::caller::Caller;
 use crate::discarded::{Gates, discards};
 use crate::growing::grows;
+use crate::kept::{Beginning, brings_back};
 use crate::loads::Load;
 use crate::outcome::Outcome;
 use crate::reads::Reads;
@@ -26,6 +27,8 @@ pub enum Task {
     Discarded(Gates, Release),
     /// Lookups that fill a table, which becomes larger.
     Growing,
+    /// A database that begins with this image.
+    Kept(Beginning),
     /// An interleaving of this seed.
     Interleaving(u64, Release),
     /// Many calls, for their time.
@@ -35,6 +38,14 @@ pub enum Task {
 }
 
 impl Task {
+    /// The image with which its database begins, if there is one.
+    pub fn image(&self) -> Option<&'static [u8]> {
+        match self {
+            Task::Kept(beginning) => Some(beginning.image),
+            _ => None,
+        }
+    }
+
     /// Does it with this database of users, by a caller of this pass.
     pub fn run<S: Store + Sync, R: Threads + Wait + Clock + Sync>(
         self,
@@ -55,6 +66,7 @@ impl Task {
                 discards(rt, &mut caller, &mut gates, &mut changed)?
             }
             Task::Growing => grows(alloc, &mut caller)?,
+            Task::Kept(beginning) => brings_back(alloc, &mut caller, beginning.wanted)?,
             Task::Interleaving(seed, mut changed) => {
                 interleaves(rt, alloc, &mut caller, &mut changed, seed)?
             }

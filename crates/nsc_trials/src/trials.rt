@@ -1,6 +1,7 @@
 use crate::discarded::Gates;
 use crate::four::run_gate;
 use crate::growing::growing;
+use crate::kept::{Beginning, TRUE, UNTRUE, persistent};
 use crate::opening::{changing, done};
 use crate::outcome::Outcome;
 use crate::script::Script;
@@ -33,6 +34,10 @@ pub fn run_trials<R: AllocGlobal + Threads + Wait + Clock + Print + Clone + Drop
     println!(rt; "a lookup during an invalidation: {outcome}")?;
     let outcome = run_growing(rt, alloc).unwrap_or(Outcome::NoMemory);
     println!(rt; "a table that grows: {outcome}")?;
+    let outcome = run_kept(rt, alloc, TRUE).unwrap_or(Outcome::NoMemory);
+    println!(rt; "an image that is true: {outcome}")?;
+    let outcome = run_kept(rt, alloc, UNTRUE).unwrap_or(Outcome::NoMemory);
+    println!(rt; "an image that is not: {outcome}")?;
     let outcome = run_gate(rt).unwrap_or(Outcome::NoMemory);
     println!(rt; "connections to the gate: {outcome}")?;
     let outcome = run_interleavings(rt, alloc).unwrap_or(Outcome::NoMemory);
@@ -78,6 +83,16 @@ fn run_growing<R: Threads + Wait + Clock + Clone + Drop + Send + Sync>(
     let changed = Release::new(alloc)?;
     let files = changing(rt, alloc, BASH, BASH, &changed)?;
     Ok(done(rt, alloc, &growing(), files, Task::Growing))
+}
+
+fn run_kept<R: Threads + Wait + Clock + Clone + Drop + Send + Sync>(
+    rt: &R,
+    alloc: Global,
+    beginning: Beginning,
+) -> Result<Outcome, NoMemory> {
+    let changed = Release::new(alloc)?;
+    let files = changing(rt, alloc, BASH, BASH, &changed)?;
+    Ok(done(rt, alloc, &persistent(), files, Task::Kept(beginning)))
 }
 
 // Up to the first that comes to anything else.

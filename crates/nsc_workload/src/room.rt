@@ -35,7 +35,7 @@ pub(crate) fn lines_over<C: OfContent + Send, R: Threads + Wait + Sync>(
 {
     let conf = conf();
     let mut files: FixedFiles<C> = FixedFiles::new(alloc, content)?;
-    match Opened::open(alloc, &mut files, Indexed, Db::Passwd, &conf) {
+    match Opened::open(alloc, &mut files, Indexed, Db::Passwd, &conf, None, 0) {
         Ok(opened) => lines_in::<Brand, C, R>(rt, alloc, &conf, opened, number, workers),
         Err(_) => Err(NoMemory),
     }

@@ -77,9 +77,10 @@ impl Writer {
         Ok((writer, pass))
     }
 
-    /// What its history tells, and how many words its table has.
+    /// What its history tells, how many words its table has, and that it has no more entries than words for them.
     pub fn learn(&self)
         ensures told { Tells self.now.seen self.now.cache }
+        ensures few { self.now.slide ≡ None → length self.now.cache.entries ≤ self.now.layout.arena }
         ensures room { self.now.layout.arena ≤ most_words }
         ensures wide { self.now.table.words ≡ table_words self.now.layout }
     {

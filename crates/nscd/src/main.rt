@@ -2,7 +2,7 @@
 //! its status.
 #![tactic(auto)]
 
-use nsc_outside::{HostFiles, StdSink, StdSource};
+use nsc_outside::{HostFiles, HostImages, StdSink, StdSource};
 use nsc_run::{Exit, run};
 use nsc_sockets::{HostClock, UnixListener};
 use std::alloc::AllocError;
@@ -13,6 +13,7 @@ use std::{env, io, thread};
 
 fn main(rt: HostRuntime) -> ExitCode {
     let sockets: Result<_, _> = rt.clone();
+    let mut images = HostImages::new(rt.alloc(), &rt);
     let exit = match words(&rt) {
         Ok(words) => match (BufReader::new(rt.alloc(), rt.reader()), files(&rt), sockets) {
             (Ok(reader), Ok(mut files), Ok(sockets)) => {
@@ -27,6 +28,7 @@ fn main(rt: HostRuntime) -> ExitCode {
                     &mut output,
                     &mut files,
                     &mut clock,
+                    &mut images,
                     &mut net,
                 );
                 if let (Exit::BadConf { .. }, Some(path)) = (&exit, files.conf_path()) {

@@ -74,7 +74,7 @@ returns-then-not-self-clause-answer g c =
 pub keep-requires-clause-answered : goal.keep-requires-clause-answered
 keep-requires-clause-answered g c =
     let request : Request = record { kind = c.args.kind; key = c.args.key.now } in
-    subst (IsAnswered c.poll.new.pass.pass.seen) (sym c.in-Ok-load.ensures) (anew_answers c.find.new.pass.pass.seen c.poll.new.pass.pass.seen request c.in-Missed.epoch c.in-Ok-poll.polled c.args.self.now.settings c.args.now c.in-Ok-poll.ensures.polled)
+    subst (IsAnswered c.poll.new.pass.pass.seen) (sym c.in-Ok-load.ensures.loaded) (anew_answers c.find.new.pass.pass.seen c.poll.new.pass.pass.seen request c.in-Missed.epoch c.in-Ok-poll.polled c.args.self.now.settings c.args.now c.in-Ok-poll.ensures.polled)
 
 pub returns-in-Err-load-clause-frame : goal.returns-in-Err-load-clause-frame
 returns-in-Err-load-clause-frame g c = goes_after _ _ _ c.find.ensures.frame c.poll.ensures.frame
@@ -97,7 +97,7 @@ returns-in-Ok-keep-clause-answer g c =
     let begun = (goes_after _ _ _ c.find.ensures.frame c.poll.ensures.frame).searches in
     let words = c.keep.new.pass.pass.present.words in
     let tried = tried_to settings words _ last_cycle c.in-Ok-load.loaded mid after c.in-Ok-keep.given (loaded_before c.args.pass.now c.poll.new.pass c.keep.new.pass begun) c.in-Ok-keep.ensures.kept in
-    let reply = kept_reply settings words last_cycle c.in-Ok-load.loaded mid after c.in-Ok-keep.given tried ∙ ap (λ (l : Loaded). l.answer.bytes) c.in-Ok-load.ensures in
+    let reply = kept_reply settings words last_cycle c.in-Ok-load.loaded mid after c.in-Ok-keep.given tried ∙ ap (λ (l : Loaded). l.answer.bytes) c.in-Ok-load.ensures.loaded in
     let none = found_none settings found request c.in-Missed.epoch c.find.new.pass.reply.content c.if-not-self.false found_is in
     let anew : Anew found mid request c.in-Missed.epoch c.in-Ok-poll.polled = record { legal = c.find.ensures.frame.legal; legal_mid = c.poll.ensures.frame.legal; on = c.poll.ensures.frame.before; none = none.1; noted = none.0; is_polled = c.in-Ok-poll.ensures.polled } in
     record {
@@ -105,6 +105,6 @@ returns-in-Ok-keep-clause-answer g c =
           (poll_answered found mid after request c.in-Missed.epoch c.in-Ok-poll.polled _ c.keep.ensures.frame.legal c.poll.ensures.frame.legal c.poll.ensures.frame.before c.keep.ensures.frame.before c.in-Ok-poll.ensures.polled (sym reply));
       source = given_before c.in-Ok-keep.given settings words c.args.now c.args.pass.now.pass.seen found after last_cycle request c.find.ensures.frame.before
           (anew_given c.in-Ok-keep.given found mid after last_cycle request c.in-Missed.epoch c.in-Ok-poll.polled settings words c.args.now anew c.keep.ensures.frame.before
-          (subst (λ (l : Loaded). IsTried settings words last_cycle l mid after c.in-Ok-keep.given) c.in-Ok-load.ensures tried));
+          (subst (λ (l : Loaded). IsTried settings words last_cycle l mid after c.in-Ok-keep.given) c.in-Ok-load.ensures.loaded tried));
       uncached = OnFalse_from settings.enabled _ (λ off. absurd (false≢true (sym off ∙ c.if-not-self.false)));
     }

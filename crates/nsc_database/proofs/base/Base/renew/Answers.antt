@@ -33,7 +33,7 @@ pub renew-renewed-requires-clause-loads : goal.renew-renewed-requires-clause-loa
 renew-renewed-requires-clause-loads g c =
     let seen = c.in_ok-follow.ensures.seen ∙ sym (ap (λ (d : Desk). d.writer.seen) c.in_ok-follow.ensures.same) in
     let a : Answering = record { settings = c.args.self.now.settings; stamp = c.args.polled.now.stamp; moment = c.args.now } in
-    let anew : AreAnew c.args.pass.now.pass.seen c.args.epoch c.deref.result.now c.deref-2.result.now = record { answering = a; files = c.args.polled.now.content; version = c.requires.polled.version; since = c.requires.polled.since; stamped = c.requires.polled.epoch_is; made = c.deref-2.ensures.value ∙ c.in-Ok.ensures } in
+    let anew : AreAnew c.args.pass.now.pass.seen c.args.epoch c.deref.result.now c.deref-2.result.now = record { answering = a; files = c.args.polled.now.content; version = c.requires.polled.version; since = c.requires.polled.since; stamped = c.requires.polled.epoch_is; soon = c.loads.ensures.soon; made = c.deref-2.ensures.value ∙ c.in-Ok.ensures.made } in
     subst (λ (x : List Record × List Due). AreAnew x.0 c.args.epoch x.1 c.deref-2.result.now) (λ i. (seen i, (c.deref.ensures.value ∙ sym c.deref_mut.ensures.value) i))
     (anew_on c.args.pass.now.pass.seen c.follow.new.pass.pass.seen c.args.epoch c.deref.result.now c.deref-2.result.now c.learn.ensures.legal c.in_ok-follow.ensures.frame.legal c.in_ok-follow.ensures.frame.before anew)
 

@@ -12,7 +12,7 @@ use Rattle.nsc_database.proofs.desk.Desk.insert_again.Goals as goal
 pub invariant_of-self : goal.invariant_of-self
 invariant_of-self g c =
     let none = c.requires.new in
-    at_rest_on c.self.inside.left c.self.inside.writer c.insert.new.self (rests_inserted c.insert.result.0 c.args.loaded c.self.inside.writer c.insert.new.self c.insert.ensures.inserted (omega arith)) c.self.invariant
+    at_rest_on c.self.inside.left c.self.inside.writer c.insert.new.self (rests_inserted c.insert.result.0 c.args.loaded c.self.inside.writer c.insert.new.self c.insert.ensures.inserted (omega arith) c.requires.own) c.self.invariant
 
 pub returns-clause-inserted : goal.returns-clause-inserted
 returns-clause-inserted g c =

@@ -1,22 +1,18 @@
-use Rattle.std.proofs.Common.{◌∙◌, All, List, ap, arith, rules, subst, sym}
-use Rattle.nsc_model.specs.declared.record.Record.{Record}
-use Rattle.nsc_model.specs.Machine.{Cache, all_words, room_of}
-use Rattle.nsc_model.specs.Settings.{settings_of}
-use Rattle.nsc_growth.specs.Sized.{IsSized, first_layout}
-use Rattle.nsc_growth.proofs.Sized.{sized_first}
-use Rattle.nsc_database.specs.Rests.{LoadsAgain}
-use Rattle.nsc_database.specs.Steady.{WasSteady}
-use Rattle.nsc_database.proofs.Again.{again_first}
+use Rattle.std.proofs.Common.{◌∙◌, ℕ, [], None, Option, ap, subst, sym}
+use Rattle.nsc_model.specs.declared.conf.DbConf.{DbConf}
+use Rattle.nsc_model.specs.declared.kind.Db.{Db}
+use Rattle.nsc_writer.specs.Writer.{IsNewest}
+use Rattle.nsc_database.specs.Openings.{Begun}
+use Rattle.nsc_database.specs.Rests.{IsAtRest}
+use Rattle.nsc_database.proofs.Opening.{at_rest_held}
 use Rattle.nsc_database.proofs.opened.Parts.base.Goals as goal
 
 pub invariant_of-new-3 : goal.invariant_of-new-3
 invariant_of-new-3 g c =
-    let w = c.args.self.writer in (
-      search rules,
-      λ low. ap (λ (k : Cache). k.used) c.requires.new.cache ∙ sym (ap (λ (k : Cache). all_words k.entries) c.requires.new.cache),
-      search rules,
-      subst (λ (h : List Record). LoadsAgain (room_of (settings_of g.B.Room.conf g.D.OfDb.db)) w.cache.cycle h) (sym c.requires.new.seen) (again_first (room_of (settings_of g.B.Room.conf g.D.OfDb.db)) w.cache.cycle c.args.self.book.newest),
-      search rules,
-      subst (IsSized (settings_of g.B.Room.conf g.D.OfDb.db)) (sym (c.requires.new.room ∙ ap first_layout c.requires.conf.0)) (sized_first (settings_of g.B.Room.conf g.D.OfDb.db)),
-      subst (All (WasSteady g.B.Room.held g.D.OfDb.db)) (sym c.requires.tables.2) (λ i d low. absurd (omega arith)),
-    )
+    let is = c.begun.view_is in
+    let settings = ap (λ (b : Begun). b.settings) is ∙ c.requires.begins.1 ∙ c.requires.conf.0 in
+    let reloads = ap (λ (b : Begun). b.reloads) is ∙ c.requires.begins.2 ∙ c.requires.conf.1 in
+    let db = ap (λ (b : Begun). b.db) is ∙ c.requires.begins.0 in
+    let rest = subst (λ (x : DbConf × Option ℕ × Db). IsAtRest x.0 x.1 None x.2 0 [] c.begun.inside.writer) (λ i. (settings i, reloads i, db i)) c.begun.invariant in
+    let newest = subst (λ (b : Begun). IsNewest c.args.self.book.newest 0 b.writer.cache) (sym is) c.requires.newest in
+    at_rest_held c.args.self.book.newest c.args.self.left c.begun.inside.writer c.requires.tables.2 newest c.requires.part rest
