@@ -8,6 +8,7 @@ import subprocess
 import sys
 
 sys.dont_write_bytecode = True
+from keeping import kept_case
 from machine import container_case, init_case, package_case, systemd_case
 from monitoring import monitoring_case
 from places import completions_case, made_case, manuals_case, places_case
@@ -28,6 +29,7 @@ CASES = {
     "left": left_case,
     "lines": lines_case,
     "reload": reload_case,
+    "kept": kept_case,
     "monitoring": monitoring_case,
     "unit": unit_case,
     "calls": calls_case,
@@ -37,7 +39,7 @@ CASES = {
     "systemd": systemd_case,
 }
 # These run the program.
-RUNNING = ("settings", "reload", "monitoring", "calls", "init", "container", "package", "systemd")
+RUNNING = ("settings", "reload", "kept", "monitoring", "calls", "init", "container", "package", "systemd")
 
 
 def main(names):
@@ -45,6 +47,8 @@ def main(names):
     if unknown:
         sys.exit(f"install: no case {unknown[0]}; there are {', '.join(CASES)}")
     os.environ["PATH"] += ":/usr/sbin:/sbin"
+    # Images are to go where a case says.
+    os.environ.pop("STATE_DIRECTORY", None)
     faults = 0
     for name in names or CASES:
         if name in RUNNING and not PROGRAM.exists():

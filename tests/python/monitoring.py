@@ -83,10 +83,10 @@ def check_document(metrics):
     """docs/MONITORING.md has each name that is told to Prometheus, and each line that the adapters say; how many lines these are."""
     page = (ROOT / "docs/MONITORING.md").read_text()
     lines = []
-    for path in ("nsc_outside/src/host_files.rt", "nsc_sockets/src/entrance.rt", "nscd/src/main.rt"):
-        lines += re.findall(r'"nscd: (?:\{path\}: )?([^"{}]+)"', source(path))
+    for path in ("nsc_outside/src/host_files.rt", "nsc_outside/src/host_images.rt", "nsc_sockets/src/entrance.rt", "nscd/src/main.rt"):
+        lines += re.findall(r'"nscd: (?:\{path\}: )?(?:\{error\}: )?([^"{}]+)"', source(path))
     lines += [line.replace("{length}", "LENGTH") for line in re.findall(r'#\[error\("(the file [^"]+)"\)\]', source("nsc_outside/src/files.rt"))]
-    check(len(lines) >= 6, f"lines of the adapters: {lines}")
+    check(len(lines) >= 7, f"lines of the adapters: {lines}")
     for word in [*metrics, *lines]:
         check(word in page, f"docs/MONITORING.md: no {word!r}")
     return len(lines)

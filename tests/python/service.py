@@ -101,7 +101,7 @@ def asked(run, text):
 
 
 def obeys(serve, nscd, etc, run, confined):
-    """Starts the daemon as the unit does, each process under the filter, and sees that it does what it is for."""
+    """Starts the daemon as the unit does, each process under the filter, and sees that it does what it is for. How many entries it began with."""
 
     def under(*words):
         done = subprocess.run(words, capture_output=True, preexec_fn=confined, timeout=30, check=False)
@@ -113,6 +113,7 @@ def obeys(serve, nscd, etc, run, confined):
     daemon = subprocess.Popen(words, stdout=subprocess.PIPE, stderr=subprocess.PIPE, preexec_fn=confined)
     try:
         under(serve, "open")
+        began = int(re.search(r"^entries (\d+)$", under(nscd, "-g", "--run-dir", run), re.M).group(1))
         check(asked(run, ASK_ROOT) == ROOT_REPLY, "a lookup: another reply")
         check(asked(run, request(PASSWD_BY_NAME, b"nobody1\0")) != b"", "a lookup of nobody: no reply")
         check(asked(run, request(4, b"box.example\0")) == b"", "a host: a reply, where the database is left to the C library")
@@ -120,6 +121,9 @@ def obeys(serve, nscd, etc, run, confined):
         for database in DATABASES:
             under(nscd, "-i", database, "--run-dir", run)
         check(b"/bin/dash" in asked(run, ASK_ROOT), "after an order: not what the file holds")
+        (etc / "passwd").write_bytes(FILES["passwd"])
+        under(nscd, "-i", "passwd", "--run-dir", run)
+        check(asked(run, ASK_ROOT) == ROOT_REPLY, "after a second order: not what the file holds")
         check(under(nscd, "-g", "--run-dir", run).count("cache:") == 4, "no counts")
         under(nscd, "-K", "--run-dir", run)
         under(serve, "gone", str(daemon.pid))
@@ -127,6 +131,8 @@ def obeys(serve, nscd, etc, run, confined):
         check(daemon.stdout.read() == b"nscd: ready\n", "another output")
         said = daemon.stderr.read().decode()
         check(said == "nscd: hosts is left to the C library, since nsswitch.conf asks dns for it\n", f"it says {said!r}")
+        check(under(serve, "ended") == "", "after its end something is said")
+        return began
     finally:
         if daemon.poll() is None:
             daemon.kill()
@@ -157,12 +163,16 @@ def calls_case():
         return "skipped, since no process may be confined here"
     check(refused.returncode != 0, "the filter refuses nothing")
     with folder() as top:
-        etc, run = top / "files", top / "run"
-        etc.mkdir()
-        run.mkdir()
+        etc, run, state = top / "files", top / "run", top / "state"
+        for path in (etc, run, state):
+            path.mkdir()
         for file, text in FILES.items():
             (etc / file).write_bytes(text)
         (etc / "nsswitch.conf").write_text("passwd: files\nhosts: files dns\n")
         changes = (("\netc=/etc\n", f"\netc={etc}\n"), ("\nrun=/run/nscd\n", f"\nrun={run}\n"))
-        obeys(installed(top, a_program(top), *changes), top / "usr/sbin/nscd", etc, run, confined)
-    return f"with the {count} system calls of the unit's list, and sockets of the machine alone, it starts, answers, obeys and ends"
+        serve = installed(top, a_program(top), *changes, ("\nstate=/var/lib/nscd\n", f"\nstate={state}\n"))
+        (top / "etc/nscd.conf").write_text("persistent passwd yes\n")
+        began = [obeys(serve, top / "usr/sbin/nscd", etc, run, confined) for _ in range(2)]
+        check(began == [0, 1], f"it begins with {began} entries, and not with the one that was kept")
+    calls = f"with the {count} system calls of the unit's list, and sockets of the machine alone,"
+    return f"{calls} it starts, answers, obeys, ends, and begins again with what it kept"

@@ -253,23 +253,25 @@ class Served:
     """A daemon that nscd-serve has started over files of ours."""
 
     def __init__(self, top):
-        self.etc, self.run = top / "files", top / "run"
+        self.etc, self.run, self.state = top / "files", top / "run", top / "state"
         self.etc.mkdir()
         self.run.mkdir()
         for name, text in FILES.items():
             (self.etc / name).write_bytes(text)
         changes = (("\netc=/etc\n", f"\netc={self.etc}\n"), ("\nrun=/run/nscd\n", f"\nrun={self.run}\n"))
-        self.serve = installed(top, a_program(top), *changes)
+        self.serve = installed(top, a_program(top), *changes, ("\nstate=/var/lib/nscd\n", f"\nstate={self.state}\n"))
+        self.settings = top / "etc/nscd.conf"
         self.program = top / "usr/libexec/nscd/nscd"
         self.process = None
 
-    def start(self):
-        self.process = subprocess.Popen([self.serve, "start"], stdout=subprocess.PIPE, stderr=subprocess.PIPE)
-        self.does("open")
+    def start(self, **environment):
+        how = {"stdout": subprocess.PIPE, "stderr": subprocess.PIPE, "env": os.environ | environment}
+        self.process = subprocess.Popen([self.serve, "start"], **how)
+        self.does("open", **environment)
 
-    def does(self, word):
+    def does(self, word, **environment):
         """What nscd-serve says on standard error."""
-        done = subprocess.run([self.serve, word], capture_output=True, timeout=20, check=False)
+        done = subprocess.run([self.serve, word], capture_output=True, timeout=20, check=False, env=os.environ | environment)
         check(done.returncode == 0, f"nscd-serve {word}: status {done.returncode}: {done.stderr.decode()}")
         return done.stderr.decode()
 

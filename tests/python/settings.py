@@ -12,7 +12,7 @@ KINDS = {"passwd": "user", "group": "group", "hosts": "host", "services": "servi
 LONG = 60000  # bytes of a text that makes a long reply, which is kept all the same
 SHORT = 700  # and of one whose entry takes less than the words of one size
 ABSENT = 200  # names of 1,000 bytes that nobody has: more than the first table of a database has room for, and fewer than twice as many
-OF_DAEMON = {"threads", "max-db-size"}  # attributes that no replay shows
+OF_DAEMON = {"threads", "max-db-size", "persistent"}  # attributes that no replay shows; the last one is in keeping.py
 
 
 def entry(database, name, tag, length=1):
