@@ -131,6 +131,7 @@ bench: build
 	bench/daemon
 	bench/gate
 	bench/index
+	bench/image
 
 # What is proved already lies in the out folders too, so a build after this one proves from the start.
 clean:

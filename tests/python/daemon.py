@@ -15,12 +15,15 @@ import sys
 import time
 
 sys.dont_write_bytecode = True
+import badimages
 import crowds
 import ending
 import folders
 import gates
+import kept
 import sources
 import telling
+import torn
 import unread
 from clients import real_clients
 from running import (
@@ -342,6 +345,9 @@ CASES = {
     **sources.CASES,
     **telling.CASES,
     **unread.CASES,
+    **kept.CASES,
+    **badimages.CASES,
+    **torn.CASES,
 }
 
 

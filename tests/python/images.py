@@ -1,4 +1,4 @@
-"""A second reading of images of a database of users, and of what each brings back into a new cache, for tests/images."""
+"""A second reading of images of a database, and of what each brings back into a new cache, for tests/images and for cases of tests/daemon."""
 
 import hashlib
 import os
@@ -24,6 +24,7 @@ USERS = (
 ROOM, NOW = 128, 20
 FOUND_LIFE, ABSENT_LIFE = 3600, 20  # seconds, by default
 NAMES = {0: "PwName", 1: "PwUid"}  # the kinds of the database
+KINDS = ((0, 1), (2, 3, 15), (4, 5, 6, 7, 14), (16, 17))  # of passwd, group, hosts and services
 ABSENT = struct.pack("<9i", 2, 0, 0, 0, -1, -1, 0, 0, 0)
 HEAD, DIGEST, FIXED = 20, 32, 32
 
@@ -57,28 +58,28 @@ def sealed(body):
     return body + hashlib.sha256(body).digest()
 
 
-def image(entries):
-    return sealed(b"NSCIMAGE" + struct.pack("<III", 2, 0, len(entries)) + b"".join(entries))
+def image(entries, database=0):
+    return sealed(b"NSCIMAGE" + struct.pack("<III", 2, database, len(entries)) + b"".join(entries))
 
 
-def read(data):
-    """The entries of an image, or the line of the first check that fails."""
+def read(data, database=0):
+    """The entries of an image of a database, or the line of the first check that fails."""
     if len(data) < HEAD + DIGEST or data[:8] != b"NSCIMAGE":
         return "no image of a database"
-    version, database, count = struct.unpack_from("<III", data, 8)
+    version, other, count = struct.unpack_from("<III", data, 8)
     if version != 2:
         return f"an image of version {version}"
     end = len(data) - DIGEST
     if hashlib.sha256(data[:end]).digest() != data[end:]:
         return "an image whose digest is not that of its bytes"
-    if database != 0:
+    if other != database:
         return "an image at fault at byte 12"
     entries, at, last = [], HEAD, -1
     for _ in range(count):
         if end - at < FIXED:
             return f"an image at fault at byte {at}"
         number, kind, key, reply, mark, timeout = struct.unpack_from("<QIIIIQ", data, at)
-        checks = ((0, number > last), (8, kind in NAMES), (12, key <= 1024), (16, reply <= 65536), (20, mark <= 1), (24, timeout < 2**63))
+        checks = ((0, number > last), (8, kind in KINDS[database]), (12, key <= 1024), (16, reply <= 65536), (20, mark <= 1), (24, timeout < 2**63))
         wrong = [place for place, holds in checks if not holds]
         if wrong:
             return f"an image at fault at byte {at + wrong[0]}"
@@ -94,18 +95,25 @@ def words(length):
     return (length + 7) // 8
 
 
+def brought_back(entries, answered, room, now):
+    """Those of the entries that come back into a table with so many words, at a moment at which the requests are answered so."""
+    kept, known, used = [], set(), 0
+    for kind, key, reply, mark, timeout in entries:
+        size = 8 + words(len(key)) + words(len(reply))
+        if answered(kind, key) != (reply, mark) or used + size > room or (kind, key) in known:
+            continue
+        used += size
+        known.add((kind, key))
+        kept.append((kind, key, reply, mark, min(timeout, now + (ABSENT_LIFE if mark else FOUND_LIFE))))
+    return kept
+
+
 def told(data):
     """The lines that the program must print of an image."""
     entries = read(data)
     if isinstance(entries, str):
         return [entries]
-    kept, used = [], 0
-    for kind, key, reply, mark, timeout in entries:
-        size = 8 + words(len(key)) + words(len(reply))
-        if answer(kind, key) != (reply, mark) or used + size > ROOM or any(one[:2] == (kind, key) for one in kept):
-            continue
-        used += size
-        kept.append((kind, key, reply, mark, min(timeout, NOW + (ABSENT_LIFE if mark else FOUND_LIFE))))
+    kept = brought_back(entries, answer, ROOM, NOW)
     rows = [f"{place} {NAMES[kind]} {key.hex()} {reply.hex()} {str(mark).lower()} {timeout}" for place, (kind, key, reply, mark, timeout) in enumerate(kept)]
     return [f"kept {len(kept)} dropped {len(entries) - len(kept)}", *rows]
 

@@ -84,7 +84,7 @@ class Daemon:
         self.words, self.descriptors = words, descriptors
         self.process = None
 
-    def start(self):
+    def start(self, **how):
         def limit():
             # The modes of what it makes do not hang on this.
             os.umask(0o077)
@@ -97,6 +97,7 @@ class Daemon:
             stdout=subprocess.PIPE,
             stderr=subprocess.PIPE,
             preexec_fn=limit,
+            **how,
         )
         line = self.process.stdout.readline()
         check(line == b"nscd: ready\n", f"it begins with {line!r}")
