@@ -5,6 +5,7 @@ mod acceptor;
 mod gate;
 mod images;
 mod intake;
+mod means;
 mod opening;
 mod service;
 mod terms;

@@ -1,6 +1,4 @@
-ghost use Rattle.std.specs.Prelude.{◌≡◌, ℕ, ◌++◌, IfOk, OnErr, OnOk, codes, option_map};
-ghost use Rattle.std.specs.Arc.{arc_value};
-ghost use Rattle.std.specs.String.{string_bytes};
+ghost use Rattle.std.specs.Prelude.{◌≡◌, ℕ, OnErr, OnOk, option_map};
 ghost use Rattle.nsc_outside.specs.StreamAt.{stream_out};
 ghost use Rattle.nsc_model.specs.Exits.{IsExitOf, Serving};
 ghost use Rattle.nsc_model.specs.Reads.{Rose};
@@ -12,20 +10,16 @@ ghost use Rattle.nsc_daemon.specs.Images.{PutsImages, images_at};
 ghost use Rattle.nsc_daemon.specs.Ends.{EndsSo, IsBound, StopsSo, TellsHeldLength, daemon_at, sockets_at, sockets_of};
 
 use crate::acceptor::{Acceptor, accept_all};
-use crate::gate::Gatekeeper;
 use crate::images::save_all;
 use crate::intake::Waitings;
+use crate::means::Means;
 use crate::opening::{Openings, opening_exit};
 use crate::terms::Terms;
 use crate::worker::Worker;
-use nsc_base::NoMemory;
 use nsc_database::Room;
-use nsc_jobs::JobList;
 use nsc_model::{Databases, Exit, Store};
 use nsc_outside::{Failed, FileSet, ImageStore, Sink, Source, write_all};
-use nsc_server::RequestBuffer;
 use nsc_sockets::{Clock, Listener, Role};
-use std::alloc::Global;
 use std::marker::Brand;
 use std::sync::{Arc, Wait};
 use std::thread::{JoinHandle, Threads};
@@ -181,27 +175,18 @@ where
     ensures images { result ≡ Exit.Ok → PutsImages terms.now.conf.now (images_at I.ImageStore images.old) (images_at I.ImageStore images.new) }
     ensures bound { result ≡ Exit.Ok → IsBound (N.bound net.old) (N.bound net.new) (sockets_of terms.now.run_dir.now (option_map (λ p. p.now) terms.now.gate)) }
 {
-    let alloc = rt.alloc();
-    let buffer = match RequestBuffer::new(alloc) {
-        Ok(buffer) => buffer,
+    let means = match Means::new(rt, terms, most, stores) {
+        Ok(means) => means,
         Err(_) => return Exit::NoMemory,
     };
-    let stores = match Arc::new(alloc, stores) {
-        Ok(stores) => stores,
-        Err(_) => return Exit::NoMemory,
-    };
-    let list = match waitings(rt, most) {
-        Ok(list) => list,
-        Err(_) => return Exit::NoMemory,
-    };
-    let (plain, admin) = match socket_paths(alloc, terms.run_dir) {
-        Ok(paths) => paths,
-        Err(_) => return Exit::NoMemory,
-    };
-    let gate = match gatekeeper(rt, terms, &stores) {
-        Ok(gate) => gate,
-        Err(_) => return Exit::NoMemory,
-    };
+    let Means {
+        stores,
+        buffer,
+        list,
+        gate,
+        plain,
+        admin,
+    } = means;
     match bind(net, plain.as_str(), admin.as_str(), terms.gate) {
         Ok(()) => {}
         Err(_) => return Exit::NetFault,
@@ -231,42 +216,6 @@ where
     match save_all(rt, &stores, &mut passes, terms.conf, images) {
         Ok(()) => exit,
         Err(_) => Exit::NoMemory,
-    }
-}
-
-// An empty list for the connections that wait, so many at most. Fails only for want of memory.
-fn waitings<RT: AllocGlobal + Threads, R: Drop, K: Drop>(
-    rt: &RT,
-    most: usize,
-) -> Result<Waitings<R, K>, NoMemory> {
-    let processors = match thread::available_parallelism(rt) {
-        Ok(number) => number.get(),
-        Err(_) => 1,
-    };
-    Ok(Arc::new(rt.alloc(), JobList::new(rt.alloc(), processors, most))?)
-}
-
-// The paths of the two sockets: that of every user, and that of the administrator.
-fn socket_paths(alloc: Global, run_dir: &str) -> Result<(String, String), NoMemory>
-    ensures plain { IfOk result (λ paths. string_bytes paths.0 ≡ run_dir.now ++ codes "/socket") }
-    ensures admin { IfOk result (λ paths. string_bytes paths.1 ≡ run_dir.now ++ codes "/admin") }
-{
-    let plain = format!(in alloc; "{run_dir}/socket")?;
-    let admin = format!(in alloc; "{run_dir}/admin")?;
-    Ok((plain, admin))
-}
-
-// Who serves the gate, where there is one and no worker.
-fn gatekeeper<RT: AllocGlobal + Wait, S: Store + Drop>(
-    rt: &RT,
-    terms: &Terms<'_>,
-    stores: &Arc<Databases<S>, Global>,
-) -> Result<Option<Gatekeeper<S>>, NoMemory>
-    requires { AreNamed S.Store (arc_value stores.now) }
-{
-    match terms.gate {
-        Some(_) => Ok(Some(Gatekeeper::new(rt, stores)?)),
-        None => Ok(None),
     }
 }
 

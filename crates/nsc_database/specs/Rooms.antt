@@ -1,3 +1,4 @@
+-- The tables of the four databases, by which a room knows them.
 use Rattle.std.specs.Prelude.{[]}
 use Rattle.nsc_model.specs.declared.kind.Db.{Db}
 use Rattle.nsc_model.specs.declared.kind.Db.TheVariants as db_is

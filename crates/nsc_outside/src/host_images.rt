@@ -1,4 +1,4 @@
-ghost use Rattle.std.specs.Prelude.{◌≡◌, ◌↔◌, ◌⊎◌, None, Some, IfOk, IfErr, OnOk, OnErr, IsOk, IsTrue, bit_and};
+ghost use Rattle.std.specs.Prelude.{◌≡◌, ◌↔◌, None, Some, IfOk, IfErr, OnOk, OnErr, IsOk};
 ghost use Rattle.std.specs.IoError.{error_kind};
 ghost use Rattle.std.specs.Fs.{file_type, IsFile};
 ghost use Rattle.nsc_model.specs.Reads.{Rose};
@@ -7,7 +7,8 @@ ghost use Rattle.nsc_outside.specs.ImageStores.{ImageFits, IsImageCause, OthersS
 ghost use Rattle.nsc_outside.specs.ImageTally.{db_count, no_image_counts};
 
 use crate::files::ReadCause;
-use crate::image_paths::{image_path, new_path};
+use crate::folders::{check_folder, is_locked};
+use crate::image_paths::{ImagePaths, image_name};
 use crate::image_tally::ImageTally;
 use crate::images::{IMAGE_LIMIT, ImageStore};
 use crate::reading::{absent_or, read_within};
@@ -25,18 +26,13 @@ use std::{fs, io};
 // The mode of an image's file.
 const OWN: u32 = 0o600;
 
-// Who may write a folder besides its owner, and the user who may do all.
-const OTHERS: u32 = 0o022;
-
-const ROOT: u32 = 0;
-
 /// The images in a folder of a system: the files `passwd.img`, `group.img`, `hosts.img` and `services.img`. It tells nothing of what
 /// they hold; contracts see what it counts. Before the first `under` it has no folder, and no image is there.
 ///
 /// The folder must belong to this user or root, and nobody else may write it: else each call fails, and nothing is touched. What has
-/// an image's name and is a link, or no regular file, is left alone, and a call that meets it fails. Only one store at a time may use
-/// a folder: each call for a database removes what another one has half written of its image. Why a call failed is told on standard
-/// error.
+/// an image's name and is a link, or no regular file, is left alone, and a call that meets it fails. Only one store at a time may put
+/// images into a folder, that of the process that has the folder's lock: others leave alone what it writes. Why a call failed is told
+/// on standard error.
 #[derive(Drop)]
 pub struct HostImages<R: Files + Drop> {
     system: R,
@@ -90,7 +86,7 @@ impl<R: Files + Drop> HostImages<R> {
     }
 }
 
-impl<R: Files + Eprint + Drop> HostImages<R> {
+impl<R: Files<File = File> + Eprint + Drop> HostImages<R> {
     // One get of an image.
     fn fetch(&self, alloc: Global, db: Db) -> Result<Option<Bytes>, ReadCause>
         ensures fits { IfOk result (λ image. ImageFits image) }
@@ -100,9 +96,14 @@ impl<R: Files + Eprint + Drop> HostImages<R> {
             return Ok(None);
         };
         let folder = folder.as_str();
-        let path = image_path(alloc, folder, db)?;
-        let new = new_path(alloc, folder, db)?;
-        read_image(&self.system, alloc, folder, path.as_str(), new.as_str())
+        match ImagePaths::of(alloc, folder, db) {
+            Ok(paths) => read_image(&self.system, alloc, folder, &paths),
+            Err(_) => {
+                let (name, cause) = (image_name(db), ReadCause::NoMemory);
+                let _ = eprintln!(self.system; "nscd: {folder}/{name}: {cause}");
+                Err(cause)
+            }
+        }
     }
 
     // One put of an image, which says whether it succeeded.
@@ -111,24 +112,24 @@ impl<R: Files + Eprint + Drop> HostImages<R> {
             return false;
         };
         let folder = folder.as_str();
-        let Ok(path) = image_path(self.alloc, folder, db) else {
-            return false;
+        let outcome = match ImagePaths::of(self.alloc, folder, db) {
+            Ok(paths) => replace_file(&self.system, folder, &paths, image),
+            Err(_) => Err(Error::from(ErrorKind::OutOfMemory)),
         };
-        let Ok(new) = new_path(self.alloc, folder, db) else {
-            return false;
-        };
-        let path = path.as_str();
-        match replace_file(&self.system, folder, path, new.as_str(), image) {
+        match outcome {
             Ok(()) => true,
             Err(error) => {
-                let _ = eprintln!(self.system; "nscd: {path}: {error}: the image is not kept");
+                let name = image_name(db);
+                let _ = eprintln!(self.system;
+                    "nscd: {folder}/{name}: {error}: the image is not kept"
+                );
                 false
             }
         }
     }
 }
 
-impl<R: Files + Eprint + Drop> ImageStore for HostImages<R> {
+impl<R: Files<File = File> + Eprint + Drop> ImageStore for HostImages<R> {
     ghost use Rattle.std.specs.Prelude.{None};
     ghost use Rattle.nsc_outside.specs.ImageTally.{db_count};
 
@@ -148,7 +149,7 @@ impl<R: Files + Eprint + Drop> ImageStore for HostImages<R> {
         Ok(())
     }
 
-    /// Removes what a put that was broken off has left, then opens the image's file and reads it once. There is no image where the
+    /// Removes what a put that was broken off has left, unless another process has the folder's lock, then opens the image's file and reads it once. There is no image where the
     /// file or the folder is missing. The length that `TooLong` gives is the one that the system told before, or that of 134,217,729
     /// bytes, whichever is more.
     fn get(&mut self, alloc: Global, db: Db) -> Result<Option<Bytes>, ReadCause>
@@ -188,19 +189,19 @@ impl<R: Files + Eprint + Drop> ImageStore for HostImages<R> {
     }
 }
 
-// Reads the image at a path, if there is one, once what stands at the other path is removed.
+// Reads the image, if there is one, once what a put that was broken off has left is removed.
 #[tactic(auto, using(crate::proofs::Wholes::no_length_no_image_cause, crate::proofs::Wholes::over_no_image_cause))]
-fn read_image<R: Files + Eprint>(
+fn read_image<R: Files<File = File> + Eprint>(
     system: &R,
     alloc: Global,
     folder: &str,
-    path: &str,
-    new: &str,
+    paths: &ImagePaths,
 ) -> Result<Option<Bytes>, ReadCause>
     ensures fits { IfOk result (λ image. ImageFits image) }
     ensures cause { IfErr result (λ cause. IsImageCause None cause) }
 {
-    match open_image(system, folder, path, new) {
+    let path = paths.image.as_str();
+    match open_image(system, folder, paths) {
         Ok((file, length)) => match read_within(alloc, file, length, IMAGE_LIMIT) {
             Ok(image) => Ok(Some(image)),
             Err(cause) => {
@@ -218,16 +219,23 @@ fn read_image<R: Files + Eprint>(
     }
 }
 
-// Opens the image at a path, and tells its length, once what stands at the other path is removed.
-fn open_image<R: Files>(
+// Opens the image, and tells its length, once what a put that was broken off has left is removed.
+fn open_image<R: Files<File = File>>(
     system: &R,
     folder: &str,
-    path: &str,
-    new: &str,
+    paths: &ImagePaths,
 ) -> io::Result<(R::File, u64)> {
     let _folder = open_folder(system, folder)?;
-    let _ = fs::remove_file(system, new);
-    open_plain(system, path)
+    remove_left(system, paths);
+    open_plain(system, paths.image.as_str())
+}
+
+// Removes a new image that nobody writes any more: while another daemon has the folder, it may be at it.
+fn remove_left<R: Files<File = File>>(system: &R, paths: &ImagePaths) {
+    let new = paths.new.as_str();
+    if fs::symlink_metadata(system, new).is_ok() && !is_locked(system, paths.lock.as_str()) {
+        let _ = fs::remove_file(system, new);
+    }
 }
 
 // Opens a regular file, and tells its length. What has its name is looked at before it is opened, so that no link is followed; the
@@ -244,14 +252,14 @@ fn open_plain<R: Files>(system: &R, path: &str) -> io::Result<(R::File, u64)> {
     Ok((file, metadata.len()))
 }
 
-// Puts these bytes into the file at a path, by way of a new file at the other path.
+// Gives the image's file these bytes, by way of a new file.
 fn replace_file<R: Files>(
     system: &R,
     folder: &str,
-    path: &str,
-    new: &str,
+    paths: &ImagePaths,
     image: &[u8],
 ) -> io::Result<()> {
+    let (path, new) = (paths.image.as_str(), paths.new.as_str());
     let folder = open_folder(system, folder)?;
     let _ = fs::remove_file(system, new);
     check_free(system, path)?;
@@ -286,13 +294,7 @@ fn check_free<R: Files>(system: &R, path: &str) -> io::Result<()> {
 // Opens a folder in which nobody else may change anything.
 fn open_folder<R: Files>(system: &R, path: &str) -> io::Result<R::File> {
     let folder = File::open(system, path)?;
-    let metadata = folder.metadata()?;
-    if !metadata.is_dir() {
-        return Err(Error::from(ErrorKind::NotADirectory));
-    }
-    if !is_kept(metadata.uid(), libc::geteuid(), metadata.mode()) {
-        return Err(Error::from(ErrorKind::PermissionDenied));
-    }
+    check_folder(&folder.metadata()?)?;
     Ok(folder)
 }
 
@@ -304,13 +306,6 @@ fn check_plain(metadata: &Metadata) -> io::Result<()>
     if metadata.file_type().is_file() {
         Ok(())
     } else {
-        Err(Error::from(ErrorKind::InvalidInput))
+        Err(Error::new(ErrorKind::InvalidInput, "it is no regular file"))
     }
-}
-
-// Whether a folder of this owner and mode is this user's or root's, and nobody else may write it.
-fn is_kept(owner: u32, user: u32, mode: u32) -> bool
-    ensures { IsTrue result ↔ ((owner ≡ user) ⊎ (owner ≡ 0)) × (bit_and mode 0o022 ≡ 0) }
-{
-    (owner == user || owner == ROOT) && mode & OTHERS == 0
 }

@@ -1,12 +1,13 @@
-ghost use Rattle.std.specs.Prelude.{◌≡◌, IfOk, string_bytes};
+ghost use Rattle.std.specs.Prelude.{◌≡◌, IfOk, codes, string_bytes};
 ghost use Rattle.nsc_outside.specs.ImageStores.{image_name, new_name, path_in};
 
+use crate::folders::LOCK_NAME;
 use nsc_base::NoMemory;
 use nsc_model::Db;
 use std::alloc::Global;
 
 // The file of a database's image, seen from its folder.
-fn image_name(db: Db) -> &'static str
+pub(crate) fn image_name(db: Db) -> &'static str
     ensures { result.now ≡ image_name db }
 {
     match db {
@@ -39,16 +40,28 @@ fn path_in(alloc: Global, folder: &str, name: &str) -> Result<String, NoMemory>
     Ok(path)
 }
 
-// The path of a database's image in a folder.
-pub(crate) fn image_path(alloc: Global, folder: &str, db: Db) -> Result<String, NoMemory>
-    ensures { IfOk result (λ path. string_bytes path ≡ path_in folder.now (image_name db)) }
-{
-    path_in(alloc, folder, image_name(db))
+/// Where the image of a database stands in a folder.
+#[derive(Drop)]
+pub(crate) struct ImagePaths {
+    /// The image's own path.
+    pub image: String,
+    /// The one at which a new image is written.
+    pub new: String,
+    /// The one of the file whose lock tells that a process has the folder.
+    pub lock: String,
 }
 
-// The path at which a new one is written.
-pub(crate) fn new_path(alloc: Global, folder: &str, db: Db) -> Result<String, NoMemory>
-    ensures { IfOk result (λ path. string_bytes path ≡ path_in folder.now (new_name db)) }
-{
-    path_in(alloc, folder, new_name(db))
+impl ImagePaths {
+    // The paths for a database in a folder.
+    pub(crate) fn of(alloc: Global, folder: &str, db: Db) -> Result<ImagePaths, NoMemory>
+        ensures image { IfOk result (λ paths. string_bytes paths.image ≡ path_in folder.now (image_name db)) }
+        ensures new { IfOk result (λ paths. string_bytes paths.new ≡ path_in folder.now (new_name db)) }
+        ensures lock { IfOk result (λ paths. string_bytes paths.lock ≡ path_in folder.now (codes "lock")) }
+    {
+        Ok(ImagePaths {
+            image: path_in(alloc, folder, image_name(db))?,
+            new: path_in(alloc, folder, new_name(db))?,
+            lock: path_in(alloc, folder, LOCK_NAME)?,
+        })
+    }
 }

@@ -6,6 +6,7 @@ mod call_plan;
 mod comparing;
 mod fail_plan;
 mod files;
+mod folders;
 mod held_files;
 mod hold;
 mod host_files;
@@ -30,6 +31,7 @@ mod tally;
 mod whole;
 
 pub use files::{FileSet, ReadCause};
+pub use folders::{LOCK_NAME, check_folder};
 pub use held_files::HeldFiles;
 pub use hold::Hold;
 pub use host_files::HostFiles;

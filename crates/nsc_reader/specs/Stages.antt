@@ -234,8 +234,8 @@ answer_in (Under first stage) = None
 answer_in (Answered answer) = Some answer
 
 -- it is that a compaction is under way, or that another table goes on in place of this one
-abbrev pub IsOdd : Option InPlace → Type 0
-IsOdd answer = (cycle : ℕ) × (answer ≡ Some (Odd cycle))
+abbrev pub SaysOdd : Option InPlace → Type 0
+SaysOdd answer = (cycle : ℕ) × (answer ≡ Some (Odd cycle))
 
 -- what the pass had seen when the search began
 abbrev pub seen_before : Progress → Pass → List Record

@@ -3,7 +3,7 @@ ghost use Rattle.std.specs.Prelude.{◌≡◌, ◌+◌, Some};
 ghost use Rattle.atomic_table.specs.Seated.{TableId};
 ghost use Rattle.nsc_model.specs.declared.answer.Request.{Request};
 ghost use Rattle.nsc_model.specs.InPlace.{InPlaceClause};
-ghost use Rattle.nsc_reader.specs.Stages.{AtLast, IsOdd, Keeps, Steps, answer_in, asked};
+ghost use Rattle.nsc_reader.specs.Stages.{AtLast, SaysOdd, Keeps, Steps, answer_in, asked};
 
 use crate::stage::{Progress, Stage};
 use nsc_base::Buf;
@@ -23,7 +23,7 @@ pub(crate) fn load_first(
     requires map { map.now.table ≡ pass.old.table }
     requires request { request ≡ asked kind key.now }
     ensures steps { Steps map.now.layout request Progress.New pass.old pass.new out.new.content result }
-    ensures left { (newer : TableId) → pass.old.retired ≡ Some newer → IsOdd (answer_in result) }
+    ensures left { (newer : TableId) → pass.old.retired ≡ Some newer → SaysOdd (answer_in result) }
     ensures limit { out.new.limit ≡ out.old.limit }
 {
     let first = pass.first_cycle(map);

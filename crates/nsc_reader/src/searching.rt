@@ -3,7 +3,7 @@ ghost use Rattle.atomic_table.specs.Seated.{TableId};
 ghost use Rattle.nsc_model.specs.Entry.{key_limit, kept_limit};
 ghost use Rattle.nsc_model.specs.History.{IsPrefix, Legal};
 ghost use Rattle.nsc_model.specs.InPlace.{InPlaceClause};
-ghost use Rattle.nsc_reader.specs.Stages.{IsOdd, asked};
+ghost use Rattle.nsc_reader.specs.Stages.{SaysOdd, asked};
 
 use crate::walk::Walk;
 use nsc_base::Buf;
@@ -22,7 +22,7 @@ pub fn search(pass: &mut Pass, map: &Map, kind: Kind, key: &[u8], out: &mut Buf)
     ensures before { IsPrefix pass.old.seen pass.new.seen }
     ensures searches { pass.new.searching.searches ≡ pass.old.searching.searches + 1 }
     ensures answer { InPlaceClause pass.old.seen pass.new.seen (asked kind key.now) pass.new.searching.first pass.new.searching.last out.new.content result }
-    ensures left { (newer : TableId) → pass.old.retired ≡ Some newer → IsOdd (Some result) }
+    ensures left { (newer : TableId) → pass.old.retired ≡ Some newer → SaysOdd (Some result) }
 {
     let mut walk = Walk::new(kind);
     if let Some(answer) = walk.step(pass, map, key, out) {

@@ -1,7 +1,7 @@
 ghost use Rattle.std.specs.Prelude.{◌≡◌, ◌≤◌, List, ℕ, Some, length};
 ghost use Rattle.atomic_table.specs.Seated.{TableId};
 ghost use Rattle.nsc_model.specs.Entry.{key_limit, kept_limit};
-ghost use Rattle.nsc_reader.specs.Stages.{AtStage, Comes, HasCome, IsOdd, IsOpen, Nears, Steps, answer_in, asked, left_at};
+ghost use Rattle.nsc_reader.specs.Stages.{AtStage, Comes, HasCome, SaysOdd, IsOpen, Nears, Steps, answer_in, asked, left_at};
 
 use crate::chain::{load_bucket, load_next, past_bucket};
 use crate::ends::{load_first, load_last};
@@ -51,7 +51,7 @@ impl Walk {
         ensures limit { out.new.limit ≡ out.old.limit }
         ensures steps { Steps map.now.layout (asked self.old.kind key.now) self.old.progress pass.old pass.new out.new.content self.new.progress }
         ensures answer { result ≡ answer_in self.new.progress }
-        ensures left { self.old.progress ≡ Progress.New → (newer : TableId) → pass.old.retired ≡ Some newer → IsOdd result }
+        ensures left { self.old.progress ≡ Progress.New → (newer : TableId) → pass.old.retired ≡ Some newer → SaysOdd result }
     {
         self.progress = match self.progress {
             Progress::New => load_first(self.kind, key, pass, map, out),

@@ -1,6 +1,5 @@
 // The folder in which a process's sockets stand, and which it has for itself.
-ghost use Rattle.std.specs.Prelude.{◌≡◌, ◌↔◌, ◌⊎◌, IsTrue, bit_and};
-
+use nsc_outside::{LOCK_NAME, check_folder};
 use std::alloc::Global;
 use std::fs::{DirBuilder, File, Permissions, TryLockError};
 use std::io::ErrorKind;
@@ -13,11 +12,6 @@ const FOLDER: u32 = 0o755;
 
 // The mode of the file whose lock tells that somebody has the folder.
 const LOCK: u32 = 0o600;
-
-// Who may write a folder besides its owner, and the user who may do all.
-const OTHERS: u32 = 0o022;
-
-const ROOT: u32 = 0;
 
 /// A folder that no other process has, as long as this lives.
 #[derive(Drop)]
@@ -39,18 +33,12 @@ impl Folder {
         // What is looked at and changed is the open folder, whatever has its name by then.
         let folder = File::open(system, path)?;
         let metadata = folder.metadata()?;
-        if !metadata.is_dir() {
-            return Err(io::Error::from(ErrorKind::NotADirectory));
-        }
-        if !is_kept(metadata.uid(), libc::geteuid(), metadata.mode()) {
-            let message = "its folder is not the daemon's own: other users may change it";
-            return Err(io::Error::new(ErrorKind::PermissionDenied, message));
-        }
+        check_folder(&metadata)?;
         if is_made {
             // The process may hold back some of the mode when a folder is made.
             folder.set_permissions(Permissions::from_mode(FOLDER))?;
         }
-        let name = format!(in alloc; "{path}/lock")?;
+        let name = format!(in alloc; "{path}/{LOCK_NAME}")?;
         let lock = take_lock(system, name.as_str())?;
         Ok(Folder {
             device: metadata.dev(),
@@ -92,11 +80,4 @@ fn take_lock<R: Files<File = File>>(system: &R, path: &str) -> io::Result<File> 
         }
         Err(TryLockError::Error(error)) => Err(error),
     }
-}
-
-// Whether a folder of this owner and mode is this user's or root's, and nobody else may write it.
-fn is_kept(owner: u32, user: u32, mode: u32) -> bool
-    ensures { IsTrue result ↔ ((owner ≡ user) ⊎ (owner ≡ 0)) × (bit_and mode 0o022 ≡ 0) }
-{
-    (owner == user || owner == ROOT) && mode & OTHERS == 0
 }

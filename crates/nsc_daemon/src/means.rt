@@ -1,0 +1,95 @@
+// What a daemon has before its sockets are bound.
+ghost use Rattle.std.specs.Prelude.{◌≡◌, ◌++◌, IfOk, codes};
+ghost use Rattle.std.specs.Arc.{arc_value};
+ghost use Rattle.std.specs.String.{string_bytes};
+ghost use Rattle.nsc_server.specs.Passes.{AreNamed};
+
+use crate::gate::Gatekeeper;
+use crate::intake::Waitings;
+use crate::terms::Terms;
+use nsc_base::NoMemory;
+use nsc_jobs::JobList;
+use nsc_model::{Databases, Store};
+use nsc_server::RequestBuffer;
+use std::alloc::Global;
+use std::sync::{Arc, Wait};
+use std::thread;
+use std::thread::Threads;
+
+/// The databases as the threads share them, the room for requests, the list of the connections that wait, who serves the gate where
+/// there is one and no worker, and the paths of the two sockets.
+#[derive(Drop)]
+pub struct Means<S: Store + Drop, R: Drop, K: Drop> {
+    pub stores: Arc<Databases<S>, Global>,
+    pub buffer: RequestBuffer,
+    pub list: Waitings<R, K>,
+    pub gate: Option<Gatekeeper<S>>,
+    pub plain: String,
+    pub admin: String,
+}
+
+impl<S: Store + Drop, R: Drop, K: Drop> Means<S, R, K> {
+    /// What it takes to serve under these terms, where so many connections may wait for a worker. Fails only for want of memory.
+    pub fn new<RT: AllocGlobal + Threads + Wait>(
+        rt: &RT,
+        terms: &Terms<'_>,
+        most: usize,
+        stores: Databases<S>,
+    ) -> Result<Means<S, R, K>, NoMemory>
+        requires { AreNamed S.Store stores }
+        ensures stores { IfOk result (λ means. arc_value means.stores ≡ stores) }
+        ensures plain { IfOk result (λ means. string_bytes means.plain ≡ terms.now.run_dir.now ++ codes "/socket") }
+        ensures admin { IfOk result (λ means. string_bytes means.admin ≡ terms.now.run_dir.now ++ codes "/admin") }
+    {
+        let alloc = rt.alloc();
+        let buffer = RequestBuffer::new(alloc)?;
+        let stores = Arc::new(alloc, stores)?;
+        let list = waitings(rt, most)?;
+        let (plain, admin) = socket_paths(alloc, terms.run_dir)?;
+        let gate = gatekeeper(rt, terms, &stores)?;
+        Ok(Means {
+            stores,
+            buffer,
+            list,
+            gate,
+            plain,
+            admin,
+        })
+    }
+}
+
+// An empty list for the connections that wait, so many at most. Fails only for want of memory.
+fn waitings<RT: AllocGlobal + Threads, R: Drop, K: Drop>(
+    rt: &RT,
+    most: usize,
+) -> Result<Waitings<R, K>, NoMemory> {
+    let processors = match thread::available_parallelism(rt) {
+        Ok(number) => number.get(),
+        Err(_) => 1,
+    };
+    Ok(Arc::new(rt.alloc(), JobList::new(rt.alloc(), processors, most))?)
+}
+
+// The paths of the two sockets: that of every user, and that of the administrator.
+fn socket_paths(alloc: Global, run_dir: &str) -> Result<(String, String), NoMemory>
+    ensures plain { IfOk result (λ paths. string_bytes paths.0 ≡ run_dir.now ++ codes "/socket") }
+    ensures admin { IfOk result (λ paths. string_bytes paths.1 ≡ run_dir.now ++ codes "/admin") }
+{
+    let plain = format!(in alloc; "{run_dir}/socket")?;
+    let admin = format!(in alloc; "{run_dir}/admin")?;
+    Ok((plain, admin))
+}
+
+// Who serves the gate, where there is one and no worker.
+fn gatekeeper<RT: AllocGlobal + Wait, S: Store + Drop>(
+    rt: &RT,
+    terms: &Terms<'_>,
+    stores: &Arc<Databases<S>, Global>,
+) -> Result<Option<Gatekeeper<S>>, NoMemory>
+    requires { AreNamed S.Store (arc_value stores.now) }
+{
+    match terms.gate {
+        Some(_) => Ok(Some(Gatekeeper::new(rt, stores)?)),
+        None => Ok(None),
+    }
+}
