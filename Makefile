@@ -6,6 +6,7 @@ TRIALS = crates/nsc_trials/out/nsc_trials
 TABLE_TRIALS = crates/nsc_table_trials/out/nsc_table_trials
 READER_TRIALS = crates/nsc_reader_trials/out/nsc_reader_trials
 IMAGE_TRIALS = crates/nsc_image_trials/out/nsc_image_trials
+READERS = crates/nsc_fuzz/out/libnsc_fuzz.a
 EXAMPLE = crates/nscd/stdin
 WORDS = $(shell cat crates/nscd/args)
 
@@ -19,7 +20,7 @@ SYSCONFDIR ?= /etc
 DESTDIR ?=
 NSCD ?= build/nscd
 
-.PHONY: run help test build bench install uninstall deb clean
+.PHONY: run help test build bench hostile fuzz install uninstall deb clean
 
 # The first target, so plain `make` shows the program at work on the shipped example. The proved program runs where it is
 # there and no source is newer; else rt makes one from the sources as they stand, in less than a minute and a half.
@@ -49,6 +50,8 @@ help:
 	@echo 'make build        proves and builds the program, build/nscd; needs rt'
 	@echo 'make test         proves everything, and runs every test; needs rt, and takes an hour or more'
 	@echo 'make bench        measures; needs rt'
+	@echo 'make fuzz         reads bytes that libFuzzer makes, beside second readings, for some twenty minutes; needs rt and clang++'
+	@echo 'make hostile      gives the program hostile input for some minutes; needs python3, and cc for refused allocations'
 	@echo 'make deb          makes a Debian package of the program, in build; MAINTAINER and HOMEPAGE name whose it is'
 	@echo 'make install      installs the program; PREFIX, SYSCONFDIR and DESTDIR say where, and START=no starts nothing'
 	@echo 'make uninstall    takes away what make install has put'
@@ -113,6 +116,19 @@ $(IMAGE_TRIALS): $(SOURCES)
 	cd crates/nsc_image_trials && rt run < stdin > /dev/null
 	@touch $(IMAGE_TRIALS)
 
+# The readers of bytes from outside, beside second readings of the same bytes.
+fuzz: build/libnsc_fuzz.a
+	@tests/fuzz
+
+build/libnsc_fuzz.a: $(READERS)
+	@mkdir -p build
+	cp $(READERS) build/libnsc_fuzz.new
+	mv build/libnsc_fuzz.new build/libnsc_fuzz.a
+
+$(READERS): $(SOURCES)
+	cd crates/nsc_fuzz && rt lib
+	@touch $(READERS)
+
 # The proved program and all that belongs to it, as docs/INSTALL.md says. Nothing is built or proved here.
 install:
 	@PREFIX='$(PREFIX)' SYSCONFDIR='$(SYSCONFDIR)' DESTDIR='$(DESTDIR)' NSCD='$(NSCD)' START='$(START)' dist/install in
@@ -123,6 +139,10 @@ uninstall:
 # A Debian package, in build.
 deb:
 	@NSCD='$(NSCD)' MAINTAINER='$(MAINTAINER)' HOMEPAGE='$(HOMEPAGE)' dist/make-deb build
+
+# Refused allocations, and requests, replies, files and settings of any bytes, over the program that NSCD names.
+hostile:
+	@NSCD='$(NSCD)' tests/hostile
 
 bench: build
 	bench/machine

@@ -1,5 +1,4 @@
-//! Trials of a database that many threads call, over a file that changes while they run, and of connections to the gate over four
-//! databases. With no word each trial prints a line.
+//! Trials of a database that many threads call, over a file that changes while they run. With no word each trial prints a line.
 //! With words the program makes calls for their time: `hits THREADS ENTRIES COUNT [ASKED]`, `misses USERS COUNT`, `ticks ENTRIES COUNT
 //! SECONDS`, `compactions ENTRIES COUNT`; or `reads THREADS ENTRIES COUNT [RATE]`, which tells its time.
 #![tactic(auto)]
@@ -8,10 +7,8 @@ mod asked;
 mod caller;
 mod dice;
 mod discarded;
-mod four;
 mod growing;
 mod kept;
-mod lines;
 mod loads;
 mod mode;
 mod opening;

@@ -1,5 +1,4 @@
 use crate::discarded::Gates;
-use crate::four::run_gate;
 use crate::growing::growing;
 use crate::kept::{Beginning, TRUE, UNTRUE, persistent};
 use crate::opening::{changing, done};
@@ -38,8 +37,6 @@ pub fn run_trials<R: AllocGlobal + Threads + Wait + Clock + Print + Clone + Drop
     println!(rt; "an image that is true: {outcome}")?;
     let outcome = run_kept(rt, alloc, UNTRUE).unwrap_or(Outcome::NoMemory);
     println!(rt; "an image that is not: {outcome}")?;
-    let outcome = run_gate(rt).unwrap_or(Outcome::NoMemory);
-    println!(rt; "connections to the gate: {outcome}")?;
     let outcome = run_interleavings(rt, alloc).unwrap_or(Outcome::NoMemory);
     println!(rt; "{INTERLEAVINGS} interleavings: {outcome}")
 }

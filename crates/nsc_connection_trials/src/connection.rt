@@ -1,0 +1,126 @@
+ghost use Rattle.nsc_server.specs.Passes.{AreNamed, ArePasses};
+ghost use Rattle.nsc_server.specs.Requests.{TakesRequests};
+
+use crate::outcome::Outcome;
+use crate::texts::{ASK_ROOT, ROOT_BASH};
+use nsc_base::NoMemory;
+use nsc_model::{Databases, Store};
+use nsc_outside::{MemSink, MemSource};
+use nsc_server::{RequestBuffer, Served, serve_one};
+use nsc_sockets::Role;
+use std::alloc::Global;
+use std::sync::Wait;
+
+// How many bytes a connection takes.
+const ROOM: usize = 4096;
+
+/// How the calls of one end of a connection go: whether each moves a byte at most, and the number of the one that fails, 0 being none.
+#[derive(Clone, Copy, Debug)]
+pub struct Calls {
+    pub by_byte: bool,
+    pub failing: u64,
+}
+
+/// Calls that move what they can, and of which none fails.
+pub const WELL: Calls = Calls {
+    by_byte: false,
+    failing: 0,
+};
+
+/// Calls that move what they can, of which the one with this number fails.
+pub fn failing(call: u64) -> Calls {
+    Calls {
+        by_byte: false,
+        failing: call,
+    }
+}
+
+/// A connection: what it sends, on the socket of the administrator or of everyone, how its reads and its writes go, what must come of
+/// it, and what it must be sent.
+#[derive(Clone, Copy, Debug)]
+pub struct Connection<'a> {
+    pub sends: &'a [u8],
+    pub is_admin: bool,
+    pub reads: Calls,
+    pub writes: Calls,
+    pub served: Served,
+    pub sent: &'a [u8],
+}
+
+/// Everyone's connection that asks for root and is answered.
+pub const GOOD: Connection<'static> = Connection {
+    sends: ASK_ROOT,
+    is_admin: false,
+    reads: WELL,
+    writes: WELL,
+    served: Served::Replied,
+    sent: ROOT_BASH,
+};
+
+/// Serves one connection after another. The outcome tells the first that came to anything else than it must.
+pub fn serve_all<R: AllocGlobal + Wait, S: Store>(
+    rt: &R,
+    stores: &Databases<S>,
+    passes: &mut Databases<S::Pass>,
+    connections: &[Connection<'_>],
+) -> Result<Outcome, NoMemory>
+    requires named { AreNamed S.Store stores.now }
+    requires passes { ArePasses S.Store stores.now passes.old }
+{
+    let mut buffer = RequestBuffer::new(rt.alloc())?;
+    for (place, connection) in connections.iter().enumerate() {
+        if !comes(rt, stores, passes, &mut buffer, connection)? {
+            return Ok(Outcome::Wrong(place + 1));
+        }
+    }
+    Ok(Outcome::Right)
+}
+
+// Whether a connection comes to what it must.
+fn comes<R: AllocGlobal + Wait, S: Store>(
+    rt: &R,
+    stores: &Databases<S>,
+    passes: &mut Databases<S::Pass>,
+    buffer: &mut RequestBuffer,
+    connection: &Connection<'_>,
+) -> Result<bool, NoMemory>
+    requires named { AreNamed S.Store stores.now }
+    requires passes { ArePasses S.Store stores.now passes.old }
+    ensures passes { ArePasses S.Store stores.now passes.new }
+{
+    let alloc = rt.alloc();
+    let mut input = input(alloc, connection.sends, connection.reads)?;
+    let mut output = output(alloc, connection.writes)?;
+    let role = role(connection.is_admin);
+    let served = serve_one(rt, stores, passes, buffer, &mut input, &mut output, role, 0);
+    Ok(served == connection.served && output.taken() == connection.sent)
+}
+
+// The role of a connection that brings requests.
+fn role(is_admin: bool) -> Role
+    ensures { TakesRequests result }
+{
+    if is_admin { Role::Admin } else { Role::Plain }
+}
+
+/// What a connection sends.
+pub fn input(alloc: Global, sends: &[u8], reads: Calls) -> Result<MemSource, NoMemory> {
+    let source = MemSource::new(Vec::from_slice(alloc, sends)?);
+    let source = source.failing_at(Vec::from_slice(alloc, &[reads.failing])?);
+    Ok(if reads.by_byte {
+        source.with_step(1)
+    } else {
+        source
+    })
+}
+
+/// What takes the replies.
+pub fn output(alloc: Global, writes: Calls) -> Result<MemSink, NoMemory> {
+    let sink = MemSink::new(alloc, ROOM)?;
+    let sink = sink.failing_at(Vec::from_slice(alloc, &[writes.failing])?);
+    Ok(if writes.by_byte {
+        sink.with_step(1)
+    } else {
+        sink
+    })
+}
