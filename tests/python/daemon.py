@@ -21,6 +21,7 @@ import ending
 import folders
 import gates
 import kept
+import scarce
 import sources
 import telling
 import torn
@@ -348,6 +349,7 @@ CASES = {
     **kept.CASES,
     **badimages.CASES,
     **torn.CASES,
+    **scarce.CASES,
 }
 
 

@@ -47,6 +47,8 @@ def main(names):
     if unknown:
         sys.exit(f"install: no case {unknown[0]}; there are {', '.join(CASES)}")
     os.environ["PATH"] += ":/usr/sbin:/sbin"
+    # What is started here gives way to whatever else the machine does.
+    os.nice(19)
     # Images are to go where a case says.
     os.environ.pop("STATE_DIRECTORY", None)
     faults = 0

@@ -44,12 +44,17 @@ def sets(run, *lines):
     (run.etc / "nscd.conf").write_text("".join(lines))
 
 
+def counts_in(text, database):
+    """The counts of a database in a text of statistics, by their names."""
+    part = next(part for part in text.decode().split("\n\n") if part.startswith(f"{database} cache:"))
+    return dict(re.findall(r"^([a-z ]+) (\d.*)$", part, re.M))
+
+
 def counts(run, database="passwd"):
     """What -g tells of a database, by the names of its counts."""
     text, said, status = run.command("-g")
     check((said, status) == (b"", 0), f"-g: {said}, {status}")
-    part = next(part for part in text.decode().split("\n\n") if part.startswith(f"{database} cache:"))
-    return dict(re.findall(r"^([a-z ]+) (\d.*)$", part, re.M))
+    return counts_in(text, database)
 
 
 def check_counts(run, text, database="passwd", **wanted):

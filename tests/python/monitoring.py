@@ -84,7 +84,7 @@ def check_document(metrics):
     page = (ROOT / "docs/MONITORING.md").read_text()
     lines = []
     for path in ("nsc_outside/src/host_files.rt", "nsc_outside/src/host_images.rt", "nsc_sockets/src/entrance.rt", "nscd/src/main.rt"):
-        lines += re.findall(r'"nscd: (?:\{path\}: )?(?:\{error\}: )?([^"{}]+)"', source(path))
+        lines += re.findall(r'"nscd: (?:(?:\{path\}|\{folder\}/\{name\}): )?(?:\{error\}: )?([^"{}]+)"', source(path))
     lines += [line.replace("{length}", "LENGTH") for line in re.findall(r'#\[error\("(the file [^"]+)"\)\]', source("nsc_outside/src/files.rt"))]
     check(len(lines) >= 7, f"lines of the adapters: {lines}")
     for word in [*metrics, *lines]:

@@ -1,8 +1,9 @@
 """The rules of a name service, read plainly: what is looked up in files, by which services, and how a reply is spelled.
 
-Files are a dictionary from the name of a file to its bytes, where an absent one is None. Nothing here is made to be fast.
+Files are a dictionary from the name of a file to its bytes, where an absent one is None. Nothing here is made to be fast, but that the addresses of a file are read once.
 """
 
+import functools
 import ipaddress
 import re
 
@@ -95,8 +96,9 @@ def service_list(files, name):
 
 
 def decimal(text):
-    if re.fullmatch(rb"[0-9]+", text) and int(text) < 2**32:
-        return int(text)
+    digits = text.lstrip(b"0") or b"0"
+    if re.fullmatch(rb"[0-9]+", text) and len(digits) <= 10 and int(digits) < 2**32:
+        return int(digits)
     return None
 
 
@@ -129,6 +131,7 @@ def words_of(line):
     return [word for word in re.split(rb"[ \t]+", line.split(b"#")[0]) if word]
 
 
+@functools.lru_cache(10_000)
 def address_of(text):
     try:
         if b"%" in text or b"/" in text:

@@ -113,7 +113,6 @@ def start_soon(run):
 def overlaps():
     """The next daemon starts while the former one may still save."""
     old, new = two_images(SOME)
-    kept = 0
     with daemon(started=False) as run:
         (run.etc / "passwd").write_bytes(passwd(SOME))
         sets(run, PERSISTENT, ROOMY)
@@ -128,14 +127,11 @@ def overlaps():
             check(entries_told(run) == SOME, f"turn {turn}: not all entries are there")
             check_user(run, turn, f"turn {turn}")
             said, status = former.communicate(timeout=PATIENCE)[1], former.returncode
-            data = image_of(run).read_bytes()
-            check(status == 0 and data in (old, new), f"turn {turn}: status {status}, and an image of {len(data)} bytes")
-            # What is not kept is told.
-            check((data == new) == (said == b""), f"turn {turn}: the image is {'kept' if data == new else 'not kept'}, and it told {said}")
-            kept += data == new
+            check((said, status) == (b"", 0), f"turn {turn}: the former daemon ends with status {status}, and tells {said}")
+            check(image_of(run).read_bytes() == new, f"turn {turn}: the former daemon's image is lost")
             ends(run)
             check(image_of(run).read_bytes() == new and left_in(run) == ["passwd.img"], f"turn {turn}: at the end {left_in(run)}")
-        return f"of {OVERLAPS} daemons whose next one started at once {kept} put their image whole, and the others told that it is not kept"
+        return f"each of {OVERLAPS} daemons whose next one is started while it ends puts its image"
 
 
 @contextmanager
