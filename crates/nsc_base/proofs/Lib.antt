@@ -11,4 +11,4 @@ pub mod Digits
 pub mod Zeros
 pub mod Options
 pub mod AddressLengths
-pub mod Searched
+pub mod Runs

@@ -1,5 +1,5 @@
 -- The first line of a text that gives something, and the lines in which something stands.
-use Rattle.std.specs.Prelude.{◌≡◌, ◌≢◌, ℕ, ◌+◌, ◌<◌, ◌≤◌, Bool, true, length, List, [], ◌∷◌, ◌++◌, Option, Some, None, MatchOption}
+use Rattle.std.specs.Prelude.{◌≡◌, ℕ, ◌<◌, ◌≤◌, Bool, true, length, List, [], ◌∷◌, ◌++◌, Option, Some, None, MatchOption}
 use Rattle.std.specs.Str.{bytes_eq, str_eq_ignore_ascii_case}
 use Rattle.nsc_base.specs.declared.search.Case.{Case}
 use Rattle.nsc_base.specs.declared.search.Case.TheVariants.{Counts, Ignored}
@@ -60,14 +60,3 @@ pub record IsLineWith (case : Case) (needle text : List ℕ) (from : ℕ) (line 
 pub data OrLacks {E : Type 0} (case : Case) (needle text : List ℕ) (gives : Span → Option E → Type 0) (line : Span) : Option E → Type 0 where
   read : (given : Option E) → gives line given → OrLacks case needle text gives line given
   lacks : Lacks case needle (part text line) → OrLacks case needle text gives line None
-
--- a search of a text for a needle has come to a place: from another place on the needle begins nowhere before it
-pub record SearchedTo (needle text : List ℕ) (from place : ℕ) : Type 0 where
-  pub inside : place ≤ length text
-  pub none : (at : Span) → StandsAt Counts needle text at → from ≤ at.from → place ≤ at.from
-
--- the next place from another on at which a needle begins in a text, or the text's end where there is none
-pub record IsNextPlace (needle text : List ℕ) (from place : ℕ) : Type 0 where
-  pub onward : from ≤ place
-  pub searched : SearchedTo needle text from place
-  pub begins : place ≢ length text → StandsAt Counts needle text (record { from = place; to = place + length needle })

@@ -8,3 +8,4 @@ pub mod Addresses
 pub mod Buf
 pub mod Nodes
 pub mod AnyCase
+pub mod Texts

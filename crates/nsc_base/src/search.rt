@@ -1,5 +1,5 @@
 ghost use Rattle.std.specs.Prelude.{◌≡◌, ◌<◌, ◌≤◌, [], length, MatchOption};
-ghost use Rattle.nsc_base.specs.Found.{FirstOf, IsLineStart, IsLineWith, IsNextPlace, NoneBefore, OrLacks, PassesOver, SearchedTo, same_by};
+ghost use Rattle.nsc_base.specs.Found.{FirstOf, IsLineStart, IsLineWith, NoneBefore, OrLacks, PassesOver, same_by};
 ghost use Rattle.nsc_base.specs.Text.{line_spans};
 ghost use Rattle.nsc_base.specs.declared.span.Span.{Span};
 ghost use Rattle.nsc_base.specs.declared.search.Case.{Case};
@@ -62,28 +62,8 @@ pub fn line_with(text: &[u8], from: usize, needle: &[u8], case: Case) -> Option<
     line_at(text, line_start(text, from, at))
 }
 
-/// Goes on with the search of a text for a needle that has come to `place`: the next place, from `from` on, at which the needle
-/// begins, or the end of the text where there is none. Where the search has come to `from` or beyond, it stays, so that no
-/// part of the text is searched twice.
-pub fn search_on(text: &[u8], needle: &[u8], place: usize, from: usize) -> usize
-    requires inside { from ≤ length text.now }
-    requires searched { SearchedTo needle.now text.now from place }
-    ensures stays { from ≤ place → result ≡ place }
-    ensures next { place < from → IsNextPlace needle.now text.now from result }
-    ensures onward { from ≤ result }
-    ensures searched { SearchedTo needle.now text.now from result }
-{
-    if from <= place {
-        return place;
-    }
-    match memmem::find(&text[from..], needle) {
-        Some(n) => from + n,
-        None => text.len(),
-    }
-}
-
-/// Where the line begins that a place is in, or after, from a place on at which a line begins.
-pub fn line_start(text: &[u8], from: usize, at: usize) -> usize
+// Where the line begins that a place is in, or after, from a place on at which a line begins.
+fn line_start(text: &[u8], from: usize, at: usize) -> usize
     requires before { from ≤ at }
     requires inside { at ≤ length text.now }
     ensures no_earlier { from ≤ result }

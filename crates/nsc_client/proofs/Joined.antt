@@ -1,7 +1,6 @@
 -- Texts joined by a byte.
-use Rattle.std.proofs.Common.{◌≡◌, ℕ, ◌≤◌, List, [], ◌∷◌, ◌++◌, length, take, drop, get_or, ◌-◌, append-nil, append_assoc, arith, ap, sym, ◌∙◌}
+use Rattle.std.proofs.Common.{◌≡◌, ℕ, ◌<◌, List, [], ◌∷◌, ◌++◌, length, drop, get_or, append-nil, append_assoc, arith, ap, sym, ◌∙◌}
 use Rattle.std.specs.Prelude.{flat_map}
-use Rattle.std.proofs.lemmas.List.{take_all}
 use Rattle.std.specs.List.{join_with_byte}
 
 -- the first, and the others, each after the byte
@@ -26,8 +25,7 @@ halves_joined_after c out first half put text front rest texts h k l =
     pair_joined_after c out first put text (front ++ rest) texts h (l ∙ ap (λ t. t ++ rest) k ∙ append_assoc first (c ∷ front) rest)
 
 -- all of a list that is not empty
-pub all_joined_after : (c : ℕ) (out put first : List ℕ) (texts : List (List ℕ)) → 1 ≤ length texts → first ≡ get_or texts 0 first → put ≡ out ++ first
-    → put ++ flat_map (λ t. c ∷ t) (take (length texts - 1) (drop 1 texts)) ≡ out ++ join_with_byte c texts
+pub all_joined_after : (c : ℕ) (out put first : List ℕ) (texts : List (List ℕ)) → 0 < length texts → first ≡ get_or texts 0 [] → put ≡ out ++ first
+    → put ++ flat_map (λ t. c ∷ t) (drop 1 texts) ≡ out ++ join_with_byte c texts
 all_joined_after c out put first [] some is h = absurd (omega (arith, some))
-all_joined_after c out put first (text ∷ texts) some is h =
-    ap (λ others. put ++ flat_map (λ t. c ∷ t) others) (take_all (length (text ∷ texts) - 1) texts (omega arith)) ∙ joined_after c out put text texts (h ∙ ap (λ t. out ++ t) is)
+all_joined_after c out put first (text ∷ texts) some is h = joined_after c out put text texts (h ∙ ap (λ t. out ++ t) is)

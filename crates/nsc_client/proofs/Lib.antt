@@ -1,4 +1,3 @@
-pub mod LastSlash
 pub mod Spelling
 pub mod Requests
 pub mod Joined

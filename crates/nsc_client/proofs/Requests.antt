@@ -4,39 +4,11 @@ use Rattle.std.proofs.lemmas.Bool.{le-ltb}
 use Rattle.std.proofs.lemmas.List.{take_all}
 use Rattle.byteorder.specs.Numbers.{little_number-reads_back}
 use Rattle.nsc_model.specs.declared.kind.Kind.{Kind}
-use Rattle.nsc_model.specs.declared.kind.Kind.TheVariants as kind
 use Rattle.nsc_model.specs.Entry.{key_limit}
 use Rattle.nsc_model.specs.Kinds.{kind_numbered, type_number}
+use Rattle.nsc_model.proofs.KindNumbers.{kind_again, type_low}
 use Rattle.nsc_model.specs.Wire.{Asked, Look, Short, BadVersion, BadType, BadLength, asked_look, field, field_in, request_of, signed_field_in, stored_key}
 use Rattle.nsc_client.specs.SocketLink.{request_for}
-
-numbered : (by : Kind) → kind_numbered (type_number by) ≡ Some by
-numbered kind.PwName = refl
-numbered kind.PwUid = refl
-numbered kind.GrName = refl
-numbered kind.GrGid = refl
-numbered kind.HostName = refl
-numbered kind.HostName6 = refl
-numbered kind.HostAddr = refl
-numbered kind.HostAddr6 = refl
-numbered kind.Ai = refl
-numbered kind.InitGroups = refl
-numbered kind.ServName = refl
-numbered kind.ServPort = refl
-
-type_low : (by : Kind) → type_number by ≤ 17
-type_low kind.PwName = omega arith
-type_low kind.PwUid = omega arith
-type_low kind.GrName = omega arith
-type_low kind.GrGid = omega arith
-type_low kind.HostName = omega arith
-type_low kind.HostName6 = omega arith
-type_low kind.HostAddr = omega arith
-type_low kind.HostAddr6 = omega arith
-type_low kind.Ai = omega arith
-type_low kind.InitGroups = omega arith
-type_low kind.ServName = omega arith
-type_low kind.ServPort = omega arith
 
 -- what is read of fields and of what stands after them
 abbrev read_of : (count version type size : ℕ) (v t s : ℤ) (rest : List ℕ) → Asked
@@ -57,7 +29,7 @@ read_as count version type size v t s rest key by count_is version_is type_is si
     let low : nat_lt 21 type ≡ false = le-ltb 21 type (omega (arith, type_low by)) in
     let short : nat_lt key_limit size ≡ false = le-ltb key_limit size (omega arith) in
     let whole : nat_lt count (12 + size) ≡ false = le-ltb count (12 + size) (omega arith) in
-    let look : kind_numbered type ≡ Some by = ap kind_numbered type_is ∙ numbered by in
+    let look : kind_numbered type ≡ Some by = ap kind_numbered type_is ∙ kind_again by in
     let all : take size rest ≡ key = ap (λ (l : List ℕ). take size l) rest_is ∙ take_all size key (omega arith) in
     rw (few, known, low, short, whole, look, all) refl
 

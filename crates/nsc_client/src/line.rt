@@ -3,17 +3,15 @@ ghost use Rattle.nsc_model.specs.declared.kind.Kind.TheVariants as Kind;
 ghost use Rattle.std.specs.List.{after_first, before_first, list_any};
 ghost use Rattle.nsc_base.specs.Addresses.{v4_of, v6_of};
 ghost use Rattle.nsc_base.specs.Text.{is_white};
-ghost use Rattle.std.specs.Option.{option_map};
-ghost use Rattle.nsc_model.specs.ServiceLines.{ServiceKey, exchanged, port_of, service_key};
+ghost use Rattle.nsc_model.specs.ServiceLines.{port_of, service_key};
 ghost use Rattle.nsc_model.specs.Entry.{key_limit};
 ghost use Rattle.nsc_client.specs.Replying.{KeysFit};
 ghost use Rattle.nsc_client.specs.GateText.{asking_in, asking_of, by_address_or_name, by_id_or_name, by_port_or_name, is_key as is_a_key, one};
 
 use itoa::Buffer;
-use memchr::memrchr;
 use nsc_addr::{read_v4, read_v6};
 use nsc_base::{Bytes, NoMemory, Span, decimal};
-use nsc_model::{Db, KEY_LIMIT, Kind, Request};
+use nsc_model::{Db, KEY_LIMIT, Kind, Request, key_parts, key_port};
 use std::alloc::Global;
 
 /// What a line asks.
@@ -109,28 +107,10 @@ fn service(alloc: Global, key: &[u8]) -> Result<LineAsks, NoMemory>
     ensures fits { IfOk result KeysFit }
 {
     let (asked, proto) = key_parts(key);
-    match sent_port(asked) {
+    match key_port(asked) {
         Some(sent) => service_on(alloc, sent, proto),
         None => request(alloc, Kind::ServName, key),
     }
-}
-
-// What stands before the last slash of a key and what stands after it; the whole key and nothing where it has none.
-fn key_parts(key: &[u8]) -> (&[u8], &[u8])
-    ensures { record { asked = result.0.now; proto = result.1.now } ≡ service_key key.now }
-{
-    match memrchr(b'/', key) {
-        Some(at) => (&key[..at], &key[at + 1..]),
-        None => (key, &[]),
-    }
-}
-
-// The port that a text spells in decimal, as it is sent: with its two bytes exchanged. `None` where it spells none.
-fn sent_port(text: &[u8]) -> Option<u16>
-    ensures { result ≡ option_map exchanged (port_of text.now) }
-{
-    let port = u16::try_from(decimal(text)?).ok()?;
-    Some(port.swap_bytes())
 }
 
 // By a port, as it is sent, and a protocol.

@@ -1,4 +1,4 @@
-ghost use Rattle.std.specs.Prelude.{◌≡◌, ◌++◌, ◌∷◌, flat_map, OnOk, decimal};
+ghost use Rattle.std.specs.Prelude.{◌≡◌, ◌≤◌, ◌++◌, ◌∷◌, drop, flat_map, length, OnOk, decimal};
 ghost use Rattle.std.specs.List.{join_with_byte};
 ghost use Rattle.nsc_model.specs.Wire.{IsAddress, IsHost, IsRow};
 ghost use Rattle.nsc_client.specs.Sent.{CanBeSent};
@@ -6,7 +6,7 @@ ghost use Rattle.nsc_client.specs.GateText.{address_text, group_text, host_text,
 
 use itoa::Buffer;
 use nsc_addr::{print_v4, print_v6};
-use nsc_base::{Buf, Bytes, NoMemory};
+use nsc_base::{Buf, NoMemory, Texts};
 use nsc_model::{Group, Host, Passwd, Reply, Row, Service};
 
 // The longest text of an address, in bytes.
@@ -66,18 +66,18 @@ fn put_group(out: &mut Vec<u8>, group: &Group) -> Result<(), NoMemory>
     put_after(out, b':', group.passwd.as_slice())?;
     put_number_after(out, b':', group.gid)?;
     out.push(b':')?;
-    put_members(out, group.members.as_slice())
+    put_members(out, &group.members)
 }
 
 // Puts the names of members with commas between them.
-fn put_members(out: &mut Vec<u8>, members: &[Bytes]) -> Result<(), NoMemory>
+fn put_members(out: &mut Vec<u8>, members: &Texts) -> Result<(), NoMemory>
     ensures { OnOk result (out.new.items ≡ out.old.items ++ join_with_byte 44 members.now) }
 {
-    let [first, others @ ..] = members else {
+    if members.is_empty() {
         return Ok(());
-    };
-    out.extend_from_slice(first.as_slice())?;
-    put_each_after(out, b',', others)
+    }
+    out.extend_from_slice(members.get(0))?;
+    put_each_after(out, b',', members, 1)
 }
 
 // Puts address name alias alias.
@@ -87,7 +87,7 @@ fn put_host(out: &mut Vec<u8>, host: &Host) -> Result<(), NoMemory>
 {
     put_address(out, host.family, host.address.as_slice())?;
     put_after(out, b' ', host.name.as_slice())?;
-    put_each_after(out, b' ', host.aliases.as_slice())
+    put_each_after(out, b' ', &host.aliases, 0)
 }
 
 // Puts an address as it is printed.
@@ -112,7 +112,7 @@ fn put_service(out: &mut Vec<u8>, service: &Service) -> Result<(), NoMemory>
     out.extend_from_slice(service.name.as_slice())?;
     put_number_after(out, b' ', u32::from(service.port))?;
     put_after(out, b'/', service.proto.as_slice())?;
-    put_each_after(out, b' ', service.aliases.as_slice())
+    put_each_after(out, b' ', &service.aliases, 0)
 }
 
 // Puts a separator and a text.
@@ -131,12 +131,18 @@ fn put_number_after(out: &mut Vec<u8>, separator: u8, number: u32) -> Result<(),
     put_after(out, separator, digits.format(number).as_bytes())
 }
 
-// Puts texts, each after a separator.
-fn put_each_after(out: &mut Vec<u8>, separator: u8, texts: &[Bytes]) -> Result<(), NoMemory>
-    ensures { OnOk result (out.new.items ≡ out.old.items ++ flat_map (λ text. separator ∷ text) texts.now) }
+// Puts the texts from a place on, each after a separator.
+fn put_each_after(
+    out: &mut Vec<u8>,
+    separator: u8,
+    texts: &Texts,
+    from: usize,
+) -> Result<(), NoMemory>
+    requires { from ≤ length texts.now }
+    ensures { OnOk result (out.new.items ≡ out.old.items ++ flat_map (λ text. separator ∷ text) (drop from texts.now)) }
 {
-    for text in texts {
-        put_after(out, separator, text.as_slice())?;
+    for at in from..texts.len() {
+        put_after(out, separator, texts.get(at))?;
     }
     Ok(())
 }

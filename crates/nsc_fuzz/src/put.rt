@@ -4,7 +4,7 @@ ghost use Rattle.nsc_model.specs.Kinds.{type_number};
 ghost use Rattle.nsc_fuzz.specs.Told.{IsNotTold, IsTold, flag_told, number_told, numbers_told, text_told, texts_told};
 
 use byteorder::{ByteOrder, LittleEndian};
-use nsc_base::{Bytes, NoMemory};
+use nsc_base::{NoMemory, Texts};
 use nsc_model::Kind;
 
 // Puts a number, as eight bytes.
@@ -46,12 +46,12 @@ pub(crate) fn put_text(out: &mut Vec<u8>, bytes: &[u8]) -> Result<(), NoMemory>
 }
 
 // Puts texts behind their count.
-pub(crate) fn put_texts(out: &mut Vec<u8>, texts: &[Bytes]) -> Result<(), NoMemory>
+pub(crate) fn put_texts(out: &mut Vec<u8>, texts: &Texts) -> Result<(), NoMemory>
     ensures { OnOk result (out.new.items ≡ out.old.items ++ texts_told texts.now) }
 {
     put_number(out, texts.len() as u64)?;
-    for text in texts {
-        put_text(out, text.as_slice())?;
+    for at in 0..texts.len() {
+        put_text(out, texts.get(at))?;
     }
     Ok(())
 }

@@ -40,7 +40,7 @@ pub(crate) fn put_group(out: &mut Vec<u8>, group: &Group) -> Result<(), NoMemory
     put_text(out, group.name.as_slice())?;
     put_text(out, group.passwd.as_slice())?;
     put_number(out, u64::from(group.gid))?;
-    put_texts(out, group.members.as_slice())
+    put_texts(out, &group.members)
 }
 
 // Puts a host.
@@ -48,7 +48,7 @@ pub(crate) fn put_host(out: &mut Vec<u8>, host: &Host) -> Result<(), NoMemory>
     ensures { OnOk result (out.new.items ≡ out.old.items ++ host_told host.now) }
 {
     put_text(out, host.name.as_slice())?;
-    put_texts(out, host.aliases.as_slice())?;
+    put_texts(out, &host.aliases)?;
     put_number(out, u64::from(host.family))?;
     put_text(out, host.address.as_slice())
 }
@@ -59,7 +59,7 @@ pub(crate) fn put_service(out: &mut Vec<u8>, service: &Service) -> Result<(), No
 {
     put_text(out, service.name.as_slice())?;
     put_text(out, service.proto.as_slice())?;
-    put_texts(out, service.aliases.as_slice())?;
+    put_texts(out, &service.aliases)?;
     put_number(out, u64::from(service.port))
 }
 

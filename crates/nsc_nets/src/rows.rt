@@ -40,11 +40,11 @@ fn words(alloc: Global, text: &[u8], within: Span) -> Result<Texts, NoMemory>
     requires { within.to ≤ length text.now }
     ensures { IfOk result (λ words. words ≡ words_of (part text.now within)) }
 {
-    let mut words = Vec::new(alloc);
+    let mut words = Texts::new(alloc);
     let mut from = within.from();
     while let Some(word) = word_at(text, within, from) {
-        words.push(Bytes::copy(alloc, word.span.of(text))?)?;
+        words.push(word.span.of(text))?;
         from = word.next;
     }
-    Ok(Texts::from_vec(words))
+    Ok(words)
 }

@@ -10,7 +10,9 @@ use Rattle.nsc_model.specs.declared.row.Reply.{Reply}
 use Rattle.nsc_model.specs.declared.row.Reply.TheVariants.{Found, Absent, Disabled}
 use Rattle.nsc_model.specs.Answer.{reply_limit}
 use Rattle.nsc_model.specs.ServiceLines.{exchanged}
-use Rattle.nsc_model.specs.Wire.{Shape, UserShape, GroupShape, IdsShape, HostShape, AddressesShape, ServiceShape, shape_of, row_shape, row_found, lacking, spelled, minus_one, field, text, text_len, IsRow, IsReplyOf, Spells}
+use Rattle.nsc_model.specs.declared.kind.Shape.{Shape}
+use Rattle.nsc_model.specs.declared.kind.Shape.TheVariants as shape
+use Rattle.nsc_model.specs.Wire.{shape_of, row_shape, row_found, lacking, spelled, minus_one, field, text, text_len, IsRow, IsReplyOf, Spells}
 use Rattle.nsc_wire.specs.Fields.{fields}
 use Rattle.nsc_wire.specs.Replies.{◌>>=◌, number_at, fixed_at, all_fixed, user_at, group_at, ids_at, host_at, addresses_at, service_at, row_at, lacking_fields, said_at, reply_at, ended, whole_reply}
 use Rattle.nsc_wire.proofs.ReplyFields.{IsBytes, bind_is, bind_ok, guard_is, guard_not, ok_is, Takes, Takes-then, number_again, number_takes, fixed_again, fixed_takes, all_fixed_again, all_fixed_takes}
@@ -65,30 +67,30 @@ record TakesRow (shape : Shape) (bytes : List ℕ) (r : Row) (rest : List ℕ) :
 
 row_takes : (shape : Shape) (bytes : List ℕ) (x : Row × List ℕ) → IsBytes bytes → row_at shape bytes ≡ Ok x → TakesRow shape bytes x.0 x.1
 unfolding row_at
-row_takes UserShape bytes x fits e =
+row_takes shape.User bytes x fits e =
     let a = bind_ok (user_at bytes) (λ p. Ok (row.Passwd p.0, p.1)) x e in
     let t = user_takes bytes a.0 fits a.1 in
-    subst (λ (y : Row × List ℕ). TakesRow UserShape bytes y.0 y.1) (ok_is (row.Passwd a.0.0, a.0.1) x a.2) (record { takes = t.0; shape_is = refl; is = t.1 })
-row_takes GroupShape bytes x fits e =
+    subst (λ (y : Row × List ℕ). TakesRow shape.User bytes y.0 y.1) (ok_is (row.Passwd a.0.0, a.0.1) x a.2) (record { takes = t.0; shape_is = refl; is = t.1 })
+row_takes shape.Group bytes x fits e =
     let a = bind_ok (group_at bytes) (λ p. Ok (row.Group p.0, p.1)) x e in
     let t = group_takes bytes a.0 fits a.1 in
-    subst (λ (y : Row × List ℕ). TakesRow GroupShape bytes y.0 y.1) (ok_is (row.Group a.0.0, a.0.1) x a.2) (record { takes = t.0; shape_is = refl; is = t.1 })
-row_takes IdsShape bytes x fits e =
+    subst (λ (y : Row × List ℕ). TakesRow shape.Group bytes y.0 y.1) (ok_is (row.Group a.0.0, a.0.1) x a.2) (record { takes = t.0; shape_is = refl; is = t.1 })
+row_takes shape.Ids bytes x fits e =
     let a = bind_ok (ids_at bytes) (λ p. Ok (row.Groups p.0, p.1)) x e in
     let t = ids_take bytes a.0 fits a.1 in
-    subst (λ (y : Row × List ℕ). TakesRow IdsShape bytes y.0 y.1) (ok_is (row.Groups a.0.0, a.0.1) x a.2) (record { takes = t.0; shape_is = refl; is = t.1 })
-row_takes HostShape bytes x fits e =
+    subst (λ (y : Row × List ℕ). TakesRow shape.Ids bytes y.0 y.1) (ok_is (row.Groups a.0.0, a.0.1) x a.2) (record { takes = t.0; shape_is = refl; is = t.1 })
+row_takes shape.Host bytes x fits e =
     let a = bind_ok (host_at bytes) (λ p. Ok (row.Host p.0, p.1)) x e in
     let t = host_takes bytes a.0 fits a.1 in
-    subst (λ (y : Row × List ℕ). TakesRow HostShape bytes y.0 y.1) (ok_is (row.Host a.0.0, a.0.1) x a.2) (record { takes = t.0; shape_is = refl; is = t.1 })
-row_takes AddressesShape bytes x fits e =
+    subst (λ (y : Row × List ℕ). TakesRow shape.Host bytes y.0 y.1) (ok_is (row.Host a.0.0, a.0.1) x a.2) (record { takes = t.0; shape_is = refl; is = t.1 })
+row_takes shape.Addresses bytes x fits e =
     let a = bind_ok (addresses_at bytes) (λ p. Ok (row.Ai p.0, p.1)) x e in
     let t = addresses_take bytes a.0 fits a.1 in
-    subst (λ (y : Row × List ℕ). TakesRow AddressesShape bytes y.0 y.1) (ok_is (row.Ai a.0.0, a.0.1) x a.2) (record { takes = t.0; shape_is = refl; is = t.1 })
-row_takes ServiceShape bytes x fits e =
+    subst (λ (y : Row × List ℕ). TakesRow shape.Addresses bytes y.0 y.1) (ok_is (row.Ai a.0.0, a.0.1) x a.2) (record { takes = t.0; shape_is = refl; is = t.1 })
+row_takes shape.Service bytes x fits e =
     let a = bind_ok (service_at bytes) (λ p. Ok (row.Service p.0, p.1)) x e in
     let t = service_takes bytes a.0 fits a.1 in
-    subst (λ (y : Row × List ℕ). TakesRow ServiceShape bytes y.0 y.1) (ok_is (row.Service a.0.0, a.0.1) x a.2) (record { takes = t.0; shape_is = refl; is = t.1 })
+    subst (λ (y : Row × List ℕ). TakesRow shape.Service bytes y.0 y.1) (ok_is (row.Service a.0.0, a.0.1) x a.2) (record { takes = t.0; shape_is = refl; is = t.1 })
 
 -- ---- replies
 
@@ -99,12 +101,12 @@ said_body kind Absent = field 0 ++ fields (lacking_fields (shape_of kind) 1)
 said_body kind Disabled = field minus_one ++ fields (lacking_fields (shape_of kind) minus_one)
 
 lacking_body : (shape : Shape) (found error : ℕ) → lacking shape found error ≡ field 2 ++ (field found ++ fields (lacking_fields shape error))
-lacking_body UserShape found error = refl
-lacking_body GroupShape found error = refl
-lacking_body IdsShape found error = refl
-lacking_body HostShape found error = refl
-lacking_body AddressesShape found error = refl
-lacking_body ServiceShape found error = refl
+lacking_body shape.User found error = refl
+lacking_body shape.Group found error = refl
+lacking_body shape.Ids found error = refl
+lacking_body shape.Host found error = refl
+lacking_body shape.Addresses found error = refl
+lacking_body shape.Service found error = refl
 
 pub spelled_body : (kind : Kind) (reply : Reply) → spelled kind reply ≡ field 2 ++ said_body kind reply
 spelled_body kind (Found r) = found_body r
@@ -187,12 +189,12 @@ row_again (row.Ai a) is few = rw (addresses_again a is few) refl
 row_again (row.Groups ids) is few = rw (ids_again ids is few) refl
 
 lacking_fit : (shape : Shape) (error : ℕ) → error < 2 ^ 32 → AllByRecursion (λ n. n < 2 ^ 32) (lacking_fields shape error)
-lacking_fit UserShape error fits = (omega arith, (omega arith, (omega arith, (omega arith, (omega arith, (omega arith, (omega arith, tt)))))))
-lacking_fit GroupShape error fits = (omega arith, (omega arith, (omega arith, (omega arith, tt))))
-lacking_fit IdsShape error fits = (omega arith, tt)
-lacking_fit HostShape error fits = (omega arith, (omega arith, (omega arith, (omega arith, (omega arith, (fits, tt))))))
-lacking_fit AddressesShape error fits = (omega arith, (omega arith, (omega arith, (fits, tt))))
-lacking_fit ServiceShape error fits = (omega arith, (omega arith, (omega arith, (omega arith, tt))))
+lacking_fit shape.User error fits = (omega arith, (omega arith, (omega arith, (omega arith, (omega arith, (omega arith, (omega arith, tt)))))))
+lacking_fit shape.Group error fits = (omega arith, (omega arith, (omega arith, (omega arith, tt))))
+lacking_fit shape.Ids error fits = (omega arith, tt)
+lacking_fit shape.Host error fits = (omega arith, (omega arith, (omega arith, (omega arith, (omega arith, (fits, tt))))))
+lacking_fit shape.Addresses error fits = (omega arith, (omega arith, (omega arith, (fits, tt))))
+lacking_fit shape.Service error fits = (omega arith, (omega arith, (omega arith, (omega arith, tt))))
 
 lacking_again : (shape : Shape) (error : ℕ) → error < 2 ^ 32 → all_fixed (lacking_fields shape error) (fields (lacking_fields shape error)) ≡ Ok []
 lacking_again shape error fits =

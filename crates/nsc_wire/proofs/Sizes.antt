@@ -2,7 +2,6 @@
 use Rattle.std.proofs.Common.{◌≡◌, ℕ, ◌+◌, ◌*◌, ◌<◌, ◌≤◌, zero, suc, List, [], ◌∷◌, length, get_or, take, sym, subst, arith, length-append}
 use Rattle.std.specs.List.{flat_map}
 use Rattle.nsc_model.specs.declared.row.Found6.{Found6}
-use Rattle.nsc_model.specs.Answer.{reply_limit}
 use Rattle.nsc_model.specs.Wire.{field, text, text_len}
 
 -- the parts before a place and the part at it are no more than all
@@ -12,10 +11,8 @@ part_within f (x ∷ xs) zero d h = omega (arith, length-append (f x) (flat_map 
 part_within f (x ∷ xs) (suc i) d h = omega (arith, length-append (f x) (flat_map f (take i xs)), length-append (f x) (flat_map f xs), part_within f xs i d (omega arith))
 
 -- a text at a place has room within all of them
-pub text_within : (texts : List (List ℕ)) (i : ℕ) (one : List ℕ) → i < length texts → one ≡ get_or texts i one → length (flat_map text (take i texts)) + (length one + 1) ≤ length (flat_map text texts)
-text_within texts i one h is =
-    let part : length (flat_map text (take i texts)) + length (text one) ≤ length (flat_map text texts) = subst (λ t. length (flat_map text (take i texts)) + length (text t) ≤ length (flat_map text texts)) (sym is) (part_within text texts i one h) in
-    omega (arith, part, length-append one (0 ∷ []))
+pub text_within : (texts : List (List ℕ)) (i : ℕ) → i < length texts → length (get_or texts i []) + 1 ≤ length (flat_map text texts)
+text_within texts i h = omega (arith, part_within text texts i [] h, length-append (get_or texts i []) (0 ∷ []))
 
 pub length-fields : (numbers : List ℕ) → length (flat_map field numbers) ≡ 4 * length numbers
 length-fields [] = omega arith
@@ -24,11 +21,6 @@ length-fields (x ∷ xs) = omega (arith, length-append (field x) (flat_map field
 pub length-lengths : (texts : List (List ℕ)) → length (flat_map text_len texts) ≡ 4 * length texts
 length-lengths [] = omega arith
 length-lengths (x ∷ xs) = omega (arith, length-append (text_len x) (flat_map text_len xs), length-lengths xs)
-
--- the size of the texts before a place and of the one at it
-pub sizes_within : (texts : List (List ℕ)) (i : ℕ) (one : List ℕ) → i < length texts → one ≡ get_or texts i one → length (flat_map text_len texts) + length (flat_map text texts) ≤ reply_limit →
-    length (flat_map text_len (take i texts)) + length (flat_map text (take i texts)) + (4 + length one + 1) ≤ reply_limit
-sizes_within texts i one h is bound = omega (arith, part_within text_len texts i one h, text_within texts i one h is, bound)
 
 -- an address at a place has room within all of them
 pub address_within : (list : List Found6) (i : ℕ) (one : Found6) → i < length list → one ≡ get_or list i one → length (flat_map (λ (f : Found6). f.address) (take i list)) + length one.address ≤ length (flat_map (λ (f : Found6). f.address) list)

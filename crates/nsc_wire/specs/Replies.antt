@@ -16,7 +16,9 @@ use Rattle.nsc_model.specs.declared.row.Reply.TheVariants.{Found, Absent, Disabl
 use Rattle.nsc_model.specs.Answer.{reply_limit}
 use Rattle.nsc_model.specs.Hosts.{ipv4, ipv6}
 use Rattle.nsc_model.specs.ServiceLines.{exchanged}
-use Rattle.nsc_model.specs.Wire.{Shape, UserShape, GroupShape, IdsShape, HostShape, AddressesShape, ServiceShape, shape_of, minus_one, text_key}
+use Rattle.nsc_model.specs.declared.kind.Shape.{Shape}
+use Rattle.nsc_model.specs.declared.kind.Shape.TheVariants as shape
+use Rattle.nsc_model.specs.Wire.{shape_of, minus_one, text_key}
 use Rattle.nsc_wire.specs.declared.fault.Broken.{Broken}
 use Rattle.nsc_wire.specs.declared.fault.Broken.TheVariants as broken
 use Rattle.nsc_wire.specs.declared.fault.ReplyFault.{ReplyFault}
@@ -193,23 +195,23 @@ abbrev pub found_by : {A : Type 0} → (A → Row) → Result (A × List ℕ) �
 found_by make read = read >>= λ x. Ok (make x.0, x.1)
 
 unfoldable pub row_at : Shape → List ℕ → Result (Row × List ℕ) ℕ
-row_at UserShape bytes = found_by row.Passwd (user_at bytes)
-row_at GroupShape bytes = found_by row.Group (group_at bytes)
-row_at IdsShape bytes = found_by row.Groups (ids_at bytes)
-row_at HostShape bytes = found_by row.Host (host_at bytes)
-row_at AddressesShape bytes = found_by row.Ai (addresses_at bytes)
-row_at ServiceShape bytes = found_by row.Service (service_at bytes)
+row_at shape.User bytes = found_by row.Passwd (user_at bytes)
+row_at shape.Group bytes = found_by row.Group (group_at bytes)
+row_at shape.Ids bytes = found_by row.Groups (ids_at bytes)
+row_at shape.Host bytes = found_by row.Host (host_at bytes)
+row_at shape.Addresses bytes = found_by row.Ai (addresses_at bytes)
+row_at shape.Service bytes = found_by row.Service (service_at bytes)
 
 -- ---- replies
 
 -- the fields of a reply without a row, after version and found
 abbrev pub lacking_fields : Shape → ℕ → List ℕ
-lacking_fields UserShape error = 0 ∷ 0 ∷ minus_one ∷ minus_one ∷ 0 ∷ 0 ∷ 0 ∷ []
-lacking_fields GroupShape error = 0 ∷ 0 ∷ minus_one ∷ 0 ∷ []
-lacking_fields IdsShape error = 0 ∷ []
-lacking_fields HostShape error = 0 ∷ 0 ∷ minus_one ∷ minus_one ∷ 0 ∷ error ∷ []
-lacking_fields AddressesShape error = 0 ∷ 0 ∷ 0 ∷ error ∷ []
-lacking_fields ServiceShape error = 0 ∷ 0 ∷ 0 ∷ minus_one ∷ []
+lacking_fields shape.User error = 0 ∷ 0 ∷ minus_one ∷ minus_one ∷ 0 ∷ 0 ∷ 0 ∷ []
+lacking_fields shape.Group error = 0 ∷ 0 ∷ minus_one ∷ 0 ∷ []
+lacking_fields shape.Ids error = 0 ∷ []
+lacking_fields shape.Host error = 0 ∷ 0 ∷ minus_one ∷ minus_one ∷ 0 ∷ error ∷ []
+lacking_fields shape.Addresses error = 0 ∷ 0 ∷ 0 ∷ error ∷ []
+lacking_fields shape.Service error = 0 ∷ 0 ∷ 0 ∷ minus_one ∷ []
 
 -- what stands after the field version
 unfoldable pub said_at : Shape → List ℕ → Result (Reply × List ℕ) ℕ

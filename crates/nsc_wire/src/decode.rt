@@ -13,7 +13,7 @@ use crate::reading::{fixed, fixed_fields, number};
 use crate::reply::{MINUS_ONE, NOT_FOUND, VERSION};
 use crate::services::decode_service;
 use crate::users::decode_user;
-use nsc_model::{Kind, Reply, Row};
+use nsc_model::{Kind, Reply, Row, Shape};
 use std::alloc::Global;
 
 // The longest reply, in bytes.
@@ -98,28 +98,28 @@ fn decode_said(alloc: Global, kind: Kind, bytes: &[u8]) -> Result<(Reply, &[u8])
 fn decode_row(alloc: Global, kind: Kind, bytes: &[u8]) -> Result<(Row, &[u8]), Broken>
     ensures { Gives (λ x. (x.0, x.1.now)) result (row_at (shape_of kind) bytes.now) }
 {
-    match kind {
-        Kind::PwName | Kind::PwUid => {
+    match kind.shape() {
+        Shape::User => {
             let (user, rest) = decode_user(alloc, bytes)?;
             Ok((Row::Passwd(user), rest))
         }
-        Kind::GrName | Kind::GrGid => {
+        Shape::Group => {
             let (group, rest) = decode_group(alloc, bytes)?;
             Ok((Row::Group(group), rest))
         }
-        Kind::InitGroups => {
+        Shape::Ids => {
             let (ids, rest) = decode_ids(alloc, bytes)?;
             Ok((Row::Groups(ids), rest))
         }
-        Kind::HostName | Kind::HostName6 | Kind::HostAddr | Kind::HostAddr6 => {
+        Shape::Host => {
             let (host, rest) = decode_host(alloc, bytes)?;
             Ok((Row::Host(host), rest))
         }
-        Kind::Ai => {
+        Shape::Addresses => {
             let (ai, rest) = decode_addresses(alloc, bytes)?;
             Ok((Row::Ai(ai), rest))
         }
-        Kind::ServName | Kind::ServPort => {
+        Shape::Service => {
             let (service, rest) = decode_service(alloc, bytes)?;
             Ok((Row::Service(service), rest))
         }
@@ -130,15 +130,12 @@ fn decode_row(alloc: Global, kind: Kind, bytes: &[u8]) -> Result<(Row, &[u8]), B
 fn after_lacking(kind: Kind, error: u32, bytes: &[u8]) -> Result<&[u8], Broken>
     ensures { Gives (λ x. x.now) result (all_fixed (lacking_fields (shape_of kind) error) bytes.now) }
 {
-    match kind {
-        Kind::PwName | Kind::PwUid => fixed_fields(bytes, &[0, 0, MINUS_ONE, MINUS_ONE, 0, 0, 0]),
-        Kind::GrName | Kind::GrGid => fixed_fields(bytes, &[0, 0, MINUS_ONE, 0]),
-        Kind::InitGroups => fixed_fields(bytes, &[0]),
-        Kind::HostName | Kind::HostName6 | Kind::HostAddr | Kind::HostAddr6 => fixed_fields(
-            bytes,
-            &[0, 0, MINUS_ONE, MINUS_ONE, 0, error],
-        ),
-        Kind::Ai => fixed_fields(bytes, &[0, 0, 0, error]),
-        Kind::ServName | Kind::ServPort => fixed_fields(bytes, &[0, 0, 0, MINUS_ONE]),
+    match kind.shape() {
+        Shape::User => fixed_fields(bytes, &[0, 0, MINUS_ONE, MINUS_ONE, 0, 0, 0]),
+        Shape::Group => fixed_fields(bytes, &[0, 0, MINUS_ONE, 0]),
+        Shape::Ids => fixed_fields(bytes, &[0]),
+        Shape::Host => fixed_fields(bytes, &[0, 0, MINUS_ONE, MINUS_ONE, 0, error]),
+        Shape::Addresses => fixed_fields(bytes, &[0, 0, 0, error]),
+        Shape::Service => fixed_fields(bytes, &[0, 0, 0, MINUS_ONE]),
     }
 }

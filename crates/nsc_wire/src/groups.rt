@@ -9,7 +9,7 @@ use crate::fault::Broken;
 use crate::reading::{after_sizes, number, numbers, size, text, texts};
 use crate::reply::{FIELD, VERSION, put_fields, put_text, text_len};
 use crate::texts::{put_lengths, put_texts, texts_count, texts_size};
-use nsc_base::{Bytes, Ids, NoMemory, Texts};
+use nsc_base::{Bytes, Ids, NoMemory};
 use nsc_model::Group;
 use std::alloc::Global;
 
@@ -24,7 +24,7 @@ pub(crate) fn encode_group(alloc: Global, group: &Group) -> Result<Bytes, NoMemo
     requires { length (group_found group.now) ≤ reply_limit }
     ensures { IfOk result (λ bytes. bytes ≡ group_found group.now) }
 {
-    let members = group.members.as_slice();
+    let members = &group.members;
     let name = text_len(&group.name);
     let passwd = text_len(&group.passwd);
     let texts = (name + passwd) as usize + texts_size(members);
@@ -62,7 +62,6 @@ pub(crate) fn decode_group(alloc: Global, bytes: &[u8]) -> Result<(Group, &[u8])
     let (name, rest) = text(alloc, name, rest)?;
     let (passwd, rest) = text(alloc, passwd, rest)?;
     let (members, rest) = texts(alloc, count, lengths, rest)?;
-    let members = Texts::from_vec(members);
     let group = Group {
         name,
         passwd,

@@ -9,7 +9,7 @@ use crate::fault::Broken;
 use crate::reading::{after_sizes, fixed_fields, number, piece, size, text, texts};
 use crate::reply::{VERSION, put_fields, put_text, text_len};
 use crate::texts::{put_lengths, put_texts, texts_count, texts_size};
-use nsc_base::{Bytes, NoMemory, Texts};
+use nsc_base::{Bytes, NoMemory};
 use nsc_model::Host;
 use std::alloc::Global;
 
@@ -26,7 +26,7 @@ pub(crate) fn encode_host(alloc: Global, host: &Host) -> Result<Bytes, NoMemory>
     requires { length (host_found host.now) ≤ reply_limit }
     ensures { IfOk result (λ bytes. bytes ≡ host_found host.now) }
 {
-    let aliases = host.aliases.as_slice();
+    let aliases = &host.aliases;
     let address = host.address.as_slice();
     let name = text_len(&host.name);
     let rest = name as usize + address.len() + texts_size(aliases);
@@ -56,7 +56,6 @@ pub(crate) fn decode_host(alloc: Global, bytes: &[u8]) -> Result<(Host, &[u8]), 
     let rest = after_sizes(lengths, count)?;
     let (address, rest) = piece(rest, length as usize)?;
     let (aliases, rest) = texts(alloc, count, lengths, rest)?;
-    let aliases = Texts::from_vec(aliases);
     let address = Bytes::copy(alloc, address)?;
     let host = Host {
         name,

@@ -5,7 +5,7 @@ ghost use Rattle.nsc_wire.specs.Replies.{Gives, all_fixed, fixed_at, number_at, 
 
 use crate::fault::Broken;
 use crate::reply::FIELD;
-use nsc_base::{Bytes, before_byte, u32_at};
+use nsc_base::{Bytes, Texts, before_byte, u32_at};
 use std::alloc::Global;
 
 // The next bytes, so many of them.
@@ -92,17 +92,25 @@ pub(crate) fn after_sizes(bytes: &[u8], count: u32) -> Result<&[u8], Broken>
     Ok(rest)
 }
 
-// A text of this length.
+// A text of this length, lent.
 #[tactic(auto, unfolding(crate::specs::Replies::text_at))]
-pub(crate) fn text(alloc: Global, size: u32, bytes: &[u8]) -> Result<(Bytes, &[u8]), Broken>
-    ensures { Gives (λ x. (x.0, x.1.now)) result (text_at size bytes.now) }
+fn lent_text(size: u32, bytes: &[u8]) -> Result<(&[u8], &[u8]), Broken>
+    ensures { Gives (λ x. (x.0.now, x.1.now)) result (text_at size bytes.now) }
 {
     let (piece, rest) = piece(bytes, size as usize)?;
     let front = before_byte(piece, 0);
     if front.len() + 1 != size as usize {
         return Err(Broken::Left(bytes.len()));
     }
-    Ok((Bytes::copy(alloc, front)?, rest))
+    Ok((front, rest))
+}
+
+// A text of this length.
+pub(crate) fn text(alloc: Global, size: u32, bytes: &[u8]) -> Result<(Bytes, &[u8]), Broken>
+    ensures { Gives (λ x. (x.0, x.1.now)) result (text_at size bytes.now) }
+{
+    let (text, rest) = lent_text(size, bytes)?;
+    Ok((Bytes::copy(alloc, text)?, rest))
 }
 
 // As many texts as the count says. Their lengths are fields at the front of others.
@@ -111,16 +119,15 @@ pub(crate) fn texts<'a>(
     count: u32,
     lengths: &[u8],
     bytes: &'a [u8],
-) -> Result<(Vec<Bytes>, &'a [u8]), Broken>
-    ensures { Gives (λ x. (x.0.items, x.1.now)) result (texts_at count lengths.now bytes.now) }
+) -> Result<(Texts, &'a [u8]), Broken>
+    ensures { Gives (λ x. (x.0, x.1.now)) result (texts_at count lengths.now bytes.now) }
 {
-    let room = (count as usize).min(bytes.len());
-    let mut texts = Vec::with_capacity(alloc, room)?;
+    let mut texts = Texts::new(alloc);
     let mut lengths = lengths;
     let mut rest = bytes;
     for _ in 0..count {
         let (size, others) = number(lengths)?;
-        let (one, after) = text(alloc, size, rest)?;
+        let (one, after) = lent_text(size, rest)?;
         texts.push(one)?;
         lengths = others;
         rest = after;

@@ -10,7 +10,7 @@ use crate::services::encode_service;
 use crate::users::encode_user;
 use byteorder::{ByteOrder, LittleEndian};
 use nsc_base::{Bytes, NoMemory};
-use nsc_model::{Kind, Reply, Row};
+use nsc_model::{Kind, Reply, Row, Shape};
 use std::alloc::Global;
 
 // The version of the protocol, in the first field of each request and each reply.
@@ -58,22 +58,19 @@ fn encode_row(alloc: Global, row: &Row) -> Result<Bytes, NoMemory>
 fn encode_lacking(alloc: Global, kind: Kind, found: u32, error: u32) -> Result<Bytes, NoMemory>
     ensures { IfOk result (λ bytes. bytes ≡ lacking (shape_of kind) found error) }
 {
-    match kind {
-        Kind::PwName | Kind::PwUid => encode_fields(
+    match kind.shape() {
+        Shape::User => encode_fields(
             alloc,
             &[VERSION, found, 0, 0, MINUS_ONE, MINUS_ONE, 0, 0, 0],
         ),
-        Kind::GrName | Kind::GrGid => encode_fields(alloc, &[VERSION, found, 0, 0, MINUS_ONE, 0]),
-        Kind::InitGroups => encode_fields(alloc, &[VERSION, found, 0]),
-        Kind::HostName | Kind::HostName6 | Kind::HostAddr | Kind::HostAddr6 => encode_fields(
+        Shape::Group => encode_fields(alloc, &[VERSION, found, 0, 0, MINUS_ONE, 0]),
+        Shape::Ids => encode_fields(alloc, &[VERSION, found, 0]),
+        Shape::Host => encode_fields(
             alloc,
             &[VERSION, found, 0, 0, MINUS_ONE, MINUS_ONE, 0, error],
         ),
-        Kind::Ai => encode_fields(alloc, &[VERSION, found, 0, 0, 0, error]),
-        Kind::ServName | Kind::ServPort => encode_fields(
-            alloc,
-            &[VERSION, found, 0, 0, 0, MINUS_ONE],
-        ),
+        Shape::Addresses => encode_fields(alloc, &[VERSION, found, 0, 0, 0, error]),
+        Shape::Service => encode_fields(alloc, &[VERSION, found, 0, 0, 0, MINUS_ONE]),
     }
 }
 

@@ -10,7 +10,7 @@ use crate::fault::Broken;
 use crate::reading::{after_sizes, number, size, text, texts};
 use crate::reply::{VERSION, put_fields, put_text, text_len};
 use crate::texts::{put_lengths, put_texts, texts_count, texts_size};
-use nsc_base::{Bytes, NoMemory, Texts};
+use nsc_base::{Bytes, NoMemory};
 use nsc_model::Service;
 use std::alloc::Global;
 
@@ -22,7 +22,7 @@ pub(crate) fn encode_service(alloc: Global, service: &Service) -> Result<Bytes, 
     requires { length (service_found service.now) ≤ reply_limit }
     ensures { IfOk result (λ bytes. bytes ≡ service_found service.now) }
 {
-    let aliases = service.aliases.as_slice();
+    let aliases = &service.aliases;
     let name = text_len(&service.name);
     let proto = text_len(&service.proto);
     let texts = (name + proto) as usize + texts_size(aliases);
@@ -57,7 +57,6 @@ pub(crate) fn decode_service(alloc: Global, bytes: &[u8]) -> Result<(Service, &[
     let (proto, lengths) = text(alloc, proto, rest)?;
     let rest = after_sizes(lengths, count)?;
     let (aliases, rest) = texts(alloc, count, lengths, rest)?;
-    let aliases = Texts::from_vec(aliases);
     let service = Service {
         name,
         proto,

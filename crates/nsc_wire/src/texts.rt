@@ -4,23 +4,19 @@ ghost use Rattle.std.specs.Prelude.{◌≡◌, ◌+◌, ◌≤◌, ◌++◌, len
 ghost use Rattle.nsc_model.specs.Answer.{reply_limit};
 ghost use Rattle.nsc_model.specs.Wire.{text, text_len};
 
-use crate::reply::{FIELD, put_field, put_text, text_len};
-use nsc_base::{Bytes, NoMemory};
+use crate::reply::{FIELD, put_field};
+use nsc_base::{NoMemory, Texts};
 
 // How many bytes texts take, each a field for its length and its bytes with the zero byte.
-pub(crate) fn texts_size(texts: &[Bytes]) -> usize
+pub(crate) fn texts_size(texts: &Texts) -> usize
     requires { length (flat_map text_len texts.now) + length (flat_map text texts.now) ≤ reply_limit }
     ensures { result ≡ length (flat_map text_len texts.now) + length (flat_map text texts.now) }
 {
-    let mut size = 0;
-    for text in texts {
-        size += FIELD + text.len() + 1;
-    }
-    size
+    FIELD * texts.len() + texts.run().len()
 }
 
 // How many texts there are.
-pub(crate) fn texts_count(texts: &[Bytes]) -> u32
+pub(crate) fn texts_count(texts: &Texts) -> u32
     requires { length (flat_map text_len texts.now) + length (flat_map text texts.now) ≤ reply_limit }
     ensures { result ≡ length texts.now }
 {
@@ -28,22 +24,20 @@ pub(crate) fn texts_count(texts: &[Bytes]) -> u32
 }
 
 // Puts the length of each text after the bytes that are there.
-pub(crate) fn put_lengths(out: &mut Vec<u8>, texts: &[Bytes]) -> Result<(), NoMemory>
+pub(crate) fn put_lengths(out: &mut Vec<u8>, texts: &Texts) -> Result<(), NoMemory>
     requires { length (flat_map text texts.now) ≤ reply_limit }
     ensures { OnOk result (out.new.items ≡ out.old.items ++ flat_map text_len texts.now) }
 {
-    for text in texts {
-        put_field(out, text_len(text))?;
+    for at in 0..texts.len() {
+        let size = texts.get(at).len() + 1;
+        put_field(out, size as u32)?;
     }
     Ok(())
 }
 
 // Puts texts after the bytes that are there, each with its zero byte.
-pub(crate) fn put_texts(out: &mut Vec<u8>, texts: &[Bytes]) -> Result<(), NoMemory>
+pub(crate) fn put_texts(out: &mut Vec<u8>, texts: &Texts) -> Result<(), NoMemory>
     ensures { OnOk result (out.new.items ≡ out.old.items ++ flat_map text texts.now) }
 {
-    for text in texts {
-        put_text(out, text.as_slice())?;
-    }
-    Ok(())
+    Ok(out.extend_from_slice(texts.run())?)
 }

@@ -5,17 +5,19 @@ use Rattle.nsc_model.specs.declared.row.Looked.{Looked}
 use Rattle.nsc_model.specs.declared.row.Looked.TheVariants.{Found, NotFound, Unavail}
 use Rattle.nsc_model.specs.declared.row.Row.TheVariants as row
 use Rattle.nsc_model.specs.Answers.{answer_of, looked_up, marked}
-use Rattle.nsc_model.specs.Wire.{Shape, UserShape, GroupShape, IdsShape, HostShape, AddressesShape, ServiceShape, lacking, shape_of}
+use Rattle.nsc_model.specs.declared.kind.Shape.{Shape}
+use Rattle.nsc_model.specs.declared.kind.Shape.TheVariants as shape
+use Rattle.nsc_model.specs.Wire.{lacking, shape_of}
 use Rattle.nsc_workload.specs.Runs.{has_row}
 use Rattle.nsc_workload.specs.Workload.{answer_at, files_of, request_at}
 
 lacks : (shape : Shape) → has_row (lacking shape 0 1) ≡ false
-lacks UserShape = refl
-lacks GroupShape = refl
-lacks IdsShape = refl
-lacks HostShape = refl
-lacks AddressesShape = refl
-lacks ServiceShape = refl
+lacks shape.User = refl
+lacks shape.Group = refl
+lacks shape.Ids = refl
+lacks shape.Host = refl
+lacks shape.Addresses = refl
+lacks shape.Service = refl
 
 tells : (kind : Kind) (looked : Looked) → has_row (marked kind looked).bytes ≡ not (marked kind looked).not_found
 tells kind (Found (row.Passwd p)) = refl

@@ -4,8 +4,9 @@ ghost use Rattle.nsc_workload.specs.Runs.{first_of};
 ghost use Rattle.nsc_workload.specs.Workload.{files_of};
 
 use crate::fixed_files::{FixedFiles, OfContent};
+use crate::replies::ReplyList;
 use crate::workers::Work;
-use nsc_base::{NoMemory, Texts};
+use nsc_base::NoMemory;
 use nsc_database::{Database, Room};
 use nsc_index::Indexed;
 use nsc_model::Store;
@@ -38,14 +39,14 @@ impl<C: OfContent, B: Room> Work for Assignment<'_, C, B> {
         self.workers
     }
 
-    fn share<R: Wait>(&self, rt: &R, alloc: Global, worker: usize) -> Option<Texts> {
+    fn share<R: Wait>(&self, rt: &R, alloc: Global, worker: usize) -> Option<ReplyList> {
         let worker = worker as u32;
         let from = first(self.number, self.workers, worker);
         let to = first(self.number, self.workers, worker + 1);
         self.replies(rt, alloc, from, to - from).ok()
     }
 
-    fn read<R: Wait>(&self, rt: &R, alloc: Global) -> Option<Texts> {
+    fn read<R: Wait>(&self, rt: &R, alloc: Global) -> Option<ReplyList> {
         self.answers(rt, alloc).ok()
     }
 

@@ -8,6 +8,7 @@ mod lines;
 mod lookups;
 mod outcome;
 mod readers;
+mod replies;
 mod room;
 mod run;
 mod users;

@@ -6,7 +6,8 @@ ghost use Rattle.nsc_workload.specs.Workload.{answer_at, request_count};
 use crate::asked::request;
 use crate::assignment::Assignment;
 use crate::fixed_files::{FixedFiles, OfContent};
-use nsc_base::{Bytes, NoMemory, Texts};
+use crate::replies::ReplyList;
+use nsc_base::{Bytes, NoMemory};
 use nsc_database::{DbPass, Room};
 use nsc_model::{Given, Store};
 use std::alloc::Global;
@@ -21,7 +22,7 @@ impl<C: OfContent, B: Room> Assignment<'_, C, B> {
         alloc: Global,
         from: u32,
         count: u32,
-    ) -> Result<Texts, NoMemory>
+    ) -> Result<ReplyList, NoMemory>
         requires { from + count ≤ request_count self.now.number }
         ensures { IfOk result (λ replies. replies ≡ replies_from self.now.number from count) }
     {
@@ -31,7 +32,7 @@ impl<C: OfContent, B: Room> Assignment<'_, C, B> {
             let place = from + turn;
             replies.push(self.reply(rt, alloc, &mut pass, place)?)?;
         }
-        Ok(Texts::from_vec(replies))
+        Ok(ReplyList::from_vec(replies))
     }
 
     // The reply to the request of a place, looked up at moment 0. No file is ever at fault, so that only memory may be wanting.

@@ -7,7 +7,8 @@ ghost use Rattle.nsc_workload.specs.Workload.{request_count};
 use crate::asked::request;
 use crate::assignment::Assignment;
 use crate::fixed_files::{FixedFiles, OfContent};
-use nsc_base::{Buf, Bytes, NoMemory, Texts};
+use crate::replies::ReplyList;
+use nsc_base::{Buf, Bytes, NoMemory};
 use nsc_client::{Asked, StoreLink, ask};
 use nsc_database::{DbPass, Room};
 use nsc_model::Store;
@@ -22,7 +23,7 @@ const ROOM: usize = 65_536;
 
 impl<C: OfContent, B: Room> Assignment<'_, C, B> {
     /// What a reader is answered to the first 64 requests in order, by a pass of its own. Fails only for want of memory.
-    pub(crate) fn answers<R: Wait>(&self, rt: &R, alloc: Global) -> Result<Texts, NoMemory>
+    pub(crate) fn answers<R: Wait>(&self, rt: &R, alloc: Global) -> Result<ReplyList, NoMemory>
         ensures { IfOk result (λ answers. length answers ≡ asked_count) }
     {
         let mut pass = self.database.attach(rt, alloc)?;
@@ -31,7 +32,7 @@ impl<C: OfContent, B: Room> Assignment<'_, C, B> {
         for place in 0..ASKED {
             answers.push(self.answer(rt, alloc, &mut pass, &mut found, place)?)?;
         }
-        Ok(Texts::from_vec(answers))
+        Ok(ReplyList::from_vec(answers))
     }
 
     // What the request of a place is answered at moment 0.

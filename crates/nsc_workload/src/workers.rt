@@ -2,7 +2,8 @@ ghost use Rattle.std.specs.Prelude.{◌≡◌, ◌≤◌, ◌<◌, ◌++◌, All
 ghost use Rattle.nsc_workload.specs.Runs.{AreRead, AreShares, CountsDiffering, IsRead, IsShare, asked_count, differing_of, reader_count, replies_from};
 ghost use Rattle.nsc_workload.specs.Workload.{request_count};
 
-use nsc_base::{Bytes, NoMemory, Texts};
+use crate::replies::ReplyList;
+use nsc_base::{Bytes, NoMemory};
 use std::alloc::Global;
 use std::sync::Wait;
 use std::thread;
@@ -24,12 +25,12 @@ pub(crate) trait Work {
         ensures some { 0 < result };
 
     /// The replies of a worker; `None` where memory was wanting.
-    fn share<R: Wait>(&self, rt: &R, alloc: Global, worker: usize) -> Option<Texts>
+    fn share<R: Wait>(&self, rt: &R, alloc: Global, worker: usize) -> Option<ReplyList>
         requires { worker < workers self.now }
         ensures { IsShare (number self.now) (workers self.now) worker result };
 
     /// What a reader is answered to the first requests, in order; `None` where memory was wanting.
-    fn read<R: Wait>(&self, rt: &R, alloc: Global) -> Option<Texts>
+    fn read<R: Wait>(&self, rt: &R, alloc: Global) -> Option<ReplyList>
         ensures { IsRead result };
 
     /// Ticks. Fails only for want of memory.
@@ -76,7 +77,7 @@ fn answers<W: Work + Sync, R: Threads + Wait + Sync>(
     rt: &R,
     alloc: Global,
     work: &W,
-) -> Result<Vec<Texts>, NoMemory>
+) -> Result<Vec<ReplyList>, NoMemory>
     ensures len { IfOk result (λ answers. vec_len answers ≡ reader_count) }
     ensures each { IfOk result (λ answers. All (λ a. length a ≡ asked_count) answers.items) }
 {
@@ -89,7 +90,7 @@ fn read_by_each<W: Work + Sync, R: Threads + Wait + Sync>(
     rt: &R,
     alloc: Global,
     work: &W,
-) -> Result<Vec<Option<Texts>>, NoMemory>
+) -> Result<Vec<Option<ReplyList>>, NoMemory>
     ensures len { IfOk result (λ given. vec_len given ≡ reader_count) }
     ensures each { IfOk result (λ given. AreRead given.items) }
 {
@@ -105,7 +106,7 @@ fn read_by_each<W: Work + Sync, R: Threads + Wait + Sync>(
 }
 
 // All of these, where none is wanting.
-fn all_given(alloc: Global, given: Vec<Option<Texts>>) -> Result<Vec<Texts>, NoMemory>
+fn all_given(alloc: Global, given: Vec<Option<ReplyList>>) -> Result<Vec<ReplyList>, NoMemory>
     ensures { IfOk result (λ all. map Some all.items ≡ given.items) }
 {
     let mut all = Vec::new(alloc);
@@ -119,7 +120,7 @@ fn all_given(alloc: Global, given: Vec<Option<Texts>>) -> Result<Vec<Texts>, NoM
 }
 
 // How many answers of all readers differ from the reply to the same request.
-fn all_differing(replies: &[Bytes], answers: &[Texts]) -> u64
+fn all_differing(replies: &[Bytes], answers: &[ReplyList]) -> u64
     requires readers { length answers.now ≡ reader_count }
     requires asked { All (λ a. length a ≡ asked_count) answers.now }
     ensures { result ≡ sum_by (λ a. differing_of replies.now a) answers.now }
@@ -147,7 +148,7 @@ fn shares<W: Work + Sync, R: Threads + Wait + Sync>(
     rt: &R,
     alloc: Global,
     work: &W,
-) -> Result<Vec<Option<Texts>>, NoMemory>
+) -> Result<Vec<Option<ReplyList>>, NoMemory>
     ensures len { IfOk result (λ shares. vec_len shares ≡ W.workers work.now) }
     ensures each { IfOk result (λ shares. AreShares (W.number work.now) (W.workers work.now) shares.items) }
 {
@@ -168,7 +169,7 @@ fn shares<W: Work + Sync, R: Threads + Wait + Sync>(
 fn gathered<W: Work>(
     alloc: Global,
     work: &W,
-    shares: &[Option<Texts>],
+    shares: &[Option<ReplyList>],
 ) -> Result<Vec<Bytes>, NoMemory>
     requires len { length shares.now ≡ W.workers work.now }
     requires each { AreShares (W.number work.now) (W.workers work.now) shares.now }

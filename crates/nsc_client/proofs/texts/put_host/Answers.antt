@@ -1,5 +1,4 @@
 use Rattle.std.proofs.Common.{◌≡◌, ◌∷◌, ◌++◌, List, ℕ, ap, subst, ◌∙◌}
-use Rattle.std.specs.Prelude.{flat_map}
 use Rattle.std.specs.Result.{OnOk}
 use Rattle.nsc_client.specs.GateText.{address_text}
 use Rattle.nsc_client.proofs.Joined.{pair_joined_after}
@@ -12,4 +11,4 @@ returns c =
     (pair_joined_after 32 c.args.out.now.items c.put_address.new.out.items c.put_after.new.out.items (address_text host.family host.address) host.name host.aliases
     (c.in_ok-put_address.ensures ∙ ap (λ a. c.args.out.now.items ++ address_text host.family a) c.as_slice.ensures)
     (c.in_ok-put_after.ensures ∙ ap (λ t. c.put_address.new.out.items ++ 32 ∷ t) c.as_slice-2.ensures))
-    (subst (λ (texts : List (List ℕ)). OnOk c.put_each_after.result (c.put_each_after.new.out.items ≡ c.put_after.new.out.items ++ flat_map (λ t. 32 ∷ t) texts)) c.as_slice-3.ensures c.put_each_after.ensures)
+    c.put_each_after.ensures

@@ -1,5 +1,4 @@
 use Rattle.std.proofs.Common.{◌≡◌, ◌∷◌, ◌++◌, List, ℕ, ap, decimal, subst, ◌∙◌}
-use Rattle.std.specs.Prelude.{flat_map}
 use Rattle.std.specs.Result.{OnOk}
 use Rattle.nsc_client.proofs.Joined.{halves_joined_after}
 use Rattle.nsc_client.proofs.texts.put_service.Goals as goal
@@ -12,4 +11,4 @@ returns c =
     (c.in_ok-extend_from_slice.ensures.items ∙ ap (λ t. c.args.out.now.items ++ t) c.as_slice.ensures)
     (c.in_ok-put_number_after.ensures ∙ ap (λ n. c.extend_from_slice.new.self.items ++ 32 ∷ decimal n) c.from.ensures)
     (c.in_ok-put_after.ensures ∙ ap (λ t. c.put_number_after.new.out.items ++ 47 ∷ t) c.as_slice-2.ensures))
-    (subst (λ (texts : List (List ℕ)). OnOk c.put_each_after.result (c.put_each_after.new.out.items ≡ c.put_after.new.out.items ++ flat_map (λ t. 32 ∷ t) texts)) c.as_slice-3.ensures c.put_each_after.ensures)
+    c.put_each_after.ensures

@@ -5,7 +5,7 @@ use Rattle.nsc_nets.proofs.rows.words.Given as goal
 -- those that were gathered, and those from this place on
 abbrev pub invariant-loop-word : goal.invariant-loop-word
 invariant-loop-word l = record {
-  all : l.words.items ++ words_of (slice_range l.text l.from l.within.to) ≡ words_of (part l.text l.within);
+  all : l.words ++ words_of (slice_range l.text l.from l.within.to) ≡ words_of (part l.text l.within);
   inside : l.from ≤ l.within.to;
 }
 

@@ -3,5 +3,5 @@ use Rattle.std.specs.List.{flat_map}
 use Rattle.nsc_model.specs.Wire.{text_len}
 use Rattle.nsc_wire.proofs.texts.put_lengths.Given as goal
 
-abbrev pub invariant-loop-text : goal.invariant-loop-text
-invariant-loop-text l = l.out.items ≡ l.initial.out.items ++ flat_map text_len (take l.text-index l.texts)
+abbrev pub invariant-loop-at : goal.invariant-loop-at
+invariant-loop-at l = l.out.items ≡ l.initial.out.items ++ flat_map text_len (take l.at l.texts)
