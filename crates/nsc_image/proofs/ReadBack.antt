@@ -11,7 +11,8 @@ use Rattle.nsc_model.specs.Wire.{field, field_in}
 use Rattle.nsc_image.specs.Faults.{is_kind_of}
 use Rattle.nsc_model.specs.Image.{IsSaved, Saved, is_above, mark_of, saved_bytes, wide_field}
 use Rattle.nsc_image.specs.Reading.{kind_or_any, saved_at, saved_size, wide_field_in}
-use Rattle.nsc_image.proofs.KindNumbers.{kind_again, kind_is, is_kind}
+use Rattle.nsc_model.proofs.KindNumbers.{kind_again, type_low}
+use Rattle.nsc_image.proofs.KindNumbers.{kind_is, is_kind}
 use Rattle.nsc_image.proofs.Checks.{IsSound}
 use Rattle.nsc_image.proofs.Fields.{IsBytes, field_at, piece_at, then, wide_at, wide_lt}
 
@@ -82,18 +83,7 @@ taken db last bytes fits s =
 -- ---- read back
 
 type_lt : (k : Kind) → type_number k < 2 ^ 32
-type_lt kind.PwName = omega arith
-type_lt kind.PwUid = omega arith
-type_lt kind.GrName = omega arith
-type_lt kind.GrGid = omega arith
-type_lt kind.HostName = omega arith
-type_lt kind.HostName6 = omega arith
-type_lt kind.HostAddr = omega arith
-type_lt kind.HostAddr6 = omega arith
-type_lt kind.Ai = omega arith
-type_lt kind.InitGroups = omega arith
-type_lt kind.ServName = omega arith
-type_lt kind.ServPort = omega arith
+type_lt k = let low = type_low k in omega arith
 
 mark_lt : (b : Bool) → mark_of b < 2 ^ 32
 mark_lt true = omega arith

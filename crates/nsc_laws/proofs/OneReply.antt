@@ -6,7 +6,9 @@ use Rattle.nsc_model.specs.declared.row.Row.TheVariants.{Passwd, Group, Host, Se
 use Rattle.nsc_model.specs.declared.row.Reply.{Reply}
 use Rattle.nsc_model.specs.declared.row.Reply.TheVariants.{Found, Absent, Disabled}
 use Rattle.nsc_model.specs.Answer.{reply_limit}
-use Rattle.nsc_model.specs.Wire.{IsReplyOf, IsRow, Shape, Spells, UserShape, field_in, lacking, minus_one, row_found, row_shape, shape_of, spelled}
+use Rattle.nsc_model.specs.declared.kind.Shape.{Shape}
+use Rattle.nsc_model.specs.declared.kind.Shape.TheVariants as shape
+use Rattle.nsc_model.specs.Wire.{IsReplyOf, IsRow, Spells, field_in, lacking, minus_one, row_found, row_shape, shape_of, spelled}
 use Rattle.nsc_laws.proofs.Spellings.{same_user}
 use Rattle.nsc_laws.proofs.GroupSpellings.{same_group, same_ids}
 use Rattle.nsc_laws.proofs.HostSpellings.{same_host, same_addresses}
@@ -30,11 +32,11 @@ row_says (Passwd p) = refl
 row_says _ = refl
 
 absent_says : (shape : Shape) → found_in (lacking shape 0 1) ≡ 0
-absent_says UserShape = refl
+absent_says shape.User = refl
 absent_says _ = refl
 
 disabled_says : (shape : Shape) → found_in (lacking shape minus_one minus_one) ≡ minus_one
-disabled_says UserShape = refl
+disabled_says shape.User = refl
 disabled_says _ = refl
 
 -- two replies that say different numbers there are different

@@ -5,7 +5,9 @@ use Rattle.nsc_model.specs.declared.row.Looked.{Looked}
 use Rattle.nsc_model.specs.declared.row.Looked.TheVariants.{Unavail}
 use Rattle.nsc_model.specs.Answer.{reply_limit}
 use Rattle.nsc_model.specs.Outcomes.{reply_to}
-use Rattle.nsc_model.specs.Wire.{IsReplyOf, Shape, UserShape, lacking, shape_of, spelled}
+use Rattle.nsc_model.specs.declared.kind.Shape.{Shape}
+use Rattle.nsc_model.specs.declared.kind.Shape.TheVariants as shape
+use Rattle.nsc_model.specs.Wire.{IsReplyOf, lacking, shape_of, spelled}
 
 abbrev pub IsSent : ℕ → Kind → Looked → Type 0
 IsSent limit kind looked = IsReplyOf kind (reply_to looked) × (length (spelled kind (reply_to looked)) ≤ limit)
@@ -19,7 +21,7 @@ any_sent kind looked sent = (sent.0, omega (arith, sent.1))
 
 -- so is the reply that there is none
 none_short : (shape : Shape) → length (lacking shape 0 1) ≤ entry_limit
-none_short UserShape = search rules
+none_short shape.User = search rules
 none_short _ = search rules
 
 pub none_sent : (kind : Kind) → IsSent entry_limit kind Unavail

@@ -6,3 +6,5 @@ pub mod Passed
 pub mod Beginnings
 pub mod Crossing
 pub mod Sayings
+pub mod KindNumbers
+pub mod LastSlash

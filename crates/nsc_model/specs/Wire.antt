@@ -4,6 +4,8 @@ use Rattle.std.specs.List.{before_first}
 use Rattle.byteorder.specs.Endian.{little_number, little_bytes, twos_complement}
 use Rattle.nsc_model.specs.declared.kind.Kind.{Kind}
 use Rattle.nsc_model.specs.declared.kind.Kind.TheVariants as kind
+use Rattle.nsc_model.specs.declared.kind.Shape.{Shape}
+use Rattle.nsc_model.specs.declared.kind.Shape.TheVariants as shape
 use Rattle.nsc_model.specs.declared.answer.Request.{Request}
 use Rattle.nsc_model.specs.declared.row.Passwd.{Passwd}
 use Rattle.nsc_model.specs.declared.row.Group.{Group}
@@ -97,38 +99,29 @@ text_len bytes = field (length bytes + 1)
 abbrev pub IsText : List ℕ → Type 0
 IsText bytes = All (λ b. b ≢ 0) bytes
 
--- the shapes that replies have
-pub data Shape : Type 0 where
-  UserShape : Shape
-  GroupShape : Shape
-  IdsShape : Shape
-  HostShape : Shape
-  AddressesShape : Shape
-  ServiceShape : Shape
-
 -- the shape of the replies of a kind
 abbrev pub shape_of : Kind → Shape
-shape_of kind.PwName = UserShape
-shape_of kind.PwUid = UserShape
-shape_of kind.GrName = GroupShape
-shape_of kind.GrGid = GroupShape
-shape_of kind.HostName = HostShape
-shape_of kind.HostName6 = HostShape
-shape_of kind.HostAddr = HostShape
-shape_of kind.HostAddr6 = HostShape
-shape_of kind.Ai = AddressesShape
-shape_of kind.InitGroups = IdsShape
-shape_of kind.ServName = ServiceShape
-shape_of kind.ServPort = ServiceShape
+shape_of kind.PwName = shape.User
+shape_of kind.PwUid = shape.User
+shape_of kind.GrName = shape.Group
+shape_of kind.GrGid = shape.Group
+shape_of kind.HostName = shape.Host
+shape_of kind.HostName6 = shape.Host
+shape_of kind.HostAddr = shape.Host
+shape_of kind.HostAddr6 = shape.Host
+shape_of kind.Ai = shape.Addresses
+shape_of kind.InitGroups = shape.Ids
+shape_of kind.ServName = shape.Service
+shape_of kind.ServPort = shape.Service
 
 -- the shape of the reply that has a row
 abbrev pub row_shape : Row → Shape
-row_shape (row.Passwd p) = UserShape
-row_shape (row.Group g) = GroupShape
-row_shape (row.Host h) = HostShape
-row_shape (row.Service s) = ServiceShape
-row_shape (row.Ai a) = AddressesShape
-row_shape (row.Groups ids) = IdsShape
+row_shape (row.Passwd p) = shape.User
+row_shape (row.Group g) = shape.Group
+row_shape (row.Host h) = shape.Host
+row_shape (row.Service s) = shape.Service
+row_shape (row.Ai a) = shape.Addresses
+row_shape (row.Groups ids) = shape.Ids
 
 -- ---- the bytes of rows
 
@@ -182,12 +175,12 @@ row_found (row.Groups ids) = ids_found ids
 -- the fields of a shape without a row, by their fields found and error: an id, a port, an address type and an address length
 -- are -1, a length and a count 0
 abbrev pub lacking : Shape → ℕ → ℕ → List ℕ
-lacking UserShape found error = field 2 ++ field found ++ field 0 ++ field 0 ++ field minus_one ++ field minus_one ++ field 0 ++ field 0 ++ field 0
-lacking GroupShape found error = field 2 ++ field found ++ field 0 ++ field 0 ++ field minus_one ++ field 0
-lacking IdsShape found error = field 2 ++ field found ++ field 0
-lacking HostShape found error = field 2 ++ field found ++ field 0 ++ field 0 ++ field minus_one ++ field minus_one ++ field 0 ++ field error
-lacking AddressesShape found error = field 2 ++ field found ++ field 0 ++ field 0 ++ field 0 ++ field error
-lacking ServiceShape found error = field 2 ++ field found ++ field 0 ++ field 0 ++ field 0 ++ field minus_one
+lacking shape.User found error = field 2 ++ field found ++ field 0 ++ field 0 ++ field minus_one ++ field minus_one ++ field 0 ++ field 0 ++ field 0
+lacking shape.Group found error = field 2 ++ field found ++ field 0 ++ field 0 ++ field minus_one ++ field 0
+lacking shape.Ids found error = field 2 ++ field found ++ field 0
+lacking shape.Host found error = field 2 ++ field found ++ field 0 ++ field 0 ++ field minus_one ++ field minus_one ++ field 0 ++ field error
+lacking shape.Addresses found error = field 2 ++ field found ++ field 0 ++ field 0 ++ field 0 ++ field error
+lacking shape.Service found error = field 2 ++ field found ++ field 0 ++ field 0 ++ field 0 ++ field minus_one
 
 -- the bytes of a reply of a kind: where there is no entry, found is 0 and the error 1; where the database is not cached, both are -1
 abbrev pub spelled : Kind → Reply → List ℕ

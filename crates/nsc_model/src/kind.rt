@@ -1,6 +1,7 @@
 ghost use Rattle.std.specs.Prelude.{◌≡◌};
 ghost use Rattle.nsc_model.specs.Files.{is_read};
 ghost use Rattle.nsc_model.specs.Kinds.{database_of, db_named, db_numbered, name_of, file_numbered, file_number, kind_numbered, type_number};
+ghost use Rattle.nsc_model.specs.Wire.{shape_of};
 
 /// A database of the name service: each has its own files, cache and settings.
 #[derive(Clone, Copy, Debug, PartialEq, Eq)]
@@ -43,6 +44,23 @@ pub enum Kind {
     ServName = 16,
     /// GETSERVBYPORT: a service by port and protocol.
     ServPort = 17,
+}
+
+/// The layouts that replies with an entry have, protocol version 2.
+#[derive(Clone, Copy, Debug, PartialEq, Eq)]
+pub enum Shape {
+    /// A user.
+    User,
+    /// A group.
+    Group,
+    /// The ids of a user's groups.
+    Ids,
+    /// A host with one address.
+    Host,
+    /// The addresses of a host.
+    Addresses,
+    /// A service.
+    Service,
 }
 
 /// A source file of the name service, with its number in replay frames.
@@ -142,6 +160,20 @@ impl Kind {
             16 => Some(Kind::ServName),
             17 => Some(Kind::ServPort),
             _ => None,
+        }
+    }
+
+    /// The layout of the replies that have an entry.
+    pub fn shape(self) -> Shape
+        ensures { result ≡ shape_of self }
+    {
+        match self {
+            Kind::PwName | Kind::PwUid => Shape::User,
+            Kind::GrName | Kind::GrGid => Shape::Group,
+            Kind::InitGroups => Shape::Ids,
+            Kind::HostName | Kind::HostName6 | Kind::HostAddr | Kind::HostAddr6 => Shape::Host,
+            Kind::Ai => Shape::Addresses,
+            Kind::ServName | Kind::ServPort => Shape::Service,
         }
     }
 

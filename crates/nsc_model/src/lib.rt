@@ -15,6 +15,7 @@ mod in_place;
 mod kind;
 mod record;
 mod row;
+mod service_key;
 mod store;
 mod switch;
 
@@ -27,8 +28,9 @@ pub use databases::Databases;
 pub use exit::{ConfFault, Exit};
 pub use fault::CacheFault;
 pub use in_place::InPlace;
-pub use kind::{Db, FileId, Kind};
+pub use kind::{Db, FileId, Kind, Shape};
 pub use record::{Ending, Entry, Record};
 pub use row::{Ai, Found6, Founds, Group, Host, Looked, Passwd, Reply, Row, Service};
+pub use service_key::{key_parts, key_port};
 pub use store::{Given, LookupFault, Spent, Stats, Store, Why};
 pub use switch::{DbName, SwitchAction, SwitchService, SwitchStep};

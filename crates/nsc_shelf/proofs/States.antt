@@ -19,11 +19,11 @@ use Rattle.nsc_arena.proofs.Rows.{same_place}
 use Rattle.nsc_arena.proofs.Walks.{both}
 use Rattle.nsc_model.specs.declared.answer.Request.{Request}
 use Rattle.nsc_model.specs.declared.kind.Kind.{Kind}
-use Rattle.nsc_model.specs.declared.kind.Kind.TheVariants.{PwName, PwUid, GrName, GrGid, HostName, HostName6, HostAddr, HostAddr6, Ai, InitGroups, ServName, ServPort}
 use Rattle.nsc_model.specs.Kinds.{is_request, type_number}
 use Rattle.nsc_model.specs.Machine.{Kept, last_count, live_entry, used_by, used_now}
+use Rattle.nsc_model.proofs.KindNumbers.{kind_again}
 use Rattle.nsc_shelf.specs.declared.finding.Mark.{Mark}
-use Rattle.nsc_rule.specs.Entries.{entries_in, kept_in, kind_of, request_in}
+use Rattle.nsc_rule.specs.Entries.{entries_in, kept_in, kind_of, kind_or, request_in}
 use Rattle.nsc_shelf.specs.Shelf.{AreEntries, IsShelf, Shelf, is_numbered, others_than, shelf_of}
 use Rattle.nsc_shelf.specs.Uses.{uses_at}
 use Rattle.nsc_shelf.proofs.Entries.{find_none, find_one, left, mapped, none_found, one_less}
@@ -253,18 +253,7 @@ reused old new layout count mark kind key n at is laid head among place asks =
 -- ---- a new entry
 
 pub kind_back : (kind : Kind) → kind_of (type_number kind) ≡ kind
-kind_back PwName = refl
-kind_back PwUid = refl
-kind_back GrName = refl
-kind_back GrGid = refl
-kind_back HostName = refl
-kind_back HostName6 = refl
-kind_back HostAddr = refl
-kind_back HostAddr6 = refl
-kind_back Ai = refl
-kind_back InitGroups = refl
-kind_back ServName = refl
-kind_back ServPort = refl
+kind_back kind = ap kind_or (kind_again kind)
 
 pub new_entries : (nodes : List Placed) (p : Placed) (inserted : ℕ) (kind : Kind) → AreEntries nodes inserted → p.node.kind ≡ type_number kind → p.node.number ≡ inserted → live_entry (request_in p) (entries_in nodes) ≡ None → AreEntries (p ∷ nodes) (inserted + 1)
 new_entries nodes p inserted kind are is number none =
