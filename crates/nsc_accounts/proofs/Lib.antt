@@ -7,3 +7,5 @@ pub mod Collected
 pub mod Gathered
 pub mod NamedGroups
 pub mod Given
+pub mod SignLines
+pub mod Mattering

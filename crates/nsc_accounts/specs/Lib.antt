@@ -3,3 +3,4 @@ pub mod Passwd
 pub mod Group
 pub mod Once
 pub mod NamedId
+pub mod Matters

@@ -29,7 +29,7 @@ pub fn groups_of(alloc: Global, text: &[u8], user: &[u8]) -> Result<Ids, NoMemor
 }
 
 // The id of the group of a line that has the form and has the user as a member.
-fn gid_of_member(text: &[u8], line: Span, user: &[u8]) -> Option<u32>
+pub(crate) fn gid_of_member(text: &[u8], line: Span, user: &[u8]) -> Option<u32>
     requires { line.to ≤ length text.now }
     ensures { result ≡ option_map (λ g. g.gid) (if_named (is_member user.now) (group_of_line (part text.now line))) }
 {

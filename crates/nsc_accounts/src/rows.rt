@@ -44,14 +44,14 @@ fn members(alloc: Global, text: &[u8], within: Span) -> Result<Texts, NoMemory>
     requires { within.to ≤ length text.now }
     ensures { IfOk result (λ members. members ≡ members_of (part text.now within)) }
 {
-    let mut members = Vec::new(alloc);
+    let mut members = Texts::with_room(alloc, within.of(text).len() + 1)?;
     let mut from = within.from();
     while let Some(piece) = field_at(text, within, from, b',') {
         let member = piece.span.of(text);
         if !member.is_empty() {
-            members.push(Bytes::copy(alloc, member)?)?;
+            members.push(member)?;
         }
         from = piece.next;
     }
-    Ok(Texts::from_vec(members))
+    Ok(members)
 }

@@ -53,6 +53,7 @@ impl Listed {
         ensures outcome { IfOk result (λ looked. looked ≡ looked_up self.now (record { kind = kind; key = key.now })) }
         ensures fits { FilesFit self.now }
     {
-        switch_by(alloc, &self.content, &self.lists, kind, key)
+        let content: &Content = &self.content;
+        switch_by(alloc, content, &self.lists, kind, key)
     }
 }

@@ -1,17 +1,13 @@
 -- What compat answers, by the kind of the request.
-use Rattle.std.proofs.Common.{◌≡◌, ℕ, List, Bor, IfSome, Option, sym, ◌∙◌, ap}
-use Rattle.nsc_base.specs.declared.span.Span.{Span}
+use Rattle.std.proofs.Common.{◌≡◌, ℕ, List, Option, sym, ◌∙◌, ap}
 use Rattle.nsc_base.specs.Decimal.{decimal_of}
 use Rattle.nsc_model.specs.declared.kind.Kind.{Kind}
 use Rattle.nsc_model.specs.declared.kind.Kind.TheVariants as kind
 use Rattle.nsc_model.specs.declared.row.Passwd.{Passwd}
 use Rattle.nsc_model.specs.declared.row.Group.{Group}
-use Rattle.nsc_model.specs.Answers.{compat_answer, compat_by, gathered_file, group_named, group_numbered, group_scan, id_scan, is_id, own_file, user_named, user_numbered, user_scan}
+use Rattle.nsc_model.specs.Answers.{compat_answer, compat_by, gathered_file, group_named, group_numbered, group_scan, id_scan, is_id, user_named, user_numbered, user_scan}
 use Rattle.nsc_model.specs.Compat.{scanned_file}
 use Rattle.nsc_model.specs.Content.{Content}
-use Rattle.nsc_model.specs.Kinds.{database_of}
-use Rattle.nsc_model.specs.Switches.{text_of}
-use Rattle.nsc_compat.specs.Matters.{AreLines, matters_to}
 
 pub user_by_name : (files : Content) (by : Kind) (key : List ℕ) → by ≡ kind.PwName → scanned_file (user_scan files by key (user_named key)) files.passwd ≡ compat_answer files (record { kind = by; key = key })
 unfolding compat_answer
@@ -36,7 +32,3 @@ group_by_id files by key id is number =
 pub ids_of_user : (files : Content) (by : Kind) (user : List ℕ) → by ≡ kind.InitGroups → gathered_file (id_scan files user) files.group ≡ compat_answer files (record { kind = by; key = user })
 unfolding compat_answer
 ids_of_user files by user is = sym (ap (λ k. compat_by k files user) is)
-
--- what is known of lines that matter to a request, where some are known
-abbrev pub Known : Content → List ℕ → Option (Bor (List Span)) → Kind → Type 0
-Known files key lines by = IfSome lines (λ ls. AreLines (text_of (own_file (database_of by) files)) (matters_to by key) ls.now)

@@ -1,5 +1,5 @@
 -- Lines that do not matter to a request change nothing.
-use Rattle.std.proofs.Common.{◌≡◌, ℕ, Bool, true, false, not, cond, ◌&&◌, ◌||◌, if◌then◌else◌, List, [], ◌∷◌, ◌++◌, filter, flat_map, Bor, IfSome, Option, Some, None, refl, sym, ◌∙◌, ap}
+use Rattle.std.proofs.Common.{◌≡◌, ℕ, Bool, true, false, not, cond, ◌&&◌, ◌||◌, if◌then◌else◌, List, [], ◌∷◌, ◌++◌, filter, flat_map, Bor, IfSome, Option, Some, None, refl, sym, ◌∙◌, ap, subst}
 use Rattle.std.specs.Option.{is_some}
 use Rattle.std.specs.Str.{bytes_eq}
 use Rattle.std.proofs.lemmas.Bool.{false_from_ne_true}
@@ -7,18 +7,17 @@ use Rattle.std.proofs.lemmas.Slice.Eq.{bytes_eq-Decides}
 use Rattle.nsc_base.specs.Text.{fields_of, is_filled, trimmed}
 use Rattle.nsc_model.specs.declared.kind.Kind.{Kind}
 use Rattle.nsc_model.specs.declared.row.Group.{Group}
+use Rattle.nsc_model.specs.declared.row.Looked.{Looked}
 use Rattle.nsc_model.specs.Answers.{sub_looked}
-use Rattle.nsc_model.specs.Compat.{IdScan, Saying, Scan, before_ids, gather_saying, gathered, id_of_group, is_excluded, sayings, scan_saying, scanned}
+use Rattle.nsc_model.specs.Compat.{IdScan, Saying, Scan, answers_or, before_ids, gather_saying, gathered, id_of_group, is_excluded, sayings, scan_saying, scanned}
 use Rattle.nsc_model.specs.Content.{Content}
 use Rattle.nsc_model.specs.Entries.{if_named}
 use Rattle.nsc_model.proofs.Sayings.{line_case}
 use Rattle.nsc_compat.specs.declared.asking.Naming.{Naming}
 use Rattle.nsc_compat.specs.declared.asking.Naming.TheVariants.{Name, Id}
 use Rattle.nsc_compat.specs.Accounts.{Accounts, IsAskedBy, is_wanted, scan_of, wanted_names}
-use Rattle.nsc_compat.specs.Matters.{matters, sign_name, speaks_on}
-use Rattle.nsc_compat.proofs.Asked.{asked_named}
+use Rattle.nsc_accounts.specs.Matters.{matters, sign_name, speaks_on}
 use Rattle.nsc_compat.proofs.Scans.{AnswersAmong, scanned_among}
-use Rattle.nsc_compat.proofs.Silent.{unnamed}
 
 same_functions : {A B : Type 0} (f g : A → B) → ((x : A) → f x ≡ g x) → f ≡ g
 same_functions f g each = λ i x. each x i
@@ -41,6 +40,22 @@ filtered_step comes test x xs passed kept rest =
     ] refl
 
 -- ---- a request for one entry
+
+-- what is not named does not answer
+unnamed : {A : Type 0} (scan : Scan A) (excluded : List (List ℕ)) (o : Option A) (replaced : A → A) (next : Looked) → if_named scan.names o ≡ None → answers_or scan scan.names excluded o replaced next ≡ next
+unnamed scan excluded None replaced next none = refl
+unnamed scan excluded (Some a) replaced next none =
+    elim (scan.names a) as (λ v. (if v then Some a else None) ≡ None → (if v && not (is_excluded excluded (scan.name_of a)) then scan.found (replaced a) else next) ≡ next) [
+      | true ↦ λ is. cc
+      | false ↦ λ is. refl
+    ] none
+
+module _ {A : Type 0} (accounts : Accounts A) (files : Content) (gives : (name : List ℕ) → IfSome (accounts.entry_in (sub_looked files accounts.database accounts.by_name name)) (λ a. accounts.name_of a ≡ name)) where
+  -- what further services have for the request itself
+  asked_named : (by : Kind) (key name : List ℕ) → by ≡ accounts.by_name → name ≡ key → IfSome (accounts.entry_in (sub_looked files accounts.database by key)) (λ a. accounts.name_of a ≡ name)
+  asked_named by key name is same =
+      subst (λ k. IfSome (accounts.entry_in (sub_looked files accounts.database k key)) (λ a. accounts.name_of a ≡ name)) (sym is)
+      (subst (λ n. IfSome (accounts.entry_in (sub_looked files accounts.database accounts.by_name key)) (λ a. accounts.name_of a ≡ n)) (sym same) (gives key))
 
 module _ {A : Type 0} (scan : Scan A) (these : List ℕ → Bool) (among : AnswersAmong (λ name. these name ≡ true) scan) (others : (name : List ℕ) → these name ≡ false → if_named scan.names (scan.by_name name) ≡ None) where
   other_name : (name q : List ℕ) → these name ≡ false → these q ≡ true → bytes_eq name q ≡ false

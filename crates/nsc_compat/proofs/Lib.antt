@@ -3,8 +3,5 @@ pub mod Sayings
 pub mod Scans
 pub mod ByKind
 pub mod Ids
-pub mod Passed
-pub mod Silent
-pub mod Asked
 pub mod Walked
 pub mod Filtered

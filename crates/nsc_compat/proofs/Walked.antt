@@ -5,7 +5,7 @@ use Rattle.nsc_base.specs.declared.span.Span.{Span}
 use Rattle.nsc_base.specs.Text.{lines_of, part}
 use Rattle.nsc_model.specs.declared.row.Looked.{Looked}
 use Rattle.nsc_model.specs.Switches.{text_of}
-use Rattle.nsc_compat.specs.Matters.{AreLines}
+use Rattle.nsc_accounts.specs.Matters.{AreLines}
 
 -- the line that is next stands before those after it
 pub line_next : (comes : List (List ℕ) → Looked) (text : List ℕ) (lines : List Span) (n : ℕ) (line : Span) → n < length lines → line ≡ get_or lines n line → comes (part text line ∷ map (part text) (drop (n + 1) lines)) ≡ comes (map (part text) (drop n lines))

@@ -69,11 +69,6 @@ names_entry (Id wanted) name id = is_id wanted id
 abbrev pub is_wanted : {A : Type 0} → Accounts A → Naming → A → Bool
 is_wanted accounts wanted a = names_entry wanted (accounts.name_of a) (accounts.id_of a)
 
--- the name of the entry that is wanted, where it is wanted by its name
-abbrev pub wanted_name : Naming → Option (List ℕ)
-wanted_name (Name key) = Some key.now
-wanted_name (Id wanted) = None
-
 -- the names that an entry has that is wanted: any, where it is not wanted by its name
 abbrev pub wanted_names : Naming → List ℕ → Bool
 wanted_names (Name key) name = bytes_eq name key.now

@@ -1,12 +1,8 @@
-ghost use Rattle.std.specs.Prelude.{◌≡◌, ◌≤◌, ℕ, List, None, true, IfOk, IfSome, length};
-ghost use Rattle.std.specs.Str.{bytes_eq};
-ghost use Rattle.nsc_base.specs.declared.search.Case.{Case};
-ghost use Rattle.nsc_base.specs.Found.{Lacks};
+ghost use Rattle.std.specs.Prelude.{◌≡◌, ◌≤◌, ℕ, List, true, IfOk, IfSome, length};
 ghost use Rattle.nsc_base.specs.Text.{fields_of, part};
 ghost use Rattle.nsc_model.specs.Answers.{sub_looked};
 ghost use Rattle.nsc_model.specs.Compat.{has_compat};
 ghost use Rattle.nsc_model.specs.Content.{Content as Files};
-ghost use Rattle.nsc_model.specs.Entries.{if_named};
 ghost use Rattle.nsc_model.specs.Kinds.{database_of};
 ghost use Rattle.nsc_compat.specs.Accounts.{Accounts, is_wanted, outcome_by};
 
@@ -66,9 +62,6 @@ pub trait Account: Sized + Drop {
 
     /// Its entries are asked for by their names in it.
     ghost asks: { database_of accounts.by_name ≡ accounts.database };
-
-    /// A line in which a name stands nowhere has no entry of that name.
-    ghost lacks: { (line name : List ℕ) → Lacks Case.Counts name line → if_named (λ a. bytes_eq (accounts.name_of a) name) (accounts.entry_of line) ≡ None };
 
     /// The entry that further services have for a name has that name.
     ghost gives: { (files : Files) (name : List ℕ) → IfSome (accounts.entry_in (sub_looked files accounts.database accounts.by_name name)) (λ a. accounts.name_of a ≡ name) };

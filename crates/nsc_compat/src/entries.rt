@@ -1,17 +1,16 @@
-ghost use Rattle.std.specs.Prelude.{◌≡◌, ◌≤◌, ◌∷◌, ℕ, List, [], IfOk, IfSome, length, true};
+ghost use Rattle.std.specs.Prelude.{◌≡◌, ◌≤◌, ◌∷◌, ℕ, List, [], IfOk, length, true};
 ghost use Rattle.nsc_base.specs.Text.{fields_of, part};
 ghost use Rattle.nsc_model.specs.Compat.{scanned, scanned_file};
 ghost use Rattle.nsc_model.specs.Files.{file_of};
 ghost use Rattle.nsc_model.specs.Kinds.{database_of};
 ghost use Rattle.nsc_model.specs.Switches.{text_of};
-ghost use Rattle.nsc_compat.specs.Accounts.{IsAskedBy, is_wanted, outcome_by, scan_of, wanted_name, wanted_names};
-ghost use Rattle.nsc_compat.specs.Matters.{AreLines, matters};
+ghost use Rattle.nsc_compat.specs.Accounts.{IsAskedBy, is_wanted, outcome_by, scan_of, wanted_names};
+ghost use Rattle.nsc_accounts.specs.Matters.{AreLines, matters};
 
 use crate::account::Account;
 use crate::asking::{Asking, Naming, names_entry};
 use crate::excluded::Excluded;
-use crate::lines::{LineScan, scan_lines, scan_on};
-use crate::reading::Lines;
+use crate::lines::{LineScan, scan_lines};
 use crate::said::{LineSays, line_says};
 use crate::sub::SubLookup;
 use nsc_base::{NoMemory, Span};
@@ -20,17 +19,17 @@ use std::alloc::Global;
 use std::marker::PhantomData;
 
 /// The outcome of compat for a request for one entry: the lines of the database's file in turn, with the names that are
-/// excluded so far, up to the first one that answers; of these lines, where they are known that matter to the request, and else of
-/// all. Unavailable where the file is absent. Fails only for want of memory.
+/// excluded so far, up to the first one that answers, of those that matter to the request. Unavailable where the file is absent.
+/// Fails only for want of memory.
 pub fn entry<E: Account, S: SubLookup>(
     alloc: Global,
     asking: Asking,
     sub: &S,
-    lines: Option<&[Span]>,
+    lines: &[Span],
 ) -> Result<Looked, NoMemory>
     requires database { database_of asking.kind ≡ E.accounts.database }
     requires name { IsAskedBy E.accounts asking.kind asking.key.now asking.wanted }
-    requires lines { IfSome lines (λ lines. AreLines (text_of (file_of (S.content sub.now) E.accounts.file)) (matters E.accounts.entry_of (is_wanted E.accounts asking.wanted) (wanted_names asking.wanted)) lines.now) }
+    requires lines { AreLines (text_of (file_of (S.content sub.now) E.accounts.file)) (matters E.accounts.entry_of (is_wanted E.accounts asking.wanted) (wanted_names asking.wanted)) lines.now }
     ensures { IfOk result (λ looked. looked ≡ scanned_file (scan_of E.accounts (S.content sub.now) asking.entry) (file_of (S.content sub.now) E.accounts.file)) }
 {
     let Some(text) = sub.content().file(E::file()) else {
@@ -41,21 +40,7 @@ pub fn entry<E: Account, S: SubLookup>(
         asking,
         of: PhantomData,
     };
-    let excluded = Excluded::new(alloc);
-    match lines {
-        Some(lines) => scan_on(alloc, &scan, excluded, text, lines),
-        None => scan_lines(alloc, &scan, excluded, lines_on(&asking.wanted, text)),
-    }
-}
-
-// The lines of a file that may say something of what a request names.
-fn lines_on<'t, 'k>(wanted: &Naming<'k>, text: &'t [u8]) -> Lines<'t, 'k>
-    ensures { result ≡ record { text = text.now; from = 0; name = wanted_name wanted.now } }
-{
-    match wanted {
-        Naming::Name(name) => Lines::on_name(text, *name),
-        Naming::Id(_) => Lines::every(text),
-    }
+    scan_lines(alloc, &scan, Excluded::new(alloc), text, lines)
 }
 
 // A scan for one entry: who is asked, and what is asked. It has seen the names that are excluded so far.

@@ -4,7 +4,7 @@ ghost use Rattle.nsc_base.specs.Text.{part};
 ghost use Rattle.nsc_model.specs.Entries.{if_named};
 ghost use Rattle.nsc_model.specs.Groups.{group_of_line};
 ghost use Rattle.nsc_accounts.specs.Group.{GroupLiesIn, group_at};
-ghost use Rattle.nsc_accounts.proofs.Given.{group_gives, group_lacks};
+ghost use Rattle.nsc_accounts.proofs.Given.{group_gives};
 ghost use Rattle.nsc_compat.specs.Accounts.{group_accounts, is_wanted};
 
 use crate::account::Account;
@@ -21,8 +21,6 @@ impl Account for Group {
     ghost has = { refl };
 
     ghost asks = { refl };
-
-    ghost lacks = { group_lacks };
 
     ghost gives = { group_gives };
 

@@ -9,12 +9,9 @@ mod groups;
 mod lines;
 mod lookup;
 mod member_ids;
-mod reading;
 mod said;
-mod signs;
 mod sub;
 mod users;
 
-pub use lookup::{compat_lookup, compat_lookup_on};
-pub use signs::sign_line;
+pub use lookup::compat_lookup;
 pub use sub::SubLookup;

@@ -1,11 +1,9 @@
-ghost use Rattle.std.specs.Prelude.{◌≡◌, ◌≤◌, ◌++◌, ℕ, List, [], All, IfOk, flat_map, length, map};
+ghost use Rattle.std.specs.Prelude.{◌≡◌, ◌≤◌, ◌++◌, List, [], All, IfOk, flat_map, length, map};
 ghost use Rattle.nsc_base.specs.Text.{part};
 ghost use Rattle.nsc_model.specs.declared.row.Looked.{Looked};
 ghost use Rattle.nsc_model.specs.Compat.{Saying, sayings};
 ghost use Rattle.nsc_compat.specs.Lines.{looked_or};
-ghost use Rattle.nsc_compat.specs.Reading.{MayPass, lines_left};
 
-use crate::reading::Lines;
 use nsc_base::{NoMemory, Span};
 use nsc_model::Looked;
 use std::alloc::Global;
@@ -34,28 +32,9 @@ pub trait LineScan<'t> {
         ensures { result ≡ comes self.now seen [] };
 }
 
-/// The outcome of a scan over lines of a file: that of the first line that answers, and after it no line is looked at.
-/// Lines that need not be read change nothing, as the caller knows. Fails only for want of memory.
-pub fn scan_lines<'t, 'n, L: LineScan<'t>>(
-    alloc: Global,
-    scan: &L,
-    mut seen: L::Seen,
-    mut lines: Lines<'t, 'n>,
-) -> Result<Looked, NoMemory>
-    requires { (s : L.Seen) (line : List ℕ) (later : List Saying) → MayPass lines.name line → L.comes scan.now s (sayings line ++ later) ≡ L.comes scan.now s later }
-    ensures { IfOk result (λ looked. looked ≡ L.comes scan.now seen (flat_map sayings (lines_left lines.entry))) }
-{
-    while let Some(line) = lines.next_line() {
-        if let Some(outcome) = scan.take(alloc, lines.text(), line, &mut seen)? {
-            return Ok(outcome);
-        }
-    }
-    Ok(scan.end(seen))
-}
-
 /// The outcome of a scan over these lines of a file: that of the first one that answers, and after it no line is looked at.
 /// Fails only for want of memory.
-pub fn scan_on<'t, L: LineScan<'t>>(
+pub fn scan_lines<'t, L: LineScan<'t>>(
     alloc: Global,
     scan: &L,
     mut seen: L::Seen,

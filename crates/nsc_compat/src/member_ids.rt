@@ -1,4 +1,4 @@
-ghost use Rattle.std.specs.Prelude.{◌≡◌, ◌≤◌, ◌∷◌, ℕ, List, [], IfOk, IfSome, OnOk, length, map, true};
+ghost use Rattle.std.specs.Prelude.{◌≡◌, ◌≤◌, ◌∷◌, ℕ, List, [], IfOk, OnOk, length, map, true};
 ghost use Rattle.std.specs.Option.{option_map};
 ghost use Rattle.nsc_base.specs.Text.{part};
 ghost use Rattle.nsc_model.specs.Answers.{found_ids, gathered_file, group_in as group_found, id_scan};
@@ -8,30 +8,29 @@ ghost use Rattle.nsc_accounts.specs.Once.{all_ids};
 ghost use Rattle.nsc_compat.specs.Gathered.{member_id, unless_excluded};
 ghost use Rattle.nsc_model.specs.Switches.{text_of};
 ghost use Rattle.nsc_compat.specs.Lines.{ids_or_unavail};
-ghost use Rattle.nsc_compat.specs.Matters.{AreLines, matters};
+ghost use Rattle.nsc_accounts.specs.Matters.{AreLines, matters};
 ghost use Rattle.nsc_accounts.specs.NamedId.{pair_of};
 
 use crate::account::Account;
 use crate::excluded::Excluded;
-use crate::lines::{LineScan, scan_lines, scan_on};
-use crate::reading::Lines;
+use crate::lines::{LineScan, scan_lines};
 use crate::said::{LineSays, line_says};
 use crate::sub::SubLookup;
 use nsc_accounts::{NamedId, OnceIds, group_line, has_member};
-use nsc_base::{Ids, NoMemory, Span, equal};
+use nsc_base::{Ids, NoMemory, Span};
 use nsc_model::{FileId, Group, Kind, Looked, Row};
 use std::alloc::Global;
 
 /// The outcome of compat for the groups of a user: their ids in the order of the lines, each once, and not found where there
-/// is none; by the lines that matter to the request, where they are known, and else by all. Unavailable where the group file is
-/// absent, or a netgroup is reached. Fails only for want of memory.
+/// is none; by the lines that matter to the request. Unavailable where the group file is absent, or a netgroup is reached. Fails
+/// only for want of memory.
 pub fn ids_of_user<S: SubLookup>(
     alloc: Global,
     user: &[u8],
     sub: &S,
-    lines: Option<&[Span]>,
+    lines: &[Span],
 ) -> Result<Looked, NoMemory>
-    requires { IfSome lines (λ lines. AreLines (text_of (S.content sub.now).group) (matters group_of_line (is_member user.now) (λ name. true)) lines.now) }
+    requires { AreLines (text_of (S.content sub.now).group) (matters group_of_line (is_member user.now) (λ name. true)) lines.now }
     ensures { IfOk result (λ looked. looked ≡ gathered_file (id_scan (S.content sub.now) user.now) (S.content sub.now).group) }
 {
     let Some(text) = sub.content().file(FileId::Group) else {
@@ -42,10 +41,7 @@ pub fn ids_of_user<S: SubLookup>(
         ids: OnceIds::new(alloc),
     };
     let scan = MemberScan { sub, user };
-    match lines {
-        Some(lines) => scan_on(alloc, &scan, seen, text, lines),
-        None => scan_lines(alloc, &scan, seen, Lines::every(text)),
-    }
+    scan_lines(alloc, &scan, seen, text, lines)
 }
 
 // A scan for the groups of a user: who is asked, and the user's name.
@@ -165,11 +161,7 @@ fn add_id(name: &[u8], gid: u32, excluded: &Excluded, ids: &mut OnceIds) -> Resu
 fn is_member(group: &Group, user: &[u8]) -> bool
     ensures { result ≡ is_member user.now group.now }
 {
-    group
-        .members
-        .as_slice()
-        .iter()
-        .any(|member| equal(member.as_slice(), user))
+    group.members.contains(user)
 }
 
 // No id is not found.

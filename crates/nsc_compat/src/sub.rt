@@ -3,10 +3,13 @@ ghost use Rattle.nsc_model.specs.Content.{Content};
 ghost use Rattle.nsc_model.specs.Compat.{has_compat};
 ghost use Rattle.nsc_model.specs.Answers.{named_groups, sub_looked};
 ghost use Rattle.nsc_model.specs.Kinds.{database_of};
+ghost use Rattle.nsc_model.specs.Files.{file_of};
+ghost use Rattle.nsc_model.specs.Switches.{text_of};
+ghost use Rattle.nsc_accounts.specs.Matters.{AreLines, matters_for, sought_file};
 ghost use Rattle.nsc_accounts.specs.NamedId.{pair_of};
 
-use nsc_accounts::NamedId;
-use nsc_base::NoMemory;
+use nsc_accounts::{NamedId, Sought};
+use nsc_base::{NoMemory, Span};
 use nsc_model::{Content, Kind, Looked};
 use std::alloc::Global;
 
@@ -19,6 +22,11 @@ pub trait SubLookup {
     /// The content.
     fn content(&self) -> &Content
         ensures { result.now ≡ content self.now };
+
+    /// The lines that matter to compat for what is sought, of the file in which it is sought; of an absent file none. Fails only
+    /// for want of memory.
+    fn lines(&self, alloc: Global, sought: Sought) -> Result<Vec<Span>, NoMemory>
+        ensures { IfOk result (λ lines. AreLines (text_of (file_of (content self.now) (sought_file sought.entry))) (matters_for sought.entry) lines.items) };
 
     /// The outcome of these services for the request of this kind, which is one of passwd or group, and key. Fails only
     /// for want of memory.

@@ -6,7 +6,7 @@ ghost use Rattle.nsc_model.specs.Compat.{own_or, replaced_user};
 ghost use Rattle.nsc_model.specs.Entries.{if_named};
 ghost use Rattle.nsc_model.specs.Users.{user_of_line};
 ghost use Rattle.nsc_accounts.specs.Passwd.{UserLiesIn, user_at};
-ghost use Rattle.nsc_accounts.proofs.Given.{user_gives, user_lacks};
+ghost use Rattle.nsc_accounts.proofs.Given.{user_gives};
 ghost use Rattle.nsc_compat.specs.Accounts.{is_wanted, passwd_accounts};
 
 use crate::account::Account;
@@ -23,8 +23,6 @@ impl Account for Passwd {
     ghost has = { refl };
 
     ghost asks = { refl };
-
-    ghost lacks = { user_lacks };
 
     ghost gives = { user_gives };
 

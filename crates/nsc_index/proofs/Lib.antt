@@ -2,6 +2,7 @@ pub mod InOrder
 pub mod LineRows
 pub mod NameRows
 pub mod UserRows
+pub mod Sought
 pub mod GroupRows
 pub mod MemberRows
 pub mod OnceRows
@@ -9,7 +10,6 @@ pub mod NetRows
 pub mod Crossing
 pub mod PlaceRows
 pub mod SignRows
-pub mod CompatLines
 pub mod ChainRows
 pub mod LineFronts
 pub mod NumberedLines

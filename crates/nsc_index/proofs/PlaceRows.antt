@@ -13,7 +13,7 @@ use Rattle.nsc_base.specs.Text.{line_spans, part}
 use Rattle.nsc_base.proofs.LineStarts.{lines-between}
 use Rattle.nsc_base.proofs.Spans.{line_spans-parts}
 use Rattle.nsc_model.specs.Entries.{first_of}
-use Rattle.nsc_compat.specs.Matters.{AreLines}
+use Rattle.nsc_accounts.specs.Matters.{AreLines}
 use Rattle.nsc_index.specs.Signs.{Adds, has_place}
 use Rattle.nsc_index.proofs.LineRows.{AllBegin, all_begin}
 use Rattle.nsc_index.proofs.MemberRows.{parts_filtered}

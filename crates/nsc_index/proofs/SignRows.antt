@@ -17,7 +17,7 @@ use Rattle.nsc_base.specs.Text.{is_filled, line_spans, part}
 use Rattle.nsc_base.proofs.LineStarts.{lines-between}
 use Rattle.nsc_model.specs.Compat.{sayings}
 use Rattle.nsc_model.specs.Entries.{if_named}
-use Rattle.nsc_compat.specs.Matters.{sign_name, speaks_on}
+use Rattle.nsc_accounts.specs.Matters.{sign_name, speaks_on}
 use Rattle.nsc_index.specs.declared.names.NameAt.{NameAt}
 use Rattle.nsc_index.specs.Indexes.{rows_from}
 use Rattle.nsc_index.specs.Names.{has_name, name_in, name_key}

@@ -1,5 +1,6 @@
 -- The lines of a passwd file that are named, by its index.
-use Rattle.std.proofs.Common.{◌≡◌, ℕ, ◌==◌, Bool, List, [], filter, map, Option, option_and_then, refl, sym, ◌∙◌, ap}
+use Rattle.std.proofs.Common.{◌≡◌, ℕ, ◌==◌, Bool, true, false, cond, if◌then◌else◌, List, [], ◌∷◌, filter, map, Option, Some, None, option_and_then, refl, sym, ◌∙◌, ap}
+use Rattle.std.specs.List.{cons_option, filter_map}
 use Rattle.std.specs.Option.{is_some, option_map}
 use Rattle.std.specs.Str.{bytes_eq}
 use Rattle.std.proofs.lemmas.Slice.Eq.{bytes_eq-Decides}
@@ -36,6 +37,19 @@ module _ (text : List ℕ) (index : UserIndex) (is : IsUserIndex text index) whe
       named_among (user_places text) (λ at. at.uid == uid) text (λ line. raw_id (part text line)) uid
       (λ line ordered ends named. numbered_front (part text line) (user_places text line) (λ at. part text at.name) (λ at. at.uid) (λ at. at.uid == uid) uid (user_names text line ordered ends) (λ at same. (Decides-eqb at.uid uid).0 same) named)
       index.ids lines new is.ids lines_are new_is
+
+-- the first of the lines that are named is the first that is, of all that are tried
+pub first_tried : (gives : ℕ → Option PasswdAt) (names : PasswdAt → Bool) (places : List ℕ) → first_of (filter names (filter_map gives places)) ≡ option_and_then gives (first_of (filter (λ place. is_some (if_named names (gives place))) places))
+first_tried gives names [] = refl
+first_tried gives names (place ∷ places) =
+    let named = λ (p : ℕ). is_some (if_named names (gives p)) in
+    elim (gives place) as (λ o. gives place ≡ o → first_of (filter names (cons_option o (filter_map gives places))) ≡ option_and_then gives (first_of (cond (is_some (if_named names o)) (place ∷ filter named places) (filter named places)))) [
+      | None ↦ λ e. first_tried gives names places
+      | Some at ↦ λ e. elim (names at) as (λ v. first_of (cond v (at ∷ filter names (filter_map gives places)) (filter names (filter_map gives places))) ≡ option_and_then gives (first_of (cond (is_some (if v then Some at else None)) (place ∷ filter named places) (filter named places)))) [
+        | true ↦ sym e
+        | false ↦ first_tried gives names places
+      ]
+    ] refl
 
 module _ (text : List ℕ) (names : Passwd → Bool) (places : List ℕ) (are : places ≡ users_named text (λ at. names (user_at text at))) where
   -- the first of the lines that are named

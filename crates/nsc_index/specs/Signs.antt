@@ -9,7 +9,7 @@ use Rattle.nsc_base.specs.declared.search.Case.TheVariants.{Counts}
 use Rattle.nsc_base.specs.declared.span.Span.{Span}
 use Rattle.nsc_base.specs.Text.{line_spans, part}
 use Rattle.nsc_model.specs.Compat.{sayings}
-use Rattle.nsc_compat.specs.Matters.{sign_name}
+use Rattle.nsc_accounts.specs.Matters.{sign_name}
 use Rattle.nsc_index.specs.declared.names.NameAt.{NameAt}
 use Rattle.nsc_index.specs.Indexes.{rows_from}
 use Rattle.nsc_index.specs.Names.{name_in, name_key}

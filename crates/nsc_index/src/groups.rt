@@ -8,7 +8,7 @@ ghost use Rattle.nsc_model.specs.Groups.{group_of_line, has_member};
 ghost use Rattle.nsc_base.specs.Text.{part};
 ghost use Rattle.nsc_accounts.specs.NamedId.{pair_of};
 ghost use Rattle.nsc_accounts.specs.Group.{GroupLiesIn, group_at, group_places};
-ghost use Rattle.nsc_compat.specs.Matters.{AreLines, matters};
+ghost use Rattle.nsc_accounts.specs.Matters.{AreLines, matters};
 ghost use Rattle.nsc_index.specs.Groups.{members_at};
 ghost use Rattle.nsc_index.specs.Indexes.{on_line};
 ghost use Rattle.nsc_index.specs.Signs.{Adds};

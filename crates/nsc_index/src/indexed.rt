@@ -5,7 +5,6 @@ ghost use Rattle.nsc_model.specs.Files.{FilesFit};
 ghost use Rattle.nsc_index.specs.Indexed.{content_of};
 
 use crate::indexed_content::IndexedContent;
-use crate::lookup::look_up;
 use nsc_answer::{Listed, answer_with};
 use nsc_base::NoMemory;
 use nsc_model::{Answer, Answerer, Content, Kind, Looked};
@@ -28,7 +27,7 @@ impl ReadyContent {
     {
         match self {
             ReadyContent::Listed(listed) => listed.content(),
-            ReadyContent::Indexed(indexed) => indexed.content(),
+            ReadyContent::Indexed(indexed) => indexed.shared(),
         }
     }
 
@@ -40,7 +39,7 @@ impl ReadyContent {
     {
         match self {
             ReadyContent::Listed(listed) => listed.look(alloc, kind, key),
-            ReadyContent::Indexed(indexed) => look_up(alloc, indexed, kind, key),
+            ReadyContent::Indexed(indexed) => indexed.look(alloc, kind, key),
         }
     }
 }

@@ -3,7 +3,7 @@
 #![tactic(auto)]
 
 mod chains;
-mod compat;
+mod finder;
 mod fronts;
 mod groups;
 mod hosts;
@@ -11,11 +11,8 @@ mod indexed;
 mod indexed_content;
 mod lines;
 mod looks;
-mod lookup;
 mod names;
-mod net_outcomes;
 mod numbers;
-mod outcomes;
 mod places;
 mod services;
 mod signs;

@@ -5,7 +5,7 @@ ghost use Rattle.std.specs.List.{filter_map};
 ghost use Rattle.std.specs.List.Sorted.{IsStrictlyIncreasing};
 ghost use Rattle.nsc_base.specs.Text.{line_spans};
 ghost use Rattle.nsc_model.specs.Entries.{first_of};
-ghost use Rattle.nsc_compat.specs.Matters.{AreLines};
+ghost use Rattle.nsc_accounts.specs.Matters.{AreLines};
 ghost use Rattle.nsc_index.specs.Signs.{Adds, has_place};
 
 use crate::lines::line_on;

@@ -3,14 +3,14 @@
 ghost use Rattle.std.specs.Prelude.{◌≡◌, ◌≤◌, ◌<◌, ◌^◌, ◌++◌, IfOk, IsFalse, None, OnOk, length, map};
 ghost use Rattle.std.specs.Str.{bytes_eq};
 ghost use Rattle.nsc_model.specs.Compat.{sayings};
-ghost use Rattle.nsc_compat.specs.Matters.{sign_name, speaks_on};
+ghost use Rattle.nsc_accounts.specs.Matters.{sign_name, speaks_on};
 ghost use Rattle.nsc_index.specs.Indexes.{rows_from};
 ghost use Rattle.nsc_index.specs.Signs.{Adds, IsSignIndex, named_line, signs_of};
 
 use crate::names::{NameAt, places_of_name, sorted_names};
 use crate::places::add_named;
+use nsc_accounts::sign_line;
 use nsc_base::{Case, NoMemory, Span, trim_front};
-use nsc_compat::sign_line;
 
 /// Adds the name on which a line speaks, where it has a sign. Fails only for want of memory.
 #[inline]

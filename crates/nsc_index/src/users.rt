@@ -1,4 +1,5 @@
-ghost use Rattle.std.specs.Prelude.{◌≡◌, ◌==◌, ◌≤◌, IfOk, IfSome, filter, length, option_and_then, true};
+ghost use Rattle.std.specs.Prelude.{◌≡◌, ◌==◌, ◌≤◌, IfOk, IfSome, filter, length, true};
+ghost use Rattle.std.specs.List.{filter_map};
 ghost use Rattle.std.specs.Option.{is_some, option_map};
 ghost use Rattle.std.specs.Str.{bytes_eq};
 ghost use Rattle.nsc_model.specs.Users.{user_of_line};
@@ -7,7 +8,7 @@ ghost use Rattle.nsc_model.specs.Answers.{is_id, user_named as is_named};
 ghost use Rattle.nsc_model.specs.Entries.{first_named, first_of, if_named};
 ghost use Rattle.nsc_model.specs.Files.{file_limit};
 ghost use Rattle.nsc_accounts.specs.Passwd.{UserLiesIn, user_at, user_places};
-ghost use Rattle.nsc_compat.specs.Matters.{AreLines, matters};
+ghost use Rattle.nsc_accounts.specs.Matters.{AreLines, matters};
 ghost use Rattle.nsc_index.specs.Indexes.{on_line};
 ghost use Rattle.nsc_index.specs.Users.{users_named};
 
@@ -18,7 +19,7 @@ use crate::names::NameAt;
 use crate::numbers::text_number;
 use crate::places::{add_named, lines_at};
 use crate::signs::{add_sign, add_signs_on, sorted_signs};
-use nsc_accounts::{PasswdAt, passwd_line, user_named, user_numbered};
+use nsc_accounts::{PasswdAt, user_named, user_numbered};
 use nsc_base::{NoMemory, Span};
 use std::alloc::Global;
 
@@ -78,8 +79,8 @@ impl UserIndex {
         ensures entry { IfOk result (λ found. option_map (user_at text.now) found ≡ first_named user_of_line (λ p. bytes_eq p.name name.now) text.now) }
         ensures inside { IfOk result (λ found. IfSome found (UserLiesIn (record { from = 0; to = length text.now }))) }
     {
-        let places = self.places_of_name(alloc, text, name)?;
-        Ok(first_user(text, &places))
+        let lines = self.names.lines_of(alloc, text_number(name))?;
+        Ok(first_named(text, &lines, name))
     }
 
     /// The first line of this user id that has the form, as places in the file that this is the index of. `None` where there is
@@ -89,8 +90,8 @@ impl UserIndex {
         ensures entry { IfOk result (λ found. option_map (user_at text.now) found ≡ first_named user_of_line (λ p. p.uid == uid) text.now) }
         ensures inside { IfOk result (λ found. IfSome found (UserLiesIn (record { from = 0; to = length text.now }))) }
     {
-        let places = self.places_of_id(alloc, text, uid)?;
-        Ok(first_user(text, &places))
+        let lines = self.ids.lines_of(alloc, uid)?;
+        Ok(first_numbered(text, &lines, uid))
     }
 
     /// The lines that matter to compat for the entry of this name: those of the name, and those that speak by a sign on it or on
@@ -170,7 +171,7 @@ fn with_name(alloc: Global, text: &[u8], places: &[u32], name: &[u8]) -> Result<
     let named = places
         .iter()
         .copied()
-        .filter(|place| has_name(text, *place, name))
+        .filter(|place| named_on(text, *place, name).is_some())
         .collect(alloc)?;
     Ok(named)
 }
@@ -182,46 +183,49 @@ fn with_id(alloc: Global, text: &[u8], places: &[u32], uid: u32) -> Result<Vec<u
     let numbered = places
         .iter()
         .copied()
-        .filter(|place| has_id(text, *place, uid))
+        .filter(|place| numbered_on(text, *place, uid).is_some())
         .collect(alloc)?;
     Ok(numbered)
 }
 
-// Whether the line that begins at a place has the form and this name.
-fn has_name(text: &[u8], place: u32, name: &[u8]) -> bool
-    ensures { result ≡ is_some (if_named (λ at. bytes_eq (part text.now at.name) name.now) (on_line (user_places text.now) text.now place)) }
-{
-    match line_on(text, place) {
-        Some(line) => user_named(text, line, name).is_some(),
-        None => false,
-    }
-}
-
-// Whether the line that begins at a place has the form and this user id.
-fn has_id(text: &[u8], place: u32, uid: u32) -> bool
-    ensures { result ≡ is_some (if_named (λ at. at.uid == uid) (on_line (user_places text.now) text.now place)) }
-{
-    match line_on(text, place) {
-        Some(line) => user_numbered(text, line, uid).is_some(),
-        None => false,
-    }
-}
-
-// The entry of the line that begins at the first of these places, where it has the form.
-fn first_user(text: &[u8], places: &[u32]) -> Option<PasswdAt>
-    ensures entry { result ≡ option_and_then (on_line (user_places text.now) text.now) (first_of places.now) }
+// Of the entries of the lines that begin at these places, the first one that has this name.
+fn first_named(text: &[u8], places: &[u32], name: &[u8]) -> Option<PasswdAt>
+    ensures entry { result ≡ first_of (filter (λ at. bytes_eq (part text.now at.name) name.now) (filter_map (on_line (user_places text.now) text.now) places.now)) }
     ensures inside { IfSome result (UserLiesIn (record { from = 0; to = length text.now })) }
 {
-    let [place, ..] = places else {
-        return None;
-    };
-    user_on(text, *place)
+    for place in places {
+        if let Some(user) = named_on(text, *place, name) {
+            return Some(user);
+        }
+    }
+    None
 }
 
-// The entry of the line that begins at a place, where it has the form.
-fn user_on(text: &[u8], place: u32) -> Option<PasswdAt>
-    ensures entry { result ≡ on_line (user_places text.now) text.now place }
+// Of the entries of the lines that begin at these places, the first one that has this user id.
+fn first_numbered(text: &[u8], places: &[u32], uid: u32) -> Option<PasswdAt>
+    ensures entry { result ≡ first_of (filter (λ at. at.uid == uid) (filter_map (on_line (user_places text.now) text.now) places.now)) }
     ensures inside { IfSome result (UserLiesIn (record { from = 0; to = length text.now })) }
 {
-    passwd_line(text, line_on(text, place)?)
+    for place in places {
+        if let Some(user) = numbered_on(text, *place, uid) {
+            return Some(user);
+        }
+    }
+    None
+}
+
+// The entry of the line that begins at a place, if it has the form and this name.
+fn named_on(text: &[u8], place: u32, name: &[u8]) -> Option<PasswdAt>
+    ensures entry { result ≡ if_named (λ at. bytes_eq (part text.now at.name) name.now) (on_line (user_places text.now) text.now place) }
+    ensures inside { IfSome result (UserLiesIn (record { from = 0; to = length text.now })) }
+{
+    user_named(text, line_on(text, place)?, name)
+}
+
+// The entry of the line that begins at a place, if it has the form and this user id.
+fn numbered_on(text: &[u8], place: u32, uid: u32) -> Option<PasswdAt>
+    ensures entry { result ≡ if_named (λ at. at.uid == uid) (on_line (user_places text.now) text.now place) }
+    ensures inside { IfSome result (UserLiesIn (record { from = 0; to = length text.now })) }
+{
+    user_numbered(text, line_on(text, place)?, uid)
 }

@@ -9,24 +9,24 @@ ghost use Rattle.nsc_switch.specs.Lists.{lists_of};
 use crate::decided::decide;
 use crate::lists::Lists;
 use crate::services::ServiceLook;
-use nsc_accounts::NamedId;
-use nsc_base::NoMemory;
+use nsc_accounts::{NamedId, Sought};
+use nsc_base::{NoMemory, Span};
 use nsc_compat::SubLookup;
-use nsc_files::{extra_lookup, files_lookup};
+use nsc_files::{Finder, extra_lookup, files_lookup};
 use nsc_model::{Content, Db, FileId, Kind, Looked, SwitchService};
 use std::alloc::Global;
 
 /// The services of the lists `passwd_compat` and `group_compat`, over a content whose lists were read before: compat
 /// itself is unavailable there.
 #[derive(Drop)]
-pub(crate) struct PlainSubServices<'a> {
-    pub content: &'a Content,
+pub(crate) struct SubServices<'a, F: Finder> {
+    pub finder: &'a F,
     pub lists: &'a Lists,
-    pub ghost read: { lists.now ≡ lists_of content.now },
+    pub ghost read: { lists.now ≡ lists_of (F.content finder.now) },
 }
 
-impl<'a> ServiceLook for PlainSubServices<'a> {
-    ghost outcome = { λ services. sub_answer services.content.now };
+impl<'a, F: Finder> ServiceLook for SubServices<'a, F> {
+    ghost outcome = { λ services. sub_answer (F.content services.finder.now) };
 
     fn look(
         &self,
@@ -36,18 +36,22 @@ impl<'a> ServiceLook for PlainSubServices<'a> {
         key: &[u8],
     ) -> Result<Looked, NoMemory> {
         match service {
-            SwitchService::Files => files_lookup(alloc, self.content, kind, key),
-            SwitchService::Extrausers => extra_lookup(alloc, self.content, kind, key),
+            SwitchService::Files => files_lookup(alloc, self.finder, kind, key),
+            SwitchService::Extrausers => extra_lookup(alloc, self.finder, kind, key),
             SwitchService::Compat | SwitchService::Other => Ok(Looked::Unavail),
         }
     }
 }
 
-impl<'a> SubLookup for PlainSubServices<'a> {
-    ghost content = { λ services. services.content.now };
+impl<'a, F: Finder> SubLookup for SubServices<'a, F> {
+    ghost content = { λ services. F.content services.finder.now };
 
     fn content(&self) -> &Content {
-        self.content
+        self.finder.content()
+    }
+
+    fn lines(&self, alloc: Global, sought: Sought) -> Result<Vec<Span>, NoMemory> {
+        self.finder.compat_lines(alloc, sought)
     }
 
     fn look(&self, alloc: Global, kind: Kind, key: &[u8]) -> Result<Looked, NoMemory> {
@@ -58,26 +62,26 @@ impl<'a> SubLookup for PlainSubServices<'a> {
     fn named_groups(&self, alloc: Global, user: &[u8]) -> Result<Vec<NamedId>, NoMemory> {
         let steps = self.lists.compat_list(Db::Group);
         let decided = decide(alloc, self, steps, Kind::InitGroups, user)?;
-        groups_taken(alloc, self.content, decided.taker, user)
+        groups_taken(alloc, self.finder, decided.taker, user)
     }
 }
 
 // The groups of a user that a switch takes: those in the file of its taker.
-fn groups_taken(
+fn groups_taken<F: Finder>(
     alloc: Global,
-    content: &Content,
+    finder: &F,
     taker: Option<SwitchService>,
     user: &[u8],
 ) -> Result<Vec<NamedId>, NoMemory>
-    ensures { IfOk result (λ groups. map pair_of groups.items ≡ flat_map (service_pairs content.now user.now) (option_to_list taker)) }
+    ensures { IfOk result (λ groups. map pair_of groups.items ≡ flat_map (service_pairs (F.content finder.now) user.now) (option_to_list taker)) }
 {
     let file = match taker {
-        Some(SwitchService::Files) => content.file(FileId::Group),
-        Some(SwitchService::Extrausers) => content.file(FileId::ExtraGroup),
-        Some(SwitchService::Compat | SwitchService::Other) | None => None,
+        Some(SwitchService::Files) => FileId::Group,
+        Some(SwitchService::Extrausers) => FileId::ExtraGroup,
+        Some(SwitchService::Compat | SwitchService::Other) | None => return Ok(Vec::new(alloc)),
     };
-    match file {
-        Some(text) => nsc_accounts::named_groups(alloc, text, user),
+    match finder.content().file(file) {
+        Some(text) => finder.named_groups(alloc, file, text, user),
         None => Ok(Vec::new(alloc)),
     }
 }

@@ -10,4 +10,4 @@ mod services;
 pub use decided::{Decided, decide};
 pub use lists::Lists;
 pub use outcome::{switch, switch_by, switch_over};
-pub use services::{PlainServices, ServiceLook};
+pub use services::{ServiceLook, Services};

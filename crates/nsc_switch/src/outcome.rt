@@ -6,8 +6,9 @@ ghost use Rattle.nsc_switch.specs.Lists.{lists_of};
 
 use crate::decided::decide;
 use crate::lists::Lists;
-use crate::services::{PlainServices, ServiceLook};
+use crate::services::{ServiceLook, Services};
 use nsc_base::NoMemory;
+use nsc_files::Finder;
 use nsc_model::{Content, Db, Kind, Looked, SwitchStep};
 use std::alloc::Global;
 
@@ -22,19 +23,19 @@ pub fn switch(alloc: Global, content: &Content, kind: Kind, key: &[u8]) -> Resul
     switch_by(alloc, content, &lists, kind, key)
 }
 
-/// The outcome of the switch for the request of this kind and key, over a content whose service lists were read before:
-/// what `switch` gives, and no list is read anew. Fails only for want of memory.
-pub fn switch_by(
+/// The outcome of the switch for the request of this kind and key, over a content whose service lists were read before,
+/// and whose entries are found in one way: what `switch` gives, and no list is read anew. Fails only for want of memory.
+pub fn switch_by<F: Finder>(
     alloc: Global,
-    content: &Content,
+    finder: &F,
     lists: &Lists,
     kind: Kind,
     key: &[u8],
 ) -> Result<Looked, NoMemory>
-    requires { lists.now ≡ lists_of content.now }
-    ensures { IfOk result (λ looked. looked ≡ looked_up content.now (record { kind = kind; key = key.now })) }
+    requires { lists.now ≡ lists_of (F.content finder.now) }
+    ensures { IfOk result (λ looked. looked ≡ looked_up (F.content finder.now) (record { kind = kind; key = key.now })) }
 {
-    let services = PlainServices { content, lists };
+    let services = Services { finder, lists };
     switch_over(alloc, &services, lists.list(Db::of(kind)), kind, key)
 }
 

@@ -5,12 +5,12 @@ ghost use Rattle.nsc_model.specs.declared.switch.SwitchService.{SwitchService};
 ghost use Rattle.nsc_model.specs.Answers.{service_answer};
 ghost use Rattle.nsc_switch.specs.Lists.{lists_of};
 
-use crate::compat::PlainSubServices;
+use crate::compat::SubServices;
 use crate::lists::Lists;
 use nsc_base::NoMemory;
 use nsc_compat::compat_lookup;
-use nsc_files::{extra_lookup, files_lookup};
-use nsc_model::{Content, Kind, Looked, SwitchService};
+use nsc_files::{Finder, extra_lookup, files_lookup};
+use nsc_model::{Kind, Looked, SwitchService};
 use std::alloc::Global;
 
 /// The services of a list, over one content.
@@ -29,19 +29,18 @@ pub trait ServiceLook {
         ensures { IfOk result (λ looked. looked ≡ outcome self.now (record { kind = kind; key = key.now }) service) };
 }
 
-/// The services of a database's own list, over a content as it is, whose lists were read before: each request goes over
-/// its files anew.
+/// The services of a database's own list, over a content whose lists were read before, and whose entries are found in one way.
 #[derive(Drop)]
-pub struct PlainServices<'a> {
-    /// The content.
-    pub content: &'a Content,
-    /// Its service lists.
+pub struct Services<'a, F: Finder> {
+    /// What finds the entries of the content.
+    pub finder: &'a F,
+    /// The service lists of the content.
     pub lists: &'a Lists,
-    pub ghost read: { lists.now ≡ lists_of content.now },
+    pub ghost read: { lists.now ≡ lists_of (F.content finder.now) },
 }
 
-impl<'a> ServiceLook for PlainServices<'a> {
-    ghost outcome = { λ services. service_answer services.content.now };
+impl<'a, F: Finder> ServiceLook for Services<'a, F> {
+    ghost outcome = { λ services. service_answer (F.content services.finder.now) };
 
     fn look(
         &self,
@@ -51,11 +50,11 @@ impl<'a> ServiceLook for PlainServices<'a> {
         key: &[u8],
     ) -> Result<Looked, NoMemory> {
         match service {
-            SwitchService::Files => files_lookup(alloc, self.content, kind, key),
-            SwitchService::Extrausers => extra_lookup(alloc, self.content, kind, key),
+            SwitchService::Files => files_lookup(alloc, self.finder, kind, key),
+            SwitchService::Extrausers => extra_lookup(alloc, self.finder, kind, key),
             SwitchService::Compat => {
-                let sub = PlainSubServices {
-                    content: self.content,
+                let sub = SubServices {
+                    finder: self.finder,
                     lists: self.lists,
                 };
                 compat_lookup(alloc, kind, key, &sub)

@@ -7,7 +7,7 @@ use Rattle.nsc_accounts.proofs.rows.members.Given as goal
 -- those that were gathered, and those from this place on
 abbrev pub invariant-loop-piece : goal.invariant-loop-piece
 invariant-loop-piece l = record {
-  all : l.members.items ++ members_from l.text l.from l.within.to ≡ members_of (part l.text l.within);
+  all : l.members ++ members_from l.text l.from l.within.to ≡ members_of (part l.text l.within);
   inside : l.from ≤ l.within.to + 1;
 }
 

@@ -1,28 +1,29 @@
-use Rattle.std.proofs.Common.{[], flat_map, sym, ◌∙◌, ap}
+use Rattle.std.proofs.Common.{◌+◌, drop, flat_map, map, ap, sym, ◌∙◌}
+use Rattle.std.proofs.lemmas.List.{at_drop_all}
+use Rattle.nsc_base.specs.Text.{part}
 use Rattle.nsc_model.specs.Compat.{sayings}
 use Rattle.nsc_compat.specs.Lines.{looked_or}
-use Rattle.nsc_compat.specs.Reading.{lines_left}
-use Rattle.nsc_compat.proofs.Passed.{comes_to, line_comes_to}
+use Rattle.nsc_compat.proofs.Walked.{line_next}
 use Rattle.nsc_compat.proofs.lines.scan_lines.Goals as goal
 
-pub returns-in-Some-2 : goal.returns-in-Some-2
-returns-in-Some-2 g c =
+pub returns-in-Some : goal.returns-in-Some
+returns-in-Some g c =
     let comes = g.L.LineScan.comes c.args.scan.now in
-    let later = flat_map sayings (lines_left c.next_line.new.self) in
-    line_comes_to (λ lines. comes c.loop-line.seen (flat_map sayings lines)) c.loop-line.lines c.args.lines.name c.loop-line.invariant.name (λ line others. c.requires c.loop-line.seen line (flat_map sayings others)) c.in-Some.line c.next_line.new.self c.text.result.now c.in-Some-2.outcome c.in-Some.ensures.line (c.text.ensures ∙ c.in-Some.ensures.text)
-    (sym (ap (λ outcome. looked_or outcome (comes c.take.new.seen later)) c.in-Some-2.is) ∙ c.in_ok-outcome.ensures later) ∙ c.loop-line.invariant.left
+    let text = c.args.text.now in
+    let later = flat_map sayings (map (part text) (drop (c.loop-line.line-index + 1) c.args.lines.now)) in
+    sym (ap (λ outcome. looked_or outcome (comes c.take.new.seen later)) c.in-Some.is) ∙ c.in_ok-outcome.ensures later
+    ∙ line_next (λ lines. comes c.loop-line.seen (flat_map sayings lines)) text c.args.lines.now c.loop-line.line-index c.line-item.result c.loop-line-test.true c.line-item.is ∙ c.loop-line.invariant
 
 pub loop-line-preserved : goal.loop-line-preserved
 loop-line-preserved g c =
     let comes = g.L.LineScan.comes c.args.scan.now in
-    let later = flat_map sayings (lines_left c.next_line.new.self) in
-    record {
-      name = c.in-Some.ensures.name ∙ c.loop-line.invariant.name;
-      left = line_comes_to (λ lines. comes c.loop-line.seen (flat_map sayings lines)) c.loop-line.lines c.args.lines.name c.loop-line.invariant.name (λ line others. c.requires c.loop-line.seen line (flat_map sayings others)) c.in-Some.line c.next_line.new.self c.text.result.now (comes c.take.new.seen later) c.in-Some.ensures.line (c.text.ensures ∙ c.in-Some.ensures.text)
-          (sym (ap (λ outcome. looked_or outcome (comes c.take.new.seen later)) c.in_default-2.is) ∙ c.in_ok-outcome.ensures later) ∙ c.loop-line.invariant.left;
-    }
+    let text = c.args.text.now in
+    let later = flat_map sayings (map (part text) (drop (c.loop-line.line-index + 1) c.args.lines.now)) in
+    sym (ap (λ outcome. looked_or outcome (comes c.take.new.seen later)) c.in_default.is) ∙ c.in_ok-outcome.ensures later
+    ∙ line_next (λ lines. comes c.loop-line.seen (flat_map sayings lines)) text c.args.lines.now c.loop-line.line-index c.line-item.result c.loop-line-test.true c.line-item.is ∙ c.loop-line.invariant
 
 pub returns : goal.returns
 returns g c =
+    let text = c.args.text.now in
     let comes = g.L.LineScan.comes c.args.scan.now c.loop-line.seen in
-    c.end.ensures ∙ comes_to (λ lines. comes (flat_map sayings lines)) c.loop-line.lines c.args.lines.name c.loop-line.invariant.name (λ line others. c.requires c.loop-line.seen line (flat_map sayings others)) [] c.in_default.ensures.line ∙ c.loop-line.invariant.left
+    c.end.ensures ∙ sym (at_drop_all (λ ls. comes (flat_map sayings (map (part text) ls))) c.args.lines.now c.loop-line.line-index c.loop-line-test.false) ∙ c.loop-line.invariant

@@ -5,4 +5,4 @@ use Rattle.nsc_files.proofs.Numbers.{no_group}
 use Rattle.nsc_files.proofs.groups.group_by_id.Goals as goal
 
 pub returns-in_default : goal.returns-in_default
-returns-in_default c = ap (found_first row.Group) (sym (no_group c.args.key.now c.args.text.now (sym c.decimal.ensures ∙ c.in_default.is)))
+returns-in_default g c = ap (found_first row.Group) (sym (no_group c.args.key.now c.args.text.now (sym c.decimal.ensures ∙ c.in_default.is)))

@@ -4,7 +4,7 @@ use Rattle.nsc_base.specs.declared.search.Case.TheVariants.{Counts}
 use Rattle.nsc_model.specs.Compat.{sayings}
 use Rattle.nsc_model.specs.Entries.{if_named}
 use Rattle.nsc_model.specs.Groups.{group_of_line, has_member}
-use Rattle.nsc_compat.specs.Matters.{sign_name, speaks_on}
+use Rattle.nsc_accounts.specs.Matters.{sign_name, speaks_on}
 use Rattle.nsc_index.specs.declared.names.NameAt.{NameAt}
 use Rattle.nsc_index.specs.Names.{has_name}
 use Rattle.nsc_index.proofs.MemberRows.{member_lines}

@@ -6,7 +6,7 @@ use Rattle.nsc_model.specs.Answers.{group_named}
 use Rattle.nsc_model.specs.Compat.{sayings}
 use Rattle.nsc_model.specs.Entries.{if_named}
 use Rattle.nsc_model.specs.Groups.{group_of_line}
-use Rattle.nsc_compat.specs.Matters.{sign_name, speaks_on}
+use Rattle.nsc_accounts.specs.Matters.{sign_name, speaks_on}
 use Rattle.nsc_index.specs.Names.{has_name}
 use Rattle.nsc_index.proofs.GroupRows.{named_lines}
 use Rattle.nsc_index.proofs.SignRows.{added_to_none}

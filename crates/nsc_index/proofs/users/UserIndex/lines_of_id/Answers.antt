@@ -4,7 +4,7 @@ use Rattle.nsc_model.specs.Answers.{is_id}
 use Rattle.nsc_model.specs.Compat.{sayings}
 use Rattle.nsc_model.specs.Entries.{if_named}
 use Rattle.nsc_model.specs.Users.{user_of_line}
-use Rattle.nsc_compat.specs.Matters.{sign_name, speaks_on}
+use Rattle.nsc_accounts.specs.Matters.{sign_name, speaks_on}
 use Rattle.nsc_index.specs.declared.names.NameAt.{NameAt}
 use Rattle.nsc_index.proofs.UserRows.{places_of_users}
 use Rattle.nsc_index.proofs.SignRows.{added_to_none, all_signs}

@@ -1,8 +1,0 @@
-use Rattle.std.proofs.Common.{sym, ap, ◌∙◌}
-use Rattle.nsc_model.specs.declared.row.Row.TheVariants as row
-use Rattle.nsc_model.specs.Answers.{found_first}
-use Rattle.nsc_files.proofs.Numbers.{no_user}
-use Rattle.nsc_index.proofs.outcomes.numbered_user.Goals as goal
-
-pub returns-in_default : goal.returns-in_default
-returns-in_default c = ap (found_first row.Passwd) (sym (no_user c.args.key.now c.args.text.now (sym c.decimal.ensures ∙ c.in_default.is)))
