@@ -2,13 +2,14 @@
 # program that is built make and the shell alone.
 
 PROGRAM = crates/nscd/out/nscd
-TRIALS = crates/nsc_trials/out/nsc_trials
+LOADS = crates/nsc_loads/out/nsc_loads
 TABLE_TRIALS = crates/nsc_table_trials/out/nsc_table_trials
 READER_TRIALS = crates/nsc_reader_trials/out/nsc_reader_trials
 IMAGE_TRIALS = crates/nsc_image_trials/out/nsc_image_trials
 READERS = crates/nsc_fuzz/out/libnsc_fuzz.a
 EXAMPLE = crates/nscd/stdin
 WORDS = $(shell cat crates/nscd/args)
+LOAD = $(shell cat crates/nsc_loads/args)
 
 # All that the program is made from. A change in any of these asks for a new proof.
 SOURCES := crates.txt HANDLES \
@@ -62,7 +63,7 @@ help:
 test:
 	@.ci/run
 
-build: build/nscd build/nscd-trials build/nscd-table-trials build/nscd-reader-trials build/nscd-image-trials
+build: build/nscd build/nscd-loads build/nscd-table-trials build/nscd-reader-trials build/nscd-image-trials
 
 # A copy under another name first: a run that is cut off leaves no half of a program behind.
 build/nscd: $(PROGRAM)
@@ -70,10 +71,10 @@ build/nscd: $(PROGRAM)
 	cp $(PROGRAM) build/nscd.new
 	mv build/nscd.new build/nscd
 
-build/nscd-trials: $(TRIALS)
+build/nscd-loads: $(LOADS)
 	@mkdir -p build
-	cp $(TRIALS) build/nscd-trials.new
-	mv build/nscd-trials.new build/nscd-trials
+	cp $(LOADS) build/nscd-loads.new
+	mv build/nscd-loads.new build/nscd-loads
 
 build/nscd-table-trials: $(TABLE_TRIALS)
 	@mkdir -p build
@@ -96,10 +97,10 @@ $(PROGRAM): $(SOURCES)
 	cd crates/nscd && rt run -- $(WORDS) < stdin > /dev/null
 	@touch $(PROGRAM)
 
-# The trials of the database for many threads; with words the program makes calls for their time.
-$(TRIALS): $(SOURCES)
-	cd crates/nsc_trials && rt run < stdin > /dev/null
-	@touch $(TRIALS)
+# Calls of the database for many threads, for their time.
+$(LOADS): $(SOURCES)
+	cd crates/nsc_loads && rt run -- $(LOAD) < stdin > /dev/null
+	@touch $(LOADS)
 
 # Calls of a writer by chance, with the words of its table.
 $(TABLE_TRIALS): $(SOURCES)

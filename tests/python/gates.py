@@ -1,6 +1,7 @@
 """Lines at the gate of a daemon, and peers there that are silent, slow, endless or deaf: cases of tests/daemon."""
 
 import random
+import signal
 import socket
 import threading
 import time
@@ -10,7 +11,7 @@ import frames
 import gate
 import seeded
 from contents import NAMES, Maker
-from running import FILES, PATIENCE, ROOT_REPLY, check, daemon, is_sent_away, read_all, request
+from running import ASK_BIG, FILES, PATIENCE, ROOT_REPLY, check, daemon, is_sent_away, read_all, request
 
 STAY = 5.0  # seconds of silence after which a connection is closed
 PROMPT = 0.05  # seconds for a good request or line beside hostile peers
@@ -339,6 +340,28 @@ def unread_gates():
         return f"beside {len(peers)} peers of the gate that never read requests and lines take {took}"
 
 
+def old_lines():
+    """The process is stopped while lines wait for its one worker, behind peers that do not read."""
+    with gated("-t", "1") as run:
+        before = [run.connect() for _ in range(60)]
+        for peer in before:
+            peer.sendall(ASK_BIG)
+        peers = [run.connect("gate", 3 * PATIENCE) for _ in range(20)]
+        for peer in peers:
+            peer.sendall(b"passwd root\n")
+        # They are taken in while the worker waits for those before them, five milliseconds for each.
+        time.sleep(0.1)
+        run.process.send_signal(signal.SIGSTOP)
+        time.sleep(STAY + 0.5)
+        run.process.send_signal(signal.SIGCONT)
+        said = [peer.recv(1 << 16) for peer in peers]
+        check(set(said) <= {b"", ROOT_LINE} and b"" in said, f"{STAY} seconds later: {said}")
+        for peer in before + peers:
+            peer.close()
+        run.is_well("afterwards")
+        return f"of {len(peers)} connections whose lines waited for {STAY} seconds {said.count(b'')} are closed unanswered"
+
+
 def gate_by_one():
     """One worker alone serves the gate and requests."""
     with gated("-t", "1") as run:
@@ -360,5 +383,6 @@ CASES = {
     "endless-gates": endless_gates,
     "busy-gates": busy_gates,
     "unread-gates": unread_gates,
+    "old-lines": old_lines,
     "gate-by-one": gate_by_one,
 }

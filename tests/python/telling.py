@@ -52,6 +52,7 @@ def faulty_file():
             check([(str(passwd) in line, "again" in line) for line in lines] == [(True, True)] * (len(shown) == 1), f"a good file: {lines}")
             shown += lines
         comes_back(run, run.etc / "services", request(SERVICE_BY_NAME, b"none/tcp\0"))
+        below_a_file(run, names)
         check(run.command("-K")[2] == 0 and run.process.wait(PATIENCE) == 0, "another status")
         return f"a file that cannot be read is named once, and once when it can be again, and not again within a minute: {shown}"
 
@@ -70,6 +71,17 @@ def comes_back(run, path, asked):
     check(run.ask(asked.replace(b"none", b"non3")) != b"", f"{path} again: no reply")
     lines = lines_of(run)
     check([str(path) in line and "again" in line for line in lines] == [True], f"{path} again: {lines}")
+
+
+def below_a_file(run, names):
+    """A file takes the place of a folder: what was absent below it cannot be told any more, and is absent no longer."""
+    folder = run.etc / "extrausers"
+    folder.write_bytes(b"")
+    check(ask_anew(run, names) == b"", "below a file: a reply")
+    folder.unlink()
+    check(ask_anew(run, names) != b"", "below no file: no reply")
+    lines = lines_of(run)
+    check([str(folder / "passwd") in line for line in lines] == [True, True], f"below a file: {lines}")
 
 
 def long_file():

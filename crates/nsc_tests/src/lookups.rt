@@ -2,14 +2,13 @@ ghost use Rattle.std.specs.Prelude.{◌≤◌, length, IfOk};
 ghost use Rattle.nsc_model.specs.Files.{file_limit};
 
 use nsc_accounts::{
-    NamedId, OnceIds, find_group_by_name, find_passwd_by_name, group_row, groups_of, user_row,
+    OnceIds, find_group_by_name, find_passwd_by_name, group_row, groups_of, user_row,
 };
 use nsc_base::{Bytes, NoMemory};
-use nsc_compat::{SubLookup, compat_lookup};
 use nsc_files::{extra_lookup, files_lookup};
-use nsc_model::{Content, FileId, Kind, Looked, Row, SwitchAction, SwitchService, SwitchStep};
+use nsc_model::{Content, FileId, Kind, Looked, Row};
 use nsc_nets::ai_of;
-use nsc_switch::{Lists, PlainServices, switch, switch_by, switch_over};
+use nsc_switch::switch;
 use std::alloc::Global;
 use std::test::Fail;
 
@@ -113,100 +112,15 @@ fn files_and_extra_users(rt: HostRuntime) -> Result<(), Fail> {
     Ok(())
 }
 
-// Services that find no memory: lines without a plus ask none.
-#[derive(Drop)]
-struct NoServices<'a> {
-    content: &'a Content,
-}
-
-impl<'a> SubLookup for NoServices<'a> {
-    ghost content = { λ services. services.content.now };
-
-    fn content(&self) -> &Content {
-        self.content
-    }
-
-    fn look(&self, _alloc: Global, _kind: Kind, _key: &[u8]) -> Result<Looked, NoMemory> {
-        Err(NoMemory)
-    }
-
-    fn named_groups(&self, _alloc: Global, _user: &[u8]) -> Result<Vec<NamedId>, NoMemory> {
-        Err(NoMemory)
-    }
-}
-
-fn in_compat(alloc: Global, content: &Content, name: &[u8]) -> Result<Outcome, NoMemory> {
-    let looked = compat_lookup(alloc, Kind::PwName, name, &NoServices { content })?;
-    Ok(told(&looked))
-}
-
-#[test]
-fn compat_lines(rt: HostRuntime) -> Result<(), Fail> {
-    let content = content(rt.alloc())?;
-    let ann = in_compat(rt.alloc(), &content, b"ann")?;
-    assert_eq!(rt; ann, Outcome::User(1));
-    let eve = in_compat(rt.alloc(), &content, b"eve")?;
-    assert_eq!(rt; eve, Outcome::NotFound);
-    Ok(())
-}
-
 fn by_switch(alloc: Global, content: &Content, name: &[u8]) -> Result<Outcome, NoMemory> {
     let looked = switch(alloc, content, Kind::PwName, name)?;
     Ok(told(&looked))
 }
 
-// The outcome of these steps over a content.
-fn by_steps(
-    alloc: Global,
-    content: &Content,
-    steps: &[SwitchStep],
-    name: &[u8],
-) -> Result<Outcome, NoMemory> {
-    let lists = Lists::of(alloc, content)?;
-    let services = PlainServices {
-        content,
-        lists: &lists,
-    };
-    let looked = switch_over(alloc, &services, steps, Kind::PwName, name)?;
-    Ok(told(&looked))
-}
-
-// A step of this service that goes on at every status.
-const fn passed(service: SwitchService) -> SwitchStep {
-    SwitchStep {
-        service,
-        success: SwitchAction::Continue,
-        notfound: SwitchAction::Continue,
-        unavail: SwitchAction::Continue,
-        tryagain: SwitchAction::Continue,
-    }
-}
-
-// Where every step goes on, the outcome is that of the last one.
 #[test]
 fn switches(rt: HostRuntime) -> Result<(), Fail> {
     let content = content(rt.alloc())?;
     let ann = by_switch(rt.alloc(), &content, b"ann")?;
-    assert_eq!(rt; ann, Outcome::User(1));
-    let steps = [
-        passed(SwitchService::Files),
-        passed(SwitchService::Extrausers),
-    ];
-    let eve = by_steps(rt.alloc(), &content, &steps, b"eve")?;
-    assert_eq!(rt; eve, Outcome::User(3));
-    Ok(())
-}
-
-fn by_lists(alloc: Global, content: &Content, name: &[u8]) -> Result<Outcome, NoMemory> {
-    let lists = Lists::of(alloc, content)?;
-    let looked = switch_by(alloc, content, &lists, Kind::PwName, name)?;
-    Ok(told(&looked))
-}
-
-#[test]
-fn lists_that_were_read_before(rt: HostRuntime) -> Result<(), Fail> {
-    let content = content(rt.alloc())?;
-    let ann = by_lists(rt.alloc(), &content, b"ann")?;
     assert_eq!(rt; ann, Outcome::User(1));
     Ok(())
 }

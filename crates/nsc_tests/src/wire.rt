@@ -2,9 +2,9 @@ ghost use Rattle.std.specs.Prelude.{◌≤◌, length, IfOk};
 ghost use Rattle.nsc_model.specs.Answer.{reply_limit};
 ghost use Rattle.nsc_model.specs.Wire.{IsReplyOf, spelled};
 
-use nsc_base::{Bytes, NoMemory, Span};
+use nsc_base::{Bytes, NoMemory};
 use nsc_model::{Kind, Passwd, Row};
-use nsc_wire::{Reply, ReplyFault, Wire, decode_reply, encode, read_request};
+use nsc_wire::{Reply, ReplyFault, decode_reply, encode};
 use std::alloc::Global;
 use std::test::Fail;
 
@@ -28,10 +28,7 @@ fn root(alloc: Global) -> Result<Reply, NoMemory>
 fn found_user(rt: HostRuntime) -> Result<(), Fail> {
     let reply = root(rt.alloc())?;
     let bytes = encode(rt.alloc(), Kind::PwName, &reply)?;
-    assert_eq!(rt;
-        bytes.as_slice(),
-        b"\x02\0\0\0\x01\0\0\0\x05\0\0\0\x02\0\0\0\0\0\0\0\0\0\0\0\x05\0\0\0\x06\0\0\0\x0a\0\0\0root\0x\0root\0/root\0/bin/bash\0".as_slice()
-    );
+    assert_eq!(rt; bytes.as_slice(), ROOT);
     Ok(())
 }
 
@@ -69,70 +66,12 @@ fn disabled_databases(rt: HostRuntime) -> Result<(), Fail> {
     Ok(())
 }
 
-// The requests and faults that have no reply of their own, so that a replay shows one empty reply for each.
-const UNANSWERED: [(&[u8], Wire); 9] = [
-    (b"\x02\0\0\0\0\0\0\0\0\0\0", Wire::Short { have: 11 }),
-    (
-        b"\x02\0\0\0\0\0\0\0\x05\0\0\0root",
-        Wire::Short { have: 16 },
-    ),
-    (b"\x01\0\0\0\x16\0\0\0\x05\0\0\0root\0", Wire::BadVersion(1)),
-    (b"\x02\0\0\0\x16\0\0\0\0\0\0\0", Wire::BadType(22)),
-    (b"\x02\0\0\0\0\0\0\0\x01\x04\0\0root", Wire::BadLength(1025)),
-    (
-        b"\x02\0\0\0\0\0\0\0\xff\xff\xff\xffroot",
-        Wire::BadLength(-1),
-    ),
-    (b"\x02\0\0\0\x08\0\0\0\0\0\0\0", Wire::Shutdown),
-    (b"\x02\0\0\0\x09\0\0\0\0\0\0\0", Wire::Stat),
-    (b"\x02\0\0\0\x0b\0\0\0\0\0\0\0", Wire::Descriptor),
-];
-
-#[test]
-fn invalidation(rt: HostRuntime) {
-    let wire = read_request(b"\x02\0\0\0\x0a\0\0\0\x07\0\0\0passwd\0");
-    let key = Span::new(12, 18);
-    assert_eq!(rt; wire, Wire::Invalidate { key });
-}
-
-#[test]
-fn unanswered_requests(rt: HostRuntime) {
-    for (bytes, wire) in &UNANSWERED {
-        assert_eq!(rt; read_request(bytes), *wire, "at {bytes:?}");
-    }
-}
-
 // The reply that has root, and the one on a user who is not there.
 const ROOT: &[u8] =
     b"\x02\0\0\0\x01\0\0\0\x05\0\0\0\x02\0\0\0\0\0\0\0\0\0\0\0\x05\0\0\0\x06\0\0\0\x0a\0\0\0root\0x\0root\0/root\0/bin/bash\0";
 
 const NOBODY: &[u8] =
     b"\x02\0\0\0\0\0\0\0\0\0\0\0\0\0\0\0\xff\xff\xff\xff\xff\xff\xff\xff\0\0\0\0\0\0\0\0\0\0\0\0";
-
-// A reply that is found, of each kind of row.
-const FOUND: [(Kind, &[u8]); 5] = [
-    (Kind::PwName, ROOT),
-    (
-        Kind::GrName,
-        b"\x02\0\0\0\x01\0\0\0\x04\0\0\0\x02\0\0\0\x04\0\0\0\x02\0\0\0\x07\0\0\0\x04\0\0\0adm\0x\0syslog\0ann\0",
-    ),
-    (
-        Kind::InitGroups,
-        b"\x02\0\0\0\x01\0\0\0\x02\0\0\0\x04\0\0\0\x64\0\0\0",
-    ),
-    (
-        Kind::HostName,
-        b"\x02\0\0\0\x01\0\0\0\x06\0\0\0\x01\0\0\0\x02\0\0\0\x04\0\0\0\x01\0\0\0\0\0\0\0alpha\0\x03\0\0\0\x0a\0\0\x01a1\0",
-    ),
-    (
-        Kind::ServPort,
-        b"\x02\0\0\0\x01\0\0\0\x04\0\0\0\x04\0\0\0\0\0\0\0\0\x16\0\0ssh\0tcp\0",
-    ),
-];
-
-// Two addresses of alpha, one of each family.
-const ALPHA: &[u8] =
-    b"\x02\0\0\0\x01\0\0\0\x02\0\0\0\x14\0\0\0\x06\0\0\0\0\0\0\0\x0a\0\0\x01\xfd\0\0\0\0\0\0\0\0\0\0\0\0\0\0\x01\x02\x0aalpha\0";
 
 // What was read of bytes, without the row.
 #[derive(Clone, Copy, Debug, PartialEq, Eq)]
@@ -155,15 +94,8 @@ fn read(alloc: Global, kind: Kind, bytes: &[u8]) -> Decoded {
 }
 
 #[test]
-fn rows_read_back(rt: HostRuntime) {
-    for (kind, bytes) in &FOUND {
-        assert_eq!(rt; read(rt.alloc(), *kind, bytes), Decoded::Row, "of {kind:?}");
-    }
-    assert_eq!(rt; read(rt.alloc(), Kind::Ai, ALPHA), Decoded::Row);
-}
-
-#[test]
-fn absent_and_disabled_read_back(rt: HostRuntime) {
+fn replies_read_back(rt: HostRuntime) {
+    assert_eq!(rt; read(rt.alloc(), Kind::PwName, ROOT), Decoded::Row);
     assert_eq!(rt; read(rt.alloc(), Kind::PwName, NOBODY), Decoded::Absent);
     for (kind, bytes) in &DISABLED {
         assert_eq!(rt;

@@ -4,7 +4,9 @@ ghost use Rattle.nsc_model.specs.Entry.{key_limit};
 ghost use Rattle.nsc_model.specs.Kinds.{database_of};
 
 use crate::texts;
-use nsc_model::Kind;
+use nsc_caller::Caller;
+use nsc_model::{Given, Kind, LookupFault, Store};
+use std::sync::Wait;
 
 /// Whom the trials ask for.
 #[derive(Clone, Copy, Debug, PartialEq, Eq)]
@@ -56,6 +58,24 @@ impl Asked {
             Asked::MovedId => b"1001",
             Asked::Nobody => b"nobody1",
         }
+    }
+
+    /// Looks the user up at this moment, in seconds.
+    pub fn find<S: Store, R: Wait>(
+        self,
+        caller: &mut Caller<'_, '_, S, R>,
+        now: u32,
+    ) -> Result<Given, LookupFault> {
+        caller.find(self.kind(), self.key(), now)
+    }
+
+    /// The same through another pass, which is met then.
+    pub fn find_and_meet<S: Store, R: Wait>(
+        self,
+        caller: &mut Caller<'_, '_, S, R>,
+        now: u32,
+    ) -> Result<Given, LookupFault> {
+        caller.find_and_meet(self.kind(), self.key(), now)
     }
 
     /// The reply over the first of the two files of two users.

@@ -1,8 +1,8 @@
 use crate::asked::Asked;
-use crate::caller::Caller;
 use crate::texts::{ROOT_BASH, ROOT_SH};
 use crate::wanted::Wanted;
 use nsc_base::NoMemory;
+use nsc_caller::Caller;
 use nsc_model::{FileId, Store};
 use nsc_outside::{Hold, Release};
 use std::alloc::Global;
@@ -52,11 +52,11 @@ where
     let mut other = reader.another()?;
     let (is_discarded, is_invalidated) = thread::join(
         rt,
-        || Wanted::Discarded(0, 1).is(&reader.find(Asked::Root, 0), ROOT_BASH),
+        || Wanted::Discarded(0, 1).is(&Asked::Root.find(reader, 0), ROOT_BASH),
         || invalidates_between(rt, &mut other, gates),
     );
     changed.set();
-    let is_loaded = Wanted::Loaded(0).is(&reader.find(Asked::Root, 0), ROOT_SH);
+    let is_loaded = Wanted::Loaded(0).is(&Asked::Root.find(reader, 0), ROOT_SH);
     Ok(is_discarded && is_invalidated && is_loaded)
 }
 

@@ -2,10 +2,10 @@ ghost use Rattle.std.specs.Prelude.{◌≡◌, ◌≤◌, length};
 ghost use Rattle.nsc_model.specs.Entry.{key_limit, kept_limit};
 ghost use Rattle.nsc_model.specs.Sizes.{SizeFits};
 
-use crate::caller::Caller;
 use crate::texts::ABSENT;
 use crate::wanted::Wanted;
 use nsc_base::{Buf, NoMemory};
+use nsc_caller::Caller;
 use nsc_model::{Conf, InPlace, KEY_LIMIT, Kind, Store};
 use std::alloc::Global;
 use std::sync::Wait;
@@ -78,7 +78,7 @@ fn finds<S: Store, R: Wait>(
     name: &[u8],
     wanted: Wanted,
 ) -> bool {
-    name.len() <= KEY_LIMIT && wanted.is(&caller.find_key(Kind::PwName, name, 0), ABSENT)
+    name.len() <= KEY_LIMIT && wanted.is(&caller.find(Kind::PwName, name, 0), ABSENT)
 }
 
 // What a search in place for a name comes to.

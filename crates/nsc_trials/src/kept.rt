@@ -2,10 +2,10 @@
 ghost use Rattle.nsc_model.specs.Sizes.{SizeFits};
 
 use crate::asked::Asked;
-use crate::caller::Caller;
 use crate::texts::ROOT_BASH;
 use crate::wanted::Wanted;
 use nsc_base::{Buf, NoMemory, equal};
+use nsc_caller::Caller;
 use nsc_model::{Conf, InPlace, Kind, Store};
 use std::alloc::Global;
 use std::sync::Wait;
@@ -65,7 +65,7 @@ pub fn brings_back<S: Store, R: Wait>(
         not_found: false,
     };
     let is_there = new.read(Kind::PwName, b"root", &mut out) == first;
-    let is_answered = wanted.is(&caller.find(Asked::Root, 0), ROOT_BASH);
+    let is_answered = wanted.is(&Asked::Root.find(caller, 0), ROOT_BASH);
     let image = caller.save()?;
     Ok(is_there == (wanted == Wanted::Hit(0)) && is_answered && equal(image.as_slice(), WITH_BASH))
 }

@@ -1,5 +1,3 @@
-use crate::reads::Took;
-use nsc_base::NoMemory;
 use std::fmt;
 use std::fmt::{Display, Formatter, Write};
 
@@ -10,8 +8,6 @@ pub enum Outcome {
     Right,
     /// Something did not: the number of the step, from 1 on, or of the interleaving, from 0 on.
     Wrong(usize),
-    /// Searches took this.
-    Took(Took),
     /// Memory was wanting.
     NoMemory,
 }
@@ -27,22 +23,11 @@ impl Outcome {
     }
 }
 
-impl From<NoMemory> for Outcome {
-    fn from(_e: NoMemory) -> Outcome {
-        Outcome::NoMemory
-    }
-}
-
 impl Display for Outcome {
     fn fmt<W: Write>(&self, f: &mut Formatter<W>) -> fmt::Result {
         match self {
             Outcome::Right => f.write_str("ok"),
             Outcome::Wrong(place) => write!(f, "wrong at {place}"),
-            Outcome::Took(took) => write!(
-                f,
-                "{} nanoseconds, {} odd, {} moved, {} made",
-                took.nanos, took.odd, took.moved, took.made
-            ),
             Outcome::NoMemory => f.write_str("out of memory"),
         }
     }

@@ -1,9 +1,9 @@
 ghost use Rattle.nsc_model.specs.Sizes.{SizeFits};
 
 use crate::asked::Asked;
-use crate::caller::Caller;
 use crate::outcome::Outcome;
 use crate::wanted::Wanted;
+use nsc_caller::Caller;
 use nsc_model::{Conf, Stats, Store};
 use nsc_outside::Release;
 use std::sync::Wait;
@@ -74,9 +74,9 @@ fn is_right<S: Store, R: Wait>(
     changed: &mut Release,
 ) -> bool {
     match *step {
-        Step::Find(asked, now, wanted, reply) => wanted.is(&caller.find(asked, now), reply),
+        Step::Find(asked, now, wanted, reply) => wanted.is(&asked.find(caller, now), reply),
         Step::Meet(asked, now, wanted, reply) => wanted.is(
-            &caller.find_and_meet(asked, now),
+            &asked.find_and_meet(caller, now),
             reply,
         ),
         Step::Change => {

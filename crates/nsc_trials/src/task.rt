@@ -1,16 +1,14 @@
 ghost use Rattle.std.specs.Prelude.{◌≡◌};
 ghost use Rattle.nsc_model.specs.declared.kind.Db.TheVariants as db;
 
-use crate::caller::Caller;
 use crate::discarded::{Gates, discards};
 use crate::growing::grows;
 use crate::kept::{Beginning, brings_back};
-use crate::loads::Load;
 use crate::outcome::Outcome;
-use crate::reads::Reads;
 use crate::script::Script;
 use crate::workers::interleaves;
 use nsc_base::NoMemory;
+use nsc_caller::Caller;
 use nsc_model::Store;
 use nsc_outside::Release;
 use std::alloc::Global;
@@ -31,10 +29,6 @@ pub enum Task {
     Kept(Beginning),
     /// An interleaving of this seed.
     Interleaving(u64, Release),
-    /// Many calls, for their time.
-    Load(Load),
-    /// Searches in place, for their time.
-    Reads(Reads),
 }
 
 impl Task {
@@ -70,8 +64,6 @@ impl Task {
             Task::Interleaving(seed, mut changed) => {
                 interleaves(rt, alloc, &mut caller, &mut changed, seed)?
             }
-            Task::Load(load) => load.is_done(rt, alloc, caller)?,
-            Task::Reads(reads) => return Ok(Outcome::Took(reads.run(rt, alloc, caller)?)),
         };
         Ok(Outcome::of(is_right))
     }

@@ -1,15 +1,16 @@
 use crate::discarded::Gates;
 use crate::growing::growing;
 use crate::kept::{Beginning, TRUE, UNTRUE, persistent};
-use crate::opening::{changing, done};
+use crate::opening::done;
 use crate::outcome::Outcome;
 use crate::script::Script;
 use crate::scripts::SCRIPTS;
 use crate::task::Task;
 use crate::texts::{BASH, BOTH, MOVED, SH};
 use nsc_base::NoMemory;
+use nsc_caller::users_of;
 use nsc_model::Conf;
-use nsc_outside::Release;
+use nsc_outside::{HeldFiles, Release};
 use std::alloc::Global;
 use std::io;
 use std::io::Print;
@@ -41,6 +42,19 @@ pub fn run_trials<R: AllocGlobal + Threads + Wait + Clock + Print + Clone + Drop
     println!(rt; "{INTERLEAVINGS} interleavings: {outcome}")
 }
 
+// A file set in which passwd has these bytes, and those once the flag is set.
+fn changing<R: Clock + Clone + Drop>(
+    rt: &R,
+    alloc: Global,
+    first: &[u8],
+    second: &[u8],
+    changed: &Release,
+) -> Result<HeldFiles<R>, NoMemory> {
+    let first = users_of(alloc, first)?;
+    let second = users_of(alloc, second)?;
+    HeldFiles::new(rt.clone()?, alloc, first)?.changing(alloc, second, changed.share()?)
+}
+
 fn run_script<R: Threads + Wait + Clock + Clone + Drop + Send + Sync>(
     rt: &R,
     alloc: Global,
@@ -48,13 +62,8 @@ fn run_script<R: Threads + Wait + Clock + Clone + Drop + Send + Sync>(
 ) -> Result<Outcome, NoMemory> {
     let changed = Release::new(alloc)?;
     let files = changing(rt, alloc, BASH, SH, &changed)?;
-    Ok(done(
-        rt,
-        alloc,
-        &script.conf(),
-        files,
-        Task::Script(*script, changed),
-    ))
+    let task = Task::Script(*script, changed);
+    Ok(done(rt, alloc, &script.conf(), files, task))
 }
 
 fn run_discarded<R: Threads + Wait + Clock + Clone + Drop + Send + Sync>(
@@ -64,21 +73,15 @@ fn run_discarded<R: Threads + Wait + Clock + Clone + Drop + Send + Sync>(
     let changed = Release::new(alloc)?;
     let gates = Gates::new(alloc)?;
     let files = changing(rt, alloc, BASH, SH, &changed)?.holding(alloc, gates.hold()?)?;
-    Ok(done(
-        rt,
-        alloc,
-        &Conf::defaults(),
-        files,
-        Task::Discarded(gates, changed),
-    ))
+    let task = Task::Discarded(gates, changed);
+    Ok(done(rt, alloc, &Conf::defaults(), files, task))
 }
 
 fn run_growing<R: Threads + Wait + Clock + Clone + Drop + Send + Sync>(
     rt: &R,
     alloc: Global,
 ) -> Result<Outcome, NoMemory> {
-    let changed = Release::new(alloc)?;
-    let files = changing(rt, alloc, BASH, BASH, &changed)?;
+    let files = HeldFiles::new(rt.clone()?, alloc, users_of(alloc, BASH)?)?;
     Ok(done(rt, alloc, &growing(), files, Task::Growing))
 }
 
@@ -87,8 +90,7 @@ fn run_kept<R: Threads + Wait + Clock + Clone + Drop + Send + Sync>(
     alloc: Global,
     beginning: Beginning,
 ) -> Result<Outcome, NoMemory> {
-    let changed = Release::new(alloc)?;
-    let files = changing(rt, alloc, BASH, BASH, &changed)?;
+    let files = HeldFiles::new(rt.clone()?, alloc, users_of(alloc, BASH)?)?;
     Ok(done(rt, alloc, &persistent(), files, Task::Kept(beginning)))
 }
 
@@ -98,10 +100,8 @@ fn run_interleavings<R: Threads + Wait + Clock + Clone + Drop + Send + Sync>(
     alloc: Global,
 ) -> Result<Outcome, NoMemory> {
     for seed in 0..INTERLEAVINGS {
-        match run_interleaving(rt, alloc, seed)? {
-            Outcome::Right => {}
-            Outcome::Wrong(_) | Outcome::Took(_) => return Ok(Outcome::Wrong(seed as usize)),
-            Outcome::NoMemory => return Ok(Outcome::NoMemory),
+        if run_interleaving(rt, alloc, seed)? != Outcome::Right {
+            return Ok(Outcome::Wrong(seed as usize));
         }
     }
     Ok(Outcome::Right)
@@ -114,11 +114,6 @@ fn run_interleaving<R: Threads + Wait + Clock + Clone + Drop + Send + Sync>(
 ) -> Result<Outcome, NoMemory> {
     let changed = Release::new(alloc)?;
     let files = changing(rt, alloc, BOTH, MOVED, &changed)?;
-    Ok(done(
-        rt,
-        alloc,
-        &Conf::defaults(),
-        files,
-        Task::Interleaving(seed, changed),
-    ))
+    let task = Task::Interleaving(seed, changed);
+    Ok(done(rt, alloc, &Conf::defaults(), files, task))
 }

@@ -1,8 +1,8 @@
 use crate::asked::Asked;
-use crate::caller::Caller;
 use crate::dice::Dice;
 use crate::wanted::reply_of;
 use nsc_base::{NoMemory, equal};
+use nsc_caller::Caller;
 use nsc_model::{Given, LookupFault, Store};
 use nsc_outside::Release;
 use std::alloc::Global;
@@ -86,7 +86,7 @@ impl<S: Store, R: Wait> Worker<'_, '_, S, R> {
     fn looks(&mut self) -> bool {
         let is_changed = self.changed.is_set();
         let asked = Asked::ALL[self.dice.below(REQUESTS) as usize];
-        let given = self.caller.find(asked, 0);
+        let given = asked.find(&mut self.caller, 0);
         is_answer(asked, &given, is_changed)
     }
 }
@@ -138,7 +138,7 @@ fn rests<S: Store, R: Wait>(caller: &mut Caller<'_, '_, S, R>) -> Result<bool, N
     let is_invalid = caller.invalidate().is_ok();
     let mut right = is_short && is_invalid;
     for asked in Asked::ALL {
-        right = is_second(asked, &caller.find(asked, 0)) && right;
+        right = is_second(asked, &asked.find(caller, 0)) && right;
     }
     Ok(right)
 }

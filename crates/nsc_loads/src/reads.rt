@@ -1,19 +1,19 @@
 // Searches in place, for their time.
 ghost use Rattle.std.specs.Prelude.{◌≡◌};
 ghost use Rattle.nsc_model.specs.Entry.{kept_limit};
-ghost use Rattle.nsc_model.specs.Sizes.{SizeFits};
 
-use crate::caller::Caller;
-use crate::loads::{Load, name_of};
+use crate::loads::name_of;
 use nsc_base::{Buf, NoMemory};
+use nsc_caller::Caller;
 use nsc_client::Asked;
-use nsc_model::{Conf, Given, InPlace, KEPT_LIMIT, Kind, Store};
+use nsc_model::{Given, InPlace, KEPT_LIMIT, Kind, Store};
 use std::alloc::Global;
+use std::fmt::{Display, Formatter, Write};
 use std::sync::Wait;
 use std::sync::atomic::{AtomicU64, Ordering};
-use std::thread;
 use std::thread::Threads;
 use std::time::{Clock, Duration, Instant};
+use std::{fmt, thread};
 
 // The moment at which the entries are made that are searched for, so that their time is not over at the ticks.
 const LATE: u32 = 1_000_000;
@@ -66,14 +66,14 @@ pub struct Took {
 }
 
 impl Took {
-    // Nothing was done.
-    fn nothing() -> Took {
+    /// Nothing was done, or nothing whose time is told. Whether each call came to what it must.
+    pub fn nothing(is_right: bool) -> Took {
         Took {
             nanos: 0,
             odd: 0,
             moved: 0,
             made: 0,
-            is_right: true,
+            is_right,
         }
     }
 
@@ -84,6 +84,16 @@ impl Took {
         self.moved = self.moved.saturating_add(part.moved);
         self.made = self.made.saturating_add(part.made);
         self.is_right = self.is_right && part.is_right;
+    }
+}
+
+impl Display for Took {
+    fn fmt<W: Write>(&self, f: &mut Formatter<W>) -> fmt::Result {
+        write!(
+            f,
+            "{} nanoseconds, {} odd, {} moved, {} made",
+            self.nanos, self.odd, self.moved, self.made
+        )
     }
 }
 
@@ -104,19 +114,6 @@ struct Worker<'r, 's, S: Store, R: Wait> {
 }
 
 impl Reads {
-    /// The settings that it runs under.
-    pub fn conf(self) -> Conf
-        ensures { SizeFits result.passwd }
-    {
-        Load::Hits {
-            threads: self.threads,
-            entries: self.entries,
-            count: self.count,
-            asked: self.entries,
-        }
-        .conf()
-    }
-
     /// Makes them.
     pub fn run<S: Store + Sync, R: Threads + Wait + Clock + Sync>(
         self,
@@ -127,8 +124,7 @@ impl Reads {
     where
         S::Pass: Send,
     {
-        let mut took = Took::nothing();
-        took.is_right = fills(&mut caller, self.entries);
+        let mut took = Took::nothing(fills(&mut caller, self.entries));
         let workers = self.workers(alloc, &caller)?;
         let left = AtomicU64::new(u64::from(self.threads));
         let parts = thread::map_vec(
@@ -191,7 +187,7 @@ impl Reads {
         caller: &mut Caller<'_, '_, S, R>,
     ) -> Result<Took, NoMemory> {
         let mut out = Buf::new(alloc, KEPT_LIMIT)?;
-        let mut took = Took::nothing();
+        let mut took = Took::nothing(true);
         let start = Instant::now(rt).ok();
         self.read(caller, &mut out, &mut took);
         match nanos_since(rt, start) {
@@ -229,7 +225,7 @@ impl Reads {
         left: &AtomicU64,
         caller: &mut Caller<'_, '_, S, R>,
     ) -> Took {
-        let mut took = Took::nothing();
+        let mut took = Took::nothing(true);
         let mut seconds = 0;
         let start = Instant::now(rt).ok();
         for _ in 0..u64::MAX {
@@ -264,7 +260,7 @@ fn fills<S: Store, R: Wait>(caller: &mut Caller<'_, '_, S, R>, entries: u32) -> 
     let mut right = true;
     for number in 0..entries {
         let name = name_of(number);
-        let given = caller.find_key(Kind::PwName, &name, LATE);
+        let given = caller.find(Kind::PwName, &name, LATE);
         right = right && matches!(&given, Ok(Given::Loaded { .. }));
     }
     right
@@ -275,7 +271,7 @@ fn makes<S: Store, R: Wait>(caller: &mut Caller<'_, '_, S, R>, from: u64, to: u6
     let mut right = true;
     for number in from..to {
         let name = name_of(FIRST + (number % OTHERS) as u32);
-        right = caller.find_key(Kind::PwName, &name, 0).is_ok() && right;
+        right = caller.find(Kind::PwName, &name, 0).is_ok() && right;
     }
     right
 }
@@ -330,6 +326,6 @@ fn is_asked<S: Store, R: Wait>(
 
 // Whether a lookup finds an entry.
 fn is_hit<S: Store, R: Wait>(caller: &mut Caller<'_, '_, S, R>, name: &[u8; 11]) -> bool {
-    let given = caller.find_key(Kind::PwName, name, 0);
+    let given = caller.find(Kind::PwName, name, 0);
     matches!(&given, Ok(Given::Hit { .. }))
 }

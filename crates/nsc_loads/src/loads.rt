@@ -1,9 +1,8 @@
 ghost use Rattle.std.specs.Prelude.{◌<◌, ◌*◌, ◌^◌};
-ghost use Rattle.nsc_model.specs.Sizes.{SizeFits};
 
-use crate::caller::Caller;
 use nsc_base::NoMemory;
-use nsc_model::{Conf, Given, Kind, Store};
+use nsc_caller::Caller;
+use nsc_model::{Given, Kind, Store};
 use std::alloc::Global;
 use std::sync::Wait;
 use std::thread;
@@ -49,32 +48,10 @@ pub enum Load {
     },
 }
 
-// How many seconds an entry of a user who is in no file is kept.
-const KEPT: u32 = 20;
+/// How many seconds an entry of a user who is in no file is kept.
+pub const KEPT: u32 = 20;
 
 impl Load {
-    /// The settings that it runs under: entries are loaded again for ever, and there is room for them, in the largest table where
-    /// entries stand before the calls.
-    pub fn conf(self) -> Conf
-        ensures { SizeFits result.passwd }
-    {
-        let mut conf = Conf::defaults();
-        conf.reloads = None;
-        conf.passwd.negative = KEPT;
-        if self.is_filled() {
-            conf.passwd.size = 65_536;
-        }
-        conf
-    }
-
-    // Whether entries stand before the calls.
-    fn is_filled(self) -> bool {
-        match self {
-            Load::Misses { .. } => false,
-            Load::Hits { .. } | Load::Ticks { .. } | Load::Compactions { .. } => true,
-        }
-    }
-
     /// How many users are in the file. Those whose entries are hit are in no file, and those whose entries are due are.
     pub fn users(self) -> u32 {
         match self {
@@ -154,7 +131,7 @@ fn misses<S: Store, R: Wait>(
     let mut now: u32 = 0;
     for turn in 0..count {
         let name = name_of(from.wrapping_add(turn));
-        let given = caller.find_key(Kind::PwName, &name, now);
+        let given = caller.find(Kind::PwName, &name, now);
         now = now.saturating_add(apart);
         right = right && matches!(&given, Ok(Given::Loaded { .. } | Given::Fresh { .. }));
     }
@@ -191,7 +168,7 @@ fn hits<S: Store, R: Wait>(caller: &mut Caller<'_, '_, S, R>, users: Asked, coun
     let mut right = true;
     for turn in 0..count {
         let name = name_of(users.number(turn));
-        let given = caller.find_key(Kind::PwName, &name, 0);
+        let given = caller.find(Kind::PwName, &name, 0);
         right = right && matches!(&given, Ok(Given::Hit { .. }));
     }
     right

@@ -3,9 +3,8 @@ ghost use Rattle.nsc_model.specs.declared.kind.Db.TheVariants as db;
 ghost use Rattle.nsc_model.specs.Entry.{key_limit, kept_limit};
 ghost use Rattle.nsc_model.specs.Kinds.{database_of};
 
-use crate::asked::Asked;
 use nsc_base::{Buf, Bytes, NoMemory};
-use nsc_client::{LinkFault, StoreLink, ask};
+use nsc_client::{Asked, LinkFault, StoreLink, ask};
 use nsc_model::{CacheFault, Given, InPlace, Kind, LookupFault, Stats, Store};
 use std::alloc::Global;
 use std::marker::Model;
@@ -52,13 +51,8 @@ impl<'r, 's, S: Store, R: Wait> Caller<'r, 's, S, R> {
         Ok(Caller::new(self.rt, self.alloc, self.store, pass))
     }
 
-    /// Looks a user up at this moment, in seconds.
-    pub fn find(&mut self, asked: Asked, now: u32) -> Result<Given, LookupFault> {
-        self.find_key(asked.kind(), asked.key(), now)
-    }
-
-    /// The same by a kind and a key.
-    pub fn find_key(&mut self, kind: Kind, key: &[u8], now: u32) -> Result<Given, LookupFault>
+    /// Looks a user up by a kind and a key at this moment, in seconds.
+    pub fn find(&mut self, kind: Kind, key: &[u8], now: u32) -> Result<Given, LookupFault>
         requires kind { database_of kind ≡ db.Passwd }
         requires key { length key.now ≤ key_limit }
     {
@@ -83,12 +77,7 @@ impl<'r, 's, S: Store, R: Wait> Caller<'r, 's, S, R> {
     }
 
     /// Asks for a user as a client does: beside whoever writes, and by a lookup at moment 0 where that finds nothing.
-    pub fn ask(
-        &mut self,
-        kind: Kind,
-        key: &[u8],
-        out: &mut Buf,
-    ) -> Result<nsc_client::Asked, LinkFault>
+    pub fn ask(&mut self, kind: Kind, key: &[u8], out: &mut Buf) -> Result<Asked, LinkFault>
         requires kind { database_of kind ≡ db.Passwd }
         requires key { length key.now ≤ key_limit }
         requires limit { out.old.limit ≡ kept_limit }
@@ -130,16 +119,14 @@ impl<'r, 's, S: Store, R: Wait> Caller<'r, 's, S, R> {
     }
 
     /// Looks a user up through another pass, which is met then.
-    pub fn find_and_meet(&mut self, asked: Asked, now: u32) -> Result<Given, LookupFault> {
+    pub fn find_and_meet(&mut self, kind: Kind, key: &[u8], now: u32) -> Result<Given, LookupFault>
+        requires kind { database_of kind ≡ db.Passwd }
+        requires key { length key.now ≤ key_limit }
+    {
         let mut other = self.store.attach(self.rt, self.alloc)?;
-        let given = self.store.lookup(
-            self.rt,
-            self.alloc,
-            &mut other,
-            asked.kind(),
-            asked.key(),
-            u64::from(now),
-        );
+        let given = self
+            .store
+            .lookup(self.rt, self.alloc, &mut other, kind, key, u64::from(now));
         self.store.meet(&mut self.pass, other);
         given
     }

@@ -1,0 +1,51 @@
+ghost use Rattle.std.specs.Prelude.{◌≡◌, None};
+ghost use Rattle.nsc_model.specs.declared.kind.Db.TheVariants as db;
+ghost use Rattle.nsc_model.specs.Settings.{settings_of};
+ghost use Rattle.nsc_model.specs.Sizes.{SizeFits};
+
+use crate::mode::Mode;
+use crate::reads::Took;
+use nsc_answer::Plain;
+use nsc_base::NoMemory;
+use nsc_database::{Opened, Room};
+use nsc_model::{Conf, Db};
+use nsc_outside::HeldFiles;
+use std::alloc::Global;
+use std::marker::Brand;
+use std::sync::Wait;
+use std::thread::Threads;
+use std::time::Clock;
+
+/// Makes the calls on a database of users that is opened over these files under these settings.
+pub fn done<R: Threads + Wait + Clock + Clone + Drop + Send + Sync>(
+    rt: &R,
+    alloc: Global,
+    conf: &Conf,
+    mut files: HeldFiles<R>,
+    mode: Mode,
+) -> Result<Took, NoMemory>
+    requires { SizeFits conf.now.passwd }
+{
+    match Opened::open(alloc, &mut files, Plain, Db::Passwd, conf, None, 0) {
+        Ok(opened) => done_in::<Brand, R>(rt, alloc, conf, opened, mode),
+        Err(_) => Err(NoMemory),
+    }
+}
+
+// Enters a room with a database of users that was opened under these settings, and makes the calls there.
+fn done_in<B: Room + Send, R: Threads + Wait + Clock + Clone + Drop + Send + Sync>(
+    rt: &R,
+    alloc: Global,
+    conf: &Conf,
+    opened: Opened<HeldFiles<R>, Plain>,
+    mode: Mode,
+) -> Result<Took, NoMemory>
+    requires table { opened.pass.table ≡ B.table opened.db }
+    requires conf { conf.now ≡ B.conf }
+    requires settings { (opened.settings ≡ settings_of conf.now opened.db) × (opened.reloads ≡ conf.now.reloads) }
+    requires users { opened.db ≡ db.Passwd }
+    requires held { B.held ≡ None }
+{
+    let (database, pass) = opened.enter::<B>();
+    mode.run(rt, alloc, &database, pass)
+}
