@@ -5,7 +5,6 @@ import random
 import re
 import struct
 import subprocess
-import threading
 import time
 
 import frames
@@ -95,16 +94,6 @@ def bad_images():
 # ---- what is no file that it may read
 
 
-def starts_soon(run, **how):
-    """Starts the daemon; one that hangs is a fault."""
-    late = threading.Timer(2 * PATIENCE, lambda: run.process.kill())
-    late.start()
-    try:
-        run.start(**how)
-    finally:
-        late.cancel()
-
-
 def no_files(run):
     """What it is, how it is made at the image's place, and how it looks afterwards."""
     path, other = image_of(run), run.folder / "other.img"
@@ -125,7 +114,7 @@ def left_alone():
         path, tried = image_of(run), []
         for what, make, is_as_made in no_files(run):
             make()
-            starts_soon(run)
+            run.start()
             check_counts(run, what, entries=0)
             run.is_well(what)
             ends(run, not_got(path), not_kept(path))
@@ -147,7 +136,7 @@ def unreadable():
             for path in (run.run, image_of(run)):
                 os.chown(path, NOBODY, NOBODY)
         try:
-            starts_soon(run, **how)
+            run.start(**how)
         except PermissionError:
             return "skipped, since another user may not run the program"
         check_counts(run, "an image of mode 000", entries=0)

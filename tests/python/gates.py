@@ -343,7 +343,7 @@ def unread_gates():
 def old_lines():
     """The process is stopped while lines wait for its one worker, behind peers that do not read."""
     with gated("-t", "1") as run:
-        before = [run.connect() for _ in range(60)]
+        before = [run.connect() for _ in range(200)]
         for peer in before:
             peer.sendall(ASK_BIG)
         peers = [run.connect("gate", 3 * PATIENCE) for _ in range(20)]

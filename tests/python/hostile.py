@@ -40,6 +40,8 @@ def refused_part(seed, count, many):
                 words += some
                 faults += wrong
             totals[is_alone] += words.total()
+            if not words:
+                faults.append(f"{subject.name}: no allocation was refused")
             how = "alone" if is_alone else "with all that follow"
             print(f"hostile: refused: {subject.name}: {words.total()} {how}: {refusing.listed(words)}", flush=True)
     return f"{len(subjects)} subjects, {totals[True]} allocations refused alone, and {totals[False]} with all that follow", faults

@@ -46,7 +46,8 @@ def sets(run, *lines):
 
 def counts_in(text, database):
     """The counts of a database in a text of statistics, by their names."""
-    part = next(part for part in text.decode().split("\n\n") if part.startswith(f"{database} cache:"))
+    part = next((part for part in text.decode().split("\n\n") if part.startswith(f"{database} cache:")), None)
+    check(part is not None, f"no counts of {database}: {text!r}")
     return dict(re.findall(r"^([a-z ]+) (\d.*)$", part, re.M))
 
 
@@ -66,7 +67,10 @@ def check_counts(run, text, database="passwd", **wanted):
 
 def entries_told(run):
     """How many entries of passwd it tells at the socket of the administrator: what -g does, but for a process."""
-    return int(re.search(rb"^entries (\d+)$", run.ask(request(GETSTAT, b""), "admin"), re.M).group(1))
+    text = run.ask(request(GETSTAT, b""), "admin")
+    told = re.search(rb"^entries (\d+)$", text, re.M)
+    check(told, f"no count of entries: {text!r}")
+    return int(told.group(1))
 
 
 def answer(run, kind, key):
@@ -269,13 +273,18 @@ def refused_start():
         put(run, images.image([root_entry(time.time() + 600)]))
         run.start()
         before = identity(image_of(run))
+        new = run.run / ".passwd.img.new"
+        new.write_bytes(b"half an image")
+        written = identity(new)
         for _ in range(3):
             check_refused(run.second(), "beside a daemon")
             check(identity(image_of(run)) == before, "a start that is refused touches the image")
+            check(identity(new) == written, "a start that is refused touches the image that is being written")
         check_answer(run, "user", b"maud", "beside starts that are refused")
         ends(run)
         check([key for _, key, *_ in entries_of(run)] == [b"root", b"maud"], f"image: {entries_of(run)}")
-        return "a second start, which is refused, leaves the image as it is"
+        check(left_in(run) == ["passwd.img"], f"at the end there are {left_in(run)}")
+        return "a second start, which is refused, leaves the image as it is, and the one that is being written"
 
 
 def over():

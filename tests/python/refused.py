@@ -36,8 +36,7 @@ def check_told(run, text, database="passwd", **wanted):
     """Sees that the daemon tells these counts, by names that have _ for each blank, and that all others of lookups are 0."""
     found = {name: int(value) for name, value in told(run, database).items() if value.isdigit()}
     named = {name.replace("_", " "): value for name, value in wanted.items()}
-    wrong = {name: value for name, value in found.items() if value != named.get(name, 0)}
-    check(not wrong, f"{text}: the counts are {found}, and not {named}")
+    check(found and found == {**dict.fromkeys(found, 0), **named}, f"{text}: the counts are {found}, and not {named}")
 
 
 def lookup(made, first, last, kind, key):

@@ -9,6 +9,7 @@ import images
 import kept
 import torn
 import workload
+from refused import STATISTICS
 from refusing import WORKERS, Orders, Subject, refusable
 from running import PATIENCE, PROGRAM, ROOT_REPLY, SHUTDOWN, Fault, check, daemon, request
 
@@ -145,7 +146,7 @@ def run_refused(run, made, words, first, last, sent=b""):
 
 def client(made, first, last, *words):
     with daemon("-t", "1") as run:
-        wanted = run.command("-g")[0] if words == ("-g",) else b""
+        wanted = STATISTICS if words == ("-g",) else b""
         refused, said = run_refused(run, made, [*words, "--run-dir", run.run], first, last)
         word = "done" if said == (wanted, b"", 0) else refusal(said, first, last, COMMAND_ENDINGS)
         if words == ("-K",) and said[2] == 0:

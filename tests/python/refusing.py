@@ -14,7 +14,7 @@ from collections import Counter
 from contextlib import contextmanager
 from pathlib import Path
 
-from running import PATIENCE, ROOT, SHUTDOWN, Daemon, Fault, check, request
+from running import PATIENCE, ROOT, SHUTDOWN, Daemon, check, request
 
 SOURCE = ROOT / "tests" / "c" / "refuse.c"
 FIELDS = ("counting", "first", "last", "count", "refused", "size", "ahead", "wait", "waits", "rests")
@@ -171,7 +171,8 @@ def refuse_all(work):
         last = number if is_alone else FOREVER
         try:
             refused, word = subject.trial(made, number, last, *subject.given)
-        except (Fault, OSError, subprocess.TimeoutExpired) as fault:
+        except Exception as fault:  # pylint: disable=broad-exception-caught
+            # Whatever goes wrong in a trial is a fault of that allocation, and the next one is tried.
             refused, word = 1, "fault"
             faults.append(f"{subject.name}, allocation {number}{'' if is_alone else ' and all that follow'}: {fault!r}")
         if not refused or len(faults) == MOST_FAULTS:

@@ -7,6 +7,7 @@ import socket
 import struct
 import subprocess
 import tempfile
+import threading
 import time
 from contextlib import contextmanager
 from pathlib import Path
@@ -14,6 +15,7 @@ from pathlib import Path
 ROOT = Path(__file__).resolve().parent.parent.parent
 PROGRAM = Path(os.environ.get("NSCD", ROOT / "build" / "nscd")).resolve()
 PATIENCE = 5.0  # seconds: a client of the C library waits so long for a reply
+LATE = 60.0  # seconds after which a start that says nothing is given up
 
 MEMBERS = ",".join(f"member{number:06d}" for number in range(32000)).encode()
 FILES = {
@@ -99,7 +101,11 @@ class Daemon:
             preexec_fn=limit,
             **how,
         )
+        # One that neither says a word nor ends is killed, and so begins with nothing.
+        late = threading.Timer(LATE, self.process.kill)
+        late.start()
         line = self.process.stdout.readline()
+        late.cancel()
         check(line == b"nscd: ready\n", f"it begins with {line!r}")
 
     def second(self, run_dir=None, **how):

@@ -19,6 +19,7 @@ def refused_in(subject):
                 return str(skipped)
             count, words, faults = refuse_all((subject, made, True, 1, 1))
         check(not faults, "; ".join(faults))
+        check(count, f"{subject.name}: no allocation was refused")
         return f"{subject.name}: {count} allocations, each refused in turn: {listed(words)}"
 
     return case

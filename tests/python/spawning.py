@@ -1,8 +1,10 @@
 """Many short runs of the program, one after the other, by the cheapest way to start one."""
 
 import os
+import signal
+import threading
 
-from running import PROGRAM
+from running import PATIENCE, PROGRAM
 
 
 class Runner:
@@ -19,8 +21,11 @@ class Runner:
         self.process = os.posix_spawn(PROGRAM, [str(PROGRAM), *words], {}, file_actions=places)
 
     def end(self):
-        """The output, what was said, and the status."""
+        """The output, what was said, and the status; one that does not end is killed."""
+        limit = threading.Timer(4 * PATIENCE, os.kill, (self.process, signal.SIGKILL))
+        limit.start()
         status = os.waitstatus_to_exitcode(os.waitpid(self.process, 0)[1])
+        limit.cancel()
         found = []
         for file in self.files:
             size = os.lseek(file, 0, os.SEEK_CUR)

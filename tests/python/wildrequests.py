@@ -33,6 +33,7 @@ def exchange(path, sent, is_last):
     taken = bytearray()
     with socket.socket(socket.AF_UNIX) as peer:
         peer.setsockopt(socket.SOL_SOCKET, socket.SO_RCVTIMEO, WAIT)
+        peer.setsockopt(socket.SOL_SOCKET, socket.SO_SNDTIMEO, WAIT)
         peer.connect(path)
         try:
             peer.sendall(sent)
@@ -128,7 +129,7 @@ def judged(name, path, sent, chance, answers):
 
 
 def judged_in_time(name, path, sent, chance, answers):
-    """The same. A peer that was so slow is sent away by the daemon, and tries again."""
+    """Sends these bytes, and again if the peer was so slow that the daemon sent it away."""
     for _ in range(TRIES):
         began = time.monotonic()
         came, is_right, number = judged(name, path, sent, chance, answers)
@@ -222,7 +223,8 @@ def trial(count=COUNT, seed=SEED, many=4):
         faults = [fault for *_, some in found for fault in some] + [fault for *_, fault in honests if fault]
         took, most = time.monotonic() - began, memory_of(run, "VmHWM")
         run.is_back_at(opened, "after all requests")
-        check(most <= MEMORY, f"it had {most} MiB of memory, and {MEMORY} are the most that it may")
+        if most > MEMORY:
+            faults.append(f"it had {most} MiB of memory, and {MEMORY} are the most that it may")
         run.shut_down()
     asked = {name: sum(row[1] for row in found if row[0] == name) for name in PIECES}
     answered = sum(row[2] for row in found)

@@ -1,12 +1,8 @@
--- The entries that lines and further services give for a name have that name.
-use Rattle.std.proofs.Common.{◌≡◌, ℕ, ◌-◌, Bool, true, false, if◌then◌else◌, List, [], ◌∷◌, length, filter, take, IfSome, Option, Some, None, refl, sym, ◌∙◌, ap, subst, arith}
+-- The entries that further services give for a name have that name.
+use Rattle.std.proofs.Common.{◌≡◌, ℕ, Bool, true, false, if◌then◌else◌, List, [], ◌∷◌, filter, IfSome, Option, Some, None, refl}
 use Rattle.std.specs.List.{filter_map}
-use Rattle.std.specs.Str.{bytes_eq}
 use Rattle.std.proofs.lemmas.Slice.Eq.{bytes_eq-Decides}
-use Rattle.nsc_base.specs.declared.search.Case.TheVariants.{Counts}
-use Rattle.nsc_base.specs.declared.span.Span.{Span}
-use Rattle.nsc_base.specs.Found.{Lacks}
-use Rattle.nsc_base.specs.Text.{lines_of, part}
+use Rattle.nsc_base.specs.Text.{lines_of}
 use Rattle.nsc_model.specs.declared.kind.Db.TheVariants as db
 use Rattle.nsc_model.specs.declared.kind.Kind.TheVariants as kind
 use Rattle.nsc_model.specs.declared.row.Looked.{Looked}
@@ -17,43 +13,11 @@ use Rattle.nsc_model.specs.declared.switch.SwitchService.TheVariants as service
 use Rattle.nsc_model.specs.declared.switch.SwitchStep.{SwitchStep}
 use Rattle.nsc_model.specs.Answers.{file_entry, found_first, group_in, group_named, sub_answer, sub_looked, switched, user_in, user_named}
 use Rattle.nsc_model.specs.Content.{Content}
-use Rattle.nsc_model.specs.Entries.{first_of, if_named, named_in}
+use Rattle.nsc_model.specs.Entries.{first_of, named_in}
 use Rattle.nsc_model.specs.Groups.{group_of_line}
 use Rattle.nsc_model.specs.Services.{action_at, ends}
 use Rattle.nsc_model.specs.Switches.{compat_list}
 use Rattle.nsc_model.specs.Users.{user_of_line}
-use Rattle.nsc_accounts.specs.Group.{group_places}
-use Rattle.nsc_accounts.specs.Passwd.{user_places}
-use Rattle.nsc_accounts.proofs.Named.{group_given, group_names, lacks_name, user_given, user_names}
-
--- ---- lines
-
-whole : List ℕ → Span
-whole line = record { from = 0; to = length line }
-
-take_all : (line : List ℕ) → take (length line) line ≡ line
-take_all [] = refl
-take_all (b ∷ line) = ap (λ (bytes : List ℕ). b ∷ bytes) (take_all line)
-
-whole_is : (line : List ℕ) → part line (whole line) ≡ line
-unfolding whole
-whole_is line = let all : length line - 0 ≡ length line = omega arith in ap (λ n. take n line) all ∙ take_all line
-
-pub user_lacks : (line name : List ℕ) → Lacks Counts name line → if_named (λ p. bytes_eq p.name name) (user_of_line line) ≡ None
-unfolding whole
-user_lacks line name lack =
-    let within : Lacks Counts name (part line (whole line)) = subst (Lacks Counts name) (sym (whole_is line)) lack in
-    let none = lacks_name (part line (whole line)) name (user_places line (whole line)) (λ at. part line at.name) (λ at. at.uid) (user_names line (whole line) (omega arith) (omega arith)) within in
-    ap (λ bytes. if_named (λ p. bytes_eq p.name name) (user_of_line bytes)) (sym (whole_is line)) ∙ sym (user_given line (λ p. bytes_eq p.name name) (whole line) None (omega arith) (omega arith) (sym none))
-
-pub group_lacks : (line name : List ℕ) → Lacks Counts name line → if_named (λ g. bytes_eq g.name name) (group_of_line line) ≡ None
-unfolding whole
-group_lacks line name lack =
-    let within : Lacks Counts name (part line (whole line)) = subst (Lacks Counts name) (sym (whole_is line)) lack in
-    let none = lacks_name (part line (whole line)) name (group_places line (whole line)) (λ at. part line at.name) (λ at. at.gid) (group_names line (whole line) (omega arith) (omega arith)) within in
-    ap (λ bytes. if_named (λ g. bytes_eq g.name name) (group_of_line bytes)) (sym (whole_is line)) ∙ sym (group_given line (λ g. bytes_eq g.name name) (whole line) None (omega arith) (omega arith) (sym none))
-
--- ---- further services
 
 -- what holds of each outcome holds of that of a switch
 switched_keeps : (P : Looked → Type 0) (look : SwitchService → Looked) → P Unavail → ((s : SwitchService) → P (look s)) → (steps : List SwitchStep) → P (switched look steps)

@@ -6,7 +6,7 @@ ghost use Rattle.nsc_accounts.specs.Passwd.{UserLiesIn, user_at};
 
 use crate::group::GroupAt;
 use crate::passwd::PasswdAt;
-use nsc_base::{Bytes, NoMemory, Span, Texts, field_at};
+use nsc_base::{NoMemory, Span, Text, Texts, field_at};
 use nsc_model::{Group, Passwd};
 use std::alloc::Global;
 
@@ -16,13 +16,13 @@ pub fn user_row(alloc: Global, text: &[u8], at: &PasswdAt) -> Result<Passwd, NoM
     ensures { IfOk result (λ user. user ≡ user_at text.now at.now) }
 {
     Ok(Passwd {
-        name: Bytes::copy(alloc, at.name.of(text))?,
-        passwd: Bytes::copy(alloc, at.passwd.of(text))?,
+        name: Text::copy(alloc, at.name.of(text))?,
+        passwd: Text::copy(alloc, at.passwd.of(text))?,
         uid: at.uid,
         gid: at.gid,
-        gecos: Bytes::copy(alloc, at.gecos.of(text))?,
-        dir: Bytes::copy(alloc, at.dir.of(text))?,
-        shell: Bytes::copy(alloc, at.shell.of(text))?,
+        gecos: Text::copy(alloc, at.gecos.of(text))?,
+        dir: Text::copy(alloc, at.dir.of(text))?,
+        shell: Text::copy(alloc, at.shell.of(text))?,
     })
 }
 
@@ -32,8 +32,8 @@ pub fn group_row(alloc: Global, text: &[u8], at: &GroupAt) -> Result<Group, NoMe
     ensures { IfOk result (λ group. group ≡ group_at text.now at.now) }
 {
     Ok(Group {
-        name: Bytes::copy(alloc, at.name.of(text))?,
-        passwd: Bytes::copy(alloc, at.passwd.of(text))?,
+        name: Text::copy(alloc, at.name.of(text))?,
+        passwd: Text::copy(alloc, at.passwd.of(text))?,
         gid: at.gid,
         members: members(alloc, text, at.members)?,
     })
@@ -44,7 +44,11 @@ fn members(alloc: Global, text: &[u8], within: Span) -> Result<Texts, NoMemory>
     requires { within.to ≤ length text.now }
     ensures { IfOk result (λ members. members ≡ members_of (part text.now within)) }
 {
-    let mut members = Texts::with_room(alloc, within.of(text).len() + 1)?;
+    let all = within.of(text);
+    if all.is_empty() {
+        return Ok(Texts::new(alloc));
+    }
+    let mut members = Texts::with_room(alloc, all.len() + 1)?;
     let mut from = within.from();
     while let Some(piece) = field_at(text, within, from, b',') {
         let member = piece.span.of(text);

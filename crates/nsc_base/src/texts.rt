@@ -49,7 +49,7 @@ impl Texts {
         })
     }
 
-    /// Puts a copy of a text behind those that are there. Fails only for want of memory.
+    /// Puts a copy of a text behind those that are there. Fails only for want of memory, and then puts nothing.
     pub fn push(&mut self, text: &[u8]) -> Result<(), NoMemory>
         ensures added { OnOk result (self.new ≡ self.old ++ text.now ∷ []) }
         ensures unchanged { OnErr result (self.new ≡ self.old) }

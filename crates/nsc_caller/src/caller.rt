@@ -51,7 +51,7 @@ impl<'r, 's, S: Store, R: Wait> Caller<'r, 's, S, R> {
         Ok(Caller::new(self.rt, self.alloc, self.store, pass))
     }
 
-    /// Looks a user up by a kind and a key at this moment, in seconds.
+    /// Looks a user up by a kind and a key at this moment, in seconds. Fails as a lookup of the database does.
     pub fn find(&mut self, kind: Kind, key: &[u8], now: u32) -> Result<Given, LookupFault>
         requires kind { database_of kind ≡ db.Passwd }
         requires key { length key.now ≤ key_limit }
@@ -66,7 +66,7 @@ impl<'r, 's, S: Store, R: Wait> Caller<'r, 's, S, R> {
         )
     }
 
-    /// Searches for a user by a kind and a key, beside whoever writes.
+    /// Searches for a user by a kind and a key, beside whoever writes; a hit leaves the reply in `out`.
     pub fn read(&mut self, kind: Kind, key: &[u8], out: &mut Buf) -> InPlace
         requires kind { database_of kind ≡ db.Passwd }
         requires key { length key.now ≤ key_limit }
@@ -76,7 +76,8 @@ impl<'r, 's, S: Store, R: Wait> Caller<'r, 's, S, R> {
         self.store.in_place(&mut self.pass, kind, key, out)
     }
 
-    /// Asks for a user as a client does: beside whoever writes, and by a lookup at moment 0 where that finds nothing.
+    /// Asks for a user as a client does: beside whoever writes, and by a lookup at moment 0 where that finds nothing, which may fail as
+    /// one of the database does.
     pub fn ask(&mut self, kind: Kind, key: &[u8], out: &mut Buf) -> Result<Asked, LinkFault>
         requires kind { database_of kind ≡ db.Passwd }
         requires key { length key.now ≤ key_limit }
@@ -97,28 +98,28 @@ impl<'r, 's, S: Store, R: Wait> Caller<'r, 's, S, R> {
         )
     }
 
-    /// A tick at this moment, in seconds.
+    /// A tick at this moment, in seconds. Fails as one of the database does.
     pub fn tick(&mut self, now: u32) -> Result<(), LookupFault> {
         self.store
             .tick(self.rt, self.alloc, &mut self.pass, u64::from(now))
     }
 
-    /// Invalidates the database, and gives the new number of invalidations.
+    /// Invalidates the database, and gives the new number of invalidations. Fails where a count that it needs stands at its end.
     pub fn invalidate(&mut self) -> Result<u64, CacheFault> {
         self.store.invalidate(self.rt, &mut self.pass)
     }
 
-    /// What the database counts.
+    /// What the database counts. Fails only for want of memory.
     pub fn stats(&mut self) -> Result<Stats, NoMemory> {
         self.store.stats(self.rt, &mut self.pass)
     }
 
-    /// The image of the database.
+    /// The image of the database. Fails only for want of memory.
     pub fn save(&mut self) -> Result<Bytes, NoMemory> {
         self.store.save(self.rt, self.alloc, &mut self.pass)
     }
 
-    /// Looks a user up through another pass, which is met then.
+    /// Looks a user up through another pass, which is met then. Fails as a lookup of the database does, or for want of a pass.
     pub fn find_and_meet(&mut self, kind: Kind, key: &[u8], now: u32) -> Result<Given, LookupFault>
         requires kind { database_of kind ≡ db.Passwd }
         requires key { length key.now ≤ key_limit }

@@ -14,10 +14,12 @@ use std::sync::Wait;
 // How many bytes a connection takes.
 const ROOM: usize = 4096;
 
-/// How the calls of one end of a connection go: whether each moves a byte at most, and the number of the one that fails, 0 being none.
+/// How the calls of one end of a connection go.
 #[derive(Clone, Copy, Debug)]
 pub struct Calls {
+    /// Whether each call moves a byte at most.
     pub by_byte: bool,
+    /// The number of the call that fails; 0 is none.
     pub failing: u64,
 }
 
@@ -35,15 +37,20 @@ pub fn failing(call: u64) -> Calls {
     }
 }
 
-/// A connection: what it sends, on the socket of the administrator or of everyone, how its reads and its writes go, what must come of
-/// it, and what it must be sent.
+/// A connection, and what must come of it.
 #[derive(Clone, Copy, Debug)]
 pub struct Connection<'a> {
+    /// What it sends.
     pub sends: &'a [u8],
+    /// Whether it stands at the socket of the administrator, and not at that of everyone.
     pub is_admin: bool,
+    /// How reads from it go.
     pub reads: Calls,
+    /// How writes to it go.
     pub writes: Calls,
+    /// What must come of it.
     pub served: Served,
+    /// What it must be sent.
     pub sent: &'a [u8],
 }
 

@@ -10,7 +10,9 @@ use std::alloc::Global;
 /// Files in memory that change once a database is opened over them: each set that is split from this one has the later ones.
 #[derive(Drop)]
 pub struct Growing {
+    /// The files at first.
     pub files: MemFiles,
+    /// The files of the sets that are split from this one.
     pub later: MemFiles,
 }
 

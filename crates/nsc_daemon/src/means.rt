@@ -1,4 +1,3 @@
-// What a daemon has before its sockets are bound.
 ghost use Rattle.std.specs.Prelude.{◌≡◌, ◌++◌, IfOk, codes};
 ghost use Rattle.std.specs.Arc.{arc_value};
 ghost use Rattle.std.specs.String.{string_bytes};
@@ -16,15 +15,20 @@ use std::sync::{Arc, Wait};
 use std::thread;
 use std::thread::Threads;
 
-/// The databases as the threads share them, the room for requests, the list of the connections that wait, who serves the gate where
-/// there is one and no worker, and the paths of the two sockets.
+/// What a daemon has before its sockets are bound.
 #[derive(Drop)]
 pub struct Means<S: Store + Drop, R: Drop, K: Drop> {
+    /// The databases, as the threads share them.
     pub stores: Arc<Databases<S>, Global>,
+    /// The room for requests of the thread that accepts.
     pub buffer: RequestBuffer,
+    /// The connections that wait for a worker.
     pub list: Waitings<R, K>,
+    /// Who serves the gate where there is one and no worker.
     pub gate: Option<Gatekeeper<S>>,
+    /// The path of the socket of every user.
     pub plain: String,
+    /// The path of the socket of the administrator.
     pub admin: String,
 }
 

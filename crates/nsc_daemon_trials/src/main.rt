@@ -63,11 +63,13 @@ fn main(rt: HostRuntime) -> io::Result<()> {
     Ok(())
 }
 
-// A store of no images, into which none can be put if that is to fail.
+// A store of no images, from which none can be got and into which none can be put if that is to fail.
 fn images_for(alloc: Global, images: Images) -> Result<MemImages, NoMemory> {
     let store = MemImages::new(alloc, ROOM)?;
     if images == Images::Failing {
-        return Ok(store.failing_puts(Vec::from_slice(alloc, &[1, 2, 3, 4])?));
+        let gets = Vec::from_slice(alloc, &[1, 2, 3, 4])?;
+        let puts = Vec::from_slice(alloc, &[1, 2, 3, 4])?;
+        return Ok(store.failing_gets(gets).failing_puts(puts));
     }
     Ok(store)
 }

@@ -12,7 +12,7 @@ const ROOM: usize = 4096;
 pub enum Images {
     /// None.
     Absent,
-    /// None, and no image can be put.
+    /// None, and no image can be got or put.
     Failing,
     /// Those that the trial before it left.
     Left,

@@ -23,8 +23,8 @@ use nsc_model::{Ai, Content, FileId};
 use nsc_nets::{HostAt, ServiceAt};
 use std::alloc::Global;
 
-/// A way to find entries in the files of a content. Each call is given a file that is there, and its text, and fails only for want of
-/// memory. What it finds are places in that text.
+/// A way to find entries in the files of a content. A search is given a file that is there, and its text, and what it finds are places
+/// in that text; `None` where no entry is the one that is sought. A call with a `Result` fails only for want of memory.
 pub trait Finder {
     /// The content.
     ghost content: { Self → Content };
@@ -92,7 +92,7 @@ pub trait Finder {
         requires { file_of (content self.now) file ≡ Some text.now }
         ensures { IfOk result (λ ids. ids ≡ ids_of user.now text.now) };
 
-    /// The names and ids of these groups, none dropped.
+    /// The names and ids of the groups of a group file that have this user as a member, none dropped.
     fn named_groups(
         &self,
         alloc: Global,

@@ -1,5 +1,5 @@
 -- What readers say, as bytes: numbers of eight bytes with the lowest first, and texts behind their lengths.
-use Rattle.std.specs.Prelude.{◌≡◌, ◌⊎◌, ℕ, ◌==◌, Bool, if◌then◌else◌, List, ◌++◌, length, take, flat_map, Option, Some, None, Result, Ok, Err}
+use Rattle.std.specs.Prelude.{◌≡◌, ◌⊎◌, ℕ, ◌==◌, Bool, if◌then◌else◌, List, ◌++◌, length, take, drop, flat_map, Option, Some, None, Result, Ok, Err}
 use Rattle.std.specs.Int.{w32, cast_unsigned}
 use Rattle.nsc_model.specs.declared.row.Passwd.{Passwd}
 use Rattle.nsc_model.specs.declared.row.Group.{Group}
@@ -54,9 +54,10 @@ option_told told (Some x) = number_told 1 ++ told x
 abbrev pub IsNotTold : List ℕ → List ℕ → ℕ → Type 0
 IsNotTold before after size = (size ≡ 0) × (after ≡ before)
 
--- what is told stands at the front of a room, and this is its size; or nothing is, where memory was wanting or the room was too small
+-- what is told stands at the front of a room, whose rest is as it was, and this is its size; or nothing is told, where memory was
+-- wanting or the room was too small
 abbrev pub IsTold : List ℕ → List ℕ → List ℕ → ℕ → Type 0
-IsTold told before after size = IsNotTold before after size ⊎ ((size ≡ length told) × (take size after ≡ told))
+IsTold told before after size = IsNotTold before after size ⊎ ((size ≡ length told) × (take size after ≡ told) × (drop size after ≡ drop size before))
 
 -- ---- rows
 

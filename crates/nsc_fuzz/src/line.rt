@@ -47,7 +47,7 @@ fn user(alloc: Global, text: &[u8], line: Span) -> Result<Vec<u8>, NoMemory>
     Ok(out)
 }
 
-/// The group of a line of group(5), in the same way.
+/// The group of a line of group(5), as `nsc_passwd_line` gives a user.
 #[unsafe(no_mangle)]
 pub extern "C" fn nsc_group_line(
     alloc: Global,
@@ -79,7 +79,7 @@ fn group(alloc: Global, text: &[u8], line: Span) -> Result<Vec<u8>, NoMemory>
     Ok(out)
 }
 
-/// The host of a line of hosts(5), in the same way.
+/// The host of a line of hosts(5), as `nsc_passwd_line` gives a user.
 #[unsafe(no_mangle)]
 pub extern "C" fn nsc_host_line(
     alloc: Global,
@@ -111,7 +111,7 @@ fn host(alloc: Global, text: &[u8], line: Span) -> Result<Vec<u8>, NoMemory>
     Ok(out)
 }
 
-/// The service of a line of services(5), in the same way.
+/// The service of a line of services(5), as `nsc_passwd_line` gives a user.
 #[unsafe(no_mangle)]
 pub extern "C" fn nsc_service_line(
     alloc: Global,

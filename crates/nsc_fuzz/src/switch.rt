@@ -19,14 +19,14 @@ pub extern "C" fn nsc_service_list(alloc: Global, name: u8, text: &[u8], room: &
     ensures told { IfSome (list_numbered name) (λ list. IsTold (steps_told (list_of text.now list)) room.old room.new result) }
     ensures none { IfNone (list_numbered name) (IsNotTold room.old room.new result) }
 {
-    match name_numbered(name) {
-        Some(name) => hand_over(told(alloc, name, text), room),
+    match list_numbered(name) {
+        Some(list) => hand_over(told(alloc, list, text), room),
         None => 0,
     }
 }
 
-// The name of a number.
-fn name_numbered(number: u8) -> Option<DbName>
+// The list of a number.
+fn list_numbered(number: u8) -> Option<DbName>
     ensures { result ≡ list_numbered number }
 {
     match number {

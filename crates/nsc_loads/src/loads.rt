@@ -97,7 +97,7 @@ impl Load {
                 count,
                 asked,
             } => {
-                let users = Asked::of(entries, asked);
+                let users = Users::of(entries, asked);
                 hits_by(rt, alloc, &caller, threads, users, count)?
             }
             Load::Misses { users, count } => misses(&mut caller, users, count, 0),
@@ -140,18 +140,18 @@ fn misses<S: Store, R: Wait>(
 
 // Users who are asked for in turn.
 #[derive(Clone, Copy)]
-struct Asked {
+struct Users {
     // How many they are, at least one.
     users: u32,
     // How far their numbers are apart.
     apart: u32,
 }
 
-impl Asked {
+impl Users {
     // So many of the users with entries, at least one and at most all.
-    fn of(entries: u32, asked: u32) -> Asked {
+    fn of(entries: u32, asked: u32) -> Users {
         let users = asked.min(entries).max(1);
-        Asked {
+        Users {
             users,
             apart: entries / users,
         }
@@ -164,7 +164,7 @@ impl Asked {
 }
 
 // Looks up these users as many times in turn, and says whether each had an entry.
-fn hits<S: Store, R: Wait>(caller: &mut Caller<'_, '_, S, R>, users: Asked, count: u32) -> bool {
+fn hits<S: Store, R: Wait>(caller: &mut Caller<'_, '_, S, R>, users: Users, count: u32) -> bool {
     let mut right = true;
     for turn in 0..count {
         let name = name_of(users.number(turn));
@@ -180,7 +180,7 @@ fn hits_by<S: Store + Sync, R: Threads + Wait + Sync>(
     alloc: Global,
     caller: &Caller<'_, '_, S, R>,
     threads: u32,
-    users: Asked,
+    users: Users,
     count: u32,
 ) -> Result<bool, NoMemory>
 where

@@ -46,7 +46,7 @@ pub enum Kind {
     ServPort = 17,
 }
 
-/// The layouts that replies with an entry have, protocol version 2.
+/// The layouts of replies, protocol version 2.
 #[derive(Clone, Copy, Debug, PartialEq, Eq)]
 pub enum Shape {
     /// A user.
@@ -163,7 +163,7 @@ impl Kind {
         }
     }
 
-    /// The layout of the replies that have an entry.
+    /// The layout of the replies to this kind.
     pub fn shape(self) -> Shape
         ensures { result ≡ shape_of self }
     {

@@ -1,10 +1,12 @@
 // The folder in which a daemon has its sockets and its images.
-ghost use Rattle.std.specs.Prelude.{◌≡◌, ◌↔◌, ◌⊎◌, IsTrue, bit_and};
+ghost use Rattle.std.specs.Prelude.{◌≡◌, ◌↔◌, ◌⊎◌, IfErr, IsOk, IsTrue, bit_and};
+ghost use Rattle.std.specs.Fs.{IsDir, file_type};
+ghost use Rattle.std.specs.IoError.{error_kind};
 
 use std::fs::{File, Metadata, OpenFile, TryLockError};
 use std::io;
 use std::io::{Error, ErrorKind};
-use std::os::unix::fs::MetadataExt;
+use std::os::unix::fs::{MetadataExt, OpenOptionsExt};
 use std::rt::Files;
 
 /// The name of the file in a daemon's folder whose lock tells that a process has the folder.
@@ -15,9 +17,15 @@ const OTHERS: u32 = 0o022;
 
 const ROOT: u32 = 0;
 
+// The mode of the file whose lock tells that a process has the folder.
+const LOCK: u32 = 0o600;
+
 /// Refuses what is no folder, by `NotADirectory`, and one that others may change, by `PermissionDenied`: it must belong to this user or
 /// root, and nobody else may write it.
-pub fn check_folder(metadata: &Metadata) -> io::Result<()> {
+pub fn check_folder(metadata: &Metadata) -> io::Result<()>
+    ensures folder { IsOk result → IsDir (file_type metadata.now) }
+    ensures refused { IfErr result (λ error. ¬ (error_kind error ≡ ErrorKind.NotFound)) }
+{
     if !metadata.is_dir() {
         return Err(Error::from(ErrorKind::NotADirectory));
     }
@@ -35,10 +43,18 @@ fn is_kept(owner: u32, user: u32, mode: u32) -> bool
     (owner == user || owner == ROOT) && mode & OTHERS == 0
 }
 
-// Whether some process holds the lock of the file at this path.
-pub(crate) fn is_locked<R: Files<File = File>>(system: &R, path: &str) -> bool {
-    match File::open(system, path) {
-        Ok(file) => matches!(file.try_lock(), Err(TryLockError::WouldBlock)),
-        Err(_) => false,
+/// Locks the file at this path, which is made with mode 0600 where there is none, until what this gives is dropped. Fails by `AddrInUse`
+/// where another process has the lock, and by the system's error where the file cannot be opened or locked.
+pub fn take_lock<R: Files<File = File>>(system: &R, path: &str) -> io::Result<File> {
+    let mut how = File::options();
+    how.write(true).create(true).mode(LOCK);
+    let file = how.open(system, path)?;
+    match file.try_lock() {
+        Ok(()) => Ok(file),
+        Err(TryLockError::WouldBlock) => {
+            let message = "another daemon has its folder";
+            Err(Error::new(ErrorKind::AddrInUse, message))
+        }
+        Err(TryLockError::Error(error)) => Err(error),
     }
 }

@@ -7,8 +7,8 @@ ghost use Rattle.nsc_outside.specs.ImageStores.{ImageFits, IsImageCause, OthersS
 ghost use Rattle.nsc_outside.specs.ImageTally.{db_count, no_image_counts};
 
 use crate::files::ReadCause;
-use crate::folders::{check_folder, is_locked};
-use crate::image_paths::{ImagePaths, image_name};
+use crate::folders::{LOCK_NAME, check_folder, take_lock};
+use crate::image_paths::{ImagePaths, image_name, path_in};
 use crate::image_tally::ImageTally;
 use crate::images::{IMAGE_LIMIT, ImageStore};
 use crate::reading::{absent_or, read_within};
@@ -31,8 +31,8 @@ const OWN: u32 = 0o600;
 ///
 /// The folder must belong to this user or root, and nobody else may write it: else each call fails, and nothing is touched. What has
 /// an image's name and is a link, or no regular file, is left alone, and a call that meets it fails. Only one store at a time may put
-/// images into a folder, that of the process that has the folder's lock: others leave alone what it writes. Why a call failed is told
-/// on standard error.
+/// images into a folder, that of the process that has the folder's lock: while somebody has it, what is being written is left alone.
+/// Why a call failed is told on standard error.
 #[derive(Drop)]
 pub struct HostImages<R: Files + Drop> {
     system: R,
@@ -149,9 +149,9 @@ impl<R: Files<File = File> + Eprint + Drop> ImageStore for HostImages<R> {
         Ok(())
     }
 
-    /// Removes what a put that was broken off has left, unless another process has the folder's lock, then opens the image's file and reads it once. There is no image where the
-    /// file or the folder is missing. The length that `TooLong` gives is the one that the system told before, or that of 134,217,729
-    /// bytes, whichever is more.
+    /// Removes what a put that was broken off has left, if nobody has the folder's lock; then opens the image's file and reads it once.
+    /// There is no image where the file or the folder is missing. The length that `TooLong` gives is the one that the system told
+    /// before, or that of 134,217,729 bytes, whichever is more.
     fn get(&mut self, alloc: Global, db: Db) -> Result<Option<Bytes>, ReadCause>
         ensures fits { IfOk result (λ image. ImageFits image) }
         ensures cause { IfErr result (λ cause. IsImageCause None cause) }
@@ -201,7 +201,7 @@ fn read_image<R: Files<File = File> + Eprint>(
     ensures cause { IfErr result (λ cause. IsImageCause None cause) }
 {
     let path = paths.image.as_str();
-    match open_image(system, folder, paths) {
+    match open_image(system, alloc, folder, paths) {
         Ok((file, length)) => match read_within(alloc, file, length, IMAGE_LIMIT) {
             Ok(image) => Ok(Some(image)),
             Err(cause) => {
@@ -222,18 +222,25 @@ fn read_image<R: Files<File = File> + Eprint>(
 // Opens the image, and tells its length, once what a put that was broken off has left is removed.
 fn open_image<R: Files<File = File>>(
     system: &R,
+    alloc: Global,
     folder: &str,
     paths: &ImagePaths,
 ) -> io::Result<(R::File, u64)> {
     let _folder = open_folder(system, folder)?;
-    remove_left(system, paths);
+    let new = paths.new.as_str();
+    if fs::symlink_metadata(system, new).is_ok() {
+        remove_left(system, alloc, folder, new);
+    }
     open_plain(system, paths.image.as_str())
 }
 
-// Removes a new image that nobody writes any more: while another daemon has the folder, it may be at it.
-fn remove_left<R: Files<File = File>>(system: &R, paths: &ImagePaths) {
-    let new = paths.new.as_str();
-    if fs::symlink_metadata(system, new).is_ok() && !is_locked(system, paths.lock.as_str()) {
+// Removes a new image that nobody writes any more. The folder's lock is held meanwhile, so nobody begins; if it cannot be had, a
+// daemon may be writing, and the next start removes what is left.
+fn remove_left<R: Files<File = File>>(system: &R, alloc: Global, folder: &str, new: &str) {
+    let Ok(lock) = path_in(alloc, folder, LOCK_NAME) else {
+        return;
+    };
+    if let Ok(_held) = take_lock(system, lock.as_str()) {
         let _ = fs::remove_file(system, new);
     }
 }

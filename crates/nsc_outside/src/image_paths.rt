@@ -1,7 +1,6 @@
-ghost use Rattle.std.specs.Prelude.{◌≡◌, IfOk, codes, string_bytes};
+ghost use Rattle.std.specs.Prelude.{◌≡◌, IfOk, string_bytes};
 ghost use Rattle.nsc_outside.specs.ImageStores.{image_name, new_name, path_in};
 
-use crate::folders::LOCK_NAME;
 use nsc_base::NoMemory;
 use nsc_model::Db;
 use std::alloc::Global;
@@ -31,7 +30,7 @@ fn new_name(db: Db) -> &'static str
 }
 
 // The path of a file in a folder.
-fn path_in(alloc: Global, folder: &str, name: &str) -> Result<String, NoMemory>
+pub(crate) fn path_in(alloc: Global, folder: &str, name: &str) -> Result<String, NoMemory>
     ensures { IfOk result (λ path. string_bytes path ≡ path_in folder.now name.now) }
 {
     let mut path = String::from_str(alloc, folder)?;
@@ -47,8 +46,6 @@ pub(crate) struct ImagePaths {
     pub image: String,
     /// The one at which a new image is written.
     pub new: String,
-    /// The one of the file whose lock tells that a process has the folder.
-    pub lock: String,
 }
 
 impl ImagePaths {
@@ -56,12 +53,10 @@ impl ImagePaths {
     pub(crate) fn of(alloc: Global, folder: &str, db: Db) -> Result<ImagePaths, NoMemory>
         ensures image { IfOk result (λ paths. string_bytes paths.image ≡ path_in folder.now (image_name db)) }
         ensures new { IfOk result (λ paths. string_bytes paths.new ≡ path_in folder.now (new_name db)) }
-        ensures lock { IfOk result (λ paths. string_bytes paths.lock ≡ path_in folder.now (codes "lock")) }
     {
         Ok(ImagePaths {
             image: path_in(alloc, folder, image_name(db))?,
             new: path_in(alloc, folder, new_name(db))?,
-            lock: path_in(alloc, folder, LOCK_NAME)?,
         })
     }
 }

@@ -31,7 +31,7 @@ mod tally;
 mod whole;
 
 pub use files::{FileSet, ReadCause};
-pub use folders::{LOCK_NAME, check_folder};
+pub use folders::{LOCK_NAME, check_folder, take_lock};
 pub use held_files::HeldFiles;
 pub use hold::Hold;
 pub use host_files::HostFiles;

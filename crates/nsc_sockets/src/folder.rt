@@ -1,17 +1,13 @@
 // The folder in which a process's sockets stand, and which it has for itself.
-use nsc_outside::{LOCK_NAME, check_folder};
+use nsc_outside::{LOCK_NAME, check_folder, take_lock};
 use std::alloc::Global;
-use std::fs::{DirBuilder, File, Permissions, TryLockError};
-use std::io::ErrorKind;
-use std::os::unix::fs::{DirBuilderExt, MetadataExt, OpenOptionsExt, PermissionsExt};
+use std::fs::{DirBuilder, File, Permissions};
+use std::os::unix::fs::{DirBuilderExt, MetadataExt, PermissionsExt};
 use std::rt::Files;
 use std::{fs, io};
 
 // The mode of a folder that is made: everyone may find the sockets in it.
 const FOLDER: u32 = 0o755;
-
-// The mode of the file whose lock tells that somebody has the folder.
-const LOCK: u32 = 0o600;
 
 /// A folder that no other process has, as long as this lives.
 #[derive(Drop)]
@@ -65,19 +61,4 @@ fn make<R: Files>(system: &R, path: &str) -> io::Result<bool> {
     builder.recursive(true).mode(FOLDER);
     builder.create(system, path)?;
     Ok(true)
-}
-
-// Opens this file, which is made where there is none, and locks it unless another process has.
-fn take_lock<R: Files<File = File>>(system: &R, path: &str) -> io::Result<File> {
-    let mut how = File::options();
-    how.write(true).create(true).mode(LOCK);
-    let file = how.open(system, path)?;
-    match file.try_lock() {
-        Ok(()) => Ok(file),
-        Err(TryLockError::WouldBlock) => {
-            let message = "another daemon has its folder";
-            Err(io::Error::new(ErrorKind::AddrInUse, message))
-        }
-        Err(TryLockError::Error(error)) => Err(error),
-    }
 }

@@ -69,7 +69,7 @@ impl Asked {
         caller.find(self.kind(), self.key(), now)
     }
 
-    /// The same through another pass, which is met then.
+    /// Looks the user up at this moment through another pass, which is met then.
     pub fn find_and_meet<S: Store, R: Wait>(
         self,
         caller: &mut Caller<'_, '_, S, R>,
