@@ -1,4 +1,4 @@
--- What a line says, as the code has it.
+-- What a line says, as a value of the code.
 use Rattle.std.specs.Prelude.{ℕ, List, [], ◌∷◌}
 use Rattle.nsc_base.specs.Text.{fields_of}
 use Rattle.nsc_model.specs.Compat as compat

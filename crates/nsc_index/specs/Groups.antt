@@ -1,4 +1,4 @@
--- The lines of a group file by name, by group id and by member.
+-- The lines of a group file by name, by group id, by member and by sign.
 use Rattle.std.specs.Prelude.{ℕ, List, [], filter, map}
 use Rattle.std.specs.Option.{option_map, option_map_or, option_to_list}
 use Rattle.std.specs.Ordering.{nat_cmp}

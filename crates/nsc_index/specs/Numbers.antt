@@ -18,7 +18,6 @@ has_number number at = is_eq (nat_cmp at.number number)
 unfoldable pub number_with : ℕ → ℕ → ℕ
 number_with number byte = (number * 9 + byte) % 2 ^ 32
 
--- a number of 32 bits that a text gives. Which one counts for nothing: what is said of indexes holds for any function of texts, and no
--- clause looks into this one
+-- a number of 32 bits that a text gives: what is said of indexes holds for any function of texts
 unfoldable pub text_number : List ℕ → ℕ
 text_number text = fold number_with 0 text

@@ -22,7 +22,7 @@ signs_of text line = option_to_list (option_map (λ name. (name, line.from)) (si
 abbrev pub named_line : List ℕ → NameAt → List ℕ × ℕ
 named_line text at = (name_in text at, at.line)
 
--- the names of those lines, in their order
+-- the names of those lines, in the order of the names
 pub record IsSignIndex (text : List ℕ) (index : List NameAt) : Type 0 where
   pub ordered : IsSortedByKey (name_key Counts text) (slice_cmp nat_cmp) index
   pub same : (test : List ℕ × ℕ → Bool) → list_any test (map (named_line text) index) ≡ list_any test (rows_from (signs_of text) text 0)

@@ -1,4 +1,4 @@
--- The lines of a passwd file by name and by user id.
+-- The lines of a passwd file by name, by user id and by sign.
 use Rattle.std.specs.Prelude.{◌≡◌, ℕ, Bool, List}
 use Rattle.nsc_accounts.specs.Passwd.{user_places}
 use Rattle.nsc_accounts.specs.declared.passwd.PasswdAt.{PasswdAt}

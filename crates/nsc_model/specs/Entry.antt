@@ -1,4 +1,4 @@
--- What never changes of an entry of a cache, and what limits hold of requests and replies.
+-- What never changes of an entry of a cache, and what limits hold of requests, replies and lines at the gate.
 use Rattle.std.specs.Prelude.{ℕ}
 use Rattle.nsc_model.specs.declared.answer.Request.{Request}
 use Rattle.nsc_model.specs.Answer.{Answer}

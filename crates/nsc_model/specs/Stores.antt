@@ -1,4 +1,4 @@
--- What a lookup in a store gives a caller who had seen one beginning of the database's history before, and has seen another one
+-- What the calls of a store give a caller who had seen one beginning of the database's history before, and has seen another one
 -- after it.
 use Rattle.std.specs.Prelude.{◌≡◌, ◌≢◌, ℕ, ◌+◌, ◌^◌, ◌<◌, ◌≤◌, ◌⊎◌, false, All, List, ◌∷◌, length, map, sum_by, Option, Some}
 use Rattle.std.specs.Bool.{OnFalse, OnTrue}

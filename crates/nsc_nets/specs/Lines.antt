@@ -1,4 +1,4 @@
--- The part of a line that holds an entry, and how the words of the entry stand there.
+-- The part of a line that holds an entry.
 use Rattle.std.specs.Prelude.{ℕ, ◌+◌, List, length}
 use Rattle.nsc_base.specs.declared.span.Span.{Span}
 use Rattle.nsc_base.specs.Text.{before_remark, part}
