@@ -26,6 +26,9 @@ use std::{fs, io};
 // The mode of an image's file.
 const OWN: u32 = 0o600;
 
+// How often a file is looked at that another takes the name of.
+const LOOKS: u32 = 8;
+
 /// The images in a folder of a system: the files `passwd.img`, `group.img`, `hosts.img` and `services.img`. It tells nothing of what
 /// they hold; contracts see what it counts. Before the first `under` it has no folder, and no image is there.
 ///
@@ -245,18 +248,21 @@ fn remove_left<R: Files<File = File>>(system: &R, alloc: Global, folder: &str, n
     }
 }
 
-// Opens a regular file, and tells its length. What has its name is looked at before it is opened, so that no link is followed; the
-// open file must be the same one, since another may have taken the name by then.
+// Opens a regular file, and tells its length. What has its name is looked at before it is opened, so that no link is followed. If
+// another file has taken the name by then, as when a daemon that ends puts its image, it is looked at anew.
 fn open_plain<R: Files>(system: &R, path: &str) -> io::Result<(R::File, u64)> {
-    let seen = fs::symlink_metadata(system, path)?;
-    check_plain(&seen)?;
-    let file = File::open(system, path)?;
-    let metadata = file.metadata()?;
-    check_plain(&metadata)?;
-    if metadata.dev() != seen.dev() || metadata.ino() != seen.ino() {
-        return Err(Error::from(ErrorKind::InvalidInput));
+    for _ in 0..LOOKS {
+        let seen = fs::symlink_metadata(system, path)?;
+        check_plain(&seen)?;
+        let file = File::open(system, path)?;
+        let metadata = file.metadata()?;
+        check_plain(&metadata)?;
+        if metadata.dev() == seen.dev() && metadata.ino() == seen.ino() {
+            return Ok((file, metadata.len()));
+        }
     }
-    Ok((file, metadata.len()))
+    let message = "another file takes its name again and again";
+    Err(Error::new(ErrorKind::InvalidInput, message))
 }
 
 // Gives the image's file these bytes, by way of a new file.
