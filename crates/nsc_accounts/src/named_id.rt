@@ -8,14 +8,14 @@ ghost use Rattle.nsc_accounts.specs.NamedId.{pair_of};
 
 use crate::group::group_line;
 use crate::members::has_member;
-use nsc_base::{Case, NoMemory, Span, Text, line_with};
+use nsc_base::{Bytes, Case, NoMemory, Span, line_with};
 use std::alloc::Global;
 
 /// A group of a user: its name and its id.
 #[derive(Debug, Drop)]
 pub struct NamedId {
     /// The group's name.
-    pub name: Text,
+    pub name: Bytes,
     /// The group's id.
     pub gid: u32,
 }
@@ -53,7 +53,7 @@ fn group_of_member(
         return Ok(None);
     }
     Ok(Some(NamedId {
-        name: Text::copy(alloc, at.name.of(text))?,
+        name: Bytes::copy(alloc, at.name.of(text))?,
         gid: at.gid,
     }))
 }

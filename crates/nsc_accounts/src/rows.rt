@@ -6,7 +6,7 @@ ghost use Rattle.nsc_accounts.specs.Passwd.{UserLiesIn, user_at};
 
 use crate::group::GroupAt;
 use crate::passwd::PasswdAt;
-use nsc_base::{NoMemory, Span, Text, Texts, field_at};
+use nsc_base::{Bytes, NoMemory, Span, Texts, field_at};
 use nsc_model::{Group, Passwd};
 use std::alloc::Global;
 
@@ -16,13 +16,13 @@ pub fn user_row(alloc: Global, text: &[u8], at: &PasswdAt) -> Result<Passwd, NoM
     ensures { IfOk result (λ user. user ≡ user_at text.now at.now) }
 {
     Ok(Passwd {
-        name: Text::copy(alloc, at.name.of(text))?,
-        passwd: Text::copy(alloc, at.passwd.of(text))?,
+        name: Bytes::copy(alloc, at.name.of(text))?,
+        passwd: Bytes::copy(alloc, at.passwd.of(text))?,
         uid: at.uid,
         gid: at.gid,
-        gecos: Text::copy(alloc, at.gecos.of(text))?,
-        dir: Text::copy(alloc, at.dir.of(text))?,
-        shell: Text::copy(alloc, at.shell.of(text))?,
+        gecos: Bytes::copy(alloc, at.gecos.of(text))?,
+        dir: Bytes::copy(alloc, at.dir.of(text))?,
+        shell: Bytes::copy(alloc, at.shell.of(text))?,
     })
 }
 
@@ -32,8 +32,8 @@ pub fn group_row(alloc: Global, text: &[u8], at: &GroupAt) -> Result<Group, NoMe
     ensures { IfOk result (λ group. group ≡ group_at text.now at.now) }
 {
     Ok(Group {
-        name: Text::copy(alloc, at.name.of(text))?,
-        passwd: Text::copy(alloc, at.passwd.of(text))?,
+        name: Bytes::copy(alloc, at.name.of(text))?,
+        passwd: Bytes::copy(alloc, at.passwd.of(text))?,
         gid: at.gid,
         members: members(alloc, text, at.members)?,
     })

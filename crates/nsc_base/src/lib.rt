@@ -12,7 +12,6 @@ mod memory;
 mod number;
 mod search;
 mod span;
-mod text;
 mod texts;
 mod words;
 
@@ -26,6 +25,5 @@ pub use memory::NoMemory;
 pub use number::{i32_at, u32_at, u64_at};
 pub use search::{Case, first_line_with, line_with};
 pub use span::{Line, Span};
-pub use text::Text;
 pub use texts::Texts;
 pub use words::{WordsAt, has_word, next_word, two_words, word_at};

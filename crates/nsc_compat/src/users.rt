@@ -13,7 +13,7 @@ use crate::account::Account;
 use crate::asking::Naming;
 use crate::excluded::Excluded;
 use nsc_accounts::{PasswdAt, user_named, user_numbered, user_row};
-use nsc_base::{NoMemory, Span, Text, exact_fields};
+use nsc_base::{Bytes, NoMemory, Span, exact_fields};
 use nsc_model::{FileId, Kind, Looked, Passwd, Row};
 use std::alloc::Global;
 
@@ -114,7 +114,7 @@ fn with_fields(
 }
 
 // A line's own field, where it is not empty, and else the other.
-fn own_or(alloc: Global, all: &[u8], own: Span, other: Text) -> Result<Text, NoMemory>
+fn own_or(alloc: Global, all: &[u8], own: Span, other: Bytes) -> Result<Bytes, NoMemory>
     requires { own.to ≤ length all.now }
     ensures { IfOk result (λ field. field ≡ own_or (part all.now own) other) }
 {
@@ -122,6 +122,6 @@ fn own_or(alloc: Global, all: &[u8], own: Span, other: Text) -> Result<Text, NoM
     if own.is_empty() {
         Ok(other)
     } else {
-        Text::copy(alloc, own)
+        Bytes::copy(alloc, own)
     }
 }

@@ -19,7 +19,7 @@ use crate::numbers::{NumberAt, places_of_number, sorted_numbers};
 use crate::places::{add_named, add_numbered, lines_at};
 use crate::signs::{add_sign, add_signs_on, sorted_signs};
 use nsc_accounts::{GroupAt, NamedId, OnceIds, group_line};
-use nsc_base::{Case, Ids, NoMemory, Span, Text, field_at, line_at};
+use nsc_base::{Bytes, Case, Ids, NoMemory, Span, field_at, line_at};
 use std::alloc::Global;
 
 /// The lines of a group file, group(5), in the order of their names, in that of their group ids, and in that of the names of
@@ -211,7 +211,7 @@ fn named_on(alloc: Global, text: &[u8], place: u32) -> Result<Option<NamedId>, N
         return Ok(None);
     };
     Ok(Some(NamedId {
-        name: Text::copy(alloc, at.name.of(text))?,
+        name: Bytes::copy(alloc, at.name.of(text))?,
         gid: at.gid,
     }))
 }

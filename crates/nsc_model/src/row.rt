@@ -1,34 +1,34 @@
 ghost use Rattle.std.specs.Prelude.{◌≡◌, ◌==◌, length};
 
-use nsc_base::{Ids, Text, Texts};
+use nsc_base::{Bytes, Ids, Texts};
 use std::marker::Model;
 
 /// A user's entry, passwd(5).
 #[derive(Debug, Drop)]
 pub struct Passwd {
     /// The login name.
-    pub name: Text,
+    pub name: Bytes,
     /// The password field.
-    pub passwd: Text,
+    pub passwd: Bytes,
     /// The user's id.
     pub uid: u32,
     /// The id of the user's primary group.
     pub gid: u32,
     /// The user's full name and the like.
-    pub gecos: Text,
+    pub gecos: Bytes,
     /// The home directory.
-    pub dir: Text,
+    pub dir: Bytes,
     /// The login shell.
-    pub shell: Text,
+    pub shell: Bytes,
 }
 
 /// A group's entry, group(5).
 #[derive(Debug, Drop)]
 pub struct Group {
     /// The group's name.
-    pub name: Text,
+    pub name: Bytes,
     /// The password field.
-    pub passwd: Text,
+    pub passwd: Bytes,
     /// The group's id.
     pub gid: u32,
     /// The names of its members, in the order of the line.
@@ -39,22 +39,22 @@ pub struct Group {
 #[derive(Debug, Drop)]
 pub struct Host {
     /// The canonical name.
-    pub name: Text,
+    pub name: Bytes,
     /// Further names.
     pub aliases: Texts,
     /// The address family: 2 for IPv4, 10 for IPv6.
     pub family: u32,
     /// The address, 4 or 16 bytes.
-    pub address: Text,
+    pub address: Bytes,
 }
 
 /// A service's entry, services(5).
 #[derive(Debug, Drop)]
 pub struct Service {
     /// The official name.
-    pub name: Text,
+    pub name: Bytes,
     /// The protocol.
-    pub proto: Text,
+    pub proto: Bytes,
     /// Further names.
     pub aliases: Texts,
     /// The port, as a number.
@@ -67,7 +67,7 @@ pub struct Found6 {
     /// The address family: 2 for IPv4, 10 for IPv6.
     pub family: u8,
     /// The address, 4 or 16 bytes.
-    pub address: Text,
+    pub address: Bytes,
 }
 
 /// Addresses, seen in contracts as a list.
@@ -121,7 +121,7 @@ pub struct Ai {
     /// The addresses, in the order of the file.
     pub list: Founds,
     /// The canonical name.
-    pub canon: Text,
+    pub canon: Bytes,
 }
 
 /// What a lookup that succeeds has found.

@@ -9,7 +9,7 @@ ghost use Rattle.nsc_nets.specs.Hosts.{host_at};
 
 use crate::find::called_host;
 use crate::hosts::HostAt;
-use nsc_base::{Case, NoMemory, Span, Text, line_with};
+use nsc_base::{Bytes, Case, NoMemory, Span, line_with};
 use nsc_model::{Ai, Found6, Founds};
 use std::alloc::Global;
 
@@ -70,7 +70,7 @@ pub fn ai_row(
     requires inside { first.name.to ≤ length text.now }
     ensures { IfOk result (λ ai. ai ≡ record { list = found_at first ∷ founds_at other; canon = part text.now first.name }) }
 {
-    let canon = Text::copy(alloc, first.name.of(text))?;
+    let canon = Bytes::copy(alloc, first.name.of(text))?;
     let list = listed(alloc, first, other)?;
     Ok(Ai { list, canon })
 }
@@ -91,7 +91,7 @@ fn listed(alloc: Global, first: HostAt, other: Option<HostAt>) -> Result<Founds,
 fn address(alloc: Global, host: HostAt) -> Result<Found6, NoMemory>
     ensures { IfOk result (λ found. found ≡ found_at host) }
 {
-    let address = Text::copy(alloc, host.address_bytes())?;
+    let address = Bytes::copy(alloc, host.address_bytes())?;
     Ok(Found6 {
         family: host.family,
         address,

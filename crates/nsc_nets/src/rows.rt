@@ -5,7 +5,7 @@ ghost use Rattle.nsc_nets.specs.Services.{ServiceLiesIn, service_at};
 
 use crate::hosts::HostAt;
 use crate::services::ServiceAt;
-use nsc_base::{NoMemory, Span, Text, Texts, word_at};
+use nsc_base::{Bytes, NoMemory, Span, Texts, word_at};
 use nsc_model::{Host, Service};
 use std::alloc::Global;
 
@@ -15,10 +15,10 @@ pub fn host_row(alloc: Global, text: &[u8], at: &HostAt) -> Result<Host, NoMemor
     ensures { IfOk result (λ host. host ≡ host_at text.now at.now) }
 {
     Ok(Host {
-        name: Text::copy(alloc, at.name.of(text))?,
+        name: Bytes::copy(alloc, at.name.of(text))?,
         aliases: words(alloc, text, at.aliases)?,
         family: u32::from(at.family),
-        address: Text::copy(alloc, at.address_bytes())?,
+        address: Bytes::copy(alloc, at.address_bytes())?,
     })
 }
 
@@ -28,8 +28,8 @@ pub fn service_row(alloc: Global, text: &[u8], at: &ServiceAt) -> Result<Service
     ensures { IfOk result (λ service. service ≡ service_at text.now at.now) }
 {
     Ok(Service {
-        name: Text::copy(alloc, at.name.of(text))?,
-        proto: Text::copy(alloc, at.proto.of(text))?,
+        name: Bytes::copy(alloc, at.name.of(text))?,
+        proto: Bytes::copy(alloc, at.proto.of(text))?,
         aliases: words(alloc, text, at.aliases)?,
         port: at.port,
     })

@@ -2,7 +2,7 @@ ghost use Rattle.std.specs.Prelude.{◌≤◌, length, IfOk};
 ghost use Rattle.nsc_model.specs.Answer.{reply_limit};
 ghost use Rattle.nsc_model.specs.Wire.{IsReplyOf, spelled};
 
-use nsc_base::{NoMemory, Text};
+use nsc_base::{Bytes, NoMemory};
 use nsc_model::{Kind, Passwd, Row};
 use nsc_wire::{Reply, ReplyFault, decode_reply, encode};
 use std::alloc::Global;
@@ -14,13 +14,13 @@ fn root(alloc: Global) -> Result<Reply, NoMemory>
     ensures fits { IfOk result (λ reply. length (spelled Kind.PwName reply) ≤ reply_limit) }
 {
     Ok(Reply::Found(Row::Passwd(Passwd {
-        name: Text::copy(alloc, b"root")?,
-        passwd: Text::copy(alloc, b"x")?,
+        name: Bytes::copy(alloc, b"root")?,
+        passwd: Bytes::copy(alloc, b"x")?,
         uid: 0,
         gid: 0,
-        gecos: Text::copy(alloc, b"root")?,
-        dir: Text::copy(alloc, b"/root")?,
-        shell: Text::copy(alloc, b"/bin/bash")?,
+        gecos: Bytes::copy(alloc, b"root")?,
+        dir: Bytes::copy(alloc, b"/root")?,
+        shell: Bytes::copy(alloc, b"/bin/bash")?,
     })))
 }
 

@@ -9,7 +9,7 @@ use crate::fault::Broken;
 use crate::hosts::address_size;
 use crate::reading::{fixed, number, piece, size, text};
 use crate::reply::{VERSION, put_fields, put_text, text_len};
-use nsc_base::{Bytes, NoMemory, Text};
+use nsc_base::{Bytes, NoMemory};
 use nsc_model::{Ai, Found6, Founds};
 use std::alloc::Global;
 
@@ -127,7 +127,7 @@ fn found<'a, 'b>(
                 return Err(Broken::Left(families.len()));
             }
             let (front, others) = addresses.split_at(size);
-            let address = Text::copy(alloc, front)?;
+            let address = Bytes::copy(alloc, front)?;
             let family = *family;
             Ok((Found6 { family, address }, others, rest))
         }

@@ -9,7 +9,7 @@ use crate::fault::Broken;
 use crate::reading::{after_sizes, fixed_fields, number, piece, size, text, texts};
 use crate::reply::{VERSION, put_fields, put_text, text_len};
 use crate::texts::{put_lengths, put_texts, texts_count, texts_size};
-use nsc_base::{Bytes, NoMemory, Text};
+use nsc_base::{Bytes, NoMemory};
 use nsc_model::Host;
 use std::alloc::Global;
 
@@ -56,7 +56,7 @@ pub(crate) fn decode_host(alloc: Global, bytes: &[u8]) -> Result<(Host, &[u8]), 
     let rest = after_sizes(lengths, count)?;
     let (address, rest) = piece(rest, length as usize)?;
     let (aliases, rest) = texts(alloc, count, lengths, rest)?;
-    let address = Text::copy(alloc, address)?;
+    let address = Bytes::copy(alloc, address)?;
     let host = Host {
         name,
         aliases,

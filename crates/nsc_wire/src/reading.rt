@@ -5,7 +5,7 @@ ghost use Rattle.nsc_wire.specs.Replies.{Gives, all_fixed, fixed_at, number_at, 
 
 use crate::fault::Broken;
 use crate::reply::FIELD;
-use nsc_base::{Text, Texts, before_byte, u32_at};
+use nsc_base::{Bytes, Texts, before_byte, u32_at};
 use std::alloc::Global;
 
 // The next bytes, so many of them.
@@ -106,11 +106,11 @@ fn lent_text(size: u32, bytes: &[u8]) -> Result<(&[u8], &[u8]), Broken>
 }
 
 // A text of this length.
-pub(crate) fn text(alloc: Global, size: u32, bytes: &[u8]) -> Result<(Text, &[u8]), Broken>
+pub(crate) fn text(alloc: Global, size: u32, bytes: &[u8]) -> Result<(Bytes, &[u8]), Broken>
     ensures { Gives (λ x. (x.0, x.1.now)) result (text_at size bytes.now) }
 {
     let (text, rest) = lent_text(size, bytes)?;
-    Ok((Text::copy(alloc, text)?, rest))
+    Ok((Bytes::copy(alloc, text)?, rest))
 }
 
 // As many texts as the count says. Their lengths are fields at the front of others.

@@ -9,7 +9,7 @@ use crate::hosts::encode_host;
 use crate::services::encode_service;
 use crate::users::encode_user;
 use byteorder::{ByteOrder, LittleEndian};
-use nsc_base::{Bytes, NoMemory, Text};
+use nsc_base::{Bytes, NoMemory};
 use nsc_model::{Kind, Reply, Row, Shape};
 use std::alloc::Global;
 
@@ -85,7 +85,7 @@ fn encode_fields(alloc: Global, numbers: &[u32]) -> Result<Bytes, NoMemory>
 }
 
 // How many bytes a text has with its zero byte.
-pub(crate) fn text_len(text: &Text) -> u32
+pub(crate) fn text_len(text: &Bytes) -> u32
     requires { length text.now < reply_limit }
     ensures { result ≡ length text.now + 1 }
 {
