@@ -4,7 +4,6 @@ pub mod Stands
 pub mod Named
 pub mod Pieces
 pub mod Collected
-pub mod Gathered
 pub mod NamedGroups
 pub mod Given
 pub mod SignLines

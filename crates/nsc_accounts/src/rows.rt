@@ -6,7 +6,7 @@ ghost use Rattle.nsc_accounts.specs.Passwd.{UserLiesIn, user_at};
 
 use crate::group::GroupAt;
 use crate::passwd::PasswdAt;
-use nsc_base::{Bytes, NoMemory, Span, Texts, field_at};
+use nsc_base::{Bytes, NoMemory, Span, Texts};
 use nsc_model::{Group, Passwd};
 use std::alloc::Global;
 
@@ -44,18 +44,9 @@ fn members(alloc: Global, text: &[u8], within: Span) -> Result<Texts, NoMemory>
     requires { within.to ≤ length text.now }
     ensures { IfOk result (λ members. members ≡ members_of (part text.now within)) }
 {
-    let all = within.of(text);
-    if all.is_empty() {
+    let names = within.of(text);
+    if names.is_empty() {
         return Ok(Texts::new(alloc));
     }
-    let mut members = Texts::with_room(alloc, all.len() + 1)?;
-    let mut from = within.from();
-    while let Some(piece) = field_at(text, within, from, b',') {
-        let member = piece.span.of(text);
-        if !member.is_empty() {
-            members.push(member)?;
-        }
-        from = piece.next;
-    }
-    Ok(members)
+    Texts::split(alloc, names, b',')
 }

@@ -12,3 +12,4 @@ pub mod Zeros
 pub mod Options
 pub mod AddressLengths
 pub mod Runs
+pub mod Splits

@@ -1,6 +1,7 @@
-ghost use Rattle.std.specs.Prelude.{◌≡◌, ◌==◌, ◌-◌, ◌<◌, ◌≤◌, ◌++◌, ◌∷◌, [], flat_map, length, slice_index, slice_index_or, slice_range, IfOk, OnErr, OnOk};
+ghost use Rattle.std.specs.Prelude.{◌≡◌, ◌==◌, ◌-◌, ◌<◌, ◌≤◌, ◌++◌, ◌∷◌, [], filter, flat_map, length, slice_index, slice_index_or, slice_range, IfOk, OnErr, OnOk};
 ghost use Rattle.std.specs.List.{list_any};
 ghost use Rattle.std.specs.Str.{bytes_eq};
+ghost use Rattle.nsc_base.specs.Text.{fields_of, is_filled};
 ghost use Rattle.nsc_base.specs.Texts.{ended};
 
 use crate::memory::NoMemory;
@@ -39,14 +40,32 @@ impl Texts {
         }
     }
 
-    /// No text, with room for so many bytes of texts and of the zero bytes behind them. Fails only for want of memory.
-    pub fn with_room(alloc: Global, bytes: usize) -> Result<Texts, NoMemory>
-        ensures { IfOk result (λ texts. texts ≡ []) }
+    /// The pieces of a text between its bytes `cut`, without the empty ones. Fails only for want of memory.
+    pub fn split(alloc: Global, text: &[u8], cut: u8) -> Result<Texts, NoMemory>
+        ensures { IfOk result (λ texts. texts ≡ filter is_filled (fields_of cut text.now)) }
     {
-        Ok(Texts {
-            run: Vec::with_capacity(alloc, bytes)?,
-            ends: Vec::new(alloc),
-        })
+        let mut run = Vec::new(alloc);
+        run.resize(text.len() + 1, 0)?;
+        let mut ends = Vec::new(alloc);
+        let mut begun = 0;
+        let mut to = 0;
+        for at in 0..text.len() {
+            let byte = text[at];
+            if byte != cut {
+                run[to] = byte;
+                to += 1;
+            } else if begun < to {
+                to += 1;
+                ends.push(to)?;
+                begun = to;
+            }
+        }
+        if begun < to {
+            to += 1;
+            ends.push(to)?;
+        }
+        run.truncate(to);
+        Ok(Texts { run, ends })
     }
 
     /// Puts a copy of a text behind those that are there. Fails only for want of memory, and then puts nothing.

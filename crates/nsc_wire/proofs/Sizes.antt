@@ -14,6 +14,11 @@ part_within f (x ∷ xs) (suc i) d h = omega (arith, length-append (f x) (flat_m
 pub text_within : (texts : List (List ℕ)) (i : ℕ) → i < length texts → length (get_or texts i []) + 1 ≤ length (flat_map text texts)
 text_within texts i h = omega (arith, part_within text texts i [] h, length-append (get_or texts i []) (0 ∷ []))
 
+-- each text takes a byte at least
+pub count_within : (texts : List (List ℕ)) → length texts ≤ length (flat_map text texts)
+count_within [] = omega arith
+count_within (one ∷ texts) = omega (arith, length-append (text one) (flat_map text texts), length-append one (0 ∷ []), count_within texts)
+
 pub length-fields : (numbers : List ℕ) → length (flat_map field numbers) ≡ 4 * length numbers
 length-fields [] = omega arith
 length-fields (x ∷ xs) = omega (arith, length-append (field x) (flat_map field xs), length-fields xs)

@@ -1,6 +1,6 @@
 ghost use Rattle.std.specs.Prelude.{◌≡◌, ◌+◌, ◌<◌, ◌≤◌, ◌++◌, length, IfOk, OnOk};
 ghost use Rattle.nsc_model.specs.Answer.{reply_limit};
-ghost use Rattle.nsc_model.specs.Wire.{IsReplyOf, Spells, field, lacking, row_found, shape_of, spelled, text};
+ghost use Rattle.nsc_model.specs.Wire.{IsReplyOf, Spells, lacking, row_found, shape_of, spelled, text};
 ghost use Rattle.nsc_wire.specs.Fields.{fields};
 
 use crate::addresses::encode_addresses;
@@ -96,19 +96,10 @@ pub(crate) fn text_len(text: &Bytes) -> u32
 pub(crate) fn put_fields(out: &mut Vec<u8>, numbers: &[u32]) -> Result<(), NoMemory>
     ensures { OnOk result (out.new.items ≡ out.old.items ++ fields numbers.now) }
 {
-    for number in numbers {
-        put_field(out, *number)?;
-    }
+    let from = out.len();
+    out.resize(from + FIELD * numbers.len(), 0)?;
+    LittleEndian::write_u32_into(numbers, &mut out.as_mut_slice()[from..]);
     Ok(())
-}
-
-// Puts a field of four bytes after the bytes that are there.
-pub(crate) fn put_field(out: &mut Vec<u8>, number: u32) -> Result<(), NoMemory>
-    ensures { OnOk result (out.new.items ≡ out.old.items ++ field number) }
-{
-    let mut bytes = [0; 4];
-    LittleEndian::write_u32(&mut bytes, number);
-    Ok(out.extend_from_slice(&bytes)?)
 }
 
 // Puts a text and its zero byte after the bytes that are there.
