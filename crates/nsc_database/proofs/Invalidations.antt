@@ -12,14 +12,14 @@ use Rattle.nsc_laws.specs.Calls.{Tells}
 use Rattle.nsc_writer.specs.Writer.{Writer, emptied_by}
 use Rattle.nsc_writer.proofs.Told.{emptied_tells}
 use Rattle.nsc_turns.specs.Turns.{Completes, Stops}
-use Rattle.nsc_turns.proofs.Emptied.{IsStopped, completes_left, stops_left}
+use Rattle.nsc_turns.proofs.Emptied.{IsStopped, completes_left, completes_unspent, stops_left}
 use Rattle.nsc_image.specs.Saving.{IsEntryOf}
 use Rattle.nsc_database.specs.Rests.{FindsNewest, IsPacked, LoadsAgain, Rests}
 use Rattle.nsc_database.specs.Ticks.{compacted_by}
 use Rattle.nsc_model.specs.declared.record.Record.TheVariants.{End, Invalid}
 use Rattle.nsc_database.proofs.Again.{again_ends, again_later, again_more}
 use Rattle.nsc_database.proofs.Rests.{rests_same}
-use Rattle.nsc_database.proofs.Shown.{emptied_on, is_emptied}
+use Rattle.nsc_database.proofs.Shown.{emptied_on, is_emptied, none_after}
 use Rattle.nsc_database.proofs.Steady.{version_emptied}
 use Rattle.nsc_database.proofs.Ended.{keeps_compacted, keeps_emptied, keeps_newest, packed_compacted, packed_spent}
 
@@ -90,7 +90,7 @@ finds_emptied w w' p t = elim (completes_left w w' p) [ inl (none, is) ↦ finds
 pub completes_emptied : (w w' : Writer) (epoch : ℕ) → Completes (invalidated w.cache) w w' → Tells w.seen w.cache → epoch ≡ w'.cache.epoch → IsEmptied w.seen w'.seen epoch
 completes_emptied w w' epoch p t counted =
     let left : (w'.seen ≡ (emptied_by w).seen) × (w'.cache.epoch ≡ w.cache.epoch + 1) = elim (completes_left w w' p) [ inl (none, is) ↦ (ap (λ (x : Writer). x.seen) is, ap (λ (x : Writer). x.cache.epoch) is) | inr (some, is) ↦ (ap (λ (x : Writer). x.seen) is, ap (λ (x : Writer). x.cache.epoch) is) ] in
-    subst (λ (h : List Record). IsEmptied w.seen h epoch) (sym left.0) (is_emptied w (emptied_by w) epoch t (emptied_tells w.seen w.cache t) (counted ∙ left.1) refl)
+    subst (λ (h : List Record). IsEmptied w.seen h epoch) (sym left.0) (is_emptied w (emptied_by w) epoch (completes_unspent w w' p) t (emptied_tells w.seen w.cache t) (counted ∙ left.1) refl)
 
 pub rests_stopped : {which : Db} (w w' : Writer) (count : ℕ) → Stops (invalidated w.cache) count w w' → Tells w.seen w.cache → Rests which w w'
 rests_stopped w w' count s t = elim (stops_left w w' count s).1 [ inl (last, is) ↦ rests_same w w' is | inr (high, is) ↦ rests_spent w (emptied_by w) w' refl t high is ]
@@ -100,7 +100,7 @@ stops_unmoved w w' count s t = by_cause (stops_left w w' count s) where
   by_cause : IsStopped w count w' → IsUnmoved w'.seen (last_count ≤ w'.cache.cycle) count (NoneLive w'.seen)
   by_cause (at, inl (last, is)) = record { last = at; cause = inl (ap (λ (x : Writer). invalidations x.seen) is ∙ t.epochs_are ∙ last ∙ sym at) }
   by_cause (at, inr (high, is)) =
-      let none = (is_emptied w (emptied_by w) (w.cache.epoch + 1) t (emptied_tells w.seen w.cache t) refl refl).none in
+      let none = none_after w (emptied_by w) (emptied_tells w.seen w.cache t) refl in
       is_unmoved w' count (NoneLive w'.seen) (subst (λ (x : Writer). last_count ≤ x.cache.cycle) (sym is) high) at (subst (λ (x : Writer). NoneLive x.seen) (sym is) none)
 
 pub rests_invalidated : {which : Db} (r : Result ℕ Spent) (w w' : Writer) → IfOk r (λ epoch. Completes (invalidated w.cache) w w') → IfErr r (λ spent. Stops (invalidated w.cache) spent.count w w') → Tells w.seen w.cache → Rests which w w'

@@ -336,14 +336,19 @@ inserted_since settings words lesser last_cycle (inserted.Full need free) loaded
 
 -- ---- an invalidation, and counts
 
-pub is_emptied : (w w' : Writer) (epoch : ℕ) → Tells w.seen w.cache → Tells w'.seen w'.cache → epoch ≡ w.cache.epoch + 1 → w' ≡ emptied_by w → IsEmptied w.seen w'.seen epoch
-is_emptied w w' epoch t t' next is =
-    let before = t.epochs_are in
+pub none_after : (w w' : Writer) → Tells w'.seen w'.cache → w' ≡ emptied_by w → NoneLive w'.seen
+none_after w w' t' is =
     let legal = subst Legal (ap (λ (x : Writer). x.seen) is) t'.legal in
+    subst (λ (x : Writer). NoneLive x.seen) (sym is) legal.2
+
+pub is_emptied : (w w' : Writer) (epoch : ℕ) → (w.cache.epoch ≡ last_count → ⊥) → Tells w.seen w.cache → Tells w'.seen w'.cache → epoch ≡ w.cache.epoch + 1 → w' ≡ emptied_by w → IsEmptied w.seen w'.seen epoch
+is_emptied w w' epoch unspent t t' next is =
+    let before = t.epochs_are in
     record {
+      unspent = λ e. unspent (sym t.epochs_are ∙ e);
       last = t'.epochs_are ∙ ap (λ (x : Writer). x.cache.epoch) is ∙ sym next;
       new = omega arith;
-      none = subst (λ (x : Writer). NoneLive x.seen) (sym is) legal.2;
+      none = none_after w w' t' is;
     }
 
 -- why a call gave up, by a pass that loads CYCLE as 2^62 where it stands there

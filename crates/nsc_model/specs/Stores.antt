@@ -178,8 +178,9 @@ pub record IsOfFiles (which : Db) (before_reads after_reads : FileId → ℕ) (l
 
 -- ---- invalidations, counts and ticks
 
--- an invalidation: its number is the count of invalidations, and was not before, and no entry is live
+-- an invalidation: its number is the count of invalidations, which was not at its end, and was not before, and no entry is live
 pub record IsEmptied (seen after : List Record) (epoch : ℕ) : Type 0 where
+  pub unspent : invalidations seen ≢ last_count
   pub last : invalidations after ≡ epoch
   pub new : invalidations seen < epoch
   pub none : NoneLive after
