@@ -3,22 +3,21 @@
 #![tactic(auto)]
 
 mod files;
-mod kept;
+mod plans;
 mod requests;
 mod showing;
 mod trial;
-mod trials;
 
 use files::files;
 use nsc_base::NoMemory;
 use nsc_outside::{MemImages, MemSink, MemSource};
 use nsc_run::run;
 use nsc_sockets::{MemClock, MemListener};
+use plans::{Images, PLANS};
 use showing::{show, show_images, show_sent};
 use std::alloc::Global;
 use std::io;
-use trial::{Images, Trial};
-use trials::trials;
+use trial::Trial;
 
 // How many bytes the program may write, and an image may have.
 const ROOM: usize = 4096;
@@ -26,24 +25,18 @@ const ROOM: usize = 4096;
 fn main(rt: HostRuntime) -> io::Result<()> {
     let alloc = rt.alloc();
     let mut store = MemImages::new(alloc, ROOM).map_err(wanting)?;
-    for trial in trials(alloc).map_err(wanting)? {
+    for plan in &PLANS {
         let Trial {
-            name,
-            words,
-            conf,
-            start,
-            step,
             changed,
             hold,
             arrivals,
             peers,
             readers,
-            images,
-        } = trial;
-        if images != Images::Left {
-            store = images_for(alloc, images).map_err(wanting)?;
+        } = Trial::new(alloc, plan).map_err(wanting)?;
+        if plan.images != Images::Left {
+            store = images_for(alloc, plan.images).map_err(wanting)?;
         }
-        let words = owned(alloc, words).map_err(wanting)?;
+        let words = owned(alloc, plan.words).map_err(wanting)?;
         let mut output = MemSink::new(alloc, ROOM).map_err(wanting)?;
         let system: Result<_, _> = rt.clone();
         let exit = run(
@@ -51,12 +44,12 @@ fn main(rt: HostRuntime) -> io::Result<()> {
             words.as_slice(),
             &mut MemSource::new(Vec::new(alloc)),
             &mut output,
-            &mut files(system?, alloc, changed, hold, conf).map_err(wanting)?,
-            &mut MemClock::new(start, step),
+            &mut files(system?, alloc, changed, hold, plan.conf).map_err(wanting)?,
+            &mut MemClock::new(plan.start, plan.seconds),
             &mut store,
             &mut MemListener::new(alloc, arrivals, peers).map_err(wanting)?,
         );
-        show(&rt, name, exit, output.taken())?;
+        show(&rt, plan.name, exit, output.taken())?;
         show_sent(&rt, alloc, readers.as_slice())?;
         show_images(&rt, alloc, &store)?;
     }
