@@ -18,11 +18,28 @@ PROMPT = 0.05  # seconds for a good request or line beside hostile peers
 ROOT_LINE = b"root:x:0:0:root:/root:/bin/bash\n"
 LONGEST = 1100  # bytes of a line
 
+# Addresses of IPv6 by their eight groups, with the texts that they must have by RFC 5952, 4: no zero at the front of a group, `::` for the
+# longest run of zeros and for the first of two, lower case.
+PRINTED = [
+    ("0000:0000:0000:0000:0000:0000:0000:0000", "::"),
+    ("2001:0DB8:0000:0000:0001:0000:0000:0001", "2001:db8::1:0:0:1"),
+    ("2001:0DB8:0000:0001:0001:0001:0001:0001", "2001:db8:0:1:1:1:1:1"),
+    ("2001:0000:0000:0001:0000:0000:0000:0001", "2001:0:0:1::1"),
+    ("0000:0000:0000:0000:0000:FFFF:C000:0280", "::ffff:c000:280"),
+    ("0000:0001:0002:0003:0004:0005:0006:0007", "0:1:2:3:4:5:6:7"),
+    ("0000:0000:0003:0004:0005:0006:0007:0008", "::3:4:5:6:7:8"),
+    ("0001:0002:0003:0004:0005:0006:0000:0000", "1:2:3:4:5:6::"),
+    ("0001:0000:0002:0000:0003:0000:0004:0000", "1:0:2:0:3:0:4:0"),
+    ("000A:00B0:0C00:D000:0000:0000:0000:0000", "a:b0:c00:d000::"),
+    ("0000:0000:0000:0000:0000:0000:0D01:4403", "::d01:4403"),
+]
+
 # Lines, typed with the answers that they must have.
 WORKED_FILES = {
     "passwd": b"root:x:0:0:root:/root:/bin/bash\n",
     "group": b"adm:x:4:syslog,ann\nstaff:x:50:\nusers:x:100:ann\n",
-    "hosts": b"10.0.0.1 alpha a1\n10.0.0.2 alpha\nfd00::1 alpha # six\n::1 localhost\nfd00::2 beta\n10.0.0.9\n",
+    "hosts": b"10.0.0.1 alpha a1\n10.0.0.2 alpha\nfd00::1 alpha # six\n::1 localhost\nfd00::2 beta\n10.0.0.9\n192.0.2.235 dotted\n"
+    + b"".join(b"%s printed%d\n" % (groups.encode(), n) for n, (groups, _) in enumerate(PRINTED)),
     "services": b"ssh 22/tcp\ndomain 53/udp nameserver dns\n7 99/tcp\n",
 }
 WORKED = [
@@ -42,6 +59,8 @@ WORKED = [
     (b"hosts FD00:0:0:0:0:0:0:1", b"fd00::1 alpha\n"),
     (b"hosts 10.0.0.2", b"10.0.0.2 alpha\n"),
     (b"hosts 10.0.0.9", b"not found\n"),
+    (b"hosts dotted", b"192.0.2.235 dotted\n"),
+    *((b"hosts printed%d" % n, b"%s printed%d\n" % (text.encode(), n)) for n, (_, text) in enumerate(PRINTED)),
     (b"services 22", b"ssh 22/tcp\n"),
     (b"services ssh", b"ssh 22/tcp\n"),
     (b"services ssh/udp", b"not found\n"),

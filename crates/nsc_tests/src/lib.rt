@@ -1,6 +1,5 @@
-//! The tests of the calls that read, answer and keep: each call that may find no memory, once with ample memory, and what no replay of the
-//! program shows. Those of files, streams and sockets stand in crates of their own. Replays of the built program, which are most tests, stand
-//! in `tests/replays` of the repository.
+//! The tests of the calls that answer, keep and encode with ample memory, and of what no run of the built program shows. Those of files,
+//! streams and sockets stand in crates of their own; replays of the built program, which are most tests, in `tests/replays`.
 #![tactic(auto)]
 
 #[cfg(test)]
@@ -9,8 +8,6 @@ mod answers;
 mod caches;
 #[cfg(test)]
 mod indexes;
-#[cfg(test)]
-mod lookups;
 #[cfg(test)]
 mod settings;
 #[cfg(test)]
