@@ -1,5 +1,5 @@
 -- What an invalidation leaves of a writer, with and without its compaction.
-use Rattle.std.proofs.Common.{◌≡◌, ℕ, ◌+◌, ◌≤◌, ◌⊎◌, List, [], ◌∷◌, length, refl, sym, ap, subst, ◌∙◌, arith, inl, inr, Result, Ok, Err}
+use Rattle.std.proofs.Common.{◌≡◌, ℕ, ◌+◌, ◌<◌, ◌≤◌, ◌⊎◌, List, [], ◌∷◌, length, refl, sym, ap, subst, ◌∙◌, arith, inl, inr, Result, Ok, Err}
 use Rattle.std.specs.Prelude.{IfErr, IfOk}
 use Rattle.nsc_model.specs.declared.kind.Db.{Db}
 use Rattle.nsc_model.specs.declared.record.Record.{Record}
@@ -12,7 +12,7 @@ use Rattle.nsc_laws.specs.Calls.{Tells}
 use Rattle.nsc_writer.specs.Writer.{Writer, emptied_by}
 use Rattle.nsc_writer.proofs.Told.{emptied_tells}
 use Rattle.nsc_turns.specs.Turns.{Completes, Stops}
-use Rattle.nsc_turns.proofs.Emptied.{IsStopped, completes_left, completes_unspent, stops_left}
+use Rattle.nsc_turns.proofs.Emptied.{IsStopped, completes_left, stops_left}
 use Rattle.nsc_image.specs.Saving.{IsEntryOf}
 use Rattle.nsc_database.specs.Rests.{FindsNewest, IsPacked, LoadsAgain, Rests}
 use Rattle.nsc_database.specs.Ticks.{compacted_by}
@@ -87,10 +87,10 @@ rests_emptied w w' p t = elim (completes_left w w' p) [ inl (none, is) ↦ rests
 pub finds_emptied : (w w' : Writer) → Completes (invalidated w.cache) w w' → Tells w.seen w.cache → FindsNewest w w'
 finds_emptied w w' p t = elim (completes_left w w' p) [ inl (none, is) ↦ finds_left w w' is t | inr (some, is) ↦ finds_compacted w (emptied_by w) w' refl t is ]
 
-pub completes_emptied : (w w' : Writer) (epoch : ℕ) → Completes (invalidated w.cache) w w' → Tells w.seen w.cache → epoch ≡ w'.cache.epoch → IsEmptied w.seen w'.seen epoch
-completes_emptied w w' epoch p t counted =
+pub completes_emptied : (w w' : Writer) (epoch : ℕ) → Completes (invalidated w.cache) w w' → w.cache.epoch < last_count → Tells w.seen w.cache → epoch ≡ w'.cache.epoch → IsEmptied w.seen w'.seen epoch
+completes_emptied w w' epoch p low t counted =
     let left : (w'.seen ≡ (emptied_by w).seen) × (w'.cache.epoch ≡ w.cache.epoch + 1) = elim (completes_left w w' p) [ inl (none, is) ↦ (ap (λ (x : Writer). x.seen) is, ap (λ (x : Writer). x.cache.epoch) is) | inr (some, is) ↦ (ap (λ (x : Writer). x.seen) is, ap (λ (x : Writer). x.cache.epoch) is) ] in
-    subst (λ (h : List Record). IsEmptied w.seen h epoch) (sym left.0) (is_emptied w (emptied_by w) epoch (completes_unspent w w' p) t (emptied_tells w.seen w.cache t) (counted ∙ left.1) refl)
+    subst (λ (h : List Record). IsEmptied w.seen h epoch) (sym left.0) (is_emptied w (emptied_by w) epoch low t (emptied_tells w.seen w.cache t) (counted ∙ left.1) refl)
 
 pub rests_stopped : {which : Db} (w w' : Writer) (count : ℕ) → Stops (invalidated w.cache) count w w' → Tells w.seen w.cache → Rests which w w'
 rests_stopped w w' count s t = elim (stops_left w w' count s).1 [ inl (last, is) ↦ rests_same w w' is | inr (high, is) ↦ rests_spent w (emptied_by w) w' refl t high is ]
@@ -107,9 +107,14 @@ pub rests_invalidated : {which : Db} (r : Result ℕ Spent) (w w' : Writer) → 
 rests_invalidated (Ok epoch) w w' p s t = rests_emptied w w' p t
 rests_invalidated (Err spent) w w' p s t = rests_stopped w w' spent.count s t
 
-pub all_emptied : (r : Result ℕ Spent) (w w' : Writer) → IfOk r (λ epoch. Completes (invalidated w.cache) w w') → IfOk r (λ epoch. epoch ≡ w'.cache.epoch) → Tells w.seen w.cache → IfOk r (λ epoch. IsEmptied w.seen w'.seen epoch)
-all_emptied (Ok epoch) w w' p counted t = completes_emptied w w' epoch p t counted
-all_emptied (Err spent) w w' p counted t = tt
+pub all_emptied : (r : Result ℕ Spent) (w w' : Writer) → IfOk r (λ epoch. Completes (invalidated w.cache) w w') → IfOk r (λ epoch. epoch ≡ w'.cache.epoch) → IfOk r (λ _. w.cache.epoch < last_count) → Tells w.seen w.cache
+    → IfOk r (λ epoch. IsEmptied w.seen w'.seen epoch)
+all_emptied (Ok epoch) w w' p counted low t = completes_emptied w w' epoch p low t counted
+all_emptied (Err spent) w w' p counted low t = tt
+
+pub all_below : (r : Result ℕ Spent) (w : Writer) → IfOk r (λ _. w.cache.epoch < last_count) → Tells w.seen w.cache → IfOk r (λ _. invalidations w.seen < last_count)
+all_below (Ok epoch) w low t = omega (arith, low, t.epochs_are)
+all_below (Err spent) w low t = tt
 
 pub none_emptied : (r : Result ℕ Spent) (w w' : Writer) → IfErr r (λ spent. Stops (invalidated w.cache) spent.count w w') → Tells w.seen w.cache → IfErr r (λ spent. IsUnmoved w'.seen (last_count ≤ w'.cache.cycle) spent.count (NoneLive w'.seen))
 none_emptied (Ok epoch) w w' s t = tt

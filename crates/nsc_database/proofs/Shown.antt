@@ -341,11 +341,11 @@ none_after w w' t' is =
     let legal = subst Legal (ap (λ (x : Writer). x.seen) is) t'.legal in
     subst (λ (x : Writer). NoneLive x.seen) (sym is) legal.2
 
-pub is_emptied : (w w' : Writer) (epoch : ℕ) → (w.cache.epoch ≡ last_count → ⊥) → Tells w.seen w.cache → Tells w'.seen w'.cache → epoch ≡ w.cache.epoch + 1 → w' ≡ emptied_by w → IsEmptied w.seen w'.seen epoch
-is_emptied w w' epoch unspent t t' next is =
+pub is_emptied : (w w' : Writer) (epoch : ℕ) → w.cache.epoch < last_count → Tells w.seen w.cache → Tells w'.seen w'.cache → epoch ≡ w.cache.epoch + 1 → w' ≡ emptied_by w → IsEmptied w.seen w'.seen epoch
+is_emptied w w' epoch below t t' next is =
     let before = t.epochs_are in
     record {
-      unspent = λ e. unspent (sym t.epochs_are ∙ e);
+      unspent = λ e. omega (arith, below, before, e);
       last = t'.epochs_are ∙ ap (λ (x : Writer). x.cache.epoch) is ∙ sym next;
       new = omega arith;
       none = none_after w w' t' is;
@@ -355,8 +355,10 @@ is_emptied w w' epoch unspent t t' next is =
 pub unmoved_to : (after : List Record) (lesser last_cycle : Type 0) (count : ℕ) (ended : Type 0) → (lesser → last_cycle) → IsUnmoved after lesser count ended → IsUnmoved after last_cycle count ended
 unmoved_to after lesser last_cycle count ended to u = record { last = u.last; cause = elim u.cause [ inl all ↦ inl all | inr unmoved ↦ inr (to unmoved.0, unmoved.1) ] }
 
-pub emptied_since : (seen h after : List Record) (epoch : ℕ) → IsPrefix seen h → IsEmptied h after epoch → IsEmptied seen after epoch
-emptied_since seen h after epoch on e = record { last = e.last; new = (let low = invalidations_on seen h on in let more = e.new in omega arith); none = e.none }
+pub emptied_since : (seen h after : List Record) (epoch : ℕ) → IsPrefix seen h → invalidations h < last_count → IsEmptied h after epoch → IsEmptied seen after epoch
+emptied_since seen h after epoch on below e =
+    let low = invalidations_on seen h on in
+    record { unspent = λ at_end. omega (arith, low, below, at_end); last = e.last; new = omega (arith, low, e.new); none = e.none }
 
 ends_prefix : (ks : List Kept) (h : List Record) → IsPrefix h (ends_of by_invalidation ks h)
 ends_prefix [] h = ([], refl)

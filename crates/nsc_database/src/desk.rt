@@ -1,5 +1,5 @@
 // What the locks of a database keep.
-ghost use Rattle.std.specs.Prelude.{◌≡◌, ◌≤◌, ◌⊎◌, All, IfOk, IfErr, OnOk};
+ghost use Rattle.std.specs.Prelude.{◌≡◌, ◌<◌, ◌≤◌, ◌⊎◌, All, IfOk, IfErr, OnOk};
 ghost use Rattle.nsc_model.specs.Entry.{kept_limit};
 ghost use Rattle.nsc_model.specs.History.{Legal, NoneLive, invalidations};
 ghost use Rattle.nsc_model.specs.Sizes.{SizeFits};
@@ -208,6 +208,7 @@ impl<D: OfDb, B: Room> Desk<D, B> {
     pub fn invalidate(&mut self) -> Result<u64, Spent>
         ensures table { self.new.writer.table ≡ self.old.writer.table }
         ensures done { IfOk result (λ epoch. IsEmptied self.old.writer.seen self.new.writer.seen epoch) }
+        ensures below { IfOk result (λ _. invalidations self.old.writer.seen < last_count) }
         ensures spent { IfErr result (λ spent. IsUnmoved self.new.writer.seen (last_count ≤ self.new.writer.cache.cycle) spent.count (NoneLive self.new.writer.seen)) }
     {
         self.writer.learn();

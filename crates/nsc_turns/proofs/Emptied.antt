@@ -1,5 +1,5 @@
 -- Invalidations, with their compaction where any entry was live.
-use Rattle.std.proofs.Common.{◌≡◌, ◌≢◌, ℕ, ◌<◌, ◌≤◌, ◌+◌, ◌⊎◌, inl, inr, Bool, true, false, cond, eqb, ltb, List, [], ◌∷◌, ◌++◌, length, Result, Ok, Err, refl, sym, ap, subst, ◌∙◌, arith}
+use Rattle.std.proofs.Common.{◌≡◌, ℕ, ◌<◌, ◌≤◌, ◌+◌, ◌⊎◌, inl, inr, Bool, true, false, cond, eqb, ltb, List, [], ◌∷◌, ◌++◌, length, Result, Ok, Err, refl, sym, ap, subst, ◌∙◌, arith}
 use Rattle.std.proofs.lemmas.Bool.{eq-eqb, eqb-true, ltb-false}
 use Rattle.nsc_model.specs.declared.record.Record.{Record}
 use Rattle.nsc_model.specs.declared.record.Record.TheVariants.{Invalid}
@@ -81,13 +81,6 @@ completes_left w w' p = by_epoch (eqb w.cache.epoch last_count) p where
   by_epoch : (b : Bool) → Completes (cond b (Err (stopped w.cache)) (ends_and_compacts w.cache.entries w.cache)) w w' → IsLeft w w'
   by_epoch true q = absurd q
   by_epoch false q = by_entries w.cache.entries q
-
--- the count of invalidations was not at its end
-pub completes_unspent : (w w' : Writer) → Completes (invalidated w.cache) w w' → w.cache.epoch ≢ last_count
-unfolding invalidated
-completes_unspent w w' p last =
-    let e = ap (λ (b : Bool). cond b (Err (stopped w.cache)) (ends_and_compacts w.cache.entries w.cache)) (eq-eqb w.cache.epoch last_count last) in
-    absurd (subst (λ (r : Result Passed Stopped). Completes r w w') e p)
 
 -- where it stops: a count stands at its end
 abbrev pub IsStopped : Writer → ℕ → Writer → Type 0

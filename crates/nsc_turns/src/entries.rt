@@ -1,7 +1,7 @@
 // What lookups and invalidations do to the entries.
-ghost use Rattle.std.specs.Prelude.{◌≡◌, ◌≤◌, None, IfOk, IfErr};
+ghost use Rattle.std.specs.Prelude.{◌≡◌, ◌<◌, ◌≤◌, None, IfOk, IfErr};
 ghost use Rattle.nsc_model.specs.Entry.{kept_limit};
-ghost use Rattle.nsc_model.specs.Machine.{invalidated, live_entry};
+ghost use Rattle.nsc_model.specs.Machine.{invalidated, last_count, live_entry};
 ghost use Rattle.nsc_writer.specs.Writer.{Inserts, IsAnswered, IsRefused};
 ghost use Rattle.nsc_turns.specs.Turns.{Looks, Completes, Stops, missed};
 
@@ -57,6 +57,7 @@ pub fn invalidate(writer: &mut Writer) -> Result<u64, Spent>
     requires { writer.old.slide ≡ None }
     ensures completes { IfOk result (λ epoch. Completes (invalidated writer.old.cache) writer.old writer.new) }
     ensures epoch { IfOk result (λ epoch. epoch ≡ writer.new.cache.epoch) }
+    ensures below { IfOk result (λ _. writer.old.cache.epoch < last_count) }
     ensures stops { IfErr result (λ spent. Stops (invalidated writer.old.cache) spent.count writer.old writer.new) }
 {
     let is_empty = writer.is_empty();

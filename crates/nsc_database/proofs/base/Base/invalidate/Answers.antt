@@ -18,7 +18,7 @@ pub returns-in-Ok-clause-done : goal.returns-in-Ok-clause-done
 returns-in-Ok-clause-done g c =
     let seen = c.in_ok-follow.ensures.seen ∙ sym (ap (λ (d : Desk). d.writer.seen) c.in_ok-follow.ensures.same) in
     let before = subst (IsPrefix c.args.pass.now.pass.seen) seen c.in_ok-follow.ensures.frame.before in
-    subst (λ (h : List Record). IsEmptied c.args.pass.now.pass.seen h c.in-Ok.epoch) (sym c.show_cycle.ensures.seen) (emptied_since c.args.pass.now.pass.seen c.follow.new.self.writer.seen c.invalidate-ended.new.self.writer.seen c.in-Ok.epoch before c.in-Ok.ensures.done)
+    subst (λ (h : List Record). IsEmptied c.args.pass.now.pass.seen h c.in-Ok.epoch) (sym c.show_cycle.ensures.seen) (emptied_since c.args.pass.now.pass.seen c.follow.new.self.writer.seen c.invalidate-ended.new.self.writer.seen c.in-Ok.epoch before c.in-Ok.ensures.below c.in-Ok.ensures.done)
 
 pub returns-clause-fault : goal.returns-clause-fault
 returns-clause-fault g c =
