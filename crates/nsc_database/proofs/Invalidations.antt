@@ -5,7 +5,7 @@ use Rattle.nsc_model.specs.declared.kind.Db.{Db}
 use Rattle.nsc_model.specs.declared.record.Record.{Record}
 use Rattle.nsc_model.specs.declared.store.Spent.{Spent}
 use Rattle.nsc_model.specs.Entry.{Entry}
-use Rattle.nsc_model.specs.History.{HasLoad, NoneLive, invalidations}
+use Rattle.nsc_model.specs.History.{HasLoad, IsPrefix, NoneLive, invalidations}
 use Rattle.nsc_model.specs.Machine.{Kept, all_words, by_invalidation, ends_of, invalidated, last_count}
 use Rattle.nsc_model.specs.Stores.{IsEmptied, IsUnmoved}
 use Rattle.nsc_laws.specs.Calls.{Tells}
@@ -19,7 +19,7 @@ use Rattle.nsc_database.specs.Ticks.{compacted_by}
 use Rattle.nsc_model.specs.declared.record.Record.TheVariants.{End, Invalid}
 use Rattle.nsc_database.proofs.Again.{again_ends, again_later, again_more}
 use Rattle.nsc_database.proofs.Rests.{rests_same}
-use Rattle.nsc_database.proofs.Shown.{emptied_on, is_emptied, none_after}
+use Rattle.nsc_database.proofs.Shown.{emptied_on, invalidations_on, is_emptied, none_after}
 use Rattle.nsc_database.proofs.Steady.{version_emptied}
 use Rattle.nsc_database.proofs.Ended.{keeps_compacted, keeps_emptied, keeps_newest, packed_compacted, packed_spent}
 
@@ -119,3 +119,9 @@ all_below (Err spent) w low t = tt
 pub none_emptied : (r : Result ℕ Spent) (w w' : Writer) → IfErr r (λ spent. Stops (invalidated w.cache) spent.count w w') → Tells w.seen w.cache → IfErr r (λ spent. IsUnmoved w'.seen (last_count ≤ w'.cache.cycle) spent.count (NoneLive w'.seen))
 none_emptied (Ok epoch) w w' s t = tt
 none_emptied (Err spent) w w' s t = stops_unmoved w w' spent.count s t
+
+-- by one who has seen less
+pub emptied_since : (seen h after : List Record) (epoch : ℕ) → IsPrefix seen h → invalidations h < last_count → IsEmptied h after epoch → IsEmptied seen after epoch
+emptied_since seen h after epoch on below e =
+    let low = invalidations_on seen h on in
+    record { unspent = λ at_end. omega (arith, low, below, at_end); last = e.last; new = omega (arith, low, e.new); none = e.none }

@@ -355,11 +355,6 @@ is_emptied w w' epoch below t t' next is =
 pub unmoved_to : (after : List Record) (lesser last_cycle : Type 0) (count : ℕ) (ended : Type 0) → (lesser → last_cycle) → IsUnmoved after lesser count ended → IsUnmoved after last_cycle count ended
 unmoved_to after lesser last_cycle count ended to u = record { last = u.last; cause = elim u.cause [ inl all ↦ inl all | inr unmoved ↦ inr (to unmoved.0, unmoved.1) ] }
 
-pub emptied_since : (seen h after : List Record) (epoch : ℕ) → IsPrefix seen h → invalidations h < last_count → IsEmptied h after epoch → IsEmptied seen after epoch
-emptied_since seen h after epoch on below e =
-    let low = invalidations_on seen h on in
-    record { unspent = λ at_end. omega (arith, low, below, at_end); last = e.last; new = omega (arith, low, e.new); none = e.none }
-
 ends_prefix : (ks : List Kept) (h : List Record) → IsPrefix h (ends_of by_invalidation ks h)
 ends_prefix [] h = ([], refl)
 ends_prefix (k ∷ ks) h = prefix_through h (End k.entry.number Invalidated ∷ h) (ends_of by_invalidation ks (End k.entry.number Invalidated ∷ h)) (End k.entry.number Invalidated ∷ [], refl) (ends_prefix ks (End k.entry.number Invalidated ∷ h))

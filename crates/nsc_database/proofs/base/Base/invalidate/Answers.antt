@@ -4,7 +4,8 @@ use Rattle.nsc_model.specs.History.{IsPrefix, NoneLive}
 use Rattle.nsc_model.specs.Stores.{IsEmptied, IsUnmoved}
 use Rattle.nsc_database.specs.Frames.{LoadedLastCycle}
 use Rattle.nsc_database.specs.Rests.{Desk}
-use Rattle.nsc_database.proofs.Shown.{emptied_since, unmoved_to}
+use Rattle.nsc_database.proofs.Invalidations.{emptied_since}
+use Rattle.nsc_database.proofs.Shown.{unmoved_to}
 use Rattle.nsc_database.proofs.Standing.{held_through, loaded_before}
 use Rattle.nsc_database.proofs.base.Base.invalidate.Goals as goal
 
