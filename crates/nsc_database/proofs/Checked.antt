@@ -14,7 +14,7 @@ use Rattle.nsc_writer.specs.Former.{Former}
 use Rattle.nsc_writer.specs.Writer.{Writer}
 use Rattle.nsc_database.specs.Rests.{IsAtRest, Keeps}
 use Rattle.nsc_database.specs.Ticks.{AreListed, IsChecked}
-use Rattle.nsc_database.proofs.Invalidations.{finds_emptied, completes_emptied, rests_emptied}
+use Rattle.nsc_database.proofs.Invalidations.{completes_none, finds_emptied, rests_emptied}
 use Rattle.nsc_database.proofs.Listed.{are_listed}
 use Rattle.nsc_database.proofs.Standing.{at_rest_current, at_rest_on}
 
@@ -26,6 +26,6 @@ at_rest_checked {settings} {limit} {held} {which} {ticked} left checked.Emptied 
 at_rest_checked {settings} {limit} {held} {which} {ticked} left (checked.Listed due) most now newest w w' c t is s = at_rest_current left newest w w' c.2 is c.0 s
 
 pub is_checked : {settings : DbConf} {ticked : ℕ} (c : Checked) (limit : Option ℕ) (now : ℕ) (w w' : Writer) → Checks (is_outdated settings w.cache.newest_version ticked) limit now w w' (Ok c) → Tells w.seen w.cache → Keeps settings limit ticked w → IsChecked c settings limit now w'.seen
-is_checked {settings} {ticked} checked.Emptied limit now w w' c t k = (completes_emptied w w' w'.cache.epoch c.1 t refl).none
+is_checked {settings} {ticked} checked.Emptied limit now w w' c t k = completes_none w w' c.1 t
 is_checked {settings} {ticked} (checked.Listed due) limit now w w' c t k =
     subst (λ (x : List Record × List Due). AreListed settings limit now x.0 x.1) (λ i. (sym (ap (λ (y : Writer). y.seen) c.2) i, sym c.1 i)) (are_listed settings limit now ticked w t k c.0)

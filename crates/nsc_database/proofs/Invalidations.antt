@@ -87,6 +87,11 @@ rests_emptied w w' p t = elim (completes_left w w' p) [ inl (none, is) ↦ rests
 pub finds_emptied : (w w' : Writer) → Completes (invalidated w.cache) w w' → Tells w.seen w.cache → FindsNewest w w'
 finds_emptied w w' p t = elim (completes_left w w' p) [ inl (none, is) ↦ finds_left w w' is t | inr (some, is) ↦ finds_compacted w (emptied_by w) w' refl t is ]
 
+pub completes_none : (w w' : Writer) → Completes (invalidated w.cache) w w' → Tells w.seen w.cache → NoneLive w'.seen
+completes_none w w' p t =
+    let left : w'.seen ≡ (emptied_by w).seen = elim (completes_left w w' p) [ inl (none, is) ↦ ap (λ (x : Writer). x.seen) is | inr (some, is) ↦ ap (λ (x : Writer). x.seen) is ] in
+    subst NoneLive (sym left) (none_after w (emptied_by w) (emptied_tells w.seen w.cache t) refl)
+
 pub completes_emptied : (w w' : Writer) (epoch : ℕ) → Completes (invalidated w.cache) w w' → w.cache.epoch < last_count → Tells w.seen w.cache → epoch ≡ w'.cache.epoch → IsEmptied w.seen w'.seen epoch
 completes_emptied w w' epoch p low t counted =
     let left : (w'.seen ≡ (emptied_by w).seen) × (w'.cache.epoch ≡ w.cache.epoch + 1) = elim (completes_left w w' p) [ inl (none, is) ↦ (ap (λ (x : Writer). x.seen) is, ap (λ (x : Writer). x.cache.epoch) is) | inr (some, is) ↦ (ap (λ (x : Writer). x.seen) is, ap (λ (x : Writer). x.cache.epoch) is) ] in
