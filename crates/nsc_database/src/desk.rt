@@ -122,7 +122,7 @@ impl<D: OfDb, B: Room> Desk<D, B> {
         pass.learn();
     }
 
-    /// The same, and the pass has loaded CYCLE. It is shown the history again after that, since a load without the lock may show more
+    /// As `show`, and the pass has loaded CYCLE. It is shown the history again after that, since a load without the lock may show more
     /// than the lock tells of.
     pub fn show_cycle<F: FileSet + Drop>(&mut self, pass: &mut DbPass<F, B>)
         requires db { pass.old.db ≡ D.db }

@@ -26,7 +26,7 @@ pub trait Answerer {
     fn content<'a>(&self, ready: &'a Self::Ready) -> &'a Arc<Content>
         ensures { arc_value result.now ≡ prepared_from ready.now };
 
-    /// The same content once more, prepared for many answers, where that makes them quicker and there is memory for it. `None` where
+    /// That content once more, prepared for many answers, where that makes them quicker and there is memory for it. `None` where
     /// there is none, or where `ready` serves as well, as what this call made does. A caller asks for it where a further answer over
     /// the content is due.
     fn prepare_further(&self, alloc: Global, ready: &Self::Ready) -> Option<Self::Ready>

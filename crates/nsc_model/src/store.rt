@@ -35,11 +35,11 @@ pub struct Stats {
     pub enabled: bool,
     /// How many lookups a live entry answered with a found reply.
     pub hits: u64,
-    /// The same with a not-found reply.
+    /// How many lookups a live entry answered with a not-found reply.
     pub negative_hits: u64,
     /// How many lookups made a found answer anew.
     pub misses: u64,
-    /// The same of not-found answers.
+    /// How many lookups made a not-found answer anew.
     pub negative_misses: u64,
     /// How many entries are live.
     pub entries: u64,

@@ -28,7 +28,7 @@ pub fn line_words(text: &[u8], line: Span) -> Option<WordsAt>
     two_words(text, before_line_remark(text, line))
 }
 
-/// The same where the first word is known.
+/// The first two words of a part of a text, and the text after them, where the first word is known.
 pub fn words_after(text: &[u8], within: Span, first: Line) -> Option<WordsAt>
     requires inside { within.to ≤ length text.now }
     requires first { IsWord text.now within within.from first }

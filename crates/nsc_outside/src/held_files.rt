@@ -93,7 +93,7 @@ impl<R: Clock + Clone + Drop> HeldFiles<R> {
         })
     }
 
-    /// The same set, which holds this content once the flag is set. Fails only for want of memory, and the set is lost
+    /// This set, which holds this content once the flag is set. Fails only for want of memory, and the set is lost
     /// then.
     pub fn changing(
         mut self,
@@ -108,7 +108,7 @@ impl<R: Clock + Clone + Drop> HeldFiles<R> {
         Ok(self)
     }
 
-    /// The same set, in which these reads wait, and no others. Fails only for want of memory, and the set is lost then.
+    /// This set, in which these reads wait, and no others. Fails only for want of memory, and the set is lost then.
     pub fn holding(mut self, alloc: Global, hold: Hold) -> Result<HeldFiles<R>, NoMemory>
         ensures set { IfOk result (λ set. set ≡ record self { gate = set.gate }) }
         ensures hold { IfOk result (λ set. IsSomeAnd set.gate (λ gate. (gate.hold ≡ hold) × (gate.numbers ≡ []))) }
@@ -117,7 +117,7 @@ impl<R: Clock + Clone + Drop> HeldFiles<R> {
         Ok(self)
     }
 
-    /// The same set, with these bytes as the configuration at each path. Fails only for want of memory, and the set is lost then.
+    /// This set, with these bytes as the configuration at each path. Fails only for want of memory, and the set is lost then.
     pub fn configured(mut self, alloc: Global, conf: Bytes) -> Result<HeldFiles<R>, NoMemory>
         ensures { IfOk result (λ set. set ≡ record self { conf = Some conf }) }
     {
@@ -132,7 +132,7 @@ impl<R: Clock + Clone + Drop> HeldFiles<R> {
         self.tally.faults()
     }
 
-    /// The same of one file.
+    /// As `faults`, of one file.
     pub fn file_faults(&self, file: FileId) -> u64
         ensures { result ≡ count_of self.now.counts.file_faults file }
     {

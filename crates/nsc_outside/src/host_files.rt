@@ -74,7 +74,7 @@ impl<R: Files + Clone + Drop> HostFiles<R> {
         self.tally.faults()
     }
 
-    /// The same of one file.
+    /// As `faults`, of one file.
     pub fn file_faults(&self, file: FileId) -> u64
         ensures { result ≡ count_of self.now.counts.file_faults file }
     {

@@ -120,7 +120,7 @@ impl MemFiles {
         })
     }
 
-    /// The same set, in which one file is absent, or these bytes, however many. Fails only for want of memory, and
+    /// This set, in which one file is absent, or these bytes, however many. Fails only for want of memory, and
     /// the set is lost then.
     pub fn with_file(
         mut self,
@@ -137,7 +137,7 @@ impl MemFiles {
         Ok(self)
     }
 
-    /// The same set, with a configuration file of these bytes at a path. Fails only for want of memory.
+    /// This set, with a configuration file of these bytes at a path. Fails only for want of memory.
     pub fn with_conf(
         mut self,
         alloc: Global,
@@ -150,7 +150,7 @@ impl MemFiles {
         Ok(self)
     }
 
-    /// The same set, at which the reads with these numbers fail, and no others. They are numbered from 1 on, those of
+    /// This set, at which the reads with these numbers fail, and no others. They are numbered from 1 on, those of
     /// configuration files too, and those that find no memory, over this set and all that are split from it from now
     /// on. Fails only for want of memory.
     pub fn failing_at(mut self, alloc: Global, reads: Vec<u64>) -> Result<MemFiles, NoMemory>
@@ -167,7 +167,7 @@ impl MemFiles {
         self.tally.faults()
     }
 
-    /// The same of one file.
+    /// As `faults`, of one file.
     pub fn file_faults(&self, file: FileId) -> u64
         ensures { result ≡ count_of self.now.counts.file_faults file }
     {

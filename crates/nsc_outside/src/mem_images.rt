@@ -113,7 +113,7 @@ impl MemImages {
         })
     }
 
-    /// The same store, at which the puts with these numbers fail, and no others but for want of room. The first put is 1.
+    /// This store, at which the puts with these numbers fail, and no others but for want of room. The first put is 1.
     pub fn failing_puts(mut self, puts: Vec<u64>) -> MemImages
         ensures { result ≡ record self { puts = record self.puts { failing = puts.items } } }
     {
@@ -121,7 +121,7 @@ impl MemImages {
         self
     }
 
-    /// The same store, at which the gets with these numbers fail, and no others. The first get is 1, and those that find no memory
+    /// This store, at which the gets with these numbers fail, and no others. The first get is 1, and those that find no memory
     /// or an image that is too long have numbers too.
     pub fn failing_gets(mut self, gets: Vec<u64>) -> MemImages
         ensures { result ≡ record self { gets = record self.gets { failing = gets.items } } }

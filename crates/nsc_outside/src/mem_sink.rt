@@ -43,7 +43,7 @@ impl MemSink {
         })
     }
 
-    /// The same sink, which takes `step` bytes a call at most.
+    /// This sink, which then takes `step` bytes a call at most.
     pub fn with_step(mut self, step: usize) -> MemSink
         requires { 0 < step }
         ensures { result ≡ record self { plan = record self.plan { step = step } } }
@@ -52,7 +52,7 @@ impl MemSink {
         self
     }
 
-    /// The same sink, at which the calls with these numbers fail, the first being 1.
+    /// This sink, at which then the calls with these numbers fail, the first being 1.
     pub fn failing_at(mut self, calls: Vec<u64>) -> MemSink
         ensures { result ≡ record self { plan = record self.plan { failing = calls.items } } }
     {

@@ -40,7 +40,7 @@ impl MemSource {
         }
     }
 
-    /// The same source, which gives `step` bytes a call at most.
+    /// This source, which then gives `step` bytes a call at most.
     pub fn with_step(mut self, step: usize) -> MemSource
         requires { 0 < step }
         ensures { result ≡ record self { plan = record self.plan { step = step } } }
@@ -49,7 +49,7 @@ impl MemSource {
         self
     }
 
-    /// The same source, at which the calls with these numbers fail, the first being 1.
+    /// This source, at which then the calls with these numbers fail, the first being 1.
     pub fn failing_at(mut self, calls: Vec<u64>) -> MemSource
         ensures { result ≡ record self { plan = record self.plan { failing = calls.items } } }
     {

@@ -127,7 +127,7 @@ impl Guest {
         self.since
     }
 
-    /// The same guest, with what was seen of its bytes.
+    /// This guest, with what was seen of its bytes.
     pub(crate) fn ready(self, ahead: Vec<u8>) -> ReadyGuest {
         let Guest { role, peer, .. } = self;
         ReadyGuest {

@@ -74,7 +74,7 @@ impl Peer {
         (&self.stream).read(room)
     }
 
-    /// The same; where no byte has come it waits for one, up to this time.
+    /// As `read`; where no byte has come it waits for one, up to this time.
     pub(crate) fn read_within(&self, room: &mut [u8], limit: Duration) -> io::Result<usize>
         ensures count { IfOk result (λ n. n ≤ length room.old) }
     {
@@ -91,7 +91,7 @@ impl Peer {
         (&self.stream).write(bytes)
     }
 
-    /// The same; where there is no room it waits for some, up to this time.
+    /// As `write`; where there is no room it waits for some, up to this time.
     pub(crate) fn write_within(&self, bytes: &[u8], limit: Duration) -> io::Result<usize>
         ensures count { IfOk result (λ n. n ≤ length bytes.now) }
     {

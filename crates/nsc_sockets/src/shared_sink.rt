@@ -75,7 +75,7 @@ impl SharedSink {
         })
     }
 
-    /// The same sink, whose next byte sets this flag.
+    /// This sink, whose next byte then sets this flag.
     pub fn setting(mut self, first: Release) -> SharedSink
         ensures { result ≡ record self { first = Some first } }
     {

@@ -13,7 +13,7 @@ use std::sync::Wait;
 pub enum Step {
     /// A lookup at this moment, in seconds.
     Find(Asked, u32, Wanted, &'static [u8]),
-    /// The same through another pass, which is met then.
+    /// A lookup through another pass, which is met then.
     Meet(Asked, u32, Wanted, &'static [u8]),
     /// The file becomes the second one.
     Change,

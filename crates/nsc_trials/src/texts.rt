@@ -3,13 +3,13 @@
 /// A file in which root is the one user.
 pub const BASH: &[u8] = b"root:x:0:0:root:/root:/bin/bash\n";
 
-/// The same with another shell.
+/// That file with another shell.
 pub const SH: &[u8] = b"root:x:0:0:root:/root:/bin/sh\n";
 
 /// A file of two users.
 pub const BOTH: &[u8] = b"root:x:0:0:root:/root:/bin/bash\nann:x:1000:100:Ann:/home/ann:/bin/sh\n";
 
-/// The same with another shell of root, and another id of ann.
+/// That file with another shell of root, and another id of ann.
 pub const MOVED: &[u8] = b"root:x:0:0:root:/root:/bin/sh\nann:x:1001:100:Ann:/home/ann:/bin/sh\n";
 
 /// The reply on root with the first shell: 64 bytes.

@@ -111,7 +111,7 @@ impl Writer {
         (said, loaded)
     }
 
-    /// The same of what is lent.
+    /// As `insert`, of what is lent.
     pub fn insert_lent(&mut self, loaded: &Loaded) -> Inserted
         requires answered { IsAnswered self.old.seen loaded.now }
         requires still { self.old.slide ≡ None }

@@ -88,7 +88,7 @@ impl Writer {
         Some(EntryAt::of(found.head))
     }
 
-    /// The same without its key and its reply.
+    /// As `entry`, without its key and its reply.
     pub fn next(&mut self, at: usize) -> Option<EntryAt>
         requires { self.old.slide ≡ None }
         ensures told { IsTold (entry_from at self.old.cache.entries) result }
