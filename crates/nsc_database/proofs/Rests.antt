@@ -261,6 +261,19 @@ rests_missed {which} m w w' is = subst (Rests which w) (sym is) (record {
   inserts = λ e a. inl a;
 })
 
+pub rests_raised : {which : Db} (h : Uses) (w w' : Writer) → w' ≡ record w { hits = h } → Rests which w w'
+rests_raised {which} h w w' is = subst (Rests which w) (sym is) (record {
+  on = ([], refl);
+  table = refl;
+  layout = refl;
+  slide = refl;
+  keeps = λ settings limit ticked k. record { reloaded = k.reloaded; counted = k.counted; found = k.found };
+  packed = λ p. λ low. p low;
+  again = λ arena l. l;
+  version = record { version = refl; sources = refl };
+  inserts = λ e a. inl a;
+})
+
 pub rests_looked : {which : Db} (found : Option Kept) (request : Request) (r : HitOrMiss) (w w' : Writer) (reply : List ℕ) → Looks found request r w w' reply → Rests which w w'
 rests_looked {which} found request (looked.Missed epoch) w w' reply l = rests_same w w' l.2
 rests_looked {which} found request (looked.Hit hit) w w' reply l = subst (Rests which w) (sym l.1) (record {

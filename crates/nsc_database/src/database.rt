@@ -4,7 +4,7 @@ use crate::base::Base;
 use crate::pass::DbPass;
 use crate::room::{OfGroup, OfHosts, OfPasswd, OfServices, Room};
 use nsc_base::{Buf, Bytes, NoMemory};
-use nsc_model::{Answerer, CacheFault, Given, InPlace, Kind, LookupFault, Stats, Store};
+use nsc_model::{Answerer, CacheFault, Given, InPlace, Kind, LookupFault, Sought, Stats, Store};
 use nsc_outside::FileSet;
 use std::alloc::Global;
 use std::marker::Model;
@@ -118,6 +118,28 @@ impl<F: FileSet + Drop, A: Answerer + Drop, B: Room> Store for Database<F, A, B>
 
     fn in_place(&self, pass: &mut DbPass<F, B>, kind: Kind, key: &[u8], out: &mut Buf) -> InPlace {
         pass.in_place(kind, key, out)
+    }
+
+    fn seek(&self, pass: &mut DbPass<F, B>, kind: Kind, key: &[u8], out: &mut Buf) -> Sought {
+        pass.seek(kind, key, out)
+    }
+
+    fn catch_up(&self, pass: &mut DbPass<F, B>) -> bool {
+        match &self.bases {
+            Bases::Passwd(base) => base.catch_up(pass),
+            Bases::Group(base) => base.catch_up(pass),
+            Bases::Hosts(base) => base.catch_up(pass),
+            Bases::Services(base) => base.catch_up(pass),
+        }
+    }
+
+    fn note_hits<R: Wait>(&self, rt: &R, found: u64, not_found: u64) {
+        match &self.bases {
+            Bases::Passwd(base) => base.note_hits(rt, found, not_found),
+            Bases::Group(base) => base.note_hits(rt, found, not_found),
+            Bases::Hosts(base) => base.note_hits(rt, found, not_found),
+            Bases::Services(base) => base.note_hits(rt, found, not_found),
+        }
     }
 
     fn stats<R: Wait>(&self, rt: &R, pass: &mut DbPass<F, B>) -> Result<Stats, NoMemory> {

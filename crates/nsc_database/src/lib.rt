@@ -5,6 +5,7 @@ mod base;
 mod database;
 mod desk;
 mod growing;
+mod in_place;
 mod lookup;
 mod opened;
 mod pass;

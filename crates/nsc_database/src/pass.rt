@@ -7,7 +7,7 @@ ghost use Rattle.nsc_model.specs.Stores.{Continues};
 
 use crate::room::Room;
 use nsc_base::Buf;
-use nsc_model::{Db, InPlace, Kind};
+use nsc_model::{Db, InPlace, Kind, Sought};
 use nsc_outside::FileSet;
 use nsc_seats::Seats;
 use std::marker::PhantomData;
@@ -52,6 +52,22 @@ impl<F: FileSet + Drop, B: Room> DbPass<F, B> {
         let answer = self.pass.search(kind, key, out);
         self.pass.learn();
         answer
+    }
+
+    /// Searches as `in_place` does, and says whether the entry that answers was loaded again since it was used last.
+    pub(crate) fn seek(&mut self, kind: Kind, key: &[u8], out: &mut Buf) -> Sought
+        requires key { length key.now ≤ key_limit }
+        requires limit { out.old.limit ≡ kept_limit }
+        ensures db { self.new.db ≡ self.old.db }
+        ensures files { self.new.files ≡ self.old.files }
+        ensures limit { out.new.limit ≡ out.old.limit }
+        ensures seen { Continues self.old.pass.seen self.new.pass.seen }
+        ensures searches { self.new.pass.searching.searches ≡ self.old.pass.searching.searches + 1 }
+        ensures answer { InPlaceClause self.old.pass.seen self.new.pass.seen (record { kind = kind; key = key.now }) self.new.pass.searching.first self.new.pass.searching.last out.new.content result.answer }
+    {
+        let sought = self.pass.seek(kind, key, out);
+        self.pass.learn();
+        sought
     }
 
     /// Loads CYCLE, so that it is known whether there are more compactions.

@@ -25,3 +25,13 @@ pub enum InPlace {
     /// No entry answers.
     NoEntry,
 }
+
+/// What a search without a lock answers that looks at the count of reloads too.
+#[derive(Clone, Copy, Debug, PartialEq, Eq)]
+pub struct Sought {
+    /// What it answers.
+    pub answer: InPlace,
+    /// Whether the entry that answers was loaded again since it was used last, so a lookup has to set its count of reloads back. Nothing
+    /// is promised of it.
+    pub is_reloaded: bool,
+}

@@ -27,7 +27,7 @@ pub use counts::{KEPT_LIMIT, KEY_LIMIT, LAST_COUNT, LINE_LIMIT, has_reached, nex
 pub use databases::Databases;
 pub use exit::{ConfFault, Exit};
 pub use fault::CacheFault;
-pub use in_place::InPlace;
+pub use in_place::{InPlace, Sought};
 pub use kind::{Db, FileId, Kind, Shape};
 pub use record::{Ending, Entry, Record};
 pub use row::{Ai, Found6, Founds, Group, Host, Looked, Passwd, Reply, Row, Service};

@@ -1,4 +1,4 @@
-ghost use Rattle.std.specs.Prelude.{◌≡◌, ◌+◌, ◌<◌, ◌^◌, ◌≤◌, ℕ, List, Option, IsOk, length, IfOk, IfErr, OnOk};
+ghost use Rattle.std.specs.Prelude.{◌≡◌, ◌⊎◌, ◌+◌, ◌<◌, ◌^◌, ◌≤◌, ℕ, List, Option, IsOk, length, IfOk, IfErr, OnOk};
 ghost use Rattle.std.specs.Bool.{OnFalse, OnTrue};
 ghost use Rattle.nsc_model.specs.declared.kind.Db.{Db};
 ghost use Rattle.nsc_model.specs.declared.kind.FileId.{FileId};
@@ -14,7 +14,7 @@ ghost use Rattle.nsc_model.specs.Steady.{IsSteady};
 ghost use Rattle.nsc_model.specs.Stores.{Continues, FoundLastCycle, GivesAnswer, GivesUp, IsCounted, IsEmptied, IsImageOf, IsInvalidateFault, IsOfFiles, IsTicked, IsTickFault};
 
 use crate::fault::CacheFault;
-use crate::in_place::InPlace;
+use crate::in_place::{InPlace, Sought};
 use crate::kind::{FileId, Kind};
 use nsc_base::{Buf, Bytes, NoMemory};
 use std::alloc::Global;
@@ -288,6 +288,33 @@ pub trait Store {
         ensures searches { searches pass.new ≡ searches pass.old + 1 }
         ensures answer { InPlaceClause (seen pass.old) (seen pass.new) (record { kind = kind; key = key.now }) (first pass.new) (last pass.new) out.new.content result }
         ensures no_fault { FaultsStay (faults pass.old) (faults pass.new) (file_faults pass.old) (file_faults pass.new) };
+
+    /// Searches as `in_place` does, and says whether the entry that answers was loaded again since it was used last.
+    fn seek(&self, pass: &mut Self::Pass, kind: Kind, key: &[u8], out: &mut Buf) -> Sought
+        requires pass { is_pass self.now pass.old }
+        requires kind { database_of kind ≡ db self.now }
+        requires key { length key.now ≤ key_limit }
+        requires limit { out.old.limit ≡ kept_limit }
+        ensures pass { is_pass self.now pass.new }
+        ensures limit { out.new.limit ≡ out.old.limit }
+        ensures seen { Continues (seen pass.old) (seen pass.new) }
+        ensures searches { searches pass.new ≡ searches pass.old + 1 }
+        ensures answer { InPlaceClause (seen pass.old) (seen pass.new) (record { kind = kind; key = key.now }) (first pass.new) (last pass.new) out.new.content result.answer }
+        ensures no_fault { FaultsStay (faults pass.old) (faults pass.new) (file_faults pass.old) (file_faults pass.new) };
+
+    /// Goes on to the table that is written, if the writer's lock is free, so that searches in place find its entries. It adds no record.
+    /// `false` if the lock is held, which leaves the pass as it is, or if memory is wanting.
+    fn catch_up(&self, pass: &mut Self::Pass) -> bool
+        requires { is_pass self.now pass.old }
+        ensures pass { is_pass self.now pass.new }
+        ensures seen { (pass.new ≡ pass.old) ⊎ Continues (seen pass.old) (seen pass.new) }
+        ensures followed { OnTrue result (IsSteady (held self.now) (db self.now) (seen pass.new)) }
+        ensures searches { searches pass.old ≤ searches pass.new }
+        ensures no_fault { FaultsStay (faults pass.old) (faults pass.new) (file_faults pass.old) (file_faults pass.new) };
+
+    /// Counts lookups that live entries answered in place: of found and of not-found replies. Each number stays at 2^62. It takes no
+    /// memory, and changes nothing else.
+    fn note_hits<R: Wait>(&self, rt: &R, found: u64, not_found: u64);
 
     /// What the database counts. Fails only for want of memory.
     fn stats<R: Wait>(&self, rt: &R, pass: &mut Self::Pass) -> Result<Stats, NoMemory>

@@ -19,9 +19,10 @@ use Rattle.nsc_model.proofs.Beginnings.{prefix_all}
 use Rattle.nsc_rule.specs.declared.view.Search.{Search}
 use Rattle.nsc_rule.specs.Pass.{Pass}
 use Rattle.nsc_rule.specs.Searches.{IsSteady}
-use Rattle.nsc_reader.specs.Stages.{AtLast, AtNext, AtNumber, AtReply, AtSize, AtState, AtVersion, Tells, key_words, reply_in}
+use Rattle.nsc_reader.specs.declared.stage.Stage.TheVariants.{State}
+use Rattle.nsc_reader.specs.Stages.{AtLast, AtNext, AtNumber, AtReply, AtSize, AtState, AtVersion, Comes, Keeps, Tells, key_words, reply_in}
 use Rattle.nsc_model.specs.declared.in_place.InPlace.TheVariants.{Hit, NoEntry}
-use Rattle.nsc_reader.proofs.Tellings.{Read, fixed_at, node_at, begun_at, stays, steady_before}
+use Rattle.nsc_reader.proofs.Tellings.{Read, fixed_at, keeps_at, node_at, begun_at, stays, steady_before}
 
 -- ---- STATE
 
@@ -45,6 +46,21 @@ ended_at layout place seen known gone p more later at is = record {
 }
 
 -- ---- what is known of a node that answers stays
+
+state_at : (layout : Layout) (place known : ℕ) (p : Pass) → p.searching.known ≤ known → AtState layout place p → AtState layout place (fixed_at known p)
+state_at layout place known p later at = record {
+  node = node_at layout place p.seen known p.searching.gone p (prefix_all p.seen) later at.node;
+  room = at.room;
+  answers = λ steady e on. at.answers (steady_before p.seen known p.searching.gone p later at.node.begun steady) e on;
+}
+
+-- the search stays at its stage where it has loaded another word of the node
+pub comes_state : (layout : Layout) (p new : Pass) (content : List ℕ) (place : ℕ) → new ≡ fixed_at new.searching.known p → p.searching.known ≤ new.searching.known → AtState layout place p → Comes layout p new content (20000 * place + 9004) (State place)
+comes_state layout p new content place is later at = record {
+  keeps = subst (λ (q : Pass). Keeps p q) (sym is) (keeps_at p.seen new.searching.known p.searching.gone p (prefix_all p.seen));
+  at = subst (λ (q : Pass). AtState layout place q) (sym is) (state_at layout place new.searching.known p later at);
+  within = omega arith;
+}
 
 size_at : (layout : Layout) (place known : ℕ) (p : Pass) → p.searching.known ≤ known → AtSize layout place p → AtSize layout place (fixed_at known p)
 size_at layout place known p later at =

@@ -10,5 +10,5 @@ mod searching;
 mod stage;
 mod walk;
 
-pub use searching::search;
+pub use searching::{search, seek};
 pub use walk::Walk;

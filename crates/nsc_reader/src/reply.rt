@@ -8,12 +8,37 @@ use crate::stage::Stage;
 use nsc_base::Buf;
 use nsc_model::{InPlace, KEPT_LIMIT};
 use nsc_rule::{Map, Pass};
-use nsc_words::{KEY, NUMBER, SIZE, STATE, VERSION, size_len, size_not_found};
+use nsc_words::{KEY, NUMBER, RELOADS, SIZE, STATE, VERSION, size_len, size_not_found};
 
 // How many bytes of a reply are put into the buffer at once, and how many words that is.
 const BLOCK: usize = 64;
 
 const BLOCK_WORDS: usize = 8;
+
+// Loads RELOADS, and says whether it is not 0. Nothing is promised of that.
+pub(crate) fn load_reloads(pass: &mut Pass, map: &Map, place: usize) -> bool
+    requires map { map.now.table ≡ pass.old.table }
+    requires at { AtState map.now.layout place pass.old }
+    ensures comes { (content : List ℕ) → Comes map.now.layout pass.old pass.new content (20000 * place + 9004) (Stage.State place) }
+{
+    map.layout();
+    pass.fixed(map, place + RELOADS) != 0
+}
+
+// Loads it where STATE is the next step and the search looks at it. The search stays at its stage.
+pub(crate) fn past_reloads(stage: Stage, pass: &mut Pass, map: &Map, looks: bool) -> bool
+    ghost content: { List ℕ }
+    requires map { map.now.table ≡ pass.old.table }
+    requires at { AtStage map.now.layout content stage pass.old }
+    ensures comes { Comes map.now.layout pass.old pass.new content (left_at map.now.layout stage) stage }
+{
+    if looks {
+        if let Stage::State { place } = stage {
+            return load_reloads(pass, map, place);
+        }
+    }
+    false
+}
 
 // Loads STATE.
 pub(crate) fn load_state(pass: &mut Pass, map: &Map, place: usize) -> Stage

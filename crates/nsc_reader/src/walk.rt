@@ -9,8 +9,8 @@ use crate::key::{
     load_first_word, load_key_word, load_shape, past_first_word, past_key_words, past_shape,
 };
 use crate::reply::{
-    load_number, load_reply, load_size, load_state, load_version, past_number, past_reply,
-    past_size, past_state, past_version,
+    load_number, load_reply, load_size, load_state, load_version, past_number, past_reloads,
+    past_reply, past_size, past_state, past_version,
 };
 use crate::stage::{Progress, Stage};
 use nsc_base::Buf;
@@ -62,8 +62,16 @@ impl Walk {
     }
 
     /// Takes the steps of the node where it stands, up to the one that leaves the node or answers. They come in one order, so that none
-    /// costs a look at which is next; the words of a reply go into the buffer by blocks.
-    pub(crate) fn past_node(&mut self, pass: &mut Pass, map: &Map, key: &[u8], out: &mut Buf)
+    /// costs a look at which is next; the words of a reply go into the buffer by blocks. Where it looks at RELOADS, it loads that word
+    /// right before STATE, and says whether it is not 0. Nothing is promised of that.
+    pub(crate) fn past_node(
+        &mut self,
+        pass: &mut Pass,
+        map: &Map,
+        key: &[u8],
+        out: &mut Buf,
+        looks: bool,
+    ) -> bool
         ghost content: { List ℕ }
         requires map { map.now.table ≡ pass.old.table }
         requires key { length key.now ≤ key_limit }
@@ -76,9 +84,12 @@ impl Walk {
     {
         if let Progress::Under { first, stage } = self.progress {
             let stage = past_key(self.kind, stage, pass, map, key);
+            let is_reloaded = past_reloads(stage, pass, map, looks);
             let stage = past_answer(stage, pass, map, key, out);
             self.progress = Progress::Under { first, stage };
+            return is_reloaded;
         }
+        false
     }
 }
 

@@ -8,8 +8,8 @@ ghost use Rattle.nsc_model.specs.Machine.{last_count};
 ghost use Rattle.nsc_rule.specs.Seats.{AreOne, informed};
 
 use nsc_base::{Buf, NoMemory};
-use nsc_model::{InPlace, Kind};
-use nsc_reader::search;
+use nsc_model::{InPlace, Kind, Sought};
+use nsc_reader::{search, seek};
 use nsc_rule::{Map, Pass};
 use nsc_writer::{Former, Writer};
 use std::marker::Model;
@@ -137,6 +137,20 @@ impl Seat {
         ensures answer { InPlaceClause self.old.seen self.new.seen (record { kind = kind; key = key.now }) self.new.searching.first self.new.searching.last out.new.content result }
     {
         search(&mut self.pass, &self.map, kind, key, out)
+    }
+
+    /// Searches as `search` does, and says whether the entry that answers was loaded again since it was used last. Nothing is promised
+    /// of that.
+    pub fn seek(&mut self, kind: Kind, key: &[u8], out: &mut Buf) -> Sought
+        requires key { length key.now ≤ key_limit }
+        requires limit { out.old.limit ≡ kept_limit }
+        ensures table { self.new.table ≡ self.old.table }
+        ensures limit { out.new.limit ≡ out.old.limit }
+        ensures before { IsPrefix self.old.seen self.new.seen }
+        ensures searches { self.new.searching.searches ≡ self.old.searching.searches + 1 }
+        ensures answer { InPlaceClause self.old.seen self.new.seen (record { kind = kind; key = key.now }) self.new.searching.first self.new.searching.last out.new.content result.answer }
+    {
+        seek(&mut self.pass, &self.map, kind, key, out)
     }
 
     /// Loads CYCLE, as the first load of a search.

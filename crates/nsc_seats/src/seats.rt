@@ -11,7 +11,7 @@ ghost use Rattle.nsc_seats.specs.Tables.{IsChain};
 use crate::left::Left;
 use crate::seat::Seat;
 use nsc_base::{Buf, NoMemory};
-use nsc_model::{InPlace, Kind};
+use nsc_model::{InPlace, Kind, Sought};
 use nsc_rule::{Map, Pass};
 use nsc_writer::Writer;
 use std::alloc::Global;
@@ -141,6 +141,20 @@ impl Seats {
         ensures answer { InPlaceClause self.old.seen self.new.seen (record { kind = kind; key = key.now }) self.new.searching.first self.new.searching.last out.new.content result }
     {
         self.present.search(kind, key, out)
+    }
+
+    /// Searches as `search` does, and says whether the entry that answers was loaded again since it was used last. Nothing is promised
+    /// of that.
+    pub fn seek(&mut self, kind: Kind, key: &[u8], out: &mut Buf) -> Sought
+        requires key { length key.now ≤ key_limit }
+        requires limit { out.old.limit ≡ kept_limit }
+        ensures table { self.new.table ≡ self.old.table }
+        ensures limit { out.new.limit ≡ out.old.limit }
+        ensures before { IsPrefix self.old.seen self.new.seen }
+        ensures searches { self.new.searching.searches ≡ self.old.searching.searches + 1 }
+        ensures answer { InPlaceClause self.old.seen self.new.seen (record { kind = kind; key = key.now }) self.new.searching.first self.new.searching.last out.new.content result.answer }
+    {
+        self.present.seek(kind, key, out)
     }
 
     /// Loads CYCLE, so that it is known whether there are more compactions.

@@ -3,6 +3,7 @@ pub mod Moved
 mod Ends
 mod Sits
 mod Used
+mod Raised
 mod Few
 mod Put
 mod Enlarged

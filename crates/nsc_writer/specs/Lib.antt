@@ -3,3 +3,4 @@ pub mod Writer
 pub mod Slide
 pub mod Former
 pub mod Enlarged
+pub mod Raised

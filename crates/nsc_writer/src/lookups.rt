@@ -1,17 +1,19 @@
 // Lookups of entries, and the list of them.
-ghost use Rattle.std.specs.Prelude.{◌≡◌, ◌≤◌, None, IfNone, IfSome};
+ghost use Rattle.std.specs.Prelude.{◌≡◌, ◌+◌, ◌≤◌, min, None, IfNone, IfSome, slice_index};
 ghost use Rattle.nsc_model.specs.Entry.{key_limit, kept_limit};
-ghost use Rattle.nsc_model.specs.Machine.{live_entry, used_now};
+ghost use Rattle.nsc_model.specs.Machine.{last_count, live_entry, used_now};
+ghost use Rattle.nsc_rule.specs.Strokes.{stored};
 ghost use Rattle.nsc_shelf.specs.Shelf.{GivesHit, IsTold, entry_from, number_of};
 ghost use Rattle.nsc_shelf.specs.Uses.{counted};
+ghost use Rattle.nsc_writer.specs.Raised.{raised};
 ghost use Rattle.nsc_writer.specs.Writer.{IsListed};
 
 use crate::writer::Writer;
 use nsc_arena::{head_at, walk};
 use nsc_base::Buf;
-use nsc_model::Kind;
-use nsc_shelf::{EntryAt, Found, Hit, find, find_from, read_key, read_reply};
-use nsc_words::{HITS, MISSES, hash};
+use nsc_model::{Kind, LAST_COUNT};
+use nsc_shelf::{EntryAt, Found, Hit, Sheet, find, find_from, read_key, read_reply};
+use nsc_words::{HITS, MISSES, NEGATIVE_HITS, hash};
 
 impl Writer {
     /// Counts a lookup that made an answer anew.
@@ -20,6 +22,15 @@ impl Writer {
         ensures { self.new ≡ record self.old { misses = counted not_found self.old.misses } }
     {
         self.sheet.count_use(MISSES, not_found);
+    }
+
+    /// Counts lookups that live entries answered: of found and of not-found replies. Each number stays at 2^62.
+    pub fn note_hits(&mut self, found: u64, not_found: u64)
+        requires { self.old.slide ≡ None }
+        ensures { self.new ≡ record self.old { hits = raised found not_found self.old.hits } }
+    {
+        raise(&mut self.sheet, HITS, found);
+        raise(&mut self.sheet, NEGATIVE_HITS, not_found);
     }
 
     /// The live entry that answers the request of this kind and key, if there is one: the buffer then has its reply, its count
@@ -99,4 +110,21 @@ impl Writer {
         };
         Some(EntryAt::of(found.head))
     }
+}
+
+// Raises the count at a head word by so many. It stays at 2^62.
+fn raise(sheet: &mut Sheet, at: usize, more: u64)
+    requires low { 5 ≤ at }
+    requires high { at ≤ 9 }
+    ensures { sheet.new ≡ record sheet.old { plan = stored at (min (slice_index sheet.old.plan.words at + more) last_count) sheet.old.plan } }
+{
+    let count = sheet.head(at);
+    sheet.set_count(at, raised_count(count, more));
+}
+
+// Adds so many to a count, which stays at 2^62.
+fn raised_count(count: u64, more: u64) -> u64
+    ensures { result ≡ min (count + more) last_count }
+{
+    count.saturating_add(more).min(LAST_COUNT)
 }

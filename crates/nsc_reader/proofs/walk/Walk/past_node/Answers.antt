@@ -12,9 +12,11 @@ returns-in-Under-clause-nears g c =
     let p = c.args.pass.now in
     let was = c.in-Under.stage in
     let key = c.past_key-stage in
+    let reloads = c.past_reloads-is_reloaded in
     let answer = c.past_answer-stage in
     let content = answer.new.out.content in
     let stands = subst (λ (q : Progress). HasCome layout request g.content p q) c.in-Under.is c.requires.1.1.1.1 in
-    let comes = comes_then layout p key.new.pass answer.new.pass g.content content (left_at layout was) key.result answer.result key.ensures.comes answer.ensures.comes in
+    let looked = comes_then layout p key.new.pass reloads.new.pass g.content g.content (left_at layout was) key.result key.result key.ensures.comes reloads.ensures.comes in
+    let comes = comes_then layout p reloads.new.pass answer.new.pass g.content content (left_at layout was) key.result answer.result looked answer.ensures.comes in
     subst (λ (q : Progress). Nears layout request q p answer.new.pass content (Under c.in-Under.first answer.result)) (sym c.in-Under.is)
     (nears_by layout request c.in-Under.first was p answer.new.pass content answer.result stands.0 stands.1 comes)

@@ -6,7 +6,7 @@ use Rattle.nsc_reader.specs.declared.walk.Walk.{Walk}
 use Rattle.nsc_reader.specs.Stages.{Nears, Steps, asked}
 use Rattle.nsc_reader.proofs.Steps.{SoFar, last_step, one_step, open_still}
 use Rattle.nsc_reader.proofs.Runs.{nearer}
-use Rattle.nsc_reader.proofs.searching.search.Goals as goal
+use Rattle.nsc_reader.proofs.searching.walk_on.Goals as goal
 
 -- the first step answers
 pub returns-in-Some-clause-answer : goal.returns-in-Some-clause-answer
@@ -23,7 +23,7 @@ pub walk-preserved : goal.walk-preserved
 walk-preserved c =
     let layout = c.args.map.now.layout in
     let request = asked c.args.kind c.args.key.now in
-    let near = c.past_node in
+    let near = c.past_node-is_reloaded in
     let new = c.step-in-walk.new in
     let kind = near.ensures.kind ∙ c.walk.invariant.kind in
     let nears = subst (λ (k : Kind). Nears layout (asked k c.args.key.now) c.walk.walk.progress c.walk.pass near.new.pass near.new.out.content near.new.self.progress) c.walk.invariant.kind near.ensures.nears in
@@ -41,7 +41,7 @@ pub returns-in-Some-step-clause-before : goal.returns-in-Some-step-clause-before
 returns-in-Some-step-clause-before c =
     let layout = c.args.map.now.layout in
     let request = asked c.args.kind c.args.key.now in
-    let near = c.past_node in
+    let near = c.past_node-is_reloaded in
     let new = c.step-in-walk.new in
     let nears = subst (λ (k : Kind). Nears layout (asked k c.args.key.now) c.walk.walk.progress c.walk.pass near.new.pass near.new.out.content near.new.self.progress) c.walk.invariant.kind near.ensures.nears in
     let step = subst (λ (k : Kind). Steps layout (asked k c.args.key.now) near.new.self.progress near.new.pass new.pass new.out.content new.self.progress) (near.ensures.kind ∙ c.walk.invariant.kind) c.step-in-walk.ensures.steps in
@@ -53,7 +53,7 @@ pub returns-in-Some-step-clause-answer : goal.returns-in-Some-step-clause-answer
 returns-in-Some-step-clause-answer c =
     let layout = c.args.map.now.layout in
     let request = asked c.args.kind c.args.key.now in
-    let near = c.past_node in
+    let near = c.past_node-is_reloaded in
     let new = c.step-in-walk.new in
     let nears = subst (λ (k : Kind). Nears layout (asked k c.args.key.now) c.walk.walk.progress c.walk.pass near.new.pass near.new.out.content near.new.self.progress) c.walk.invariant.kind near.ensures.nears in
     let step = subst (λ (k : Kind). Steps layout (asked k c.args.key.now) near.new.self.progress near.new.pass new.pass new.out.content new.self.progress) (near.ensures.kind ∙ c.walk.invariant.kind) c.step-in-walk.ensures.steps in

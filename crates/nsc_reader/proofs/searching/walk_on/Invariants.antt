@@ -1,7 +1,7 @@
 use Rattle.std.proofs.Common.{◌≡◌}
 use Rattle.nsc_reader.specs.Stages.{IsOpen, asked, left}
 use Rattle.nsc_reader.proofs.Steps.{SoFar}
-use Rattle.nsc_reader.proofs.searching.search.Given as goal
+use Rattle.nsc_reader.proofs.searching.walk_on.Given as goal
 
 abbrev pub invariant-walk : goal.invariant-walk
 invariant-walk l = record {
