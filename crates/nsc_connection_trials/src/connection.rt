@@ -6,7 +6,7 @@ use crate::texts::{ASK_ROOT, ROOT_BASH};
 use nsc_base::NoMemory;
 use nsc_model::{Databases, Store};
 use nsc_outside::{MemSink, MemSource};
-use nsc_server::{RequestBuffer, Served, serve_one};
+use nsc_server::{RequestBuffer, Scopes, Served, serve_one};
 use nsc_sockets::Role;
 use std::alloc::Global;
 use std::sync::Wait;
@@ -99,7 +99,17 @@ fn comes<R: AllocGlobal + Wait, S: Store>(
     let mut input = input(alloc, connection.sends, connection.reads)?;
     let mut output = output(alloc, connection.writes)?;
     let role = role(connection.is_admin);
-    let served = serve_one(rt, stores, passes, buffer, &mut input, &mut output, role, 0);
+    let served = serve_one(
+        rt,
+        stores,
+        Scopes::whole(),
+        passes,
+        buffer,
+        &mut input,
+        &mut output,
+        role,
+        0,
+    );
     Ok(served == connection.served && output.taken() == connection.sent)
 }
 

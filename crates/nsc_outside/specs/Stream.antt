@@ -14,6 +14,10 @@ MovesFewer before after room = (front : List ℕ) × (length front < room) × Mo
 abbrev pub IsDrained : Option (List ℕ) → Type 0
 IsDrained left = IfSome left (λ rest. rest ≡ [])
 
+-- bytes stand at the front of what is left in a source, where it tells that
+abbrev pub IsAhead : Option (List ℕ) → List ℕ → Type 0
+IsAhead left front = IfSome left (λ bytes. (rest : List ℕ) × (bytes ≡ front ++ rest))
+
 -- a sink took bytes after those that it had, where it tells them
 abbrev pub Grows : Option (List ℕ) → Option (List ℕ) → List ℕ → Type 0
 Grows None after added = after ≡ None

@@ -86,6 +86,17 @@ pub trait FileSet: Sized {
         ensures held { OnErr result (held self.new ≡ held self.old) }
         ensures conf_held { conf_held self.new ≡ conf_held self.old };
 
+    /// Takes a file for absent from now on, and looks at it no more. A set that cannot do so looks on.
+    fn leave(&mut self, file: FileId)
+        ensures faults { faults self.new ≡ faults self.old }
+        ensures file_faults { file_faults self.new ≡ file_faults self.old }
+        ensures reads { reads self.new ≡ reads self.old }
+        ensures latest { latest self.new ≡ latest self.old }
+        ensures conf_held { conf_held self.new ≡ conf_held self.old }
+    {
+        let _ = file;
+    }
+
     /// Another handle on the same files. It has counts of its own, which begin at 0, and has read nothing so far.
     fn split(&self, alloc: Global) -> Result<Self, NoMemory>
         ensures faults { IfOk result (λ set. faults set ≡ 0) }

@@ -4,10 +4,10 @@ ghost use Rattle.std.specs.Fs.{IsDir, file_type};
 ghost use Rattle.std.specs.IoError.{error_kind};
 
 use std::fs::{File, Metadata, OpenFile, TryLockError};
-use std::io;
 use std::io::{Error, ErrorKind};
 use std::os::unix::fs::{MetadataExt, OpenOptionsExt};
 use std::rt::Files;
+use std::{fs, io};
 
 /// The name of the file in a daemon's folder whose lock tells that a process has the folder.
 pub const LOCK_NAME: &str = "lock";
@@ -43,9 +43,14 @@ fn is_kept(owner: u32, user: u32, mode: u32) -> bool
     (owner == user || owner == ROOT) && mode & OTHERS == 0
 }
 
-/// Locks the file at this path, which is made with mode 0600 where there is none, until what this gives is dropped. Fails by `AddrInUse`
-/// where another process has the lock, and by the system's error where the file cannot be opened or locked.
+/// Locks the file at this path until the result is dropped. If there is no file, it is made with mode 0600.
+///
+/// # Errors
+/// - `AddrInUse`: another process has the lock.
+/// - `InvalidInput`: the path leads to a link, a FIFO or another file that is no regular one. It is looked at before it is opened.
+/// - The system's error: the file cannot be opened or locked.
 pub fn take_lock<R: Files<File = File>>(system: &R, path: &str) -> io::Result<File> {
+    check_lock(system, path)?;
     let mut how = File::options();
     how.write(true).create(true).mode(LOCK);
     let file = how.open(system, path)?;
@@ -56,5 +61,18 @@ pub fn take_lock<R: Files<File = File>>(system: &R, path: &str) -> io::Result<Fi
             Err(Error::new(ErrorKind::AddrInUse, message))
         }
         Err(TryLockError::Error(error)) => Err(error),
+    }
+}
+
+// Refuses what stands at the path of a lock and is no regular file: to open a FIFO may wait, and a link leads elsewhere.
+fn check_lock<R: Files>(system: &R, path: &str) -> io::Result<()> {
+    match fs::symlink_metadata(system, path) {
+        Ok(metadata) if metadata.file_type().is_file() => Ok(()),
+        Ok(_) => {
+            let message = "the file `lock` in its folder is no regular file";
+            Err(Error::new(ErrorKind::InvalidInput, message))
+        }
+        Err(error) if error.kind() == ErrorKind::NotFound => Ok(()),
+        Err(error) => Err(error),
     }
 }

@@ -7,23 +7,20 @@ ghost use Rattle.nsc_model.specs.Reads.{Rose};
 ghost use Rattle.nsc_outside.specs.FileSets.{IsCause, RoseBy, ChangesOnly};
 ghost use Rattle.nsc_outside.specs.Tally.{count_of, no_counts};
 
-use crate::comparing::has_just;
 use crate::files::{FileSet, ReadCause};
 use crate::notices::Notices;
+use crate::opening::{is_at_path, is_folder, open_prompt};
 use crate::paths::path_of;
-use crate::reading::{absent_or, read_whole};
+use crate::settling::read_path;
 use crate::tally::Tally;
 use nsc_base::{Bytes, NoMemory};
+use nsc_lines::Lines;
 use nsc_model::FileId;
 use std::alloc::Global;
-use std::fs::{File, Metadata, OpenFile};
-use std::io::{Eprint, Error, ErrorKind};
 use std::marker::Model;
-use std::os::unix::fs::{FileTypeExt, MetadataExt};
 use std::rt::Files;
-use std::sync::Arc;
+use std::sync::{Arc, Wait};
 use std::time::{Clock, Duration};
-use std::{fs, io};
 
 /// The files of a system, by default its own: `/etc/nsswitch.conf`, `/etc/passwd`, `/etc/group`, `/etc/hosts`,
 /// `/etc/services`, `/var/lib/extrausers/passwd` and `/var/lib/extrausers/group`. It tells nothing of what they hold;
@@ -32,15 +29,21 @@ use std::{fs, io};
 /// A file is absent where the system finds none at its path, so also where a folder is missing. Every other error is a
 /// failure, and so is a file that might keep a read waiting, as a FIFO or a terminal, or has no bytes, as a folder or a
 /// socket. The file's kind is looked at before it is opened and when it is open; that no FIFO takes its path in between is trusted.
+/// A file that changes while it is read is read again, up to three times; if its size still changes then, the read fails. A file that was
+/// left is absent, and not looked at.
 #[derive(Drop)]
 pub struct HostFiles<R: Files + Clone + Drop> {
     system: R,
+    // Where faults are told.
+    lines: Lines<R>,
     folder: Option<String>,
     tally: Tally,
     // What was told of them, by all sets that were split from one.
     notices: Arc<Notices>,
     // The path of the configuration that was read last.
     conf: Option<String>,
+    // Of each file, by its number: whether it is taken for absent, and not looked at.
+    left: [bool; 7],
 }
 
 impl<R: Files + Clone + Drop> Model for HostFiles<R> {
@@ -54,16 +57,18 @@ impl<R: Files + Clone + Drop> Model for HostFiles<R> {
 }
 
 impl<R: Files + Clone + Drop> HostFiles<R> {
-    /// The system's own files, of which none was read. Fails only for want of memory.
-    pub fn new(alloc: Global, system: R) -> Result<HostFiles<R>, NoMemory>
+    /// Makes a set of the system's own files, of which none was read. Faults of files are told as lines. It fails only without memory.
+    pub fn new(alloc: Global, system: R, lines: Lines<R>) -> Result<HostFiles<R>, NoMemory>
         ensures { IfOk result (λ set. set ≡ record { folder = None; counts = no_counts }) }
     {
         Ok(HostFiles {
             system,
+            lines,
             folder: None,
             tally: Tally::new(),
             notices: Arc::new(alloc, Notices::new())?,
             conf: None,
+            left: [false; 7],
         })
     }
 
@@ -99,17 +104,11 @@ impl<R: Files + Clone + Drop> HostFiles<R> {
         path_of(alloc, folder, file)
     }
 
-    // One read of a file.
-    fn fetch(&self, alloc: Global, file: FileId) -> Result<Option<Bytes>, ReadCause>
-        ensures fits { IfOk result (λ f. FileFits f) }
-        ensures cause { IfErr result (λ cause. IsCause None cause) }
-    {
-        let path = self.path(alloc, file)?;
-        read_path(&self.system, alloc, path.as_str())
-    }
-
     // Whether a file is found to be as it is known.
     fn finds(&self, alloc: Global, file: FileId, known: Option<&[u8]>) -> bool {
+        if self.left[file as usize] {
+            return known.is_none();
+        }
         match self.path(alloc, file) {
             Ok(path) => is_at_path(&self.system, path.as_str(), known),
             Err(_) => false,
@@ -117,36 +116,62 @@ impl<R: Files + Clone + Drop> HostFiles<R> {
     }
 }
 
-impl<R: Files + Clock + Eprint + Clone + Drop> HostFiles<R> {
-    // Tells the administrator of a fault of a file, once a minute at most, but for want of memory, and for a folder in the place of a
-    // file, by which a database is left to the C library. Where standard error fails nobody is left to tell.
+impl<R: Files + Clock + Clone + Drop> HostFiles<R> {
+    // Reads a file.
+    fn fetch(&self, alloc: Global, file: FileId) -> Result<Option<Bytes>, ReadCause>
+        ensures fits { IfOk result (λ f. FileFits f) }
+        ensures cause { IfErr result (λ cause. IsCause None cause) }
+    {
+        if self.left[file as usize] {
+            return Ok(None);
+        }
+        let path = self.path(alloc, file)?;
+        read_path(&self.system, alloc, path.as_str())
+    }
+}
+
+impl<R: Files + Wait + Clock + Clone + Drop> HostFiles<R> {
+    // Tells the administrator of a fault of a file, once a minute at most. Two are not told: a lack of memory; and a folder in the place
+    // of a file that was read before, by which a database is left to the C library.
     fn tell_fault(&self, alloc: Global, file: FileId, cause: ReadCause) {
         let Ok(path) = self.path(alloc, file) else {
             return;
         };
         let path = path.as_str();
-        if cause == ReadCause::NoMemory || is_folder(&self.system, path) {
+        let is_left = self.notices.is_known(file) && is_folder(&self.system, path);
+        if cause == ReadCause::NoMemory || is_left {
             return;
         }
         let now = self.system.monotonic().unwrap_or(Duration::ZERO);
         if self.notices.begin(file, now.as_secs()) {
-            let _ = eprintln!(self.system; "nscd: {path}: {cause}");
+            self.tell_cause(path, cause);
         }
     }
 
-    // Tells that the faults of a file are over, once where one was told.
+    // Tells why the file at a path could not be read, also as the system says it when the file is opened.
+    fn tell_cause(&self, path: &str, cause: ReadCause) {
+        match open_prompt(&self.system, path) {
+            Ok(_) => self.lines.tell(format_args!("nscd: {path}: {cause}")),
+            Err(error) => self
+                .lines
+                .tell(format_args!("nscd: {path}: {cause}: {error}")),
+        }
+    }
+
+    // Notes that a file was read, and tells that its faults are over, once if one was told.
     fn tell_end(&self, alloc: Global, file: FileId) {
         if !self.notices.end(file) {
             return;
         }
         if let Ok(path) = self.path(alloc, file) {
             let path = path.as_str();
-            let _ = eprintln!(self.system; "nscd: {path}: the file can be read again");
+            self.lines
+                .tell(format_args!("nscd: {path}: the file can be read again"));
         }
     }
 }
 
-impl<R: Files + Clock + Eprint + Clone + Drop> FileSet for HostFiles<R> {
+impl<R: Files + Wait + Clock + Clone + Drop> FileSet for HostFiles<R> {
     ghost use Rattle.std.specs.Prelude.{None};
     ghost use Rattle.nsc_outside.specs.Tally.{count_of};
 
@@ -170,6 +195,12 @@ impl<R: Files + Clock + Eprint + Clone + Drop> FileSet for HostFiles<R> {
         Ok(())
     }
 
+    fn leave(&mut self, file: FileId)
+        ensures { self.new ≡ self.old }
+    {
+        self.left[file as usize] = true;
+    }
+
     fn split(&self, alloc: Global) -> Result<HostFiles<R>, NoMemory>
         ensures { IfOk result (λ set. set ≡ record self.now { counts = no_counts }) }
     {
@@ -180,10 +211,12 @@ impl<R: Files + Clock + Eprint + Clone + Drop> FileSet for HostFiles<R> {
         let tally = Tally::new();
         Ok(HostFiles {
             system: self.system.clone()?,
+            lines: self.lines.share()?,
             folder,
             tally,
             notices: Arc::try_clone(&self.notices)?,
             conf: None,
+            left: self.left,
         })
     }
 
@@ -245,71 +278,9 @@ impl<R: Files + Clock + Eprint + Clone + Drop> FileSet for HostFiles<R> {
         self.conf = String::from_str(alloc, path).ok();
         let outcome = read_path(&self.system, alloc, path);
         if let Err(cause) = &outcome {
+            self.tell_cause(path, *cause);
             self.tally.count_cause(*cause);
         }
         outcome
     }
-}
-
-// Reads the file at a path, if there is one.
-#[tactic(auto, using(crate::proofs::Wholes::no_length_no_cause))]
-fn read_path<R: Files>(system: &R, alloc: Global, path: &str) -> Result<Option<Bytes>, ReadCause>
-    ensures fits { IfOk result (λ f. FileFits f) }
-    ensures cause { IfErr result (λ cause. IsCause None cause) }
-{
-    match open_prompt(system, path) {
-        Ok((file, length)) => Ok(Some(read_whole(alloc, file, length)?)),
-        Err(error) => absent_or(&error),
-    }
-}
-
-// Whether the file at a path is as it is known: absent, or these bytes.
-fn is_at_path<R: Files>(system: &R, path: &str, known: Option<&[u8]>) -> bool {
-    match (open_prompt(system, path), known) {
-        (Ok((file, length)), Some(known)) => length == known.len() as u64 && has_just(file, known),
-        (Err(error), None) => error.kind() == ErrorKind::NotFound,
-        _ => false,
-    }
-}
-
-// Opens a file whose reads wait for nobody, and tells its length. Its kind is looked at before, since to open a FIFO may wait, and at
-// the open file, since another one may have taken the path by then.
-fn open_prompt<R: Files>(system: &R, path: &str) -> io::Result<(R::File, u64)> {
-    check_prompt(&fs::metadata(system, path)?)?;
-    let file = File::open(system, path)?;
-    let metadata = file.metadata()?;
-    check_prompt(&metadata)?;
-    Ok((file, metadata.len()))
-}
-
-// Whether a folder is at a path.
-fn is_folder<R: Files>(system: &R, path: &str) -> bool {
-    match fs::metadata(system, path) {
-        Ok(metadata) => metadata.is_dir(),
-        Err(_) => false,
-    }
-}
-
-// Refuses a file whose reads may wait, or give no bytes.
-fn check_prompt(metadata: &Metadata) -> io::Result<()>
-    ensures refused { IfErr result (λ error. ¬ (error_kind error ≡ ErrorKind.NotFound)) }
-{
-    if reads_at_once(metadata) {
-        Ok(())
-    } else {
-        Err(Error::from(ErrorKind::InvalidInput))
-    }
-}
-
-// The devices null, zero, full and urandom, by Linux's numbers.
-const PROMPT_DEVICES: [u64; 4] = [0x103, 0x105, 0x107, 0x109];
-
-// Whether a read of this file waits for nobody: a terminal, a FIFO and a socket may wait for ever.
-fn reads_at_once(metadata: &Metadata) -> bool
-    ensures { IsFile (file_type metadata.now) → IsTrue result }
-{
-    let kind = metadata.file_type();
-    kind.is_file()
-        || kind.is_block_device()
-        || kind.is_char_device() && PROMPT_DEVICES.contains(&metadata.rdev())
 }

@@ -14,13 +14,15 @@ use crate::images::{IMAGE_LIMIT, ImageStore};
 use crate::reading::{absent_or, read_within};
 use crate::stream::Failed;
 use nsc_base::{Bytes, NoMemory};
+use nsc_lines::Lines;
 use nsc_model::Db;
 use std::alloc::Global;
 use std::fs::{File, Metadata, OpenFile};
-use std::io::{Eprint, Error, ErrorKind, Write};
+use std::io::{Error, ErrorKind, Write};
 use std::marker::Model;
 use std::os::unix::fs::{MetadataExt, OpenOptionsExt};
 use std::rt::Files;
+use std::sync::Wait;
 use std::{fs, io};
 
 // The mode of an image's file.
@@ -35,10 +37,11 @@ const LOOKS: u32 = 8;
 /// The folder must belong to this user or root, and nobody else may write it: else each call fails, and nothing is touched. What has
 /// an image's name and is a link, or no regular file, is left alone, and a call that meets it fails. Only one store at a time may put
 /// images into a folder, that of the process that has the folder's lock: while somebody has it, what is being written is left alone.
-/// Why a call failed is told on standard error.
+/// Why a call failed is told as a line.
 #[derive(Drop)]
 pub struct HostImages<R: Files + Drop> {
     system: R,
+    lines: Lines<R>,
     alloc: Global,
     folder: Option<String>,
     tally: ImageTally,
@@ -55,12 +58,13 @@ impl<R: Files + Drop> Model for HostImages<R> {
 }
 
 impl<R: Files + Drop> HostImages<R> {
-    /// A store with no folder, which counted nothing. It takes no memory.
-    pub fn new(alloc: Global, system: R) -> HostImages<R>
+    /// Makes a store with no folder, which counted nothing. It takes no memory.
+    pub fn new(alloc: Global, system: R, lines: Lines<R>) -> HostImages<R>
         ensures { result ≡ record { folder = None; counts = no_image_counts } }
     {
         HostImages {
             system,
+            lines,
             alloc,
             folder: None,
             tally: ImageTally::new(),
@@ -89,7 +93,7 @@ impl<R: Files + Drop> HostImages<R> {
     }
 }
 
-impl<R: Files<File = File> + Eprint + Drop> HostImages<R> {
+impl<R: Files<File = File> + Wait + Drop> HostImages<R> {
     // One get of an image.
     fn fetch(&self, alloc: Global, db: Db) -> Result<Option<Bytes>, ReadCause>
         ensures fits { IfOk result (λ image. ImageFits image) }
@@ -100,11 +104,42 @@ impl<R: Files<File = File> + Eprint + Drop> HostImages<R> {
         };
         let folder = folder.as_str();
         match ImagePaths::of(alloc, folder, db) {
-            Ok(paths) => read_image(&self.system, alloc, folder, &paths),
+            Ok(paths) => self.read(alloc, folder, &paths),
             Err(_) => {
                 let (name, cause) = (image_name(db), ReadCause::NoMemory);
-                let _ = eprintln!(self.system; "nscd: {folder}/{name}: {cause}");
+                self.lines
+                    .tell(format_args!("nscd: {folder}/{name}: {cause}"));
                 Err(cause)
+            }
+        }
+    }
+
+    // Reads the image, if there is one, once what a put that was broken off has left is removed.
+    #[tactic(auto, using(crate::proofs::Wholes::no_length_no_image_cause, crate::proofs::Wholes::over_no_image_cause))]
+    fn read(
+        &self,
+        alloc: Global,
+        folder: &str,
+        paths: &ImagePaths,
+    ) -> Result<Option<Bytes>, ReadCause>
+        ensures fits { IfOk result (λ image. ImageFits image) }
+        ensures cause { IfErr result (λ cause. IsImageCause None cause) }
+    {
+        let path = paths.image.as_str();
+        match open_image(&self.system, alloc, folder, paths) {
+            Ok((file, length)) => match read_within(alloc, file, length, IMAGE_LIMIT) {
+                Ok(image) => Ok(Some(image)),
+                Err(cause) => {
+                    self.lines.tell(format_args!("nscd: {path}: {cause}"));
+                    Err(cause)
+                }
+            },
+            Err(error) => {
+                let found = absent_or(&error);
+                if found.is_err() {
+                    self.lines.tell(format_args!("nscd: {path}: {error}"));
+                }
+                found
             }
         }
     }
@@ -123,16 +158,16 @@ impl<R: Files<File = File> + Eprint + Drop> HostImages<R> {
             Ok(()) => true,
             Err(error) => {
                 let name = image_name(db);
-                let _ = eprintln!(self.system;
+                self.lines.tell(format_args!(
                     "nscd: {folder}/{name}: {error}: the image is not kept"
-                );
+                ));
                 false
             }
         }
     }
 }
 
-impl<R: Files<File = File> + Eprint + Drop> ImageStore for HostImages<R> {
+impl<R: Files<File = File> + Wait + Drop> ImageStore for HostImages<R> {
     ghost use Rattle.std.specs.Prelude.{None};
     ghost use Rattle.nsc_outside.specs.ImageTally.{db_count};
 
@@ -188,36 +223,6 @@ impl<R: Files<File = File> + Eprint + Drop> ImageStore for HostImages<R> {
             Ok(())
         } else {
             Err(self.tally.fail_put(db))
-        }
-    }
-}
-
-// Reads the image, if there is one, once what a put that was broken off has left is removed.
-#[tactic(auto, using(crate::proofs::Wholes::no_length_no_image_cause, crate::proofs::Wholes::over_no_image_cause))]
-fn read_image<R: Files<File = File> + Eprint>(
-    system: &R,
-    alloc: Global,
-    folder: &str,
-    paths: &ImagePaths,
-) -> Result<Option<Bytes>, ReadCause>
-    ensures fits { IfOk result (λ image. ImageFits image) }
-    ensures cause { IfErr result (λ cause. IsImageCause None cause) }
-{
-    let path = paths.image.as_str();
-    match open_image(system, alloc, folder, paths) {
-        Ok((file, length)) => match read_within(alloc, file, length, IMAGE_LIMIT) {
-            Ok(image) => Ok(Some(image)),
-            Err(cause) => {
-                let _ = eprintln!(system; "nscd: {path}: {cause}");
-                Err(cause)
-            }
-        },
-        Err(error) => {
-            let found = absent_or(&error);
-            if found.is_err() {
-                let _ = eprintln!(system; "nscd: {path}: {error}");
-            }
-            found
         }
     }
 }

@@ -108,4 +108,27 @@ impl Sink for MemSink {
         self.room -= count;
         Ok(count)
     }
+
+    /// Takes as many bytes as a call may take and as it has room for. Fails where it is to fail.
+    fn offer(&mut self, bytes: &[u8]) -> Result<usize, Failed>
+        ensures count { IfOk result (λ n. n ≤ length bytes.now) }
+        ensures grown { IfOk result (λ n. Grows (Some self.old.taken) (Some self.new.taken) (take n bytes.now)) }
+        ensures stays { OnErr result (Some self.new.taken ≡ Some self.old.taken) }
+        ensures calm { OnOk result (self.new.plan.faults ≡ self.old.plan.faults) }
+        ensures failed { OnErr result (Rose self.old.plan.faults self.new.plan.faults) }
+
+        ensures planned { is_err result ≡ is_next_failing self.old.plan }
+        ensures amount { IfOk result (λ n. n ≡ min (min self.old.plan.step (length bytes.now)) self.old.room) }
+        ensures room { IfOk result (λ n. self.new.room ≡ self.old.room - n) }
+        ensures room_stays { OnErr result (self.new.room ≡ self.old.room) }
+        ensures called { OnOk result (self.new.plan ≡ after_call self.old.plan) }
+        ensures counted { OnErr result (self.new.plan ≡ after_fault (after_call self.old.plan)) }
+    {
+        self.plan.begin()?;
+        let count = self.plan.step().min(bytes.len()).min(self.room);
+        // The memory was taken when the sink was made.
+        self.taken.extend_from_slice(&bytes[..count]).unwrap();
+        self.room -= count;
+        Ok(count)
+    }
 }

@@ -1,5 +1,5 @@
 ghost use Rattle.std.specs.Prelude.{◌≡◌, ◌<◌, ◌≤◌, [], length, min, take, IfOk, OnOk, OnErr, is_err};
-ghost use Rattle.nsc_outside.specs.Stream.{Moves, IsDrained};
+ghost use Rattle.nsc_outside.specs.Stream.{Moves, IsAhead, IsDrained};
 ghost use Rattle.nsc_model.specs.Reads.{Rose};
 ghost use Rattle.nsc_outside.specs.MemSource.{MemSource};
 ghost use Rattle.nsc_outside.specs.CallPlan.{after_call, after_fault, is_next_failing};
@@ -79,6 +79,15 @@ impl Source for MemSource {
     ghost left = { λ s. Some s.left };
 
     ghost faults = { λ s. s.plan.faults };
+
+    /// Gives all bytes that are left.
+    fn ahead(&self) -> &[u8]
+        ensures front { IsAhead (Some self.now.left) result.now }
+
+        ensures all { result.now ≡ self.now.left }
+    {
+        self.rest()
+    }
 
     /// Gives as many bytes as there are, as `buf` has room for and as a call may give, and fails where it is to fail.
     fn read(&mut self, buf: &mut [u8]) -> Result<usize, Failed>

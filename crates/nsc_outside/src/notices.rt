@@ -13,6 +13,8 @@ pub(crate) struct Notices {
     // One more than the second, and 0 where it was told never.
     told: [AtomicU64; 7],
     is_open: [AtomicBool; 7],
+    // Whether the file was read, or found absent, at least once.
+    is_known: [AtomicBool; 7],
 }
 
 impl Notices {
@@ -29,6 +31,15 @@ impl Notices {
                 AtomicU64::new(0),
             ],
             is_open: [
+                AtomicBool::new(false),
+                AtomicBool::new(false),
+                AtomicBool::new(false),
+                AtomicBool::new(false),
+                AtomicBool::new(false),
+                AtomicBool::new(false),
+                AtomicBool::new(false),
+            ],
+            is_known: [
                 AtomicBool::new(false),
                 AtomicBool::new(false),
                 AtomicBool::new(false),
@@ -56,8 +67,14 @@ impl Notices {
         outcome.is_ok()
     }
 
-    /// Whether to tell that the faults of this file are over: once where one was told.
+    /// Whether this file was read, or found absent, before.
+    pub(crate) fn is_known(&self, file: FileId) -> bool {
+        self.is_known[file as usize].load(Ordering::SeqCst)
+    }
+
+    /// Notes that this file was read, and says whether to tell that its faults are over: once if one was told.
     pub(crate) fn end(&self, file: FileId) -> bool {
+        self.is_known[file as usize].store(true, Ordering::SeqCst);
         let is_open = &self.is_open[file as usize];
         is_open.load(Ordering::SeqCst) && is_open.swap(false, Ordering::SeqCst)
     }

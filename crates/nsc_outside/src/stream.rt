@@ -1,5 +1,5 @@
 ghost use Rattle.std.specs.Prelude.{◌≡◌, ℕ, ◌<◌, ◌≤◌, List, Option, length, take, IfOk, OnOk, OnErr};
-ghost use Rattle.nsc_outside.specs.Stream.{Moves, IsDrained, Grows};
+ghost use Rattle.nsc_outside.specs.Stream.{Moves, IsAhead, IsDrained, Grows};
 ghost use Rattle.nsc_model.specs.Reads.{Rose};
 
 use thiserror::Error;
@@ -16,6 +16,13 @@ pub trait Source {
 
     // How many calls have failed; the count stops at the greatest `u64`.
     ghost faults: { Self → ℕ };
+
+    /// Gives bytes at the front of those that are still to come, as far as they are at hand. It takes none of them, and never waits.
+    fn ahead(&self) -> &[u8]
+        ensures front { IsAhead (left self.now) result.now }
+    {
+        &[]
+    }
 
     /// Fills the front of `buf` with the next bytes, as many as the source has at hand, and gives their number:
     /// 0 only if `buf` is empty or the source has ended. On `Failed` no byte is lost, where the source tells what is left.
@@ -45,4 +52,17 @@ pub trait Sink {
         ensures stays { OnErr result (taken self.new ≡ taken self.old) }
         ensures calm { OnOk result (faults self.new ≡ faults self.old) }
         ensures failed { OnErr result (Rose (faults self.old) (faults self.new)) };
+
+    /// Takes bytes from the front of `bytes`, as many as it has room for at once, and gives their number. It never waits.
+    /// On `Failed` none is taken, where the sink tells what it took.
+    fn offer(&mut self, bytes: &[u8]) -> Result<usize, Failed>
+        ensures count { IfOk result (λ n. n ≤ length bytes.now) }
+        ensures grown { IfOk result (λ n. Grows (taken self.old) (taken self.new) (take n bytes.now)) }
+        ensures stays { OnErr result (taken self.new ≡ taken self.old) }
+        ensures calm { OnOk result (faults self.new ≡ faults self.old) }
+        ensures failed { OnErr result (Rose (faults self.old) (faults self.new)) }
+    {
+        let _ = bytes;
+        Ok(0)
+    }
 }

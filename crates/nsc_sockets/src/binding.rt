@@ -1,18 +1,22 @@
 ghost use Rattle.std.specs.Prelude.{◌≡◌};
 ghost use Rattle.nsc_sockets.specs.Modes.{mode_of};
 
+use crate::bind_error::{BindError, Place};
 use crate::role::Role;
 use std::alloc::Global;
 use std::fs::{DirBuilder, Permissions};
 use std::io::ErrorKind;
 use std::net::Net;
-use std::os::unix::fs::{DirBuilderExt, FileTypeExt, PermissionsExt};
+use std::os::unix::fs::{DirBuilderExt, FileTypeExt, MetadataExt, PermissionsExt};
 use std::os::unix::net::UnixListener;
 use std::rt::Files;
 use std::{fs, io};
 
 // The mode of the folder in which a socket is made.
 const OWN: u32 = 0o700;
+
+// The most bytes of a path at which others can connect.
+const LONGEST: usize = 107;
 
 /// A socket at this path, which stands in this folder, with the mode of its role. One at which another process answers, or that
 /// cannot be asked, is left alone, and so is a file that is no socket: `AddrInUse` and `AlreadyExists`.
@@ -25,16 +29,52 @@ pub(crate) fn bind_at<R: Files + Net>(
     folder: &str,
     role: Role,
     path: &str,
-) -> io::Result<UnixListener> {
+) -> Result<UnixListener, BindError> {
+    check_length(path)?;
     check_free(system, path)?;
     let own = format!(in alloc; "{folder}/.new")?;
     let made = format!(in alloc; "{folder}/.new/s")?;
     // What a start that was broken off has left there.
     remove(system, own.as_str(), made.as_str());
-    DirBuilder::new().mode(OWN).create(system, own.as_str())?;
+    if let Err(error) = DirBuilder::new().mode(OWN).create(system, own.as_str()) {
+        return Err(BindError {
+            place: Place::New,
+            error: in_the_way(error),
+        });
+    }
     let outcome = put(system, role, made.as_str(), path);
     remove(system, own.as_str(), made.as_str());
-    outcome
+    Ok(outcome?)
+}
+
+// What keeps the folder from being made in which a socket is made.
+fn in_the_way(error: io::Error) -> io::Error {
+    if error.kind() == ErrorKind::AlreadyExists {
+        return io::Error::new(ErrorKind::AlreadyExists, "it is in the way");
+    }
+    error
+}
+
+// Refuses a path at which nobody could connect: the system's address of a socket has room for 107 bytes.
+fn check_length(path: &str) -> io::Result<()> {
+    if path.len() > LONGEST {
+        return Err(io::Error::new(
+            ErrorKind::InvalidInput,
+            "its path is too long, above 107 bytes",
+        ));
+    }
+    Ok(())
+}
+
+/// Whether two paths lead to one file.
+pub(crate) fn is_at<R: Files>(system: &R, one: &str, other: &str) -> bool {
+    match (
+        fs::symlink_metadata(system, one),
+        fs::symlink_metadata(system, other),
+    ) {
+        (Ok(one), Ok(other)) => one.dev() == other.dev() && one.ino() == other.ino(),
+        _ => false,
+    }
 }
 
 /// The folder in which this path stands.

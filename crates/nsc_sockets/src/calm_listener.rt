@@ -4,10 +4,11 @@ ghost use Rattle.nsc_outside.specs.CallPlan.{risen};
 ghost use Rattle.nsc_sockets.specs.Connections.{IsPeer};
 ghost use Rattle.nsc_sockets.specs.CalmListener.{CalmListener};
 
-use crate::listener::{Accepted, Listener};
+use crate::listener::{Accepted, Listener, Prepared};
+use crate::no_departure::NoDeparture;
 use crate::peer_source::PeerSource;
 use crate::role::Role;
-use nsc_base::Bytes;
+use nsc_base::{Bytes, NoMemory};
 use nsc_outside::{Failed, Sink};
 use std::collections::VecDeque;
 use std::marker::Model;
@@ -85,6 +86,8 @@ impl Listener for CalmListener {
 
     type Out = CalmSink;
 
+    type Departure = NoDeparture;
+
     ghost faults = { λ l. l.faults };
 
     ghost given = { λ _. Some [] };
@@ -92,6 +95,16 @@ impl Listener for CalmListener {
     ghost bound = { λ _. Some [] };
 
     ghost peer = { λ l. slice_get l.peers 0 };
+
+    /// Has room for any number of connections, and leaves nothing to closers.
+    fn prepare(&mut self, _workers: u32) -> Result<Prepared<NoDeparture>, NoMemory>
+        ensures { self.new ≡ self.old }
+    {
+        Ok(Prepared {
+            most: usize::MAX,
+            crew: None,
+        })
+    }
 
     /// Fails.
     fn bind(&mut self, _role: Role, _path: &str) -> Result<(), Failed>

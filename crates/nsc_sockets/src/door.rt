@@ -40,6 +40,11 @@ impl Door {
         })
     }
 
+    /// The socket, to be closed where that may take long.
+    pub(crate) fn into_socket(self) -> UnixListener {
+        self.socket
+    }
+
     /// What may be asked of those that come in here.
     pub(crate) fn role(&self) -> Role {
         self.role

@@ -1,27 +1,27 @@
+use crate::departure::Departure;
 use crate::door::Door;
 use crate::guest::{Guest, ReadyGuest};
 use crate::listener::Accepted;
 use crate::notice::Notice;
 use crate::pace::Pace;
 use crate::patience::{Patience, patient_of};
-use crate::peer::{Peer, may_pass};
+use crate::peer::{Departures, Peer};
 use crate::role::Role;
+use crate::stream::may_pass;
 use crate::unix_input::UnixInput;
 use crate::unix_output::UnixOutput;
 use crate::waiting_room::WaitingRoom;
 use mio::{Events, Poll, Registry, Token};
+use nsc_lines::Lines;
+use nsc_tokens::SEATS;
 use nsc_yields::Yields;
 use std::alloc::Global;
 use std::collections::VecDeque;
-use std::io::Eprint;
 use std::net::Net;
 use std::os::unix::net::UnixListener;
-use std::sync::Arc;
+use std::sync::{Arc, Wait};
 use std::time::{Clock, Duration};
 use std::{io, thread};
-
-// The tokens of doors begin here; those below are seats of the waiting room.
-const DOORS: usize = 1 << 20;
 
 // So much the system may tell at a time.
 const EVENTS: usize = 64;
@@ -40,52 +40,69 @@ const PAUSE: u64 = 1;
 // Who sits in the waiting room and is ready for a look.
 #[derive(Clone, Copy, Debug)]
 struct Stirred {
-    seat: usize,
+    token: usize,
     has_ended: bool,
+}
+
+/// What an entrance is made with.
+#[derive(Drop)]
+pub(crate) struct Means<R: Wait + Clock + Drop> {
+    /// How many connections may wait for bytes, and as many for a closer.
+    pub(crate) share: usize,
+    /// The closers.
+    pub(crate) departures: Departures<R>,
+    /// Where the administrator is told.
+    pub(crate) lines: Lines<R>,
 }
 
 /// The doors of a process, and the connections that came in and wait to be given out.
 #[derive(Drop)]
-pub(crate) struct Entrance {
+pub(crate) struct Entrance<R: Wait + Clock + Drop> {
     alloc: Global,
+    means: Means<R>,
     poll: Poll,
     // The same registry for those that come back from other threads.
     registry: Arc<Registry>,
     events: Events,
     doors: Vec<Door>,
-    room: WaitingRoom,
+    room: WaitingRoom<R>,
     stirred: VecDeque<Stirred>,
     // What patience the outputs have with peers that do not read.
     patience: Arc<Patience>,
     pace: Pace,
     yields: Yields,
+    // How many connections may be taken before a look at how many wait for a closer.
+    places: u64,
     is_wakeful: bool,
     // What was told of a want of descriptors.
     notice: Notice,
 }
 
-impl Entrance {
+impl<R: Wait + Clock + Clone + Drop> Entrance<R> {
     /// An entrance without doors. With fewer than three processors it sleeps whenever there is nothing to do, so as not to keep
-    /// those from running that it waits for. So many guests may wait in it. No output has patience so far.
+    /// those from running that it waits for. No output has patience so far.
     pub(crate) fn new(
         alloc: Global,
         net: &impl Net,
         processors: usize,
-        guests: usize,
-    ) -> io::Result<Entrance> {
+        means: Means<R>,
+    ) -> io::Result<Entrance<R>> {
         let poll = Poll::new(net)?;
         let registry = Arc::new(alloc, poll.registry().try_clone()?)?;
+        let room = WaitingRoom::new(alloc, means.share)?;
         Ok(Entrance {
             alloc,
+            means,
             poll,
             registry,
             events: Events::with_capacity(alloc, EVENTS)?,
             doors: Vec::new(alloc),
-            room: WaitingRoom::new(alloc, guests)?,
+            room,
             stirred: VecDeque::with_capacity(alloc, EVENTS)?,
             patience: Arc::new(alloc, Patience::new(0))?,
             pace: Pace::new(),
             yields: Yields::new(),
+            places: 0,
             is_wakeful: processors >= 3,
             notice: Notice::new(),
         })
@@ -99,9 +116,22 @@ impl Entrance {
         Ok(())
     }
 
-    /// Ends all patience, also of those that wait, and closes the doors and whoever was not given out.
+    /// Ends all patience, also of those that wait, and has the doors and whoever was not given out closed.
     pub(crate) fn close(self) {
-        self.patience.allow(0);
+        let Entrance {
+            means,
+            doors,
+            room,
+            patience,
+            ..
+        } = self;
+        patience.allow(0);
+        drop(room);
+        for door in doors {
+            means
+                .departures
+                .put(Departure::Door(door.into_socket()), true);
+        }
     }
 
     /// So many workers serve what it gives from now on, and share the patience that they may have.
@@ -109,14 +139,17 @@ impl Entrance {
         self.patience.allow(patient_of(workers));
     }
 
-    /// The next connection that can be given out, or `Quiet` after a second without one.
-    pub(crate) fn accept<C: Clock + Clone + Eprint + Drop>(
+    /// The next connection that can be given out, or `Quiet` after a second without one. It fails if the closers can close no more.
+    pub(crate) fn accept(
         &mut self,
-        clock: &C,
-    ) -> io::Result<Accepted<UnixInput, UnixOutput<C>>> {
+        clock: &R,
+    ) -> io::Result<Accepted<UnixInput<R>, UnixOutput<R>>> {
         let begun = clock.monotonic()?;
         let mut now = begun;
         for turn in 0..TURNS {
+            if self.pace.begin_round(now) {
+                self.begin_round(now)?;
+            }
             if let Some(accepted) = self.next(clock, now) {
                 return Ok(accepted);
             }
@@ -134,16 +167,19 @@ impl Entrance {
         Ok(Accepted::Quiet)
     }
 
-    // A connection that can be given out at once, if there is one.
-    fn next<C: Clock + Clone + Eprint + Drop>(
-        &mut self,
-        clock: &C,
-        now: Duration,
-    ) -> Option<Accepted<UnixInput, UnixOutput<C>>> {
-        if self.pace.begin_round(now) {
-            self.room.sweep(now);
-            self.tell_end(clock);
+    // Closes connections that have waited long enough. It fails if the closers can close no more.
+    fn begin_round(&mut self, now: Duration) -> io::Result<()> {
+        self.room.sweep(&self.registry, now);
+        self.tell_end();
+        if self.means.departures.is_over() {
+            self.tell("nscd: too many connections carry descriptors whose close takes long");
+            return Err(io::Error::from(io::ErrorKind::Other));
         }
+        Ok(())
+    }
+
+    // A connection that can be given out at once, if there is one.
+    fn next(&mut self, clock: &R, now: Duration) -> Option<Accepted<UnixInput<R>, UnixOutput<R>>> {
         let ready = self.next_ready(clock, now)?;
         let theirs = clock.clone().ok()?;
         let accepted = ready
@@ -154,13 +190,16 @@ impl Entrance {
     }
 
     // Those that stirred come first, then those that stand, then those at the doors.
-    fn next_ready<C: Clock + Eprint>(&mut self, clock: &C, now: Duration) -> Option<ReadyGuest> {
+    fn next_ready(&mut self, clock: &R, now: Duration) -> Option<ReadyGuest<R>> {
         if let Some(ready) = self.next_stirred(now) {
             return Some(ready);
         }
         let may_stand = self.yields.may_yield(now);
         if let Some(ready) = self.room.next_standing(self.poll.registry(), may_stand) {
             return Some(ready);
+        }
+        if self.is_crowded() {
+            return None;
         }
         for at in 0..self.doors.len() {
             if let Some(ready) = self.next_at(clock, now, at, may_stand) {
@@ -170,24 +209,34 @@ impl Entrance {
         None
     }
 
-    fn next_stirred(&mut self, now: Duration) -> Option<ReadyGuest> {
+    fn next_stirred(&mut self, now: Duration) -> Option<ReadyGuest<R>> {
         for _ in 0..self.stirred.len() {
-            let Stirred { seat, has_ended } = self.stirred.pop_front()?;
-            if let Some(ready) = self.room.stir(seat, has_ended, now) {
+            let Stirred { token, has_ended } = self.stirred.pop_front()?;
+            if let Some(ready) = self.room.stir(&self.registry, token, has_ended, now) {
                 return Some(ready);
             }
         }
         None
     }
 
+    // Whether as many connections wait for a closer as may: then no more are taken. How many wait is looked at only once as many were
+    // taken as could be at the last look, since each look slows those that give connections to closers.
+    fn is_crowded(&mut self) -> bool {
+        if self.places == 0 {
+            let waiting = self.means.departures.waiting();
+            self.places = (self.means.share as u64).saturating_sub(waiting);
+        }
+        self.places == 0
+    }
+
     // Takes a connection at an open door. Where none can be taken, some that wait are closed to make room.
-    fn next_at<C: Clock + Eprint>(
+    fn next_at(
         &mut self,
-        clock: &C,
+        clock: &R,
         now: Duration,
         at: usize,
         may_stand: bool,
-    ) -> Option<ReadyGuest> {
+    ) -> Option<ReadyGuest<R>> {
         let door = self.doors.get_mut(at)?;
         if !door.is_open() {
             return None;
@@ -196,7 +245,8 @@ impl Entrance {
         let outcome = door.take();
         match outcome {
             Ok(socket) => {
-                let peer = Arc::new(self.alloc, Peer::new(socket).ok()?).ok()?;
+                self.places = self.places.saturating_sub(1);
+                let peer = Peer::arrived(self.alloc, socket, &self.means.departures).ok()?;
                 let guest = Guest::new(role, peer, now);
                 self.room.receive(self.poll.registry(), guest, may_stand)
             }
@@ -209,38 +259,40 @@ impl Entrance {
     }
 
     // Some that wait are closed where descriptors or memory were wanting. Where none is, the next try comes a little later.
-    fn make_room<C: Clock + Eprint>(&mut self, system: &C, now: Duration, error: &io::Error) {
+    fn make_room(&mut self, system: &R, now: Duration, error: &io::Error) {
         let is_wanting = is_wanting(error);
         let is_scarce = is_wanting || error.kind() == io::ErrorKind::OutOfMemory;
-        if !(is_scarce && self.room.clear()) {
+        if !(is_scarce && self.room.clear(&self.registry)) {
             thread::sleep(system, Duration::from_millis(PAUSE));
         }
         if is_wanting {
             self.room.shrink();
-            self.tell_begin(system, now);
+            self.tell_begin(now);
         }
     }
 
-    // Tells the administrator that descriptors are wanting. Where standard error fails nobody is left to tell.
-    fn tell_begin<C: Eprint>(&mut self, system: &C, now: Duration) {
+    // Tells the administrator that descriptors are wanting.
+    fn tell_begin(&mut self, now: Duration) {
         if self.notice.begin(now) {
-            let _ = system.eprintln(
-                "nscd: no descriptor is left: connections that wait are closed",
-            );
+            self.tell("nscd: no descriptor is left: connections that wait are closed");
         }
     }
 
     // And that there are enough again, once as many may wait as before.
-    fn tell_end<C: Eprint>(&mut self, system: &C) {
+    fn tell_end(&mut self) {
         if self.room.is_full_size() && self.notice.end() {
-            let _ = system.eprintln("nscd: there are descriptors again");
+            self.tell("nscd: there are descriptors again");
         }
     }
 
+    fn tell(&self, line: &str) {
+        self.means.lines.tell(line);
+    }
+
     // Rests. Where memory was wanting for it, it pauses, and the next turn tries again.
-    fn rest_or_pause<C: Clock>(
+    fn rest_or_pause(
         &mut self,
-        clock: &C,
+        clock: &R,
         turn: u32,
         now: Duration,
         left: Duration,
@@ -255,8 +307,15 @@ impl Entrance {
     }
 
     // Waits until the system tells of something, at most for as long as is left. It does not sleep while there is work, nor at
-    // first while connections are near each other, unless the processors are busy. Whether it yielded.
+    // first while connections are near each other, unless the processors are busy. While no more connections are taken it looks again
+    // after a moment. Whether it yielded.
     fn rest(&mut self, turn: u32, now: Duration, left: Duration) -> io::Result<bool> {
+        if self.is_crowded() {
+            self.poll
+                .poll(&mut self.events, Some(Duration::from_millis(PAUSE)))?;
+            self.note_events();
+            return Ok(false);
+        }
         let is_unknown = self.doors.iter().any(|door| door.is_unknown());
         let may_yield = self.yields.may_yield(now);
         let looks_on = may_yield && self.is_wakeful && self.pace.is_near() && turn < WAKEFUL;
@@ -285,19 +344,16 @@ impl Entrance {
     // Notes whom the system told of.
     fn note_events(&mut self) {
         for event in self.events.iter() {
-            let Token(number) = event.token();
-            match number.checked_sub(DOORS) {
-                Some(at) => {
-                    if let Some(door) = self.doors.get_mut(at) {
-                        door.open();
-                    }
+            let Token(token) = event.token();
+            if token < SEATS {
+                if let Some(door) = self.doors.get_mut(token) {
+                    door.open();
                 }
-                None => {
-                    let _ = self.stirred.push_back(Stirred {
-                        seat: number,
-                        has_ended: event.is_read_closed(),
-                    });
-                }
+            } else {
+                let _ = self.stirred.push_back(Stirred {
+                    token,
+                    has_ended: event.is_read_closed(),
+                });
             }
         }
     }
@@ -315,9 +371,9 @@ impl Entrance {
     }
 }
 
-// The token of a door; there are few.
+// The token of a door. There are few, and those of connections begin behind the number of seats.
 fn door_token(at: usize) -> Token {
-    Token(DOORS.saturating_add(at))
+    Token(at.min(SEATS - 1))
 }
 
 // The system's numbers for the errors that the process, or all of them together, have as many open files as they may.

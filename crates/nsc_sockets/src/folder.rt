@@ -1,4 +1,5 @@
 // The folder in which a process's sockets stand, and which it has for itself.
+use crate::bind_error::{BindError, Place};
 use nsc_outside::{LOCK_NAME, check_folder, take_lock};
 use std::alloc::Global;
 use std::fs::{DirBuilder, File, Permissions};
@@ -24,7 +25,7 @@ impl Folder {
         system: &R,
         alloc: Global,
         path: &str,
-    ) -> io::Result<Folder> {
+    ) -> Result<Folder, BindError> {
         let is_made = make(system, path)?;
         // What is looked at and changed is the open folder, whatever has its name by then.
         let folder = File::open(system, path)?;
@@ -35,7 +36,15 @@ impl Folder {
             folder.set_permissions(Permissions::from_mode(FOLDER))?;
         }
         let name = format!(in alloc; "{path}/{LOCK_NAME}")?;
-        let lock = take_lock(system, name.as_str())?;
+        let lock = match take_lock(system, name.as_str()) {
+            Ok(lock) => lock,
+            Err(error) => {
+                return Err(BindError {
+                    place: Place::Lock,
+                    error,
+                });
+            }
+        };
         Ok(Folder {
             device: metadata.dev(),
             number: metadata.ino(),

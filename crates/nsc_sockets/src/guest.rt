@@ -3,8 +3,9 @@ ghost use Rattle.std.specs.Prelude.{◌≤◌, length, IfSome};
 use crate::lease::Lease;
 use crate::listener::Accepted;
 use crate::patience::Patience;
-use crate::peer::{Peer, may_pass};
+use crate::peer::Peer;
 use crate::role::Role;
+use crate::stream::may_pass;
 use crate::unix_input::UnixInput;
 use crate::unix_output::UnixOutput;
 use crate::whole_lines::{MOST_SEEN, turn_size};
@@ -13,15 +14,17 @@ use nsc_base::{Bytes, NoMemory};
 use nsc_wire::{LONGEST, is_settled};
 use std::alloc::Global;
 use std::os::fd::{AsRawFd, RawFd};
-use std::sync::Arc;
+use std::sync::atomic::{AtomicU64, Ordering};
+use std::sync::{Arc, Wait};
 use std::time::{Clock, Duration};
 
 /// A connection that was accepted and has not been given out yet.
 #[derive(Drop)]
-pub(crate) struct Guest {
+pub(crate) struct Guest<R: Wait + Clock + Drop> {
     role: Role,
-    peer: Arc<Peer>,
-    since: Duration,
+    peer: Peer<R>,
+    // The moment at which it was accepted, or given out last, in nanoseconds.
+    since: AtomicU64,
     looks: u32,
 }
 
@@ -38,28 +41,32 @@ pub(crate) enum Glance {
 
 /// A guest whose look was settled, with the bytes that were seen. One of the gate has a seat, to which it comes back.
 #[derive(Drop)]
-pub(crate) struct ReadyGuest {
+pub(crate) struct ReadyGuest<R: Wait + Clock + Drop> {
     role: Role,
-    peer: Arc<Peer>,
+    peer: Peer<R>,
     ahead: Vec<u8>,
-    seat: Option<usize>,
+    token: Option<usize>,
 }
 
-impl Guest {
+impl<R: Wait + Clock + Drop> Guest<R> {
     /// A connection on a socket of this role, accepted at this moment.
-    pub(crate) fn new(role: Role, peer: Arc<Peer>, since: Duration) -> Guest {
+    pub(crate) fn new(role: Role, peer: Peer<R>, since: Duration) -> Guest<R> {
         Guest {
             role,
             peer,
-            since,
+            since: AtomicU64::new(nanoseconds(since)),
             looks: 0,
         }
     }
 
+    /// Notes one more look.
+    pub(crate) fn note_look(&mut self) {
+        self.looks = self.looks.saturating_add(1);
+    }
+
     /// Looks, without waiting, whether this connection can be given out. Where its peer sends no more it can be, whatever came, but at
     /// the gate something has to have come. One that a worker has cannot.
-    pub(crate) fn look(&mut self, alloc: Global, has_ended: bool) -> Glance {
-        self.looks = self.looks.saturating_add(1);
+    pub(crate) fn look(&self, alloc: Global, has_ended: bool) -> Glance {
         if self.peer.is_over() {
             return Glance::Lost;
         }
@@ -122,63 +129,68 @@ impl Guest {
         self.looks
     }
 
-    /// When it was accepted.
-    pub(crate) fn since(&self) -> Duration {
-        self.since
+    /// When it was accepted, or given out last, in nanoseconds.
+    pub(crate) fn since(&self) -> u64 {
+        self.since.load(Ordering::SeqCst)
     }
 
     /// This guest, with what was seen of its bytes.
-    pub(crate) fn ready(self, ahead: Vec<u8>) -> ReadyGuest {
+    pub(crate) fn ready(self, ahead: Vec<u8>) -> ReadyGuest<R> {
         let Guest { role, peer, .. } = self;
         ReadyGuest {
             role,
             peer,
             ahead,
-            seat: None,
+            token: None,
         }
     }
 
-    /// The guest as it is given out at this moment, to come back to this seat. `None` where there is no memory for it.
-    pub(crate) fn lend(
-        &mut self,
-        seat: usize,
-        ahead: Vec<u8>,
-        now: Duration,
-    ) -> Option<ReadyGuest> {
-        let peer = Arc::try_clone(&self.peer).ok()?;
+    /// The guest as it is given out at this moment, to come back under its token. `None` without memory.
+    pub(crate) fn lend(&self, token: usize, ahead: Vec<u8>, now: u64) -> Option<ReadyGuest<R>> {
+        let peer = self.peer.share().ok()?;
         peer.lend();
-        self.since = now;
+        self.since.store(now, Ordering::SeqCst);
         Some(ReadyGuest {
             role: self.role,
             peer,
             ahead,
-            seat: Some(seat),
+            token: Some(token),
         })
     }
 }
 
-impl AsRawFd for Guest {
+/// A moment in nanoseconds; it stops at the greatest `u64`.
+pub(crate) fn nanoseconds(moment: Duration) -> u64 {
+    u64::try_from(moment.as_nanos()).unwrap_or(u64::MAX)
+}
+
+impl<R: Wait + Clock + Drop> AsRawFd for Guest<R> {
     fn as_raw_fd(&self) -> RawFd {
         self.peer.as_raw_fd()
     }
 }
 
-impl ReadyGuest {
-    /// The two ends of the connection. Where there is no memory for them it is closed.
-    pub(crate) fn into_ends<T: Clock + Drop>(
+impl<R: Wait + Clock + Drop> ReadyGuest<R> {
+    /// The two ends of the connection. Without memory for them it is closed.
+    pub(crate) fn into_ends(
         self,
-        clock: T,
+        clock: R,
         patience: &Arc<Patience>,
         registry: &Arc<Registry>,
-    ) -> Result<Accepted<UnixInput, UnixOutput<T>>, NoMemory> {
+    ) -> Result<Accepted<UnixInput<R>, UnixOutput<R>>, NoMemory> {
         let ReadyGuest {
             role,
             peer,
             ahead,
-            seat,
+            token,
         } = self;
-        let lease = match seat {
-            Some(seat) => Some(Lease::new(Arc::try_clone(&peer)?, Arc::try_clone(registry)?, seat)),
+        let lease = match token {
+            Some(token) => Some(Lease::new(
+                peer.share()?,
+                Arc::try_clone(registry)?,
+                token,
+                ahead.len(),
+            )),
             None => None,
         };
         // The thread that accepts serves administrators itself, so it waits long for none of them.
@@ -186,8 +198,8 @@ impl ReadyGuest {
             Role::Admin => None,
             Role::Plain | Role::Gate => Some(Arc::try_clone(patience)?),
         };
-        let input = UnixInput::new(Arc::try_clone(&peer)?, ahead, Duration::ZERO, lease);
-        let output = UnixOutput::new(clock, peer, patience);
+        let input = UnixInput::arrived(ahead, lease);
+        let output = UnixOutput::arrived(clock, peer, patience);
         Ok(Accepted::Conn {
             role,
             input,

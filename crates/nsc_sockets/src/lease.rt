@@ -1,49 +1,63 @@
+use crate::departure::{Departure, Taking};
 use crate::peer::Peer;
-use mio::unix::SourceFd;
-use mio::{Interest, Registry, Token};
-use std::os::fd::AsRawFd;
-use std::sync::Arc;
+use mio::Registry;
+use std::sync::{Arc, Wait};
+use std::time::Clock;
 
-/// What brings a connection of the gate back to its seat, when the worker that has it lets it go. Where what had come was not served
-/// to its end, the connection ends.
-pub(crate) struct Lease {
-    peer: Arc<Peer>,
+/// What brings a connection of the gate back to its seat, when the worker that has it lets it go: a closer takes the lines that were
+/// served, and the connection is pending again. If they were not served to their end, the connection ends.
+pub(crate) struct Lease<R: Wait + Clock + Drop> {
+    peer: Peer<R>,
     registry: Arc<Registry>,
-    seat: usize,
+    token: usize,
+    // How many bytes were given out.
+    count: usize,
     is_served: bool,
 }
 
-impl Lease {
-    /// The lease of a connection that sits in this seat.
-    pub(crate) fn new(peer: Arc<Peer>, registry: Arc<Registry>, seat: usize) -> Lease {
+impl<R: Wait + Clock + Drop> Lease<R> {
+    /// Makes the lease of a connection that is pending under a token, of which a number of bytes is given out.
+    pub(crate) fn new(
+        peer: Peer<R>,
+        registry: Arc<Registry>,
+        token: usize,
+        count: usize,
+    ) -> Lease<R> {
         Lease {
             peer,
             registry,
-            seat,
+            token,
+            count,
             is_served: false,
         }
     }
 
-    /// What had come was served to its end.
+    /// Notes that what was given out was served to its end.
     pub(crate) fn note_served(&mut self) {
         self.is_served = true;
     }
 }
 
-impl Drop for Lease {
+impl<R: Wait + Clock + Drop> Drop for Lease<R> {
     fn drop(self) {
         let Lease {
             peer,
             registry,
-            seat,
+            token,
+            count,
             is_served,
         } = self;
         if !is_served {
             peer.end();
         }
-        peer.take_back();
-        // The system tells of what came meanwhile. Where it cannot, the seat is free once the connection has sat for too long.
-        let socket = peer.as_raw_fd();
-        let _ = registry.reregister(&mut SourceFd(&socket), Token(seat), Interest::READABLE);
+        // Without memory for one more handle the connection stays lent, and ends once it has been so for too long.
+        if let Ok(stream) = peer.stream() {
+            peer.hand_over(Departure::Take(Taking {
+                stream,
+                registry,
+                token,
+                count,
+            }));
+        }
     }
 }

@@ -3,6 +3,8 @@ ghost use Rattle.nsc_model.specs.Reads.{Rose};
 ghost use Rattle.nsc_sockets.specs.Connections.{BindsOne, Connection, Gives, IsPeer, Socket};
 
 use crate::role::Role;
+use nsc_base::NoMemory;
+use nsc_closers::{Closing, Crew};
 use nsc_outside::{Failed, Sink, Source};
 
 /// What a listener found.
@@ -21,6 +23,15 @@ pub enum Accepted<R: Drop, K: Drop> {
     Quiet,
 }
 
+/// What a listener has prepared for its workers.
+#[derive(Drop)]
+pub struct Prepared<T: Drop> {
+    /// How many connections may wait for a worker.
+    pub most: usize,
+    /// What makes the threads that close connections, if there are to be any.
+    pub crew: Option<Crew<T>>,
+}
+
 /// Sockets: those on which connections come, and those of another process.
 pub trait Listener {
     /// What a peer sends.
@@ -28,6 +39,9 @@ pub trait Listener {
 
     /// What a peer is sent.
     type Out: Sink + Send + Drop;
+
+    /// What is closed by threads of its own.
+    type Departure: Closing + Send + Drop;
 
     // How many calls have failed; the count stops at the greatest `u64`.
     ghost faults: { Self → ℕ };
@@ -41,16 +55,12 @@ pub trait Listener {
     // The bytes of the peer that the next `connect` reaches, where it tells them.
     ghost peer: { Self → Option (List ℕ) };
 
-    /// So many workers are to serve what it gives: tells how many connections at most may wait for them.
-    fn room_for(&mut self, workers: u32) -> usize
+    /// Prepares for a number of workers, before a socket is bound. It fails only without memory.
+    fn prepare(&mut self, workers: u32) -> Result<Prepared<Self::Departure>, NoMemory>
         ensures given { given self.new ≡ given self.old }
         ensures bound { bound self.new ≡ bound self.old }
         ensures peer { peer self.new ≡ peer self.old }
-        ensures faults { faults self.new ≡ faults self.old }
-    {
-        let _ = workers;
-        usize::MAX
-    }
+        ensures faults { faults self.new ≡ faults self.old };
 
     /// So many workers serve what it gives from now on. All but one, and two at most, may wait long for a peer that does not read.
     fn set_workers(&mut self, workers: usize)

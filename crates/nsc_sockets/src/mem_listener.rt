@@ -6,7 +6,8 @@ ghost use Rattle.nsc_sockets.specs.Connections.{Connection, Gives, IsPeer};
 ghost use Rattle.nsc_sockets.specs.MemListener.{MemListener, Wait, begun, given_after, FindsNext, Accepts};
 
 use crate::arrival::{Arrival, Peer};
-use crate::listener::{Accepted, Listener};
+use crate::listener::{Accepted, Listener, Prepared};
+use crate::no_departure::NoDeparture;
 use crate::peer_source::PeerSource;
 use crate::role::Role;
 use crate::shared_sink::SharedSink;
@@ -218,6 +219,8 @@ impl Listener for MemListener {
 
     type Out = SharedSink;
 
+    type Departure = NoDeparture;
+
     ghost faults = { λ l. l.faults };
 
     ghost given = { λ l. Some l.given };
@@ -225,6 +228,16 @@ impl Listener for MemListener {
     ghost bound = { λ l. Some l.bound };
 
     ghost peer = { λ l. option_map (λ p. p.input) (slice_get l.peers 0) };
+
+    /// Has room for any number of connections, and leaves nothing to closers.
+    fn prepare(&mut self, _workers: u32) -> Result<Prepared<NoDeparture>, NoMemory>
+        ensures { self.new ≡ self.old }
+    {
+        Ok(Prepared {
+            most: usize::MAX,
+            crew: None,
+        })
+    }
 
     /// Keeps the path. It fails only for want of memory.
     fn bind(&mut self, role: Role, path: &str) -> Result<(), Failed>

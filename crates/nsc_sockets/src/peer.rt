@@ -1,134 +1,173 @@
 ghost use Rattle.std.specs.Prelude.{◌≤◌, length, IfOk};
 
-use crate::whole_lines::MOST_SEEN;
+use crate::departure::Departure;
+use crate::stream::Stream;
+use nsc_base::NoMemory;
+use nsc_closers::Closers;
+use std::alloc::Global;
 use std::io;
-use std::io::{ErrorKind, Read, Write};
-use std::net::{Shutdown, TcpStream};
+use std::io::ErrorKind;
 use std::os::fd::{AsRawFd, OwnedFd, RawFd};
-use std::sync::atomic::{AtomicBool, Ordering};
-use std::time::Duration;
+use std::sync::{Arc, Wait};
+use std::time::{Clock, Duration};
 
-/// A connection to another process. No call on it waits, but for those that are told how long they may.
+/// The list of what is to be closed, as all handles share it.
+pub(crate) type Departures<R> = Arc<Closers<Departure, R>>;
+
+/// A handle on a connection to another process. No call on it waits, but for those that are told how long they may.
 ///
-/// Where it is dropped, what its peer has sent is taken first: the system would tell a peer whose bytes are left lying that
-/// the connection was reset, and a reply that is on its way would be lost.
-pub(crate) struct Peer {
-    // The library can look ahead at streams of this type alone. Each of its calls goes to the descriptor, which may be
-    // of any family.
-    stream: TcpStream,
-    // Whether a worker has the connection, which comes back when what had come is served.
-    is_lent: AtomicBool,
-    is_over: AtomicBool,
+/// A connection that came is read and closed by closers alone: when its last handle is dropped, it goes to their list. Bytes may carry
+/// descriptors, and whoever reads or drops those may be held in their close for as long as the peer likes.
+pub(crate) struct Peer<R: Wait + Clock + Drop> {
+    stream: Arc<Stream>,
+    // Of a connection that came.
+    departures: Option<Departures<R>>,
 }
 
-impl Peer {
-    /// A peer at this connected socket, which is to make no call wait from now on.
-    pub(crate) fn new(socket: OwnedFd) -> io::Result<Peer> {
-        let stream = TcpStream::from(socket);
-        stream.set_nonblocking(true)?;
+impl<R: Wait + Clock + Drop> Peer<R> {
+    /// Makes the handle of a connection that came. Without memory the connection is closed.
+    pub(crate) fn arrived(
+        alloc: Global,
+        socket: OwnedFd,
+        departures: &Departures<R>,
+    ) -> io::Result<Peer<R>> {
+        let stream = Stream::new(socket);
+        let departures = match Arc::try_clone(departures) {
+            Ok(theirs) => theirs,
+            Err(_) => {
+                departures.put(Departure::Close(stream), false);
+                return Err(io::Error::from(ErrorKind::OutOfMemory));
+            }
+        };
+        match Arc::new(alloc, stream) {
+            Ok(stream) => {
+                let peer = Peer {
+                    stream,
+                    departures: Some(departures),
+                };
+                peer.stream.be_prompt()?;
+                Ok(peer)
+            }
+            Err(refused) => {
+                departures.put(Departure::Close(refused.value), false);
+                Err(io::Error::from(ErrorKind::OutOfMemory))
+            }
+        }
+    }
+
+    /// Makes the handle of a connection that this process made.
+    pub(crate) fn reached(alloc: Global, socket: OwnedFd) -> io::Result<Peer<R>> {
+        let stream = Arc::new(alloc, Stream::new(socket))?;
+        stream.be_prompt()?;
         Ok(Peer {
             stream,
-            is_lent: AtomicBool::new(false),
-            is_over: AtomicBool::new(false),
+            departures: None,
         })
     }
 
-    /// A worker has the connection from now on.
-    pub(crate) fn lend(&self) {
-        self.is_lent.store(true, Ordering::SeqCst);
+    /// Makes one more handle. It fails only without memory.
+    pub(crate) fn share(&self) -> Result<Peer<R>, NoMemory> {
+        let departures = match &self.departures {
+            Some(departures) => Some(Arc::try_clone(departures)?),
+            None => None,
+        };
+        Ok(Peer {
+            stream: Arc::try_clone(&self.stream)?,
+            departures,
+        })
     }
 
-    /// The worker has it no more.
-    pub(crate) fn take_back(&self) {
-        self.is_lent.store(false, Ordering::SeqCst);
+    /// The connection itself, for a closer that reads from it.
+    pub(crate) fn stream(&self) -> Result<Arc<Stream>, NoMemory> {
+        Ok(Arc::try_clone(&self.stream)?)
+    }
+
+    /// Gives a job to the closers at once.
+    pub(crate) fn hand_over(&self, departure: Departure) {
+        if let Some(departures) = &self.departures {
+            departures.put(departure, true);
+        }
+    }
+
+    /// Notes that a worker has the connection.
+    pub(crate) fn lend(&self) {
+        self.stream.lend();
     }
 
     /// Whether a worker has it.
     pub(crate) fn is_lent(&self) -> bool {
-        self.is_lent.load(Ordering::SeqCst)
+        self.stream.is_lent()
     }
 
-    /// Ends the connection both ways: nobody takes what the peer sends any more, and it is sent nothing more.
+    /// Ends the connection both ways.
     pub(crate) fn end(&self) {
-        self.is_over.store(true, Ordering::SeqCst);
-        // One that the peer has left is over already.
-        let _ = self.stream.shutdown(Shutdown::Both);
+        self.stream.end();
     }
 
     /// Whether it was ended.
     pub(crate) fn is_over(&self) -> bool {
-        self.is_over.load(Ordering::SeqCst)
+        self.stream.is_over()
     }
 
-    /// Copies bytes that have come, and leaves them for the next call. 0 where the peer sends no more.
+    /// Notes that its peer waits for a reply and not for the end, so the end may come later.
+    pub(crate) fn note_answered(&self) {
+        self.stream.note_answered();
+    }
+
+    /// Copies bytes that have come, and leaves them for the next call. 0 if the peer sends no more.
     pub(crate) fn peek(&self, room: &mut [u8]) -> io::Result<usize>
         ensures count { IfOk result (λ n. n ≤ length room.new) }
     {
         self.stream.peek(room)
     }
 
-    /// Takes bytes that have come. 0 where the peer sends no more.
+    /// Takes bytes that have come. 0 if the peer sends no more.
     pub(crate) fn read(&self, room: &mut [u8]) -> io::Result<usize>
         ensures count { IfOk result (λ n. n ≤ length room.old) }
     {
-        (&self.stream).read(room)
+        self.stream.read(room)
     }
 
-    /// As `read`; where no byte has come it waits for one, up to this time.
+    /// As `read`; if no byte has come, waits for one, up to a time.
     pub(crate) fn read_within(&self, room: &mut [u8], limit: Duration) -> io::Result<usize>
         ensures count { IfOk result (λ n. n ≤ length room.old) }
     {
-        self.begin_wait(limit)?;
-        let outcome = self.read(room);
-        self.stream.set_nonblocking(true)?;
-        outcome
+        self.stream.read_within(room, limit)
     }
 
     /// Sends bytes for which there is room, and gives their number.
     pub(crate) fn write(&self, bytes: &[u8]) -> io::Result<usize>
         ensures count { IfOk result (λ n. n ≤ length bytes.now) }
     {
-        (&self.stream).write(bytes)
+        self.stream.write(bytes)
     }
 
-    /// As `write`; where there is no room it waits for some, up to this time.
+    /// As `write`; if there is no room, waits for some, up to a time.
     pub(crate) fn write_within(&self, bytes: &[u8], limit: Duration) -> io::Result<usize>
         ensures count { IfOk result (λ n. n ≤ length bytes.now) }
     {
-        self.begin_wait(limit)?;
-        let outcome = self.write(bytes);
-        self.stream.set_nonblocking(true)?;
-        outcome
-    }
-
-    // Both times are set, since calls of the other end wait as long as this one's does.
-    fn begin_wait(&self, limit: Duration) -> io::Result<()> {
-        self.stream.set_read_timeout(Some(limit))?;
-        self.stream.set_write_timeout(Some(limit))?;
-        self.stream.set_nonblocking(false)
+        self.stream.write_within(bytes, limit)
     }
 }
 
-impl AsRawFd for Peer {
+impl<R: Wait + Clock + Drop> AsRawFd for Peer<R> {
     fn as_raw_fd(&self) -> RawFd {
         self.stream.as_raw_fd()
     }
 }
 
-impl Drop for Peer {
+impl<R: Wait + Clock + Drop> Drop for Peer<R> {
     fn drop(self) {
-        let Peer {
-            stream,
-            is_lent: _lent,
-            is_over: _over,
-        } = self;
-        let mut rest = [0u8; MOST_SEEN];
-        // Whatever comes of it, the connection is closed.
-        let _ = (&stream).read(&mut rest);
+        let Peer { stream, departures } = self;
+        let Some(stream) = Arc::into_inner(stream) else {
+            return;
+        };
+        match departures {
+            Some(departures) => {
+                stream.tell_end();
+                departures.put(Departure::Close(stream), false);
+            }
+            None => stream.close(),
+        }
     }
-}
-
-/// Whether a call failed only because it would have had to wait, or was broken off by a signal: another try may succeed.
-pub(crate) fn may_pass(error: &io::Error) -> bool {
-    matches!(error.kind(), ErrorKind::WouldBlock | ErrorKind::Interrupted)
 }

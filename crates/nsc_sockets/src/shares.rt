@@ -8,15 +8,28 @@ const NEEDED: u64 = 16;
 // Each worker needs one for its connection, and one for the file that it reads.
 const OF_A_WORKER: u64 = 2;
 
-// So many connections may wait in each place, however few descriptors there are.
+// So many connections may wait in each place, however few descriptors there are, and however many.
 const LEAST: u64 = 4;
 
-/// How many connections may wait for so many workers, and as many in the waiting room: together what the process does not need.
+const MOST: u64 = 4096;
+
+/// How many descriptors a process of this number of workers cannot do without: its own, and the least number of connections in each of
+/// the three places.
+pub(crate) fn least_of(workers: u32) -> u64
+    ensures { result ≡ 16 + 2 * workers + 12 }
+{
+    NEEDED + OF_A_WORKER * u64::from(workers) + 3 * LEAST
+}
+
+/// How many connections may wait for this number of workers, as many for bytes, and as many for a closer: in each place a third of what
+/// the process does not need, at least 4 and at most 4,096.
 pub(crate) fn share_of(descriptors: u64, workers: u32) -> u64
-    ensures { result ≡ max ((descriptors - (16 + 2 * workers)) / 2) 4 }
+    ensures { result ≡ min (max ((descriptors - (16 + 2 * workers)) / 3) 4) 4096 }
 {
     let needed = NEEDED + OF_A_WORKER * u64::from(workers);
-    (descriptors.saturating_sub(needed) / 2).max(LEAST)
+    (descriptors.saturating_sub(needed) / 3)
+        .max(LEAST)
+        .min(MOST)
 }
 
 /// How many may sit at the moment, and at most.

@@ -1,53 +1,72 @@
 ghost use Rattle.std.specs.Prelude.{◌≡◌, None, OnOk, OnErr, IfOk};
 ghost use Rattle.nsc_model.specs.Reads.{Rose};
 
-use crate::binding::{bind_at, folder_of};
-use crate::entrance::Entrance;
+use crate::bind_error::BindError;
+use crate::binding::{bind_at, folder_of, is_at};
+use crate::departure::Departure;
+use crate::entrance::{Entrance, Means};
 use crate::folder::Folder;
-use crate::listener::{Accepted, Listener};
+use crate::listener::{Accepted, Listener, Prepared};
 use crate::patience::Patience;
-use crate::peer::Peer;
+use crate::peer::{Departures, Peer};
 use crate::role::Role;
-use crate::shares::share_of;
+use crate::shares::{least_of, share_of};
 use crate::unix_input::UnixInput;
 use crate::unix_output::UnixOutput;
 use libc::types::rlimit;
+use nsc_base::NoMemory;
+use nsc_closers::Closers;
+use nsc_lines::Lines;
 use nsc_outside::Failed;
 use std::alloc::Global;
 use std::fs::File;
-use std::io::{Eprint, ErrorKind};
+use std::io::ErrorKind;
 use std::marker::Model;
 use std::net::Net;
 use std::os::fd::OwnedFd;
+use std::os::unix::fs::FileTypeExt;
 use std::os::unix::net::UnixListener as Socket;
 use std::rt::Files;
-use std::sync::Arc;
+use std::sync::{Arc, Wait};
 use std::time::{Clock, Duration};
 use std::{fs, io};
 
-// How long a command waits for bytes of the daemon, in seconds.
+// How long a connection that a command makes may take in all, in seconds.
 const REPLY: u64 = 5;
+
+// How long an end waits for connections that closers have, in milliseconds.
+const SETTLE: u32 = 200;
+
+// The part of the descriptors that connections may have which are left open, since their close may take long, and their most.
+const ASIDE: u64 = 4;
+
+const MOST_ASIDE: u64 = 4096;
 
 /// Sockets of the system at paths. It tells nothing of what peers send; contracts see its count of faults.
 ///
 /// A connection is given out when its request is whole, or can be no good one any more, so nobody who takes one waits for
 /// bytes. One of the gate is given out whenever whole lines came, with those lines and then an end; where they were read to that end, it
 /// is given out again when more came. One that stays silent for five seconds is closed, and so is the oldest where there are too many, or
-/// where the process has no descriptor or memory left for a new one.
+/// where the process has no descriptor or memory left for a new one. Threads of their own read from connections and close them: bytes may
+/// carry descriptors whose close takes as long as the peer likes. A call fails once too many of these threads are held.
 #[derive(Drop)]
-pub struct UnixListener<R: Files<File = File> + Net + Clock + Clone + Eprint + Drop> {
+pub struct UnixListener<R: Files<File = File> + Net + Wait + Clock + Clone + Drop> {
     system: R,
     alloc: Global,
+    lines: Lines<R>,
     processors: usize,
-    // So many connections may wait in the entrance.
-    guests: usize,
+    // How many workers are to serve.
+    workers: u32,
+    // So many connections may wait in each place.
+    share: usize,
+    departures: Option<Departures<R>>,
     folders: Vec<Folder>,
     paths: Vec<String>,
-    entrance: Option<Entrance>,
+    entrance: Option<Entrance<R>>,
     faults: u64,
 }
 
-impl<R: Files<File = File> + Net + Clock + Clone + Eprint + Drop> Model for UnixListener<R> {
+impl<R: Files<File = File> + Net + Wait + Clock + Clone + Drop> Model for UnixListener<R> {
     ghost use Rattle.nsc_sockets.specs.Adapters.{UnixListener};
 
     ghost Value = { UnixListener };
@@ -55,17 +74,20 @@ impl<R: Files<File = File> + Net + Clock + Clone + Eprint + Drop> Model for Unix
     ghost view = { λ s. record { faults = s.faults } };
 }
 
-impl<R: Files<File = File> + Net + Clock + Clone + Eprint + Drop> UnixListener<R> {
+impl<R: Files<File = File> + Net + Wait + Clock + Clone + Drop> UnixListener<R> {
     /// A listener with no socket, at which no call has failed. It looks out for connections that come close together only
-    /// where there are at least three processors.
-    pub fn new(alloc: Global, system: R, processors: usize) -> UnixListener<R>
+    /// where there are at least three processors. What an administrator is to know is told as lines.
+    pub fn new(alloc: Global, system: R, lines: Lines<R>, processors: usize) -> UnixListener<R>
         ensures { result ≡ record { faults = 0 } }
     {
         UnixListener {
             system,
             alloc,
+            lines,
             processors,
-            guests: usize::MAX,
+            workers: 0,
+            share: usize::MAX,
+            departures: None,
             folders: Vec::new(alloc),
             paths: Vec::new(alloc),
             entrance: None,
@@ -81,21 +103,27 @@ impl<R: Files<File = File> + Net + Clock + Clone + Eprint + Drop> UnixListener<R
     }
 
     // Opens a socket, with the folder for it where that is not had yet, and the entrance where this is the first one.
-    fn open(&mut self, role: Role, path: &str) -> io::Result<()>
+    fn open(&mut self, role: Role, path: &str) -> Result<(), BindError>
         ensures faults { self.new.faults ≡ self.old.faults }
     {
         let at = folder_of(path);
         self.take_folder(at)?;
+        for bound in self.paths.iter() {
+            if is_at(&self.system, bound.as_str(), path) {
+                let message = "it is the path of another socket of this daemon";
+                return Err(BindError::from(io::Error::new(ErrorKind::AddrInUse, message)));
+            }
+        }
         let name = String::from_str(self.alloc, path)?;
         self.paths.reserve(1)?;
         let socket = bind_at(&self.system, self.alloc, at, role, path)?;
         // There is room for it.
         let _ = self.paths.push(name);
-        self.add_door(role, socket)
+        Ok(self.add_door(role, socket)?)
     }
 
     // Takes this folder, unless it is had already.
-    fn take_folder(&mut self, at: &str) -> io::Result<()>
+    fn take_folder(&mut self, at: &str) -> Result<(), BindError>
         ensures faults { self.new.faults ≡ self.old.faults }
     {
         for folder in self.folders.iter() {
@@ -115,7 +143,8 @@ impl<R: Files<File = File> + Net + Clock + Clone + Eprint + Drop> UnixListener<R
         ensures faults { self.new.faults ≡ self.old.faults }
     {
         if self.entrance.is_none() {
-            let entrance = Entrance::new(self.alloc, &self.system, self.processors, self.guests)?;
+            let means = self.means()?;
+            let entrance = Entrance::new(self.alloc, &self.system, self.processors, means)?;
             self.entrance = Some(entrance);
         }
         match &mut self.entrance {
@@ -124,8 +153,52 @@ impl<R: Files<File = File> + Net + Clock + Clone + Eprint + Drop> UnixListener<R
         }
     }
 
+    // What an entrance is made with, once what closes connections is there.
+    fn means(&self) -> io::Result<Means<R>> {
+        let Some(departures) = &self.departures else {
+            return Err(io::Error::from(ErrorKind::NotConnected));
+        };
+        Ok(Means {
+            share: self.share,
+            departures: Arc::try_clone(departures)?,
+            lines: self.lines.share().map_err(no_memory)?,
+        })
+    }
+
+    // Makes the list of what is to be closed, without threads.
+    fn new_closers(&self, descriptors: u64) -> Result<Departures<R>, NoMemory> {
+        // Whoever waits somewhere may come to wait for a closer.
+        let places = self.share.saturating_mul(3);
+        let jobs = places.saturating_add(self.workers as usize);
+        let aside = usize::try_from((descriptors / ASIDE).min(MOST_ASIDE)).unwrap_or(usize::MAX);
+        let closers = Closers::new(self.alloc, self.system.clone()?, jobs, aside)?;
+        Ok(Arc::new(self.alloc, closers)?)
+    }
+
+    // Whether the process may have as many descriptors as its threads need.
+    fn has_descriptors(&self, path: &str) -> bool {
+        let (have, needed, workers) = (descriptors(), least_of(self.workers), self.workers);
+        if have < needed {
+            self.lines.tell(format_args!(
+                "nscd: {path}: {workers} workers need {needed} descriptors, and {have} are allowed"
+            ));
+        }
+        have >= needed
+    }
+
+    // Tells why a socket could not be bound, with the path that is at fault.
+    fn tell_refusal(&self, path: &str, refused: &BindError) {
+        let (folder, error) = (folder_of(path), &refused.error);
+        match refused.name() {
+            Some(name) => self
+                .lines
+                .tell(format_args!("nscd: {folder}/{name}: {error}")),
+            None => self.lines.tell(format_args!("nscd: {path}: {error}")),
+        }
+    }
+
     // The next connection. Without a socket there is none to wait for.
-    fn next(&mut self) -> io::Result<Accepted<UnixInput, UnixOutput<R>>>
+    fn next(&mut self) -> io::Result<Accepted<UnixInput<R>, UnixOutput<R>>>
         ensures faults { self.new.faults ≡ self.old.faults }
     {
         match &mut self.entrance {
@@ -134,19 +207,26 @@ impl<R: Files<File = File> + Net + Clock + Clone + Eprint + Drop> UnixListener<R
         }
     }
 
-    // The ends of a connection to this path.
-    fn reach(&self, path: &str) -> io::Result<(UnixInput, UnixOutput<R>)> {
+    // The ends of a connection to this path, which has a time in all.
+    fn reach(&self, path: &str) -> io::Result<(UnixInput<R>, UnixOutput<R>)> {
+        let begun = self.system.monotonic()?;
+        // A link may lead to the socket of another daemon.
+        if !fs::symlink_metadata(&self.system, path)?
+            .file_type()
+            .is_socket()
+        {
+            return Err(io::Error::from(ErrorKind::InvalidInput));
+        }
         let stream = mio::net::UnixStream::connect(&self.system, path)?;
-        let peer = Arc::new(self.alloc, Peer::new(OwnedFd::from(stream))?)?;
+        let peer = Peer::reached(self.alloc, OwnedFd::from(stream))?;
         let patience = Arc::new(self.alloc, Patience::new(1))?;
-        let ahead = Vec::new(self.alloc);
-        let input = UnixInput::new(
-            Arc::try_clone(&peer)?,
-            ahead,
-            Duration::from_secs(REPLY),
-            None,
+        let deadline = begun.saturating_add(Duration::from_secs(REPLY));
+        let input = UnixInput::reached(
+            self.system.clone()?,
+            peer.share().map_err(no_memory)?,
+            deadline,
         );
-        let output = UnixOutput::new(self.system.clone()?, peer, Some(patience));
+        let output = UnixOutput::reached(self.system.clone()?, peer, patience, begun);
         Ok((input, output))
     }
 
@@ -157,11 +237,13 @@ impl<R: Files<File = File> + Net + Clock + Clone + Eprint + Drop> UnixListener<R
     }
 }
 
-impl<R: Files<File = File> + Net + Clock + Clone + Eprint + Send + Drop> Listener
+impl<R: Files<File = File> + Net + Wait + Clock + Clone + Drop + Send + Sync> Listener
     for UnixListener<R> {
-    type In = UnixInput;
+    type In = UnixInput<R>;
 
     type Out = UnixOutput<R>;
+
+    type Departure = Departure;
 
     ghost faults = { λ s. s.faults };
 
@@ -171,13 +253,21 @@ impl<R: Files<File = File> + Net + Clock + Clone + Eprint + Send + Drop> Listene
 
     ghost peer = { λ _. None };
 
-    /// Half of the descriptors that the process may have, less those that it needs. The other half is for those that are not given yet.
-    fn room_for(&mut self, workers: u32) -> usize
+    /// A third of the descriptors that the process may have, less those that it needs, and 4,096 at most. As many wait for bytes, and as
+    /// many for a closer.
+    fn prepare(&mut self, workers: u32) -> Result<Prepared<Departure>, NoMemory>
         ensures faults { self.new.faults ≡ self.old.faults }
     {
-        let share = usize::try_from(share_of(descriptors(), workers)).unwrap_or(usize::MAX);
-        self.guests = share;
-        share
+        let descriptors = descriptors();
+        self.workers = workers;
+        self.share = usize::try_from(share_of(descriptors, workers)).unwrap_or(usize::MAX);
+        let closers = self.new_closers(descriptors)?;
+        let crew = closers.crew()?;
+        self.departures = Some(closers);
+        Ok(Prepared {
+            most: self.share,
+            crew: Some(crew),
+        })
     }
 
     /// Without this call nobody waits long.
@@ -200,26 +290,35 @@ impl<R: Files<File = File> + Net + Clock + Clone + Eprint + Send + Drop> Listene
             let _ = fs::remove_file(&self.system, path.as_str());
         }
         self.paths.clear();
+        if let Some(departures) = &self.departures {
+            departures.settle(SETTLE);
+        }
     }
 
     /// Takes connections at this path, in a folder that is made where there is none. A socket that stands there is replaced; one at which
     /// a process answers, or that cannot be asked, is left as it is, and the call fails. So it does for want of memory, where another
-    /// process has the folder, and where the folder is neither this user's nor root's or others may write it.
+    /// process has the folder, where the folder is neither this user's nor root's or others may write it, where the path has more than 107
+    /// bytes or is that of another socket of this listener, and where the process may have too few descriptors for its threads. Why is
+    /// told as a line that names the path.
     fn bind(&mut self, role: Role, path: &str) -> Result<(), Failed>
         ensures calm { OnOk result (self.new.faults ≡ self.old.faults) }
         ensures failed { OnErr result (Rose self.old.faults self.new.faults) }
     {
-        if let Err(error) = self.open(role, path) {
-            // Where standard error fails nobody is left to tell.
-            let _ = eprintln!(self.system; "nscd: {path}: {error}");
+        if !self.has_descriptors(path) {
+            self.count_fault();
+            return Err(Failed);
+        }
+        if let Err(refused) = self.open(role, path) {
+            self.tell_refusal(path, &refused);
             self.count_fault();
             return Err(Failed);
         }
         Ok(())
     }
 
-    /// Waits up to a second. That a connection cannot be taken is no failure; that no socket was opened is one.
-    fn accept(&mut self) -> Result<Accepted<UnixInput, UnixOutput<R>>, Failed>
+    /// Waits up to a second. That a connection cannot be taken is no failure. It fails if no socket was opened, and once all closers are
+    /// held, or too many connections are left open since their close may take long.
+    fn accept(&mut self) -> Result<Accepted<UnixInput<R>, UnixOutput<R>>, Failed>
         ensures calm { OnOk result (self.new.faults ≡ self.old.faults) }
         ensures failed { OnErr result (Rose self.old.faults self.new.faults) }
     {
@@ -230,9 +329,9 @@ impl<R: Files<File = File> + Net + Clock + Clone + Eprint + Send + Drop> Listene
         Ok(accepted)
     }
 
-    /// A connection whose calls wait for bytes and for room up to five seconds. It fails where nobody listens, where the
-    /// other process has too many connections before this one, and for want of memory.
-    fn connect(&mut self, path: &str) -> Result<(UnixInput, UnixOutput<R>), Failed>
+    /// A connection whose calls wait for bytes and for room, up to five seconds in all. It fails where nobody listens, where the
+    /// other process has too many connections before this one, where a link is at the path, and for want of memory.
+    fn connect(&mut self, path: &str) -> Result<(UnixInput<R>, UnixOutput<R>), Failed>
         ensures calm { OnOk result (self.new.faults ≡ self.old.faults) }
         ensures failed { OnErr result (Rose self.old.faults self.new.faults) }
     {
@@ -242,6 +341,11 @@ impl<R: Files<File = File> + Net + Clock + Clone + Eprint + Send + Drop> Listene
         };
         Ok(ends)
     }
+}
+
+// The system's error for a lack of memory.
+fn no_memory(_e: NoMemory) -> io::Error {
+    io::Error::from(ErrorKind::OutOfMemory)
 }
 
 // How many descriptors the process may have. Most systems allow no fewer than this where they do not tell.

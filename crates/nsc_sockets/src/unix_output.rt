@@ -2,12 +2,13 @@ ghost use Rattle.std.specs.Prelude.{◌≡◌, ◌<◌, ◌≤◌, length, IfOk,
 ghost use Rattle.nsc_model.specs.Reads.{Rose};
 
 use crate::patience::{Patience, time_left};
-use crate::peer::{Peer, may_pass};
+use crate::peer::Peer;
+use crate::stream::may_pass;
 use nsc_outside::{Failed, Sink};
 use std::io;
 use std::io::ErrorKind;
 use std::marker::Model;
-use std::sync::Arc;
+use std::sync::{Arc, Wait};
 use std::time::{Clock, Duration};
 
 // How long one turn of a wait lasts at most, in milliseconds, and at least, and how many there are however short they are.
@@ -22,9 +23,9 @@ const PART: usize = 32_768;
 
 /// What a peer is sent over a socket. It tells nothing of the bytes; contracts see its count of faults.
 #[derive(Drop)]
-pub struct UnixOutput<T: Clock + Drop> {
+pub struct UnixOutput<T: Wait + Clock + Drop> {
     clock: T,
-    peer: Arc<Peer>,
+    peer: Peer<T>,
     // What patience there is for it, if it is to have some.
     patience: Option<Arc<Patience>>,
     // When it waited first.
@@ -32,7 +33,7 @@ pub struct UnixOutput<T: Clock + Drop> {
     faults: u64,
 }
 
-impl<T: Clock + Drop> Model for UnixOutput<T> {
+impl<T: Wait + Clock + Drop> Model for UnixOutput<T> {
     ghost use Rattle.nsc_sockets.specs.Adapters.{UnixOutput};
 
     ghost Value = { UnixOutput };
@@ -40,9 +41,10 @@ impl<T: Clock + Drop> Model for UnixOutput<T> {
     ghost view = { λ s. record { faults = s.faults } };
 }
 
-impl<T: Clock + Drop> UnixOutput<T> {
-    /// What this peer is sent. All ends that are made with one patience share it.
-    pub(crate) fn new(clock: T, peer: Arc<Peer>, patience: Option<Arc<Patience>>) -> UnixOutput<T>
+impl<T: Wait + Clock + Drop> UnixOutput<T> {
+    /// What the peer of a connection that came is sent. All ends that are made with one patience share it; an administrator has none,
+    /// and waits for the end of the connection.
+    pub(crate) fn arrived(clock: T, peer: Peer<T>, patience: Option<Arc<Patience>>) -> UnixOutput<T>
         ensures { result ≡ record { faults = 0 } }
     {
         UnixOutput {
@@ -50,6 +52,24 @@ impl<T: Clock + Drop> UnixOutput<T> {
             peer,
             patience,
             begun: None,
+            faults: 0,
+        }
+    }
+
+    /// What the peer of a connection that was made at a moment is sent. Its time began then.
+    pub(crate) fn reached(
+        clock: T,
+        peer: Peer<T>,
+        patience: Arc<Patience>,
+        begun: Duration,
+    ) -> UnixOutput<T>
+        ensures { result ≡ record { faults = 0 } }
+    {
+        UnixOutput {
+            clock,
+            peer,
+            patience: Some(patience),
+            begun: Some(begun),
             faults: 0,
         }
     }
@@ -125,7 +145,7 @@ fn turn_of(left: Duration) -> Duration {
         .max(Duration::from_millis(LEAST_TURN))
 }
 
-impl<T: Clock + Drop> Sink for UnixOutput<T> {
+impl<T: Wait + Clock + Drop> Sink for UnixOutput<T> {
     ghost use Rattle.std.specs.Prelude.{None};
 
     ghost taken = { λ _. None };
@@ -143,8 +163,35 @@ impl<T: Clock + Drop> Sink for UnixOutput<T> {
         ensures failed { OnErr result (Rose self.old.faults self.new.faults) }
     {
         match self.send(bytes) {
-            Ok(count) if count > 0 || bytes.is_empty() => Ok(count),
+            Ok(count) if count > 0 || bytes.is_empty() => {
+                if self.patience.is_some() {
+                    self.peer.note_answered();
+                }
+                Ok(count)
+            }
             _ => {
+                self.faults = self.faults.saturating_add(1);
+                Err(Failed)
+            }
+        }
+    }
+
+    /// Sends bytes at the front, as far as there is room for them. Each error of the socket but that is a failure.
+    #[tactic(auto, using(crate::proofs::Counts::rose_risen))]
+    fn offer(&mut self, bytes: &[u8]) -> Result<usize, Failed>
+        ensures count { IfOk result (λ n. n ≤ length bytes.now) }
+        ensures calm { OnOk result (self.new.faults ≡ self.old.faults) }
+        ensures failed { OnErr result (Rose self.old.faults self.new.faults) }
+    {
+        match self.peer.write(bytes) {
+            Ok(count) => {
+                if count == bytes.len() && self.patience.is_some() {
+                    self.peer.note_answered();
+                }
+                Ok(count)
+            }
+            Err(error) if may_pass(&error) => Ok(0),
+            Err(_) => {
                 self.faults = self.faults.saturating_add(1);
                 Err(Failed)
             }

@@ -1,12 +1,13 @@
-use crate::guest::{Glance, Guest, ReadyGuest};
+use crate::guest::{Glance, Guest, ReadyGuest, nanoseconds};
 use crate::shares::Places;
 use mio::unix::SourceFd;
 use mio::{Interest, Registry, Token};
-use slab::Slab;
+use nsc_tokens::Tokens;
 use std::alloc::{AllocError, Global};
 use std::collections::VecDeque;
 use std::os::fd::AsRawFd;
-use std::time::Duration;
+use std::sync::Wait;
+use std::time::{Clock, Duration};
 
 // So many new connections are looked at again on each turn, and so often each. Most requests come at once.
 const STANDING: usize = 8;
@@ -14,34 +15,35 @@ const STANDING: usize = 8;
 const LOOKS: u32 = 50;
 
 // So many connections may wait for bytes that the system tells of.
-const SEATS: usize = 256;
+const SLOTS: usize = 256;
 
 // Where the process has no descriptor left, so many leave, since files are to be read too.
 const SPARE: usize = 8;
 
-// How long a connection may sit without a whole request, in seconds.
-const STAY: u64 = 5;
+// How long a connection may sit without a whole request, in nanoseconds.
+const STAY: u64 = 5_000_000_000;
 
 /// Connections of which too little came to give them out. At first they stand and are looked at on each turn, then they sit
-/// until the system tells of bytes; where no turn may be given to others between looks, they sit at once. Each seat is its
-/// connection's token. A connection of the gate keeps its seat while a worker has it, and waits there for its next lines.
+/// until the system tells of bytes; where no turn may be given to others between looks, they sit at once. The system tells of each
+/// under a token that nobody had before, and of one that left it tells no more. A connection of the gate keeps its seat while a worker
+/// has it, and waits there for its next lines.
 #[derive(Drop)]
-pub(crate) struct WaitingRoom {
+pub(crate) struct WaitingRoom<R: Wait + Clock + Drop> {
     alloc: Global,
-    standing: VecDeque<Guest>,
-    seats: Slab<Guest>,
+    standing: VecDeque<Guest<R>>,
+    seats: Tokens<Guest<R>>,
     // So many may sit.
     places: Places,
 }
 
-impl WaitingRoom {
+impl<R: Wait + Clock + Drop> WaitingRoom<R> {
     /// A room with nobody in it, for so many at most, those that stand among them.
-    pub(crate) fn new(alloc: Global, most: usize) -> Result<WaitingRoom, AllocError> {
+    pub(crate) fn new(alloc: Global, most: usize) -> Result<WaitingRoom<R>, AllocError> {
         Ok(WaitingRoom {
             alloc,
             standing: VecDeque::with_capacity(alloc, STANDING)?,
-            seats: Slab::with_capacity(alloc, SEATS)?,
-            places: Places::new(most.saturating_sub(STANDING).min(SEATS).max(1)),
+            seats: Tokens::with_capacity(alloc, SLOTS)?,
+            places: Places::new(most.saturating_sub(STANDING).min(SLOTS).max(1)),
         })
     }
 
@@ -54,12 +56,24 @@ impl WaitingRoom {
     pub(crate) fn receive(
         &mut self,
         registry: &Registry,
-        mut guest: Guest,
+        guest: Guest<R>,
         may_stand: bool,
-    ) -> Option<ReadyGuest> {
+    ) -> Option<ReadyGuest<R>> {
+        self.look_at(registry, guest, may_stand)
+    }
+
+    // Looks at one that has no seat: it is given out, stands, sits down or leaves.
+    fn look_at(
+        &mut self,
+        registry: &Registry,
+        mut guest: Guest<R>,
+        may_stand: bool,
+    ) -> Option<ReadyGuest<R>> {
+        guest.note_look();
         match guest.look(self.alloc, false) {
             Glance::Settled(ahead) => return self.give_out(registry, guest, ahead),
-            Glance::Pending if may_stand && self.standing.len() < STANDING => {
+            Glance::Pending
+                if may_stand && guest.looks() < LOOKS && self.standing.len() < STANDING => {
                 let _ = self.standing.push_back(guest);
             }
             Glance::Pending => {
@@ -74,22 +88,28 @@ impl WaitingRoom {
     fn give_out(
         &mut self,
         registry: &Registry,
-        guest: Guest,
+        guest: Guest<R>,
         ahead: Vec<u8>,
-    ) -> Option<ReadyGuest> {
+    ) -> Option<ReadyGuest<R>> {
         if !guest.comes_back() {
             return Some(guest.ready(ahead));
         }
         let now = guest.since();
-        let seat = self.seat(registry, guest)?;
-        self.lend(seat, ahead, now)
+        let token = self.seat(registry, guest)?;
+        self.lend(registry, token, ahead, now)
     }
 
-    // Gives out the one in this seat, to which it comes back. Where there is no memory for that it leaves.
-    fn lend(&mut self, seat: usize, ahead: Vec<u8>, now: Duration) -> Option<ReadyGuest> {
-        let ready = self.seats.get_mut(seat)?.lend(seat, ahead, now);
+    // Gives out the one under this token, to which it comes back. Without memory for that it leaves.
+    fn lend(
+        &mut self,
+        registry: &Registry,
+        token: usize,
+        ahead: Vec<u8>,
+        now: u64,
+    ) -> Option<ReadyGuest<R>> {
+        let ready = self.seats.get(token)?.lend(token, ahead, now);
         if ready.is_none() {
-            drop(self.seats.try_remove(seat));
+            drop(self.leave(registry, token));
         }
         ready
     }
@@ -99,72 +119,87 @@ impl WaitingRoom {
         &mut self,
         registry: &Registry,
         may_stand: bool,
-    ) -> Option<ReadyGuest> {
+    ) -> Option<ReadyGuest<R>> {
         for _ in 0..self.standing.len() {
-            let mut guest = self.standing.pop_front()?;
-            match guest.look(self.alloc, false) {
-                Glance::Settled(ahead) => return self.give_out(registry, guest, ahead),
-                Glance::Pending if may_stand && guest.looks() < LOOKS => {
-                    let _ = self.standing.push_back(guest);
-                }
-                Glance::Pending => {
-                    self.seat(registry, guest);
-                }
-                Glance::Lost => {}
+            let guest = self.standing.pop_front()?;
+            let ready = self.look_at(registry, guest, may_stand);
+            if ready.is_some() {
+                return ready;
             }
         }
         None
     }
 
-    /// Looks at the one in this seat, of which the system told that bytes came, or that no more will.
+    /// Looks at the one under this token, of which the system told that bytes came, or that no more will. One that left is passed over.
     pub(crate) fn stir(
         &mut self,
-        seat: usize,
+        registry: &Registry,
+        token: usize,
         has_ended: bool,
         now: Duration,
-    ) -> Option<ReadyGuest> {
-        let guest = self.seats.get_mut(seat)?;
+    ) -> Option<ReadyGuest<R>> {
+        let guest = self.seats.get(token)?;
         match guest.look(self.alloc, has_ended) {
-            Glance::Settled(ahead) if guest.comes_back() => self.lend(seat, ahead, now),
-            Glance::Settled(ahead) => Some(self.seats.try_remove(seat)?.ready(ahead)),
+            Glance::Settled(ahead) if guest.comes_back() => {
+                self.lend(registry, token, ahead, nanoseconds(now))
+            }
+            Glance::Settled(ahead) => Some(self.leave(registry, token)?.ready(ahead)),
             Glance::Pending => None,
             Glance::Lost => {
-                drop(self.seats.try_remove(seat));
+                drop(self.leave(registry, token));
                 None
             }
         }
     }
 
     // From now on the system tells of its bytes, also of those that came meanwhile. Without a free seat the oldest leaves. Gives the
-    // seat, where the guest could be seated.
-    fn seat(&mut self, registry: &Registry, guest: Guest) -> Option<usize> {
+    // token, where the guest could be seated.
+    fn seat(&mut self, registry: &Registry, guest: Guest<R>) -> Option<usize> {
         if self.seats.len() >= self.places.most {
-            self.close_oldest();
+            self.close_oldest(registry);
         }
-        let seat = self.seats.vacant_key();
         let socket = guest.as_raw_fd();
+        let token = self.seats.put(guest).ok()?;
         let mut source = SourceFd(&socket);
-        registry
-            .register(&mut source, Token(seat), Interest::READABLE)
-            .ok()?;
-        self.seats.insert(guest).ok()
+        if registry
+            .register(&mut source, Token(token), Interest::READABLE)
+            .is_err()
+        {
+            drop(self.seats.take(token));
+            return None;
+        }
+        Some(token)
+    }
+
+    // Takes the one under this token from its seat. The system tells of it no more.
+    fn leave(&mut self, registry: &Registry, token: usize) -> Option<Guest<R>> {
+        let guest = self.seats.take(token)?;
+        let socket = guest.as_raw_fd();
+        let _ = registry.deregister(&mut SourceFd(&socket));
+        Some(guest)
     }
 
     /// Closes those that have stayed too long at this moment. Where some had to leave for want of descriptors, more may sit again.
-    pub(crate) fn sweep(&mut self, now: Duration) {
+    pub(crate) fn sweep(&mut self, registry: &Registry, now: Duration) {
         self.places.grow();
-        let stay = Duration::from_secs(STAY);
-        self.seats
-            .retain(|_, guest| now.saturating_sub(guest.since()) < stay);
+        let now = nanoseconds(now);
+        for seat in 0..SLOTS {
+            let Some((token, since)) = self.sits_at(seat) else {
+                continue;
+            };
+            if now.saturating_sub(since) >= STAY {
+                drop(self.leave(registry, token));
+            }
+        }
     }
 
     /// Closes the oldest connections, since the process has room for no more. Gives false where there is none.
-    pub(crate) fn clear(&mut self) -> bool {
-        if !self.close_oldest() {
+    pub(crate) fn clear(&mut self, registry: &Registry) -> bool {
+        if !self.close_oldest(registry) {
             return false;
         }
         for _ in 1..SPARE {
-            self.close_oldest();
+            self.close_oldest(registry);
         }
         true
     }
@@ -180,23 +215,33 @@ impl WaitingRoom {
     }
 
     // Closes the oldest connection, and gives false where there is none.
-    fn close_oldest(&mut self) -> bool {
+    fn close_oldest(&mut self, registry: &Registry) -> bool {
         match self.oldest() {
-            Some(seat) => drop(self.seats.try_remove(seat)),
+            Some(token) => drop(self.leave(registry, token)),
             None => return self.standing.pop_front().is_some(),
         }
         true
     }
 
-    // The seat of the oldest who sits.
+    // The token of the oldest who sits.
     fn oldest(&self) -> Option<usize> {
-        let mut oldest: Option<(usize, Duration)> = None;
-        for (seat, guest) in self.seats.iter() {
+        let mut oldest: Option<(usize, u64)> = None;
+        for seat in 0..SLOTS {
+            let Some((token, since)) = self.sits_at(seat) else {
+                continue;
+            };
             match oldest {
-                Some((_, since)) if since <= guest.since() => {}
-                _ => oldest = Some((seat, guest.since())),
+                Some((_, first)) if first <= since => {}
+                _ => oldest = Some((token, since)),
             }
         }
-        oldest.map(|(seat, _)| seat)
+        oldest.map(|(token, _)| token)
+    }
+
+    // The token of the one in a seat, and since when it sits there.
+    fn sits_at(&self, seat: usize) -> Option<(usize, u64)> {
+        let token = self.seats.token_at(seat)?;
+        let guest = self.seats.get(token)?;
+        Some((token, guest.since()))
     }
 }
