@@ -19,6 +19,7 @@ use Rattle.nsc_server.specs.declared.served.Served.{Served}
 use Rattle.nsc_server.specs.declared.served.Served.TheVariants as served
 use Rattle.nsc_server.specs.declared.served.Closing.{Closing}
 use Rattle.nsc_server.specs.Passes.{PassAt, LoadedLastCycle}
+use Rattle.nsc_server.specs.declared.scope.Scopes.{Scopes}
 use Rattle.nsc_server.specs.Requests.{GetsShort, IsNeeded, closing_of}
 use Rattle.nsc_server.specs.Outcomes.{Answers, Completes, CountsInput, Ends, IsInvalidateRefusal, IsRefusal, NoInvalidateFault, NoLookFault, NoStoreFault, OthersStay, Serves, Side, replied_to, served_after, served_by}
 
@@ -56,70 +57,71 @@ IsClosed None = ⊥
 IsClosed (Some why) = Unit {0}
 
 -- where nothing failed, what may be asked is answered, or memory was wanting
-pub completes : (settings : Databases DbConf) (moment : ℕ) (on : Role) (asked : Asked) (left : Option (List ℕ)) (input input' : StreamAt) (before after : Side) (by : Served)
-    → Ends settings moment on asked left before after by → CountsInput by input.faults input'.faults → Completes on asked input input' before after by
-completes settings moment on asked left input input' before after served.Replied e n a f = inl (sym e.2.0)
-completes settings moment on asked left input input' before after served.ShutDown e n a f = inl (ap replied_to (sym e.2.0))
-completes settings moment on asked left input input' before after (served.Closed why) e n a f = absurd (subst IsClosed (sym e.0 ∙ a.open_to) tt)
-completes settings moment on asked left input input' before after (served.Ended have) e n a f = absurd (a.whole have e.0)
-completes settings moment on asked left input input' before after served.ReadFault e n a f = absurd (f.input_calm n)
-completes settings moment on asked left input input' before after served.WriteFault e n a f = absurd (f.output_calm e.2.failed)
-completes settings moment on asked left input input' before after (served.SourceFault file) e n a f =
-    inr (lacked settings asked before.passes after.passes (served.SourceFault file) e.2.refusal f.store_calm)
-completes settings moment on asked left input input' before after (served.TooLong file size) e n a f =
-    inr (lacked settings asked before.passes after.passes (served.TooLong file size) e.2.refusal f.store_calm)
-completes settings moment on asked left input input' before after (served.Spent count) e n a f =
-    inr (lacked settings asked before.passes after.passes (served.Spent count) e.2.refusal f.store_calm)
-completes settings moment on asked left input input' before after served.NoMemory e n a f = inr refl
+pub completes : (settings : Databases DbConf) (scopes : Scopes) (moment : ℕ) (on : Role) (asked : Asked) (left : Option (List ℕ)) (input input' : StreamAt) (before after : Side) (by : Served)
+    → Ends settings scopes moment on asked left before after by → CountsInput by input.faults input'.faults → Completes scopes on asked input input' before after by
+completes settings scopes moment on asked left input input' before after served.Replied e n a f = inl (sym e.2.0)
+completes settings scopes moment on asked left input input' before after served.ShutDown e n a f = inl (ap replied_to (sym e.2.0))
+completes settings scopes moment on asked left input input' before after (served.Closed why) (inl e) n a f = absurd (subst IsClosed (sym e.0 ∙ a.open_to) tt)
+completes settings scopes moment on asked left input input' before after (served.Closed why) (inr e) n a f = inr (inr (ap (λ w. served.Closed w) e.2.cause, e.2.kept_back.0))
+completes settings scopes moment on asked left input input' before after (served.Ended have) e n a f = absurd (a.whole have e.0)
+completes settings scopes moment on asked left input input' before after served.ReadFault e n a f = absurd (f.input_calm n)
+completes settings scopes moment on asked left input input' before after served.WriteFault e n a f = absurd (f.output_calm e.2.failed)
+completes settings scopes moment on asked left input input' before after (served.SourceFault file) e n a f =
+    inr (inl (lacked settings asked before.passes after.passes (served.SourceFault file) e.2.refusal f.store_calm))
+completes settings scopes moment on asked left input input' before after (served.TooLong file size) e n a f =
+    inr (inl (lacked settings asked before.passes after.passes (served.TooLong file size) e.2.refusal f.store_calm))
+completes settings scopes moment on asked left input input' before after (served.Spent count) e n a f =
+    inr (inl (lacked settings asked before.passes after.passes (served.Spent count) e.2.refusal f.store_calm))
+completes settings scopes moment on asked left input input' before after served.NoMemory e n a f = inr (inl refl)
 
 -- ---- the whole
 
 -- what came of an admitted request
-ends_answered : (settings : Databases DbConf) (moment : ℕ) (on : Role) (asked : Asked) (left : Option (List ℕ)) (before after : Side) (by : Served)
-    → closing_of on asked ≡ None → OthersStay asked before.passes after.passes → Answers settings moment asked before after by → Ends settings moment on asked left before after by
-ends_answered settings moment on asked left before after served.Replied o s a = (o, s, a)
-ends_answered settings moment on asked left before after served.ShutDown o s a = (o, s, a)
-ends_answered settings moment on asked left before after (served.Closed why) o s a = absurd a
-ends_answered settings moment on asked left before after (served.Ended have) o s a = absurd a
-ends_answered settings moment on asked left before after served.ReadFault o s a = absurd a
-ends_answered settings moment on asked left before after served.WriteFault o s a = (o, s, a)
-ends_answered settings moment on asked left before after (served.SourceFault file) o s a = (o, s, a)
-ends_answered settings moment on asked left before after (served.TooLong file size) o s a = (o, s, a)
-ends_answered settings moment on asked left before after (served.Spent count) o s a = (o, s, a)
-ends_answered settings moment on asked left before after served.NoMemory o s a = (o, s, a)
+ends_answered : (settings : Databases DbConf) (scopes : Scopes) (moment : ℕ) (on : Role) (asked : Asked) (left : Option (List ℕ)) (before after : Side) (by : Served)
+    → closing_of scopes on asked ≡ None → OthersStay asked before.passes after.passes → Answers settings scopes moment asked before after by → Ends settings scopes moment on asked left before after by
+ends_answered settings scopes moment on asked left before after served.Replied o s a = (o, s, a)
+ends_answered settings scopes moment on asked left before after served.ShutDown o s a = (o, s, a)
+ends_answered settings scopes moment on asked left before after (served.Closed why) o s a = inr (o, s, a)
+ends_answered settings scopes moment on asked left before after (served.Ended have) o s a = absurd a
+ends_answered settings scopes moment on asked left before after served.ReadFault o s a = absurd a
+ends_answered settings scopes moment on asked left before after served.WriteFault o s a = (o, s, a)
+ends_answered settings scopes moment on asked left before after (served.SourceFault file) o s a = (o, s, a)
+ends_answered settings scopes moment on asked left before after (served.TooLong file size) o s a = (o, s, a)
+ends_answered settings scopes moment on asked left before after (served.Spent count) o s a = (o, s, a)
+ends_answered settings scopes moment on asked left before after served.NoMemory o s a = (o, s, a)
 
-counts_answered : (settings : Databases DbConf) (moment : ℕ) (asked : Asked) (before after : Side) (by : Served) (count count' : ℕ) → Answers settings moment asked before after by → count' ≡ count → CountsInput by count count'
-counts_answered settings moment asked before after served.Replied count count' a e = e
-counts_answered settings moment asked before after served.ShutDown count count' a e = e
-counts_answered settings moment asked before after (served.Closed why) count count' a e = e
-counts_answered settings moment asked before after (served.Ended have) count count' a e = e
-counts_answered settings moment asked before after served.ReadFault count count' a e = absurd a
-counts_answered settings moment asked before after served.WriteFault count count' a e = e
-counts_answered settings moment asked before after (served.SourceFault file) count count' a e = e
-counts_answered settings moment asked before after (served.TooLong file size) count count' a e = e
-counts_answered settings moment asked before after (served.Spent count'') count count' a e = e
-counts_answered settings moment asked before after served.NoMemory count count' a e = e
+counts_answered : (settings : Databases DbConf) (scopes : Scopes) (moment : ℕ) (asked : Asked) (before after : Side) (by : Served) (count count' : ℕ) → Answers settings scopes moment asked before after by → count' ≡ count → CountsInput by count count'
+counts_answered settings scopes moment asked before after served.Replied count count' a e = e
+counts_answered settings scopes moment asked before after served.ShutDown count count' a e = e
+counts_answered settings scopes moment asked before after (served.Closed why) count count' a e = e
+counts_answered settings scopes moment asked before after (served.Ended have) count count' a e = e
+counts_answered settings scopes moment asked before after served.ReadFault count count' a e = absurd a
+counts_answered settings scopes moment asked before after served.WriteFault count count' a e = e
+counts_answered settings scopes moment asked before after (served.SourceFault file) count count' a e = e
+counts_answered settings scopes moment asked before after (served.TooLong file size) count count' a e = e
+counts_answered settings scopes moment asked before after (served.Spent count'') count count' a e = e
+counts_answered settings scopes moment asked before after served.NoMemory count count' a e = e
 
-serves : (settings : Databases DbConf) (moment : ℕ) (on : Role) (input input' : StreamAt) (before after : Side) (by : Served) (front : List ℕ) → Moves input.bytes input'.bytes front → IsNeeded front
-    → CountsInput by input.faults input'.faults → Ends settings moment on (request_of front) input'.bytes before after by → Serves settings moment on input input' before after by
-serves settings moment on input input' before after by front moved needed counted ends = record {
+serves : (settings : Databases DbConf) (scopes : Scopes) (moment : ℕ) (on : Role) (input input' : StreamAt) (before after : Side) (by : Served) (front : List ℕ) → Moves input.bytes input'.bytes front → IsNeeded front
+    → CountsInput by input.faults input'.faults → Ends settings scopes moment on (request_of front) input'.bytes before after by → Serves settings scopes moment on input input' before after by
+serves settings scopes moment on input input' before after by front moved needed counted ends = record {
   front = front;
   moved = moved;
   needed = needed;
   counted = counted;
   ends = ends;
-  complete = completes settings moment on (request_of front) input'.bytes input input' before after by ends counted;
+  complete = completes settings scopes moment on (request_of front) input'.bytes input input' before after by ends counted;
 }
 
 -- a connection whose input failed
-pub serves_failed : (settings : Databases DbConf) (moment : ℕ) (on : Role) (input input' : StreamAt) (side_is : Side) → GetsShort input.bytes input'.bytes → Rose input.faults input'.faults
-    → Serves settings moment on input input' side_is side_is served.ReadFault
-serves_failed settings moment on input input' side_is short rose = serves settings moment on input input' side_is side_is served.ReadFault short.0 short.1 short.2 rose ((length short.0, short.3), refl)
+pub serves_failed : (settings : Databases DbConf) (scopes : Scopes) (moment : ℕ) (on : Role) (input input' : StreamAt) (side_is : Side) → GetsShort input.bytes input'.bytes → Rose input.faults input'.faults
+    → Serves settings scopes moment on input input' side_is side_is served.ReadFault
+serves_failed settings scopes moment on input input' side_is short rose = serves settings scopes moment on input input' side_is side_is served.ReadFault short.0 short.1 short.2 rose ((length short.0, short.3), refl)
 
 -- a connection whose request was admitted
-pub serves_admitted : (settings : Databases DbConf) (moment : ℕ) (on : Role) (input input' : StreamAt) (before after : Side) (by : Served) (front : List ℕ) (asked : Asked) → asked ≡ request_of front
-    → Moves input.bytes input'.bytes front → IsNeeded front → input'.faults ≡ input.faults → closing_of on asked ≡ None → OthersStay asked before.passes after.passes
-    → Answers settings moment asked before after by → Serves settings moment on input input' before after by
-serves_admitted settings moment on input input' before after by front asked is moved needed calm open_to others answers =
-    serves settings moment on input input' before after by front moved needed (counts_answered settings moment asked before after by input.faults input'.faults answers calm)
-    (subst (λ (a : Asked). Ends settings moment on a input'.bytes before after by) is (ends_answered settings moment on asked input'.bytes before after by open_to others answers))
+pub serves_admitted : (settings : Databases DbConf) (scopes : Scopes) (moment : ℕ) (on : Role) (input input' : StreamAt) (before after : Side) (by : Served) (front : List ℕ) (asked : Asked) → asked ≡ request_of front
+    → Moves input.bytes input'.bytes front → IsNeeded front → input'.faults ≡ input.faults → closing_of scopes on asked ≡ None → OthersStay asked before.passes after.passes
+    → Answers settings scopes moment asked before after by → Serves settings scopes moment on input input' before after by
+serves_admitted settings scopes moment on input input' before after by front asked is moved needed calm open_to others answers =
+    serves settings scopes moment on input input' before after by front moved needed (counts_answered settings scopes moment asked before after by input.faults input'.faults answers calm)
+    (subst (λ (a : Asked). Ends settings scopes moment on a input'.bytes before after by) is (ends_answered settings scopes moment on asked input'.bytes before after by open_to others answers))

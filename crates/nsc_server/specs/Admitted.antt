@@ -8,6 +8,7 @@ use Rattle.nsc_server.specs.declared.admitted.Admitted.{Admitted}
 use Rattle.nsc_server.specs.declared.admitted.Admitted.TheVariants as admitted
 use Rattle.nsc_server.specs.declared.served.Served.{Served}
 use Rattle.nsc_server.specs.declared.served.Served.TheVariants as served
+use Rattle.nsc_server.specs.declared.scope.Scopes.{Scopes}
 use Rattle.nsc_server.specs.Requests.{closing_of}
 
 -- what was read
@@ -18,12 +19,12 @@ wire_of admitted.Stat = wire.Stat
 wire_of admitted.ShutDown = wire.Shutdown
 
 -- what was read is admitted
-pub record IsAdmitted (on : Role) (read : Wire) (it : Admitted) : Type 0 where
+pub record IsAdmitted (scopes : Scopes) (on : Role) (read : Wire) (it : Admitted) : Type 0 where
   pub same : wire_of it ≡ read
-  pub open_to : (bytes : List ℕ) → closing_of on (asked_by bytes read) ≡ None
+  pub open_to : (bytes : List ℕ) → closing_of scopes on (asked_by bytes read) ≡ None
 
 -- what was read is refused, or was not whole
-abbrev pub IsNotAdmitted : Role → Wire → Served → Type 0
-IsNotAdmitted on read (served.Closed why) = (bytes : List ℕ) → closing_of on (asked_by bytes read) ≡ Some why
-IsNotAdmitted on read (served.Ended have) = read ≡ wire.Short have
-IsNotAdmitted on read _ = ⊥
+abbrev pub IsNotAdmitted : Scopes → Role → Wire → Served → Type 0
+IsNotAdmitted scopes on read (served.Closed why) = (bytes : List ℕ) → closing_of scopes on (asked_by bytes read) ≡ Some why
+IsNotAdmitted scopes on read (served.Ended have) = read ≡ wire.Short have
+IsNotAdmitted scopes on read _ = ⊥

@@ -21,7 +21,11 @@ use Rattle.nsc_model.specs.Wire.{Asked, Look, Shutdown, Stat, Invalidate, Short,
 use Rattle.nsc_sockets.specs.declared.role.Role.{Role}
 use Rattle.nsc_server.specs.declared.served.Served.{Served}
 use Rattle.nsc_server.specs.declared.served.Served.TheVariants as served
+use Rattle.nsc_server.specs.declared.served.Closing.{Closing}
+use Rattle.nsc_server.specs.declared.served.Closing.TheVariants as closing
+use Rattle.nsc_server.specs.declared.scope.Scopes.{Scopes}
 use Rattle.nsc_server.specs.Requests.{IsNeeded, closing_of}
+use Rattle.nsc_server.specs.Scopes.{IsFoundOnly, IsKeptBack}
 use Rattle.nsc_server.specs.Passes.{PassAt, LoadedLastCycle, OthersThan, passes_at}
 use Rattle.nsc_outside.specs.declared.stream.Sink as sink
 use Rattle.nsc_model.specs.declared.store.Store as store
@@ -132,19 +136,29 @@ WritesReply before after reply replied by =
     ((by ≡ replied) × Grows before.bytes after.bytes reply × (after.faults ≡ before.faults))
     ⊎ ((by ≡ served.WriteFault) × GrowsByFront before.bytes after.bytes reply × Rose before.faults after.faults)
 
--- the reply was written whole
-pub record IsReplied (settings : Databases DbConf) (moment : ℕ) (asked : Asked) (before after : Side) : Type 0 where
+-- the reply was written whole, and is not one that is kept back
+pub record IsReplied (settings : Databases DbConf) (scopes : Scopes) (moment : ℕ) (asked : Asked) (before after : Side) : Type 0 where
   pub reply : List ℕ
   pub is_reply : IsReply settings moment asked before.passes after.passes reply
+  pub told : IsKeptBack scopes asked reply → ⊥
   pub grown : Grows before.output.bytes after.output.bytes reply
   pub calm : after.output.faults ≡ before.output.faults
 
--- the output failed, and took a front of the reply
-pub record IsCutShort (settings : Databases DbConf) (moment : ℕ) (asked : Asked) (before after : Side) : Type 0 where
+-- the output failed, and took a front of the reply, which is not one that is kept back
+pub record IsCutShort (settings : Databases DbConf) (scopes : Scopes) (moment : ℕ) (asked : Asked) (before after : Side) : Type 0 where
   pub reply : List ℕ
   pub is_reply : IsReply settings moment asked before.passes after.passes reply
+  pub told : IsKeptBack scopes asked reply → ⊥
   pub front : GrowsByFront before.output.bytes after.output.bytes reply
   pub failed : Rose before.output.faults after.output.faults
+
+-- nothing was written, since the reply is kept back
+pub record KeepsBack (settings : Databases DbConf) (scopes : Scopes) (moment : ℕ) (asked : Asked) (before after : Side) (why : Closing) : Type 0 where
+  pub cause : why ≡ closing.NotFound
+  pub reply : List ℕ
+  pub is_reply : IsReply settings moment asked before.passes after.passes reply
+  pub kept_back : IsKeptBack scopes asked reply
+  pub silent : after.output ≡ before.output
 
 -- nothing was written, since there is no reply
 pub record HasNoReply (settings : Databases DbConf) (asked : Asked) (before after : Side) (by : Served) : Type 0 where
@@ -156,25 +170,27 @@ abbrev pub replied_to : Asked → Served
 replied_to Shutdown = served.ShutDown
 replied_to _ = served.Replied
 
--- what was asked is answered, or the answer fails
-abbrev pub Answers : Databases DbConf → ℕ → Asked → Side → Side → Served → Type 0
-Answers settings moment asked before after served.Replied = (replied_to asked ≡ served.Replied) × IsReplied settings moment asked before after
-Answers settings moment asked before after served.ShutDown = (asked ≡ Shutdown) × IsReplied settings moment asked before after
-Answers settings moment asked before after served.WriteFault = IsCutShort settings moment asked before after
-Answers settings moment asked before after (served.Closed why) = ⊥
-Answers settings moment asked before after (served.Ended have) = ⊥
-Answers settings moment asked before after served.ReadFault = ⊥
-Answers settings moment asked before after (served.SourceFault file) = HasNoReply settings asked before after (served.SourceFault file)
-Answers settings moment asked before after (served.TooLong file size) = HasNoReply settings asked before after (served.TooLong file size)
-Answers settings moment asked before after (served.Spent count) = HasNoReply settings asked before after (served.Spent count)
-Answers settings moment asked before after served.NoMemory = HasNoReply settings asked before after served.NoMemory
+-- what was asked is answered, or the answer is kept back, or fails
+abbrev pub Answers : Databases DbConf → Scopes → ℕ → Asked → Side → Side → Served → Type 0
+Answers settings scopes moment asked before after served.Replied = (replied_to asked ≡ served.Replied) × IsReplied settings scopes moment asked before after
+Answers settings scopes moment asked before after served.ShutDown = (asked ≡ Shutdown) × IsReplied settings scopes moment asked before after
+Answers settings scopes moment asked before after served.WriteFault = IsCutShort settings scopes moment asked before after
+Answers settings scopes moment asked before after (served.Closed why) = KeepsBack settings scopes moment asked before after why
+Answers settings scopes moment asked before after (served.Ended have) = ⊥
+Answers settings scopes moment asked before after served.ReadFault = ⊥
+Answers settings scopes moment asked before after (served.SourceFault file) = HasNoReply settings asked before after (served.SourceFault file)
+Answers settings scopes moment asked before after (served.TooLong file size) = HasNoReply settings asked before after (served.TooLong file size)
+Answers settings scopes moment asked before after (served.Spent count) = HasNoReply settings asked before after (served.Spent count)
+Answers settings scopes moment asked before after served.NoMemory = HasNoReply settings asked before after served.NoMemory
 
--- what came of a connection on which this was asked: it is refused, or not whole, or answered
-abbrev pub Ends : Databases DbConf → ℕ → Role → Asked → Option (List ℕ) → Side → Side → Served → Type 0
-Ends settings moment on asked left before after (served.Closed why) = (closing_of on asked ≡ Some why) × (after ≡ before)
-Ends settings moment on asked left before after (served.Ended have) = (asked ≡ Short have) × IsDrained left × (after ≡ before)
-Ends settings moment on asked left before after served.ReadFault = ((have : ℕ) × (asked ≡ Short have)) × (after ≡ before)
-Ends settings moment on asked left before after by = (closing_of on asked ≡ None) × OthersStay asked before.passes after.passes × Answers settings moment asked before after by
+-- what came of a connection on which this was asked: it is refused or left to who asks, or not whole, or answered
+abbrev pub Ends : Databases DbConf → Scopes → ℕ → Role → Asked → Option (List ℕ) → Side → Side → Served → Type 0
+Ends settings scopes moment on asked left before after (served.Closed why) =
+    ((closing_of scopes on asked ≡ Some why) × (after ≡ before))
+    ⊎ ((closing_of scopes on asked ≡ None) × OthersStay asked before.passes after.passes × Answers settings scopes moment asked before after (served.Closed why))
+Ends settings scopes moment on asked left before after (served.Ended have) = (asked ≡ Short have) × IsDrained left × (after ≡ before)
+Ends settings scopes moment on asked left before after served.ReadFault = ((have : ℕ) × (asked ≡ Short have)) × (after ≡ before)
+Ends settings scopes moment on asked left before after by = (closing_of scopes on asked ≡ None) × OthersStay asked before.passes after.passes × Answers settings scopes moment asked before after by
 
 -- the input's count of faults rose where it failed, and else stays
 abbrev pub CountsInput : Served → ℕ → ℕ → Type 0
@@ -204,20 +220,22 @@ pub record NoFault (asked : Asked) (input input' : StreamAt) (before after : Sid
   pub output_calm : Rose before.output.faults after.output.faults → ⊥
   pub store_calm : NoStoreFault asked before.passes after.passes
 
--- what was asked is whole, and may be asked on a socket of this role
-pub record IsAnswerable (on : Role) (asked : Asked) : Type 0 where
-  pub open_to : closing_of on asked ≡ None
+-- what was asked is whole, may be asked on a socket of this role, and is not left by its scope
+pub record IsAnswerable (scopes : Scopes) (on : Role) (asked : Asked) : Type 0 where
+  pub open_to : closing_of scopes on asked ≡ None
   pub whole : (have : ℕ) → asked ≡ Short have → ⊥
 
--- it is answered where nothing failed, unless memory was wanting
-abbrev pub Completes : Role → Asked → StreamAt → StreamAt → Side → Side → Served → Type 0
-Completes on asked input input' before after by = IsAnswerable on asked → NoFault asked input input' before after → (by ≡ replied_to asked) ⊎ (by ≡ served.NoMemory)
+-- If nothing failed it is answered, unless memory was short; or the reply is kept back, if only found entries are told.
+abbrev pub Completes : Scopes → Role → Asked → StreamAt → StreamAt → Side → Side → Served → Type 0
+Completes scopes on asked input input' before after by =
+    IsAnswerable scopes on asked → NoFault asked input input' before after
+    → (by ≡ replied_to asked) ⊎ ((by ≡ served.NoMemory) ⊎ ((by ≡ served.Closed closing.NotFound) × IsFoundOnly scopes asked))
 
 -- one connection: what was read of the input, no further than it was needed, and what came of it
-pub record Serves (settings : Databases DbConf) (moment : ℕ) (on : Role) (input input' : StreamAt) (before after : Side) (by : Served) : Type 0 where
+pub record Serves (settings : Databases DbConf) (scopes : Scopes) (moment : ℕ) (on : Role) (input input' : StreamAt) (before after : Side) (by : Served) : Type 0 where
   pub front : List ℕ
   pub moved : Moves input.bytes input'.bytes front
   pub needed : IsNeeded front
   pub counted : CountsInput by input.faults input'.faults
-  pub ends : Ends settings moment on (request_of front) input'.bytes before after by
-  pub complete : Completes on (request_of front) input input' before after by
+  pub ends : Ends settings scopes moment on (request_of front) input'.bytes before after by
+  pub complete : Completes scopes on (request_of front) input input' before after by

@@ -12,12 +12,13 @@ use Rattle.nsc_model.specs.History.{IsPrefix}
 use Rattle.nsc_model.specs.Stores.{FoundLastCycle}
 
 -- at one moment: what a pass has seen, the counts of its faults, in all and of each file, how often it has begun a search, the CYCLE
--- that it loaded last, and how many words the table has that it has come to
+-- that its latest search loaded first, and the one that it loaded last, and how many words the table has that it has come to
 pub record PassAt : Type 0 where
   pub seen : List Record
   pub faults : ℕ
   pub file_faults : FileId → ℕ
   pub searches : ℕ
+  pub first : ℕ
   pub last : ℕ
   pub words : ℕ
 
@@ -45,7 +46,7 @@ settings_of g stores = record { passwd = g.settings stores.passwd; group = g.set
 
 -- a pass as it stands, and each of them
 abbrev pub pass_at : {S P : Type 0} → store.Ghosts S P → P → PassAt
-pass_at g pass = record { seen = g.seen pass; faults = g.faults pass; file_faults = g.file_faults pass; searches = g.searches pass; last = g.last pass; words = g.words pass }
+pass_at g pass = record { seen = g.seen pass; faults = g.faults pass; file_faults = g.file_faults pass; searches = g.searches pass; first = g.first pass; last = g.last pass; words = g.words pass }
 
 abbrev pub passes_at : {S P : Type 0} → store.Ghosts S P → Databases P → Databases PassAt
 passes_at g passes = record { passwd = pass_at g passes.passwd; group = pass_at g passes.group; hosts = pass_at g passes.hosts; services = pass_at g passes.services }

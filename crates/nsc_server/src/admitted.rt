@@ -1,7 +1,10 @@
-ghost use Rattle.std.specs.Prelude.{◌≡◌, IfErr, IfOk, None};
+ghost use Rattle.std.specs.Prelude.{◌≡◌, IfErr, IfOk, None, false, true};
+ghost use Rattle.nsc_model.specs.Kinds.{database_of};
 ghost use Rattle.nsc_server.specs.Admitted.{IsAdmitted, IsNotAdmitted};
 ghost use Rattle.nsc_server.specs.Requests.{denial_on};
+ghost use Rattle.nsc_server.specs.Scopes.{is_left, scope_in};
 
+use crate::scope::Scopes;
 use crate::served::{Closing, Served};
 use nsc_base::Span;
 use nsc_model::Kind;
@@ -21,13 +24,13 @@ pub(crate) enum Admitted {
     ShutDown,
 }
 
-// Whether what was read may be asked on a socket of this role, and has a reply.
-pub(crate) fn admit(wire: Wire, role: Role) -> Result<Admitted, Served>
-    ensures admitted { IfOk result (IsAdmitted role wire) }
-    ensures refused { IfErr result (IsNotAdmitted role wire) }
+// Whether what was read may be asked on a socket of this role, and has a reply. A lookup may be left to who asks.
+pub(crate) fn admit(wire: Wire, role: Role, scopes: Scopes) -> Result<Admitted, Served>
+    ensures admitted { IfOk result (IsAdmitted scopes role wire) }
+    ensures refused { IfErr result (IsNotAdmitted scopes role wire) }
 {
     match wire {
-        Wire::Request { kind, key } => Ok(Admitted::Look { kind, key }),
+        Wire::Request { kind, key } => looking(scopes, kind, key),
         Wire::Invalidate { key } => controlling(role, Admitted::Invalidate { key }),
         Wire::Stat => controlling(role, Admitted::Stat),
         Wire::Shutdown => controlling(role, Admitted::ShutDown),
@@ -40,7 +43,19 @@ pub(crate) fn admit(wire: Wire, role: Role) -> Result<Admitted, Served>
     }
 }
 
-// The same of a request that controls the daemon: the admin socket alone takes it.
+// Whether a lookup is answered, and not left to who asks.
+fn looking(scopes: Scopes, kind: Kind, key: Span) -> Result<Admitted, Served>
+    ensures admitted { IfOk result (λ it. (it ≡ Admitted.Look kind key) × (is_left (scope_in scopes (database_of kind)) kind ≡ false)) }
+    ensures refused { IfErr result (λ served. (served ≡ Served.Closed Closing.Left) × (is_left (scope_in scopes (database_of kind)) kind ≡ true)) }
+{
+    if scopes.leaves(kind) {
+        Err(Served::Closed(Closing::Left))
+    } else {
+        Ok(Admitted::Look { kind, key })
+    }
+}
+
+// As `looking`, of a request that controls the daemon: the admin socket alone takes it.
 fn controlling(role: Role, admitted: Admitted) -> Result<Admitted, Served>
     ensures admitted { IfOk result (λ it. (it ≡ admitted) × (denial_on role ≡ None)) }
     ensures refused { IfErr result (λ served. (served ≡ Served.Closed Closing.RoleDenied) × (denial_on role ≡ Some Closing.RoleDenied)) }

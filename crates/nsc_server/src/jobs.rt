@@ -3,6 +3,7 @@ ghost use Rattle.nsc_server.specs.Jobs.{IsServable, given_after};
 ghost use Rattle.nsc_server.specs.Passes.{AreNamed, ArePasses, SawMore, passes_at};
 
 use crate::request_buffer::RequestBuffer;
+use crate::scope::Scopes;
 use crate::serve::serve_one;
 use nsc_model::{Databases, Store, next_count};
 use nsc_outside::{Sink, Source};
@@ -51,6 +52,7 @@ pub fn work<RT: AllocGlobal + Wait + Clock, J: Jobs, S: Store>(
     rt: &RT,
     jobs: &mut J,
     stores: &Databases<S>,
+    scopes: Scopes,
     passes: &mut Databases<S::Pass>,
     buffer: &mut RequestBuffer,
 ) -> u64
@@ -70,6 +72,7 @@ pub fn work<RT: AllocGlobal + Wait + Clock, J: Jobs, S: Store>(
         serve_one(
             rt,
             stores,
+            scopes,
             passes,
             buffer,
             &mut job.input,

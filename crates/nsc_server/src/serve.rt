@@ -1,4 +1,5 @@
-ghost use Rattle.std.specs.Prelude.{◌≡◌, ◌^◌, ◌<◌, ◌≤◌, length, IfErr, IfOk};
+ghost use Rattle.std.specs.Prelude.{◌≡◌, ◌^◌, ◌<◌, ◌≤◌, ℕ, List, length, IfErr, IfOk};
+ghost use Rattle.std.specs.Bool.{OnFalse, OnTrue};
 ghost use Rattle.nsc_outside.specs.StreamAt.{stream_in, stream_out};
 ghost use Rattle.nsc_model.specs.Databases.{database_in};
 ghost use Rattle.nsc_model.specs.Entry.{key_limit};
@@ -10,24 +11,28 @@ ghost use Rattle.nsc_server.specs.Made.{bytes_of};
 ghost use Rattle.nsc_server.specs.Outcomes.{Answers, IsInvalidateRefusal, IsInvalidateReply, IsLookFault, IsLookReply, IsRefusal, IsReply, IsStatReply, OthersStay, Serves, WritesReply, side};
 ghost use Rattle.nsc_server.specs.Passes.{AreNamed, ArePasses, OthersThan, SawMore, passes_at, settings_of};
 ghost use Rattle.nsc_server.specs.Requests.{TakesRequests};
+ghost use Rattle.nsc_server.specs.Scopes.{IsKeptBack, is_absent};
 
 use crate::admitted::{Admitted, admit};
 use crate::counts::all_stats;
 use crate::made::{Made, empty, look_up, reply_bytes};
 use crate::request_buffer::RequestBuffer;
-use crate::served::Served;
+use crate::scope::{Scope, Scopes};
+use crate::served::{Closing, Served};
 use crate::statistics::stat_text;
+use nsc_base::u32_at;
 use nsc_model::{Databases, Db, Kind, Store};
 use nsc_outside::{Sink, Source, write_all};
 use nsc_sockets::Role;
 use std::sync::Wait;
 
 /// Serves one connection that came on a socket of this role, at this moment, in seconds: reads one request, no further than it
-/// is needed, and writes the reply. The role is Plain or Admin. At each outcome but `Replied`, `ShutDown` and `WriteFault`
-/// nothing was written.
+/// is needed, and writes the reply. The role is Plain or Admin. A lookup may be left to who asks, and a reply that says that there is no
+/// such entry kept back, as the scope of its database says. At each outcome but `Replied`, `ShutDown` and `WriteFault` nothing was written.
 pub fn serve_one<RT: AllocGlobal + Wait, S: Store, R: Source, K: Sink>(
     rt: &RT,
     stores: &Databases<S>,
+    scopes: Scopes,
     passes: &mut Databases<S::Pass>,
     buffer: &mut RequestBuffer,
     conn_in: &mut R,
@@ -41,22 +46,32 @@ pub fn serve_one<RT: AllocGlobal + Wait, S: Store, R: Source, K: Sink>(
     requires moment { now < 2 ^ 62 }
     ensures passes { ArePasses S.Store stores.now passes.new }
     ensures before { SawMore (passes_at S.Store passes.old) (passes_at S.Store passes.new) }
-    ensures served { Serves (settings_of S.Store stores.now) now role (stream_in R.Source conn_in.old) (stream_in R.Source conn_in.new) (side S.Store K.Sink passes.old conn_out.old) (side S.Store K.Sink passes.new conn_out.new) result }
+    ensures served { Serves (settings_of S.Store stores.now) scopes now role (stream_in R.Source conn_in.old) (stream_in R.Source conn_in.new) (side S.Store K.Sink passes.old conn_out.old) (side S.Store K.Sink passes.new conn_out.new) result }
 {
     let wire = match buffer.read(conn_in) {
         Ok(wire) => wire,
         Err(_) => return Served::ReadFault,
     };
-    match admit(wire, role) {
-        Ok(admitted) => answer(rt, stores, passes, buffer.bytes(), &admitted, conn_out, now),
+    match admit(wire, role, scopes) {
+        Ok(admitted) => answer(
+            rt,
+            stores,
+            scopes,
+            passes,
+            buffer.bytes(),
+            &admitted,
+            conn_out,
+            now,
+        ),
         Err(refused) => refused,
     }
 }
 
-// Answers an admitted request.
+// Answers an admitted request, unless the reply is kept back.
 fn answer<RT: AllocGlobal + Wait, S: Store, K: Sink>(
     rt: &RT,
     stores: &Databases<S>,
+    scopes: Scopes,
     passes: &mut Databases<S::Pass>,
     bytes: &[u8],
     admitted: &Admitted,
@@ -71,12 +86,35 @@ fn answer<RT: AllocGlobal + Wait, S: Store, K: Sink>(
     ensures passes { ArePasses S.Store stores.now passes.new }
     ensures before { SawMore (passes_at S.Store passes.old) (passes_at S.Store passes.new) }
     ensures others { OthersStay (asked_by bytes.now (wire_of admitted.now)) (passes_at S.Store passes.old) (passes_at S.Store passes.new) }
-    ensures answers { Answers (settings_of S.Store stores.now) now (asked_by bytes.now (wire_of admitted.now)) (side S.Store K.Sink passes.old conn_out.old) (side S.Store K.Sink passes.new conn_out.new) result }
+    ensures answers { Answers (settings_of S.Store stores.now) scopes now (asked_by bytes.now (wire_of admitted.now)) (side S.Store K.Sink passes.old conn_out.old) (side S.Store K.Sink passes.new conn_out.new) result }
 {
     match make(rt, stores, passes, bytes, admitted, now) {
+        Ok(made) if keeps_back(scopes, admitted, made.as_slice()) => {
+            Served::Closed(Closing::NotFound)
+        }
         Ok(made) => reply(conn_out, made.as_slice(), admitted.replied()),
         Err(served) => served,
     }
+}
+
+// Whether a reply to an admitted request is kept back.
+fn keeps_back(scopes: Scopes, admitted: &Admitted, reply: &[u8]) -> bool
+    ensures kept { OnTrue result ((bytes : List ℕ) → IsKeptBack scopes (asked_by bytes (wire_of admitted.now)) reply.now) }
+    ensures told { OnFalse result ((bytes : List ℕ) → IsKeptBack scopes (asked_by bytes (wire_of admitted.now)) reply.now → ⊥) }
+{
+    match admitted {
+        Admitted::Look { kind, .. } => {
+            scopes.of(Db::of(*kind)) == Scope::FoundOnly && is_absent(reply)
+        }
+        Admitted::Invalidate { .. } | Admitted::Stat | Admitted::ShutDown => false,
+    }
+}
+
+// Whether a reply says that there is no such entry: its second field is 0.
+pub(crate) fn is_absent(reply: &[u8]) -> bool
+    ensures { result ≡ is_absent reply.now }
+{
+    reply.len() >= 8 && u32_at(reply, 4) == 0
 }
 
 // Writes a reply, whose outcome is this one.

@@ -8,7 +8,7 @@ pub enum Served {
     Replied,
     /// The whole reply to SHUTDOWN was written.
     ShutDown,
-    /// The request was refused, and nothing was written.
+    /// The connection is closed without a reply, and nothing was written.
     Closed(Closing),
     /// The input ended before the request did, and nothing was written.
     Ended {
@@ -40,7 +40,7 @@ pub enum Served {
     NoMemory,
 }
 
-/// Why a request was refused.
+/// Why a connection is closed without a reply.
 #[derive(Clone, Copy, Debug, PartialEq, Eq)]
 pub enum Closing {
     /// It is of another version than 2.
@@ -53,6 +53,10 @@ pub enum Closing {
     Descriptor,
     /// It asks of the netgroups, which are not cached.
     Netgroup,
+    /// Its database is left; or only found entries are told of it, and further services may be asked though one is found.
+    Left,
+    /// No entry was found, and only found ones are told of its database.
+    NotFound,
     /// It controls the daemon, and came on a socket where only lookups may be asked.
     RoleDenied,
 }
