@@ -10,6 +10,7 @@ use Rattle.nsc_outside.specs.declared.files.FileSet as file_set
 use Rattle.nsc_sourcebook.specs.Reads.{NotFetched}
 use Rattle.nsc_sourcebook.specs.declared.fault.PollFault.{PollFault}
 use Rattle.nsc_sourcebook.specs.declared.fault.PollFault.TheVariants as poll
+use Rattle.nsc_server.specs.declared.scope.Scopes.{Scopes}
 use Rattle.nsc_server.specs.Requests.{closing_of}
 use Rattle.nsc_server.proofs.Reading.{shutdown_stays}
 use Rattle.nsc_sockets.specs.Connections.{Connection, Gives}
@@ -19,9 +20,9 @@ use Rattle.nsc_sockets.specs.declared.role.Role.{Role}
 use Rattle.nsc_sockets.specs.declared.role.Role.TheVariants as role
 use Rattle.nsc_daemon.specs.Ends.{AsksEnd, DaemonAt, EndsSo, GivesMore, IsOpeningFault, IsReady, IsToldEnd, LastTellsEnd, StopsSo, TellsEnd, TellsFileLength, TellsHeldLength, opening_exit}
 
-pub told_end : (on : Role) (left left' : Option (List ℕ)) (front : List ℕ) → Moves left left' front → closing_of on (request_of front) ≡ None → request_of front ≡ Shutdown → TellsEnd on left
-told_end on left left' front moved free asked = record { admin = by_role on (subst (λ (a : Asked). closing_of on a ≡ None) asked free); asked = by_left left moved } where
-  by_role : (r : Role) → closing_of r Shutdown ≡ None → r ≡ role.Admin
+pub told_end : (scopes : Scopes) (on : Role) (left left' : Option (List ℕ)) (front : List ℕ) → Moves left left' front → closing_of scopes on (request_of front) ≡ None → request_of front ≡ Shutdown → TellsEnd on left
+told_end scopes on left left' front moved free asked = record { admin = by_role on (subst (λ (a : Asked). closing_of scopes on a ≡ None) asked free); asked = by_left left moved } where
+  by_role : (r : Role) → closing_of scopes r Shutdown ≡ None → r ≡ role.Admin
   by_role role.Plain e = absurd cc
   by_role role.Admin e = refl
   by_role role.Gate e = absurd cc

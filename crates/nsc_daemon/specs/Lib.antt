@@ -1,3 +1,4 @@
 pub mod Workers
+pub mod FastPath
 pub mod Ends
 pub mod Images

@@ -1,4 +1,4 @@
-// The thread that accepts connections, serves those of the admin socket, and ticks.
+// The thread that accepts connections, answers lookups in place, and serves the admin socket.
 ghost use Rattle.std.specs.Prelude.{◌≡◌, ◌<◌, ◌^◌, IfSome};
 ghost use Rattle.std.specs.Bool.{OnFalse, OnTrue};
 ghost use Rattle.nsc_model.specs.Exits.{IsExitOf, Serving};
@@ -6,11 +6,13 @@ ghost use Rattle.nsc_server.specs.Requests.{TakesRequests};
 ghost use Rattle.nsc_daemon.specs.Ends.{IsToldEnd, StopsSo, TellsEnd};
 ghost use Rattle.nsc_daemon.specs.Workers.{TicksSo};
 
+use crate::fast_path::{FastPath, note_hits};
 use crate::gate::{Gatekeeper, ServesGate};
 use crate::intake::{Waiting, Waitings, Way};
-use nsc_model::{Databases, Exit, Store};
+use crate::ticker::{Ticker, tick_all};
+use nsc_model::{Databases, Db, Exit, Store};
 use nsc_outside::{Sink, Source};
-use nsc_server::{RequestBuffer, Served, serve_one};
+use nsc_server::{RequestBuffer, Scopes, Served, ServedInPlace, serve_one};
 use nsc_sockets::{Accepted, Clock, Listener, Role};
 use std::alloc::Global;
 use std::marker::Model;
@@ -47,14 +49,18 @@ pub fn accept_all<RT: AllocGlobal + Wait + time::Clock, S: Store + Drop, C: Cloc
     unreachable!()
 }
 
-/// What the thread that accepts has: its passes and its buffer, the moment of the last tick, in seconds, or of the start, and the
-/// connections that wait for workers, where there are workers. Where there is a gate, who serves it where there are none.
+/// Holds what the thread that accepts has. `ticked` is the moment at which a tick was last due, in seconds, or that of the start.
+/// `waitings` has the connections that wait for workers, if there are workers. `ticker` is the thread that ticks, if there is one.
+/// `gate` serves the gate, if there is one, without workers.
 #[derive(Drop)]
 pub struct Acceptor<S: Store + Drop, R: Source + Drop, K: Sink + Drop> {
     pub stores: Arc<Databases<S>, Global>,
+    pub scopes: Scopes,
     pub passes: Databases<S::Pass>,
     pub buffer: RequestBuffer,
     pub gate: Option<Gatekeeper<S>>,
+    pub fast: FastPath,
+    pub ticker: Option<Ticker>,
     pub ticked: u64,
     pub waitings: Option<Waitings<R, K>>,
 }
@@ -101,8 +107,8 @@ impl<S: Store + Drop, R: Source + Drop, K: Sink + Drop> Acceptor<S, R, K> {
         false
     }
 
-    // Gives a connection to the workers, or serves it where it came on the admin socket or there are none. Whether it told the
-    // daemon to end.
+    // Serves a connection of the admin socket, or a lookup in place, and leaves all else to the workers. Whether it told the daemon to
+    // end.
     fn dispatch<RT: AllocGlobal + Wait + time::Clock>(
         &mut self,
         rt: &RT,
@@ -115,11 +121,79 @@ impl<S: Store + Drop, R: Source + Drop, K: Sink + Drop> Acceptor<S, R, K> {
         ensures told { OnTrue result (TellsEnd role (R.left input)) }
         ensures stays { self.new.ticked ≡ self.old.ticked }
     {
-        let way = match role {
-            Role::Admin => return self.serve(rt, role, input, output, now),
-            Role::Plain => Way::Plain,
-            Role::Gate => Way::Gate,
-        };
+        match role {
+            Role::Admin => {
+                self.give_hits(rt);
+                self.serve(rt, role, input, output, now)
+            }
+            Role::Plain => {
+                self.serve_plain(rt, input, output, now);
+                false
+            }
+            Role::Gate => {
+                self.pass_on(rt, Way::Gate, input, output, now);
+                false
+            }
+        }
+    }
+
+    // Answers a lookup in place, or gives the connection to the workers. A pass that is stale then tries to catch up.
+    fn serve_plain<RT: AllocGlobal + Wait + time::Clock>(
+        &mut self,
+        rt: &RT,
+        input: R,
+        mut output: K,
+        now: u64,
+    )
+        requires { now < 2 ^ 62 }
+        ensures { self.new.ticked ≡ self.old.ticked }
+    {
+        match self.serve_fast(&input, &mut output) {
+            ServedInPlace::Found { .. } | ServedInPlace::Broken => {}
+            ServedInPlace::Not { stale } => {
+                self.pass_on(rt, Way::Plain, input, output, now);
+                self.catch_up(rt, stale);
+            }
+        }
+    }
+
+    // Tells the databases of the hits that they were not told of.
+    fn give_hits<RT: Wait>(&mut self, rt: &RT)
+        ensures { self.new.ticked ≡ self.old.ticked }
+    {
+        let hits = self.fast.take_hits();
+        note_hits(rt, &self.stores, &hits);
+    }
+
+    // Answers a lookup in place, if that can be.
+    fn serve_fast(&mut self, input: &R, output: &mut K) -> ServedInPlace
+        ensures { self.new.ticked ≡ self.old.ticked }
+    {
+        self.fast
+            .serve(&self.stores, self.scopes, &mut self.passes, input, output)
+    }
+
+    // Has the pass of a stale database go on to its present table.
+    fn catch_up<RT: time::Clock>(&mut self, rt: &RT, stale: Option<Db>)
+        ensures { self.new.ticked ≡ self.old.ticked }
+    {
+        if let Some(db) = stale {
+            self.fast.catch_up(rt, &self.stores, &mut self.passes, db);
+        }
+    }
+
+    // Gives a connection to the workers, or serves it if there are none.
+    fn pass_on<RT: AllocGlobal + Wait + time::Clock>(
+        &mut self,
+        rt: &RT,
+        way: Way,
+        input: R,
+        output: K,
+        now: u64,
+    )
+        requires { now < 2 ^ 62 }
+        ensures { self.new.ticked ≡ self.old.ticked }
+    {
         match &self.waitings {
             Some(waitings) => {
                 let waiting = Waiting {
@@ -130,13 +204,12 @@ impl<S: Store + Drop, R: Source + Drop, K: Sink + Drop> Acceptor<S, R, K> {
                 };
                 // Where there is no memory for it, it is closed.
                 let _ = waitings.put(rt, waiting);
-                false
             }
-            None if way == Way::Plain => self.serve(rt, role, input, output, now),
-            None => {
-                self.serve_gate(rt, input, output, now);
-                false
+            None if way == Way::Plain => {
+                // Whatever came of it, nobody is left to tell.
+                let _ = self.serve(rt, Role::Plain, input, output, now);
             }
+            None => self.serve_gate(rt, input, output, now),
         }
     }
 
@@ -167,6 +240,7 @@ impl<S: Store + Drop, R: Source + Drop, K: Sink + Drop> Acceptor<S, R, K> {
         let served = serve_one(
             rt,
             &self.stores,
+            self.scopes,
             &mut self.passes,
             &mut self.buffer,
             &mut input,
@@ -177,7 +251,7 @@ impl<S: Store + Drop, R: Source + Drop, K: Sink + Drop> Acceptor<S, R, K> {
         matches!(served, Served::ShutDown)
     }
 
-    // Ticks the databases where the last tick, or the start, is long enough ago. A fault of a tick is passed over.
+    // Ticks the databases if fifteen seconds have passed, or orders that of the thread that ticks.
     fn tick<RT: AllocGlobal + Wait>(&mut self, rt: &RT, now: u64)
         requires { now < 2 ^ 62 }
         ensures { TicksSo self.old.ticked now self.new.ticked }
@@ -186,21 +260,12 @@ impl<S: Store + Drop, R: Source + Drop, K: Sink + Drop> Acceptor<S, R, K> {
             return;
         }
         self.ticked = now;
-        let _ = self
-            .stores
-            .passwd
-            .tick(rt, rt.alloc(), &mut self.passes.passwd, now);
-        let _ = self
-            .stores
-            .group
-            .tick(rt, rt.alloc(), &mut self.passes.group, now);
-        let _ = self
-            .stores
-            .hosts
-            .tick(rt, rt.alloc(), &mut self.passes.hosts, now);
-        let _ = self
-            .stores
-            .services
-            .tick(rt, rt.alloc(), &mut self.passes.services, now);
+        match &self.ticker {
+            Some(ticker) => ticker.order(rt, now, &mut self.fast),
+            None => {
+                self.give_hits(rt);
+                tick_all(rt, &self.stores, &mut self.passes, now);
+            }
+        }
     }
 }

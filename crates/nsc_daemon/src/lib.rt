@@ -2,13 +2,16 @@
 #![tactic(auto)]
 
 mod acceptor;
+mod fast_path;
 mod gate;
 mod images;
 mod intake;
+mod latch;
 mod means;
 mod opening;
 mod service;
 mod terms;
+mod ticker;
 mod worker;
 
 pub use opening::Openings;

@@ -3,17 +3,62 @@ ghost use Rattle.std.specs.Arc.{arc_value};
 ghost use Rattle.std.specs.String.{string_bytes};
 ghost use Rattle.nsc_server.specs.Passes.{AreNamed};
 
+use crate::fast_path::FastPath;
 use crate::gate::Gatekeeper;
 use crate::intake::Waitings;
+use crate::latch::Latch;
 use crate::terms::Terms;
+use crate::ticker::Ticker;
 use nsc_base::NoMemory;
 use nsc_jobs::JobList;
 use nsc_model::{Databases, Store};
 use nsc_server::RequestBuffer;
+use nsc_sockets::Listener;
 use std::alloc::Global;
+use std::fs::File;
+use std::rt::Files;
 use std::sync::{Arc, Wait};
 use std::thread;
 use std::thread::Threads;
+use std::time::Clock;
+
+/// Tells how a daemon serves, as its listener has it.
+#[derive(Clone, Copy, Debug)]
+pub struct Manner {
+    /// How many connections may wait for a worker.
+    pub most: usize,
+    /// Whether a thread of its own ticks.
+    pub ticks_apart: bool,
+}
+
+/// Prepares the listener, and makes the threads that close connections. Where there are such, ticks have a thread too.
+pub fn prepare<RT, N: Listener>(rt: &RT, workers: u32, net: &mut N) -> Result<Manner, NoMemory>
+where
+    RT: AllocGlobal
+        + Files<File = File>
+        + Threads
+        + Wait
+        + Clock
+        + Clone
+        + Drop
+        + Send
+        + Sync
+        + 'static,
+    RT::Dir: Send + 'static,
+    N::Departure: 'static,
+    ensures given { N.given net.new ≡ N.given net.old }
+    ensures bound { N.bound net.new ≡ N.bound net.old }
+    ensures faults { N.faults net.new ≡ N.faults net.old }
+{
+    let prepared = net.prepare(workers)?;
+    if let Some(crew) = &prepared.crew {
+        crew.start(rt)?;
+    }
+    Ok(Manner {
+        most: prepared.most,
+        ticks_apart: prepared.crew.is_some(),
+    })
+}
 
 /// What a daemon has before its sockets are bound.
 #[derive(Drop)]
@@ -22,8 +67,14 @@ pub struct Means<S: Store + Drop, R: Drop, K: Drop> {
     pub stores: Arc<Databases<S>, Global>,
     /// The room for requests of the thread that accepts.
     pub buffer: RequestBuffer,
+    /// What answers lookups in place.
+    pub fast: FastPath,
+    /// The thread that ticks, if the thread that accepts does not.
+    pub ticker: Option<Ticker>,
     /// The connections that wait for a worker.
     pub list: Waitings<R, K>,
+    /// Counts the workers that have not ended.
+    pub latch: Arc<Latch>,
     /// Who serves the gate where there is one and no worker.
     pub gate: Option<Gatekeeper<S>>,
     /// The path of the socket of every user.
@@ -33,13 +84,17 @@ pub struct Means<S: Store + Drop, R: Drop, K: Drop> {
 }
 
 impl<S: Store + Drop, R: Drop, K: Drop> Means<S, R, K> {
-    /// What it takes to serve under these terms, where so many connections may wait for a worker. Fails only for want of memory.
-    pub fn new<RT: AllocGlobal + Threads + Wait>(
+    /// Makes what it takes to serve under these terms and in this manner. Fails only for want of memory, or of a thread.
+    pub fn new<RT>(
         rt: &RT,
         terms: &Terms<'_>,
-        most: usize,
+        manner: Manner,
         stores: Databases<S>,
     ) -> Result<Means<S, R, K>, NoMemory>
+    where
+        RT: AllocGlobal + Threads + Wait + Clock + Clone + Drop + Send + Sync + 'static,
+        S: Send + Sync + 'static,
+        S::Pass: Send + 'static,
         requires { AreNamed S.Store stores }
         ensures stores { IfOk result (λ means. arc_value means.stores ≡ stores) }
         ensures plain { IfOk result (λ means. string_bytes means.plain ≡ terms.now.run_dir.now ++ codes "/socket") }
@@ -47,14 +102,24 @@ impl<S: Store + Drop, R: Drop, K: Drop> Means<S, R, K> {
     {
         let alloc = rt.alloc();
         let buffer = RequestBuffer::new(alloc)?;
+        let fast = FastPath::new(alloc)?;
         let stores = Arc::new(alloc, stores)?;
-        let list = waitings(rt, most)?;
+        let list = waitings(rt, manner.most)?;
+        let latch = Arc::new(alloc, Latch::new())?;
         let (plain, admin) = socket_paths(alloc, terms.run_dir)?;
         let gate = gatekeeper(rt, terms, &stores)?;
+        let ticker = if manner.ticks_apart {
+            Some(Ticker::start(rt, &stores)?)
+        } else {
+            None
+        };
         Ok(Means {
             stores,
             buffer,
+            fast,
+            ticker,
             list,
+            latch,
             gate,
             plain,
             admin,

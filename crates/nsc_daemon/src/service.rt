@@ -12,7 +12,8 @@ ghost use Rattle.nsc_daemon.specs.Ends.{EndsSo, IsBound, StopsSo, TellsHeldLengt
 use crate::acceptor::{Acceptor, accept_all};
 use crate::images::save_all;
 use crate::intake::Waitings;
-use crate::means::Means;
+use crate::latch::Latch;
+use crate::means::{Manner, Means, prepare};
 use crate::opening::{Openings, opening_exit};
 use crate::terms::Terms;
 use crate::worker::Worker;
@@ -20,15 +21,20 @@ use nsc_database::Room;
 use nsc_model::{Databases, Exit, Store};
 use nsc_outside::{Failed, FileSet, ImageStore, Sink, Source, write_all};
 use nsc_sockets::{Clock, Listener, Role};
+use std::fs::File;
 use std::marker::Brand;
+use std::rt::Files;
 use std::sync::{Arc, Wait};
-use std::thread::{JoinHandle, Threads};
+use std::thread::Threads;
 use std::{thread, time};
+
+// How long an end waits for requests that have come, in seconds.
+const LAST_REQUESTS: u64 = 2;
 
 /// Runs the daemon: opens the four databases over these files, with the images in the folder of those that are cached and persistent,
 /// binds `socket` and `admin` in the folder, and the gate where there is to be one, tells the output that it is ready, and serves
-/// connections and ticks until one on the admin socket tells it to end. Once its workers are done it puts an image of each persistent
-/// database. A store of images that fails changes neither the service nor the exit.
+/// connections and ticks until one on the admin socket tells it to end. Once its workers are done, or two seconds have passed, it puts an
+/// image of each persistent database. A store of images that fails changes neither the service nor the exit.
 ///
 /// At `Ok` these sockets were bound, and no others, the line was written, the newest connection that the listener gave asked for the end,
 /// and of each persistent database an image was put, or that failed. `SourceFault` and `TooLong` come only where a file failed at the
@@ -36,7 +42,16 @@ use std::{thread, time};
 /// `WriteFault` where one on the output did, which may have taken a front of the line. At `NoMemory` nothing was written; or the line
 /// was, and an image could not be made.
 pub fn daemon<
-    RT: AllocGlobal + Threads + Wait + time::Clock + Clone + Drop + Send + Sync + 'static,
+    RT: AllocGlobal
+        + Files<File = File>
+        + Threads
+        + Wait
+        + time::Clock
+        + Clone
+        + Drop
+        + Send
+        + Sync
+        + 'static,
     K: Sink,
     F: FileSet + Send + Drop + 'static,
     C: Clock,
@@ -52,6 +67,8 @@ pub fn daemon<
     net: &mut N,
 ) -> Exit
 where
+    RT::Dir: Send + 'static,
+    N::Departure: 'static,
     N::In: 'static,
     N::Out: 'static,
     requires { SizesFit terms.now.conf.now }
@@ -77,7 +94,16 @@ where
 // Runs the daemon over its opened databases in a room.
 fn in_room<
     B: Room + Send + Sync + 'static,
-    RT: AllocGlobal + Threads + Wait + time::Clock + Clone + Drop + Send + Sync + 'static,
+    RT: AllocGlobal
+        + Files<File = File>
+        + Threads
+        + Wait
+        + time::Clock
+        + Clone
+        + Drop
+        + Send
+        + Sync
+        + 'static,
     K: Sink,
     F: FileSet + Send + Drop + 'static,
     C: Clock,
@@ -93,6 +119,8 @@ fn in_room<
     net: &mut N,
 ) -> Exit
 where
+    RT::Dir: Send + 'static,
+    N::Departure: 'static,
     N::In: 'static,
     N::Out: 'static,
     requires names { (openings.passwd.db ≡ db_is.Passwd) × (openings.group.db ≡ db_is.Group) × (openings.hosts.db ≡ db_is.Hosts) × (openings.services.db ≡ db_is.Services) }
@@ -112,7 +140,16 @@ where
 
 // Binds the sockets, tells that the daemon is ready, and serves. Afterwards no socket is left, also where the start failed.
 fn serve<
-    RT: AllocGlobal + Threads + Wait + time::Clock + Clone + Drop + Send + Sync + 'static,
+    RT: AllocGlobal
+        + Files<File = File>
+        + Threads
+        + Wait
+        + time::Clock
+        + Clone
+        + Drop
+        + Send
+        + Sync
+        + 'static,
     S: Store + Drop + Send + Sync + 'static,
     K: Sink,
     C: Clock,
@@ -129,6 +166,8 @@ fn serve<
     net: &mut N,
 ) -> Exit
 where
+    RT::Dir: Send + 'static,
+    N::Departure: 'static,
     S::Pass: Send + 'static,
     N::In: 'static,
     N::Out: 'static,
@@ -139,14 +178,19 @@ where
     ensures images { result ≡ Exit.Ok → PutsImages terms.now.conf.now (images_at I.ImageStore images.old) (images_at I.ImageStore images.new) }
     ensures bound { result ≡ Exit.Ok → IsBound (N.bound net.old) (N.bound net.new) (sockets_of terms.now.run_dir.now (option_map (λ p. p.now) terms.now.gate)) }
 {
-    let most = net.room_for(terms.workers);
-    let exit = serve_at_most(rt, terms, most, stores, passes, output, clock, images, net);
+    let manner = match prepare(rt, terms.workers, net) {
+        Ok(manner) => manner,
+        Err(_) => return Exit::NoMemory,
+    };
+    let exit = serve_in(
+        rt, terms, manner, stores, passes, output, clock, images, net,
+    );
     net.close();
     exit
 }
 
-// The same, where so many connections may wait for a worker.
-fn serve_at_most<
+// Serves in a manner.
+fn serve_in<
     RT: AllocGlobal + Threads + Wait + time::Clock + Clone + Drop + Send + Sync + 'static,
     S: Store + Drop + Send + Sync + 'static,
     K: Sink,
@@ -156,7 +200,7 @@ fn serve_at_most<
 >(
     rt: &RT,
     terms: &Terms<'_>,
-    most: usize,
+    manner: Manner,
     stores: Databases<S>,
     passes: Databases<S::Pass>,
     output: &mut K,
@@ -175,14 +219,17 @@ where
     ensures images { result ≡ Exit.Ok → PutsImages terms.now.conf.now (images_at I.ImageStore images.old) (images_at I.ImageStore images.new) }
     ensures bound { result ≡ Exit.Ok → IsBound (N.bound net.old) (N.bound net.new) (sockets_of terms.now.run_dir.now (option_map (λ p. p.now) terms.now.gate)) }
 {
-    let means = match Means::new(rt, terms, most, stores) {
+    let means = match Means::new(rt, terms, manner, stores) {
         Ok(means) => means,
         Err(_) => return Exit::NoMemory,
     };
     let Means {
         stores,
         buffer,
+        fast,
+        ticker,
         list,
+        latch,
         gate,
         plain,
         admin,
@@ -198,20 +245,20 @@ where
     let ticked = clock.now();
     let mut acceptor = Acceptor {
         stores,
+        scopes: terms.scopes,
         passes,
         buffer,
         gate,
+        fast,
+        ticker,
         ticked,
         waitings: None,
     };
-    let exit = run(rt, terms.workers, &mut acceptor, &list, clock, net);
+    let exit = run(rt, terms.workers, &mut acceptor, &list, &latch, clock, net);
     let Acceptor {
         stores,
         mut passes,
-        buffer: _,
-        gate: _,
-        ticked: _,
-        waitings: _,
+        ..
     } = acceptor;
     match save_all(rt, &stores, &mut passes, terms.conf, images) {
         Ok(()) => exit,
@@ -239,7 +286,7 @@ fn bind<N: Listener>(
     }
 }
 
-// Starts the workers, accepts, and joins them.
+// Starts the workers, accepts, and waits for the workers' end. One that a file holds is left, since the end of the process ends it.
 fn run<
     RT: AllocGlobal + Threads + Wait + time::Clock + Clone + Drop + Send + Sync + 'static,
     S: Store + Drop + Send + Sync + 'static,
@@ -250,6 +297,7 @@ fn run<
     workers: u32,
     acceptor: &mut Acceptor<S, N::In, N::Out>,
     list: &Waitings<N::In, N::Out>,
+    latch: &Arc<Latch>,
     clock: &mut C,
     net: &mut N,
 ) -> Exit
@@ -261,15 +309,16 @@ where
     ensures stops { StopsSo result (N.given net.old) (N.given net.new) (N.faults net.old) (N.faults net.new) }
     ensures bound { N.bound net.new ≡ N.bound net.old }
 {
-    let threads = started(rt, workers, acceptor, list);
-    net.set_workers(hand_over(acceptor, list, threads.len()));
+    let started = start_workers(rt, workers, acceptor, list, latch);
+    net.set_workers(hand_over(acceptor, list, started));
     let exit = accept_all(rt, acceptor, clock, net);
     // From now on nobody connects, and no peer that does not read keeps a worker from its end.
     net.close();
     list.close(rt);
-    for thread in threads {
-        thread.join(rt);
+    if let Some(ticker) = &acceptor.ticker {
+        ticker.close(rt);
     }
+    latch.wait(rt, time::Duration::from_secs(LAST_REQUESTS));
     exit
 }
 
@@ -293,8 +342,8 @@ fn hand_over<S: Store + Drop, R: Source + Drop, K: Sink + Drop>(
     }
 }
 
-// Starts as many workers as it can, up to this number.
-fn started<
+// Starts as many workers as it can, up to this number, and gives how many.
+fn start_workers<
     RT: AllocGlobal + Threads + Wait + time::Clock + Clone + Drop + Send + Sync + 'static,
     S: Store + Drop + Send + Sync + 'static,
     R: Source + Send + Drop + 'static,
@@ -304,25 +353,31 @@ fn started<
     workers: u32,
     acceptor: &Acceptor<S, R, K>,
     list: &Waitings<R, K>,
-) -> Vec<JoinHandle<u64>>
+    latch: &Arc<Latch>,
+) -> usize
 where
     S::Pass: Send + 'static,
 {
-    let mut threads = Vec::new(rt.alloc());
-    if threads.reserve(workers as usize).is_err() {
-        return threads;
-    }
+    let mut started = 0usize;
     for _ in 0..workers {
-        let Ok(worker) = Worker::new(rt, &acceptor.stores, list, acceptor.gate.is_some()) else {
+        let Ok(worker) = Worker::new(
+            rt,
+            &acceptor.stores,
+            acceptor.scopes,
+            list,
+            latch,
+            acceptor.gate.is_some(),
+        ) else {
             continue;
         };
         let Ok(theirs) = rt.clone() else {
             continue;
         };
-        if let Ok(thread) = thread::spawn(rt, move || worker.run(&theirs)) {
-            // There is room for it, so it is kept.
-            let _ = threads.push(thread);
+        latch.enter(rt);
+        match thread::spawn(rt, move || worker.run(&theirs)) {
+            Ok(_) => started = started.saturating_add(1),
+            Err(_) => latch.leave(rt),
         }
     }
-    threads
+    started
 }

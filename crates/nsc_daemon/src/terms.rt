@@ -1,4 +1,5 @@
 use nsc_model::Conf;
+use nsc_server::Scopes;
 
 /// What a daemon runs under.
 #[derive(Clone, Copy)]
@@ -11,4 +12,6 @@ pub struct Terms<'a> {
     pub run_dir: &'a str,
     /// The path of the gate, where there is to be one.
     pub gate: Option<&'a str>,
+    /// Which lookups of each database are answered. The gate answers all.
+    pub scopes: Scopes,
 }

@@ -4,10 +4,11 @@ ghost use Rattle.nsc_server.specs.Passes.{AreNamed, ArePasses};
 
 use crate::gate::Gatekeeper;
 use crate::intake::{Intake, Waitings};
+use crate::latch::Latch;
 use nsc_base::NoMemory;
 use nsc_model::{Databases, Store};
 use nsc_outside::{Sink, Source};
-use nsc_server::{RequestBuffer, work};
+use nsc_server::{RequestBuffer, Scopes, work};
 use std::alloc::Global;
 use std::marker::Model;
 use std::sync::{Arc, Wait};
@@ -17,9 +18,12 @@ use std::time::Clock;
 #[derive(Drop)]
 pub struct Worker<S: Store + Drop, R: Source + Drop, K: Sink + Drop> {
     pub stores: Arc<Databases<S>, Global>,
+    pub scopes: Scopes,
     pub passes: Databases<S::Pass>,
     pub buffer: RequestBuffer,
     pub intake: Intake<R, K, Gatekeeper<S>>,
+    /// Counts the workers that have not ended.
+    pub latch: Arc<Latch>,
 }
 
 impl<S: Store + Drop, R: Source + Drop, K: Sink + Drop> Model for Worker<S, R, K> {
@@ -39,7 +43,9 @@ impl<S: Store + Drop, R: Source + Drop, K: Sink + Drop> Worker<S, R, K> {
     pub fn new<RT: AllocGlobal + Wait>(
         rt: &RT,
         stores: &Arc<Databases<S>, Global>,
+        scopes: Scopes,
         list: &Waitings<R, K>,
+        latch: &Arc<Latch>,
         has_gate: bool,
     ) -> Result<Worker<S, R, K>, NoMemory>
         requires { AreNamed S.Store (arc_value stores.now) }
@@ -52,9 +58,11 @@ impl<S: Store + Drop, R: Source + Drop, K: Sink + Drop> Worker<S, R, K> {
             None
         };
         let list = Arc::try_clone(list)?;
+        let latch = Arc::try_clone(latch)?;
         let stores = Arc::try_clone(stores)?;
         Ok(Worker {
             stores,
+            scopes,
             passes,
             buffer,
             intake: Intake {
@@ -63,18 +71,22 @@ impl<S: Store + Drop, R: Source + Drop, K: Sink + Drop> Worker<S, R, K> {
                 taken: 0,
                 is_over: false,
             },
+            latch,
         })
     }
 
-    /// Serves connections until no more will come.
-    pub fn run<RT: AllocGlobal + Wait + Clock>(self, rt: &RT) -> u64 {
+    /// Serves connections until no more will come, and then says so.
+    pub fn run<RT: AllocGlobal + Wait + Clock>(self, rt: &RT) {
         let Worker {
             stores,
+            scopes,
             mut passes,
             mut buffer,
             mut intake,
+            latch,
         } = self;
-        work(rt, &mut intake, &stores, &mut passes, &mut buffer)
+        work(rt, &mut intake, &stores, scopes, &mut passes, &mut buffer);
+        latch.leave(rt);
     }
 }
 

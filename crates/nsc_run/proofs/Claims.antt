@@ -18,7 +18,7 @@ use Rattle.nsc_daemon.specs.Ends.{DaemonAt, EndsSo, IsReady, LastTellsEnd}
 use Rattle.nsc_workload.specs.Runs.{PutsText}
 use Rattle.nsc_workload.specs.Workload.{workload_of}
 use Rattle.nsc_run.specs.Commands.{ConfGives, Course, NotSet, RefusesForm, StreamsCalm, TellsAll, settings_by}
-use Rattle.nsc_run.specs.Forms.{Form, Replay, Ask, Workload, Daemon}
+use Rattle.nsc_run.specs.Forms.{DaemonOptions, Form, Replay, Ask, Workload, Daemon}
 use Rattle.nsc_run.specs.Runs.{Asks, DaemonCourse, IsAsked, IsDone, NeverFail, Outside, PutsBySettings, RunsByForm, TellsAnswered, TellsByForm, TellsServed, TellsWorked}
 use Rattle.nsc_run.proofs.Courses.{done_by}
 use Rattle.nsc_run.proofs.Ends.{tells}
@@ -96,11 +96,11 @@ work_tells text a b _ h calm = absurd h
 
 -- ---- the daemon
 
-served_done : (told : Option (Option (List ℕ))) (etc : Option (List ℕ)) (held : Option Content) (i j : ImagesAt) (a b : DaemonAt) (exit : Exit) → DaemonCourse told etc held i j a b exit → exit ≡ exits.Ok → IsReady a b × LastTellsEnd a.given b.given × PutsBySettings told i j
-served_done told etc held i j a b exit (inl h) e =
+served_done : (told : Option (Option (List ℕ))) (service : DaemonOptions) (held : Option Content) (i j : ImagesAt) (a b : DaemonAt) (exit : Exit) → DaemonCourse told service held i j a b exit → exit ≡ exits.Ok → IsReady a b × LastTellsEnd a.given b.given × PutsBySettings told i j
+served_done told service held i j a b exit (inl h) e =
     let ends = subst (λ (by : Exit). EndsSo by a b) e h.ends in
     (ends.0, ends.1, record { settings = h.settings; of_config = h.of_config; put = h.put e })
-served_done told etc held i j a b exit (inr h) e = absurd (subst (NotSet told a.source_faults b.source_faults) e h.0)
+served_done told service held i j a b exit (inr h) e = absurd (subst (NotSet told a.source_faults b.source_faults) e h.0)
 
 end_tells : (settings : Conf) (exit : Exit) (a b : DaemonAt) → EndsSo exit a b
     → (Rose a.source_faults b.source_faults → ⊥) → (Rose a.net_faults b.net_faults → ⊥) → (Rose a.output.faults b.output.faults → ⊥) → TellsServed (Ok settings) exit
@@ -116,11 +116,11 @@ no_memory_serves : (r : Result Conf ConfFault) → TellsServed r exits.NoMemory
 no_memory_serves (Ok settings) = inr refl
 no_memory_serves (Err fault) = inr refl
 
-served_tells : (told : Option (Option (List ℕ))) (etc : Option (List ℕ)) (held : Option Content) (i j : ImagesAt) (a b : DaemonAt) (exit : Exit) → DaemonCourse told etc held i j a b exit
+served_tells : (told : Option (Option (List ℕ))) (service : DaemonOptions) (held : Option Content) (i j : ImagesAt) (a b : DaemonAt) (exit : Exit) → DaemonCourse told service held i j a b exit
     → (Rose a.source_faults b.source_faults → ⊥) → (Rose a.net_faults b.net_faults → ⊥) → (Rose a.output.faults b.output.faults → ⊥) → IfSome told (λ text. TellsServed (settings_by text) exit)
-served_tells told etc held i j a b exit (inl h) sources net output =
+served_tells told service held i j a b exit (inl h) sources net output =
     gives_told told (Ok h.settings) (λ r. TellsServed r exit) h.of_config (end_tells h.settings exit a b h.ends sources net output)
-served_tells told etc held i j a b exit (inr h) sources net output =
+served_tells told service held i j a b exit (inr h) sources net output =
     unset_tells told a.source_faults b.source_faults TellsServed (λ fault. inl refl) no_memory_serves exit h.0 sources
 
 -- ---- a run

@@ -4,3 +4,5 @@ pub mod Courses
 pub mod Added
 pub mod Refusals
 pub mod Claims
+pub mod Names
+pub mod Scoped

@@ -11,8 +11,10 @@ use Rattle.clap.specs.declared.builder.action.ArgAction.TheVariants.{Set, SetTru
 use Rattle.clap.specs.declared.builder.value_parser.ValueParser.TheVariants.{NonEmptyString}
 use Rattle.nsc_base.specs.Decimal.{decimal_of}
 use Rattle.nsc_model.specs.Kinds.{db_named}
+use Rattle.nsc_server.specs.declared.scope.Scopes.{Scopes}
 use Rattle.nsc_control.specs.declared.ask.AdminAsk.{AdminAsk}
 use Rattle.nsc_control.specs.declared.ask.AdminAsk.TheVariants as ask
+use Rattle.nsc_run.specs.Lists.{scopes_of}
 
 -- ---- the options
 
@@ -42,14 +44,20 @@ errand_app = with_rule (with_rule (with_rule (with_rule (with_rule bare_app
     (valued (codes "workload"))
 
 -- and those that say how: `-f FILE`, `-F`, `-t NUMBER`, `--etc FOLDER`, `--run-dir FOLDER`, `--gate PATH`
-abbrev pub command_app : App
-command_app = with_rule (with_rule (with_rule (with_rule (with_rule (with_rule errand_app
+abbrev pub service_app : App
+service_app = with_rule (with_rule (with_rule (with_rule (with_rule (with_rule errand_app
     (lettered 102 (valued (codes "config-file"))))
     (lettered 70 (flag (codes "foreground"))))
     (lettered 116 (valued (codes "nthreads"))))
     (valued (codes "etc")))
     (valued (codes "run-dir")))
     (valued (codes "gate"))
+
+-- and those that name databases: `--found-only LIST`, `--leave LIST`
+abbrev pub command_app : App
+command_app = with_rule (with_rule service_app
+    (valued (codes "found-only")))
+    (valued (codes "leave"))
 
 -- the words as bytes
 abbrev pub texts : {Z : Type 0} → List (String Z) → List Text
@@ -72,6 +80,8 @@ pub record Options : Type 0 where
   pub etc : Option Text
   pub run_dir : Option Text
   pub gate : Option Text
+  pub found_only : Option Text
+  pub leave : Option Text
 
 abbrev pub has_flag : Text → List Row → Bool
 has_flag name rows = option_map_or (λ text. bytes_eq text (codes "true")) (first_of name rows) false
@@ -89,18 +99,21 @@ options_of rows = record {
   etc = first_of (codes "etc") rows;
   run_dir = first_of (codes "run-dir") rows;
   gate = first_of (codes "gate") rows;
+  found_only = first_of (codes "found-only") rows;
+  leave = first_of (codes "leave") rows;
 }
 
 -- ---- the forms
 
 -- how a daemon is to run: under which configuration file, with how many workers, over the files of which folder, where these are
--- said, with its sockets in which folder, and with a gate at which path, where one is said
+-- said, with its sockets in which folder, with a gate at which path, where one is said, and in which scopes
 pub record DaemonOptions : Type 0 where
   pub config : Option Text
   pub workers : Option ℕ
   pub etc : Option Text
   pub run_dir : Text
   pub gate : Option Text
+  pub scopes : Scopes
 
 -- what to do: to replay the input under a configuration file, where one is named; to ask something of the daemon whose sockets
 -- stand in a folder; to run the workload of a number by as many workers; or to be the daemon
@@ -129,7 +142,8 @@ workers_of (Some text) = option_map (λ n. Some n) (workers_in text)
 
 -- no option occurs that is the daemon's alone
 abbrev pub is_no_service : Options → Bool
-is_no_service o = not o.foreground && not (is_some o.threads) && not (is_some o.etc) && not (is_some o.gate)
+is_no_service o =
+    not o.foreground && not (is_some o.threads) && not (is_some o.etc) && not (is_some o.gate) && not (is_some o.found_only) && not (is_some o.leave)
 
 -- a replay may have a configuration file
 abbrev pub replay_form : Options → Option Form
@@ -142,13 +156,18 @@ ask_form asked o = if is_no_service o && not (is_some o.config) then Some (Ask a
 -- a workload has a number, 1 to 1,000, and may have a number of workers, 4 where none is said
 abbrev pub workload_form : Text → Options → Option Form
 workload_form text o =
-    if not o.foreground && not (is_some o.config) && not (is_some o.gate) && not (is_some o.etc) && not (is_some o.run_dir)
+    if not o.foreground && not (is_some o.config) && not (is_some o.gate) && not (is_some o.found_only) && not (is_some o.leave) && not (is_some o.etc)
+    && not (is_some o.run_dir)
     then option_and_then (λ number. option_map (λ workers. Workload number (unwrap_or workers 4)) (workers_of o.threads)) (number_below 1001 text)
     else None
 
 -- a daemon may have all that says how
+abbrev pub daemon_with : Options → Option ℕ → Scopes → Form
+daemon_with o workers scopes =
+    Daemon (record { config = o.config; workers = workers; etc = o.etc; run_dir = run_dir_of o.run_dir; gate = o.gate; scopes = scopes })
+
 abbrev pub daemon_form : Options → Option Form
-daemon_form o = option_map (λ workers. Daemon (record { config = o.config; workers = workers; etc = o.etc; run_dir = run_dir_of o.run_dir; gate = o.gate })) (workers_of o.threads)
+daemon_form o = option_and_then (λ workers. option_map (λ scopes. daemon_with o workers scopes) (scopes_of o.found_only o.leave)) (workers_of o.threads)
 
 -- At most one option says what to do, and where none does it is the daemon.
 abbrev pub form_by : Bool → Bool → Bool → Option Text → Option Text → Options → Option Form

@@ -1,5 +1,5 @@
 -- What the program claims of a run, by the form of its words.
-use Rattle.std.specs.Prelude.{◌≡◌, ℕ, ◌⊎◌, List, Option, Some, None, IfSome, Result, Ok, Err}
+use Rattle.std.specs.Prelude.{◌≡◌, ℕ, ◌⊎◌, Bool, false, ◌&&◌, not, is_some, List, Option, Some, None, IfSome, Result, Ok, Err}
 use Rattle.nsc_outside.specs.Stream.{Grows}
 use Rattle.nsc_outside.specs.StreamAt.{StreamAt, stream_in, stream_out}
 use Rattle.nsc_model.specs.Reads.{Rose}
@@ -21,6 +21,7 @@ use Rattle.nsc_daemon.specs.Images.{ImagesAt, PutsImages, images_at}
 use Rattle.nsc_daemon.specs.Ends.{DaemonAt, EndsSo, IsBound, IsReady, LastTellsEnd, TellsHeldLength, sockets_of}
 use Rattle.nsc_workload.specs.Runs.{PutsText}
 use Rattle.nsc_workload.specs.Workload.{workload_of}
+use Rattle.nsc_run.specs.Lists.{has_left}
 use Rattle.nsc_run.specs.Forms.{Ask, Daemon, DaemonOptions, Form, Replay, Workload}
 use Rattle.nsc_run.specs.Commands.{ConfGives, Course, IsReplayedBy, NotSet, StreamsCalm, TellsAll, TellsFault, conf_path, config_told, settings_by}
 
@@ -35,7 +36,7 @@ pub record Outside : Type 0 where
   pub peer : Option (List ℕ)
   pub net_faults : ℕ
 
-abbrev pub outside : {R K F S N I O : Type 0} → source.Ghosts R → sink.Ghosts K → files.Ghosts F → image_store.Ghosts S → listener.Ghosts N I O → R → K → F → S → N → Outside
+abbrev pub outside : {R K F S N I O D : Type 0} → source.Ghosts R → sink.Ghosts K → files.Ghosts F → image_store.Ghosts S → listener.Ghosts N I O D → R → K → F → S → N → Outside
 outside r k f s n input output set images net = record {
   streams = streams_at r k input output;
   held = f.held set;
@@ -120,19 +121,24 @@ TellsWorked exit = (exit ≡ exits.Ok) ⊎ (exit ≡ exits.NoMemory)
 
 -- ---- the daemon
 
--- settings were read, and a daemon ended so under them; where no folder is named, a length that is told is that of one of the files that
--- were held, where these are told; at Ok an image of each persistent database was put, or that failed
-pub record DaemonRan (told : Option (Option (List ℕ))) (etc : Option (List ℕ)) (held : Option Content) (images images' : ImagesAt) (before after : DaemonAt) (exit : Exit) : Type 0 where
+-- the files of a database are left: with a gate, which answers all, none are
+abbrev pub leaves_files : DaemonOptions → Bool
+leaves_files service = not (is_some service.gate) && has_left service.scopes
+
+-- settings were read, and a daemon ended so under them; where no folder is named and no file is left, a length that is told is that of one
+-- of the files that were held, where these are told; at Ok an image of each persistent database was put, or that failed
+pub record DaemonRan (told : Option (Option (List ℕ))) (service : DaemonOptions) (held : Option Content) (images images' : ImagesAt)
+    (before after : DaemonAt) (exit : Exit) : Type 0 where
   pub settings : Conf
   pub of_config : ConfGives told (Ok settings)
   pub ends : EndsSo exit before after
-  pub length : etc ≡ None → TellsHeldLength exit held
+  pub length : service.etc ≡ None → leaves_files service ≡ false → TellsHeldLength exit held
   pub put : exit ≡ exits.Ok → PutsImages settings images images'
 
 -- a daemon ended, or no settings were read and it did not begin
-abbrev pub DaemonCourse : Option (Option (List ℕ)) → Option (List ℕ) → Option Content → ImagesAt → ImagesAt → DaemonAt → DaemonAt → Exit → Type 0
-DaemonCourse told etc held images images' before after exit =
-    DaemonRan told etc held images images' before after exit
+abbrev pub DaemonCourse : Option (Option (List ℕ)) → DaemonOptions → Option Content → ImagesAt → ImagesAt → DaemonAt → DaemonAt → Exit → Type 0
+DaemonCourse told service held images images' before after exit =
+    DaemonRan told service held images images' before after exit
     ⊎ (NotSet told before.source_faults after.source_faults exit × (after ≡ record before { source_faults = after.source_faults }) × (images' ≡ images))
 
 -- the daemon was told to end, or why a line is refused, unless memory was wanting
@@ -168,7 +174,8 @@ RunsByForm i o (Some (Workload number workers)) before after exit =
     PutsText exit (workload_of number) before.streams.output after.streams.output
     × InputStays before after × FilesStay before after × NetStays before after × ImagesStay before after
 RunsByForm i o (Some (Daemon service)) before after exit =
-    DaemonCourse (daemon_told before service) service.etc before.held before.images after.images (daemon_outside before) (daemon_outside after) exit × InputStays before after
+    DaemonCourse (daemon_told before service) service before.held before.images after.images (daemon_outside before) (daemon_outside after) exit
+    × InputStays before after
 
 -- The command was done: the input was read to the end of its first E, and the output is that of the replay; or a daemon did what
 -- was asked; or the lines of the workload were written; or the daemon was ready, was told to end, and put the images that its settings

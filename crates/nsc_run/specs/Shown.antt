@@ -8,7 +8,14 @@ use Rattle.nsc_run.specs.declared.form.Form.TheVariants as form
 use Rattle.nsc_run.specs.declared.form.DaemonOptions as service
 
 abbrev pub service_shown : service.DaemonOptions → DaemonOptions
-service_shown s = record { config = option_map (λ p. p.now) s.config; workers = s.workers; etc = option_map (λ p. p.now) s.etc; run_dir = s.run_dir.now; gate = option_map (λ p. p.now) s.gate }
+service_shown s = record {
+  config = option_map (λ p. p.now) s.config;
+  workers = s.workers;
+  etc = option_map (λ p. p.now) s.etc;
+  run_dir = s.run_dir.now;
+  gate = option_map (λ p. p.now) s.gate;
+  scopes = s.scopes;
+}
 
 abbrev pub shown : given.Form → Form
 shown (form.Replay config) = forms.Replay (option_map (λ p. p.now) config)

@@ -15,6 +15,8 @@ use nsc_model::{Conf, Exit};
 use nsc_outside::{FileSet, ImageStore, Sink, Source};
 use nsc_sockets::{Clock, Listener};
 use nsc_workload::workload;
+use std::fs::File;
+use std::rt::Files;
 use std::sync::Wait;
 use std::thread::Threads;
 use std::time;
@@ -65,10 +67,22 @@ pub fn replay<RT: AllocGlobal, R: Source, K: Sink>(
 /// settings from the file of `-f`, or else from the nscd.conf beside nsswitch.conf. With `--gate PATH` it answers lines at a socket
 /// there, too. A persistent database begins with what its image in the folder of `--run-dir` brings back, and is put there at the end.
 ///
+/// `--found-only LIST` and `--leave LIST` name databases between commas: of the former it tells found entries alone, and the latter it
+/// leaves to who asks. Without a gate it does not look at the files of databases that it leaves.
+///
 /// Where the settings' file could not be read, the exit is `SourceFault`, where it is longer than a file may be, `TooLong`, and
 /// where it is no nscd.conf(5), `BadConf`. Then nothing is read of the input and nothing written.
 pub fn run<
-    RT: AllocGlobal + Threads + Wait + time::Clock + Clone + Drop + Send + Sync + 'static,
+    RT: AllocGlobal
+        + Files<File = File>
+        + Threads
+        + Wait
+        + time::Clock
+        + Clone
+        + Drop
+        + Send
+        + Sync
+        + 'static,
     R: Source,
     K: Sink,
     F: FileSet + Send + Drop + 'static,
@@ -86,6 +100,8 @@ pub fn run<
     net: &mut N,
 ) -> Exit
 where
+    RT::Dir: Send + 'static,
+    N::Departure: 'static,
     N::In: 'static,
     N::Out: 'static,
     // Usage tells that the words have no form.

@@ -3,10 +3,12 @@ ghost use Rattle.nsc_run.specs.Forms.{ask_form, daemon_form, form_with, has_flag
 ghost use Rattle.nsc_run.specs.Shown.{CanRun, shown};
 ghost use Rattle.clap.specs.Words.{first_of, found_of, rows_of};
 
+use crate::lists::scopes_of;
 use clap::ArgMatches;
 use nsc_base::decimal;
 use nsc_control::AdminAsk;
 use nsc_model::Db;
+use nsc_server::Scopes;
 use std::marker::Model;
 
 // The folder of the sockets where no other is named.
@@ -28,6 +30,8 @@ pub struct DaemonOptions<'a> {
     pub run_dir: &'a str,
     /// The path of the gate, where there is to be one.
     pub gate: Option<&'a str>,
+    /// Which lookups of each database are answered.
+    pub scopes: Scopes,
 }
 
 /// What the words ask for.
@@ -73,6 +77,8 @@ pub struct Options<'a> {
     etc: Option<&'a str>,
     run_dir: Option<&'a str>,
     gate: Option<&'a str>,
+    found_only: Option<&'a str>,
+    leave: Option<&'a str>,
 }
 
 impl<'a> Model for Options<'a> {
@@ -93,6 +99,8 @@ impl<'a> Model for Options<'a> {
       etc = option_map (λ p. p.now) o.etc;
       run_dir = option_map (λ p. p.now) o.run_dir;
       gate = option_map (λ p. p.now) o.gate;
+      found_only = option_map (λ p. p.now) o.found_only;
+      leave = option_map (λ p. p.now) o.leave;
     } };
 }
 
@@ -113,6 +121,8 @@ impl<'a> Options<'a> {
             etc: value(matches, "etc"),
             run_dir: value(matches, "run-dir"),
             gate: value(matches, "gate"),
+            found_only: value(matches, "found-only"),
+            leave: value(matches, "leave"),
         }
     }
 
@@ -174,7 +184,7 @@ impl<'a> Options<'a> {
         if self.foreground || self.config.is_some() {
             return None;
         }
-        if self.gate.is_some() {
+        if self.gate.is_some() || self.found_only.is_some() || self.leave.is_some() {
             return None;
         }
         if self.etc.is_some() || self.run_dir.is_some() {
@@ -199,6 +209,7 @@ impl<'a> Options<'a> {
                 etc: self.etc,
                 run_dir: self.run_dir(),
                 gate: self.gate,
+                scopes: scopes_of(self.found_only, self.leave)?,
             },
         })
     }
@@ -218,7 +229,12 @@ impl<'a> Options<'a> {
     fn is_no_service(&self) -> bool
         ensures { result ≡ is_no_service self.now }
     {
-        !self.foreground && self.threads.is_none() && self.etc.is_none() && self.gate.is_none()
+        !self.foreground
+            && self.threads.is_none()
+            && self.etc.is_none()
+            && self.gate.is_none()
+            && self.found_only.is_none()
+            && self.leave.is_none()
     }
 
     // The folder of the sockets.

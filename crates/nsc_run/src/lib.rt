@@ -5,6 +5,7 @@ mod actions;
 mod command;
 mod config;
 mod form;
+mod lists;
 mod words;
 
 pub use command::{replay, run};

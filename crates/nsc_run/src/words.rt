@@ -1,7 +1,7 @@
 ghost use Rattle.std.specs.Prelude.{◌≡◌, ◌⊎◌, IfOk, IfErr, Some, None, true, false};
 ghost use Rattle.clap.specs.Words.{app_of, found_of, kind_of, matches_of, rows_of, rule_of};
 ghost use Rattle.nsc_run.specs.Commands.{RefusesForm, RefusesWords};
-ghost use Rattle.nsc_run.specs.Forms.{command_app, errand_app, flag, form_of, is_command, lettered, texts, valued};
+ghost use Rattle.nsc_run.specs.Forms.{command_app, errand_app, flag, form_of, is_command, lettered, service_app, texts, valued};
 ghost use Rattle.nsc_run.specs.Shown.{CanRun, shown};
 ghost use Rattle.nsc_run.specs.Exits.{error_exit};
 
@@ -49,6 +49,15 @@ fn refusal(error: &Error) -> Exit
 // The program's command.
 fn command<'a>(alloc: Global) -> Result<Command<'a>, AllocError>
     ensures { IfOk result (λ c. app_of c ≡ command_app) }
+{
+    service(alloc)?
+        .arg(valued(alloc, "found-only"))?
+        .arg(valued(alloc, "leave"))
+}
+
+// The command without the options that name databases.
+fn service<'a>(alloc: Global) -> Result<Command<'a>, AllocError>
+    ensures { IfOk result (λ c. app_of c ≡ service_app) }
 {
     errands(alloc)?
         .arg(valued(alloc, "config-file").short('f'))?

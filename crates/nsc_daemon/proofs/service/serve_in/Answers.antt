@@ -3,7 +3,7 @@ use Rattle.nsc_outside.specs.StreamAt.{stream_out}
 use Rattle.nsc_sockets.specs.Connections.{Connection}
 use Rattle.nsc_daemon.specs.Ends.{DaemonAt, StopsSo}
 use Rattle.nsc_daemon.proofs.Ends.{ready_so}
-use Rattle.nsc_daemon.proofs.service.serve_at_most.Goals as goal
+use Rattle.nsc_daemon.proofs.service.serve_in.Goals as goal
 
 pub returns-in-Ok-save_all-clause-ends : goal.returns-in-Ok-save_all-clause-ends
 returns-in-Ok-save_all-clause-ends g c faults =

@@ -1,0 +1,29 @@
+-- Lookups that the thread that accepts answers in place, and how they are counted.
+use Rattle.std.specs.Prelude.{ℕ, Bool, if◌then◌else◌}
+use Rattle.nsc_model.specs.declared.databases.Databases.{Databases}
+use Rattle.nsc_model.specs.Databases.{database_in, with_database}
+use Rattle.nsc_model.specs.Machine.{next_count}
+use Rattle.nsc_server.specs.declared.in_place.ServedInPlace.{ServedInPlace}
+use Rattle.nsc_server.specs.declared.in_place.ServedInPlace.TheVariants.{Found, Not, Broken}
+use Rattle.nsc_daemon.specs.declared.fast_path.Hits.{Hits}
+
+-- the hits that the databases were not told of yet
+pub record FastPath : Type 0 where
+  pub hits : Databases Hits
+
+-- none
+abbrev pub no_hits : Hits
+no_hits = record { found = 0; not_found = 0 }
+
+abbrev pub none_of_all : Databases Hits
+none_of_all = record { passwd = no_hits; group = no_hits; hosts = no_hits; services = no_hits }
+
+-- one more, of a not-found or a found reply
+abbrev pub one_more : Bool → Hits → Hits
+one_more not_found hits = if not_found then record hits { not_found = next_count hits.not_found } else record hits { found = next_count hits.found }
+
+-- one more of its database, if a lookup was answered in place
+abbrev pub noted : ServedInPlace → Databases Hits → Databases Hits
+noted (Found which not_found) hits = with_database hits which (one_more not_found (database_in hits which))
+noted (Not stale) hits = hits
+noted Broken hits = hits
