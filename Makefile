@@ -29,7 +29,8 @@ run: build/frames
 	@if [ -x build/nscd ] && [ -z "$$(find $(SOURCES) -newer build/nscd)" ]; then \
 	    build/nscd --replay < build/frames > build/replies; \
 	elif ! command -v rt > /dev/null; then \
-	    echo 'make run: there is no rt, the Rattle toolchain, and no build/nscd that is as new as the sources; one of them is needed' >&2; exit 1; \
+	    echo 'make run: there is no rt, the Rattle toolchain, and no build/nscd that is as new as the sources; one of them is needed' \
+	        '(touch build/nscd if it was built elsewhere from these sources)' >&2; exit 1; \
 	else \
 	    echo 'This runs the sources before any proof, and takes about a minute; make test proves them.'; \
 	    (cd crates/nscd && rt try -- --replay) < build/frames > build/replies 2> build/try.log || { cat build/try.log; exit 1; }; \

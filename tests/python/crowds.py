@@ -43,7 +43,8 @@ def old_requests():
     with daemon("-t", "1") as run:
         run.is_well("at first")
         before = [asking(run, ASK_BIG) for _ in range(60)]
-        peers = [asking(run, ASK_ROOT) for _ in range(100)]
+        # Names of no user, each asked once: no entry answers.
+        peers = [asking(run, request(PASSWD_BY_NAME, b"nobody%d\0" % number)) for number in range(100)]
         # They are taken in while the worker waits for those before them, five milliseconds for each.
         time.sleep(0.1)
         run.process.send_signal(signal.SIGSTOP)

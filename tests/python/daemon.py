@@ -20,12 +20,19 @@ import crowds
 import ending
 import folders
 import gates
+import inplace
 import kept
+import lines
+import lingering
 import scarce
+import scopes
 import sources
+import starts
 import telling
+import tokens
 import torn
 import unread
+import written
 from clients import real_clients
 from running import (
     ASK_BIG, ASK_ROOT, FILES, GETSTAT, INVALIDATE, NO_REPLY, PASSWD_BY_NAME, PATIENCE, PROGRAM, ROOT_REPLY, SHUTDOWN,
@@ -343,22 +350,32 @@ CASES = {
     **crowds.CASES,
     **folders.CASES,
     **gates.CASES,
+    **inplace.CASES,
+    **scopes.CASES,
     **sources.CASES,
+    **starts.CASES,
     **telling.CASES,
+    **tokens.CASES,
     **unread.CASES,
+    **written.CASES,
     **kept.CASES,
+    **lines.CASES,
+    **lingering.CASES,
     **badimages.CASES,
     **torn.CASES,
     **scarce.CASES,
 }
+# Longer forms, which are tried only by name.
+LONG_CASES = {**inplace.LONG_CASES, **tokens.LONG_CASES, **lingering.LONG_CASES}
 
 
 def main(names):
     if not os.access(PROGRAM, os.X_OK):
         sys.exit(f"daemon: there is no {PROGRAM}; run make build")
-    unknown = [name for name in names if name not in CASES]
+    cases = {**CASES, **LONG_CASES}
+    unknown = [name for name in names if name not in cases]
     if unknown:
-        sys.exit(f"daemon: no case {unknown[0]}; there are {', '.join(CASES)}")
+        sys.exit(f"daemon: no case {unknown[0]}; there are {', '.join(cases)}")
     most = resource.getrlimit(resource.RLIMIT_NOFILE)[1]
     if most != resource.RLIM_INFINITY and most < DESCRIPTORS:
         print(f"daemon: skipped, since a process may have only {most} descriptors")
@@ -367,7 +384,7 @@ def main(names):
     faults = 0
     for name in names or CASES:
         try:
-            print(f"daemon: {name}: {CASES[name]()}", flush=True)
+            print(f"daemon: {name}: {cases[name]()}", flush=True)
         except (Fault, OSError, subprocess.TimeoutExpired) as fault:
             faults += 1
             print(f"daemon: {name}: FAULT: {fault!r}", file=sys.stderr)

@@ -1,6 +1,8 @@
 """How the daemon ends, and how long a peer that takes no reply may keep it: cases of tests/daemon."""
 
+import socket
 import subprocess
+import threading
 import time
 
 from running import ASK_BIG, FILES, PATIENCE, check, daemon, read_all, request
@@ -125,7 +127,46 @@ def orders_without_patience():
         return f"beside an administrator that does not read its reply another takes {took * 1000:.1f} ms"
 
 
+def trickle_to(server, ends):
+    """Sends whoever connects a byte every fifth of a second, for longer than an order may take."""
+    peer, _ = server.accept()
+    with peer:
+        while not ends.wait(0.2):
+            try:
+                peer.send(b"x")
+            except OSError:
+                return
+
+
+def slow_daemon():
+    """An order to a daemon that answers byte by byte has one time for the whole connection."""
+    times = []
+    with daemon(started=False) as run:
+        run.run.mkdir()
+        for words in (("-g",), ("-i", "passwd"), ("-K",)):
+            path = run.run / "admin"
+            with socket.socket(socket.AF_UNIX) as server:
+                server.bind(str(path))
+                server.listen()
+                ends = threading.Event()
+                sender = threading.Thread(target=trickle_to, args=(server, ends))
+                sender.start()
+                began = time.monotonic()
+                try:
+                    said = run.command(*words)
+                except subprocess.TimeoutExpired:
+                    said = "no end"
+                times.append(time.monotonic() - began)
+                ends.set()
+                sender.join()
+            path.unlink()
+            check(said == (b"", b"nscd: socket failed\n", 8), f"{words}: {said}")
+            check(PATIENCE - LOAD <= times[-1] <= PATIENCE + LOAD, f"{words}: {times[-1]:.1f} s")
+    return f"an order to a daemon that sends a byte now and then ends with 8 after {max(times):.2f} s at most"
+
+
 CASES = {
+    "slow-daemon": slow_daemon,
     "ends-soon": ends_soon,
     "closes-first": closes_first,
     "one-stays-free": one_stays_free,

@@ -131,6 +131,21 @@ def broken_off():
         return "what a start that was broken off has left harms no later one"
 
 
+def linked():
+    """A link in the place of a socket, as the user of a daemon could put one for root to follow."""
+    with daemon() as run:
+        away = run.folder / "away"
+        away.mkdir()
+        (away / "admin").symlink_to(run.run / "admin")
+        for words in (("-g",), ("-i", "passwd"), ("-K",)):
+            done = subprocess.run([PROGRAM, *words, "--run-dir", away], capture_output=True, timeout=2 * PATIENCE, check=False)
+            said = (done.stdout, done.stderr, done.returncode)
+            check(said == (b"", b"nscd: socket failed\n", 8), f"{words} at a link: {said}")
+        run.is_well("after orders at a link")
+        run.shut_down()
+        return "an order follows no link to the socket of another daemon"
+
+
 CASES = {
     "folders-of-others": folders_of_others,
     "at-once": at_once,
@@ -138,4 +153,5 @@ CASES = {
     "nothing-left": nothing_left,
     "somebody-there": somebody_there,
     "broken-off": broken_off,
+    "linked": linked,
 }

@@ -81,9 +81,9 @@ WORKED = [
 
 
 @contextmanager
-def gated(*words, files=None):
+def gated(*words, files=None, **options):
     """A daemon with a gate beside its sockets."""
-    with daemon(*words, started=False) as run:
+    with daemon(*words, started=False, **options) as run:
         for name, text in (files or {}).items():
             (run.etc / name).write_bytes(text)
         run.words = (*run.words, "--gate", run.run / "gate")

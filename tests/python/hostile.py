@@ -16,6 +16,7 @@ import forgedreplies
 import refused
 import refusedends
 import refusing
+import wildcrowds
 import wildfiles
 import wildrequests
 import wildsettings
@@ -59,9 +60,14 @@ def requests_part(seed, count, many):
     return wildrequests.trial(count or wildrequests.COUNT, seed, many)
 
 
+def crowd_part(seed, count, many):
+    return wildcrowds.trial(count or wildcrowds.COUNT, seed, many)
+
+
 PARTS = {
     "refused": refused_part,
     "requests": requests_part,
+    "crowd": crowd_part,
     "replies": pooled(forgedreplies.trial),
     "files": pooled(wildfiles.trial),
     "settings": pooled(wildsettings.trial),

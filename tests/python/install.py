@@ -8,14 +8,18 @@ import subprocess
 import sys
 
 sys.dont_write_bytecode = True
+import guarded
+from foreign import foreign_case
 from keeping import kept_case
-from machine import container_case, init_case, package_case, systemd_case
+from machine import container_case, force_case, init_case, package_case, systemd_case, upgrade_case
 from monitoring import monitoring_case
 from places import completions_case, made_case, manuals_case, places_case
 from running import PROGRAM, Fault
 from service import calls_case, unit_case
 from serving import left_case, lines_case, reload_case
 from settings import settings_case
+from starting import names_case, second_case, terms_case
+from stock import library_case, stock_case
 from tables import attributes_case, options_case
 
 CASES = {
@@ -27,19 +31,28 @@ CASES = {
     "places": places_case,
     "make": made_case,
     "left": left_case,
+    "stock": stock_case,
+    "library": library_case,
     "lines": lines_case,
+    **guarded.CASES,
+    "names": names_case,
     "reload": reload_case,
+    "foreign": foreign_case,
+    "second": second_case,
     "kept": kept_case,
     "monitoring": monitoring_case,
     "unit": unit_case,
+    "terms": terms_case,
     "calls": calls_case,
     "init": init_case,
     "container": container_case,
+    "force": force_case,
     "package": package_case,
     "systemd": systemd_case,
+    "upgrade": upgrade_case,
 }
 # These run the program.
-RUNNING = ("settings", "reload", "kept", "monitoring", "calls", "init", "container", "package", "systemd")
+RUNNING = ("settings", "reload", "foreign", "second", "kept", "monitoring", "calls", "init", "container", "package", "systemd", "upgrade")
 
 
 def main(names):

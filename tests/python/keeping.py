@@ -7,12 +7,13 @@ import stat
 import subprocess
 
 from running import ROOT_REPLY, check, request
-from service import asked
-from serving import FILES_ALONE, served
+from serving import FILES_ALONE, asked, served
 from tables import DATABASES
 
 SETTINGS = "".join(f"persistent {name} yes\n" for name in DATABASES) + "negative-time-to-live hosts 3600\n"
 IMAGES = sorted(f"{name}.img" for name in DATABASES)
+RUNNING = ["admin", "begun", "lock", "socket", "starting"]
+ENDED = ["begun", "lock", "starting"]
 HOST_BY_NAME = 4
 NOBODY = request(HOST_BY_NAME, b"nobody1.example\0")
 EMPTY = 52  # bytes of an image without entries
@@ -61,22 +62,22 @@ def stops_and_starts(run):
     check(run.ask(b"root") == ROOT_REPLY, "a lookup: another reply")
     # Without a folder for them they go nowhere, and nothing is said.
     check(ends(run) + run.does("ended") == "" and not run.state.exists(), "without a folder: something is said or made")
-    put = texts(run.run / "new")
+    put = texts(run.run)
     run.state.mkdir(mode=0o700)
     check(run.does("ended") == "", "once it has ended, something is said")
     is_kept(run, "once it has ended")
-    check(texts(run.state) == put and names(run.run / "new") == ["lock"], "other images are kept than those that were put")
+    check(texts(run.state) == put and names(run.run) == ENDED, "other images are kept than those that were put")
 
     # What was broken off is no image, and the copies go when it runs.
     (run.state / ".passwd.img.new").write_bytes(b"half")
     run.start()
-    check(names(run.run / "new") == ["lock"], f"while it runs: {names(run.run / 'new')}")
+    check(names(run.run) == RUNNING, f"while it runs: {names(run.run)}")
     found = counts(run, "passwd")
     check((found["entries"], found["used words"], found["hits"]) == ("1", USED, "0"), f"before anything is asked: {found}")
     check(run.ask(b"root") == ROOT_REPLY and counts(run, "passwd")["hits"] == "1", "what came back does not answer")
     check(run.ask(b"maud") != b"" and ends(run) == "", "an end: something is said")
     # Where nobody kept them, the next start does so first.
-    put = texts(run.run / "new")
+    put = texts(run.run)
     run.start()
     is_kept(run, "by the next start")
     check(texts(run.state) == put, "the next start loses images that nobody kept")
@@ -161,7 +162,7 @@ def kept_case():
         has(run, 0, "without persistent databases")
         run.ask(b"root")
         ends(run)
-        check(names(run.run / "new") == ["lock"] and run.does("ended") == "", "without persistent databases an image is put")
+        check(names(run.run) == ENDED and run.does("ended") == "", "without persistent databases an image is put")
         check(texts(run.state) == before, "without persistent databases other images are there")
         return (
             "images outlive a stop, a kill and a start that follows nobody's keeping; a link, a FIFO and a folder are no images;"

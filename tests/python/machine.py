@@ -19,7 +19,7 @@ def in_own_root(given, script, *mode):
         if shutil.which(word) is None:
             return f"skipped, since there is no {word}"
     words = [ROOT / "tests/machine/enter", ROOT, given, script, *mode]
-    done = subprocess.run(words, stdin=subprocess.DEVNULL, capture_output=True, timeout=110, check=False)
+    done = subprocess.run(words, stdin=subprocess.DEVNULL, capture_output=True, timeout=160, check=False)
     lines = done.stdout.decode(errors="replace").strip().splitlines()
     said = lines[-1] if lines else ""
     if done.returncode == 77:
@@ -39,6 +39,11 @@ def container_case():
     with folder() as given:
         a_program(given)
         return in_own_root(given, "by-run")
+
+
+def force_case():
+    with folder() as given:
+        return in_own_root(given, "by-force")
 
 
 def repacked(package, where, changes):
@@ -93,6 +98,47 @@ def packages():
     (given / "other/DEBIAN/control").write_text(OTHER)
     subprocess.run(["dpkg-deb", "-b", given / "other", given / "nscd-other.deb"], check=True, capture_output=True, timeout=60)
     return given
+
+
+# What the version before had and this one has not: its sockets were moved once they stood.
+MOVED = 'mv -f "$run/new/admin" "$run/admin"'
+
+
+def version_before(where):
+    """The sources of the version before, from the history; nothing if it does not go back so far."""
+    words = ["git", "-C", ROOT, "log", "-1", "--format=%H", f"-S{MOVED}", "--", "dist/nscd-serve.in"]
+    done = subprocess.run(words, capture_output=True, timeout=60, check=False)
+    if done.returncode != 0 or not done.stdout.strip():
+        return None
+    where.mkdir()
+    packed = subprocess.run(["git", "-C", ROOT, "archive", done.stdout.decode().strip() + "^"], capture_output=True, timeout=60, check=False)
+    if packed.returncode != 0:
+        return None
+    subprocess.run(["tar", "-x", "-C", where], input=packed.stdout, timeout=60, check=True)
+    return where if MOVED in (where / "dist/nscd-serve.in").read_text() else None
+
+
+@cache
+def package_before(given):
+    """The package of the version before, in the folder of the others; whether there is one."""
+    sources = version_before(given / "before") if shutil.which("git") else None
+    if sources is None:
+        return False
+    environment = {**os.environ, "NSCD": str(given / "nscd"), "SOURCE_DATE_EPOCH": "1600000000"}
+    done = subprocess.run([sources / "dist/make-deb", given / "made"], capture_output=True, timeout=60, check=False, env=environment)
+    check(done.returncode == 0, f"make-deb of the version before: {done.stderr.decode()}")
+    made = Path(done.stdout.decode().strip())
+    os.rename(repacked(made, given / "earlier", [(f"Version: {VERSION}\n", f"Version: {VERSION}~before\n")]), given / "nscd-before.deb")
+    return True
+
+
+def upgrade_case():
+    if shutil.which("dpkg-deb") is None:
+        return "skipped, since there is no dpkg-deb"
+    if not package_before(packages()):
+        return "skipped, since the history does not go back to the version before"
+    by_init = in_own_root(packages(), "by-upgrade")
+    return f"by init: {by_init}; under systemd: {in_own_root(packages(), 'by-upgrade', 'systemd')}"
 
 
 def package_case(script="by-dpkg", *mode):

@@ -54,6 +54,8 @@ WANTED = (
     "nscd_up 1",
     'nscd_served{database="hosts"} 0',
     *(f'nscd_served{{database="{name}"}} 1' for name in ("passwd", "group", "services")),
+    *(f'nscd_served_whole{{database="{name}"}} 0' for name in ("hosts", "services")),
+    *(f'nscd_served_whole{{database="{name}"}} 1' for name in ("passwd", "group")),
     *(f'nscd_cache_enabled{{database="{name}"}} 1' for name in DATABASES),
     f'nscd_lookups_total{{{PASSWD},found="yes",kept="yes"}} 2',
     f'nscd_lookups_total{{{PASSWD},found="no",kept="yes"}} 1',
@@ -95,7 +97,7 @@ def check_document(metrics):
 def monitoring_case():
     check_absent()
     with served() as run:
-        run.switch(FILES_ALONE.replace("hosts: files", "hosts: files dns"))
+        run.switch(FILES_ALONE.replace("hosts: files", "hosts: files dns").replace("services: files", "services: files nis"))
         run.start()
         for name in (b"root", b"root", b"root", b"nobody1", b"nobody1", b"maud"):
             run.ask(name)

@@ -116,7 +116,10 @@ def places_case():
                 is_filled = text is None or name.endswith("libexec/nscd/nscd") or not re.search(rb"@[A-Z]+@", text)
                 check(is_filled, f"{name}: something is not filled in")
             for name in ("share/man/man8/nscd.8", "share/man/man5/nscd.conf.5"):
-                check(f"version {VERSION}." in after[f"{prefix}/{name}"[1:]][1].decode(), f"{name}: not version {VERSION}")
+                text = after[f"{prefix}/{name}"[1:]][1].decode()
+                check(f"version {VERSION}." in text, f"{name}: not version {VERSION}")
+                places = {*re.findall(r"/\S*/libexec/nscd", text), *re.findall(r"/\S*(?=/nscd\.conf)", text)}
+                check(places <= {f"{prefix}/libexec/nscd", sysconf}, f"{name}: it names {places}")
             serve = after[f"{prefix}/libexec/nscd/nscd-serve"[1:]][1]
             check(f"conf={sysconf}/nscd.conf\n".encode() in serve, "nscd-serve: another nscd.conf")
             read = check_scripts([path for path in root.rglob("*") if str(path).endswith(SCRIPTS) and path.is_file()])
@@ -155,11 +158,12 @@ def made_case():
         words = ["make", "-s", "-C", top, "run"]
         done = subprocess.run(words, capture_output=True, timeout=60, check=False, env=without_make() | {"PATH": str(tools)})
         line = "make run: there is no rt, the Rattle toolchain, and no build/nscd that is as new as the sources; one of them is needed"
+        line += " (touch build/nscd if it was built elsewhere from these sources)"
         check(done.returncode != 0 and line in done.stderr.decode().splitlines() and done.stdout == b"", f"make run without rt: {done}")
     return f"make help says {len(told)} targets, and make run without rt says what is missing"
 
 
-SCRIPTS = ("sbin/nscd", "libexec/nscd/nscd-serve", "libexec/nscd/nscd-lists", "init.d/nscd")
+SCRIPTS = ("sbin/nscd", "libexec/nscd/nscd-serve", "init.d/nscd")
 
 
 def check_scripts(paths):
@@ -197,6 +201,13 @@ def kept_case(top, program):
     os.utime(old, (0, 0))
     status, said = make("install", old, root, **where)
     check(status != 0 and " is newer than " in said and "make build" in said, f"an old program: {status}, {said}")
+    # One that was copied with its time into sources that are newer is taken as the line says.
+    check(f"if it was built elsewhere from these sources, touch {old}" in said, f"an old program: {said}")
+    old.touch()
+    other = top / "other"
+    status, said = make("install", old, other, **where)
+    check((status, said) == (0, ""), f"a program that was touched: {status}, {said}")
+    os.utime(old, (0, 0))
     status, said = make("deb", old, root)
     check(status != 0, f"a package of an old program: {status}, {said}")
     for place in ("usr/sbin/nscd", "etc/init.d/nscd"):
@@ -333,7 +344,9 @@ def manuals_case():
     check_first_page()
     for page in ("nscd.8", "nscd.conf.5"):
         text = (MAN / page).read_text()
-        check(text.count("@VERSION@") == 1, f"{page}: not one place for the version")
+        # It is read before an installation, too.
+        check(text.count(f"version {VERSION}.") == 1, f"{page}: not one place for the version")
+        check(not re.search(r"@[A-Z]+@", text), f"{page}: something is to be filled in")
     check(re.search(rf"^## {re.escape(VERSION)}\b", (ROOT / "CHANGELOG.md").read_text(), re.M), f"CHANGELOG.md: no {VERSION}")
     said = f"both pages have version {VERSION}; {linted_by_man()}"
     if shutil.which("mandoc") is None:
@@ -341,7 +354,7 @@ def manuals_case():
     with folder() as where:
         began = time.monotonic()
         for page in ("nscd.8", "nscd.conf.5"):
-            (where / page).write_text((MAN / page).read_text().replace("@VERSION@", VERSION))
+            shutil.copy(MAN / page, where / page)
             done = subprocess.run(["mandoc", "-Tlint", where / page], capture_output=True, timeout=20, check=False)
             # Whether the pages of other programs are installed is no matter of these.
             lines = [line for line in done.stdout.decode().splitlines() if "referenced manual not found" not in line]

@@ -20,6 +20,7 @@ SOURCE = ROOT / "tests" / "c" / "refuse.c"
 FIELDS = ("counting", "first", "last", "count", "refused", "size", "ahead", "wait", "waits", "rests")
 WAIT = 5  # milliseconds that the daemon waits for peers before it looks at its clock
 TICK = 16  # seconds that bring the next tick about
+STILL = 3  # looks, ten milliseconds apart, at which no thread has worked
 FOREVER = 2**63
 WORKERS = 2
 MOST = 5000  # allocations of a subject
@@ -115,8 +116,24 @@ class Refusable(Daemon):
     def goes_on(self, seconds):
         self.orders.set(ahead=self.orders.get("ahead") + seconds)
 
+    def worked(self):
+        """The time of the processor that each of its threads has had, but the one that waits for peers."""
+        first = str(self.process.pid)
+        tasks = Path(f"/proc/{first}/task").glob("*/schedstat")
+        return {path.parent.name: path.read_text().split()[0] for path in tasks if path.parent.name != first}
+
+    def settles(self):
+        """Waits until none of its threads works, since one of its own makes a tick."""
+        ends, was, still = time.monotonic() + 4 * PATIENCE, None, 0
+        while still < STILL:
+            check(time.monotonic() < ends, "its threads work on")
+            time.sleep(0.01)
+            now = self.worked()
+            was, still = now, still + 1 if now == was else 0
+
     def tick(self, seconds=TICK):
-        """Lets so much time pass. The daemon has seen it once it waited for peers, rested, looked at its clock, and waits again."""
+        """Lets so much time pass. The daemon has seen it once it waited for peers, rested, looked at its clock, and waits again; then the
+        thread that ticks has its order."""
         self.goes_on(seconds)
         check(self.rises("waits"), "it waits for no peers any more")
         ends = time.monotonic() + 4 * PATIENCE
@@ -125,6 +142,7 @@ class Refusable(Daemon):
             # This ends its wait for peers.
             self.goes_on(1)
         check(self.rises("waits"), "it waits for no peers after a rest")
+        self.settles()
 
     def tells_and_ends(self):
         """Sees that it ends with status 0 where it is told to, and gives what it has said on standard error."""

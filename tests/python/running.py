@@ -72,6 +72,27 @@ def is_sent_away(peer):
         return True
 
 
+def connected(path, patience):
+    """A connection whose calls have a timeout of `patience` seconds, also to wait for room in the queue of the listening socket.
+
+    A connect with a timeout does not wait for that room by itself, as one without does: it fails with EAGAIN."""
+    peer = socket.socket(socket.AF_UNIX)
+    peer.settimeout(patience)
+    ends = time.monotonic() + patience
+    while True:
+        try:
+            peer.connect(str(path))
+            return peer
+        except BlockingIOError:
+            if time.monotonic() > ends:
+                peer.close()
+                raise
+        except OSError:
+            peer.close()
+            raise
+        time.sleep(0.001)
+
+
 class Daemon:
     """A running daemon, with the folder of its files and the folder of its sockets."""
 
@@ -120,10 +141,7 @@ class Daemon:
         return done.stdout, done.stderr, done.returncode
 
     def connect(self, name="socket", patience=PATIENCE):
-        peer = socket.socket(socket.AF_UNIX)
-        peer.settimeout(patience)
-        peer.connect(str(self.run / name))
-        return peer
+        return connected(self.run / name, patience)
 
     def ask(self, bytes_sent=ASK_ROOT, name="socket", patience=PATIENCE):
         """All that the daemon sends for these bytes, up to the end of the connection."""

@@ -5,13 +5,13 @@ import ctypes.util
 import re
 import resource
 import shutil
-import socket
 import subprocess
 import sys
 
 from frames import ROOT
 from places import a_program, folder, installed
-from running import ASK_ROOT, FILES, PASSWD_BY_NAME, ROOT_REPLY, Fault, check, read_all, request
+from running import ASK_ROOT, FILES, PASSWD_BY_NAME, ROOT_REPLY, Fault, check, request
+from serving import asked, over
 from tables import DATABASES
 
 # ---- the unit
@@ -92,14 +92,6 @@ def filter_of(library, calls):
     return made, count
 
 
-def asked(run, text):
-    with socket.socket(socket.AF_UNIX) as peer:
-        peer.settimeout(5)
-        peer.connect(str(run / "socket"))
-        peer.sendall(text)
-        return read_all(peer)
-
-
 def obeys(serve, nscd, etc, run, confined):
     """Starts the daemon as the unit does, each process under the filter, and sees that it does what it is for. How many entries it began with."""
 
@@ -169,7 +161,7 @@ def calls_case():
         for file, text in FILES.items():
             (etc / file).write_bytes(text)
         (etc / "nsswitch.conf").write_text("passwd: files\nhosts: files dns\n")
-        changes = (("\netc=/etc\n", f"\netc={etc}\n"), ("\nrun=/run/nscd\n", f"\nrun={run}\n"))
+        changes = (*over(etc), ("\nrun=/run/nscd\n", f"\nrun={run}\n"))
         serve = installed(top, a_program(top), *changes, ("\nstate=/var/lib/nscd\n", f"\nstate={state}\n"))
         (top / "etc/nscd.conf").write_text("persistent passwd yes\n")
         began = [obeys(serve, top / "usr/sbin/nscd", etc, run, confined) for _ in range(2)]

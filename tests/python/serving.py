@@ -1,81 +1,16 @@
-"""Which databases nscd-serve leaves to the C library, at a start and when it is told to judge anew."""
+"""How far nscd-serve serves each database, at a start and when it is told to judge anew."""
 
 import ctypes
 import os
 import shutil
-import socket
 import subprocess
+import time
 from contextlib import contextmanager
 
+from judged import LISTS, NOT_RUNNING, OTHERWISE, all_of, lines_of, says
 from places import a_program, folder, installed
-from running import FILES, NO_REPLY, PASSWD_BY_NAME, ROOT_REPLY, check, read_all, request
+from running import FILES, GROUP_BY_NAME, NO_REPLY, PASSWD_BY_NAME, ROOT_REPLY, Fault, check, connected, read_all, request
 from tables import DATABASES
-
-# nsswitch.conf, files beside it, and the databases that are then left to the C library, each with the service that is not known, or with
-# another reason behind a colon.
-LISTS = (
-    ("", {}, "hosts dns"),
-    (None, {}, "hosts dns"),
-    ("passwd: files\ngroup: files\nhosts: files\nservices: files\n", {}, ""),
-    ("hosts: files dns\n", {}, "hosts dns"),
-    ("hosts: files\n", {}, ""),
-    ("hosts: files # dns\n", {}, ""),
-    ("#hosts: files\nhosts: files mdns4_minimal [NOTFOUND=return] dns\n", {}, "hosts mdns4_minimal"),
-    ("hosts: files\nhosts: dns\n", {}, "hosts: nsswitch.conf has two lines of hosts"),
-    ("hosts: dns\n hosts: files\n", {}, "hosts: nsswitch.conf has two lines of hosts"),
-    ("hosts: files\n#hosts: dns\nhost: dns\nhostsx: dns\n", {}, ""),
-    ("hosts: files\npasswd files sss\n", {}, "passwd: the line of passwd in nsswitch.conf has no colon"),
-    ("hosts: files\npasswd\n", {}, "passwd: the line of passwd in nsswitch.conf has no colon"),
-    ("hosts: files\npasswd:\n", {}, "passwd: its list in nsswitch.conf names no service"),
-    ("hosts: files\npasswd: # files\n", {}, "passwd: its list in nsswitch.conf names no service"),
-    ("hosts: files [NOTFOUND=return dns\n", {}, "hosts: its list in nsswitch.conf is not in form"),
-    ("hosts: files [NOTFOUND=maybe]\n", {}, "hosts: its list in nsswitch.conf is not in form"),
-    ("hosts: files [! NOTFOUND=return]\n", {}, "hosts: its list in nsswitch.conf is not in form"),
-    ("hosts: [NOTFOUND=return] files\n", {}, "hosts: its list in nsswitch.conf is not in form"),
-    ("hosts: files ! dns\n", {}, "hosts: its list in nsswitch.conf is not in form"),
-    ("hosts: files[!Success = Return  tryagain=CONTINUE][UNAVAIL=return]\n", {}, ""),
-    ("hosts: files\npasswd: files[UNAVAIL=return]extrausers\n", {}, ""),
-    ("hosts: files\npasswd: files[UNAVAIL=return]sss\n", {}, "passwd sss"),
-    ("hosts: files\ngroup: files\ninitgroups: files\ninitgroups: sss\n", {}, "group: nsswitch.conf has two lines of initgroups"),
-    ("hosts: files\npasswd: compat\npasswd_compat files\n", {"passwd": "+\n"}, "passwd: the line of passwd_compat in nsswitch.conf has no colon"),
-    ("hosts:\tfiles [NOTFOUND=return]\n", {}, ""),
-    (" hosts : files\npasswd:files systemd\n", {}, "passwd systemd"),
-    ("hosts: files\npasswd: files\ngroup: files [SUCCESS=merge] extrausers\n", {}, "group: its list in nsswitch.conf has the action merge"),
-    ("hosts: files\npasswd: extrausers files\ngroup: files extrausers\n", {}, ""),
-    ("hosts: files extrausers\n", {}, "hosts extrausers"),
-    ("hosts: files\nservices: db files\n", {}, ""),
-    ("hosts: files\npasswd: compat\ngroup: compat\n", {}, ""),
-    ("hosts: files\npasswd: compat\n", {"passwd": "root:x:0:0:::\n+\n"}, "passwd nis"),
-    ("hosts: files\npasswd: compat\npasswd_compat: extrausers\n", {"passwd": "root:x:0:0:::\n+\n"}, ""),
-    ("hosts: files\npasswd: compat\npasswd_compat: ldap\n", {"passwd": "-nobody\n"}, "passwd ldap"),
-    ("hosts: files\npasswd: compat\npasswd_compat: files\n", {"passwd": "-@staff\n+\n"}, "passwd: ETC/passwd has lines of netgroups"),
-    ("hosts: files\npasswd: compat files\npasswd_compat: compat\n", {"passwd": "a:x:1:1:::\n"}, ""),
-    ("hosts: files\ngroup: files\ninitgroups: files sss\n", {}, "group sss"),
-    ("hosts: files\npasswd: files\r\ngroup: files\n", {}, "passwd: its list in nsswitch.conf has a carriage return"),
-    ("hosts: files # dns\r\n", {}, ""),
-    ("hosts: dns\npasswd: sss\ngroup: sss\nservices: sss\n", {}, "passwd sss; group sss; hosts dns; services sss"),
-)
-
-NOT_RUNNING = "nscd: it does not run; where it is started:\n"
-
-
-def line_of(reason):
-    """What is said of a database that is left, by its name and its service, or its name and why behind a colon."""
-    name, _, why = reason.partition(" ")
-    return f"nscd: {name.rstrip(':')} is left to the C library, since " + (why if name.endswith(":") else f"nsswitch.conf asks {why} for it")
-
-
-def lines_of(wanted):
-    return "".join(line_of(reason) + "\n" for reason in wanted.split("; ") if reason)
-
-
-def says(serve, word, **environment):
-    """The output of nscd-serve, which says nothing on standard error and ends with 0."""
-    kept = {name: value for name, value in os.environ.items() if name != "NSCD_SERVE"}
-    done = subprocess.run([serve, word], capture_output=True, env=kept | environment, timeout=20, check=False)
-    check(done.stderr == b"" and done.returncode == 0, f"nscd-serve {word}: status {done.returncode}: {done.stderr!r}")
-    return done.stdout.decode()
-
 
 def left_case():
     with folder() as top:
@@ -87,16 +22,16 @@ def left_case():
                 (etc / "nsswitch.conf").write_text(switch)
             for name, text in files.items():
                 (etc / name).write_text(text)
-            found, lines = says(serve, "left"), lines_of(wanted.replace("ETC", str(etc)))
-            check(found == (NOT_RUNNING + lines if lines else ""), f"{switch!r}, {files}: {found!r}, and not {wanted!r}")
-            check(says(serve, "left", NSCD_SERVE=" ".join(DATABASES)) == "", f"{switch!r}: NSCD_SERVE does not count")
+            found = says(serve, "left")
+            check(found == NOT_RUNNING + all_of(wanted.replace("ETC", str(etc))), f"{switch!r}, {files}: {found!r}, and not {wanted!r}")
+            check(says(serve, "left", NSCD_SERVE=" ".join(DATABASES)) == NOT_RUNNING + all_of(""), f"{switch!r}: NSCD_SERVE does not count")
             shutil.rmtree(etc)
         etc.mkdir()
         (etc / "nsswitch.conf").write_text("hosts: files dns\n")
         found = says(serve, "left", NSCD_SERVE="passwd,group hosts * shadow")
         wanted = "".join(f"nscd: NSCD_SERVE: {word} is no database\n" for word in ("passwd,group", "*", "shadow"))
-        check(found == wanted, f"words of NSCD_SERVE: {found!r}")
-        return f"of {len(LISTS)} lists of services nscd-serve leaves those to the C library that ask for more than is built in"
+        check(found == NOT_RUNNING + all_of("") + wanted, f"words of NSCD_SERVE: {found!r}")
+        return f"of {len(LISTS)} lists of services nscd-serve has those served whole that files decide, found only those that they begin, and leaves others"
 
 
 # ---- lines that the C library reads otherwise
@@ -118,6 +53,7 @@ LINES = (
     ("passwd", "ann:x:5:+6:::", "a number with a sign"),
     ("passwd", "ann:x: 5:6:::", "a blank before a number"),
     ("passwd", ":x:5:6:::", "no name"),
+    ("passwd", "\vann:x:5:6:::", "a control character"),
     ("group", "crew:x:7:ann,bob", ""),
     ("group", "crew:x:7:", ""),
     ("group", "crew:x:7:ann,,bob,", ""),
@@ -147,10 +83,23 @@ HOSTS = (
     ("order hosts\n multi  on\n", "192.0.2.1 a box\n# 192.0.2.2 box\n\n192.0.2.3 b c box # d\n", 4, MULTI % 1),
     ("multi on\n", "::1 localhost\n127.0.0.1 localhost box\nfe80::1 localhost\n", 3, MULTI % 1),
     ("multi on\n", "127.0.0.1 localhost localhost\n::1 localhost ip6-localhost\n127.0.1.1 box\nbox localhost\n", 0, ""),
+    ("Multi  ON\n", "192.0.2.1 box\n192.0.2.2 Box\n", 2, MULTI % 1),
+    ("", "127.0.0.1 localhost\n192.0.2.1 box\r\n", 2, "a control character"),
+    ("", "127.0.0.1 localhost # box\r\n", 0, ""),
     ("multi off\n", "192.0.2.1 box\n192.0.2.2 box\n", 0, ""),
     ("# multi on\n", "192.0.2.1 box\n192.0.2.2 box\n", 0, ""),
     ("", "192.0.2.1 box\n192.0.2.2 box\n", 0, ""),
     (None, "192.0.2.1 box\n192.0.2.2 box\n", 0, ""),
+)
+# Files of services, and the line that the C library takes for another port.
+PORTS = "a port in another form"
+SERVICES = (
+    ("http 80/tcp www\nzero 0/tcp\n# 07/tcp\nlast 65535/udp # 07/tcp\nnone\n", 0, ""),
+    ("http 80/tcp\nold 07003/tcp\n", 2, PORTS),
+    ("high 65536/tcp\n", 1, PORTS),
+    ("hex 0x1b5c/tcp\n", 1, PORTS),
+    ("two 7011//tcp\n", 1, PORTS),
+    ("http 80/tcp\rwww\n", 1, "a control character"),
 )
 
 
@@ -200,9 +149,9 @@ def by_nscd(line, kind):
 def check_line(serve, kind, path, line, what):
     """The second line of this file leaves the database to the C library for this reason, if any, but where NSCD_SERVE names the database."""
     found = says(serve, "left")
-    wanted = f"{NOT_RUNNING}nscd: {kind} is left to the C library, since line 2 of {path} has {what}\n" if what else ""
-    check(found == wanted, f"{line!r} of {path}: {found!r}")
-    check(not what or says(serve, "left", NSCD_SERVE=kind) == "", f"{line!r}: NSCD_SERVE does not count")
+    wanted = f"{kind}: line 2 of {path} has {what}" if what else ""
+    check(found == NOT_RUNNING + all_of(wanted), f"{line!r} of {path}: {found!r}")
+    check(says(serve, "left", NSCD_SERVE=kind) == NOT_RUNNING + all_of(""), f"{line!r}: NSCD_SERVE does not count")
 
 
 def check_hosts(serve, etc):
@@ -213,8 +162,18 @@ def check_hosts(serve, etc):
             (etc / "host.conf").write_text(conf)
         (etc / "hosts").write_text(hosts)
         found = says(serve, "left")
-        wanted = f"{NOT_RUNNING}nscd: hosts is left to the C library, since line {line} of {etc}/hosts has {what}\n" if what else ""
-        check(found == wanted, f"{hosts!r} under {conf!r}: {found!r}")
+        wanted = f"hosts: line {line} of {etc}/hosts has {what}" if what else ""
+        check(found == NOT_RUNNING + all_of(wanted), f"{hosts!r} under {conf!r}: {found!r}")
+
+
+def check_services(serve, etc):
+    (etc / "nsswitch.conf").write_text(FILES_ALONE)
+    for services, line, what in SERVICES:
+        (etc / "services").write_text(services)
+        found = says(serve, "left")
+        wanted = f"services: line {line} of {etc}/services has {what}" if what else ""
+        check(found == NOT_RUNNING + all_of(wanted), f"{services!r}: {found!r}")
+    (etc / "services").unlink()
 
 
 def lines_case():
@@ -241,12 +200,18 @@ def lines_case():
             (etc / kind).rename(etc / "extra" / kind)
             check_line(serve, kind, f"{etc}/extra/{kind}", text, what)
             (etc / "extra" / kind).unlink()
+        check_services(serve, etc)
         check_hosts(serve, etc)
         count = len(LINES + SOMETIMES)
-        return f"of {count} lines of users and groups and {len(HOSTS)} files of hosts, a database is left where the C library reads one otherwise"
+        return f"of {count} lines of users and groups and {len(HOSTS) + len(SERVICES)} files of hosts and services, a database is left where the C library reads one otherwise"
 
 
 # ---- a daemon that is started so
+
+
+def over(etc):
+    """What has nscd-serve and the daemon read this folder."""
+    return ("\netc=/etc\n", f"\netc={etc}\n"), ('--run-dir "$run" "$@"\n', f'--run-dir "$run" --etc {etc} "$@"\n')
 
 
 class Served:
@@ -258,16 +223,36 @@ class Served:
         self.run.mkdir()
         for name, text in FILES.items():
             (self.etc / name).write_bytes(text)
-        changes = (("\netc=/etc\n", f"\netc={self.etc}\n"), ("\nrun=/run/nscd\n", f"\nrun={self.run}\n"))
+        changes = (*over(self.etc), ("\nrun=/run/nscd\n", f"\nrun={self.run}\n"))
         self.serve = installed(top, a_program(top), *changes, ("\nstate=/var/lib/nscd\n", f"\nstate={self.state}\n"))
         self.settings = top / "etc/nscd.conf"
         self.program = top / "usr/libexec/nscd/nscd"
         self.process = None
 
-    def start(self, **environment):
+    def start(self, word="start", **environment):
         how = {"stdout": subprocess.PIPE, "stderr": subprocess.PIPE, "env": os.environ | environment}
-        self.process = subprocess.Popen([self.serve, "start"], **how)
-        self.does("open", **environment)
+        self.process = subprocess.Popen([self.serve, word], **how)
+        if word == "start":
+            self.does("open", **environment)
+        else:
+            self.awaited()
+
+    def awaited(self, *others):
+        """Waits until a daemon answers whose number is none of these, and gives its number."""
+        ends = time.monotonic() + 10
+        while time.monotonic() < ends:
+            number = self.number()
+            if number not in ("", *others) and self.order("-g").returncode == 0:
+                return number
+            time.sleep(0.05)
+        raise Fault(f"within ten seconds no daemon answers: {self.process.poll()}")
+
+    def number(self):
+        """The number of the daemon's process; nothing if none runs."""
+        return subprocess.run([self.serve, "runs"], capture_output=True, timeout=20, check=False).stdout.decode().strip()
+
+    def order(self, *words):
+        return subprocess.run([self.program, *words, "--run-dir", self.run], capture_output=True, timeout=20, check=False)
 
     def does(self, word, **environment):
         """What nscd-serve says on standard error."""
@@ -277,11 +262,7 @@ class Served:
 
     def ask(self, name):
         """The reply for a user; nothing where the request is closed."""
-        with socket.socket(socket.AF_UNIX) as peer:
-            peer.settimeout(5)
-            peer.connect(str(self.run / "socket"))
-            peer.sendall(request(PASSWD_BY_NAME, name + b"\0"))
-            return read_all(peer)
+        return asked(self.run, request(PASSWD_BY_NAME, name + b"\0"))
 
     def switch(self, text):
         """Another nsswitch.conf takes the place of the one that is there, as an editor does it."""
@@ -297,6 +278,7 @@ def served():
             yield run
         finally:
             if run.process is not None:
+                run.order("-K")
                 run.process.kill()
                 run.process.communicate()
 
@@ -304,30 +286,70 @@ def served():
 FILES_ALONE = "passwd: files\ngroup: files\nhosts: files\nservices: files\n"
 
 
+def judged_anew(run, text, wanted):
+    """A reload after a change of nsswitch.conf, by which another daemon is started within two seconds; the seconds that it took."""
+    before = run.number()
+    run.switch(text)
+    told = says(run.serve, "left")
+    check(told == OTHERWISE + all_of(wanted), f"before a reload left says {told!r}")
+    began = time.monotonic()
+    check(run.does("reload") == "", "a reload says something")
+    run.awaited(before)
+    took = time.monotonic() - began
+    check(took < 2, f"it is judged anew after {took:.1f} seconds")
+    check(says(run.serve, "left") == all_of(wanted), "left does not say what runs")
+    # Nothing changes at a second one but that what is kept is forgotten.
+    number = run.number()
+    check(run.does("reload") == "" and run.number() == number, "a second reload starts another or says something")
+    check(run.order("-g").stdout.count(b"invalidations 1\n") == len(DATABASES), "a second reload does not empty all databases")
+    return took
+
+
 def reload_case():
     """Lists that become longer and shorter while the daemon runs."""
     with served() as run:
-        run.start()
-        check(run.ask(b"root") == ROOT_REPLY and says(run.serve, "left") == "", "files alone: another reply, or something is left")
-        for service in ("sss", "ldap [NOTFOUND=return]"):
-            run.switch(FILES_ALONE.replace("passwd: files", f"passwd: files {service}"))
-            told = says(run.serve, "left")
-            check(told == "nscd: it would be judged otherwise now; a reload of the service does so\n", f"before a reload left says {told!r}")
-            wanted = lines_of(f"passwd {service.split()[0]}")
-            check(run.does("reload") == wanted, "a reload does not tell what is left")
-            check(run.ask(b"root") == b"" and run.ask(b"nobody1") == b"", f"passwd: files {service}: a reply")
-            check(says(run.serve, "left") == wanted, "left does not say what runs")
-            check(run.does("reload") == "", "a second reload tells something")
-            run.switch(FILES_ALONE)
-            check(run.does("reload") == "nscd: passwd is served\n", "a reload does not tell what is served again")
-            check(run.ask(b"root") == ROOT_REPLY and run.ask(b"nobody1") == NO_REPLY, "files alone again: another reply")
-            check(says(run.serve, "left") == "", "files alone again: something is left")
-        # What is answered from memory is forgotten, too.
-        (run.etc / "passwd").write_bytes(FILES["passwd"].replace(b"/bin/bash", b"/bin/dash"))
+        run.state.mkdir(mode=0o700)
+        run.settings.write_text("persistent group yes\n")
+        run.start("run")
+        check(run.ask(b"root") == ROOT_REPLY and run.ask(b"nobody1") == NO_REPLY, "files alone: another reply")
+        check(says(run.serve, "left") == all_of(""), "files alone: something is left")
+        longest, groups = 0, request(GROUP_BY_NAME, b"friends\0")
+        for list_, wanted, replies in (
+            ("files sss", "passwd+ sss", (ROOT_REPLY, b"")),
+            ("sss files", "passwd sss", (b"", b"")),
+            ("files", "", (ROOT_REPLY, NO_REPLY)),
+            ("files ldap [NOTFOUND=return]", "passwd+ ldap", (ROOT_REPLY, b"")),
+            ("files", "", (ROOT_REPLY, NO_REPLY)),
+        ):
+            asked(run.run, groups)
+            longest = max(longest, judged_anew(run, FILES_ALONE.replace("passwd: files", f"passwd: {list_}"), wanted))
+            found = run.ask(b"root"), run.ask(b"nobody1")
+            check(found == replies, f"passwd: {list_}: {found}, and not {replies}")
+        # A line that is read otherwise is told where the daemon says what it has to say.
+        (run.etc / "passwd").write_bytes(FILES["passwd"] + b"ann:x:5:6\n")
+        wanted = f"passwd: line 3 of {run.etc}/passwd has fewer than seven fields"
+        before = run.number()
         run.does("reload")
+        run.awaited(before)
+        check(says(run.serve, "left") == all_of(wanted), "a line that is read otherwise does not count")
+        # What was kept comes back.
+        (run.etc / "passwd").write_bytes(FILES["passwd"].replace(b"/bin/bash", b"/bin/dash"))
+        asked(run.run, groups)
+        before = run.number()
+        run.does("reload")
+        run.awaited(before)
+        counts = run.order("-g").stdout.decode().split("\n\n")[1]
+        check("entries 1\n" in counts, f"after a reload nothing of its cache is back: {counts}")
         check(b"/bin/dash" in run.ask(b"root"), "a reload empties nothing")
-        done = subprocess.run([run.program, "-K", "--run-dir", run.run], timeout=20, check=False)
-        check(done.returncode == 0 and run.process.wait(10) == 0, "it does not end as it is told")
+        check(run.order("-K").returncode == 0 and run.process.wait(10) == 0, "it does not end as it is told")
+        said = run.process.stderr.read().decode().splitlines()
+        check(said.count(lines_of(wanted).strip()) == 1, f"it says {said}")
         refused = subprocess.run([run.serve, "reload"], capture_output=True, timeout=20, check=False)
         check((refused.returncode, refused.stderr) == (1, b"nscd: it does not run\n"), f"a reload of none: {refused}")
-        return "while it runs, a reload leaves a database to the C library whose list asks for more, serves it again, and tells so"
+        return f"a reload judges anew: within {longest:.1f} s another daemon serves less or more, with what was kept, and tells a line that is read otherwise"
+
+
+def asked(run, text):
+    with connected(run / "socket", 5) as peer:
+        peer.sendall(text)
+        return read_all(peer)

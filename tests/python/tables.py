@@ -125,7 +125,8 @@ def is_refused(*words):
 
 
 NO_RUN = "/dev/null/run"  # no folder of sockets can be there
-VALUES = {"invalidate": "group", "workload": "2", "config-file": "/dev/null", "nthreads": "2", "etc": "/none", "run-dir": NO_RUN, "gate": NO_RUN}
+VALUES = {"invalidate": "group", "workload": "2", "found-only": "passwd,group", "leave": "hosts,netgroup"}
+VALUES |= {"config-file": "/dev/null", "nthreads": "2", "etc": "/none", "run-dir": NO_RUN, "gate": NO_RUN}
 # What stands in each form in any case; a daemon or an order finds no folder of sockets, and so ends with status 8.
 ALONE = {"d": [], "g": ["-g"], "i": ["-ihosts"], "k": ["-K"], "r": ["--replay"], "w": ["--workload", "1"]}
 ENDS = {"d": 8, "g": 8, "i": 8, "k": 8, "r": 0, "w": 0}
