@@ -99,7 +99,7 @@ def built(top, theirs):
 def said(namespace, etc, module, run, asked, owned):
     """What the clients say, line by line; none if there may be no such namespace."""
     inside = [etc, module, run, ROOT / "tests/python/lookups.py", asked, owned]
-    done = subprocess.run([*namespace, "sh", "-c", INSIDE, "sh", *inside], capture_output=True, timeout=120, check=False)
+    done = subprocess.run([*namespace, "sh", "-c", INSIDE, "sh", *inside], capture_output=True, timeout=300, check=False)
     lines = done.stdout.decode().splitlines()
     return lines if done.returncode == 0 and lines else None
 

@@ -9,8 +9,8 @@ from running import FILES, NO_REPLY, PASSWD_BY_NAME, check, daemon, request
 FRONT = 8 << 20  # bytes that stand still, so that a read takes milliseconds
 PIECES, USERS = 300, 300  # the rest, by pieces and by users
 LOOKUPS, AFTERWARDS = 40, 5
-TORN = 8  # lookups whose read may fall between two pieces wholly
-ROUNDS = 4  # in which a busy machine may let the writer stand still for longer
+TORN = 20  # lookups whose read may fall between two pieces wholly
+ROUNDS = 6  # in which a busy machine may let the writer stand still for longer
 
 # Cuts the rest of a file off and writes it anew by small pieces, and then lets it stand a while, without an end.
 WRITER = """
