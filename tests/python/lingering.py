@@ -24,7 +24,7 @@ OURS = 3 * MANY  # descriptors of a process that attacks
 GROUP = 10  # connections of each kind that come at once
 PAUSE = 0.1  # seconds until the next ones come, so that nobody is sent away as one of too many
 TURNS, TURN = 160, 0.05  # closes that wait one after another, and seconds of each, less than it takes until a closer counts as held
-SCARCE = 256  # descriptors of a daemon of which so many closes take all that may wait for a closer
+SCARCE = 256  # descriptors of a daemon, of which as many closes take all that may wait for a closer
 
 # What comes with a descriptor, where, and whether the peer stays. Requests that are whole, refused and cut off, and lines so too.
 KINDS = (

@@ -172,7 +172,7 @@ class Crowd:
 
 
 def crowd_of(work):
-    """So many talks of a seed: how many were read to their end, the longest wait for an answer to whole bytes, and what was wrong."""
+    """Talks by a seed: how many were read to their end, the longest wait for an answer to whole bytes, and what was wrong."""
     seed, folder, count = work
     crowd, going = Crowd(seed), []
     answered, longest, faults = 0, 0.0, []
@@ -203,7 +203,7 @@ def crowd_of(work):
 
 
 def beside(pool, many, threads, seed, count):
-    """A daemon with so many workers beside a crowd."""
+    """A daemon with a number of workers beside a crowd."""
     with daemon("-t", threads, started=False, descriptors=DESCRIPTORS) as run:
         (run.etc / "passwd").write_bytes(PASSWD)
         run.words = (*run.words, "--gate", run.run / "gate")

@@ -14,7 +14,7 @@ SLOW = 1.0  # seconds that no reply may take
 LOST = 2.0  # seconds after which a client gives its request up
 AGAIN = 0.005  # seconds until a client that was sent away asks again
 CLIENTS, AT_GATE = 40, 8  # honest clients, and how many of them have a connection to the gate
-MISSES = 20  # each so many requests one asks for a name that was never asked
+MISSES = 20  # in as many requests one asks for a name that was never asked
 
 
 def send_with(peer, sent, descriptor):

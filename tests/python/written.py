@@ -77,7 +77,7 @@ def written_in_place():
     while len(seen) < ROUNDS and (not seen or seen[-1][2] > TORN):
         seen.append(ask_while_written())
     found, closed, torn = seen[-1]
-    check(torn <= TORN, f"of {LOOKUPS} users in a file that is written in place so many are found, unanswered and not found: {seen}")
+    check(torn <= TORN, f"of {LOOKUPS} users in a file that is written in place these are found, unanswered and not found: {seen}")
     check(found, f"of {LOOKUPS} users in a file that is written in place none is found")
     return f"of {LOOKUPS} users in a file that is written in place {found} are found, {closed} lookups are closed unanswered, and {torn} find a torn file"
 
