@@ -1,5 +1,5 @@
 -- Which job a closer begins, what is left open, and when closers are held.
-use Rattle.std.specs.Prelude.{◌≡◌, ◌⊎◌, ℕ, ◌+◌, ◌-◌, ◌<◌, ◌≤◌, ◌↔◌, Bool, true, false, ◌∷◌, Option, Some, None, count_by, length, min, nat_le, slice_set, IsTrue, List, []}
+use Rattle.std.specs.Prelude.{◌≡◌, ◌⊎◌, ℕ, ◌+◌, ◌-◌, ◌/◌, ◌<◌, ◌≤◌, ◌↔◌, Bool, true, false, ◌∷◌, Option, Some, None, count_by, length, min, nat_le, nat_lt, slice_set, IsTrue, List, []}
 use Rattle.std.specs.Duration.{as_nanos, max_nanos}
 use Rattle.std.specs.declared.time.Duration.{Duration}
 use Rattle.nsc_closers.specs.declared.queue.Queue.{Queue}
@@ -21,10 +21,15 @@ is_held now (Some since) = nat_le 100000000 (as_nanos now - as_nanos since)
 abbrev pub held : {T : Type 0} → (now : Duration) → Queue T → ℕ
 held now queue = count_by (is_held now) queue.at_work.items
 
--- a closer is to be called: one rests, and the job must not wait for it; or one sleeps, none was called, and none rests
+-- a closer's rest ends: the list holds a quarter of the jobs that fill it
+abbrev pub WakesRest : (count full : ℕ) → Bool → Type 0
+WakesRest count full is_resting = IsTrue is_resting × (full / 4 ≤ count)
+
+-- A closer is to be called: one rests, and the job is urgent or the list is a quarter full; or one sleeps, none was called, and none rests.
 abbrev pub IsWanted : {T : Type 0} → Bool → Queue T → Type 0
 IsWanted is_urgent queue =
     (IsTrue is_urgent × (0 < queue.resting))
+    ⊎ WakesRest (length queue.jobs.items) queue.full (nat_lt 0 queue.resting)
     ⊎ ((0 < queue.sleeping) × (queue.is_called ≡ false) × (queue.resting ≡ 0))
 
 -- A closer began the first job. It looks at the job first exactly while jobs are to be looked at.

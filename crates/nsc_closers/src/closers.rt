@@ -11,6 +11,17 @@ use std::thread;
 use std::thread::Threads;
 use std::time::{Clock, Duration};
 
+/// How much a list of jobs is made for.
+#[derive(Clone, Copy, Debug)]
+pub struct Bounds {
+    /// How many jobs have room.
+    pub places: usize,
+    /// How many jobs fill the list. A closer's rest ends early if a quarter as many wait.
+    pub full: usize,
+    /// How many jobs may be left open.
+    pub aside: usize,
+}
+
 /// A list of jobs, and the threads that close them, one at a time each. If all these threads are held by their jobs for 100
 /// milliseconds, or the first job waits for as long, one more is made, up to 32. For a minute after that each job is looked at before it
 /// is closed, and one that may take long is left open. It is over once all 32 are held, or as many jobs are left open as may be.
@@ -21,15 +32,10 @@ pub struct Closers<T: Drop, R: Drop> {
 }
 
 impl<T: Drop, R: Drop> Closers<T, R> {
-    /// Makes a list without threads, with memory for a number of jobs, and for those that may be left open.
-    pub fn new(
-        alloc: Global,
-        system: R,
-        jobs: usize,
-        aside: usize,
-    ) -> Result<Closers<T, R>, NoMemory> {
+    /// Makes a list without threads, with memory for as many jobs as `bounds` tells.
+    pub fn new(alloc: Global, system: R, bounds: Bounds) -> Result<Closers<T, R>, NoMemory> {
         let shared = Shared {
-            queue: Mutex::new(Queue::new(alloc, jobs, aside)?),
+            queue: Mutex::new(Queue::new(alloc, bounds)?),
             called: Condvar::new(),
             stirred: Condvar::new(),
             waiting: AtomicU64::new(0),
@@ -89,7 +95,7 @@ impl<T: Closing + Drop + Send + 'static> Crew<T> {
 }
 
 impl<T: Drop, R: Wait + Clock + Drop> Closers<T, R> {
-    /// Puts a job at the end, and waits for nobody. An urgent one does not wait for a closer that rests.
+    /// Puts a job at the end, and waits for nobody. A closer's rest ends if the job is urgent, or if the list is a quarter full.
     pub fn put(&self, job: T, is_urgent: bool) {
         let now = self.system.monotonic().unwrap_or(Duration::ZERO);
         let mut queue = self.shared.queue.lock(&self.system);

@@ -6,5 +6,5 @@ mod closing;
 mod queue;
 mod threads;
 
-pub use closers::{Closers, Crew};
+pub use closers::{Bounds, Closers, Crew};
 pub use closing::Closing;

@@ -1,8 +1,9 @@
 // What waits to be closed, what is left open, and which closers are held.
 ghost use Rattle.std.specs.Prelude.{◌≡◌, ◌≤◌, ◌<◌, ◌↔◌, [], IfNone, IfOk, IfSome, IsTrue, Some, None, count_by, length, slice_set, true, false, ◌+◌, ◌++◌, ◌∷◌, ◌⊎◌};
 ghost use Rattle.std.specs.Duration.{as_nanos};
-ghost use Rattle.nsc_closers.specs.Closing.{Begins, Ends, IsWanted, IsWary, WatchesSo, is_held, is_late};
+ghost use Rattle.nsc_closers.specs.Closing.{Begins, Ends, IsWanted, IsWary, WakesRest, WatchesSo, is_held, is_late};
 
+use crate::closers::Bounds;
 use std::alloc::{AllocError, Global};
 use std::collections::VecDeque;
 use std::mem;
@@ -20,6 +21,9 @@ const WARY: u64 = 60;
 // Jobs are near each other if no more time lies between two, in microseconds.
 const NEAR: u64 = 100;
 
+// The part of a full list at which a closer's rest ends.
+const WAKING_PART: usize = 4;
+
 /// A job, and the moment at which it was put.
 #[derive(Drop)]
 pub(crate) struct Timed<T: Drop> {
@@ -33,6 +37,8 @@ pub(crate) struct Queue<T: Drop> {
     pub(crate) jobs: VecDeque<Timed<T>>,
     /// The jobs that are left open.
     pub(crate) aside: Vec<T>,
+    /// How many jobs fill the list.
+    pub(crate) full: usize,
     /// How many jobs may be left open.
     pub(crate) most_aside: usize,
     /// Since when each closer is at its job, if it has one.
@@ -72,15 +78,17 @@ pub(crate) enum Watch {
 }
 
 impl<T: Drop> Queue<T> {
-    /// Makes a list without jobs and closers, and takes memory for a number of jobs, for those left open, and for all closers.
-    pub(crate) fn new(alloc: Global, jobs: usize, aside: usize) -> Result<Queue<T>, AllocError>
-        ensures { IfOk result (λ queue. (queue.jobs.items ≡ []) × (queue.at_work.items ≡ []) × (queue.is_over ≡ false)) }
+    /// Makes a list without jobs and closers, and takes memory for the jobs of `bounds`, for those left open, and for all closers.
+    pub(crate) fn new(alloc: Global, bounds: Bounds) -> Result<Queue<T>, AllocError>
+        ensures empty { IfOk result (λ queue. (queue.jobs.items ≡ []) × (queue.at_work.items ≡ []) × (queue.is_over ≡ false)) }
+        ensures bounds { IfOk result (λ queue. (queue.full ≡ bounds.full) × (queue.most_aside ≡ bounds.aside)) }
     {
-        let most_kept = aside.saturating_add(MOST_CLOSERS);
+        let most_kept = bounds.aside.saturating_add(MOST_CLOSERS);
         Ok(Queue {
-            jobs: VecDeque::with_capacity(alloc, jobs)?,
+            jobs: VecDeque::with_capacity(alloc, bounds.places)?,
             aside: Vec::with_capacity(alloc, most_kept)?,
-            most_aside: aside,
+            full: bounds.full,
+            most_aside: bounds.aside,
             at_work: Vec::with_capacity(alloc, MOST_CLOSERS)?,
             wary_until: Duration::ZERO,
             is_over: false,
@@ -105,13 +113,17 @@ impl<T: Drop> Queue<T> {
         }
     }
 
-    /// Tells whether to call a closer, which is on its way then: one sleeps, none was called, and none rests, unless the job must not
-    /// wait for one that rests.
+    /// Tells whether to call a closer. One that rests is called if the job is urgent, or if the list is a quarter full. Else one that
+    /// sleeps is called, if none rests and none was called, and is on its way then.
     pub(crate) fn call(&mut self, is_urgent: bool) -> bool
         ensures wanted { IsTrue result ↔ IsWanted is_urgent self.old }
         ensures rest { self.new ≡ record self.old { is_called = self.new.is_called } }
     {
-        if is_urgent && self.resting > 0 {
+        let is_resting = self.resting > 0;
+        if is_urgent && is_resting {
+            return true;
+        }
+        if wakes_rest(self.jobs.len(), self.full, is_resting) {
             return true;
         }
         let is_wanted = self.sleeping > 0 && !self.is_called && self.resting == 0;
@@ -219,6 +231,13 @@ impl<T: Drop> Queue<T> {
     pub(crate) fn is_busy(&self) -> bool {
         !self.jobs.is_empty() || self.at_work.iter().any(|since| since.is_some())
     }
+}
+
+// Tells whether a closer's rest ends: the list holds a quarter of the jobs that fill it.
+fn wakes_rest(count: usize, full: usize, is_resting: bool) -> bool
+    ensures { IsTrue result ↔ WakesRest count full is_resting }
+{
+    is_resting && count >= full / WAKING_PART
 }
 
 // How many closers are at one job for so long that they are held.
