@@ -3,7 +3,7 @@ use nsc_base::NoMemory;
 use nsc_yields::Yields;
 use std::alloc::Global;
 use std::sync::atomic::{AtomicU64, Ordering};
-use std::sync::{Condvar, Mutex, MutexGuard, Wait};
+use std::sync::{Arc, Condvar, Mutex, MutexGuard, Wait};
 use std::thread;
 use std::time::{Clock, Duration};
 
@@ -19,18 +19,19 @@ pub struct JobList<T: Drop> {
     queue: Mutex<Queue<T>>,
     woken: Condvar,
     // The number of jobs, for a look without the lock.
-    jobs: AtomicU64,
+    jobs: Arc<AtomicU64>,
     may_look: bool,
 }
 
 impl<T: Drop> JobList<T> {
-    /// An open list without jobs, of which there may be so many. With fewer than three processors no worker looks for jobs, which would
-    /// keep others from running.
-    pub fn new(alloc: Global, processors: usize, most: usize) -> JobList<T> {
+    /// Makes an open list without jobs, for at most `most`. With fewer than three processors no worker looks for jobs, which would keep
+    /// others from running. `jobs` tells how many jobs wait, without a lock.
+    pub fn new(alloc: Global, processors: usize, most: usize, jobs: Arc<AtomicU64>) -> JobList<T> {
+        jobs.store(0, Ordering::SeqCst);
         JobList {
             queue: Mutex::new(Queue::new(alloc, most)),
             woken: Condvar::new(),
-            jobs: AtomicU64::new(0),
+            jobs,
             may_look: processors >= 3,
         }
     }

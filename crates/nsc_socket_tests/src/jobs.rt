@@ -1,5 +1,6 @@
 use nsc_jobs::JobList;
-use std::sync::Wait;
+use std::sync::atomic::AtomicU64;
+use std::sync::{Arc, Wait};
 use std::thread;
 use std::time::Clock;
 
@@ -26,7 +27,8 @@ fn put_all<R: Wait + Clock>(rt: &R, jobs: &JobList<u64>) {
 // Two workers take each job of a third thread once.
 #[test]
 fn jobs_of_many_threads(rt: HostRuntime) {
-    let jobs = JobList::new(rt.alloc(), 4, 1000);
+    let count = Arc::new(rt.alloc(), AtomicU64::new(0)).expect(&rt, "out of memory");
+    let jobs = JobList::new(rt.alloc(), 4, 1000, count);
     let (_, (first, second)) = thread::join(
         &rt,
         || put_all(&rt, &jobs),
