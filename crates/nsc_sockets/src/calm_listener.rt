@@ -4,6 +4,8 @@ ghost use Rattle.nsc_outside.specs.CallPlan.{risen};
 ghost use Rattle.nsc_sockets.specs.Connections.{IsPeer};
 ghost use Rattle.nsc_sockets.specs.CalmListener.{CalmListener};
 
+use crate::attended::Attended;
+use crate::helper::NoHelper;
 use crate::listener::{Accepted, Listener, Prepared};
 use crate::no_departure::NoDeparture;
 use crate::peer_source::PeerSource;
@@ -33,6 +35,12 @@ impl Sink for CalmSink {
         ensures never { IfErr result (λ _. ⊥) }
     {
         Ok(bytes.len())
+    }
+}
+
+impl Attended for CalmSink {
+    fn has_gone(&self) -> bool {
+        false
     }
 }
 
@@ -88,6 +96,8 @@ impl Listener for CalmListener {
 
     type Departure = NoDeparture;
 
+    type Helper = NoHelper;
+
     ghost faults = { λ l. l.faults };
 
     ghost given = { λ _. Some [] };
@@ -102,6 +112,7 @@ impl Listener for CalmListener {
     {
         Ok(Prepared {
             most: usize::MAX,
+            jobs: None,
             crew: None,
         })
     }

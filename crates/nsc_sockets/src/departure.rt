@@ -21,8 +21,8 @@ pub enum Departure {
     Close(Stream),
     /// Takes the lines that were served from a connection of the gate, which is pending again then.
     Take(Taking),
-    /// Closes a listening socket, with those that wait there.
-    Door(UnixListener),
+    /// Drops a handle on a listening socket. The last one closes it, with the connections that wait there.
+    Door(Arc<UnixListener>),
 }
 
 /// A connection of the gate whose lines were served.

@@ -1,9 +1,12 @@
+// A listening socket, and what is known of the connections that wait there.
 use crate::role::Role;
+use libc::net::{SHUT_RDWR, shutdown};
 use mio::unix::SourceFd;
 use mio::{Interest, Registry, Token};
 use std::io;
 use std::os::fd::{AsRawFd, OwnedFd};
 use std::os::unix::net::UnixListener;
+use std::sync::Arc;
 
 /// Whether connections wait at a door. The system tells of a change once, so a door that is left with some must not be
 /// taken for one without.
@@ -18,7 +21,7 @@ enum More {
 #[derive(Drop)]
 pub(crate) struct Door {
     role: Role,
-    socket: UnixListener,
+    socket: Arc<UnixListener>,
     more: More,
 }
 
@@ -29,7 +32,7 @@ impl Door {
         registry: &Registry,
         token: Token,
         role: Role,
-        socket: UnixListener,
+        socket: Arc<UnixListener>,
     ) -> io::Result<Door> {
         let number = socket.as_raw_fd();
         registry.register(&mut SourceFd(&number), token, Interest::READABLE)?;
@@ -40,8 +43,14 @@ impl Door {
         })
     }
 
-    /// The socket, to be closed where that may take long.
-    pub(crate) fn into_socket(self) -> UnixListener {
+    /// Makes one more handle on the socket. `None` if memory is short.
+    pub(crate) fn share(&self) -> Option<Arc<UnixListener>> {
+        Arc::try_clone(&self.socket).ok()
+    }
+
+    /// Has nobody connect from now on, and gives this handle on the socket, whose close may take long.
+    pub(crate) fn end(self) -> Arc<UnixListener> {
+        let _ = shutdown(self.socket.as_raw_fd(), SHUT_RDWR);
         self.socket
     }
 
@@ -55,9 +64,14 @@ impl Door {
         self.more = More::Yes;
     }
 
-    /// Whether the system told of a connection that may not have been taken.
-    pub(crate) fn is_open(&self) -> bool {
-        self.more == More::Yes
+    /// Tells whether to take a connection: the system told of one that may not have been taken, or one may have come since the last and
+    /// connections are near each other.
+    pub(crate) fn is_open(&self, is_near: bool) -> bool {
+        match self.more {
+            More::Yes => true,
+            More::Unknown => is_near,
+            More::No => false,
+        }
     }
 
     /// Whether no connection waits of which the system is not going to tell.

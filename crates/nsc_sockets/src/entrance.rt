@@ -1,5 +1,10 @@
+// The listening sockets of a process, and the connections that wait to be given out.
+mod helping;
+mod resting;
+
 use crate::departure::Departure;
 use crate::door::Door;
+use crate::entrance::helping::polls;
 use crate::guest::{Guest, ReadyGuest};
 use crate::listener::Accepted;
 use crate::notice::Notice;
@@ -8,8 +13,9 @@ use crate::patience::{Patience, patient_of};
 use crate::peer::{Departures, Peer};
 use crate::role::Role;
 use crate::stream::may_pass;
+use crate::team::Team;
 use crate::unix_input::UnixInput;
-use crate::unix_output::UnixOutput;
+use crate::unix_output::{NARROW, UnixOutput};
 use crate::waiting_room::WaitingRoom;
 use mio::{Events, Poll, Registry, Token};
 use nsc_lines::Lines;
@@ -19,6 +25,7 @@ use std::alloc::Global;
 use std::collections::VecDeque;
 use std::net::Net;
 use std::os::unix::net::UnixListener;
+use std::sync::atomic::AtomicU64;
 use std::sync::{Arc, Wait};
 use std::time::{Clock, Duration};
 use std::{io, thread};
@@ -31,8 +38,10 @@ const LONGEST: u64 = 1;
 
 const TURNS: u32 = 1_000_000;
 
-// While connections are near each other, so many turns pass without sleep.
-const WAKEFUL: u32 = 50;
+// After so many connections, or so long, the system is asked what it tells, in milliseconds.
+const UNASKED: u32 = 64;
+
+const ASKED: u64 = 1;
 
 // How long a call pauses, in milliseconds, where it could not take a connection and there is none to close.
 const PAUSE: u64 = 1;
@@ -47,8 +56,10 @@ struct Stirred {
 /// What an entrance is made with.
 #[derive(Drop)]
 pub(crate) struct Means<R: Wait + Clock + Drop> {
-    /// How many connections may wait for bytes, and as many for a closer.
+    /// How many connections may wait for bytes, as many for a worker, and as many for a closer.
     pub(crate) share: usize,
+    /// How many wait for a worker.
+    pub(crate) jobs: Arc<AtomicU64>,
     /// The closers.
     pub(crate) departures: Departures<R>,
     /// Where the administrator is told.
@@ -76,6 +87,16 @@ pub(crate) struct Entrance<R: Wait + Clock + Drop> {
     is_wakeful: bool,
     // What was told of a want of descriptors.
     notice: Notice,
+    team: Arc<Team<R>>,
+    // The polls of helpers that are not made yet.
+    spare: Vec<Poll>,
+    // How many connections in a row were found at the first look.
+    streak: u32,
+    // Whether a helper is in charge of the plain socket.
+    is_lent: bool,
+    // When the system was asked last what it tells, and how many connections were looked for since.
+    asked: Duration,
+    unasked: u32,
 }
 
 impl<R: Wait + Clock + Clone + Drop> Entrance<R> {
@@ -90,6 +111,8 @@ impl<R: Wait + Clock + Clone + Drop> Entrance<R> {
         let poll = Poll::new(net)?;
         let registry = Arc::new(alloc, poll.registry().try_clone()?)?;
         let room = WaitingRoom::new(alloc, means.share)?;
+        let spare = polls(alloc, net)?;
+        let team = Team::new(alloc, poll.registry(), HANDED, &spare)?;
         Ok(Entrance {
             alloc,
             means,
@@ -105,32 +128,39 @@ impl<R: Wait + Clock + Clone + Drop> Entrance<R> {
             places: 0,
             is_wakeful: processors >= 3,
             notice: Notice::new(),
+            team: Arc::new(alloc, team)?,
+            spare,
+            streak: 0,
+            is_lent: false,
+            asked: Duration::ZERO,
+            unasked: 0,
         })
     }
 
     /// Takes connections of this role from this socket too, which makes no call wait.
     pub(crate) fn add_door(&mut self, role: Role, socket: UnixListener) -> io::Result<()> {
         let token = door_token(self.doors.len());
+        let socket = Arc::new(self.alloc, socket)?;
         let door = Door::new(self.poll.registry(), token, role, socket)?;
         self.doors.push(door)?;
         Ok(())
     }
 
-    /// Ends all patience, also of those that wait, and has the doors and whoever was not given out closed.
+    /// Ends all patience, also of those that wait, and the helpers, and has the doors and whoever was not given out closed.
     pub(crate) fn close(self) {
         let Entrance {
             means,
             doors,
             room,
             patience,
+            team,
             ..
         } = self;
         patience.allow(0);
+        team.end();
         drop(room);
         for door in doors {
-            means
-                .departures
-                .put(Departure::Door(door.into_socket()), true);
+            means.departures.put(Departure::Door(door.end()), true);
         }
     }
 
@@ -140,17 +170,22 @@ impl<R: Wait + Clock + Clone + Drop> Entrance<R> {
     }
 
     /// The next connection that can be given out, or `Quiet` after a second without one. It fails if the closers can close no more.
+    ///
+    /// If the connection is an administrator's, a helper has charge of the plain socket until the next call.
     pub(crate) fn accept(
         &mut self,
         clock: &R,
     ) -> io::Result<Accepted<UnixInput<R>, UnixOutput<R>>> {
+        self.take_back();
         let begun = clock.monotonic()?;
+        self.ask_if_due(begun);
         let mut now = begun;
         for turn in 0..TURNS {
             if self.pace.begin_round(now) {
                 self.begin_round(now)?;
             }
             if let Some(accepted) = self.next(clock, now) {
+                self.note_found(turn, &accepted);
                 return Ok(accepted);
             }
             let waited = now.saturating_sub(begun);
@@ -189,9 +224,12 @@ impl<R: Wait + Clock + Clone + Drop> Entrance<R> {
         Some(accepted)
     }
 
-    // Those that stirred come first, then those that stand, then those at the doors.
+    // Those that stirred come first, then those of helpers, then those that stand, then those at the doors.
     fn next_ready(&mut self, clock: &R, now: Duration) -> Option<ReadyGuest<R>> {
         if let Some(ready) = self.next_stirred(now) {
+            return Some(ready);
+        }
+        if let Some(ready) = self.next_handed(clock) {
             return Some(ready);
         }
         let may_stand = self.yields.may_yield(now);
@@ -237,8 +275,9 @@ impl<R: Wait + Clock + Clone + Drop> Entrance<R> {
         at: usize,
         may_stand: bool,
     ) -> Option<ReadyGuest<R>> {
+        let is_near = self.pace.is_near();
         let door = self.doors.get_mut(at)?;
-        if !door.is_open() {
+        if !door.is_open(is_near) {
             return None;
         }
         let role = door.role();
@@ -247,6 +286,9 @@ impl<R: Wait + Clock + Clone + Drop> Entrance<R> {
             Ok(socket) => {
                 self.places = self.places.saturating_sub(1);
                 let peer = Peer::arrived(self.alloc, socket, &self.means.departures).ok()?;
+                if role == Role::Gate {
+                    peer.bound_unsent(NARROW);
+                }
                 let guest = Guest::new(role, peer, now);
                 self.room.receive(self.poll.registry(), guest, may_stand)
             }
@@ -288,92 +330,14 @@ impl<R: Wait + Clock + Clone + Drop> Entrance<R> {
     fn tell(&self, line: &str) {
         self.means.lines.tell(line);
     }
-
-    // Rests. Where memory was wanting for it, it pauses, and the next turn tries again.
-    fn rest_or_pause(
-        &mut self,
-        clock: &R,
-        turn: u32,
-        now: Duration,
-        left: Duration,
-    ) -> io::Result<bool> {
-        match self.rest(turn, now, left) {
-            Err(error) if may_pass(&error) || error.kind() == io::ErrorKind::OutOfMemory => {
-                thread::sleep(clock, Duration::from_millis(PAUSE));
-                Ok(false)
-            }
-            outcome => outcome,
-        }
-    }
-
-    // Waits until the system tells of something, at most for as long as is left. It does not sleep while there is work, nor at
-    // first while connections are near each other, unless the processors are busy. While no more connections are taken it looks again
-    // after a moment. Whether it yielded.
-    fn rest(&mut self, turn: u32, now: Duration, left: Duration) -> io::Result<bool> {
-        if self.is_crowded() {
-            self.poll
-                .poll(&mut self.events, Some(Duration::from_millis(PAUSE)))?;
-            self.note_events();
-            return Ok(false);
-        }
-        let is_unknown = self.doors.iter().any(|door| door.is_unknown());
-        let may_yield = self.yields.may_yield(now);
-        let looks_on = may_yield && self.is_wakeful && self.pace.is_near() && turn < WAKEFUL;
-        let is_awake = looks_on || self.has_work();
-        let limit = if is_awake { Duration::ZERO } else { left };
-        self.poll.poll(&mut self.events, Some(limit))?;
-        let has_news = !self.events.is_empty();
-        self.note_events();
-        let yields = may_yield && is_awake && !has_news && !is_unknown;
-        if is_unknown {
-            self.ask_doors()?;
-        }
-        if yields {
-            thread::yield_now();
-        }
-        Ok(yields)
-    }
-
-    // Whether there is somebody to look at of whom the system is not going to tell again.
-    fn has_work(&self) -> bool {
-        !self.stirred.is_empty()
-            || self.room.has_standing()
-            || self.doors.iter().any(|door| !door.is_quiet())
-    }
-
-    // Notes whom the system told of.
-    fn note_events(&mut self) {
-        for event in self.events.iter() {
-            let Token(token) = event.token();
-            if token < SEATS {
-                if let Some(door) = self.doors.get_mut(token) {
-                    door.open();
-                }
-            } else {
-                let _ = self.stirred.push_back(Stirred {
-                    token,
-                    has_ended: event.is_read_closed(),
-                });
-            }
-        }
-    }
-
-    // The doors of which it is still not known whether connections wait there are asked, so that the next wait tells.
-    fn ask_doors(&mut self) -> io::Result<()> {
-        for at in 0..self.doors.len() {
-            if let Some(door) = self.doors.get_mut(at) {
-                if door.is_unknown() {
-                    door.ask(self.poll.registry(), door_token(at))?;
-                }
-            }
-        }
-        Ok(())
-    }
 }
 
-// The token of a door. There are few, and those of connections begin behind the number of seats.
+// The token of the waker of the first thread. Those of connections begin behind the number of seats.
+const HANDED: Token = Token(SEATS - 1);
+
+// The token of a door. There are few.
 fn door_token(at: usize) -> Token {
-    Token(at.min(SEATS - 1))
+    Token(at.min(SEATS - 2))
 }
 
 // The system's numbers for the errors that the process, or all of them together, have as many open files as they may.

@@ -199,11 +199,23 @@ impl<R: Wait + Clock + Drop> ReadyGuest<R> {
             Role::Plain | Role::Gate => Some(Arc::try_clone(patience)?),
         };
         let input = UnixInput::arrived(ahead, lease);
-        let output = UnixOutput::arrived(clock, peer, patience);
+        let output = UnixOutput::arrived(clock, peer, patience, role == Role::Gate);
         Ok(Accepted::Conn {
             role,
             input,
             output,
         })
+    }
+
+    /// Makes the two ends of a connection of the plain socket. If memory is short, it is closed.
+    pub(crate) fn into_plain_ends(
+        self,
+        clock: R,
+        patience: &Arc<Patience>,
+    ) -> Result<(UnixInput<R>, UnixOutput<R>), NoMemory> {
+        let patience = Some(Arc::try_clone(patience)?);
+        let ReadyGuest { peer, ahead, .. } = self;
+        let input = UnixInput::arrived(ahead, None);
+        Ok((input, UnixOutput::arrived(clock, peer, patience, false)))
     }
 }

@@ -2,6 +2,7 @@
 #![tactic(auto)]
 
 mod arrival;
+mod attended;
 mod bind_error;
 mod binding;
 mod calm_listener;
@@ -11,6 +12,7 @@ mod door;
 mod entrance;
 mod folder;
 mod guest;
+mod helper;
 mod host_clock;
 mod lease;
 mod listener;
@@ -26,6 +28,8 @@ mod role;
 mod shared_sink;
 mod shares;
 mod stream;
+mod team;
+mod unix_helper;
 mod unix_input;
 mod unix_listener;
 mod unix_output;
@@ -33,9 +37,11 @@ mod waiting_room;
 mod whole_lines;
 
 pub use arrival::{Arrival, Peer};
+pub use attended::Attended;
 pub use calm_listener::{CalmListener, CalmSink};
 pub use clock::Clock;
 pub use departure::Departure;
+pub use helper::{Helps, NoHelper};
 pub use host_clock::HostClock;
 pub use listener::{Accepted, Listener, Prepared};
 pub use mem_clock::MemClock;
@@ -44,6 +50,7 @@ pub use no_departure::NoDeparture;
 pub use peer_source::PeerSource;
 pub use role::Role;
 pub use shared_sink::{SharedSink, SinkReader};
+pub use unix_helper::UnixHelper;
 pub use unix_input::UnixInput;
 pub use unix_listener::UnixListener;
 pub use unix_output::UnixOutput;

@@ -2,10 +2,13 @@ ghost use Rattle.std.specs.Prelude.{◌≡◌, ℕ, List, Option, IfOk, OnOk, On
 ghost use Rattle.nsc_model.specs.Reads.{Rose};
 ghost use Rattle.nsc_sockets.specs.Connections.{BindsOne, Connection, Gives, IsPeer, Socket};
 
+use crate::attended::Attended;
 use crate::role::Role;
 use nsc_base::NoMemory;
 use nsc_closers::{Closing, Crew};
 use nsc_outside::{Failed, Sink, Source};
+use std::sync::Arc;
+use std::sync::atomic::AtomicU64;
 
 /// What a listener found.
 #[derive(Drop)]
@@ -28,6 +31,8 @@ pub enum Accepted<R: Drop, K: Drop> {
 pub struct Prepared<T: Drop> {
     /// How many connections may wait for a worker.
     pub most: usize,
+    /// The count of those that wait for a worker, if the listener asks for it.
+    pub jobs: Option<Arc<AtomicU64>>,
     /// What makes the threads that close connections, if there are to be any.
     pub crew: Option<Crew<T>>,
 }
@@ -38,10 +43,13 @@ pub trait Listener {
     type In: Source + Send + Drop;
 
     /// What a peer is sent.
-    type Out: Sink + Send + Drop;
+    type Out: Sink + Attended + Send + Drop;
 
     /// What is closed by threads of its own.
     type Departure: Closing + Send + Drop;
+
+    /// What takes connections beside the listener.
+    type Helper: Send + Drop;
 
     // How many calls have failed; the count stops at the greatest `u64`.
     ghost faults: { Self → ℕ };
@@ -98,6 +106,16 @@ pub trait Listener {
         ensures peer { peer self.new ≡ peer self.old }
         ensures calm { OnOk result (faults self.new ≡ faults self.old) }
         ensures failed { OnErr result (Rose (faults self.old) (faults self.new)) };
+
+    /// Makes one more helper at the plain socket, once it is bound. `None` if there is to be none.
+    fn helper(&mut self) -> Option<Self::Helper>
+        ensures given { given self.new ≡ given self.old }
+        ensures bound { bound self.new ≡ bound self.old }
+        ensures peer { peer self.new ≡ peer self.old }
+        ensures faults { faults self.new ≡ faults self.old }
+    {
+        None
+    }
 
     /// A connection to the socket of another process at this path.
     fn connect(&mut self, path: &str) -> Result<(Self::In, Self::Out), Failed>

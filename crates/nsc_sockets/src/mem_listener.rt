@@ -6,6 +6,7 @@ ghost use Rattle.nsc_sockets.specs.Connections.{Connection, Gives, IsPeer};
 ghost use Rattle.nsc_sockets.specs.MemListener.{MemListener, Wait, begun, given_after, FindsNext, Accepts};
 
 use crate::arrival::{Arrival, Peer};
+use crate::helper::NoHelper;
 use crate::listener::{Accepted, Listener, Prepared};
 use crate::no_departure::NoDeparture;
 use crate::peer_source::PeerSource;
@@ -221,6 +222,8 @@ impl Listener for MemListener {
 
     type Departure = NoDeparture;
 
+    type Helper = NoHelper;
+
     ghost faults = { λ l. l.faults };
 
     ghost given = { λ l. Some l.given };
@@ -235,6 +238,7 @@ impl Listener for MemListener {
     {
         Ok(Prepared {
             most: usize::MAX,
+            jobs: None,
             crew: None,
         })
     }

@@ -40,14 +40,10 @@ impl<R: Wait + Clock + Drop> Peer<R> {
             }
         };
         match Arc::new(alloc, stream) {
-            Ok(stream) => {
-                let peer = Peer {
-                    stream,
-                    departures: Some(departures),
-                };
-                peer.stream.be_prompt()?;
-                Ok(peer)
-            }
+            Ok(stream) => Ok(Peer {
+                stream,
+                departures: Some(departures),
+            }),
             Err(refused) => {
                 departures.put(Departure::Close(refused.value), false);
                 Err(io::Error::from(ErrorKind::OutOfMemory))
@@ -58,7 +54,6 @@ impl<R: Wait + Clock + Drop> Peer<R> {
     /// Makes the handle of a connection that this process made.
     pub(crate) fn reached(alloc: Global, socket: OwnedFd) -> io::Result<Peer<R>> {
         let stream = Arc::new(alloc, Stream::new(socket))?;
-        stream.be_prompt()?;
         Ok(Peer {
             stream,
             departures: None,
@@ -112,6 +107,16 @@ impl<R: Wait + Clock + Drop> Peer<R> {
     /// Notes that its peer waits for a reply and not for the end, so the end may come later.
     pub(crate) fn note_answered(&self) {
         self.stream.note_answered();
+    }
+
+    /// Bounds the bytes that may wait for the peer.
+    pub(crate) fn bound_unsent(&self, bytes: u32) {
+        self.stream.bound_unsent(bytes);
+    }
+
+    /// Tells whether the peer has closed its end.
+    pub(crate) fn has_gone(&self) -> bool {
+        self.stream.has_gone()
     }
 
     /// Copies bytes that have come, and leaves them for the next call. 0 if the peer sends no more.

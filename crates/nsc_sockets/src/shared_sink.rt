@@ -3,6 +3,7 @@ ghost use Rattle.nsc_model.specs.Reads.{Rose};
 ghost use Rattle.nsc_outside.specs.CallPlan.{risen};
 ghost use Rattle.nsc_sockets.specs.SharedSink.{known, signalled};
 
+use crate::attended::Attended;
 use nsc_base::{Bytes, NoMemory};
 use nsc_outside::{Failed, Release, Sink};
 use std::alloc::Global;
@@ -133,6 +134,12 @@ fn blank(alloc: Global, room: usize) -> Result<Vec<AtomicU8>, NoMemory>
         cells.push(AtomicU8::new(0))?;
     }
     Ok(cells)
+}
+
+impl Attended for SharedSink {
+    fn has_gone(&self) -> bool {
+        false
+    }
 }
 
 impl Sink for SharedSink {

@@ -2,8 +2,8 @@
 ghost use Rattle.std.specs.Prelude.{◌≡◌, ◌+◌, ◌*◌, ◌-◌, ◌/◌, min, max};
 
 // What the process needs besides its workers: the standard streams, the doors, the lock of the folder, what tells of bytes, the
-// connection and the file of the thread that accepts, and some to spare.
-const NEEDED: u64 = 16;
+// connection and the file of the thread that accepts, its waker, three for each of two helpers, and some to spare.
+const NEEDED: u64 = 23;
 
 // Each worker needs one for its connection, and one for the file that it reads.
 const OF_A_WORKER: u64 = 2;
@@ -16,7 +16,7 @@ const MOST: u64 = 4096;
 /// How many descriptors a process of this number of workers cannot do without: its own, and the least number of connections in each of
 /// the three places.
 pub(crate) fn least_of(workers: u32) -> u64
-    ensures { result ≡ 16 + 2 * workers + 12 }
+    ensures { result ≡ 23 + 2 * workers + 12 }
 {
     NEEDED + OF_A_WORKER * u64::from(workers) + 3 * LEAST
 }
@@ -24,7 +24,7 @@ pub(crate) fn least_of(workers: u32) -> u64
 /// How many connections may wait for this number of workers, as many for bytes, and as many for a closer: in each place a third of what
 /// the process does not need, at least 4 and at most 4,096.
 pub(crate) fn share_of(descriptors: u64, workers: u32) -> u64
-    ensures { result ≡ min (max ((descriptors - (16 + 2 * workers)) / 3) 4) 4096 }
+    ensures { result ≡ min (max ((descriptors - (23 + 2 * workers)) / 3) 4) 4096 }
 {
     let needed = NEEDED + OF_A_WORKER * u64::from(workers);
     (descriptors.saturating_sub(needed) / 3)

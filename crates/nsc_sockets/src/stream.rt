@@ -1,19 +1,27 @@
+// A connected socket, and its calls, none of which waits but those that are told how long they may.
 ghost use Rattle.std.specs.Prelude.{◌≤◌, length, IfOk};
+ghost use Rattle.libc.specs.Io.{Moved};
 
 use crate::whole_lines::MOST_SEEN;
+use libc::net as c;
+use libc::types::pollfd;
 use std::io;
-use std::io::{ErrorKind, Read, Write};
-use std::net::{Shutdown, TcpStream};
+use std::io::ErrorKind;
 use std::os::fd::{AsRawFd, OwnedFd, RawFd};
 use std::sync::atomic::{AtomicBool, Ordering};
 use std::time::Duration;
 
+// The flags of a call that does not wait.
+const PEEK: i32 = c::MSG_PEEK | c::MSG_DONTWAIT;
+
+const READ: i32 = c::MSG_DONTWAIT;
+
+const SEND: i32 = c::MSG_NOSIGNAL | c::MSG_DONTWAIT;
+
 /// A connected socket, and what its handles note of it.
 #[derive(Drop)]
 pub struct Stream {
-    // The library can look ahead at streams of this type alone. Each of its calls goes to the descriptor, which may be
-    // of any family.
-    socket: TcpStream,
+    socket: OwnedFd,
     // Whether a worker has the connection, which comes back when what had come is served.
     is_lent: AtomicBool,
     is_over: AtomicBool,
@@ -25,16 +33,18 @@ impl Stream {
     /// Takes a connected socket.
     pub(crate) fn new(socket: OwnedFd) -> Stream {
         Stream {
-            socket: TcpStream::from(socket),
+            socket,
             is_lent: AtomicBool::new(false),
             is_over: AtomicBool::new(false),
             is_answered: AtomicBool::new(false),
         }
     }
 
-    /// Has no call wait from now on.
-    pub(crate) fn be_prompt(&self) -> io::Result<()> {
-        self.socket.set_nonblocking(true)
+    /// Bounds the bytes that may wait for the peer, as SO_SNDBUF of socket(7) does. If the system refuses, its own bound stays.
+    pub(crate) fn bound_unsent(&self, bytes: u32) {
+        let mut value = [0u8; 16];
+        value[..4].copy_from_slice(&bytes.to_ne_bytes());
+        let _ = unsafe { c::setsockopt(self.as_raw_fd(), c::SOL_SOCKET, c::SO_SNDBUF, &value, 4) };
     }
 
     /// Notes that a worker has the connection.
@@ -56,7 +66,7 @@ impl Stream {
     pub(crate) fn end(&self) {
         self.is_over.store(true, Ordering::SeqCst);
         // One that the peer has left is over already.
-        let _ = self.socket.shutdown(Shutdown::Both);
+        let _ = c::shutdown(self.as_raw_fd(), c::SHUT_RDWR);
     }
 
     /// Whether it was ended.
@@ -73,61 +83,77 @@ impl Stream {
     pub(crate) fn tell_end(&self) {
         if !self.is_answered.load(Ordering::SeqCst) {
             // One that the peer has left is over already.
-            let _ = self.socket.shutdown(Shutdown::Write);
+            let _ = c::shutdown(self.as_raw_fd(), c::SHUT_WR);
         }
     }
 
     /// Takes nothing more from the peer from now on. What has come stays.
     pub(crate) fn stop_reading(&self) {
-        let _ = self.socket.shutdown(Shutdown::Read);
+        let _ = c::shutdown(self.as_raw_fd(), c::SHUT_RD);
     }
 
     /// Copies bytes that have come, and leaves them for the next call. 0 if the peer sends no more.
     pub(crate) fn peek(&self, room: &mut [u8]) -> io::Result<usize>
         ensures count { IfOk result (λ n. n ≤ length room.new) }
     {
-        self.socket.peek(room)
+        let most = room.len();
+        moved(unsafe { c::recv(self.as_raw_fd(), room, PEEK) }, most)
     }
 
     /// Takes bytes that have come. 0 if the peer sends no more.
     pub(crate) fn read(&self, room: &mut [u8]) -> io::Result<usize>
         ensures count { IfOk result (λ n. n ≤ length room.old) }
     {
-        (&self.socket).read(room)
+        let most = room.len();
+        moved(unsafe { c::recv(self.as_raw_fd(), room, READ) }, most)
     }
 
     /// As `read`; if no byte has come, waits for one, up to a time.
     pub(crate) fn read_within(&self, room: &mut [u8], limit: Duration) -> io::Result<usize>
         ensures count { IfOk result (λ n. n ≤ length room.old) }
     {
-        self.begin_wait(limit)?;
-        let outcome = self.read(room);
-        self.socket.set_nonblocking(true)?;
-        outcome
+        self.poll(c::POLLIN, limit)?;
+        self.read(room)
     }
 
     /// Sends bytes for which there is room, and gives their number.
     pub(crate) fn write(&self, bytes: &[u8]) -> io::Result<usize>
         ensures count { IfOk result (λ n. n ≤ length bytes.now) }
     {
-        (&self.socket).write(bytes)
+        moved(
+            unsafe { c::send(self.as_raw_fd(), bytes, SEND) },
+            bytes.len(),
+        )
     }
 
     /// As `write`; if there is no room, waits for some, up to a time.
     pub(crate) fn write_within(&self, bytes: &[u8], limit: Duration) -> io::Result<usize>
         ensures count { IfOk result (λ n. n ≤ length bytes.now) }
     {
-        self.begin_wait(limit)?;
-        let outcome = self.write(bytes);
-        self.socket.set_nonblocking(true)?;
-        outcome
+        self.poll(c::POLLOUT, limit)?;
+        self.write(bytes)
     }
 
-    // Both times are set, since calls of the other end wait as long as this one's does.
-    fn begin_wait(&self, limit: Duration) -> io::Result<()> {
-        self.socket.set_read_timeout(Some(limit))?;
-        self.socket.set_write_timeout(Some(limit))?;
-        self.socket.set_nonblocking(false)
+    /// Tells whether the peer has closed its end, so that nobody reads what it is sent.
+    pub(crate) fn has_gone(&self) -> bool {
+        match self.poll(0, Duration::ZERO) {
+            Ok(found) => found & c::POLLHUP != 0,
+            Err(_) => false,
+        }
+    }
+
+    // Asks poll(2) for events, for which it waits up to a time, and gives those that were found.
+    fn poll(&self, events: i16, limit: Duration) -> io::Result<i16> {
+        let mut asked = [pollfd {
+            fd: self.as_raw_fd(),
+            events,
+            revents: 0,
+        }];
+        let limit = i32::try_from(limit.as_millis()).unwrap_or(i32::MAX);
+        if c::poll(&mut asked, limit) < 0 {
+            return Err(last_error());
+        }
+        Ok(asked[0].revents)
     }
 
     /// Takes what the peer has sent, and closes. The system would tell a peer whose bytes are left lying that the connection was reset,
@@ -145,7 +171,23 @@ impl AsRawFd for Stream {
     }
 }
 
-/// Whether a call failed only because it would have had to wait, or was broken off by a signal: another try may succeed.
+// The number of bytes that a call of the C library moved, or its error.
+fn moved(count: isize, most: usize) -> io::Result<usize>
+    requires { Moved most count }
+    ensures { IfOk result (λ n. n ≤ most) }
+{
+    if count < 0 {
+        return Err(last_error());
+    }
+    Ok(count as usize)
+}
+
+// The error of the call of the C library that has just failed.
+fn last_error() -> io::Error {
+    io::Error::from_raw_os_error(os::errno())
+}
+
+/// Tells whether a call failed only because it would have had to wait, or was broken off by a signal: another try may succeed.
 pub(crate) fn may_pass(error: &io::Error) -> bool {
     matches!(error.kind(), ErrorKind::WouldBlock | ErrorKind::Interrupted)
 }

@@ -11,11 +11,12 @@ use crate::patience::Patience;
 use crate::peer::{Departures, Peer};
 use crate::role::Role;
 use crate::shares::{least_of, share_of};
+use crate::unix_helper::UnixHelper;
 use crate::unix_input::UnixInput;
 use crate::unix_output::UnixOutput;
 use libc::types::rlimit;
 use nsc_base::NoMemory;
-use nsc_closers::Closers;
+use nsc_closers::{Bounds, Closers};
 use nsc_lines::Lines;
 use nsc_outside::Failed;
 use std::alloc::Global;
@@ -27,6 +28,7 @@ use std::os::fd::OwnedFd;
 use std::os::unix::fs::FileTypeExt;
 use std::os::unix::net::UnixListener as Socket;
 use std::rt::Files;
+use std::sync::atomic::AtomicU64;
 use std::sync::{Arc, Wait};
 use std::time::{Clock, Duration};
 use std::{fs, io};
@@ -60,6 +62,8 @@ pub struct UnixListener<R: Files<File = File> + Net + Wait + Clock + Clone + Dro
     // So many connections may wait in each place.
     share: usize,
     departures: Option<Departures<R>>,
+    // How many connections wait for a worker.
+    jobs: Option<Arc<AtomicU64>>,
     folders: Vec<Folder>,
     paths: Vec<String>,
     entrance: Option<Entrance<R>>,
@@ -88,6 +92,7 @@ impl<R: Files<File = File> + Net + Wait + Clock + Clone + Drop> UnixListener<R> 
             workers: 0,
             share: usize::MAX,
             departures: None,
+            jobs: None,
             folders: Vec::new(alloc),
             paths: Vec::new(alloc),
             entrance: None,
@@ -155,11 +160,12 @@ impl<R: Files<File = File> + Net + Wait + Clock + Clone + Drop> UnixListener<R> 
 
     // What an entrance is made with, once what closes connections is there.
     fn means(&self) -> io::Result<Means<R>> {
-        let Some(departures) = &self.departures else {
+        let (Some(departures), Some(jobs)) = (&self.departures, &self.jobs) else {
             return Err(io::Error::from(ErrorKind::NotConnected));
         };
         Ok(Means {
             share: self.share,
+            jobs: Arc::try_clone(jobs)?,
             departures: Arc::try_clone(departures)?,
             lines: self.lines.share().map_err(no_memory)?,
         })
@@ -169,9 +175,13 @@ impl<R: Files<File = File> + Net + Wait + Clock + Clone + Drop> UnixListener<R> 
     fn new_closers(&self, descriptors: u64) -> Result<Departures<R>, NoMemory> {
         // Whoever waits somewhere may come to wait for a closer.
         let places = self.share.saturating_mul(3);
-        let jobs = places.saturating_add(self.workers as usize);
         let aside = usize::try_from((descriptors / ASIDE).min(MOST_ASIDE)).unwrap_or(usize::MAX);
-        let closers = Closers::new(self.alloc, self.system.clone()?, jobs, aside)?;
+        let bounds = Bounds {
+            places: places.saturating_add(self.workers as usize),
+            full: self.share,
+            aside,
+        };
+        let closers = Closers::new(self.alloc, self.system.clone()?, bounds)?;
         Ok(Arc::new(self.alloc, closers)?)
     }
 
@@ -245,6 +255,8 @@ impl<R: Files<File = File> + Net + Wait + Clock + Clone + Drop + Send + Sync> Li
 
     type Departure = Departure;
 
+    type Helper = UnixHelper<R>;
+
     ghost faults = { λ s. s.faults };
 
     ghost given = { λ _. None };
@@ -263,9 +275,13 @@ impl<R: Files<File = File> + Net + Wait + Clock + Clone + Drop + Send + Sync> Li
         self.share = usize::try_from(share_of(descriptors, workers)).unwrap_or(usize::MAX);
         let closers = self.new_closers(descriptors)?;
         let crew = closers.crew()?;
+        let jobs = Arc::new(self.alloc, AtomicU64::new(0))?;
+        let theirs = Arc::try_clone(&jobs)?;
         self.departures = Some(closers);
+        self.jobs = Some(jobs);
         Ok(Prepared {
             most: self.share,
+            jobs: Some(theirs),
             crew: Some(crew),
         })
     }
@@ -327,6 +343,16 @@ impl<R: Files<File = File> + Net + Wait + Clock + Clone + Drop + Send + Sync> Li
             return Err(Failed);
         };
         Ok(accepted)
+    }
+
+    /// Two at most.
+    fn helper(&mut self) -> Option<UnixHelper<R>>
+        ensures faults { self.new.faults ≡ self.old.faults }
+    {
+        match &mut self.entrance {
+            Some(entrance) => entrance.helper(&self.system),
+            None => None,
+        }
     }
 
     /// A connection whose calls wait for bytes and for room, up to five seconds in all. It fails where nobody listens, where the

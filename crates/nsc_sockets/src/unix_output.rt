@@ -1,6 +1,7 @@
 ghost use Rattle.std.specs.Prelude.{◌≡◌, ◌<◌, ◌≤◌, length, IfOk, OnOk, OnErr};
 ghost use Rattle.nsc_model.specs.Reads.{Rose};
 
+use crate::attended::Attended;
 use crate::patience::{Patience, time_left};
 use crate::peer::Peer;
 use crate::stream::may_pass;
@@ -21,6 +22,11 @@ const TURNS: u32 = 10_000;
 // The bytes that are offered in a turn. More might take many turns' time while a slow peer makes room bit by bit.
 const PART: usize = 32_768;
 
+/// The bytes that may wait for a peer of the gate, and those that may once it is sent a longer text.
+pub(crate) const NARROW: u32 = 16_384;
+
+const WIDE: u32 = 262_144;
+
 /// What a peer is sent over a socket. It tells nothing of the bytes; contracts see its count of faults.
 #[derive(Drop)]
 pub struct UnixOutput<T: Wait + Clock + Drop> {
@@ -30,6 +36,8 @@ pub struct UnixOutput<T: Wait + Clock + Drop> {
     patience: Option<Arc<Patience>>,
     // When it waited first.
     begun: Option<Duration>,
+    // Whether few bytes may wait for the peer.
+    is_narrow: bool,
     faults: u64,
 }
 
@@ -43,8 +51,13 @@ impl<T: Wait + Clock + Drop> Model for UnixOutput<T> {
 
 impl<T: Wait + Clock + Drop> UnixOutput<T> {
     /// What the peer of a connection that came is sent. All ends that are made with one patience share it; an administrator has none,
-    /// and waits for the end of the connection.
-    pub(crate) fn arrived(clock: T, peer: Peer<T>, patience: Option<Arc<Patience>>) -> UnixOutput<T>
+    /// and waits for the end of the connection. `is_narrow` tells that no more than `NARROW` bytes may wait for the peer.
+    pub(crate) fn arrived(
+        clock: T,
+        peer: Peer<T>,
+        patience: Option<Arc<Patience>>,
+        is_narrow: bool,
+    ) -> UnixOutput<T>
         ensures { result ≡ record { faults = 0 } }
     {
         UnixOutput {
@@ -52,6 +65,7 @@ impl<T: Wait + Clock + Drop> UnixOutput<T> {
             peer,
             patience,
             begun: None,
+            is_narrow,
             faults: 0,
         }
     }
@@ -70,6 +84,7 @@ impl<T: Wait + Clock + Drop> UnixOutput<T> {
             peer,
             patience: Some(patience),
             begun: Some(begun),
+            is_narrow: false,
             faults: 0,
         }
     }
@@ -79,9 +94,20 @@ impl<T: Wait + Clock + Drop> UnixOutput<T> {
         ensures count { IfOk result (λ n. n ≤ length bytes.now) }
         ensures faults { self.new.faults ≡ self.old.faults }
     {
+        self.widen(bytes.len());
         match self.peer.write(bytes) {
             Err(error) if may_pass(&error) => self.send_slowly(bytes),
             outcome => outcome,
+        }
+    }
+
+    // Lets more bytes wait for the peer, once it is sent a longer text.
+    fn widen(&mut self, size: usize)
+        ensures faults { self.new.faults ≡ self.old.faults }
+    {
+        if self.is_narrow && size > NARROW as usize {
+            self.peer.bound_unsent(WIDE);
+            self.is_narrow = false;
         }
     }
 
@@ -143,6 +169,13 @@ impl<T: Wait + Clock + Drop> UnixOutput<T> {
 fn turn_of(left: Duration) -> Duration {
     left.min(Duration::from_millis(TURN))
         .max(Duration::from_millis(LEAST_TURN))
+}
+
+impl<T: Wait + Clock + Drop> Attended for UnixOutput<T> {
+    /// Asks poll(2) for POLLHUP: a peer that only sends no more has not gone.
+    fn has_gone(&self) -> bool {
+        self.peer.has_gone()
+    }
 }
 
 impl<T: Wait + Clock + Drop> Sink for UnixOutput<T> {
