@@ -133,7 +133,7 @@ first_asked g before after name reply given has = record {
   sent = can_be_sent kind.HostName reply given.told.bytes given.told.spelled;
 }
 
-both_asked : {S P : Type 0} (g : store.Ghosts S P) (before mid after : Databases P) (name : List ℕ) (first second : Reply)
+pub both_asked : {S P : Type 0} (g : store.Ghosts S P) (before mid after : Databases P) (name : List ℕ) (first second : Reply)
     → IsGiven g before mid (record { kind = kind.HostName; key = name }) first → has_entry first ≡ false → SeeMore g before mid → SeeMore g mid after
     → IsGiven g mid after (record { kind = kind.HostName6; key = name }) second → IsAnswered g before after (HostNamed name) (Some second)
 both_asked g before mid after name first second one none more on two = record {

@@ -1,20 +1,18 @@
 -- Lines that are answered, in one part of a call after another.
-use Rattle.std.proofs.Common.{◌≡◌, ◌∙◌, ℕ, List, [], ◌∷◌, ◌++◌, Option, append-nil, append_assoc, length, map, refl, sym, ap, subst, arith, ◌≤◌}
+use Rattle.std.proofs.Common.{◌≡◌, ◌∙◌, ℕ, List, [], ◌∷◌, ◌++◌, Option, append-nil, length, map, refl, sym, ap, arith, ◌≤◌}
 use Rattle.std.specs.Prelude.{flat_map}
 use Rattle.std.proofs.lemmas.Grind.{flat_map-append}
 use Rattle.std.proofs.lemmas.List.{map-append}
 use Rattle.std.proofs.lemmas.List.Elements.{All-append, All-cons, All-nil, All-weaker}
 use Rattle.std.proofs.lemmas.List.Sums.{sum_by-append}
-use Rattle.nsc_outside.specs.StreamAt.{StreamAt}
-use Rattle.nsc_outside.proofs.Streams.{Grows-nothing, Grows-then}
 use Rattle.nsc_model.specs.declared.databases.Databases.{Databases}
 use Rattle.nsc_model.specs.declared.row.Reply.{Reply}
 use Rattle.nsc_model.specs.declared.store.Store as store
-use Rattle.nsc_model.specs.Reads.{Rose}
 use Rattle.nsc_model.specs.Entry.{line_limit}
-use Rattle.nsc_client.specs.Exchanges.{AreAnswered, Exchange, IsExchange, TakesAnswers, TakesFront}
+use Rattle.nsc_client.specs.Exchanges.{AreAnswered, Exchange, IsExchange}
 use Rattle.nsc_client.specs.Gate.{IsTold, SeeMore}
 use Rattle.nsc_client.specs.GateText.{Told, asking_of}
+use Rattle.nsc_client.specs.Hits.{Searches}
 use Rattle.nsc_client.specs.Replying.{IsAnswered, said}
 use Rattle.nsc_client.proofs.Answering.{calm_on, told_after, told_before}
 
@@ -34,14 +32,14 @@ exchange_after g before mid after more e is = record {
 
 -- ---- what is answered
 
-none_answered : {S P : Type 0} (g : store.Ghosts S P) (passes : Databases P) → AreAnswered g passes passes [] []
-none_answered g passes = record {
+pub none_answered : {S P : Type 0} (g : store.Ghosts S P) (before after : Databases P) → Searches g before after 0 → AreAnswered g before after [] []
+none_answered g before after s = record {
   exchanges = [];
   lines_are = refl;
   text_is = refl;
-  each = All-nil (IsExchange g passes passes);
-  searched = omega arith;
-  calm = λ which. (refl, refl);
+  each = All-nil (IsExchange g before after);
+  searched = s.searched;
+  calm = s.calm;
 }
 
 pub one_answered : {S P : Type 0} (g : store.Ghosts S P) (before after : Databases P) (line text : List ℕ) (last : Option Reply) → length line ≤ line_limit
@@ -57,7 +55,7 @@ one_answered g before after line text last fits is text_is =
       calm = is.calm;
     }
 
-answered_on : {S P : Type 0} (g : store.Ghosts S P) (before mid after : Databases P) (lines more : List (List ℕ)) (first second : List ℕ) → SeeMore g before mid → SeeMore g mid after
+pub answered_on : {S P : Type 0} (g : store.Ghosts S P) (before mid after : Databases P) (lines more : List (List ℕ)) (first second : List ℕ) → SeeMore g before mid → SeeMore g mid after
     → AreAnswered g before mid lines first → AreAnswered g mid after more second → AreAnswered g before after (lines ++ more) (first ++ second)
 answered_on g before mid after lines more first second seen on one two =
     let line = λ (e : Exchange). e.line in
@@ -73,26 +71,3 @@ answered_on g before mid after lines more first second seen on one two =
       searched = (let a = one.searched in let b = two.searched in omega (arith, sum_by-append asked one.exchanges two.exchanges));
       calm = calm_on g before mid after one.calm two.calm;
     }
-
--- ---- what the output took
-
-pub none_taken : {S P : Type 0} (g : store.Ghosts S P) (passes : Databases P) (output : StreamAt) → TakesAnswers g passes passes output output []
-none_taken g passes output = record { text = []; answered = none_answered g passes; grown = Grows-nothing output.bytes; calm = refl }
-
-pub taken_on : {S P : Type 0} (g : store.Ghosts S P) (before mid after : Databases P) (o o' o'' : StreamAt) (lines more : List (List ℕ)) → SeeMore g before mid → SeeMore g mid after
-    → TakesAnswers g before mid o o' lines → TakesAnswers g mid after o' o'' more → TakesAnswers g before after o o'' (lines ++ more)
-taken_on g before mid after o o' o'' lines more seen on one two = record {
-  text = one.text ++ two.text;
-  answered = answered_on g before mid after lines more one.text two.text seen on one.answered two.answered;
-  grown = Grows-then o.bytes o'.bytes o''.bytes one.text two.text one.grown two.grown;
-  calm = two.calm ∙ one.calm;
-}
-
-pub front_taken_on : {S P : Type 0} (g : store.Ghosts S P) (before mid after : Databases P) (o o' o'' : StreamAt) (lines more : List (List ℕ)) → SeeMore g before mid → SeeMore g mid after
-    → TakesAnswers g before mid o o' lines → TakesFront g mid after o' o'' more → TakesFront g before after o o'' (lines ++ more)
-front_taken_on g before mid after o o' o'' lines more seen on one two = record {
-  text = one.text ++ two.text;
-  answered = answered_on g before mid after lines more one.text two.text seen on one.answered two.answered;
-  front = (one.text ++ two.front.0, (two.front.1.0, ap (λ (t : List ℕ). one.text ++ t) two.front.1.1 ∙ sym (append_assoc one.text two.front.0 two.front.1.0)), Grows-then o.bytes o'.bytes o''.bytes one.text two.front.0 one.grown two.front.2);
-  failed = subst (λ (n : ℕ). Rose n o''.faults) one.calm two.failed;
-}

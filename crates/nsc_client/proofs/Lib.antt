@@ -1,10 +1,13 @@
 pub mod Spelling
 pub mod Requests
 pub mod Joined
+pub mod LentRows
 pub mod Later
 pub mod FallenBack
 pub mod Passes
 pub mod Answering
+pub mod FoundInPlace
 pub mod LinesRead
 pub mod Exchanges
+pub mod Gathering
 pub mod Connections

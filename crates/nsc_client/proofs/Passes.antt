@@ -36,13 +36,13 @@ with_each X before db.Services one own others db.Group = others db.Group
 with_each X before db.Services one own others db.Hosts = others db.Hosts
 with_each X before db.Services one own others db.Services = own
 
-the_one : {P : Type 0} (before : Databases P) (which : Db) (one : P) → one ≡ database_in (with_database before which one) which
+pub the_one : {P : Type 0} (before : Databases P) (which : Db) (one : P) → one ≡ database_in (with_database before which one) which
 the_one before db.Passwd one = refl
 the_one before db.Group one = refl
 the_one before db.Hosts one = refl
 the_one before db.Services one = refl
 
-calm_with : {S P : Type 0} (g : store.Ghosts S P) (before : Databases P) (which : Db) (one : P)
+pub calm_with : {S P : Type 0} (g : store.Ghosts S P) (before : Databases P) (which : Db) (one : P)
     → FaultsStay (g.faults (database_in before which)) (g.faults one) (g.file_faults (database_in before which)) (g.file_faults one) → AreCalm g before (with_database before which one)
 calm_with g before which one stay =
     with_each (λ other pass. FaultsStay (g.faults (database_in before other)) (g.faults pass) (g.file_faults (database_in before other)) (g.file_faults pass)) before which one stay (λ other. (refl, refl))

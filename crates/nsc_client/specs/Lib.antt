@@ -8,5 +8,8 @@ pub mod Replying
 pub mod Exchanges
 pub mod LinesRead
 pub mod Serving
+pub mod Gathered
+pub mod Hits
+pub mod Lent
 pub mod Held
 pub mod SocketLink

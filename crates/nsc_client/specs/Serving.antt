@@ -1,6 +1,5 @@
--- What came of a connection to the gate, and of one of its lines.
-use Rattle.std.specs.Prelude.{◌≡◌, ◌≢◌, ℕ, ◌+◌, ◌<◌, ◌≤◌, List, [], ◌∷◌, length, min}
-use Rattle.nsc_outside.specs.Stream.{IsDrained}
+-- What came of a connection to the gate.
+use Rattle.std.specs.Prelude.{◌≡◌, ◌≢◌, ℕ, ◌+◌, ◌<◌, ◌≤◌, List, length, min}
 use Rattle.nsc_outside.specs.StreamAt.{StreamAt}
 use Rattle.nsc_model.specs.declared.databases.Databases.{Databases}
 use Rattle.nsc_model.specs.declared.store.Store as store
@@ -15,21 +14,6 @@ use Rattle.nsc_client.specs.Exchanges.{TakesAnswers, TakesFront}
 use Rattle.nsc_client.specs.Gate.{IsRefusal, SeeMore, requests_of}
 use Rattle.nsc_client.specs.GateText.{asking_of}
 use Rattle.nsc_client.specs.LinesRead.{BeginsWithLine, HasNoNewline, ReadsAll, ReadsFirst, ReadsLines, front_line}
-
--- ---- one line
-
--- why a line was not answered: it was refused, and nothing was written; or the output failed
-abbrev pub IsUnserved : {S P : Type 0} → store.Ghosts S P → Databases S → Databases P → Databases P → StreamAt → StreamAt → List ℕ → Gated → Type 0
-IsUnserved g stores before after output output' line (gated.Refused refused) = IsRefusal g stores before after (requests_of (asking_of line)) refused × (output' ≡ output)
-IsUnserved g stores before after output output' line gated.WriteFault = TakesFront g before after output output' (line ∷ [])
-IsUnserved g stores before after output output' line _ = ⊥
-
--- the same of a line that may be too long
-abbrev pub IsStopped : {S P : Type 0} → store.Ghosts S P → Databases S → Databases P → Databases P → StreamAt → StreamAt → List ℕ → Gated → Type 0
-IsStopped g stores before after output output' line (gated.TooLongLine size) = (size ≡ line_limit + 1) × (line_limit < length line) × (after ≡ before) × (output' ≡ output)
-IsStopped g stores before after output output' line by = (length line ≤ line_limit) × IsUnserved g stores before after output output' line by
-
--- ---- a connection
 
 -- at one moment: the passes, what the input has left, and what the output took
 pub record GateAt (P : Type 0) : Type 0 where
@@ -52,20 +36,6 @@ pub record AnswersAll {S P : Type 0} (g : store.Ghosts S P) (before after : Gate
 pub record StopsAfter {S P : Type 0} (g : store.Ghosts S P) (before after : GateAt P) (lines : List (List ℕ)) (rest : List ℕ) : Type 0 where
   pub read : ReadsLines before.input.bytes after.input.bytes lines rest
   pub answered : TakesAnswers g before.passes after.passes before.output after.output lines
-
--- so many lines, whose number stays at its end
-pub record HasAnswered {S P : Type 0} (g : store.Ghosts S P) (before after : GateAt P) (count : ℕ) (rest : List ℕ) : Type 0 where
-  pub lines : List (List ℕ)
-  pub stops : StopsAfter g before after lines rest
-  pub counted : count ≡ min (length lines) last_count
-  pub goes_on : SeeMore g before.passes after.passes
-  pub calm : after.input.faults ≡ before.input.faults
-
--- so many lines with newlines, and the input ended after the rest, which has none
-pub record AnswersEnded {S P : Type 0} (g : store.Ghosts S P) (before after : GateAt P) (count : ℕ) (rest : List ℕ) : Type 0 where
-  pub has : HasAnswered g before after count rest
-  pub lone : HasNoNewline rest
-  pub drained : IsDrained after.input.bytes
 
 -- the next line is too long
 pub record MeetsTooLong {S P : Type 0} (g : store.Ghosts S P) (before after : GateAt P) (size : ℕ) : Type 0 where

@@ -105,7 +105,7 @@ pub record ConnectionFails {I O : Type 0} (i : source.Ghosts I) (o : sink.Ghosts
   pub cut : IsCut (stream_in i input) (stream_in i input') (stream_out o output) (stream_out o output')
 
 -- what connects failed; or it connected, and the connection failed
-abbrev pub IsBroken : {N I O D : Type 0} → listener.Ghosts N I O D → source.Ghosts I → sink.Ghosts O → N → N → Type 0
+abbrev pub IsBroken : {N I O D H : Type 0} → listener.Ghosts N I O D H → source.Ghosts I → sink.Ghosts O → N → N → Type 0
 IsBroken n i o before after = Rose (n.faults before) (n.faults after) ⊎ ((n.faults after ≡ n.faults before) × ConnectionFails i o (n.peer before))
 
 -- connections never fail

@@ -1,13 +1,14 @@
 ghost use Rattle.std.specs.Prelude.{◌≡◌, ◌<◌, ◌≤◌, ◌^◌, ◌∷◌, [], IfErr, IfOk, OnOk, drop, length};
 ghost use Rattle.nsc_outside.specs.StreamAt.{stream_in, stream_out};
 ghost use Rattle.nsc_model.specs.Entry.{kept_limit, line_limit};
-ghost use Rattle.nsc_client.specs.Exchanges.{TakesAnswers};
+ghost use Rattle.nsc_client.specs.Gathered.{AnswersEnded, GathersAnswers, IsStopped};
 ghost use Rattle.nsc_client.specs.Gate.{AreNamed, ArePasses, SeeMore};
 ghost use Rattle.nsc_client.specs.Held.{ComesOrEnds, GivesNone};
-ghost use Rattle.nsc_client.specs.Serving.{AnswersAll, AnswersEnded, IsStopped, ServesGate, gate_at};
+ghost use Rattle.nsc_client.specs.Serving.{AnswersAll, ServesGate, gate_at};
 
 use crate::line::cut_at;
 use crate::link::LinkFault;
+use crate::pending::Pending;
 use crate::reading::read_part;
 use crate::serving::serve_line;
 use nsc_base::Buf;
@@ -86,21 +87,48 @@ fn serve_lines<RT: AllocGlobal + Wait, S: Store, R: Source, K: Sink>(
     ensures answered { IfOk result (AnswersAll S.Store (gate_at passes.old (stream_in R.Source conn_in.old) (stream_out K.Sink conn_out.old)) (gate_at passes.new (stream_in R.Source conn_in.new) (stream_out K.Sink conn_out.new))) }
     ensures stopped { IfErr result (ServesGate S.Store stores.now (gate_at passes.old (stream_in R.Source conn_in.old) (stream_out K.Sink conn_out.old)) (gate_at passes.new (stream_in R.Source conn_in.new) (stream_out K.Sink conn_out.new))) }
 {
-    let (rest, lines) = serve_ended(rt, stores, passes, out, conn_in, conn_out, now)?;
+    let Ok(mut pending) = Pending::new(rt.alloc()) else {
+        return Err(Gated::Refused(LinkFault::NoMemory));
+    };
+    let mut text = Vec::new(rt.alloc());
+    let (rest, lines) = serve_ended(
+        rt,
+        stores,
+        passes,
+        out,
+        &mut text,
+        &mut pending,
+        conn_in,
+        conn_out,
+        now,
+    )?;
     let last = rest.as_slice();
     if last.is_empty() {
         return Ok(lines);
     }
-    serve_short(rt, stores, passes, out, conn_out, last, now)?;
+    serve_last(
+        rt,
+        stores,
+        passes,
+        out,
+        &mut text,
+        &mut pending,
+        conn_out,
+        last,
+        now,
+    )?;
     Ok(next_count(lines))
 }
 
 // Answers each line of the input that a newline ends, and gives what comes after the last one, and their number, which stays at 2^62.
+// The answers that are pending are written before more is read.
 fn serve_ended<RT: AllocGlobal + Wait, S: Store, R: Source, K: Sink>(
     rt: &RT,
     stores: &Databases<S>,
     passes: &mut Databases<S::Pass>,
     out: &mut Buf,
+    text: &mut Vec<u8>,
+    pending: &mut Pending,
     conn_in: &mut R,
     conn_out: &mut K,
     now: u64,
@@ -108,9 +136,11 @@ fn serve_ended<RT: AllocGlobal + Wait, S: Store, R: Source, K: Sink>(
     requires named { AreNamed S.Store stores.now }
     requires passes { ArePasses S.Store stores.now passes.old }
     requires limit { out.old.limit ≡ kept_limit }
+    requires empty { pending.old ≡ [] }
     requires moment { now < 2 ^ 62 }
     ensures passes { ArePasses S.Store stores.now passes.new }
     ensures limit { out.new.limit ≡ out.old.limit }
+    ensures emptied { OnOk result (pending.new ≡ []) }
     ensures seen { SeeMore S.Store passes.old passes.new }
     ensures answered { IfOk result (λ end. AnswersEnded S.Store (gate_at passes.old (stream_in R.Source conn_in.old) (stream_out K.Sink conn_out.old)) (gate_at passes.new (stream_in R.Source conn_in.new) (stream_out K.Sink conn_out.new)) end.1 end.0.items) }
     ensures stopped { IfErr result (ServesGate S.Store stores.now (gate_at passes.old (stream_in R.Source conn_in.old) (stream_out K.Sink conn_out.old)) (gate_at passes.new (stream_in R.Source conn_in.new) (stream_out K.Sink conn_out.new))) }
@@ -121,12 +151,13 @@ fn serve_ended<RT: AllocGlobal + Wait, S: Store, R: Source, K: Sink>(
     let mut lines = 0;
     for _ in rt.forever() {
         if let Some((line, _)) = cut_at(&held[at..], b'\n') {
-            serve_short(rt, stores, passes, out, conn_out, line, now)?;
+            serve_short(rt, stores, passes, out, text, pending, conn_out, line, now)?;
             at += line.len() + 1;
             lines = next_count(lines);
         } else {
             drop_front(&mut held, at);
             at = 0;
+            pending.flush(conn_out)?;
             if !read_more(conn_in, &mut held)? {
                 return Ok((held, lines));
             }
@@ -135,12 +166,41 @@ fn serve_ended<RT: AllocGlobal + Wait, S: Store, R: Source, K: Sink>(
     unreachable!()
 }
 
+// Serves the last line, and writes all answers.
+fn serve_last<RT: AllocGlobal + Wait, S: Store, K: Sink>(
+    rt: &RT,
+    stores: &Databases<S>,
+    passes: &mut Databases<S::Pass>,
+    out: &mut Buf,
+    text: &mut Vec<u8>,
+    pending: &mut Pending,
+    conn_out: &mut K,
+    line: &[u8],
+    now: u64,
+) -> Result<(), Gated>
+    requires named { AreNamed S.Store stores.now }
+    requires passes { ArePasses S.Store stores.now passes.old }
+    requires limit { out.old.limit ≡ kept_limit }
+    requires empty { pending.old ≡ [] }
+    requires moment { now < 2 ^ 62 }
+    ensures passes { ArePasses S.Store stores.now passes.new }
+    ensures limit { out.new.limit ≡ out.old.limit }
+    ensures seen { SeeMore S.Store passes.old passes.new }
+    ensures served { OnOk result (GathersAnswers S.Store passes.old passes.new (stream_out K.Sink conn_out.old) (stream_out K.Sink conn_out.new) [] [] (line.now ∷ [])) }
+    ensures stopped { IfErr result (IsStopped S.Store stores.now passes.old passes.new (stream_out K.Sink conn_out.old) (stream_out K.Sink conn_out.new) [] line.now) }
+{
+    serve_short(rt, stores, passes, out, text, pending, conn_out, line, now)?;
+    pending.flush(conn_out)
+}
+
 // Serves a line, unless it is too long.
 fn serve_short<RT: AllocGlobal + Wait, S: Store, K: Sink>(
     rt: &RT,
     stores: &Databases<S>,
     passes: &mut Databases<S::Pass>,
     out: &mut Buf,
+    text: &mut Vec<u8>,
+    pending: &mut Pending,
     conn_out: &mut K,
     line: &[u8],
     now: u64,
@@ -152,14 +212,14 @@ fn serve_short<RT: AllocGlobal + Wait, S: Store, K: Sink>(
     ensures passes { ArePasses S.Store stores.now passes.new }
     ensures limit { out.new.limit ≡ out.old.limit }
     ensures seen { SeeMore S.Store passes.old passes.new }
-    ensures fits { OnOk result (length line.now ≤ line_limit) }
-    ensures served { OnOk result (TakesAnswers S.Store passes.old passes.new (stream_out K.Sink conn_out.old) (stream_out K.Sink conn_out.new) (line.now ∷ [])) }
-    ensures unserved { IfErr result (IsStopped S.Store stores.now passes.old passes.new (stream_out K.Sink conn_out.old) (stream_out K.Sink conn_out.new) line.now) }
+    ensures served { OnOk result (GathersAnswers S.Store passes.old passes.new (stream_out K.Sink conn_out.old) (stream_out K.Sink conn_out.new) pending.old pending.new (line.now ∷ [])) }
+    ensures stopped { IfErr result (IsStopped S.Store stores.now passes.old passes.new (stream_out K.Sink conn_out.old) (stream_out K.Sink conn_out.new) pending.old line.now) }
 {
     if line.len() > LINE_LIMIT {
+        pending.flush(conn_out)?;
         return Err(TOO_LONG);
     }
-    serve_line(rt, stores, passes, out, conn_out, line, now)
+    serve_line(rt, stores, passes, out, text, pending, conn_out, line, now)
 }
 
 // Reads more bytes after those that are held, which are the beginning of a line. `false` where the input has ended.

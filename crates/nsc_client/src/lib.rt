@@ -5,12 +5,16 @@ mod answers;
 mod asking;
 mod exchange;
 mod gate;
+mod hits;
+mod lent;
 mod line;
 mod link;
+mod pending;
 mod reading;
 mod replies;
 mod serving;
 mod socket_link;
+mod spelled;
 mod store_link;
 mod texts;
 

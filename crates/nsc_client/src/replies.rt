@@ -45,8 +45,8 @@ pub(crate) fn reply_to<R: Wait, S: Store>(
     store_reply(rt, alloc, store, passes.of_mut(db), out, kind, key, now)
 }
 
-// The store of a database.
-fn store_of<S>(stores: &Databases<S>, db: Db) -> &S
+/// The store of a database.
+pub(crate) fn store_of<S>(stores: &Databases<S>, db: Db) -> &S
     ensures { result.now ≡ database_in stores.now db }
 {
     match db {
@@ -88,7 +88,7 @@ pub(crate) fn store_reply<R: Wait, S: Store>(
     }
 }
 
-// The reply that these bytes spell. Fails only for want of memory.
+// The reply that these bytes spell. Fails only if memory is short.
 fn read_back(alloc: Global, kind: Kind, bytes: &[u8]) -> Result<Reply, LinkFault>
     requires { SpellsReply kind bytes.now }
     ensures spelled { IfOk result (λ reply. Spells kind reply bytes.now) }

@@ -1,3 +1,4 @@
+// The texts of answers, from rows.
 ghost use Rattle.std.specs.Prelude.{◌≡◌, ◌≤◌, ◌++◌, ◌∷◌, drop, flat_map, length, OnOk, decimal};
 ghost use Rattle.std.specs.List.{join_with_byte};
 ghost use Rattle.nsc_model.specs.Wire.{IsAddress, IsHost, IsRow};
@@ -90,10 +91,9 @@ fn put_host(out: &mut Vec<u8>, host: &Host) -> Result<(), NoMemory>
     put_each_after(out, b' ', &host.aliases, 0)
 }
 
-// Puts an address as it is printed.
-fn put_address(out: &mut Vec<u8>, family: u32, address: &[u8]) -> Result<(), NoMemory>
-    requires { IsAddress family address.now }
-    ensures { OnOk result (out.new.items ≡ out.old.items ++ address_text family address.now) }
+/// Puts an address as it is printed, if it is one.
+pub(crate) fn put_address(out: &mut Vec<u8>, family: u32, address: &[u8]) -> Result<(), NoMemory>
+    ensures { IsAddress family address.now → OnOk result (out.new.items ≡ out.old.items ++ address_text family address.now) }
 {
     let mut text = Buf::new(*out.allocator(), ADDRESS_LIMIT)?;
     if let Ok(octets) = <[u8; 4]>::try_from(address) {
@@ -115,16 +115,20 @@ fn put_service(out: &mut Vec<u8>, service: &Service) -> Result<(), NoMemory>
     put_each_after(out, b' ', &service.aliases, 0)
 }
 
-// Puts a separator and a text.
-fn put_after(out: &mut Vec<u8>, separator: u8, text: &[u8]) -> Result<(), NoMemory>
+/// Puts a separator and a text.
+pub(crate) fn put_after(out: &mut Vec<u8>, separator: u8, text: &[u8]) -> Result<(), NoMemory>
     ensures { OnOk result (out.new.items ≡ out.old.items ++ separator ∷ text.now) }
 {
     out.push(separator)?;
     Ok(out.extend_from_slice(text)?)
 }
 
-// Puts a separator and a number in decimal.
-fn put_number_after(out: &mut Vec<u8>, separator: u8, number: u32) -> Result<(), NoMemory>
+/// Puts a separator and a number in decimal.
+pub(crate) fn put_number_after(
+    out: &mut Vec<u8>,
+    separator: u8,
+    number: u32,
+) -> Result<(), NoMemory>
     ensures { OnOk result (out.new.items ≡ out.old.items ++ separator ∷ decimal number) }
 {
     let mut digits = Buffer::new();

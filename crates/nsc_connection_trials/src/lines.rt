@@ -25,6 +25,9 @@ const CUT: &[u8] = b"passwd root\nhosts ::1";
 
 const FIRST: &[u8] = b"root:x:0:0:root:/root:/bin/bash\n";
 
+// The answers to all lines that have a newline. They are written before more of the input is read.
+const ENDED: &[u8] = b"root:x:0:0:root:/root:/bin/bash\n::1 localhost\nssh 22/tcp\nnot found\n";
+
 // How many letters a line has, which is one more than it may have.
 const LONG: usize = 1101;
 
@@ -72,7 +75,7 @@ const CONNECTIONS: [Lines; 6] = [
         read: 0,
         write: 2,
         gated: Gated::WriteFault,
-        sent: FIRST,
+        sent: ENDED,
     },
     Lines {
         lines: b"",
