@@ -1,3 +1,4 @@
 mod Bound
+pub mod Crossing
 mod Ends
 mod Gates

@@ -93,7 +93,7 @@ pub record DaemonAt : Type 0 where
   pub given : Option (List Connection)
   pub net_faults : ℕ
 
-abbrev pub daemon_at : {K F N I O D : Type 0} → sink.Ghosts K → files.Ghosts F → listener.Ghosts N I O D → K → F → N → DaemonAt
+abbrev pub daemon_at : {K F N I O D H : Type 0} → sink.Ghosts K → files.Ghosts F → listener.Ghosts N I O D H → K → F → N → DaemonAt
 daemon_at k f n output set net = record { output = stream_out k output; source_faults = f.faults set; given = n.given net; net_faults = n.faults net }
 
 -- nothing was written

@@ -1,8 +1,8 @@
 -- Lookups that the thread that accepts answers in place, and how they are counted.
-use Rattle.std.specs.Prelude.{ℕ, Bool, if◌then◌else◌}
+use Rattle.std.specs.Prelude.{ℕ, ◌+◌, Bool, if◌then◌else◌, min}
 use Rattle.nsc_model.specs.declared.databases.Databases.{Databases}
 use Rattle.nsc_model.specs.Databases.{database_in, with_database}
-use Rattle.nsc_model.specs.Machine.{next_count}
+use Rattle.nsc_model.specs.Machine.{last_count, next_count}
 use Rattle.nsc_server.specs.declared.in_place.ServedInPlace.{ServedInPlace}
 use Rattle.nsc_server.specs.declared.in_place.ServedInPlace.TheVariants.{Found, Not, Broken}
 use Rattle.nsc_daemon.specs.declared.fast_path.Hits.{Hits}
@@ -21,6 +21,13 @@ none_of_all = record { passwd = no_hits; group = no_hits; hosts = no_hits; servi
 -- one more, of a not-found or a found reply
 abbrev pub one_more : Bool → Hits → Hits
 one_more not_found hits = if not_found then record hits { not_found = next_count hits.not_found } else record hits { found = next_count hits.found }
+
+-- those of two threads; each number stays at its end
+abbrev pub sum_of : Hits → Hits → Hits
+sum_of a b = record { found = min (a.found + b.found) last_count; not_found = min (a.not_found + b.not_found) last_count }
+
+abbrev pub sum_of_all : Databases Hits → Databases Hits → Databases Hits
+sum_of_all a b = record { passwd = sum_of a.passwd b.passwd; group = sum_of a.group b.group; hosts = sum_of a.hosts b.hosts; services = sum_of a.services b.services }
 
 -- one more of its database, if a lookup was answered in place
 abbrev pub noted : ServedInPlace → Databases Hits → Databases Hits

@@ -1,4 +1,5 @@
 pub mod Workers
+pub mod Holds
 pub mod FastPath
 pub mod Ends
 pub mod Images

@@ -4,6 +4,9 @@ use Rattle.std.specs.Prelude.{◌≡◌, ℕ, ◌+◌, ◌<◌, ◌≤◌}
 -- nothing of a worker
 pub record Worker : Type 0 where
 
+-- nor of a helper
+pub record Helping : Type 0 where
+
 -- nor of the thread that ticks
 pub record Ticking : Type 0 where
 

@@ -8,7 +8,9 @@ ghost use Rattle.nsc_daemon.specs.Workers.{TicksSo};
 
 use crate::fast_path::{FastPath, note_hits};
 use crate::gate::{Gatekeeper, ServesGate};
-use crate::intake::{Waiting, Waitings, Way};
+use crate::intake::{Waiting, Waitings, Way, moment};
+use crate::moment::Moment;
+use crate::tally::Tally;
 use crate::ticker::{Ticker, tick_all};
 use nsc_model::{Databases, Db, Exit, Store};
 use nsc_outside::{Sink, Source};
@@ -51,7 +53,7 @@ pub fn accept_all<RT: AllocGlobal + Wait + time::Clock, S: Store + Drop, C: Cloc
 
 /// Holds what the thread that accepts has. `ticked` is the moment at which a tick was last due, in seconds, or that of the start.
 /// `waitings` has the connections that wait for workers, if there are workers. `ticker` is the thread that ticks, if there is one.
-/// `gate` serves the gate, if there is one, without workers.
+/// `gate` serves the gate, if there is one, without workers. `tallies` has the hits of each helper, and `moment` tells helpers the moment.
 #[derive(Drop)]
 pub struct Acceptor<S: Store + Drop, R: Source + Drop, K: Sink + Drop> {
     pub stores: Arc<Databases<S>, Global>,
@@ -63,6 +65,8 @@ pub struct Acceptor<S: Store + Drop, R: Source + Drop, K: Sink + Drop> {
     pub ticker: Option<Ticker>,
     pub ticked: u64,
     pub waitings: Option<Waitings<R, K>>,
+    pub tallies: Vec<Arc<Tally>>,
+    pub moment: Arc<Moment>,
 }
 
 impl<S: Store + Drop, R: Source + Drop, K: Sink + Drop> Model for Acceptor<S, R, K> {
@@ -89,6 +93,7 @@ impl<S: Store + Drop, R: Source + Drop, K: Sink + Drop> Acceptor<S, R, K> {
         ensures told { OnTrue result (IsToldEnd R.left accepted) }
         ensures ticked { OnFalse result (TicksSo self.old.ticked now self.new.ticked) }
     {
+        self.moment.set(now);
         match accepted {
             Accepted::Quiet => {
                 let _ = thread::sleep(rt, Duration::from_millis(REST));
@@ -161,8 +166,16 @@ impl<S: Store + Drop, R: Source + Drop, K: Sink + Drop> Acceptor<S, R, K> {
     fn give_hits<RT: Wait>(&mut self, rt: &RT)
         ensures { self.new.ticked ≡ self.old.ticked }
     {
+        self.gather();
         let hits = self.fast.take_hits();
         note_hits(rt, &self.stores, &hits);
+    }
+
+    // Takes the hits of the helpers.
+    fn gather(&mut self)
+        ensures { self.new.ticked ≡ self.old.ticked }
+    {
+        gather(&mut self.fast, &self.tallies);
     }
 
     // Answers a lookup in place, if that can be.
@@ -201,6 +214,7 @@ impl<S: Store + Drop, R: Source + Drop, K: Sink + Drop> Acceptor<S, R, K> {
                     input,
                     output,
                     now,
+                    put: moment(rt),
                 };
                 // Where there is no memory for it, it is closed.
                 let _ = waitings.put(rt, waiting);
@@ -260,6 +274,7 @@ impl<S: Store + Drop, R: Source + Drop, K: Sink + Drop> Acceptor<S, R, K> {
             return;
         }
         self.ticked = now;
+        self.gather();
         match &self.ticker {
             Some(ticker) => ticker.order(rt, now, &mut self.fast),
             None => {
@@ -267,5 +282,12 @@ impl<S: Store + Drop, R: Source + Drop, K: Sink + Drop> Acceptor<S, R, K> {
                 tick_all(rt, &self.stores, &mut self.passes, now);
             }
         }
+    }
+}
+
+// Adds the hits of helpers to those of the thread that accepts.
+fn gather(fast: &mut FastPath, tallies: &[Arc<Tally>]) {
+    for tally in tallies {
+        fast.add_hits(&tally.take());
     }
 }

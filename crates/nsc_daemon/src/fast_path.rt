@@ -5,7 +5,7 @@ ghost use Rattle.nsc_model.specs.Databases.{database_in, with_database};
 ghost use Rattle.nsc_server.specs.InPlace.{ServesInPlace};
 ghost use Rattle.nsc_server.specs.Outcomes.{side};
 ghost use Rattle.nsc_server.specs.Passes.{AreNamed, ArePasses};
-ghost use Rattle.nsc_daemon.specs.FastPath.{none_of_all, noted, one_more};
+ghost use Rattle.nsc_daemon.specs.FastPath.{none_of_all, noted, one_more, sum_of, sum_of_all};
 
 use nsc_base::{Buf, NoMemory};
 use nsc_model::{Databases, Db, Store, next_count};
@@ -19,6 +19,9 @@ use std::time::{Clock, Duration};
 
 // The room for the reply of an entry: the longest that is kept, in bytes.
 const ROOM: usize = 65_536;
+
+// The last number that counts reach.
+const LAST: u64 = 1 << 62;
 
 // A pass catches up no earlier than so long after the last try, in milliseconds.
 const REST: u64 = 1;
@@ -122,6 +125,18 @@ impl FastPath {
         }
     }
 
+    /// Adds the hits of another thread.
+    pub fn add_hits(&mut self, hits: &Databases<Hits>)
+        ensures { self.new.hits ≡ sum_of_all self.old.hits hits.now }
+    {
+        self.hits = Databases {
+            passwd: sum_of(self.hits.passwd, hits.passwd),
+            group: sum_of(self.hits.group, hits.group),
+            hosts: sum_of(self.hits.hosts, hits.hosts),
+            services: sum_of(self.hits.services, hits.services),
+        };
+    }
+
     /// Takes the hits that the databases were not told of. None is left.
     pub fn take_hits(&mut self) -> Databases<Hits>
         ensures taken { result ≡ self.old.hits }
@@ -178,6 +193,16 @@ fn one_more(hits: Hits, not_found: bool) -> Hits
             found: next_count(hits.found),
             ..hits
         }
+    }
+}
+
+// Adds hits of one database. Each number stays at 2^62.
+fn sum_of(first: Hits, second: Hits) -> Hits
+    ensures { result ≡ sum_of first second }
+{
+    Hits {
+        found: first.found.saturating_add(second.found).min(LAST),
+        not_found: first.not_found.saturating_add(second.not_found).min(LAST),
     }
 }
 

@@ -1,15 +1,17 @@
+// The connections that wait for workers, and one worker's way to them.
 ghost use Rattle.std.specs.Prelude.{◌≡◌, ◌<◌, ◌^◌, IfNone, IfSome, true};
 ghost use Rattle.nsc_server.specs.Jobs.{IsServable, given_after};
 
 use crate::gate::ServesGate;
+use crate::hold::Hold;
 use nsc_jobs::JobList;
 use nsc_model::next_count;
 use nsc_outside::{Sink, Source};
 use nsc_server::{Job, Jobs};
-use nsc_sockets::Role;
+use nsc_sockets::{Attended, Role};
 use std::alloc::Global;
 use std::sync::{Arc, Wait};
-use std::time::Clock;
+use std::time::{Clock, Duration};
 
 /// The socket on which a connection came that waits for a worker.
 #[derive(Clone, Copy, Debug, PartialEq, Eq)]
@@ -27,6 +29,8 @@ pub struct Waiting<R: Drop, K: Drop> {
     pub input: R,
     pub output: K,
     pub now: u64,
+    /// When it was put, by the system's clock.
+    pub put: Duration,
     pub ghost moment: { now < 2 ^ 62 },
 }
 
@@ -38,6 +42,8 @@ pub type Waitings<R, K> = Arc<JobList<Waiting<R, K>>, Global>;
 pub struct Intake<R: Drop, K: Drop, G: Drop> {
     pub list: Waitings<R, K>,
     pub gate: Option<G>,
+    /// How long its thread is at one job.
+    pub hold: Hold,
     /// How many it handed out, a number that stays at 2^62.
     pub taken: u64,
     /// Whether no more will come.
@@ -60,6 +66,7 @@ impl<R: Source + Drop, K: Sink + Drop, G: ServesGate + Drop> Intake<R, K, G> {
             mut input,
             mut output,
             now,
+            ..
         } = waiting;
         match way {
             Way::Plain => {
@@ -81,7 +88,29 @@ impl<R: Source + Drop, K: Sink + Drop, G: ServesGate + Drop> Intake<R, K, G> {
     }
 }
 
-impl<R: Source + Drop, K: Sink + Drop, G: ServesGate + Drop> Jobs for Intake<R, K, G> {
+// Takes the next connection whose peer still waits. `None` if no more will come. A peer is asked if its connection waited while the
+// thread was held.
+fn take_attended<RT: Wait + Clock, R: Drop, K: Attended + Drop>(
+    rt: &RT,
+    list: &JobList<Waiting<R, K>>,
+    hold: Hold,
+) -> Option<Waiting<R, K>> {
+    for _ in rt.forever() {
+        let waiting = list.take(rt)?;
+        let may_have_gone = hold.covers(waiting.put);
+        if !may_have_gone || !waiting.output.has_gone() {
+            return Some(waiting);
+        }
+    }
+    unreachable!()
+}
+
+/// Tells the moment by the system's clock, and always zero if it has none.
+pub fn moment<RT: Clock>(rt: &RT) -> Duration {
+    rt.monotonic().unwrap_or(Duration::ZERO)
+}
+
+impl<R: Source + Drop, K: Sink + Attended + Drop, G: ServesGate + Drop> Jobs for Intake<R, K, G> {
     type In = R;
 
     type Out = K;
@@ -96,10 +125,12 @@ impl<R: Source + Drop, K: Sink + Drop, G: ServesGate + Drop> Jobs for Intake<R, 
         ensures over { IfNone result (self.new.is_over ≡ true) }
     {
         for _ in rt.forever() {
-            let Some(waiting) = self.list.take(rt) else {
+            self.hold.end(moment(rt));
+            let Some(waiting) = take_attended(rt, &self.list, self.hold) else {
                 self.is_over = true;
                 return None;
             };
+            self.hold.begin(moment(rt));
             if let Some(job) = self.pass_on(rt, waiting) {
                 return Some(job);
             }

@@ -4,13 +4,18 @@
 mod acceptor;
 mod fast_path;
 mod gate;
+mod helping;
+mod hold;
 mod images;
 mod intake;
 mod latch;
 mod means;
+mod moment;
 mod opening;
 mod service;
+mod tally;
 mod terms;
+mod threads;
 mod ticker;
 mod worker;
 

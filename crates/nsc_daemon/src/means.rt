@@ -1,3 +1,4 @@
+// What a daemon has before its sockets are bound.
 ghost use Rattle.std.specs.Prelude.{◌≡◌, ◌++◌, IfOk, codes};
 ghost use Rattle.std.specs.Arc.{arc_value};
 ghost use Rattle.std.specs.String.{string_bytes};
@@ -7,26 +8,30 @@ use crate::fast_path::FastPath;
 use crate::gate::Gatekeeper;
 use crate::intake::Waitings;
 use crate::latch::Latch;
+use crate::moment::Moment;
 use crate::terms::Terms;
 use crate::ticker::Ticker;
 use nsc_base::NoMemory;
 use nsc_jobs::JobList;
 use nsc_model::{Databases, Store};
 use nsc_server::RequestBuffer;
-use nsc_sockets::Listener;
+use nsc_sockets::{Listener, Prepared};
 use std::alloc::Global;
 use std::fs::File;
 use std::rt::Files;
+use std::sync::atomic::AtomicU64;
 use std::sync::{Arc, Wait};
 use std::thread;
 use std::thread::Threads;
 use std::time::Clock;
 
 /// Tells how a daemon serves, as its listener has it.
-#[derive(Clone, Copy, Debug)]
+#[derive(Drop)]
 pub struct Manner {
     /// How many connections may wait for a worker.
     pub most: usize,
+    /// The count of those that wait, as the listener shares it.
+    pub jobs: Arc<AtomicU64>,
     /// Whether a thread of its own ticks.
     pub ticks_apart: bool,
 }
@@ -50,14 +55,23 @@ where
     ensures bound { N.bound net.new ≡ N.bound net.old }
     ensures faults { N.faults net.new ≡ N.faults net.old }
 {
-    let prepared = net.prepare(workers)?;
-    if let Some(crew) = &prepared.crew {
+    let Prepared { most, jobs, crew } = net.prepare(workers)?;
+    if let Some(crew) = &crew {
         crew.start(rt)?;
     }
     Ok(Manner {
-        most: prepared.most,
-        ticks_apart: prepared.crew.is_some(),
+        most,
+        jobs: count_of(rt.alloc(), jobs)?,
+        ticks_apart: crew.is_some(),
     })
+}
+
+// The count of the connections that wait: the listener's, if it has one.
+fn count_of(alloc: Global, jobs: Option<Arc<AtomicU64>>) -> Result<Arc<AtomicU64>, NoMemory> {
+    match jobs {
+        Some(jobs) => Ok(jobs),
+        None => Ok(Arc::new(alloc, AtomicU64::new(0))?),
+    }
 }
 
 /// What a daemon has before its sockets are bound.
@@ -77,6 +91,8 @@ pub struct Means<S: Store + Drop, R: Drop, K: Drop> {
     pub latch: Arc<Latch>,
     /// Who serves the gate where there is one and no worker.
     pub gate: Option<Gatekeeper<S>>,
+    /// Tells helpers the moment.
+    pub moment: Arc<Moment>,
     /// The path of the socket of every user.
     pub plain: String,
     /// The path of the socket of the administrator.
@@ -104,11 +120,17 @@ impl<S: Store + Drop, R: Drop, K: Drop> Means<S, R, K> {
         let buffer = RequestBuffer::new(alloc)?;
         let fast = FastPath::new(alloc)?;
         let stores = Arc::new(alloc, stores)?;
-        let list = waitings(rt, manner.most)?;
+        let Manner {
+            most,
+            jobs,
+            ticks_apart,
+        } = manner;
+        let list = waitings(rt, most, jobs)?;
         let latch = Arc::new(alloc, Latch::new())?;
         let (plain, admin) = socket_paths(alloc, terms.run_dir)?;
         let gate = gatekeeper(rt, terms, &stores)?;
-        let ticker = if manner.ticks_apart {
+        let moment = Arc::new(alloc, Moment::new(0))?;
+        let ticker = if ticks_apart {
             Some(Ticker::start(rt, &stores)?)
         } else {
             None
@@ -121,22 +143,25 @@ impl<S: Store + Drop, R: Drop, K: Drop> Means<S, R, K> {
             list,
             latch,
             gate,
+            moment,
             plain,
             admin,
         })
     }
 }
 
-// An empty list for the connections that wait, so many at most. Fails only for want of memory.
+// An empty list for the connections that wait, at most `most`, which are counted in `jobs`. It fails only without memory.
 fn waitings<RT: AllocGlobal + Threads, R: Drop, K: Drop>(
     rt: &RT,
     most: usize,
+    jobs: Arc<AtomicU64>,
 ) -> Result<Waitings<R, K>, NoMemory> {
     let processors = match thread::available_parallelism(rt) {
         Ok(number) => number.get(),
         Err(_) => 1,
     };
-    Ok(Arc::new(rt.alloc(), JobList::new(rt.alloc(), processors, most))?)
+    let list = JobList::new(rt.alloc(), processors, most, jobs);
+    Ok(Arc::new(rt.alloc(), list)?)
 }
 
 // The paths of the two sockets: that of every user, and that of the administrator.

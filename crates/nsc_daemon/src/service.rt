@@ -16,17 +16,17 @@ use crate::latch::Latch;
 use crate::means::{Manner, Means, prepare};
 use crate::opening::{Openings, opening_exit};
 use crate::terms::Terms;
-use crate::worker::Worker;
+use crate::threads::{hand_over, start_helpers, start_workers};
 use nsc_database::Room;
 use nsc_model::{Databases, Exit, Store};
-use nsc_outside::{Failed, FileSet, ImageStore, Sink, Source, write_all};
-use nsc_sockets::{Clock, Listener, Role};
+use nsc_outside::{Failed, FileSet, ImageStore, Sink, write_all};
+use nsc_sockets::{Clock, Helps, Listener, Role};
 use std::fs::File;
 use std::marker::Brand;
 use std::rt::Files;
 use std::sync::{Arc, Wait};
 use std::thread::Threads;
-use std::{thread, time};
+use std::time;
 
 // How long an end waits for requests that have come, in seconds.
 const LAST_REQUESTS: u64 = 2;
@@ -71,6 +71,7 @@ where
     N::Departure: 'static,
     N::In: 'static,
     N::Out: 'static,
+    N::Helper: Helps<N::In, N::Out> + 'static,
     requires { SizesFit terms.now.conf.now }
     ensures exits { IsExitOf Serving result }
     ensures ends { EndsSo result (daemon_at K.Sink F.FileSet N.Listener output.old files.old net.old) (daemon_at K.Sink F.FileSet N.Listener output.new files.new net.new) }
@@ -123,6 +124,7 @@ where
     N::Departure: 'static,
     N::In: 'static,
     N::Out: 'static,
+    N::Helper: Helps<N::In, N::Out> + 'static,
     requires names { (openings.passwd.db ≡ db_is.Passwd) × (openings.group.db ≡ db_is.Group) × (openings.hosts.db ≡ db_is.Hosts) × (openings.services.db ≡ db_is.Services) }
     requires tables { (openings.passwd.pass.table ≡ B.table db_is.Passwd) × (openings.group.pass.table ≡ B.table db_is.Group) × (openings.hosts.pass.table ≡ B.table db_is.Hosts) × (openings.services.pass.table ≡ B.table db_is.Services) }
     requires passwd { (openings.passwd.settings ≡ settings_of B.conf db_is.Passwd) × (openings.passwd.reloads ≡ B.conf.reloads) × (F.held openings.passwd.files ≡ B.held) }
@@ -171,6 +173,7 @@ where
     S::Pass: Send + 'static,
     N::In: 'static,
     N::Out: 'static,
+    N::Helper: Helps<N::In, N::Out> + 'static,
     requires named { AreNamed S.Store stores }
     requires passes { ArePasses S.Store stores passes }
     ensures exits { IsExitOf Serving result }
@@ -212,6 +215,7 @@ where
     S::Pass: Send + 'static,
     N::In: 'static,
     N::Out: 'static,
+    N::Helper: Helps<N::In, N::Out> + 'static,
     requires named { AreNamed S.Store stores }
     requires passes { ArePasses S.Store stores passes }
     ensures exits { IsExitOf Serving result }
@@ -231,6 +235,7 @@ where
         list,
         latch,
         gate,
+        moment,
         plain,
         admin,
     } = means;
@@ -243,6 +248,7 @@ where
         Err(_) => return Exit::WriteFault,
     }
     let ticked = clock.now();
+    moment.set(ticked);
     let mut acceptor = Acceptor {
         stores,
         scopes: terms.scopes,
@@ -253,6 +259,8 @@ where
         ticker,
         ticked,
         waitings: None,
+        tallies: Vec::new(rt.alloc()),
+        moment,
     };
     let exit = run(rt, terms.workers, &mut acceptor, &list, &latch, clock, net);
     let Acceptor {
@@ -286,7 +294,7 @@ fn bind<N: Listener>(
     }
 }
 
-// Starts the workers, accepts, and waits for the workers' end. One that a file holds is left, since the end of the process ends it.
+// Starts the workers and helpers, accepts, and waits for the workers' end. One that a file holds is left, since the end of the process ends it.
 fn run<
     RT: AllocGlobal + Threads + Wait + time::Clock + Clone + Drop + Send + Sync + 'static,
     S: Store + Drop + Send + Sync + 'static,
@@ -305,12 +313,17 @@ where
     S::Pass: Send + 'static,
     N::In: 'static,
     N::Out: 'static,
+    N::Helper: Helps<N::In, N::Out> + 'static,
     ensures exits { IsExitOf Serving result }
     ensures stops { StopsSo result (N.given net.old) (N.given net.new) (N.faults net.old) (N.faults net.new) }
     ensures bound { N.bound net.new ≡ N.bound net.old }
 {
     let started = start_workers(rt, workers, acceptor, list, latch);
-    net.set_workers(hand_over(acceptor, list, started));
+    let serving = hand_over(acceptor, list, started);
+    net.set_workers(serving);
+    if serving > 0 {
+        start_helpers(rt, acceptor, list, net);
+    }
     let exit = accept_all(rt, acceptor, clock, net);
     // From now on nobody connects, and no peer that does not read keeps a worker from its end.
     net.close();
@@ -320,64 +333,4 @@ where
     }
     latch.wait(rt, time::Duration::from_secs(LAST_REQUESTS));
     exit
-}
-
-// Leaves connections to the workers, where there are some, and gives how many serve them then.
-fn hand_over<S: Store + Drop, R: Source + Drop, K: Sink + Drop>(
-    acceptor: &mut Acceptor<S, R, K>,
-    list: &Waitings<R, K>,
-    workers: usize,
-) -> usize
-    ensures { acceptor.new ≡ acceptor.old }
-{
-    if workers == 0 {
-        return 0;
-    }
-    match Arc::try_clone(list) {
-        Ok(shared) => {
-            acceptor.waitings = Some(shared);
-            workers
-        }
-        Err(_) => 0,
-    }
-}
-
-// Starts as many workers as it can, up to this number, and gives how many.
-fn start_workers<
-    RT: AllocGlobal + Threads + Wait + time::Clock + Clone + Drop + Send + Sync + 'static,
-    S: Store + Drop + Send + Sync + 'static,
-    R: Source + Send + Drop + 'static,
-    K: Sink + Send + Drop + 'static,
->(
-    rt: &RT,
-    workers: u32,
-    acceptor: &Acceptor<S, R, K>,
-    list: &Waitings<R, K>,
-    latch: &Arc<Latch>,
-) -> usize
-where
-    S::Pass: Send + 'static,
-{
-    let mut started = 0usize;
-    for _ in 0..workers {
-        let Ok(worker) = Worker::new(
-            rt,
-            &acceptor.stores,
-            acceptor.scopes,
-            list,
-            latch,
-            acceptor.gate.is_some(),
-        ) else {
-            continue;
-        };
-        let Ok(theirs) = rt.clone() else {
-            continue;
-        };
-        latch.enter(rt);
-        match thread::spawn(rt, move || worker.run(&theirs)) {
-            Ok(_) => started = started.saturating_add(1),
-            Err(_) => latch.leave(rt),
-        }
-    }
-    started
 }

@@ -3,12 +3,14 @@ ghost use Rattle.std.specs.Arc.{arc_value};
 ghost use Rattle.nsc_server.specs.Passes.{AreNamed, ArePasses};
 
 use crate::gate::Gatekeeper;
+use crate::hold::Hold;
 use crate::intake::{Intake, Waitings};
 use crate::latch::Latch;
 use nsc_base::NoMemory;
 use nsc_model::{Databases, Store};
 use nsc_outside::{Sink, Source};
 use nsc_server::{RequestBuffer, Scopes, work};
+use nsc_sockets::Attended;
 use std::alloc::Global;
 use std::marker::Model;
 use std::sync::{Arc, Wait};
@@ -38,7 +40,7 @@ impl<S: Store + Drop, R: Source + Drop, K: Sink + Drop> Model for Worker<S, R, K
     ghost invariant = { λ w. AreNamed S.Store (arc_value w.stores) × ArePasses S.Store (arc_value w.stores) w.passes };
 }
 
-impl<S: Store + Drop, R: Source + Drop, K: Sink + Drop> Worker<S, R, K> {
+impl<S: Store + Drop, R: Source + Drop, K: Sink + Attended + Drop> Worker<S, R, K> {
     /// A worker with passes of its own, for the gate too where there is one. Fails only for want of memory.
     pub fn new<RT: AllocGlobal + Wait>(
         rt: &RT,
@@ -68,6 +70,7 @@ impl<S: Store + Drop, R: Source + Drop, K: Sink + Drop> Worker<S, R, K> {
             intake: Intake {
                 list,
                 gate,
+                hold: Hold::new(),
                 taken: 0,
                 is_over: false,
             },

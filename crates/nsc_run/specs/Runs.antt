@@ -36,7 +36,7 @@ pub record Outside : Type 0 where
   pub peer : Option (List ℕ)
   pub net_faults : ℕ
 
-abbrev pub outside : {R K F S N I O D : Type 0} → source.Ghosts R → sink.Ghosts K → files.Ghosts F → image_store.Ghosts S → listener.Ghosts N I O D → R → K → F → S → N → Outside
+abbrev pub outside : {R K F S N I O D H : Type 0} → source.Ghosts R → sink.Ghosts K → files.Ghosts F → image_store.Ghosts S → listener.Ghosts N I O D H → R → K → F → S → N → Outside
 outside r k f s n input output set images net = record {
   streams = streams_at r k input output;
   held = f.held set;

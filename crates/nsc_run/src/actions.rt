@@ -18,7 +18,7 @@ use nsc_daemon::{Terms, daemon};
 use nsc_model::{Conf, Exit, FileId};
 use nsc_outside::{FileSet, ImageStore, Sink, Source};
 use nsc_server::{Scope, Scopes};
-use nsc_sockets::{Clock, Listener};
+use nsc_sockets::{Clock, Helps, Listener};
 use std::alloc::Global;
 use std::fs::File;
 use std::rt::Files;
@@ -97,6 +97,7 @@ where
     N::Departure: 'static,
     N::In: 'static,
     N::Out: 'static,
+    N::Helper: Helps<N::In, N::Out> + 'static,
     ensures course { DaemonCourse (F.conf_held files.old (conf_path_for service.now)) (service_shown service.now) (F.held files.old) (images_at I.ImageStore images.old) (images_at I.ImageStore images.new) (daemon_at K.Sink F.FileSet N.Listener output.old files.old net.old) (daemon_at K.Sink F.FileSet N.Listener output.new files.new net.new) result }
     ensures bound { result ≡ Exit.Ok → IsBound (N.bound net.old) (N.bound net.new) (sockets_of service.now.run_dir.now (option_map (λ p. p.now) service.now.gate)) }
 {

@@ -13,7 +13,7 @@ use crate::words::read_words;
 use nsc_index::Indexed;
 use nsc_model::{Conf, Exit};
 use nsc_outside::{FileSet, ImageStore, Sink, Source};
-use nsc_sockets::{Clock, Listener};
+use nsc_sockets::{Clock, Helps, Listener};
 use nsc_workload::workload;
 use std::fs::File;
 use std::rt::Files;
@@ -104,6 +104,7 @@ where
     N::Departure: 'static,
     N::In: 'static,
     N::Out: 'static,
+    N::Helper: Helps<N::In, N::Out> + 'static,
     // Usage tells that the words have no form.
     ensures usage { result ≡ Exit.Usage → form_of (texts words.now) ≡ None }
 
