@@ -15,15 +15,22 @@ import sys
 import time
 
 sys.dont_write_bytecode = True
+import afterorders
 import badimages
+import besideorders
 import crowds
 import ending
 import folders
 import gates
+import gateturns
+import gone
 import inplace
+import invented
 import kept
 import lines
 import lingering
+import parts
+import reloading
 import scarce
 import scopes
 import sources
@@ -32,6 +39,7 @@ import telling
 import tokens
 import torn
 import unread
+import waking
 import written
 from clients import real_clients
 from running import (
@@ -88,53 +96,6 @@ def orders():
             "-g and -i do what they say, and only on the socket of the administrator; after -i a lookup reads the file again;"
             " -K where none runs ends with status 8"
         )
-
-
-def user_reply(name, uid, shell):
-    """The reply of the protocol for a user of group 100 without a comment."""
-    texts = [text + b"\0" for text in (name, b"x", b"", b"/home/" + name, shell)]
-    lengths = list(map(len, texts))
-    return struct.pack("<4i2I3i", 2, 1, lengths[0], lengths[1], uid, 100, *lengths[2:]) + b"".join(texts)
-
-
-def changes():
-    """A file of several parts, of which each change is seen by the next user that is asked for the first time."""
-    with daemon() as run:
-        shells = {number: b"/bin/sh" for number in range(3000)}
-        passwd = run.etc / "passwd"
-
-        def write():
-            passwd.write_bytes(b"".join(b"u%d:x:%d:100::/home/u%d:%s\n" % (number, 1000 + number, number, shell) for number, shell in shells.items()))
-
-        def asks(number, what):
-            wanted = user_reply(b"u%d" % number, 1000 + number, shells[number]) if number in shells and passwd.exists() else NO_REPLY
-            check(run.ask(request(PASSWD_BY_NAME, b"u%d\0" % number)) == wanted, f"{what}: another reply for u{number}")
-
-        write()
-        asks(0, "at first")
-        asks(1, "unchanged")
-        shells[2999] = b"/bin/sx"
-        write()
-        asks(2999, "the last line, as long as before")
-        shells[1500] = b"/bin/sx"
-        write()
-        asks(1500, "a line in the middle, as long as before")
-        shells[3000] = b"/bin/sx"
-        write()
-        asks(3000, "a line more")
-        del shells[2998], shells[3000]
-        write()
-        asks(2998, "two lines fewer")
-        passwd.unlink()
-        asks(2997, "no file")
-        asks(2996, "still no file")
-        write()
-        asks(2995, "the file again")
-        passwd.write_bytes(b"")
-        asks_none = run.ask(request(PASSWD_BY_NAME, b"u2994\0"))
-        check(asks_none == NO_REPLY, "an empty file: another reply for u2994")
-        run.shut_down()
-        return "each change of a long file is seen by the next lookup: in place, longer, shorter, absent, empty"
 
 
 def second_start():
@@ -332,7 +293,6 @@ CASES = {
     "lookups": lookups,
     "places": places,
     "orders": orders,
-    "changes": changes,
     "second-start": second_start,
     "no-folder": no_folder,
     "killed": killed,
@@ -350,7 +310,14 @@ CASES = {
     **crowds.CASES,
     **folders.CASES,
     **gates.CASES,
+    **gateturns.CASES,
+    **gone.CASES,
     **inplace.CASES,
+    **afterorders.CASES,
+    **besideorders.CASES,
+    **parts.CASES,
+    **reloading.CASES,
+    **waking.CASES,
     **scopes.CASES,
     **sources.CASES,
     **starts.CASES,
@@ -366,7 +333,7 @@ CASES = {
     **scarce.CASES,
 }
 # Longer forms, which are tried only by name.
-LONG_CASES = {**inplace.LONG_CASES, **tokens.LONG_CASES, **lingering.LONG_CASES}
+LONG_CASES = {**afterorders.LONG_CASES, **inplace.LONG_CASES, **invented.LONG_CASES, **tokens.LONG_CASES, **lingering.LONG_CASES, **waking.LONG_CASES}
 
 
 def main(names):

@@ -6,8 +6,9 @@ import threading
 import time
 from pathlib import Path
 
+from askers import asking
 from holding import holding
-from running import GROUP_BY_NAME, INVALIDATE, NO_REPLY, PASSWD_BY_NAME, PATIENCE, ROOT_REPLY, check, daemon, request
+from running import ASK_ROOT, GROUP_BY_NAME, INVALIDATE, NO_REPLY, PASSWD_BY_NAME, PATIENCE, ROOT_REPLY, check, daemon, read_all, request
 from scopes import counts
 
 ASK_MAUD = request(PASSWD_BY_NAME, b"maud\0")
@@ -26,6 +27,8 @@ SLOW = 0.05  # seconds for a hit beside a tick, and in the middle a tenth
 EMPTY = 52  # bytes of an image without entries
 HELD = 4.0  # seconds for which a tick waits at least
 LIVED = 1  # seconds of an entry's time
+CLIENTS = 16  # at once
+AT_ONCE = 1.5  # seconds
 
 
 def user(number, shell=b"/bin/sh"):
@@ -56,7 +59,29 @@ def counted():
             time.sleep(1)
             told = counts(run, "passwd")
         check({name: int(told[name]) for name in wanted} == wanted, f"other counts: {told}")
-        return f"of {2 * ASKED} lookups each hit is counted, found and not found"
+    return f"of {2 * ASKED} lookups each hit is counted, found and not found; {counted_at_once()}"
+
+
+def lookups_and_misses(run):
+    """The counted lookups of users, found and not found, and how many of all were misses."""
+    told = {name: int(number) for name, number in counts(run, "passwd").items() if name.endswith(("hits", "misses"))}
+    return (told["hits"] + told["misses"], told["negative hits"] + told["negative misses"]), told["misses"] + told["negative misses"]
+
+
+def counted_at_once():
+    """Lookups of many clients at once, each of which is counted too. Few are misses: the first ones, and those after an entry's time."""
+    with daemon() as run:
+        began = time.monotonic()
+        check(run.ask() == ROOT_REPLY and run.ask(ASK_NOBODY) == NO_REPLY, "another reply")
+        with asking(run, CLIENTS // 2, AT_ONCE, ASK_ROOT, ROOT_REPLY) as found, asking(run, CLIENTS // 2, AT_ONCE, ASK_NOBODY, NO_REPLY) as absent:
+            wanted = (len(found.times()) + 1, len(absent.times()) + 1)
+        # A tick may have them, which has not begun.
+        ends = time.monotonic() + 2
+        while (told := lookups_and_misses(run))[0] != wanted:
+            check(time.monotonic() < ends, f"of {wanted} lookups by {CLIENTS} clients at once {told[0]} are counted")
+            time.sleep(0.1)
+        check(told[1] <= 2 + (time.monotonic() - began) / TICK, f"of {sum(wanted)} lookups {told[1]} are misses")
+        return f"and of {CLIENTS} clients at once {wanted[0]} and {wanted[1]}"
 
 
 def kept_back():
@@ -86,13 +111,40 @@ def after_orders():
     return f"after each of {ORDERS} orders what is answered is what the file says then"
 
 
-def switches(run, threads):
-    """How often these threads of the daemon were left and came back by themselves."""
-    total = 0
-    for thread in threads:
-        text = Path(f"/proc/{run.process.pid}/task/{thread}/status").read_text()
-        total += int(text.split("voluntary_ctxt_switches:")[1].split()[0])
-    return total
+def bytes_read(run):
+    """How many bytes each thread of the daemon has read of files."""
+    tasks = Path(f"/proc/{run.process.pid}/task")
+    return {int(name): int((tasks / name / "io").read_text().split("rchar:")[1].split()[0]) for name in os.listdir(tasks)}
+
+
+def workers_of(run, count):
+    """The workers of the daemon, which are the threads that read its files. Names of no user are asked for that."""
+    # Others read a little of /proc.
+    before, asked, found, size = bytes_read(run), 0, [], (run.etc / "passwd").stat().st_size
+    ends = time.monotonic() + 4 * PATIENCE
+    while len(found) < count:
+        check(time.monotonic() < ends, f"of {count} workers {len(found)} are seen to read")
+        with open(run.etc / "passwd", "ab") as file:
+            file.write(b"# another text\n")
+        peers = [run.connect() for _ in range(10)]
+        for asked, peer in enumerate(peers, asked + 1):
+            peer.sendall(request(PASSWD_BY_NAME, b"none%d\0" % asked))
+        for peer in peers:
+            with peer:
+                check(read_all(peer) == NO_REPLY, "another reply for a name of no user")
+        found = [thread for thread, read in bytes_read(run).items() if read >= before.get(thread, 0) + size]
+    return sorted(found)
+
+
+def switches(run):
+    """How often each thread of the daemon was left and came back by itself."""
+    tasks = Path(f"/proc/{run.process.pid}/task")
+    return {int(name): int((tasks / name / "status").read_text().split("voluntary_ctxt_switches:")[1].split()[0]) for name in os.listdir(tasks)}
+
+
+def woken(before, after, threads):
+    """How often these threads were woken from one look to another."""
+    return sum(after[thread] - before[thread] for thread in threads)
 
 
 def words(run):
@@ -104,11 +156,8 @@ def after_growths():
     """A table that becomes larger is another one: soon afterwards hits are answered from it, and no worker is woken for them."""
     with daemon("-t", "2", started=False) as run:
         set_up(run, GROWN, "suggested-size passwd 211\nreload-count unlimited\n")
-        # It says that it is ready before it makes its workers, which are its last threads.
         run.ask(ask_user(0))
-        time.sleep(SOON)
-        workers = sorted(map(int, os.listdir(f"/proc/{run.process.pid}/task")))[-2:]
-        growths, before, least = 0, words(run), 1.0
+        growths, before, seen = 0, words(run), []
         for number in range(GROWN):
             run.ask(ask_user(number))
             if number % 500 != 499 or (now := words(run)) == before:
@@ -118,10 +167,13 @@ def after_growths():
             ends = time.monotonic() + SOON
             while time.monotonic() < ends:
                 run.ask(ask_user(number))
-            was = switches(run, workers)
+            was = switches(run)
             for asked in range(ASKED):
                 check(run.ask(ask_user(asked)).endswith(b"/bin/sh\0"), f"user {asked}: another reply")
-            least = min(least, 1 - (switches(run, workers) - was) / ASKED)
+            seen.append((was, switches(run)))
+        # To look for the workers changes the file, and so ends the entries.
+        workers = workers_of(run, 2)
+        least = min(1 - woken(*looks, workers) / ASKED for looks in seen)
         check(growths >= 3, f"the table became larger {growths} times only")
         check(least >= IN_PLACE, f"after a growth {least:.1%} of the hits woke no worker")
         return f"after each of {growths} growths {least:.1%} of the hits or more are answered without a worker"

@@ -96,7 +96,8 @@ def connected(path, patience):
 class Daemon:
     """A running daemon, with the folder of its files and the folder of its sockets."""
 
-    def __init__(self, *words, descriptors=None):
+    def __init__(self, *words, descriptors=None, program=PROGRAM):
+        self.program = program
         self.folder = Path(tempfile.mkdtemp(prefix="nscd-daemon-"))
         self.folder.chmod(0o755)
         self.etc, self.run = self.folder / "etc", self.folder / "run" / "nscd"
@@ -116,7 +117,7 @@ class Daemon:
                 resource.setrlimit(resource.RLIMIT_NOFILE, (self.descriptors, most))
 
         self.process = subprocess.Popen(
-            [PROGRAM, "--etc", self.etc, "--run-dir", self.run, *self.words],
+            [self.program, "--etc", self.etc, "--run-dir", self.run, *self.words],
             stdout=subprocess.PIPE,
             stderr=subprocess.PIPE,
             preexec_fn=limit,
@@ -131,13 +132,13 @@ class Daemon:
 
     def second(self, run_dir=None, **how):
         """What a further start says, and its status. Where it is not ended by itself, that is a fault."""
-        words = [PROGRAM, "--etc", self.etc, "--run-dir", run_dir or self.run]
+        words = [self.program, "--etc", self.etc, "--run-dir", run_dir or self.run]
         done = subprocess.run(words, capture_output=True, timeout=PATIENCE, check=False, **how)
         return done.stdout, done.stderr, done.returncode
 
     def command(self, *words):
         """What a client command says, and its status."""
-        done = subprocess.run([PROGRAM, *words, "--run-dir", self.run], capture_output=True, timeout=2 * PATIENCE, check=False)
+        done = subprocess.run([self.program, *words, "--run-dir", self.run], capture_output=True, timeout=2 * PATIENCE, check=False)
         return done.stdout, done.stderr, done.returncode
 
     def connect(self, name="socket", patience=PATIENCE):

@@ -86,7 +86,7 @@ def terms_case():
     prevented = wanted["RestartPreventExitStatus"].split()
     names = sorted(name for name, status in statuses.items() if status in prevented)
     check("SocketFault" not in names and len(names) == 4, f"statuses that are not tried again: {names}")
-    threads = 64 + 32 + 2  # that answer, that close, that accepts and that writes lines
+    threads = 64 + 32 + 6  # that answer, that close; that accepts, its helpers, and those that watch, tick and write lines
     check(int(found["TasksMax"]) >= threads + 16, f"TasksMax is {found['TasksMax']}")
     return f"the unit starts the daemon again without an end, but for {', '.join(names)}, and lets it have {found['TasksMax']} tasks"
 
