@@ -1,12 +1,15 @@
 /* Asks a daemon for users by name, as the C library does, and looks at each reply:
 
-     client SOCKET THREADS SECONDS FIRST COUNT STEP FOUND
+     client SOCKET THREADS SECONDS FIRST COUNT STEP FOUND [end]
 
    The names are those of the COUNT users FIRST, FIRST + STEP and so on, and the id of user N is N. With SECONDS the threads
    ask them in a mixed order for so long; with 0 one thread asks each once, in order. FOUND is 1 where the users are to be
    found, else 0. It prints how many were answered, the seconds, the middle, the 99th percentile and the longest of the times,
    in microseconds, and how often a connection was refused since too many waited. It ends with status 1 where a reply is not
-   what it must be, or takes five seconds. */
+   what it must be, or takes five seconds.
+
+   With the word `end` each thread waits behind the reply for the end of the connection, as the C library does not; then it
+   prints too the middle and the 99th percentile of the times to the end, in microseconds. */
 
 #define _GNU_SOURCE
 #include <errno.h>
@@ -30,11 +33,13 @@ struct asker {
     long asked, failed, refused;
     double longest;
     uint32_t counts[BUCKETS]; /* by whole microseconds; the last one has all that are longer */
+    uint32_t ends[BUCKETS];   /* the same, to the end of the connection */
 };
 
 static struct sockaddr_un place = {.sun_family = AF_UNIX};
 static double limit;
 static long first, count, step, found;
+static int waits;
 static struct asker askers[MOST_THREADS];
 static pthread_barrier_t begin;
 
@@ -78,9 +83,18 @@ static int is_right(int fd, long number, const char *name)
     return strncmp(texts, name, sizeof texts) == 0;
 }
 
+/* Whether the connection ends now, without a further byte. */
+static int ends_here(int fd)
+{
+    struct pollfd wanted = {fd, POLLIN, 0};
+    char byte;
+    return poll(&wanted, 1, PATIENCE) > 0 && read(fd, &byte, 1) == 0;
+}
+
 enum answer { WRONG, RIGHT, REFUSED };
 
-static enum answer ask(long number)
+/* Asks once, and gives what came of it and the moment of the reply. */
+static enum answer ask(long number, double *replied)
 {
     char name[32];
     int32_t head[3] = {2, 0, snprintf(name, sizeof name, "user%07ld", number) + 1};
@@ -94,14 +108,23 @@ static enum answer ask(long number)
         answer = errno == EAGAIN ? REFUSED : WRONG;
     else if (sendmsg(fd, &message, MSG_NOSIGNAL) == (ssize_t)sizeof head + head[2] && is_right(fd, number, name))
         answer = RIGHT;
+    *replied = now();
+    if (answer == RIGHT && waits && !ends_here(fd))
+        answer = WRONG;
     close(fd);
     return answer;
 }
 
-/* Asks once, notes the time, and gives the moment. */
+static int bucket(double took)
+{
+    return took < BUCKETS - 1 ? (int)took : BUCKETS - 1;
+}
+
+/* Asks once, notes the times, and gives the moment. */
 static double note(struct asker *self, long number, double began)
 {
-    enum answer answer = ask(number);
+    double replied = began;
+    enum answer answer = ask(number, &replied);
     double ended = now();
     if (answer == REFUSED) {
         self->refused++;
@@ -109,8 +132,10 @@ static double note(struct asker *self, long number, double began)
     }
     self->failed += answer == WRONG;
     self->asked++;
-    double took = (ended - began) * 1e6;
-    self->counts[took < BUCKETS - 1 ? (int)took : BUCKETS - 1]++;
+    double took = ((waits ? replied : ended) - began) * 1e6;
+    self->counts[bucket(took)]++;
+    if (waits)
+        self->ends[bucket((ended - began) * 1e6)]++;
     if (took > self->longest)
         self->longest = took;
     return ended;
@@ -144,8 +169,9 @@ static int percentile(const uint32_t *counts, long asked, double share)
 
 int main(int words, char **word)
 {
-    if (words != 8) {
-        fprintf(stderr, "usage: client SOCKET THREADS SECONDS FIRST COUNT STEP FOUND\n");
+    waits = words == 9 && strcmp(word[8], "end") == 0;
+    if (words != 8 + waits) {
+        fprintf(stderr, "usage: client SOCKET THREADS SECONDS FIRST COUNT STEP FOUND [end]\n");
         return 2;
     }
     strncpy(place.sun_path, word[1], sizeof place.sun_path - 1);
@@ -174,11 +200,16 @@ int main(int words, char **word)
         all->refused += askers[i].refused;
         if (askers[i].longest > all->longest)
             all->longest = askers[i].longest;
-        for (int j = 0; j < BUCKETS; j++)
+        for (int j = 0; j < BUCKETS; j++) {
             all->counts[j] += askers[i].counts[j];
+            all->ends[j] += askers[i].ends[j];
+        }
     }
-    printf("%ld %.6f %d %d %.0f %ld\n", all->asked, took, percentile(all->counts, all->asked, 0.5),
+    printf("%ld %.6f %d %d %.0f %ld", all->asked, took, percentile(all->counts, all->asked, 0.5),
            percentile(all->counts, all->asked, 0.99), all->longest, all->refused);
+    if (waits)
+        printf(" %d %d", percentile(all->ends, all->asked, 0.5), percentile(all->ends, all->asked, 0.99));
+    printf("\n");
     if (all->failed)
         fprintf(stderr, "client: %ld of %ld replies are not what they must be\n", all->failed, all->asked);
     return all->failed != 0;
