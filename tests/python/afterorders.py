@@ -57,7 +57,7 @@ class Changes:
 
 
 def after_orders(replies):
-    """Asks by many clients until they have so many replies, while the file changes and orders tell of it."""
+    """Asks by many clients until they have this number of replies, while the file changes and orders tell of it."""
     with daemon("-t", "3") as run:
         changes = Changes(run)
         changes.change(0)
