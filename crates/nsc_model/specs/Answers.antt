@@ -1,5 +1,6 @@
 -- What is answered over a content: the outcome of each service, the switch over a service list (nsswitch.conf(5)), and the reply's bytes.
-use Rattle.std.specs.Prelude.{ℕ, ◌==◌, Bool, true, false, not, if◌then◌else◌, List, [], ◌∷◌, map, filter, flat_map, Option, Some, None}
+use Rattle.std.specs.Prelude.{ℕ, ◌==◌, nat_le, Bool, true, false, not, ◌&&◌, if◌then◌else◌, List, [], ◌∷◌, ◌++◌, length, map, filter, flat_map, Option, Some, None}
+use Rattle.std.specs.List.{list_any}
 use Rattle.std.specs.Str.{bytes_eq}
 use Rattle.nsc_model.specs.declared.kind.Kind.{Kind}
 use Rattle.nsc_model.specs.declared.kind.Kind.TheVariants as kind
@@ -20,7 +21,7 @@ use Rattle.nsc_model.specs.declared.kind.Db.TheVariants as db
 use Rattle.nsc_model.specs.Kinds.{database_of}
 use Rattle.nsc_model.specs.Content.{Content}
 use Rattle.nsc_model.specs.Answer.{Answer}
-use Rattle.nsc_model.specs.Wire.{spelled}
+use Rattle.nsc_model.specs.Wire.{group_found, spelled}
 use Rattle.nsc_base.specs.Text.{lines_of}
 use Rattle.nsc_model.specs.Entries.{named_in, first_named}
 use Rattle.nsc_model.specs.Users.{user_of_line}
@@ -30,7 +31,9 @@ use Rattle.nsc_model.specs.ServiceLines.{ServiceKey, exchanged, port_of, service
 use Rattle.nsc_model.specs.declared.switch.SwitchService.{SwitchService}
 use Rattle.nsc_model.specs.declared.switch.SwitchService.TheVariants as service
 use Rattle.nsc_model.specs.declared.switch.SwitchStep.{SwitchStep}
-use Rattle.nsc_model.specs.Services.{action_at, ends}
+use Rattle.nsc_model.specs.declared.switch.SwitchAction.{SwitchAction}
+use Rattle.nsc_model.specs.declared.switch.SwitchAction.TheVariants.{Return, Continue, Merge}
+use Rattle.nsc_model.specs.Services.{action_at}
 use Rattle.nsc_model.specs.Switches.{compat_list, service_list}
 use Rattle.nsc_model.specs.Compat.{IdScan, Scan, gathered, replaced_user, sayings, scanned_file}
 
@@ -146,20 +149,82 @@ sub_answer files request service.Compat = Unavail
 sub_answer files request service.Extrausers = file_answer (extra_file (database_of request.kind) files) request
 sub_answer files request service.Other = Unavail
 
--- the services in turn, each with its outcome: the first one whose action at its status is to return ends the switch, and
--- so does the last one
-abbrev pub switched : (SwitchService → Looked) → List SwitchStep → Looked
-switched look [] = Unavail
-switched look (step ∷ []) = look step.service
-switched look (step ∷ next ∷ steps) =
+-- ---- rows that the action merge joins, nsswitch.conf(5)
+
+-- the longest reply of a joined group, in bytes; this limit is the project's choice
+abbrev pub join_limit : ℕ
+join_limit = 134217728
+
+-- a group with the members of another group after its own
+abbrev pub with_members : Group → Group → Group
+with_members h g = record h { members = h.members ++ g.members }
+
+-- a held group takes the members of a later group if names and ids are equal and its reply then has
+-- at most `join_limit` bytes; else it stays as it is
+abbrev pub joined_group : Group → Group → Group
+joined_group h g =
+    if bytes_eq h.name g.name && h.gid == g.gid && nat_le (length (group_found (with_members h g))) join_limit then with_members h g else h
+
+-- ids, and then the ids of another list that the first list lacks
+abbrev pub joined_ids : List ℕ → List ℕ → List ℕ
+joined_ids ids others = ids ++ filter (λ id. not (list_any (λ other. other == id) ids)) others
+
+-- a held row joined with the row that a later service found
+abbrev pub joined_row : Row → Row → Row
+joined_row (row.Group h) (row.Group g) = row.Group (joined_group h g)
+joined_row (row.Groups ids) (row.Groups others) = row.Groups (joined_ids ids others)
+joined_row h _ = h
+
+-- an outcome joined to the held row, if there is one
+abbrev pub joined : Option Row → Looked → Looked
+joined None outcome = outcome
+joined (Some held) (Found found) = Found (joined_row held found)
+joined (Some held) NotFound = Found held
+joined (Some held) Unavail = Found held
+
+-- the row of an outcome, if it found one
+abbrev pub row_in : Looked → Option Row
+row_in (Found found) = Some found
+row_in NotFound = None
+row_in Unavail = None
+
+-- the kinds whose rows are joined
+abbrev pub is_joined : Kind → Bool
+is_joined kind.GrName = true
+is_joined kind.GrGid = true
+is_joined kind.InitGroups = true
+is_joined _ = false
+
+-- whether a merge goes on: a row of such a kind was found
+abbrev pub merges : Kind → Looked → Bool
+merges by (Found found) = is_joined by
+merges by NotFound = false
+merges by Unavail = false
+
+-- the outcome from a step on that is not the last; `next` is the outcome of the later steps over what is held then
+abbrev pub stepped : Kind → SwitchAction → Option Row → Looked → (Option Row → Looked) → Looked
+stepped by Return held outcome next = joined held outcome
+stepped by Merge held outcome next = if merges by outcome then next (row_in (joined held outcome)) else joined held outcome
+stepped by Continue held outcome next = next held
+
+-- the services in turn, each with its outcome, over the held row, if there is one: the switch ends at a step whose
+-- action at the status of its own outcome is to return, at a merge that does not go on, and at the last step
+abbrev pub switched_on : Kind → (SwitchService → Looked) → Option Row → List SwitchStep → Looked
+switched_on by look held [] = joined held Unavail
+switched_on by look held (step ∷ []) = joined held (look step.service)
+switched_on by look held (step ∷ next ∷ steps) =
     let outcome = look step.service in
-    if ends (action_at step outcome) then outcome else switched look (next ∷ steps)
+    stepped by (action_at step outcome) held outcome (λ row. switched_on by look row (next ∷ steps))
+
+-- at first no row is held
+abbrev pub switched : Kind → (SwitchService → Looked) → List SwitchStep → Looked
+switched by look steps = switched_on by look None steps
 
 -- ---- compat lines
 
 -- a request over the services of the compat list
 abbrev pub sub_looked : Content → Db → Kind → List ℕ → Looked
-sub_looked files database kind key = switched (sub_answer files (record { kind = kind; key = key })) (compat_list files database)
+sub_looked files database kind key = switched kind (sub_answer files (record { kind = kind; key = key })) (compat_list files database)
 
 abbrev pub user_in : Looked → Option Passwd
 user_in (Found (row.Passwd p)) = Some p
@@ -192,11 +257,19 @@ group_scan files by key names = record {
   found = λ g. Found (row.Group g);
 }
 
--- the services whose rows a switch takes, in the order of the steps: the one at which it ends
-abbrev pub takers : (SwitchService → Looked) → List SwitchStep → List SwitchService
-takers look [] = []
-takers look (step ∷ []) = step.service ∷ []
-takers look (step ∷ next ∷ steps) = if ends (action_at step (look step.service)) then step.service ∷ [] else takers look (next ∷ steps)
+-- the services whose outcomes a switch takes, in the order of the steps: each that merged, and the one at which it
+-- ends; `later` are those of the later steps
+abbrev pub taken_at : Kind → SwitchAction → Looked → SwitchService → List SwitchService → List SwitchService
+taken_at by Return outcome service later = service ∷ []
+taken_at by Merge outcome service later = if merges by outcome then service ∷ later else service ∷ []
+taken_at by Continue outcome service later = later
+
+abbrev pub takers : Kind → (SwitchService → Looked) → List SwitchStep → List SwitchService
+takers by look [] = []
+takers by look (step ∷ []) = step.service ∷ []
+takers by look (step ∷ next ∷ steps) =
+    let outcome = look step.service in
+    taken_at by (action_at step outcome) outcome step.service (takers by look (next ∷ steps))
 
 -- the names and ids of the groups of a file that have the user as a member, in its order, none dropped
 abbrev pub pairs_of : List ℕ → Option (List ℕ) → List (List ℕ × ℕ)
@@ -212,7 +285,7 @@ service_pairs files user service.Other = []
 -- those of each service whose rows the compat list takes; where none found a group, there are none
 abbrev pub named_groups : Content → List ℕ → List (List ℕ × ℕ)
 named_groups files user =
-    flat_map (service_pairs files user) (takers (sub_answer files (record { kind = kind.InitGroups; key = user })) (compat_list files db.Group))
+    flat_map (service_pairs files user) (takers kind.InitGroups (sub_answer files (record { kind = kind.InitGroups; key = user })) (compat_list files db.Group))
 
 abbrev pub id_scan : Content → List ℕ → IdScan
 id_scan files user = record {
@@ -260,7 +333,7 @@ marked kind Unavail = record { bytes = spelled kind reply.Absent; not_found = tr
 
 -- the outcome of the switch over the service list of the request's database
 abbrev pub looked_up : Content → Request → Looked
-looked_up files request = switched (service_answer files request) (service_list files (database_of request.kind))
+looked_up files request = switched request.kind (service_answer files request) (service_list files (database_of request.kind))
 
 -- the answer to a request over a content
 unfoldable pub answer_of : Content → Request → Answer

@@ -1,8 +1,7 @@
--- The services of a list of nsswitch.conf(5), and what it does at each status.
-use Rattle.std.specs.Prelude.{Bool, true, false}
+-- The services of a list of nsswitch.conf(5), and what each step does at each status.
 use Rattle.nsc_model.specs.declared.switch.SwitchService.{SwitchService}
 use Rattle.nsc_model.specs.declared.switch.SwitchAction.{SwitchAction}
-use Rattle.nsc_model.specs.declared.switch.SwitchAction.TheVariants.{Return, Continue, Merge}
+use Rattle.nsc_model.specs.declared.switch.SwitchAction.TheVariants.{Return, Continue}
 use Rattle.nsc_model.specs.declared.switch.SwitchStep.{SwitchStep}
 use Rattle.nsc_model.specs.declared.row.Looked.{Looked}
 use Rattle.nsc_model.specs.declared.row.Looked.TheVariants.{Found, NotFound, Unavail}
@@ -16,9 +15,3 @@ abbrev pub action_at : SwitchStep → Looked → SwitchAction
 action_at step (Found row) = step.success
 action_at step NotFound = step.notfound
 action_at step Unavail = step.unavail
-
--- merge acts as return
-abbrev pub ends : SwitchAction → Bool
-ends Return = true
-ends Continue = false
-ends Merge = true
