@@ -43,6 +43,7 @@ pub mod SentAccounts
 pub mod SentNets
 pub mod SentIds
 pub mod SentAnswers
+pub mod SentJoined
 pub mod SentScans
 pub mod SentSwitches
 pub mod SentCompatEntries

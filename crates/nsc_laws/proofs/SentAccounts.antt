@@ -1,7 +1,9 @@
 -- The entries of passwd and group files can be sent, also with the fields of a compat line.
-use Rattle.std.proofs.Common.{◌≡◌, ℕ, ◌+◌, ◌^◌, ◌<◌, ◌≤◌, Bool, true, false, nat_lt, ◌&&◌, ◌==◌, if◌then◌else◌, List, [], ◌∷◌, flat_map, length, IfSome, refl, arith, length-append}
+use Rattle.std.proofs.Common.{◌≡◌, ℕ, ◌+◌, ◌^◌, ◌<◌, ◌≤◌, Bool, true, false, nat_lt, ◌&&◌, ◌==◌, nat_le, if◌then◌else◌, List, [], ◌∷◌, flat_map, length, IfSome, refl, arith, length-append, leb-true}
 use Rattle.std.specs.List.{AllByRecursion}
+use Rattle.std.specs.Str.{bytes_eq}
 use Rattle.std.proofs.lemmas.Bool.Decides.{Decides-ltb}
+use Rattle.std.proofs.lemmas.List.Elements.{All-append}
 use Rattle.nsc_base.specs.Decimal.{decimal_of, is_decimal, value_of}
 use Rattle.nsc_base.specs.Text.{fields_of, is_filled, trimmed}
 use Rattle.nsc_base.proofs.Options.{then_keeps, when_false, when_true}
@@ -10,6 +12,7 @@ use Rattle.nsc_model.specs.declared.row.Group.{Group}
 use Rattle.nsc_model.specs.declared.row.Looked.TheVariants.{Found}
 use Rattle.nsc_model.specs.declared.row.Passwd.{Passwd}
 use Rattle.nsc_model.specs.declared.row.Row.TheVariants as row
+use Rattle.nsc_model.specs.Answers.{join_limit, joined_group, with_members}
 use Rattle.nsc_model.specs.Compat.{own_or, replaced_user}
 use Rattle.nsc_model.specs.Files.{file_limit}
 use Rattle.nsc_model.specs.Groups.{group_of_fields, group_of_line, members_of}
@@ -104,3 +107,17 @@ group_fits _ are = tt
 pub group_line : (line : List ℕ) → length line ≤ file_limit → IfSome (group_of_line line) (IsSentGroup entry_limit)
 group_line line short =
     when_false (IsSentGroup entry_limit) (has_zero line) (group_of_fields (fields_of 58 (trimmed line))) (λ clean. group_fits (fields_of 58 (trimmed line)) (line_fields line clean short))
+
+-- a group that another one was joined to
+pub joined_fits : (limit : ℕ) (h g : Group) → join_limit ≤ limit → IsSentGroup limit h → IsSentGroup limit g → IsSentGroup limit (joined_group h g)
+joined_fits limit h g room sent other = by_test (bytes_eq h.name g.name && h.gid == g.gid && short) refl where
+  short : Bool
+  short = nat_le (length (group_found (with_members h g))) join_limit
+
+  by_test : (b : Bool) → (bytes_eq h.name g.name && h.gid == g.gid && short) ≡ b → IsSentGroup limit (if b then with_members h g else h)
+  by_test true is =
+      let small : length (group_found (with_members h g)) ≤ join_limit = leb-true (length (group_found (with_members h g))) join_limit (and_true (bytes_eq h.name g.name && h.gid == g.gid) short is) in (
+        (refl, record { name_is = sent.0.1.name_is; passwd_is = sent.0.1.passwd_is; gid_fits = sent.0.1.gid_fits; members_are = All-append IsText h.members g.members sent.0.1.members_are other.0.1.members_are }),
+        omega (arith, small, room),
+      )
+  by_test false is = sent

@@ -1,28 +1,28 @@
 -- The ids that compat gathers for a user can be sent.
-use Rattle.std.proofs.Common.{◌≡◌, ℕ, ◌+◌, ◌*◌, ◌≤◌, true, false, not, ◌&&◌, if◌then◌else◌, List, [], ◌∷◌, ◌++◌, filter, flat_map, length, Option, Some, None, IfSome, refl, subst, arith, length-append}
+use Rattle.std.proofs.Common.{◌≡◌, ℕ, ◌==◌, nat_le, true, false, not, ◌&&◌, if◌then◌else◌, List, [], ◌∷◌, ◌++◌, filter, flat_map, length, Option, Some, None, IfSome, refl, subst}
 use Rattle.std.specs.List.{AllByRecursion, filter_map}
-use Rattle.std.proofs.lemmas.List.{length-map}
+use Rattle.std.specs.Str.{bytes_eq}
 use Rattle.nsc_base.specs.Text.{lines_of}
 use Rattle.nsc_model.specs.declared.kind.Db.TheVariants as db
 use Rattle.nsc_model.specs.declared.kind.Kind.TheVariants.{GrName, InitGroups}
 use Rattle.nsc_model.specs.declared.row.Group.{Group}
 use Rattle.nsc_model.specs.declared.row.Row.TheVariants as row
-use Rattle.nsc_model.specs.Answers.{answer_by, found_or_unavail, gathered_file, group_in, group_named, id_scan, named_groups, pairs_of, service_pairs, sub_answer, takers}
+use Rattle.nsc_model.specs.Answers.{answer_by, each_once, found_or_unavail, gathered_file, group_in, group_named, id_scan, join_limit, named_groups, pairs_of, service_pairs, sub_answer, takers, with_members}
 use Rattle.nsc_model.specs.Compat.{IdScan, before_ids, gathered, id_of_group, ids_of_pairs, is_excluded, sayings}
 use Rattle.nsc_model.specs.Content.{Content}
-use Rattle.nsc_model.specs.Files.{FilesFit, file_limit}
+use Rattle.nsc_model.specs.Files.{FilesFit}
 use Rattle.nsc_model.specs.Groups.{group_of_line, has_member}
 use Rattle.nsc_model.specs.declared.switch.SwitchService.{SwitchService}
 use Rattle.nsc_model.specs.declared.switch.SwitchService.TheVariants as service
 use Rattle.nsc_model.specs.Switches.{compat_list}
+use Rattle.nsc_model.specs.Wire.{group_found}
 use Rattle.nsc_model.proofs.Sayings.{line_case}
-use Rattle.nsc_laws.proofs.SentAccounts.{IsSentGroup}
-use Rattle.nsc_laws.proofs.SentEntries.{entries_few, entries_in, file_keeps}
-use Rattle.nsc_laws.proofs.SentAnswers.{groups_keep, own_ids}
-use Rattle.nsc_laws.proofs.SentIds.{IsIdOf, ids_in, ids_sent}
-use Rattle.nsc_laws.proofs.SentLists.{append_keeps, filter_keeps, front_keeps, map_keeps, parts_keep}
-use Rattle.nsc_laws.proofs.Sent.{IsSent, entry_limit, none_sent}
-use Rattle.nsc_laws.proofs.SentSwitches.{switched_keeps}
+use Rattle.nsc_laws.proofs.SentEntries.{entries_in, file_keeps}
+use Rattle.nsc_laws.proofs.SentIds.{IsIdOf, ids_sent, once_are}
+use Rattle.nsc_laws.proofs.SentJoined.{IsJoinable, all_ids, both_have, few_ids, found_are}
+use Rattle.nsc_laws.proofs.SentLists.{append_keeps, filter_keeps, front_keeps, map_keeps}
+use Rattle.nsc_laws.proofs.Sent.{entry_limit, none_sent}
+use Rattle.nsc_laws.proofs.SentSwitches.{Joins, switched_keeps}
 
 -- ---- what holds of each id that may be gathered holds of all of them
 
@@ -58,6 +58,13 @@ file_pairs P user (Some file) all =
     let groups = entries_in group_of_line (Some file) in
     map_keeps (λ p. P p.1) (λ (g : Group). (g.name, g.gid)) (filter (has_member user) groups) (filter_keeps (λ g. P g.gid) (has_member user) groups all)
 
+-- a group that another one is joined to keeps its id
+group_joins : (P : ℕ → Type 0) → Joins (λ looked. IfSome (group_in looked) (λ g. P g.gid))
+group_joins P (row.Group h) (row.Group g) own other =
+    elim (bytes_eq h.name g.name && h.gid == g.gid && nat_le (length (group_found (with_members h g))) join_limit) as (λ v. P (if v then with_members h g else h).gid) [ true ↦ own | false ↦ own ]
+group_joins P (row.Groups ids) (row.Groups others) own other = tt
+group_joins P h _ own other = own
+
 module _ (P : ℕ → Type 0) (files : Content) (own : AllByRecursion (λ g. P g.gid) (entries_in group_of_line files.group)) (extra : AllByRecursion (λ g. P g.gid) (entries_in group_of_line files.extra_group)) (user : List ℕ) where
   service_finds : (name : List ℕ) (service : SwitchService) → IfSome (group_in (sub_answer files (record { kind = GrName; key = name }) service)) (λ g. P g.gid)
   service_finds name service.Files = name_finds P name files.group own
@@ -66,7 +73,7 @@ module _ (P : ℕ → Type 0) (files : Content) (own : AllByRecursion (λ g. P g
   service_finds name service.Other = tt
 
   named : (name : List ℕ) → IfSome ((id_scan files user).by_name name) (λ g. P g.gid)
-  named name = switched_keeps (λ looked. IfSome (group_in looked) (λ g. P g.gid)) (sub_answer files (record { kind = GrName; key = name })) tt (service_finds name) (compat_list files db.Group)
+  named name = switched_keeps (λ looked. IfSome (group_in looked) (λ g. P g.gid)) GrName (sub_answer files (record { kind = GrName; key = name })) tt (group_joins P) (service_finds name) (compat_list files db.Group)
 
   pairs_by : (service : SwitchService) → AllByRecursion (λ p. P p.1) (service_pairs files user service)
   pairs_by service.Files = file_pairs P user files.group own
@@ -79,33 +86,23 @@ module _ (P : ℕ → Type 0) (files : Content) (own : AllByRecursion (λ g. P g
   pairs_of_all (service ∷ services) = append_keeps (λ p. P p.1) (service_pairs files user service) (flat_map (service_pairs files user) services) (pairs_by service) (pairs_of_all services)
 
   pairs : AllByRecursion (λ p. P p.1) (named_groups files user)
-  pairs = pairs_of_all (takers (sub_answer files (record { kind = InitGroups; key = user })) (compat_list files db.Group))
+  pairs = pairs_of_all (takers InitGroups (sub_answer files (record { kind = InitGroups; key = user })) (compat_list files db.Group))
 
   file_gathered : (file : List ℕ) → files.group ≡ Some file → IfSome (gathered (id_scan files user) (flat_map sayings (lines_of file)) []) (AllByRecursion P)
   file_gathered file is = gathered_keeps P (id_scan files user) named pairs (lines_of file) (subst (λ (f : Option (List ℕ)). AllByRecursion (λ g. P g.gid) (entries_in group_of_line f)) is own) []
 
--- ---- the ids of both files
+-- ---- what is gathered can be sent, also where it is joined
 
-abbrev groups_of : Content → List Group
-groups_of files = entries_in group_of_line files.group ++ entries_in group_of_line files.extra_group
+module _ (files : Content) (user : List ℕ) (fit : FilesFit files) where
+  gathered_joinable : (o : Option (List ℕ)) → IfSome o (AllByRecursion (IsIdOf (all_ids files))) → IsJoinable entry_limit (all_ids files) InitGroups (found_or_unavail o)
+  gathered_joinable None kept = (none_sent InitGroups, tt)
+  gathered_joinable (Some ids) kept = (ids_sent (all_ids files) ids (few_ids files fit) kept, found_are (all_ids files) (each_once ids) (once_are (all_ids files) ids kept))
 
-few_ids : (files : Content) → FilesFit files → length (ids_in (groups_of files)) ≤ 2 * file_limit + 2
-few_ids files fit =
-    omega (arith, length-map (groups_of files) (λ (g : Group). g.gid), length-append (entries_in group_of_line files.group) (entries_in group_of_line files.extra_group), entries_few group_of_line files.group fit.group_fits, entries_few group_of_line files.extra_group fit.extra_group_fits)
+  file_joinable : (file : Option (List ℕ)) → files.group ≡ file → IsJoinable entry_limit (all_ids files) InitGroups (gathered_file (id_scan files user) file)
+  file_joinable None is = (none_sent InitGroups, tt)
+  file_joinable (Some file) is =
+      let have = both_have files fit in
+      gathered_joinable (gathered (id_scan files user) (flat_map sayings (lines_of file)) []) (file_gathered (IsIdOf (all_ids files)) files have.0 have.1 user file is)
 
-gathered_sent : (files : Content) (o : Option (List ℕ)) → FilesFit files → IfSome o (AllByRecursion (IsIdOf (ids_in (groups_of files)))) → IsSent entry_limit InitGroups (found_or_unavail o)
-gathered_sent files None fit kept = none_sent InitGroups
-gathered_sent files (Some ids) fit kept = ids_sent (ids_in (groups_of files)) ids (few_ids files fit) kept
-
-file_sent : (files : Content) (user : List ℕ) (file : Option (List ℕ)) → FilesFit files → files.group ≡ file → IsSent entry_limit InitGroups (gathered_file (id_scan files user) file)
-file_sent files user None fit is = none_sent InitGroups
-file_sent files user (Some file) fit is =
-    let own = groups_keep files.group fit.group_fits in
-    let extra = groups_keep files.extra_group fit.extra_group_fits in
-    let P : ℕ → Type 0 = IsIdOf (ids_in (groups_of files)) in
-    let each = own_ids (groups_of files) (append_keeps (IsSentGroup entry_limit) (entries_in group_of_line files.group) (entries_in group_of_line files.extra_group) own extra) in
-    let parts = parts_keep (λ (g : Group). P g.gid) (entries_in group_of_line files.group) (entries_in group_of_line files.extra_group) each in
-    gathered_sent files (gathered (id_scan files user) (flat_map sayings (lines_of file)) []) fit (file_gathered P files parts.0 parts.1 user file is)
-
-pub ids_gathered : (files : Content) (user : List ℕ) → FilesFit files → IsSent entry_limit InitGroups (gathered_file (id_scan files user) files.group)
-ids_gathered files user fit = file_sent files user files.group fit refl
+  pub ids_gathered : IsJoinable entry_limit (all_ids files) InitGroups (gathered_file (id_scan files user) files.group)
+  ids_gathered = file_joinable files.group refl

@@ -12,7 +12,7 @@ use Rattle.nsc_laws.proofs.SentLists.{all_weaker, filter_keeps}
 abbrev pub IsClean : List ℕ → Type 0
 IsClean text = AllByRecursion (λ b. b ≢ 0) text
 
-or_false : (a b : Bool) → (a || b) ≡ false → (a ≡ false) × (b ≡ false)
+pub or_false : (a b : Bool) → (a || b) ≡ false → (a ≡ false) × (b ≡ false)
 or_false true b h = absurd cc
 or_false false b h = (refl, h)
 

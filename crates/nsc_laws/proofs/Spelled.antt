@@ -1,5 +1,5 @@
 -- What a content answers spells what the switch finds.
-use Rattle.std.proofs.Common.{◌≢◌, ◌↔◌, ℕ, IsTrue, List, refl}
+use Rattle.std.proofs.Common.{◌≢◌, ◌↔◌, ℕ, IsTrue, List, refl, arith}
 use Rattle.nsc_model.specs.declared.answer.Request.{Request}
 use Rattle.nsc_model.specs.declared.kind.Kind.{Kind}
 use Rattle.nsc_model.specs.declared.kind.Kind.TheVariants.{PwName, PwUid, GrName, GrGid, InitGroups}
@@ -20,14 +20,15 @@ use Rattle.nsc_model.specs.Wire.{Spells}
 use Rattle.nsc_laws.proofs.SentCompatEntries.{groups_sent, users_sent}
 use Rattle.nsc_laws.proofs.SentCompatIds.{ids_gathered}
 use Rattle.nsc_laws.proofs.Sent.{IsSent, any_sent, none_sent}
-use Rattle.nsc_laws.proofs.SentSwitches.{sub_looked_sent, sub_sent, switched_keeps}
+use Rattle.nsc_laws.proofs.SentJoined.{FindsIdsOf, IsJoinable, all_ids, few_ids, other_finds, rows_join}
+use Rattle.nsc_laws.proofs.SentSwitches.{sub_joinable, sub_looked_sent, sub_sent, switched_keeps}
 
 compat_sent : (by : Kind) (files : Content) (key : List ℕ) → FilesFit files → IsSent reply_limit by (compat_by by files key)
 compat_sent PwName files key fit = users_sent files PwName key (user_named key) fit (sub_looked_sent files db.Passwd PwName key fit)
 compat_sent PwUid files key fit = users_sent files PwUid key (user_numbered key) fit (sub_looked_sent files db.Passwd PwUid key fit)
 compat_sent GrName files key fit = groups_sent files GrName key (group_named key) fit (sub_looked_sent files db.Group GrName key fit)
 compat_sent GrGid files key fit = groups_sent files GrGid key (group_numbered key) fit (sub_looked_sent files db.Group GrGid key fit)
-compat_sent InitGroups files key fit = any_sent InitGroups (gathered_file (id_scan files key) files.group) (ids_gathered files key fit)
+compat_sent InitGroups files key fit = any_sent InitGroups (gathered_file (id_scan files key) files.group) (ids_gathered files key fit).0
 compat_sent by files key fit = any_sent by Unavail (none_sent by)
 
 service_sent : (files : Content) (request : Request) → FilesFit files → (service : SwitchService) → IsSent reply_limit request.kind (service_answer files request service)
@@ -37,9 +38,24 @@ service_sent files request fit service.Compat = compat_sent request.kind files r
 service_sent files request fit service.Extrausers = any_sent request.kind (sub_answer files request service.Extrausers) (sub_sent files request fit service.Extrausers)
 service_sent files request fit service.Other = any_sent request.kind Unavail (none_sent request.kind)
 
+-- the ids that are found are of the groups of both files, each once
+compat_finds : (by : Kind) (files : Content) (key : List ℕ) → FilesFit files → FindsIdsOf (all_ids files) (compat_by by files key)
+compat_finds InitGroups files key fit = (ids_gathered files key fit).1
+compat_finds by files key fit = other_finds (all_ids files) reply_limit by (compat_by by files key) (λ is. cc) (compat_sent by files key fit)
+
+service_finds : (files : Content) (request : Request) → FilesFit files → (service : SwitchService) → FindsIdsOf (all_ids files) (service_answer files request service)
+unfolding compat_answer
+service_finds files request fit service.Files = (sub_joinable files request fit service.Files).1
+service_finds files request fit service.Compat = compat_finds request.kind files request.key fit
+service_finds files request fit service.Extrausers = (sub_joinable files request fit service.Extrausers).1
+service_finds files request fit service.Other = tt
+
 outcome_sent : (files : Content) (request : Request) → FilesFit files → IsSent reply_limit request.kind (looked_up files request)
 outcome_sent files request fit =
-    switched_keeps (IsSent reply_limit request.kind) (service_answer files request) (any_sent request.kind Unavail (none_sent request.kind)) (service_sent files request fit) (service_list files (database_of request.kind))
+    let none : IsJoinable reply_limit (all_ids files) request.kind Unavail = (any_sent request.kind Unavail (none_sent request.kind), tt) in
+    let joins = rows_join reply_limit (all_ids files) request.kind (omega arith) (few_ids files fit) in
+    let each : (service : SwitchService) → IsJoinable reply_limit (all_ids files) request.kind (service_answer files request service) = λ service. (service_sent files request fit service, service_finds files request fit service) in
+    (switched_keeps (IsJoinable reply_limit (all_ids files) request.kind) request.kind (service_answer files request) none joins each (service_list files (database_of request.kind))).0
 
 -- what is sent of an outcome spells its reply
 spells : (kind : Kind) (looked : Looked) → IsSent reply_limit kind looked → Spells kind (reply_to looked) (marked kind looked).bytes

@@ -6,4 +6,4 @@ pub returns-clause-any : goal.returns-clause-any
 returns-clause-any c = outcome_taken
 
 pub returns-clause-of_content : goal.returns-clause-of_content
-returns-clause-of_content c = λ files request. outcome_taken (service_answer files request)
+returns-clause-of_content c = λ files request. outcome_taken request.kind (service_answer files request)
