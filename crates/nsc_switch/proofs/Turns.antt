@@ -1,69 +1,83 @@
--- A switch, step after step, with what stands for the last step so far.
-use Rattle.std.proofs.Common.{◌≡◌, ℕ, ◌+◌, ◌<◌, ◌≤◌, Bool, true, false, if◌then◌else◌, List, [], ◌∷◌, length, drop, get_or, refl, sym, ap, subst, ◌∙◌}
-use Rattle.std.proofs.lemmas.List.{at_drop_all, at_drop_more}
+-- A switch, step after step, with the row that is held.
+use Rattle.std.proofs.Common.{◌≡◌, ℕ, ◌+◌, ◌<◌, true, false, if◌then◌else◌, List, [], ◌∷◌, ◌++◌, length, drop, get_or, Option, refl, sym, ap, ◌∙◌}
+use Rattle.std.proofs.lemmas.List.{at_drop_more}
+use Rattle.nsc_model.specs.declared.kind.Kind.{Kind}
 use Rattle.nsc_model.specs.declared.row.Looked.{Looked}
-use Rattle.nsc_model.specs.declared.row.Looked.TheVariants.{Unavail}
+use Rattle.nsc_model.specs.declared.row.Row.{Row}
+use Rattle.nsc_model.specs.declared.switch.SwitchAction.{SwitchAction}
+use Rattle.nsc_model.specs.declared.switch.SwitchAction.TheVariants.{Return, Continue, Merge}
 use Rattle.nsc_model.specs.declared.switch.SwitchService.{SwitchService}
 use Rattle.nsc_model.specs.declared.switch.SwitchStep.{SwitchStep}
-use Rattle.nsc_model.specs.Services.{action_at, ends}
-use Rattle.nsc_model.specs.Answers.{switched, takers}
+use Rattle.nsc_model.specs.Services.{action_at}
+use Rattle.nsc_model.specs.Answers.{joined, merges, row_in, stepped, switched_on, taken_at, takers}
+use Rattle.nsc_switch.specs.Actions.{action_taken}
 
--- steps up to the first at which the switch ends, with what stands for the last step that was asked
-abbrev pub picked : {X : Type 0} → (SwitchStep → Bool) → (SwitchStep → X) → X → List SwitchStep → X
-picked last value so_far [] = so_far
-picked last value so_far (step ∷ steps) = if last step then value step else picked last value (value step) steps
+-- one of three, by an action
+abbrev pub by_action : {X : Type 0} → SwitchAction → X → X → X → X
+by_action Return ended merged passed = ended
+by_action Merge ended merged passed = merged
+by_action Continue ended merged passed = passed
 
--- whether the switch ends at a step
-abbrev pub ends_at : (SwitchService → Looked) → SwitchStep → Bool
-ends_at look step = ends (action_at step (look step.service))
+-- what a step comes to, by the action that is taken
+stepped_is : (by : Kind) (action : SwitchAction) (held : Option Row) (outcome : Looked) (next : Option Row → Looked)
+    → stepped by action held outcome next ≡ by_action (action_taken by action outcome) (joined held outcome) (next (row_in (joined held outcome))) (next held)
+stepped_is by Return held outcome next = refl
+stepped_is by Merge held outcome next =
+    elim (merges by outcome) as (λ v. (if v then next (row_in (joined held outcome)) else joined held outcome) ≡ by_action (if v then Merge else Return) (joined held outcome) (next (row_in (joined held outcome))) (next held)) [
+      | true ↦ refl
+      | false ↦ refl
+    ]
+stepped_is by Continue held outcome next = refl
 
-same_either : {X : Type 0} (b : Bool) (x : X) → (if b then x else x) ≡ x
-same_either true x = refl
-same_either false x = refl
+taken_is : (by : Kind) (action : SwitchAction) (outcome : Looked) (service : SwitchService) (later : List SwitchService)
+    → taken_at by action outcome service later ≡ by_action (action_taken by action outcome) (service ∷ []) (service ∷ later) later
+taken_is by Return outcome service later = refl
+taken_is by Merge outcome service later =
+    elim (merges by outcome) as (λ v. (if v then service ∷ later else service ∷ []) ≡ by_action (if v then Merge else Return) (service ∷ []) (service ∷ later) later) [
+      | true ↦ refl
+      | false ↦ refl
+    ]
+taken_is by Continue outcome service later = refl
 
--- so is the outcome of a switch
-from_step : (look : SwitchService → Looked) (outcome : Looked) (step : SwitchStep) (steps : List SwitchStep) → picked (ends_at look) (λ s. look s.service) outcome (step ∷ steps) ≡ switched look (step ∷ steps)
-from_step look outcome step [] = same_either (ends_at look step) (look step.service)
-from_step look outcome step (next ∷ steps) = ap (λ rest. if ends_at look step then look step.service else rest) (from_step look (look step.service) next steps)
+-- the outcome of the steps that are left and the last one, with the row that is held
+abbrev pub left : Kind → (SwitchService → Looked) → SwitchStep → Option Row → List SwitchStep → Looked
+left by look last held steps = switched_on by look held (steps ++ last ∷ [])
 
-pub switch_picks : (look : SwitchService → Looked) (steps : List SwitchStep) → picked (ends_at look) (λ s. look s.service) Unavail steps ≡ switched look steps
-switch_picks look [] = refl
-switch_picks look (step ∷ steps) = from_step look Unavail step steps
+-- and the services whose rows they take
+abbrev pub takers_left : Kind → (SwitchService → Looked) → SwitchStep → List SwitchStep → List SwitchService
+takers_left by look last steps = takers by look (steps ++ last ∷ [])
 
--- and so are the services whose rows it takes
-takers_from : (look : SwitchService → Looked) (so_far : List SwitchService) (step : SwitchStep) (steps : List SwitchStep) → picked (ends_at look) (λ s. s.service ∷ []) so_far (step ∷ steps) ≡ takers look (step ∷ steps)
-takers_from look so_far step [] = same_either (ends_at look step) (step.service ∷ [])
-takers_from look so_far step (next ∷ steps) = ap (λ rest. if ends_at look step then step.service ∷ [] else rest) (takers_from look (step.service ∷ []) next steps)
+-- the outcome of a step before the last one, by the action that is taken
+left_at : (by : Kind) (look : SwitchService → Looked) (last : SwitchStep) (held : Option Row) (step : SwitchStep) (steps : List SwitchStep)
+    → left by look last held (step ∷ steps)
+    ≡ by_action (action_taken by (action_at step (look step.service)) (look step.service)) (joined held (look step.service)) (left by look last (row_in (joined held (look step.service))) steps) (left by look last held steps)
+left_at by look last held step [] = stepped_is by (action_at step (look step.service)) held (look step.service) (λ row. left by look last row [])
+left_at by look last held step (next ∷ steps) = stepped_is by (action_at step (look step.service)) held (look step.service) (λ row. left by look last row (next ∷ steps))
 
-pub takers_picked : (look : SwitchService → Looked) (steps : List SwitchStep) → picked (ends_at look) (λ s. s.service ∷ []) [] steps ≡ takers look steps
-takers_picked look [] = refl
-takers_picked look (step ∷ steps) = takers_from look [] step steps
+takers_at : (by : Kind) (look : SwitchService → Looked) (last step : SwitchStep) (steps : List SwitchStep)
+    → takers_left by look last (step ∷ steps)
+    ≡ by_action (action_taken by (action_at step (look step.service)) (look step.service)) (step.service ∷ []) (step.service ∷ takers_left by look last steps) (takers_left by look last steps)
+takers_at by look last step [] = taken_is by (action_at step (look step.service)) (look step.service) step.service (takers_left by look last [])
+takers_at by look last step (next ∷ steps) = taken_is by (action_at step (look step.service)) (look step.service) step.service (takers_left by look last (next ∷ steps))
 
--- where no step is left, what stands for the last is what is picked
-pub all_asked : {X : Type 0} (last : SwitchStep → Bool) (value : SwitchStep → X) (first now all : X) (steps : List SwitchStep) (n : ℕ) → length steps ≤ n → picked last value now (drop n steps) ≡ picked last value first steps → picked last value first steps ≡ all → now ≡ all
-all_asked last value first now all steps n le e is = sym (at_drop_all (λ left. picked last value now left) steps n le) ∙ (e ∙ is)
+-- a step before the last one decides by its outcome and the action that is taken
+pub step_decides : (by : Kind) (look : SwitchService → Looked) (last : SwitchStep) (held : Option Row) (earlier : List SwitchStep) (n : ℕ) (none : SwitchStep) (outcome : Looked) (all : Looked)
+    → n < length earlier → left by look last held (drop n earlier) ≡ all → outcome ≡ look (get_or earlier n none).service → (action : SwitchAction) → action ≡ action_taken by (action_at (get_or earlier n none) outcome) outcome
+    → by_action action (joined held outcome) (left by look last (row_in (joined held outcome)) (drop (n + 1) earlier)) (left by look last held (drop (n + 1) earlier)) ≡ all
+step_decides by look last held earlier n none outcome all lt e is action taken =
+    let step = get_or earlier n none in
+    let rest = drop (n + 1) earlier in
+    ap (λ a. by_action a (joined held outcome) (left by look last (row_in (joined held outcome)) rest) (left by look last held rest)) taken
+    ∙ ap (λ o. by_action (action_taken by (action_at step o) o) (joined held o) (left by look last (row_in (joined held o)) rest) (left by look last held rest)) is
+    ∙ sym (left_at by look last held step rest) ∙ sym (at_drop_more (left by look last held) earlier n none lt) ∙ e
 
--- at a step at which the switch ends, it is that step's
-ends_here : {X : Type 0} (last : SwitchStep → Bool) (value : SwitchStep → X) (first now all : X) (steps : List SwitchStep) (n : ℕ) (none : SwitchStep) → n < length steps → picked last value now (drop n steps) ≡ picked last value first steps
-    → last (get_or steps n none) ≡ true → picked last value first steps ≡ all → value (get_or steps n none) ≡ all
-ends_here last value first now all steps n none lt e end is =
-    let step = get_or steps n none in
-    let rest = drop (n + 1) steps in
-    let here : (if last step then value step else picked last value (value step) rest) ≡ value step = rw end refl in
-    sym here ∙ (sym (at_drop_more (λ left. picked last value now left) steps n none lt) ∙ (e ∙ is))
-
--- and at another one the switch goes on
-pub goes_on : {X : Type 0} (last : SwitchStep → Bool) (value : SwitchStep → X) (first now : X) (steps : List SwitchStep) (n : ℕ) (none : SwitchStep) → n < length steps → picked last value now (drop n steps) ≡ picked last value first steps
-    → last (get_or steps n none) ≡ false → picked last value (value (get_or steps n none)) (drop (n + 1) steps) ≡ picked last value first steps
-goes_on last value first now steps n none lt e end =
-    let step = get_or steps n none in
-    let rest = drop (n + 1) steps in
-    let here : (if last step then value step else picked last value (value step) rest) ≡ picked last value (value step) rest = rw end refl in
-    sym here ∙ (sym (at_drop_more (λ left. picked last value now left) steps n none lt) ∙ e)
-
--- a switch ends at the outcome that was found
-pub looked_ends : {X : Type 0} (look : SwitchService → Looked) (value : SwitchStep → X) (first now all : X) (found : Looked) (steps : List SwitchStep) (n : ℕ) (none : SwitchStep) → n < length steps
-    → picked (ends_at look) value now (drop n steps) ≡ picked (ends_at look) value first steps → found ≡ look (get_or steps n none).service → ends (action_at (get_or steps n none) found) ≡ true
-    → picked (ends_at look) value first steps ≡ all → value (get_or steps n none) ≡ all
-looked_ends look value first now all found steps n none lt e is end whole =
-    ends_here (ends_at look) value first now all steps n none lt e (subst (λ (f : Looked). ends (action_at (get_or steps n none) f) ≡ true) is end) whole
+pub step_takes : (by : Kind) (look : SwitchService → Looked) (last : SwitchStep) (merged : List SwitchService) (earlier : List SwitchStep) (n : ℕ) (none : SwitchStep) (outcome : Looked) (all : List SwitchService)
+    → n < length earlier → merged ++ takers_left by look last (drop n earlier) ≡ all → outcome ≡ look (get_or earlier n none).service → (action : SwitchAction) → action ≡ action_taken by (action_at (get_or earlier n none) outcome) outcome
+    → merged ++ by_action action ((get_or earlier n none).service ∷ []) ((get_or earlier n none).service ∷ takers_left by look last (drop (n + 1) earlier)) (takers_left by look last (drop (n + 1) earlier)) ≡ all
+step_takes by look last merged earlier n none outcome all lt e is action taken =
+    let step = get_or earlier n none in
+    let later = takers_left by look last (drop (n + 1) earlier) in
+    ap (λ a. merged ++ by_action a (step.service ∷ []) (step.service ∷ later) later) taken
+    ∙ ap (λ o. merged ++ by_action (action_taken by (action_at step o) o) (step.service ∷ []) (step.service ∷ later) later) is
+    ∙ ap (λ services. merged ++ services) (sym (takers_at by look last step (drop (n + 1) earlier)))
+    ∙ sym (at_drop_more (λ steps. merged ++ takers_left by look last steps) earlier n none lt) ∙ e

@@ -1,12 +1,12 @@
 //! The services that compat lines ask.
 
 ghost use Rattle.std.specs.Prelude.{◌≡◌, IfOk, flat_map, map};
-ghost use Rattle.std.specs.Option.{option_to_list};
 ghost use Rattle.nsc_model.specs.Answers.{service_pairs, sub_answer};
 ghost use Rattle.nsc_accounts.specs.NamedId.{pair_of};
+ghost use Rattle.nsc_switch.specs.Actions.{all_takers};
 ghost use Rattle.nsc_switch.specs.Lists.{lists_of};
 
-use crate::decided::decide;
+use crate::decided::{Decided, decide};
 use crate::lists::Lists;
 use crate::services::ServiceLook;
 use nsc_accounts::{NamedId, Sought};
@@ -62,23 +62,44 @@ impl<'a, F: Finder> SubLookup for SubServices<'a, F> {
     fn named_groups(&self, alloc: Global, user: &[u8]) -> Result<Vec<NamedId>, NoMemory> {
         let steps = self.lists.compat_list(Db::Group);
         let decided = decide(alloc, self, steps, Kind::InitGroups, user)?;
-        groups_taken(alloc, self.finder, decided.taker, user)
+        groups_taken(alloc, self.finder, &decided, user)
     }
 }
 
-// The groups of a user that a switch takes: those in the file of its taker.
+// The groups of a user that a switch takes: those in the files of its takers, in the order of the steps.
 fn groups_taken<F: Finder>(
     alloc: Global,
     finder: &F,
-    taker: Option<SwitchService>,
+    decided: &Decided,
     user: &[u8],
 ) -> Result<Vec<NamedId>, NoMemory>
-    ensures { IfOk result (λ groups. map pair_of groups.items ≡ flat_map (service_pairs (F.content finder.now) user.now) (option_to_list taker)) }
+    ensures { IfOk result (λ groups. map pair_of groups.items ≡ flat_map (service_pairs (F.content finder.now) user.now) (all_takers decided.now)) }
 {
-    let file = match taker {
-        Some(SwitchService::Files) => FileId::Group,
-        Some(SwitchService::Extrausers) => FileId::ExtraGroup,
-        Some(SwitchService::Compat | SwitchService::Other) | None => return Ok(Vec::new(alloc)),
+    let mut groups = Vec::new(alloc);
+    for service in decided.merged.as_slice() {
+        let mut more = groups_in(alloc, finder, *service, user)?;
+        groups.append(&mut more)?;
+    }
+    if let Some(service) = decided.taker {
+        let mut more = groups_in(alloc, finder, service, user)?;
+        groups.append(&mut more)?;
+    }
+    Ok(groups)
+}
+
+// The groups of a user in the file of a service.
+fn groups_in<F: Finder>(
+    alloc: Global,
+    finder: &F,
+    service: SwitchService,
+    user: &[u8],
+) -> Result<Vec<NamedId>, NoMemory>
+    ensures { IfOk result (λ groups. map pair_of groups.items ≡ service_pairs (F.content finder.now) user.now service) }
+{
+    let file = match service {
+        SwitchService::Files => FileId::Group,
+        SwitchService::Extrausers => FileId::ExtraGroup,
+        SwitchService::Compat | SwitchService::Other => return Ok(Vec::new(alloc)),
     };
     match finder.content().file(file) {
         Some(text) => finder.named_groups(alloc, file, text, user),

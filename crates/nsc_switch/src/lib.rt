@@ -3,6 +3,7 @@
 
 mod compat;
 mod decided;
+mod joining;
 mod lists;
 mod outcome;
 mod services;

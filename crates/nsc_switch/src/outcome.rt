@@ -39,9 +39,13 @@ pub fn switch_by<F: Finder>(
     switch_over(alloc, &services, lists.list(Db::of(kind)), kind, key)
 }
 
-/// The outcome of the switch over these steps and these services, for the request of this kind and key: that of the
-/// first step whose action at its outcome's status is not to continue, or else that of the last step. Over no step it is
-/// unavailable. Fails only for want of memory.
+/// Asks the services of the steps in turn for the request of this kind and key, and gives the outcome.
+///
+/// - The switch ends at the first step whose action at its outcome's status is to return, and at
+///   the last step.
+/// - At the action merge the row of a group, or of a user's groups, is held and joined with the row
+///   that a later service finds. If none finds one, the outcome is the held row.
+/// - Over no step the outcome is unavailable.
 pub fn switch_over<V: ServiceLook>(
     alloc: Global,
     services: &V,
@@ -49,7 +53,7 @@ pub fn switch_over<V: ServiceLook>(
     kind: Kind,
     key: &[u8],
 ) -> Result<Looked, NoMemory>
-    ensures { IfOk result (λ looked. looked ≡ switched (V.outcome services.now (record { kind = kind; key = key.now })) steps.now) }
+    ensures { IfOk result (λ looked. looked ≡ switched kind (V.outcome services.now (record { kind = kind; key = key.now })) steps.now) }
 {
     Ok(decide(alloc, services, steps, kind, key)?.outcome)
 }
