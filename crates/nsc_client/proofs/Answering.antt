@@ -64,7 +64,7 @@ calm_on g before mid after p q which =
     let a = database_in before which in
     let b = database_in mid which in
     let c = database_in after which in
-    stay_on (g.faults a) (g.faults b) (g.faults c) (g.file_faults a) (g.file_faults b) (g.file_faults c) (p which) (q which)
+    stay_on (g.at a).faults (g.at b).faults (g.at c).faults (g.at a).file_faults (g.at b).file_faults (g.at c).file_faults (p which) (q which)
 
 -- ---- refusals
 
@@ -75,8 +75,8 @@ gave_up_before g stores before mid after request cause more calm up =
     let a = database_in before which in
     let b = database_in mid which in
     let c = database_in after which in
-    gives_up_before (g.settings (database_in stores which)) (g.seen a) (g.seen b) (g.seen c) request (g.faults a) (g.faults b) (g.faults c) (g.file_faults a) (g.file_faults b) (g.file_faults c) cause
-    (goes_on (g.seen a) (g.seen b) (more which)) (calm which) up
+    gives_up_before (g.settings (database_in stores which)) (g.at a).seen (g.at b).seen (g.at c).seen request (g.at a).faults (g.at b).faults (g.at c).faults (g.at a).file_faults (g.at b).file_faults (g.at c).file_faults cause
+    (goes_on (g.at a).seen (g.at b).seen (more which)) (calm which) up
 
 cause_before : {S P : Type 0} (g : store.Ghosts S P) (stores : Databases S) (before mid after : Databases P) (some all : List Request) (cause : LookupFault)
     → ((r : Request) → Contains some r → Contains all r) → SeeMore g before mid → AreCalm g before mid → IsCause g stores mid after some cause → IsCause g stores before after all cause

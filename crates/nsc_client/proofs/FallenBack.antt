@@ -11,7 +11,7 @@ use Rattle.nsc_model.specs.declared.store.LookupFault.TheVariants as fault
 use Rattle.nsc_model.specs.declared.store.Store as store
 use Rattle.nsc_model.specs.History.{Answered, IsPrefix}
 use Rattle.nsc_model.specs.Reads.{FaultsStay}
-use Rattle.nsc_model.specs.Stores.{Continues, GivesUp, IsMissed, IsMissedAt}
+use Rattle.nsc_model.specs.Stores.{Continues, GivesUp, GivesUpAt, IsMissed, IsMissedAt}
 use Rattle.nsc_model.specs.Wire.{Spells}
 use Rattle.nsc_client.specs.declared.link.LinkFault.{LinkFault}
 use Rattle.nsc_client.specs.declared.link.LinkFault.TheVariants.{NoMemory, Failed, Refused, BadReply}
@@ -34,12 +34,12 @@ pub fallen_reply : {S P : Type 0} (g : store.Ghosts S P) (base : S) (before betw
     → IsReplied g before after request reply
 fallen_reply g base before between after request now held bytes found reply s gives spelled = record {
   bytes = bytes;
-  answered = answered_before (g.seen before) (g.seen between) (g.seen after) request bytes s.seen.before
-      (subst (λ (said : List ℕ). Answered (g.seen between) (g.seen after) request said) gives.said gives.answer.answered);
+  answered = answered_before (g.at before).seen (g.at between).seen (g.at after).seen request bytes s.seen.before
+      (subst (λ (said : List ℕ). Answered (g.at between).seen (g.at after).seen request said) gives.said gives.answer.answered);
   spelled = spelled;
   legal = gives.left.seen.legal;
   searched = (let once = s.searches in let more = gives.left.searches in omega arith);
-  calm = stay_on (g.faults before) (g.faults between) (g.faults after) (g.file_faults before) (g.file_faults between) (g.file_faults after) s.no_fault gives.no_fault;
+  calm = stay_on (g.at before).faults (g.at between).faults (g.at after).faults (g.at before).file_faults (g.at between).file_faults (g.at after).file_faults s.no_fault gives.no_fault;
 }
 
 -- the same of what a reader of the bytes returned
@@ -71,7 +71,7 @@ gives_up_before settings less seen after request a b c each each' each'' cause p
     record { missed = missed_before cause settings less seen after request p same.missed; fault = same.fault }
 
 refused_by : {S P : Type 0} (g : store.Ghosts S P) (base : S) (before after : P) (request : Request) (cause : LookupFault) → cause ≢ fault.NoMemory
-    → GivesUp (g.settings base) (g.seen before) (g.seen after) request (g.faults before) (g.faults after) (g.file_faults before) (g.file_faults after) cause
+    → GivesUpAt (g.settings base) (g.at before) (g.at after) request cause
     → IsRefusedAt g base before after request (Refused cause)
 refused_by g base before after request fault.NoMemory other up = absurd (other refl)
 refused_by g base before after request (fault.Spent count) other up = (fault.Spent count, refl, up)
@@ -80,10 +80,10 @@ refused_by g base before after request (fault.TooLong file size) other up = (fau
 
 up_before : {S P : Type 0} (g : store.Ghosts S P) (base : S) (before between after : P) (request : Request) (held : List ℕ) (found : InPlace) (cause : LookupFault)
     → SearchesInPlace g base before between request held found → GivesFault g base between after request cause
-    → GivesUp (g.settings base) (g.seen before) (g.seen after) request (g.faults before) (g.faults after) (g.file_faults before) (g.file_faults after) cause
+    → GivesUpAt (g.settings base) (g.at before) (g.at after) request cause
 up_before g base before between after request held found cause s gives =
-    gives_up_before (g.settings base) (g.seen before) (g.seen between) (g.seen after) request (g.faults before) (g.faults between) (g.faults after)
-    (g.file_faults before) (g.file_faults between) (g.file_faults after) cause s.seen.before s.no_fault gives.fault
+    gives_up_before (g.settings base) (g.at before).seen (g.at between).seen (g.at after).seen request (g.at before).faults (g.at between).faults (g.at after).faults
+    (g.at before).file_faults (g.at between).file_faults (g.at after).file_faults cause s.seen.before s.no_fault gives.fault
 
 pub fallen_fault : {S P : Type 0} (g : store.Ghosts S P) (base : S) (before between after : P) (request : Request) (now : ℕ) (held : List ℕ) (found : InPlace) (refused : LinkFault)
     → SearchesInPlace g base before between request held found → IsOfLookup g base between after request now (Err refused) → IsRefusedAt g base before after request refused
@@ -95,8 +95,8 @@ fallen_fault g base before between after request now held found Failed s gives =
 fallen_fault g base before between after request now held found (BadReply at) s gives = absurd gives
 
 pub fault_seen : {S P : Type 0} (g : store.Ghosts S P) (base : S) (before between after : P) (request : Request) (now : ℕ) (held : List ℕ) (found : InPlace) (refused : LinkFault)
-    → SearchesInPlace g base before between request held found → IsOfLookup g base between after request now (Err refused) → Continues (g.seen before) (g.seen after)
-fault_seen g base before between after request now held found NoMemory s gives = seen_on (g.seen before) (g.seen between) (g.seen after) s.seen gives.left.seen
-fault_seen g base before between after request now held found (Refused cause) s gives = seen_on (g.seen before) (g.seen between) (g.seen after) s.seen gives.0.left.seen
+    → SearchesInPlace g base before between request held found → IsOfLookup g base between after request now (Err refused) → Continues (g.at before).seen (g.at after).seen
+fault_seen g base before between after request now held found NoMemory s gives = seen_on (g.at before).seen (g.at between).seen (g.at after).seen s.seen gives.left.seen
+fault_seen g base before between after request now held found (Refused cause) s gives = seen_on (g.at before).seen (g.at between).seen (g.at after).seen s.seen gives.0.left.seen
 fault_seen g base before between after request now held found Failed s gives = absurd gives
 fault_seen g base before between after request now held found (BadReply at) s gives = absurd gives

@@ -20,8 +20,7 @@ use Rattle.nsc_model.specs.Databases.{database_in, with_database}
 use Rattle.nsc_model.specs.History.{Answered, HasEnd, Legal}
 use Rattle.nsc_model.specs.InPlace.{InPlaceClause}
 use Rattle.nsc_model.specs.Kinds.{database_of}
-use Rattle.nsc_model.specs.Reads.{FaultsStay}
-use Rattle.nsc_model.specs.Stores.{Continues}
+use Rattle.nsc_model.specs.Stores.{Continues, StaysCalm}
 use Rattle.nsc_model.specs.Wire.{Spells, field_in, lacking, minus_one, row_found, shape_of, spelled}
 use Rattle.nsc_client.specs.declared.hits.Hit.TheVariants as hit
 use Rattle.nsc_client.specs.declared.line.LineAsks.TheVariants.{One, HostNamed}
@@ -55,22 +54,22 @@ found_at seen after request first last bytes number version not_found goes claus
 
 -- ---- four stores
 
-searched_with : {S P : Type 0} (g : store.Ghosts S P) (before : Databases P) (which : Db) (one : P) → g.searches one ≡ g.searches (database_in before which) + 1
+searched_with : {S P : Type 0} (g : store.Ghosts S P) (before : Databases P) (which : Db) (one : P) → (g.at one).searches ≡ (g.at (database_in before which)).searches + 1
     → searches_of g before + 1 ≤ searches_of g (with_database before which one)
 searched_with g before db.Passwd one is = omega arith
 searched_with g before db.Group one is = omega arith
 searched_with g before db.Hosts one is = omega arith
 searched_with g before db.Services one is = omega arith
 
-pub searches_with : {S P : Type 0} (g : store.Ghosts S P) (before : Databases P) (which : Db) (pass one : P) → pass ≡ database_in before which → g.searches one ≡ g.searches pass + 1
-    → FaultsStay (g.faults pass) (g.faults one) (g.file_faults pass) (g.file_faults one) → Searches g before (with_database before which one) 1
+pub searches_with : {S P : Type 0} (g : store.Ghosts S P) (before : Databases P) (which : Db) (pass one : P) → pass ≡ database_in before which → (g.at one).searches ≡ (g.at pass).searches + 1
+    → StaysCalm (g.at pass) (g.at one) → Searches g before (with_database before which one) 1
 searches_with g before which pass one of searches stay =
-    let counted : g.searches one ≡ g.searches (database_in before which) + 1 = searches ∙ ap (λ (p : _). g.searches p + 1) of in
-    let stays = subst (λ (p : _). FaultsStay (g.faults p) (g.faults one) (g.file_faults p) (g.file_faults one)) of stay in
+    let counted : (g.at one).searches ≡ (g.at (database_in before which)).searches + 1 = searches ∙ ap (λ (p : _). (g.at p).searches + 1) of in
+    let stays = subst (λ (p : _). StaysCalm (g.at p) (g.at one)) of stay in
     record { searched = searched_with g before which one counted; calm = calm_with g before which one stays }
 
 found_with : {S P : Type 0} (g : store.Ghosts S P) (before : Databases P) (one : P) (request : Request) (bytes : List ℕ)
-    → Searches g before (with_database before (database_of request.kind) one) 1 → Legal (g.seen one) → IsFoundAt (g.seen (database_in before (database_of request.kind))) (g.seen one) request bytes
+    → Searches g before (with_database before (database_of request.kind) one) 1 → Legal (g.at one).seen → IsFoundAt (g.at (database_in before (database_of request.kind))).seen (g.at one).seen request bytes
     → IsFound g before (with_database before (database_of request.kind) one) request bytes
 found_with g before one request bytes s legal found =
     let which = database_of request.kind in
@@ -80,9 +79,9 @@ found_with g before one request bytes s legal found =
       given = λ (reply : Reply). λ spells. record {
         told = record {
           bytes = bytes;
-          answered = subst (λ (p : _). Answered (seen_in g before which) (g.seen p) request bytes) is found.answered;
+          answered = subst (λ (p : _). Answered (seen_in g before which) (g.at p).seen request bytes) is found.answered;
           spelled = spells;
-          legal = subst (λ (p : _). Legal (g.seen p)) is legal;
+          legal = subst (λ (p : _). Legal (g.at p).seen) is legal;
         };
         searched = s.searched;
         calm = s.calm;
@@ -90,13 +89,13 @@ found_with g before one request bytes s legal found =
     }
 
 pub finds_with : {S P : Type 0} (g : store.Ghosts S P) (before : Databases P) (which : Db) (pass one : P) (request : Request) (bytes : List ℕ) (is : Bool)
-    → which ≡ database_of request.kind → pass ≡ database_in before which → g.searches one ≡ g.searches pass + 1 → FaultsStay (g.faults pass) (g.faults one) (g.file_faults pass) (g.file_faults one)
-    → Continues (g.seen pass) (g.seen one) → OnTrue is (IsFoundAt (g.seen pass) (g.seen one) request bytes) → OnTrue is (IsFound g before (with_database before which one) request bytes)
+    → which ≡ database_of request.kind → pass ≡ database_in before which → (g.at one).searches ≡ (g.at pass).searches + 1 → StaysCalm (g.at pass) (g.at one)
+    → Continues (g.at pass).seen (g.at one).seen → OnTrue is (IsFoundAt (g.at pass).seen (g.at one).seen request bytes) → OnTrue is (IsFound g before (with_database before which one) request bytes)
 finds_with g before which pass one request bytes false of of_pass searches stay goes found = tt
 finds_with g before which pass one request bytes true of of_pass searches stay goes found =
     let s = searches_with g before which pass one of_pass searches stay in
     let there = subst (λ (w : Db). Searches g before (with_database before w one) 1) of s in
-    let at = subst (λ (p : _). IsFoundAt (g.seen p) (g.seen one) request bytes) (of_pass ∙ ap (λ (w : Db). database_in before w) of) found in
+    let at = subst (λ (p : _). IsFoundAt (g.at p).seen (g.at one).seen request bytes) (of_pass ∙ ap (λ (w : Db). database_in before w) of) found in
     subst (λ (w : Db). IsFound g before (with_database before w one) request bytes) (sym of) (found_with g before one request bytes there goes.legal at)
 
 -- ---- a line

@@ -10,8 +10,7 @@ use Rattle.nsc_model.specs.declared.store.LookupFault.TheVariants as fault
 use Rattle.nsc_model.specs.declared.store.Store as store
 use Rattle.nsc_model.specs.Databases.{database_in, with_database}
 use Rattle.nsc_model.specs.Kinds.{database_of}
-use Rattle.nsc_model.specs.Reads.{FaultsStay}
-use Rattle.nsc_model.specs.Stores.{GivesUp}
+use Rattle.nsc_model.specs.Stores.{GivesUpAt, StaysCalm}
 use Rattle.nsc_client.specs.declared.link.LinkFault.{LinkFault}
 use Rattle.nsc_client.specs.Gate.{AreCalm, GaveUp, IsCause, IsRefusal}
 use Rattle.nsc_client.specs.Replying.{IsCauseAt, IsRefusedAt}
@@ -43,18 +42,18 @@ the_one before db.Hosts one = refl
 the_one before db.Services one = refl
 
 pub calm_with : {S P : Type 0} (g : store.Ghosts S P) (before : Databases P) (which : Db) (one : P)
-    → FaultsStay (g.faults (database_in before which)) (g.faults one) (g.file_faults (database_in before which)) (g.file_faults one) → AreCalm g before (with_database before which one)
+    → StaysCalm (g.at (database_in before which)) (g.at one) → AreCalm g before (with_database before which one)
 calm_with g before which one stay =
-    with_each (λ other pass. FaultsStay (g.faults (database_in before other)) (g.faults pass) (g.file_faults (database_in before other)) (g.file_faults pass)) before which one stay (λ other. (refl, refl))
+    with_each (λ other pass. StaysCalm (g.at (database_in before other)) (g.at pass)) before which one stay (λ other. (refl, refl))
 
 gave_up_with : {S P : Type 0} (g : store.Ghosts S P) (stores : Databases S) (before : Databases P) (one : P) (request : Request) (cause : LookupFault)
     → (let which = database_of request.kind in let pass = database_in before which in
-    GivesUp (g.settings (database_in stores which)) (g.seen pass) (g.seen one) request (g.faults pass) (g.faults one) (g.file_faults pass) (g.file_faults one) cause)
+    GivesUpAt (g.settings (database_in stores which)) (g.at pass) (g.at one) request cause)
     → GaveUp g stores before (with_database before (database_of request.kind) one) request cause
 gave_up_with g stores before one request cause up =
     let which = database_of request.kind in
     let pass = database_in before which in
-    subst (λ (later : _). GivesUp (g.settings (database_in stores which)) (g.seen pass) (g.seen later) request (g.faults pass) (g.faults later) (g.file_faults pass) (g.file_faults later) cause) (the_one before which one) up
+    subst (λ (later : _). GivesUpAt (g.settings (database_in stores which)) (g.at pass) (g.at later) request cause) (the_one before which one) up
 
 cause_with : {S P : Type 0} (g : store.Ghosts S P) (stores : Databases S) (before : Databases P) (one : P) (request : Request) (cause : LookupFault)
     → IsCauseAt g (database_in stores (database_of request.kind)) (database_in before (database_of request.kind)) one request cause

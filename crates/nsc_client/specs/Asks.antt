@@ -6,8 +6,7 @@ use Rattle.nsc_model.specs.declared.in_place.InPlace.{InPlace}
 use Rattle.nsc_model.specs.declared.in_place.InPlace.TheVariants.{Hit, Odd, Moved, NoEntry}
 use Rattle.nsc_model.specs.declared.store.Store as store
 use Rattle.nsc_model.specs.InPlace.{InPlaceClause}
-use Rattle.nsc_model.specs.Reads.{FaultsStay}
-use Rattle.nsc_model.specs.Stores.{Continues}
+use Rattle.nsc_model.specs.Stores.{Continues, StaysCalm}
 use Rattle.nsc_client.specs.declared.asking.Asked.{Asked}
 use Rattle.nsc_client.specs.declared.asking.Asked.TheVariants as asked
 use Rattle.nsc_client.specs.declared.link.Link as link
@@ -30,10 +29,10 @@ caller_at pass way = record { pass = pass; way = way }
 -- a search in place gave this answer, with these bytes in the buffer
 pub record SearchesInPlace {S P : Type 0} (g : store.Ghosts S P) (base : S) (before after : P) (request : Request) (bytes : List ℕ) (answer : InPlace) : Type 0 where
   pub is_pass : g.is_pass base after
-  pub seen : Continues (g.seen before) (g.seen after)
-  pub searches : g.searches after ≡ g.searches before + 1
-  pub answered : InPlaceClause (g.seen before) (g.seen after) request (g.first after) (g.last after) bytes answer
-  pub no_fault : FaultsStay (g.faults before) (g.faults after) (g.file_faults before) (g.file_faults after)
+  pub seen : Continues (g.at before).seen (g.at after).seen
+  pub searches : (g.at after).searches ≡ (g.at before).searches + 1
+  pub answered : InPlaceClause (g.at before).seen (g.at after).seen request (g.at after).first (g.at after).last bytes answer
+  pub no_fault : StaysCalm (g.at before) (g.at after)
 
 -- it found no reply
 abbrev pub IsFallback : InPlace → Type 0

@@ -11,8 +11,7 @@ use Rattle.nsc_model.specs.declared.store.Store as store
 use Rattle.nsc_model.specs.Databases.{database_in}
 use Rattle.nsc_model.specs.History.{Answered, Legal}
 use Rattle.nsc_model.specs.Kinds.{database_of}
-use Rattle.nsc_model.specs.Reads.{FaultsStay}
-use Rattle.nsc_model.specs.Stores.{Continues, GivesUp}
+use Rattle.nsc_model.specs.Stores.{Continues, GivesUpAt, StaysCalm}
 use Rattle.nsc_model.specs.Wire.{Spells}
 use Rattle.nsc_client.specs.declared.link.LinkFault.{LinkFault}
 use Rattle.nsc_client.specs.declared.line.LineAsks.{LineAsks}
@@ -32,7 +31,7 @@ ArePasses g stores passes = (which : Db) → g.is_pass (database_in stores which
 
 -- what the pass of a database has seen
 abbrev pub seen_in : {S P : Type 0} → store.Ghosts S P → Databases P → Db → List Record
-seen_in g passes which = g.seen (database_in passes which)
+seen_in g passes which = (g.at (database_in passes which)).seen
 
 -- what each pass has seen is what it had seen; or it goes on from there, and is legal
 abbrev pub SeeMore : {S P : Type 0} → store.Ghosts S P → Databases P → Databases P → Type 0
@@ -41,11 +40,11 @@ SeeMore g before after = (which : Db) → (seen_in g after which ≡ seen_in g b
 -- no count of faults of any pass changed
 abbrev pub AreCalm : {S P : Type 0} → store.Ghosts S P → Databases P → Databases P → Type 0
 AreCalm g before after =
-    (which : Db) → FaultsStay (g.faults (database_in before which)) (g.faults (database_in after which)) (g.file_faults (database_in before which)) (g.file_faults (database_in after which))
+    (which : Db) → StaysCalm (g.at (database_in before which)) (g.at (database_in after which))
 
 -- how often the four passes together have begun a search in place
 abbrev pub searches_of : {S P : Type 0} → store.Ghosts S P → Databases P → ℕ
-searches_of g passes = g.searches passes.passwd + g.searches passes.group + g.searches passes.hosts + g.searches passes.services
+searches_of g passes = (g.at passes.passwd).searches + (g.at passes.group).searches + (g.at passes.hosts).searches + (g.at passes.services).searches
 
 -- ---- lines and what answers them
 
@@ -70,7 +69,7 @@ GaveUp g stores before after request cause =
     let which = database_of request.kind in
     let pass = database_in before which in
     let pass' = database_in after which in
-    GivesUp (g.settings (database_in stores which)) (g.seen pass) (g.seen pass') request (g.faults pass) (g.faults pass') (g.file_faults pass) (g.file_faults pass') cause
+    GivesUpAt (g.settings (database_in stores which)) (g.at pass) (g.at pass') request cause
 
 -- memory was wanting; or the lookup of one of these requests gave up
 abbrev pub IsCause : {S P : Type 0} → store.Ghosts S P → Databases S → Databases P → Databases P → List Request → LookupFault → Type 0

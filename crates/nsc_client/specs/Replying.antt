@@ -8,8 +8,7 @@ use Rattle.nsc_model.specs.declared.store.LookupFault.TheVariants as fault
 use Rattle.nsc_model.specs.declared.store.Store as store
 use Rattle.nsc_model.specs.Entry.{key_limit}
 use Rattle.nsc_model.specs.History.{Answered, Legal}
-use Rattle.nsc_model.specs.Reads.{FaultsStay}
-use Rattle.nsc_model.specs.Stores.{GivesUp}
+use Rattle.nsc_model.specs.Stores.{GivesUpAt, StaysCalm}
 use Rattle.nsc_model.specs.Wire.{Spells}
 use Rattle.nsc_client.specs.declared.line.LineAsks.{LineAsks}
 use Rattle.nsc_client.specs.declared.line.LineAsks.TheVariants.{Bad, One, HostNamed}
@@ -24,16 +23,16 @@ use Rattle.nsc_client.specs.Sent.{CanBeSent}
 -- a reply answers the request, after at least one search in place
 pub record IsReplied {S P : Type 0} (g : store.Ghosts S P) (before after : P) (request : Request) (reply : Reply) : Type 0 where
   pub bytes : List ℕ
-  pub answered : Answered (g.seen before) (g.seen after) request bytes
+  pub answered : Answered (g.at before).seen (g.at after).seen request bytes
   pub spelled : Spells request.kind reply bytes
-  pub legal : Legal (g.seen after)
-  pub searched : g.searches before + 1 ≤ g.searches after
-  pub calm : FaultsStay (g.faults before) (g.faults after) (g.file_faults before) (g.file_faults after)
+  pub legal : Legal (g.at after).seen
+  pub searched : (g.at before).searches + 1 ≤ (g.at after).searches
+  pub calm : StaysCalm (g.at before) (g.at after)
 
 -- memory was wanting; or the lookup gave up
 abbrev pub IsCauseAt : {S P : Type 0} → store.Ghosts S P → S → P → P → Request → LookupFault → Type 0
-IsCauseAt g base before after request fault.NoMemory = FaultsStay (g.faults before) (g.faults after) (g.file_faults before) (g.file_faults after)
-IsCauseAt g base before after request cause = GivesUp (g.settings base) (g.seen before) (g.seen after) request (g.faults before) (g.faults after) (g.file_faults before) (g.file_faults after) cause
+IsCauseAt g base before after request fault.NoMemory = StaysCalm (g.at before) (g.at after)
+IsCauseAt g base before after request cause = GivesUpAt (g.settings base) (g.at before) (g.at after) request cause
 
 -- why there is no reply
 abbrev pub IsRefusedAt : {S P : Type 0} → store.Ghosts S P → S → P → P → Request → LinkFault → Type 0

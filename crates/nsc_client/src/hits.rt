@@ -5,8 +5,7 @@ ghost use Rattle.nsc_model.specs.declared.kind.Kind.{Kind};
 ghost use Rattle.nsc_model.specs.declared.row.Reply.{Reply};
 ghost use Rattle.nsc_model.specs.Entry.{key_limit, kept_limit};
 ghost use Rattle.nsc_model.specs.Kinds.{database_of};
-ghost use Rattle.nsc_model.specs.Reads.{FaultsStay};
-ghost use Rattle.nsc_model.specs.Stores.{Continues};
+ghost use Rattle.nsc_model.specs.Stores.{Continues, StaysCalm};
 ghost use Rattle.nsc_model.specs.Wire.{Spells};
 ghost use Rattle.nsc_client.specs.declared.line.LineAsks.TheVariants.{HostNamed};
 ghost use Rattle.nsc_client.specs.Gate.{AreNamed, ArePasses, SeeMore};
@@ -129,10 +128,10 @@ fn store_finds<S: Store>(
     requires key { length key.now ≤ key_limit }
     ensures pass { S.is_pass store.now pass.new }
     ensures limit { out.new.limit ≡ out.old.limit }
-    ensures seen { Continues (S.seen pass.old) (S.seen pass.new) }
-    ensures searches { S.searches pass.new ≡ S.searches pass.old + 1 }
-    ensures no_fault { FaultsStay (S.faults pass.old) (S.faults pass.new) (S.file_faults pass.old) (S.file_faults pass.new) }
-    ensures found { OnTrue result (IsFoundAt (S.seen pass.old) (S.seen pass.new) (record { kind = kind; key = key.now }) out.new.content) }
+    ensures seen { Continues (S.at pass.old).seen (S.at pass.new).seen }
+    ensures searches { (S.at pass.new).searches ≡ (S.at pass.old).searches + 1 }
+    ensures no_fault { StaysCalm (S.at pass.old) (S.at pass.new) }
+    ensures found { OnTrue result (IsFoundAt (S.at pass.old).seen (S.at pass.new).seen (record { kind = kind; key = key.now }) out.new.content) }
 {
     match store.in_place(pass, kind, key, out) {
         InPlace::Hit { .. } => true,

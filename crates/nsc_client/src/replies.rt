@@ -76,7 +76,7 @@ pub(crate) fn store_reply<R: Wait, S: Store>(
     requires moment { now < 2 ^ 62 }
     ensures pass { S.is_pass store.now pass.new }
     ensures limit { out.new.limit ≡ out.old.limit }
-    ensures seen { Continues (S.seen pass.old) (S.seen pass.new) }
+    ensures seen { Continues (S.at pass.old).seen (S.at pass.new).seen }
     ensures replied { IfOk result (IsReplied S.Store pass.old pass.new (record { kind = kind; key = key.now })) }
     ensures refused { IfErr result (IsRefusedAt S.Store store.now pass.old pass.new (record { kind = kind; key = key.now })) }
 {

@@ -46,23 +46,7 @@ impl<F: FileSet + Drop, A: Answerer + Drop, B: Room> Store for Database<F, A, B>
 
     ghost is_pass = { λ d p. p.db ≡ d.db };
 
-    ghost seen = { λ p. p.pass.seen };
-
-    ghost faults = { λ p. F.faults p.files };
-
-    ghost file_faults = { λ p. F.file_faults p.files };
-
-    ghost reads = { λ p. F.reads p.files };
-
-    ghost latest = { λ p. F.latest p.files };
-
-    ghost searches = { λ p. p.pass.searching.searches };
-
-    ghost first = { λ p. p.pass.searching.first };
-
-    ghost last = { λ p. p.pass.searching.last };
-
-    ghost words = { λ p. p.pass.present.words };
+    ghost at = { λ p. record { seen = p.pass.seen; faults = F.faults p.files; file_faults = F.file_faults p.files; reads = F.reads p.files; latest = F.latest p.files; searches = p.pass.searching.searches; first = p.pass.searching.first; last = p.pass.searching.last; words = p.pass.present.words } };
 
     ghost held = { λ d. B.held };
 

@@ -234,3 +234,50 @@ abbrev pub IsTickFault : LookupFault → DbConf → ℕ → List Record → List
 IsTickFault (fault.Spent count) settings now seen after last_cycle before_faults after_faults before_each after_each =
     (IsSpent after count ⊎ IsUnmoved after last_cycle count (EndsStale settings now seen after)) × FaultsStay before_faults after_faults before_each after_each
 IsTickFault other settings now seen after last_cycle before_faults after_faults before_each after_each = IsFault other after before_faults after_faults before_each after_each
+
+-- ---- a caller's pass at two moments
+
+-- What a pass is at a moment: what it has seen; the counts of its reads that failed, in all and of each file; how often it read each file,
+-- and what the latest read gave, if that is told; how often it has begun a search in place; the CYCLE that its latest search loaded first,
+-- and the one that it loaded last; and how many words its table has.
+pub record PassAt : Type 0 where
+  pub seen : List Record
+  pub faults : ℕ
+  pub file_faults : FileId → ℕ
+  pub reads : FileId → ℕ
+  pub latest : FileId → Option (Option (List ℕ))
+  pub searches : ℕ
+  pub first : ℕ
+  pub last : ℕ
+  pub words : ℕ
+
+-- between two moments the pass loaded CYCLE as 2^62, at which there are no more compactions
+abbrev pub LoadedLastCycle : PassAt → PassAt → Type 0
+LoadedLastCycle before after = FoundLastCycle before.searches after.searches after.last
+
+-- no count of faults changed
+abbrev pub StaysCalm : PassAt → PassAt → Type 0
+StaysCalm before after = FaultsStay before.faults after.faults before.file_faults after.file_faults
+
+-- a lookup gave this at a moment
+abbrev pub GivesAnswerAt : DbConf → ℕ → PassAt → PassAt → Request → Given → Type 0
+GivesAnswerAt settings now before after request g = GivesAnswer settings after.words now before.seen after.seen (LoadedLastCycle before after) request g
+
+-- and it is of the files that the pass read, or of those that are held
+abbrev pub IsOfFilesAt : Db → Option Content → PassAt → PassAt → Request → Given → Type 0
+IsOfFilesAt which held before after request g = IsOfFiles which before.reads after.reads after.latest held request g
+
+-- a lookup gave up for this cause
+abbrev pub GivesUpAt : DbConf → PassAt → PassAt → Request → LookupFault → Type 0
+GivesUpAt settings before after request cause =
+    GivesUp settings before.seen after.seen request before.faults after.faults before.file_faults after.file_faults cause
+
+-- a tick at a moment did its work
+abbrev pub IsTickedAt : Db → DbConf → Option ℕ → ℕ → PassAt → PassAt → Type 0
+IsTickedAt which settings limit now before after =
+    IsTicked which before.reads after.reads after.latest settings limit now before.seen after.seen (LoadedLastCycle before after)
+
+-- a tick at a moment gave up for this cause
+abbrev pub IsTickFaultAt : DbConf → ℕ → PassAt → PassAt → LookupFault → Type 0
+IsTickFaultAt settings now before after cause =
+    IsTickFault cause settings now before.seen after.seen (LoadedLastCycle before after) before.faults after.faults before.file_faults after.file_faults

@@ -1,17 +1,14 @@
 ghost use Rattle.std.specs.Prelude.{◌≡◌, ◌⊎◌, ◌+◌, ◌<◌, ◌^◌, ◌≤◌, ℕ, List, Option, IsOk, length, IfOk, IfErr, OnOk};
 ghost use Rattle.std.specs.Bool.{OnFalse, OnTrue};
 ghost use Rattle.nsc_model.specs.declared.kind.Db.{Db};
-ghost use Rattle.nsc_model.specs.declared.kind.FileId.{FileId};
 ghost use Rattle.nsc_model.specs.declared.conf.DbConf.{DbConf};
 ghost use Rattle.nsc_model.specs.Content.{Content};
-ghost use Rattle.nsc_model.specs.declared.record.Record.{Record};
 ghost use Rattle.nsc_model.specs.Entry.{key_limit, kept_limit};
 ghost use Rattle.nsc_model.specs.InPlace.{InPlaceClause};
 ghost use Rattle.nsc_model.specs.Kinds.{database_of};
 ghost use Rattle.nsc_model.specs.History.{IsPrefix, Legal};
-ghost use Rattle.nsc_model.specs.Reads.{FaultsStay};
 ghost use Rattle.nsc_model.specs.Steady.{IsSteady};
-ghost use Rattle.nsc_model.specs.Stores.{Continues, FoundLastCycle, GivesAnswer, GivesUp, IsCounted, IsEmptied, IsImageOf, IsInvalidateFault, IsOfFiles, IsTicked, IsTickFault};
+ghost use Rattle.nsc_model.specs.Stores.{Continues, GivesAnswerAt, GivesUpAt, IsCounted, IsEmptied, IsImageOf, IsInvalidateFault, IsOfFilesAt, IsTickedAt, IsTickFaultAt, LoadedLastCycle, PassAt, StaysCalm};
 
 use crate::fault::CacheFault;
 use crate::in_place::{InPlace, Sought};
@@ -184,28 +181,8 @@ pub trait Store {
     // Whether a pass is one of this store.
     ghost is_pass: { Self → Self.Pass → Type 0 };
 
-    // The beginning of the history that a pass has seen.
-    ghost seen: { Self.Pass → List Record };
-
-    // How many reads of files by a pass failed or met a file that is too long, in all and of each file.
-    ghost faults: { Self.Pass → ℕ };
-
-    ghost file_faults: { Self.Pass → FileId → ℕ };
-
-    // How often a pass read each file with an answer, and what the latest such read gave, where that is told.
-    ghost reads: { Self.Pass → FileId → ℕ };
-
-    ghost latest: { Self.Pass → FileId → Option (Option (List ℕ)) };
-
-    // How often a pass has begun a search in place, and what CYCLE was at the first and at the last load of its latest search.
-    ghost searches: { Self.Pass → ℕ };
-
-    ghost first: { Self.Pass → ℕ };
-
-    ghost last: { Self.Pass → ℕ };
-
-    // How many words the table has that a pass has come to: a table that becomes larger is another one.
-    ghost words: { Self.Pass → ℕ };
+    // What a pass is at a moment.
+    ghost at: { Self.Pass → PassAt };
 
     // The files that every read of the store gives, where these are told.
     ghost held: { Self → Option Content };
@@ -213,8 +190,8 @@ pub trait Store {
     /// A new pass. Fails only for want of memory.
     fn attach<R: Wait>(&self, rt: &R, alloc: Global) -> Result<Self::Pass, NoMemory>
         ensures pass { IfOk result (λ pass. is_pass self.now pass) }
-        ensures legal { IfOk result (λ pass. Legal (seen pass)) }
-        ensures steady { IfOk result (λ pass. IsSteady (held self.now) (db self.now) (seen pass)) };
+        ensures legal { IfOk result (λ pass. Legal (at pass).seen) }
+        ensures steady { IfOk result (λ pass. IsSteady (held self.now) (db self.now) (at pass).seen) };
 
     /// Looks up the request of this kind and key at this moment, in seconds: the reply of its live entry, or else the answer
     /// over the files as they are read in this call, which is then kept where nothing refuses it.
@@ -232,13 +209,13 @@ pub trait Store {
         requires key { length key.now ≤ key_limit }
         requires moment { now < 2 ^ 62 }
         ensures pass { is_pass self.now pass.new }
-        ensures seen { Continues (seen pass.old) (seen pass.new) }
-        ensures steady { IsSteady (held self.now) (db self.now) (seen pass.new) }
-        ensures searches { searches pass.old ≤ searches pass.new }
-        ensures answer { IfOk result (GivesAnswer (settings self.now) (words pass.new) now (seen pass.old) (seen pass.new) (FoundLastCycle (searches pass.old) (searches pass.new) (last pass.new)) (record { kind = kind; key = key.now })) }
-        ensures files { IfOk result (IsOfFiles (db self.now) (reads pass.old) (reads pass.new) (latest pass.new) (held self.now) (record { kind = kind; key = key.now })) }
-        ensures fault { IfErr result (GivesUp (settings self.now) (seen pass.old) (seen pass.new) (record { kind = kind; key = key.now }) (faults pass.old) (faults pass.new) (file_faults pass.old) (file_faults pass.new)) }
-        ensures no_fault { OnOk result (FaultsStay (faults pass.old) (faults pass.new) (file_faults pass.old) (file_faults pass.new)) };
+        ensures seen { Continues (at pass.old).seen (at pass.new).seen }
+        ensures steady { IsSteady (held self.now) (db self.now) (at pass.new).seen }
+        ensures searches { (at pass.old).searches ≤ (at pass.new).searches }
+        ensures answer { IfOk result (GivesAnswerAt (settings self.now) now (at pass.old) (at pass.new) (record { kind = kind; key = key.now })) }
+        ensures files { IfOk result (IsOfFilesAt (db self.now) (held self.now) (at pass.old) (at pass.new) (record { kind = kind; key = key.now })) }
+        ensures fault { IfErr result (GivesUpAt (settings self.now) (at pass.old) (at pass.new) (record { kind = kind; key = key.now })) }
+        ensures no_fault { OnOk result (StaysCalm (at pass.old) (at pass.new)) };
 
     /// What is due at this moment, in seconds, where the database is cached: the files are looked at; where they changed since the
     /// last tick, and that counts, every entry ends; else the entries whose time is over end, and those that are not dropped are
@@ -255,24 +232,24 @@ pub trait Store {
         requires pass { is_pass self.now pass.old }
         requires moment { now < 2 ^ 62 }
         ensures pass { is_pass self.now pass.new }
-        ensures seen { Continues (seen pass.old) (seen pass.new) }
-        ensures steady { OnTrue (settings self.now).enabled (IsSteady (held self.now) (db self.now) (seen pass.new)) }
-        ensures searches { searches pass.old ≤ searches pass.new }
-        ensures ticked { OnOk result (OnTrue (settings self.now).enabled (IsTicked (db self.now) (reads pass.old) (reads pass.new) (latest pass.new) (settings self.now) (reloads self.now) now (seen pass.old) (seen pass.new) (FoundLastCycle (searches pass.old) (searches pass.new) (last pass.new)))) }
+        ensures seen { Continues (at pass.old).seen (at pass.new).seen }
+        ensures steady { OnTrue (settings self.now).enabled (IsSteady (held self.now) (db self.now) (at pass.new).seen) }
+        ensures searches { (at pass.old).searches ≤ (at pass.new).searches }
+        ensures ticked { OnOk result (OnTrue (settings self.now).enabled (IsTickedAt (db self.now) (settings self.now) (reloads self.now) now (at pass.old) (at pass.new))) }
         ensures uncached { OnFalse (settings self.now).enabled (IsOk result × (pass.new ≡ pass.old)) }
-        ensures fault { IfErr result (λ fault. IsTickFault fault (settings self.now) now (seen pass.old) (seen pass.new) (FoundLastCycle (searches pass.old) (searches pass.new) (last pass.new)) (faults pass.old) (faults pass.new) (file_faults pass.old) (file_faults pass.new)) }
-        ensures no_fault { OnOk result (FaultsStay (faults pass.old) (faults pass.new) (file_faults pass.old) (file_faults pass.new)) };
+        ensures fault { IfErr result (IsTickFaultAt (settings self.now) now (at pass.old) (at pass.new)) }
+        ensures no_fault { OnOk result (StaysCalm (at pass.old) (at pass.new)) };
 
     /// Ends every live entry as invalidated, and gives the new number of invalidations.
     fn invalidate<R: Wait>(&self, rt: &R, pass: &mut Self::Pass) -> Result<u64, CacheFault>
         requires { is_pass self.now pass.old }
         ensures pass { is_pass self.now pass.new }
-        ensures seen { Continues (seen pass.old) (seen pass.new) }
-        ensures steady { IsSteady (held self.now) (db self.now) (seen pass.new) }
-        ensures searches { searches pass.old ≤ searches pass.new }
-        ensures done { IfOk result (λ epoch. IsEmptied (seen pass.old) (seen pass.new) epoch) }
-        ensures fault { IfErr result (λ fault. IsInvalidateFault fault (seen pass.new) (FoundLastCycle (searches pass.old) (searches pass.new) (last pass.new))) }
-        ensures no_fault { FaultsStay (faults pass.old) (faults pass.new) (file_faults pass.old) (file_faults pass.new) };
+        ensures seen { Continues (at pass.old).seen (at pass.new).seen }
+        ensures steady { IsSteady (held self.now) (db self.now) (at pass.new).seen }
+        ensures searches { (at pass.old).searches ≤ (at pass.new).searches }
+        ensures done { IfOk result (λ epoch. IsEmptied (at pass.old).seen (at pass.new).seen epoch) }
+        ensures fault { IfErr result (λ fault. IsInvalidateFault fault (at pass.new).seen (LoadedLastCycle (at pass.old) (at pass.new))) }
+        ensures no_fault { StaysCalm (at pass.old) (at pass.new) };
 
     /// Searches for the live entry of the request of this kind and key while others go on, and puts its reply into the buffer of 65,536
     /// bytes, which is empty at any other answer. It takes no lock, no memory and no runtime, and writes nothing. A database that is
@@ -284,10 +261,10 @@ pub trait Store {
         requires limit { out.old.limit ≡ kept_limit }
         ensures pass { is_pass self.now pass.new }
         ensures limit { out.new.limit ≡ out.old.limit }
-        ensures seen { Continues (seen pass.old) (seen pass.new) }
-        ensures searches { searches pass.new ≡ searches pass.old + 1 }
-        ensures answer { InPlaceClause (seen pass.old) (seen pass.new) (record { kind = kind; key = key.now }) (first pass.new) (last pass.new) out.new.content result }
-        ensures no_fault { FaultsStay (faults pass.old) (faults pass.new) (file_faults pass.old) (file_faults pass.new) };
+        ensures seen { Continues (at pass.old).seen (at pass.new).seen }
+        ensures searches { (at pass.new).searches ≡ (at pass.old).searches + 1 }
+        ensures answer { InPlaceClause (at pass.old).seen (at pass.new).seen (record { kind = kind; key = key.now }) (at pass.new).first (at pass.new).last out.new.content result }
+        ensures no_fault { StaysCalm (at pass.old) (at pass.new) };
 
     /// Searches as `in_place` does, and says whether the entry that answers was loaded again since it was used last.
     fn seek(&self, pass: &mut Self::Pass, kind: Kind, key: &[u8], out: &mut Buf) -> Sought
@@ -297,20 +274,20 @@ pub trait Store {
         requires limit { out.old.limit ≡ kept_limit }
         ensures pass { is_pass self.now pass.new }
         ensures limit { out.new.limit ≡ out.old.limit }
-        ensures seen { Continues (seen pass.old) (seen pass.new) }
-        ensures searches { searches pass.new ≡ searches pass.old + 1 }
-        ensures answer { InPlaceClause (seen pass.old) (seen pass.new) (record { kind = kind; key = key.now }) (first pass.new) (last pass.new) out.new.content result.answer }
-        ensures no_fault { FaultsStay (faults pass.old) (faults pass.new) (file_faults pass.old) (file_faults pass.new) };
+        ensures seen { Continues (at pass.old).seen (at pass.new).seen }
+        ensures searches { (at pass.new).searches ≡ (at pass.old).searches + 1 }
+        ensures answer { InPlaceClause (at pass.old).seen (at pass.new).seen (record { kind = kind; key = key.now }) (at pass.new).first (at pass.new).last out.new.content result.answer }
+        ensures no_fault { StaysCalm (at pass.old) (at pass.new) };
 
     /// Goes on to the table that is written, if the writer's lock is free, so that searches in place find its entries. It adds no record.
     /// `false` if the lock is held, which leaves the pass as it is, or if memory is wanting.
     fn catch_up(&self, pass: &mut Self::Pass) -> bool
         requires { is_pass self.now pass.old }
         ensures pass { is_pass self.now pass.new }
-        ensures seen { (pass.new ≡ pass.old) ⊎ Continues (seen pass.old) (seen pass.new) }
-        ensures followed { OnTrue result (IsSteady (held self.now) (db self.now) (seen pass.new)) }
-        ensures searches { searches pass.old ≤ searches pass.new }
-        ensures no_fault { FaultsStay (faults pass.old) (faults pass.new) (file_faults pass.old) (file_faults pass.new) };
+        ensures seen { (pass.new ≡ pass.old) ⊎ Continues (at pass.old).seen (at pass.new).seen }
+        ensures followed { OnTrue result (IsSteady (held self.now) (db self.now) (at pass.new).seen) }
+        ensures searches { (at pass.old).searches ≤ (at pass.new).searches }
+        ensures no_fault { StaysCalm (at pass.old) (at pass.new) };
 
     /// Counts lookups that live entries answered in place: of found and of not-found replies. Each number stays at 2^62. It takes no
     /// memory, and changes nothing else.
@@ -320,30 +297,30 @@ pub trait Store {
     fn stats<R: Wait>(&self, rt: &R, pass: &mut Self::Pass) -> Result<Stats, NoMemory>
         requires { is_pass self.now pass.old }
         ensures pass { is_pass self.now pass.new }
-        ensures seen { Continues (seen pass.old) (seen pass.new) }
-        ensures steady { IsSteady (held self.now) (db self.now) (seen pass.new) }
-        ensures searches { searches pass.old ≤ searches pass.new }
-        ensures counted { IfOk result (λ stats. IsCounted (settings self.now) (words pass.new) (seen pass.new) stats) }
+        ensures seen { Continues (at pass.old).seen (at pass.new).seen }
+        ensures steady { IsSteady (held self.now) (db self.now) (at pass.new).seen }
+        ensures searches { (at pass.old).searches ≤ (at pass.new).searches }
+        ensures counted { IfOk result (λ stats. IsCounted (settings self.now) (at pass.new).words (at pass.new).seen stats) }
         ensures enabled { IfOk result (λ stats. stats.enabled ≡ (settings self.now).enabled) }
-        ensures no_fault { FaultsStay (faults pass.old) (faults pass.new) (file_faults pass.old) (file_faults pass.new) };
+        ensures no_fault { StaysCalm (at pass.old) (at pass.new) };
 
     /// The image of the live entries, in the order of their numbers. Fails only for want of memory.
     fn save<R: Wait>(&self, rt: &R, alloc: Global, pass: &mut Self::Pass) -> Result<Bytes, NoMemory>
         requires { is_pass self.now pass.old }
         ensures pass { is_pass self.now pass.new }
-        ensures seen { Continues (seen pass.old) (seen pass.new) }
-        ensures steady { IsSteady (held self.now) (db self.now) (seen pass.new) }
-        ensures searches { searches pass.old ≤ searches pass.new }
-        ensures image { IfOk result (IsImageOf (db self.now) (seen pass.new)) }
-        ensures no_fault { FaultsStay (faults pass.old) (faults pass.new) (file_faults pass.old) (file_faults pass.new) };
+        ensures seen { Continues (at pass.old).seen (at pass.new).seen }
+        ensures steady { IsSteady (held self.now) (db self.now) (at pass.new).seen }
+        ensures searches { (at pass.old).searches ≤ (at pass.new).searches }
+        ensures image { IfOk result (IsImageOf (db self.now) (at pass.new).seen) }
+        ensures no_fault { StaysCalm (at pass.old) (at pass.new) };
 
     /// The pass has seen, then, all that it and the other one had seen.
     fn meet(&self, pass: &mut Self::Pass, other: Self::Pass)
         requires pass { is_pass self.now pass.old }
         requires other { is_pass self.now other }
         ensures pass { is_pass self.now pass.new }
-        ensures seen { Continues (seen pass.old) (seen pass.new) }
-        ensures searches { searches pass.old ≤ searches pass.new }
-        ensures other { IsPrefix (seen other) (seen pass.new) }
-        ensures no_fault { FaultsStay (faults pass.old) (faults pass.new) (file_faults pass.old) (file_faults pass.new) };
+        ensures seen { Continues (at pass.old).seen (at pass.new).seen }
+        ensures searches { (at pass.old).searches ≤ (at pass.new).searches }
+        ensures other { IsPrefix (at other).seen (at pass.new).seen }
+        ensures no_fault { StaysCalm (at pass.old) (at pass.new) };
 }

@@ -12,13 +12,12 @@ use Rattle.nsc_model.specs.declared.fault.CacheFault.{CacheFault}
 use Rattle.nsc_model.specs.declared.fault.CacheFault.TheVariants as cache_fault
 use Rattle.nsc_model.specs.Databases.{database_in}
 use Rattle.nsc_model.specs.Kinds.{database_of, db_named}
-use Rattle.nsc_model.specs.Stores.{IsFault, IsInvalidateFault}
+use Rattle.nsc_model.specs.Stores.{IsFault, IsInvalidateFault, LoadedLastCycle, PassAt}
 use Rattle.nsc_model.specs.Wire.{Asked, Look, Shutdown, Stat, Invalidate, Descriptor, Netgroup, Short, BadVersion, BadType, BadLength, request_of}
 use Rattle.nsc_sockets.specs.declared.role.Role.{Role}
 use Rattle.nsc_server.specs.declared.served.Served.{Served}
 use Rattle.nsc_server.specs.declared.served.Served.TheVariants as served
 use Rattle.nsc_server.specs.declared.served.Closing.{Closing}
-use Rattle.nsc_server.specs.Passes.{PassAt, LoadedLastCycle}
 use Rattle.nsc_server.specs.declared.scope.Scopes.{Scopes}
 use Rattle.nsc_server.specs.Requests.{GetsShort, IsNeeded, closing_of}
 use Rattle.nsc_server.specs.Outcomes.{Answers, Completes, CountsInput, Ends, IsInvalidateRefusal, IsRefusal, NoInvalidateFault, NoLookFault, NoStoreFault, OthersStay, Serves, Side, replied_to, served_after, served_by}

@@ -3,7 +3,8 @@ use Rattle.std.proofs.Common.{◌++◌, List, ◌∙◌, ap, sym, append_assoc}
 use Rattle.nsc_model.specs.declared.record.Record.{Record}
 use Rattle.nsc_model.specs.declared.databases.Databases.{Databases}
 use Rattle.nsc_model.specs.History.{IsPrefix}
-use Rattle.nsc_server.specs.Passes.{PassAt, SawMore}
+use Rattle.nsc_model.specs.Stores.{PassAt}
+use Rattle.nsc_server.specs.Passes.{SawMore}
 
 -- what is a beginning of a beginning is one of the whole
 prefix_on : (a b c : List Record) → IsPrefix a b → IsPrefix b c → IsPrefix a c

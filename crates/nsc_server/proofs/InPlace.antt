@@ -4,12 +4,13 @@ use Rattle.nsc_model.specs.declared.kind.Db.{Db}
 use Rattle.nsc_model.specs.declared.kind.Db.TheVariants as db
 use Rattle.nsc_model.specs.declared.databases.Databases.{Databases}
 use Rattle.nsc_model.specs.Databases.{database_in}
+use Rattle.nsc_model.specs.Stores.{PassAt}
 use Rattle.nsc_server.specs.declared.scope.Scopes.{Scopes}
 use Rattle.nsc_server.specs.declared.in_place.ServedInPlace.{ServedInPlace}
 use Rattle.nsc_server.specs.declared.in_place.ServedInPlace.TheVariants.{Found, Not, Broken}
 use Rattle.nsc_server.specs.InPlace.{IsHit, IsStale, ServesInPlace, TakesReply, TellsStale}
 use Rattle.nsc_server.specs.Outcomes.{Side}
-use Rattle.nsc_server.specs.Passes.{OthersThan, PassAt}
+use Rattle.nsc_server.specs.Passes.{OthersThan}
 
 -- a pass that is as before began no search
 idle : (before after : PassAt) → after ≡ before → IsStale before after → ⊥

@@ -13,12 +13,12 @@ use Rattle.nsc_model.specs.InPlace.{InPlaceClause}
 use Rattle.nsc_model.specs.Kinds.{database_of}
 use Rattle.nsc_model.specs.Reads.{Rose}
 use Rattle.nsc_model.specs.Wire.{Look, request_of}
+use Rattle.nsc_model.specs.Stores.{PassAt}
 use Rattle.nsc_sockets.specs.declared.role.Role.TheVariants as role
 use Rattle.nsc_server.specs.declared.scope.Scopes.{Scopes}
 use Rattle.nsc_server.specs.declared.in_place.ServedInPlace.{ServedInPlace}
 use Rattle.nsc_server.specs.declared.in_place.ServedInPlace.TheVariants.{Found, Not, Broken}
 use Rattle.nsc_server.specs.Outcomes.{Side}
-use Rattle.nsc_server.specs.Passes.{PassAt}
 use Rattle.nsc_server.specs.Requests.{closing_of}
 use Rattle.nsc_server.specs.Scopes.{IsKeptBack}
 

@@ -16,7 +16,7 @@ use Rattle.nsc_model.specs.Databases.{database_in}
 use Rattle.nsc_model.specs.History.{Legal, NoneLive}
 use Rattle.nsc_model.specs.Kinds.{database_of, db_named}
 use Rattle.nsc_model.specs.Reads.{Rose}
-use Rattle.nsc_model.specs.Stores.{GivesAnswer, GivesUp, IsCounted, IsEmptied, IsInvalidateFault, IsSpent, IsUnmoved, reply_of}
+use Rattle.nsc_model.specs.Stores.{GivesAnswer, GivesUp, IsCounted, IsEmptied, IsInvalidateFault, IsSpent, IsUnmoved, LoadedLastCycle, PassAt, reply_of}
 use Rattle.nsc_model.specs.Wire.{Asked, Look, Shutdown, Stat, Invalidate, Short, field, request_of}
 use Rattle.nsc_sockets.specs.declared.role.Role.{Role}
 use Rattle.nsc_server.specs.declared.served.Served.{Served}
@@ -26,7 +26,7 @@ use Rattle.nsc_server.specs.declared.served.Closing.TheVariants as closing
 use Rattle.nsc_server.specs.declared.scope.Scopes.{Scopes}
 use Rattle.nsc_server.specs.Requests.{IsNeeded, closing_of}
 use Rattle.nsc_server.specs.Scopes.{IsFoundOnly, IsKeptBack}
-use Rattle.nsc_server.specs.Passes.{PassAt, LoadedLastCycle, OthersThan, passes_at}
+use Rattle.nsc_server.specs.Passes.{OthersThan, passes_at}
 use Rattle.nsc_outside.specs.declared.stream.Sink as sink
 use Rattle.nsc_model.specs.declared.store.Store as store
 use Rattle.nsc_server.specs.Stats.{stats_text}

@@ -1,30 +1,13 @@
 -- The stores of the four databases, and the passes of one caller.
-use Rattle.std.specs.Prelude.{◌≡◌, ◌≢◌, ℕ, List}
+use Rattle.std.specs.Prelude.{◌≡◌, ◌≢◌}
 use Rattle.nsc_model.specs.declared.kind.Db.{Db}
 use Rattle.nsc_model.specs.declared.kind.Db.TheVariants as db
-use Rattle.nsc_model.specs.declared.kind.FileId.{FileId}
 use Rattle.nsc_model.specs.declared.conf.DbConf.{DbConf}
-use Rattle.nsc_model.specs.declared.record.Record.{Record}
 use Rattle.nsc_model.specs.declared.databases.Databases.{Databases}
 use Rattle.nsc_model.specs.declared.store.Store as store
 use Rattle.nsc_model.specs.Databases.{database_in}
 use Rattle.nsc_model.specs.History.{IsPrefix}
-use Rattle.nsc_model.specs.Stores.{FoundLastCycle}
-
--- at one moment: what a pass has seen, the counts of its faults, in all and of each file, how often it has begun a search, the CYCLE
--- that its latest search loaded first, and the one that it loaded last, and how many words the table has that it has come to
-pub record PassAt : Type 0 where
-  pub seen : List Record
-  pub faults : ℕ
-  pub file_faults : FileId → ℕ
-  pub searches : ℕ
-  pub first : ℕ
-  pub last : ℕ
-  pub words : ℕ
-
--- between these moments a pass loaded CYCLE as 2^62, at which there are no more compactions
-abbrev pub LoadedLastCycle : PassAt → PassAt → Type 0
-LoadedLastCycle before after = FoundLastCycle before.searches after.searches after.last
+use Rattle.nsc_model.specs.Stores.{PassAt}
 
 -- each store is of the database that its field names
 pub record AreNamed {S P : Type 0} (g : store.Ghosts S P) (stores : Databases S) : Type 0 where
@@ -44,12 +27,9 @@ pub record ArePasses {S P : Type 0} (g : store.Ghosts S P) (stores : Databases S
 abbrev pub settings_of : {S P : Type 0} → store.Ghosts S P → Databases S → Databases DbConf
 settings_of g stores = record { passwd = g.settings stores.passwd; group = g.settings stores.group; hosts = g.settings stores.hosts; services = g.settings stores.services }
 
--- a pass as it stands, and each of them
-abbrev pub pass_at : {S P : Type 0} → store.Ghosts S P → P → PassAt
-pass_at g pass = record { seen = g.seen pass; faults = g.faults pass; file_faults = g.file_faults pass; searches = g.searches pass; first = g.first pass; last = g.last pass; words = g.words pass }
-
+-- each pass at a moment
 abbrev pub passes_at : {S P : Type 0} → store.Ghosts S P → Databases P → Databases PassAt
-passes_at g passes = record { passwd = pass_at g passes.passwd; group = pass_at g passes.group; hosts = pass_at g passes.hosts; services = pass_at g passes.services }
+passes_at g passes = record { passwd = g.at passes.passwd; group = g.at passes.group; hosts = g.at passes.hosts; services = g.at passes.services }
 
 -- what each pass had seen is the beginning of what it has seen
 pub record SawMore (before after : Databases PassAt) : Type 0 where

@@ -4,13 +4,13 @@ ghost use Rattle.nsc_outside.specs.StreamAt.{StreamAt};
 ghost use Rattle.nsc_model.specs.declared.kind.Db.{Db};
 ghost use Rattle.nsc_model.specs.declared.conf.DbConf.{DbConf};
 ghost use Rattle.nsc_model.specs.declared.databases.Databases.{Databases};
+ghost use Rattle.nsc_model.specs.Stores.{PassAt};
 ghost use Rattle.nsc_sockets.specs.declared.role.Role.TheVariants as role;
 ghost use Rattle.nsc_server.specs.declared.scope.Scopes.{Scopes};
 ghost use Rattle.nsc_server.specs.declared.served.Served.{Served};
 ghost use Rattle.nsc_server.specs.declared.in_place.ServedInPlace.TheVariants.{Not};
 ghost use Rattle.nsc_server.specs.InPlace.{ServesInPlace};
 ghost use Rattle.nsc_server.specs.Outcomes.{Serves, Side};
-ghost use Rattle.nsc_server.specs.Passes.{PassAt};
 
 /// Says that a connection which was not answered in place is served by `serve_one` as if nobody had looked at it. So what is complete of
 /// that call is complete of both.

@@ -1,11 +1,11 @@
 ghost use Rattle.std.specs.Prelude.{◌≡◌, ◌≤◌, ◌<◌, ◌^◌, length, IfErr, IfOk};
 ghost use Rattle.nsc_model.specs.Databases.{database_in};
-ghost use Rattle.nsc_model.specs.Stores.{GivesAnswer, GivesUp, IsInvalidateFault, IsEmptied, reply_of};
+ghost use Rattle.nsc_model.specs.Stores.{GivesAnswer, GivesUp, IsEmptied, IsInvalidateFault, LoadedLastCycle, reply_of};
 ghost use Rattle.nsc_model.specs.History.{Legal};
 ghost use Rattle.nsc_model.specs.Entry.{key_limit};
 ghost use Rattle.nsc_model.specs.Kinds.{database_of};
 ghost use Rattle.nsc_server.specs.Made.{bytes_of};
-ghost use Rattle.nsc_server.specs.Passes.{AreNamed, ArePasses, LoadedLastCycle, SawMore, OthersThan, passes_at, settings_of};
+ghost use Rattle.nsc_server.specs.Passes.{AreNamed, ArePasses, SawMore, OthersThan, passes_at, settings_of};
 
 use crate::served::Served;
 use nsc_base::Bytes;

@@ -14,7 +14,7 @@ returns-in-Err-clause-refused g c =
 pub returns-in-Ok-Linked-clause-seen : goal.returns-in-Ok-Linked-clause-seen
 returns-in-Ok-Linked-clause-seen g c =
     let asked = rw c.in-Ok-Linked.field-0-is at c.in-Ok-Linked.ensures.asked in
-    seen_on (g.S.Store.seen c.args.pass.now) (g.S.Store.seen asked.between) (g.S.Store.seen c.ask.new.pass) asked.searched.seen asked.called.left.seen
+    seen_on (g.S.Store.at c.args.pass.now).seen (g.S.Store.at asked.between).seen (g.S.Store.at c.ask.new.pass).seen asked.searched.seen asked.called.left.seen
 
 pub returns-in-Ok-Linked-clause-replied : goal.returns-in-Ok-Linked-clause-replied
 returns-in-Ok-Linked-clause-replied g c =
