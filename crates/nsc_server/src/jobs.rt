@@ -1,4 +1,4 @@
-ghost use Rattle.std.specs.Prelude.{◌≡◌, ◌^◌, ◌≤◌, IfNone, IfSome, true};
+ghost use Rattle.std.specs.Prelude.{◌≡◌, ◌+◌, ◌^◌, ◌≤◌, IfNone, IfSome, min, true};
 ghost use Rattle.nsc_server.specs.Jobs.{IsServable, given_after};
 ghost use Rattle.nsc_server.specs.Passes.{AreNamed, ArePasses, SawMore, passes_at};
 
@@ -47,7 +47,7 @@ pub trait Jobs {
         ensures over { IfNone result (is_over self.new ≡ true) };
 }
 
-/// Serves connections until none is to come, and gives their number, which stays at 2^62.
+/// Serves connections until none is to come. Gives how many `jobs` gave meanwhile, at most 2^62.
 pub fn work<RT: AllocGlobal + Wait + Clock, J: Jobs, S: Store>(
     rt: &RT,
     jobs: &mut J,
@@ -60,7 +60,7 @@ pub fn work<RT: AllocGlobal + Wait + Clock, J: Jobs, S: Store>(
     requires passes { ArePasses S.Store stores.now passes.old }
     ensures passes { ArePasses S.Store stores.now passes.new }
     ensures before { SawMore (passes_at S.Store passes.old) (passes_at S.Store passes.new) }
-    ensures count { J.given jobs.old ≡ 0 → result ≡ J.given jobs.new }
+    ensures count { J.given jobs.old ≤ 2 ^ 62 → J.given jobs.new ≡ min (J.given jobs.old + result) (2 ^ 62) }
     ensures limit { result ≤ 2 ^ 62 }
     ensures over { J.is_over jobs.new ≡ true }
 {
