@@ -38,7 +38,7 @@ const LONGEST: u64 = 1;
 
 const TURNS: u32 = 1_000_000;
 
-// After so many connections, or so long, the system is asked what it tells, in milliseconds.
+// The system is asked what it tells after UNASKED connections, or ASKED milliseconds.
 const UNASKED: u32 = 64;
 
 const ASKED: u64 = 1;
@@ -287,7 +287,7 @@ impl<R: Wait + Clock + Clone + Drop> Entrance<R> {
                 self.places = self.places.saturating_sub(1);
                 let peer = Peer::arrived(self.alloc, socket, &self.means.departures).ok()?;
                 if role == Role::Gate {
-                    peer.bound_unsent(NARROW);
+                    peer.stream.bound_unsent(NARROW);
                 }
                 let guest = Guest::new(role, peer, now);
                 self.room.receive(self.poll.registry(), guest, may_stand)

@@ -67,15 +67,15 @@ impl<R: Wait + Clock + Drop> Guest<R> {
     /// Looks, without waiting, whether this connection can be given out. Where its peer sends no more it can be, whatever came, but at
     /// the gate something has to have come. One that a worker has cannot.
     pub(crate) fn look(&self, alloc: Global, has_ended: bool) -> Glance {
-        if self.peer.is_over() {
+        if self.peer.stream.is_over() {
             return Glance::Lost;
         }
-        if self.peer.is_lent() {
+        if self.peer.stream.is_lent() {
             return Glance::Pending;
         }
         let mut room = [0u8; MOST_SEEN];
         let most = self.most_seen();
-        let count = match self.peer.peek(&mut room[..most]) {
+        let count = match self.peer.stream.peek(&mut room[..most]) {
             Ok(count) => count,
             Err(error) if may_pass(&error) => return Glance::Pending,
             Err(_) => return Glance::Lost,
@@ -148,7 +148,7 @@ impl<R: Wait + Clock + Drop> Guest<R> {
     /// The guest as it is given out at this moment, to come back under its token. `None` without memory.
     pub(crate) fn lend(&self, token: usize, ahead: Vec<u8>, now: u64) -> Option<ReadyGuest<R>> {
         let peer = self.peer.share().ok()?;
-        peer.lend();
+        peer.stream.lend();
         self.since.store(now, Ordering::SeqCst);
         Some(ReadyGuest {
             role: self.role,

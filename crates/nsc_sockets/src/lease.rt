@@ -48,10 +48,10 @@ impl<R: Wait + Clock + Drop> Drop for Lease<R> {
             is_served,
         } = self;
         if !is_served {
-            peer.end();
+            peer.stream.end();
         }
         // Without memory for one more handle the connection stays lent, and ends once it has been so for too long.
-        if let Ok(stream) = peer.stream() {
+        if let Ok(stream) = peer.share_stream() {
             peer.hand_over(Departure::Take(Taking {
                 stream,
                 registry,

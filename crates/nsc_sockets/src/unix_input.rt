@@ -129,8 +129,8 @@ fn read_until<R: Wait + Clock + Drop>(
     if left.is_zero() {
         return Err(io::Error::from(ErrorKind::TimedOut));
     }
-    match peer.read(buf) {
-        Err(error) if may_pass(&error) => peer.read_within(buf, left),
+    match peer.stream.read(buf) {
+        Err(error) if may_pass(&error) => peer.stream.read_within(buf, left),
         outcome => outcome,
     }
 }

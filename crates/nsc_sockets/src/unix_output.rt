@@ -95,7 +95,7 @@ impl<T: Wait + Clock + Drop> UnixOutput<T> {
         ensures faults { self.new.faults ≡ self.old.faults }
     {
         self.widen(bytes.len());
-        match self.peer.write(bytes) {
+        match self.peer.stream.write(bytes) {
             Err(error) if may_pass(&error) => self.send_slowly(bytes),
             outcome => outcome,
         }
@@ -106,7 +106,7 @@ impl<T: Wait + Clock + Drop> UnixOutput<T> {
         ensures faults { self.new.faults ≡ self.old.faults }
     {
         if self.is_narrow && size > NARROW as usize {
-            self.peer.bound_unsent(WIDE);
+            self.peer.stream.bound_unsent(WIDE);
             self.is_narrow = false;
         }
     }
@@ -136,7 +136,7 @@ impl<T: Wait + Clock + Drop> UnixOutput<T> {
             let Some(left) = time_left(is_patient && !self.is_over(), begun, now) else {
                 break;
             };
-            match self.peer.write_within(part, turn_of(left)) {
+            match self.peer.stream.write_within(part, turn_of(left)) {
                 Err(error) if may_pass(&error) => {}
                 outcome => return outcome,
             }
@@ -174,7 +174,7 @@ fn turn_of(left: Duration) -> Duration {
 impl<T: Wait + Clock + Drop> Attended for UnixOutput<T> {
     /// Asks poll(2) for POLLHUP: a peer that only sends no more has not gone.
     fn has_gone(&self) -> bool {
-        self.peer.has_gone()
+        self.peer.stream.has_gone()
     }
 }
 
@@ -198,7 +198,7 @@ impl<T: Wait + Clock + Drop> Sink for UnixOutput<T> {
         match self.send(bytes) {
             Ok(count) if count > 0 || bytes.is_empty() => {
                 if self.patience.is_some() {
-                    self.peer.note_answered();
+                    self.peer.stream.note_answered();
                 }
                 Ok(count)
             }
@@ -216,10 +216,10 @@ impl<T: Wait + Clock + Drop> Sink for UnixOutput<T> {
         ensures calm { OnOk result (self.new.faults ≡ self.old.faults) }
         ensures failed { OnErr result (Rose self.old.faults self.new.faults) }
     {
-        match self.peer.write(bytes) {
+        match self.peer.stream.write(bytes) {
             Ok(count) => {
                 if count == bytes.len() && self.patience.is_some() {
-                    self.peer.note_answered();
+                    self.peer.stream.note_answered();
                 }
                 Ok(count)
             }

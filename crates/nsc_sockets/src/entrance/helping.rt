@@ -15,7 +15,7 @@ use std::sync::atomic::Ordering;
 use std::sync::{Arc, Wait};
 use std::time::Clock;
 
-// A helper is woken if so many connections in a row were found at the first look.
+// How many connections in a row are found at the first look before a helper is woken.
 const STREAK: u32 = 8;
 
 impl<R: Wait + Clock + Clone + Drop> Entrance<R> {

@@ -7,16 +7,17 @@ use std::sync::Wait;
 use std::time::{Clock, Duration};
 use std::{io, thread};
 
-// While connections are near each other, so many turns pass without sleep.
+// How many turns pass without sleep while connections are near each other.
 const WAKEFUL: u32 = 50;
 
 impl<R: Wait + Clock + Clone + Drop> Entrance<R> {
-    /// Asks what the system tells, without waiting, if that was not done for a while: connections at one socket must not keep it from telling
-    /// of others. If it cannot be asked, the next call tries again.
+    /// Asks what the system tells, without waiting, if that was not done for a while: connections at one socket must not keep it from
+    /// telling of others. It does not ask while connections that it told of wait for a look, whose list is bounded. If it cannot be
+    /// asked, the next call tries again.
     pub(super) fn ask_if_due(&mut self, now: Duration) {
         self.unasked = self.unasked.saturating_add(1);
         let is_due = now.saturating_sub(self.asked) >= Duration::from_millis(ASKED);
-        if is_due || self.unasked >= UNASKED {
+        if self.stirred.is_empty() && (is_due || self.unasked >= UNASKED) {
             let _ = self.ask(now, Duration::ZERO);
         }
     }
