@@ -6,6 +6,8 @@ import subprocess
 from running import check
 from tables import DATABASES
 
+MERGE = "its list in nsswitch.conf has the action merge"
+SEVERAL = "the C library joins the groups of a user over its list"
 # nsswitch.conf, files beside it, and the databases that are not served whole: by their names alone those that are left to the C library, with
 # a + those that are served found only; each with the service that is not known, or with another reason behind a colon.
 LISTS = (
@@ -39,8 +41,27 @@ LISTS = (
     ("hosts: files\npasswd: compat\npasswd_compat files\n", {"passwd": "+\n"}, "passwd: the line of passwd_compat in nsswitch.conf has no colon"),
     ("hosts:\tfiles [NOTFOUND=return]\n", {}, ""),
     (" hosts : files\npasswd:files systemd\n", {}, "passwd+ systemd"),
-    ("hosts: files\npasswd: files\ngroup: files [SUCCESS=merge] extrausers\n", {}, "group: its list in nsswitch.conf has the action merge"),
-    ("hosts: files\npasswd: extrausers files\ngroup: files extrausers\n", {}, ""),
+    # Groups are merged as the C library merges them only if all services are built in, and each before the last has this rule alone.
+    ("hosts: files\ngroup: files [SUCCESS=merge] extrausers\n", {}, ""),
+    ("hosts: files\ngroup: compat[ Success = Merge ]extrausers [SUCCESS=merge SUCCESS=merge] files [SUCCESS=merge]\n", {"group": "a:x:1:\n"}, ""),
+    ("hosts: files\ngroup: db [SUCCESS=merge] files\n", {}, ""),
+    ("hosts: files\ngroup: files [SUCCESS=merge] extrausers\ninitgroups: files\n", {}, "group+: nsswitch.conf has a line of initgroups"),
+    ("hosts: files\ngroup: files [SUCCESS=merge] extrausers files\n", {}, f"group: {MERGE}"),
+    ("hosts: files\ngroup: extrausers files [SUCCESS=merge] compat\n", {"group": "a:x:1:\n"}, f"group: {MERGE}"),
+    ("hosts: files\ngroup: files [SUCCESS=merge] extrausers [SUCCESS=continue]\n", {}, f"group: {MERGE}"),
+    ("hosts: files\ngroup: files [SUCCESS=merge NOTFOUND=continue] extrausers\n", {}, f"group: {MERGE}"),
+    ("hosts: files\ngroup: files [!NOTFOUND=merge] extrausers\n", {}, f"group: {MERGE}"),
+    ("hosts: files\ngroup: files [NOTFOUND=merge] extrausers\n", {}, f"group: {MERGE}"),
+    ("hosts: files\ngroup: files [SUCCESS=merge] extrausers [SUCCESS=merge] systemd\n", {}, f"group: {MERGE}"),
+    ("hosts: files\ngroup: files [SUCCESS=merge] [\n", {}, "group: its list in nsswitch.conf is not in form"),
+    ("hosts: files\ngroup: sss [SUCCESS=merge] files\n", {}, f"group: {MERGE}"),
+    ("hosts: files\ngroup: compat\ngroup_compat: files [SUCCESS=merge] extrausers\n", {"group": "+\n"}, f"group: {MERGE}"),
+    ("hosts: files\npasswd: files [SUCCESS=merge] extrausers\n", {}, f"passwd: {MERGE}"),
+    ("hosts: files [SUCCESS=merge] files\nservices: files [SUCCESS=merge] db\n", {}, f"hosts: {MERGE}; services: {MERGE}"),
+    ("hosts: files\npasswd: extrausers files\ngroup: files extrausers\n", {}, f"group+: {SEVERAL}"),
+    ("hosts: files\ngroup: extrausers\n", {}, ""),
+    ("hosts: files\ngroup: db files\n", {}, ""),
+    ("hosts: files\ngroup: compat [NOTFOUND=return] extrausers\n", {"group": "a:x:1:\n"}, f"group+: {SEVERAL}"),
     ("hosts: files extrausers\n", {}, "hosts extrausers"),
     ("hosts: files\nservices: db files\n", {}, ""),
     ("hosts: files\npasswd: compat\ngroup: compat\n", {}, ""),
@@ -68,7 +89,7 @@ LISTS = (
     ("hosts: files\npasswd: files [!NOTFOUND = Continue] sss\n", {}, "passwd sss"),
     ("hosts: files\npasswd: files [!SUCCESS=continue] sss\n", {}, "passwd+ sss"),
     ("hosts: files\npasswd: files sss [SUCCESS=continue] ldap\n", {}, "passwd+ sss"),
-    ("hosts: files\npasswd: files sss\ngroup: files [SUCCESS=merge] sss\n", {}, "passwd+ sss; group: its list in nsswitch.conf has the action merge"),
+    ("hosts: files\npasswd: files sss\ngroup: files [SUCCESS=merge] sss\n", {}, f"passwd+ sss; group: {MERGE}"),
     ("hosts: files\npasswd: files sss\npasswd: files\n", {}, "passwd: nsswitch.conf has two lines of passwd"),
     ("hosts: files\npasswd: files sss\n", {"passwd": "ann:x:5:6\n"}, "passwd: line 1 of ETC/passwd has fewer than seven fields"),
     ("hosts: files\npasswd: sss files\n", {"passwd": "ann:x:5:6\n"}, "passwd sss"),

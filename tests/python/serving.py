@@ -24,7 +24,7 @@ def left_case():
                 (etc / name).write_text(text)
             found = says(serve, "left")
             check(found == NOT_RUNNING + all_of(wanted.replace("ETC", str(etc))), f"{switch!r}, {files}: {found!r}, and not {wanted!r}")
-            check(says(serve, "left", NSCD_SERVE=" ".join(DATABASES)) == NOT_RUNNING + all_of(""), f"{switch!r}: NSCD_SERVE does not count")
+            check(says(serve, "left", NSCD_SERVE="\t\n".join(DATABASES)) == NOT_RUNNING + all_of(""), f"{switch!r}: NSCD_SERVE does not count")
             shutil.rmtree(etc)
         etc.mkdir()
         (etc / "nsswitch.conf").write_text("hosts: files dns\n")

@@ -72,7 +72,13 @@ READ = (
         {},
         "passwd+ ldap; group+ ldap; hosts dns",
     ),
-    ("Debian 12 with libnss-extrausers", "libnss-extrausers 0.6-4.1, README", EXTRA, PLAIN, "hosts dns"),
+    (
+        "Debian 12 with libnss-extrausers",
+        "libnss-extrausers 0.6-4.1, README",
+        EXTRA,
+        PLAIN,
+        "group+: the C library joins the groups of a user over its list; hosts dns",
+    ),
     ("the same with signs", "libnss-extrausers 0.6-4.1, README", EXTRA, SIGNS, "passwd nis; group nis; hosts dns"),
 )
 # Lists that are said to be theirs; no package of these systems was read.
