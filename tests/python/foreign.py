@@ -14,6 +14,7 @@ from serving import Served
 
 USERS = 5000
 TWICE = 2
+ACCOUNTS = ("getpwnam_r", "getpwuid_r", "getgrnam_r", "getgrgid_r", "initgroups_dyn")
 # Files of our own over the system's, the module, and the folder of the sockets if one is named.
 INSIDE = """set -e
 mount --bind "$1" /etc
@@ -83,14 +84,15 @@ def large(seed):
     return twice + twice[::-1] + numbers
 
 
-def built(top, theirs):
-    """The folder of the module; none if there is no compiler."""
+def built(top, theirs, service="foreign"):
+    """The folder of the module, whose users and groups are a service of this name; none if there is no compiler."""
     compiler = shlex.split(os.environ.get("CC", "cc"))
     if shutil.which(compiler[0]) is None:
         return None
     where = top / "module"
     where.mkdir()
-    words = [*compiler, "-Wall", "-Wextra", "-Werror", "-O1", "-shared", "-fPIC", f'-DFOLDER="{theirs}"', "-o", where / "libnss_foreign.so.2"]
+    names = [f"-D_nss_foreign_{call}=_nss_{service}_{call}" for call in ACCOUNTS] if service != "foreign" else []
+    words = [*compiler, "-Wall", "-Wextra", "-Werror", "-O1", "-shared", "-fPIC", f'-DFOLDER="{theirs}"', *names, "-o", where / f"libnss_{service}.so.2"]
     done = subprocess.run([*words, ROOT / "tests/c/foreign.c"], capture_output=True, timeout=60, check=False)
     check(done.returncode == 0, f"foreign.c: {done.stderr.decode()}")
     return where
@@ -151,12 +153,17 @@ def under(run, namespace, module, service, owned):
     return count
 
 
-def foreign_case():
+def lacking():
+    """What is not there that clients in namespaces of their own need; nothing if all is."""
     for word in ("unshare", "mount", "getent", "id", "python3"):
         if shutil.which(word) is None:
             return f"skipped, since there is no {word}"
-    if not asks_a_daemon():
-        return "skipped, since the C library of this machine asks no daemon"
+    return "" if asks_a_daemon() else "skipped, since the C library of this machine asks no daemon"
+
+
+def foreign_case():
+    if lacking():
+        return lacking()
     with folder() as top:
         theirs, owned = top / "theirs", top / "owned"
         module = built(top, theirs)

@@ -128,6 +128,8 @@ def answer(line, ask):
     if requests is None:
         return b"bad line\n"
     for kind, key in requests:
+        if kind not in FAMILIES.values() and b"\0" in key:
+            continue  # No entry has such a name, and the other socket would cut it at that byte.
         text = reply_text(kind, ask(kind, key))
         if text is not None:
             return text + b"\n"

@@ -12,6 +12,7 @@ import guarded
 from foreign import foreign_case
 from keeping import kept_case
 from machine import container_case, force_case, init_case, package_case, systemd_case, upgrade_case
+from merging import merging_case
 from monitoring import monitoring_case
 from places import completions_case, made_case, manuals_case, places_case
 from running import PROGRAM, Fault
@@ -38,6 +39,7 @@ CASES = {
     "names": names_case,
     "reload": reload_case,
     "foreign": foreign_case,
+    "merging": merging_case,
     "second": second_case,
     "kept": kept_case,
     "monitoring": monitoring_case,
@@ -52,7 +54,7 @@ CASES = {
     "upgrade": upgrade_case,
 }
 # These run the program.
-RUNNING = ("settings", "reload", "foreign", "second", "kept", "monitoring", "calls", "init", "container", "package", "systemd", "upgrade")
+RUNNING = ("settings", "reload", "foreign", "merging", "second", "kept", "monitoring", "calls", "init", "container", "package", "systemd", "upgrade")
 
 
 def main(names):

@@ -32,6 +32,7 @@ CALLS = {
     "getgrnam": grp.getgrnam,
     "getgrgid": lambda gid: grp.getgrgid(int(gid)),
     "initgroups": lambda name: os.getgrouplist(name, 7),
+    "setofgroups": lambda name: sorted(set(os.getgrouplist(name, 7))),
     "getaddrinfo": addresses,
     "gethostbyname": socket.gethostbyname_ex,
     "gethostbyaddr": socket.gethostbyaddr,

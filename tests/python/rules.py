@@ -24,6 +24,7 @@ DATABASE = {
     "service": "services",
     "port": "services",
 }
+JOINED_LIMIT = 134_217_728  # bytes of a group's reply
 MINUS_ONE = b"\xff\xff\xff\xff"
 NOT_FOUND = {
     "passwd": number(2) + number(0) * 3 + MINUS_ONE * 2 + number(0) * 3,
@@ -245,12 +246,10 @@ def in_compat(files, kind, key):
 
 
 def groups_in(files, key):
-    """The groups of a user in the file of the service that ends the compat list, where that has any."""
-    status, _, service = asked_in_turn(files, "group_compat", "groups-of", key)
-    if status != SUCCESS:
-        return []
-    text = files["group" if service == "files" else "extra-group"]
-    groups = [account(line, 4) for line in lines_of(text)]
+    """The groups of a user in the files of the services whose rows the compat list takes."""
+    taken = asked_in_turn(files, "group_compat", "groups-of", key)[2]
+    texts_of_them = [files["group" if service == "files" else "extra-group"] for service in taken]
+    groups = [account(line, 4) for text in texts_of_them for line in lines_of(text)]
     return [group for group in groups if group and key in members(group)]
 
 
@@ -265,13 +264,29 @@ def in_service(files, service, name, kind, key):
     return UNAVAIL, None
 
 
+def joined(kind, held, row):
+    """The row that is held, with what a later one adds to it."""
+    if kind == "groups-of":
+        return held + [group for group in row if group not in held]
+    both = [*held[:3], held[3] + b"," + row[3]]
+    is_one = held[0] == row[0] and held[2] == row[2]
+    return both if is_one and len(spelled(kind, both)) <= JOINED_LIMIT else held
+
+
 def asked_in_turn(files, name, kind, key):
-    """The outcome of a list, and the service that it comes from."""
-    for service, actions in service_list(files, name):
+    """The outcome of a list, and the services whose rows are in it: more than one if rows of groups are merged."""
+    held, taken = None, []
+    steps = service_list(files, name)
+    for place, (service, actions) in enumerate(steps, 1):
         status, row = in_service(files, service, name, kind, key)
-        if actions[status] != "continue":
+        if actions[status] == "continue" and place < len(steps):
+            continue
+        if status == SUCCESS:
+            held = joined(kind, held, row) if taken else row
+            taken.append(service)
+        if actions[status] != "merge" or status != SUCCESS or DATABASE[kind] != "group":
             break
-    return status, row, service
+    return SUCCESS if taken else status, held, taken
 
 
 def switch(files, name, kind, key):

@@ -34,12 +34,21 @@ LISTS = [
     "files ! extrausers",
     "",
 ]
+GROUP_LISTS = LISTS + 3 * [
+    *["files [SUCCESS=merge] extrausers", "extrausers [SUCCESS=merge] compat"] * 4,
+    "compat [SUCCESS=merge] extrausers [SUCCESS=merge] files",
+    "files [SUCCESS=merge] extrausers [SUCCESS=continue] nis",
+    "files[Success=Merge]extrausers [SUCCESS=continue]",
+    "files [!UNAVAIL=merge] extrausers",
+    "extrausers [SUCCESS=merge] files [NOTFOUND=merge UNAVAIL=return] extrausers",
+]
 ACCOUNTS = [
     *["NAME:x:ID:100:G NAME:/home/NAME:/bin/sh"] * 4,
     *["  NAME::ID:ID:::", "NAME:x:ID", "#NAME:x:ID:1:::", "NAME:x:x:1:::", "NAME:x:ID:1::\0:"],
 ]
 GROUPS = [
-    *["NAME:x:ID:NAMES"] * 4,
+    *["NAME:x:ID:NAMES"] * 3,
+    *["ann:x:1:NAMES", "bob:x:2:NAMES", "cid:x:3:NAMES", "eve:x:4:NAMES"] * 2,
     *[" NAME::ID:", "NAME:x:ID:NAMES:", "NAME:x:99999999999:NAMES", "NAME:x:ID:,NAMES,,OTHER"],
 ]
 COMPAT = [
@@ -130,7 +139,7 @@ class Maker:
 
     def __init__(self, seed):
         self.dice = random.Random(seed)
-        self.database = self.dice.choice(frames.DATABASES)  # the one that is asked most
+        self.database = self.dice.choice([*frames.DATABASES, "group"])  # the one that is asked most
         self.requests = [self.request() for _ in range(self.dice.choice([2, 4, 8]))]
         self.files = dict.fromkeys(frames.FILES)
         self.now = 0
@@ -168,9 +177,10 @@ class Maker:
     def file(self, name):
         pick = self.dice.choice
         if name == "switch":
-            lines = [f"{name}{pick(['', ' '])}: {pick(LISTS)}{pick(['', ' # x'])}" for name in ("passwd", "group")]
+            lists = {"passwd": LISTS, "group": GROUP_LISTS}
+            lines = [f"{name}{pick(['', ' '])}: {pick(own)}{pick(['', ' # x'])}" for name, own in lists.items()]
             lines += [f"{name}: {pick(['files', 'files', 'db files', pick(LISTS)])}" for name in ("hosts", "services")]
-            lines += [f"{name}_compat: {pick(LISTS)}" for name in ("passwd", "group")]
+            lines += [f"{name}_compat: {pick(own)}" for name, own in lists.items()]
             lines += [pick(lines), "", "# passwd: nis"]
             self.dice.shuffle(lines)
             lines = lines[pick([0, 0, 2]) :]
@@ -185,7 +195,7 @@ class Maker:
         kind = pick([kind for kind in frames.TYPES if rules.DATABASE[kind] == self.database] * 3 + list(frames.TYPES))
         name, number = pick(NAMES * 3 + ["zed", ""]), pick([1, 2, 3, 4])
         if kind in ("uid", "gid"):
-            key = pick([f"{number}", f"0{number}", name, f" {number}", "4294967297"]).encode()
+            key = pick([f"{number}"] * 3 + [f"0{number}", name, f" {number}", "4294967297"]).encode()
         elif kind in ("address", "address6"):
             key = pick([bytes([10, 0, 0, number]), b"\xfd" + bytes(14) + bytes([number]), b"\n\0\0"])
         elif kind == "service":
@@ -193,7 +203,7 @@ class Maker:
         elif kind == "port":
             key = (pick([f"{number * 256}", f"{number}", "65535", "65536", name]) + pick(["", "/", "/tcp", "/udp"])).encode()
         else:
-            key = pick([name, name.upper()]).encode()
+            key = pick([name, name, name.upper()]).encode()
         return kind, key
 
     def ask(self):

@@ -45,7 +45,7 @@ class Maker(contents.Maker):
         return front + pick(["", "", " ", "\t ", "\r"]) + pick([":", ":", ":", ":", "", "::"]) + pick([" ", "", "\t"]) + text
 
     def switch(self):
-        lists = [f"{name}: {self.dice.choice(seeded.LISTS)}" for name in NAMES]
+        lists = [f"{name}: {self.dice.choice(seeded.GROUP_LISTS if name.startswith('group') else seeded.LISTS)}" for name in NAMES]
         lines = [self.list_line() if self.dice.random() < 0.5 else self.dice.choice(lists) for _ in range(self.dice.randint(0, 10))]
         return "\n".join(lines).encode("latin1") + self.dice.choice([b"", b"\n"])
 

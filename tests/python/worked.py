@@ -37,6 +37,7 @@ sys.dont_write_bytecode = True
 import frames
 
 PIECE = re.compile(r'(?:"((?:[^"\\]|\\.)*)"|\$([\w-]+)|([0-9a-f]+))(?:\*(\d+))?')
+SHOWN = 1000  # bytes of a reply
 ESCAPE = re.compile(rb"\\(x[0-9a-f]{2}|.)")
 ESCAPES = {b"0": b"\0", b"n": b"\n", b"t": b"\t", b"r": b"\r", b"\\": b"\\", b'"': b'"'}
 
@@ -201,7 +202,8 @@ def read_cases(path):
 
 
 def shown(reply):
-    return reply.hex(" ", -4) or "empty"
+    more = f" and {len(reply) - SHOWN} more bytes" if len(reply) > SHOWN else ""
+    return (reply[:SHOWN].hex(" ", -4) or "empty") + more
 
 
 def faults_of(case, program):
