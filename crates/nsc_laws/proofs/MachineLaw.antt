@@ -12,18 +12,18 @@ use Rattle.nsc_model.specs.Content.{Content}
 use Rattle.nsc_model.specs.Files.{part_of}
 use Rattle.nsc_model.specs.Entry.{Entry}
 use Rattle.nsc_model.specs.declared.conf.DbConf.{DbConf}
-use Rattle.nsc_model.specs.Answers.{answer_of}
+use Rattle.nsc_model.specs.Answers.{answer_of, request_beside}
 use Rattle.nsc_model.specs.History.{version_in, IsLive, Answered}
 use Rattle.nsc_laws.specs.Core.{Caller, Core, opening, Files, Look, Replies}
 use Rattle.nsc_model.specs.Live.{HasEntry}
-use Rattle.nsc_model.specs.Machine.{Kept, Cache, new_cache, Passed, Stopped, unchanged, ◌>>=◌, polled, Candidate, tried, tried_all, candidates_of, kept_answer, cached, used_now, loaded, hit_or_load, lookup, invalidated, compacted_after, ends_of, due_cause, candidate_again, reloaded, due_of, others_of, reloaded_of, pruned, is_outdated, checked, tick}
+use Rattle.nsc_model.specs.Machine.{Kept, Cache, new_cache, Passed, Stopped, unchanged, ◌>>=◌, polled, Candidate, tried, tried_by, tried_all, tried_with, made_then, candidates_beside, candidates_of, kept_answer, new_entry, Refusal, refusal, room_of, cached, used_now, loaded, hit_or_load, lookup, invalidated, compacted_after, ends_of, due_cause, candidate_again, reloaded, due_of, others_of, reloaded_of, pruned, is_outdated, checked, tick}
 use Rattle.nsc_laws.specs.Calls.{entries_of, Drives, IsTurned, PassesBy, TurnsBy}
 use Rattle.nsc_laws.proofs.Requests.{same_request}
 use Rattle.nsc_laws.proofs.CoreLaw.{changed, begun, taking, answered_law}
 use Rattle.nsc_laws.proofs.MachineLawLists.{found, used_entries}
 use Rattle.nsc_laws.proofs.MachineLawEnds.{ends_after, invalidations_ends, polled_ends, finishes, finishes_own, ended, ends_run, due_allowed, due_live, due_rise, pruned_tells}
 use Rattle.nsc_laws.proofs.MachineLawSteps.{Step, one_step, then_step, silent_step, runs_append, CallerStands, Looked, retold, gains_on, caller_on, begin_step, begin_stands, Went, Nothing, Comes, comes_after, comes_then, stays, moved, passes, driven}
-use Rattle.nsc_laws.proofs.MachineLawParts.{Polled, poll_comes, Tried, tries, tries_all, compacts, invalid_comes}
+use Rattle.nsc_laws.proofs.MachineLawParts.{Polled, poll_comes, MayInsertAll, Tried, tries, tries_all, compacts, invalid_comes}
 
 abbrev given : ℕ → Option ℕ
 given n = Some n
@@ -41,7 +41,7 @@ reloads db a event settings now (one ∷ others) core c cache s l =
     let c1 = begun c (Some one.request) event in
     let core1 = changed core a c1 in
     let first = tried settings now one cache in
-    let t = tries db a event core1 c1 settings now one cache (begin_stands a event core c cache one.request s) (record { version_is = l.version_is; noted_is = l.noted_is; was = l.was }) refl in
+    let t = tries db a event core1 c1 settings now one cache (begin_stands a event core c cache one.request s) (record { version_is = l.version_is; noted_is = l.noted_is; was = l.was }) (inl refl) in
     let w = reloads db a event settings now others t.new c1 first.cache t.stands t.looked in
     record {
       new = w.new;
@@ -140,11 +140,31 @@ hits db a old request cache k s among same =
       source = inl (k.entry, ap (λ (x : Caller). x.taken) s2.caller_is, refl);
     }
 
+-- what goes with an entry is of the caller's request
+beside_may : (c : Caller) (settings : DbConf) (request : Request) (files : Content) (o : Option Request) → request_beside files request ≡ o → c.request ≡ Some request → MayInsertAll files c (candidates_beside settings o)
+beside_may c settings request files None e is = tt
+beside_may c settings request files (Some id) e is = elim settings.propagate as (λ v. MayInsertAll files c (cond v (candidates_of id) [])) [ true ↦ (inr (request, is, e), tt) | false ↦ tt ]
+
 keeps : (db : Db) (a : ℕ) (event : List Record) (core : Core) (c : Caller) (settings : DbConf) (now : ℕ) (request : Request) (cache : Cache) → CallerStands a event core c cache → Looked core.history c cache → c.request ≡ Some request
     → Tried db a event core c cache (kept_answer settings now request cache).adds (kept_answer settings now request cache).cache
 keeps db a event core c settings now request cache s l is = by_test settings.enabled where
-  by_test : (b : Bool) → Tried db a event core c cache (cond b (tried_all settings now (candidates_of request) cache) (unchanged cache)).adds (cond b (tried_all settings now (candidates_of request) cache) (unchanged cache)).cache
-  by_test true = tries_all db a event core c settings now (candidates_of request) cache s l (is, tt)
+  by_cause : (o : Option Refusal) → Tried db a event core c cache (tried_by o (new_entry settings now (record { request = request; reloads = 0 }) cache) cache).adds (tried_by o (new_entry settings now (record { request = request; reloads = 0 }) cache) cache).cache
+      → let p = made_then o (tried_by o (new_entry settings now (record { request = request; reloads = 0 }) cache) cache) (tried_all settings now (candidates_beside settings (request_beside cache.sources request))) in Tried db a event core c cache p.adds p.cache
+  by_cause None t =
+      let first = tried_by None (new_entry settings now (record { request = request; reloads = 0 }) cache) cache in
+      let rest = tries_all db a event t.new c settings now (candidates_beside settings (request_beside cache.sources request)) first.cache t.stands t.looked (beside_may c settings request cache.sources (request_beside cache.sources request) refl is) in
+      record {
+        new = rest.new;
+        step = then_step db a event core t.new rest.new first.adds (tried_all settings now (candidates_beside settings (request_beside cache.sources request)) first.cache).adds t.step rest.step;
+        stands = rest.stands;
+        looked = rest.looked;
+        same_version = rest.same_version ∙ t.same_version;
+        same_sources = rest.same_sources ∙ t.same_sources;
+      }
+  by_cause (Some cause) t = t
+
+  by_test : (b : Bool) → Tried db a event core c cache (cond b (tried_with settings now request cache) (unchanged cache)).adds (cond b (tried_with settings now request cache) (unchanged cache)).cache
+  by_test true = by_cause (refusal (room_of settings) cache.epoch (new_entry settings now (record { request = request; reloads = 0 }) cache).entry cache) (tries db a event core c settings now (record { request = request; reloads = 0 }) cache s l (inl is))
   by_test false = tries_all db a event core c settings now [] cache s l tt
 
 abbrev asks : Core → ℕ → Request → Core

@@ -10,14 +10,14 @@ use Rattle.nsc_model.specs.declared.record.Ending.{Ending}
 use Rattle.nsc_model.specs.declared.record.Ending.TheVariants.{Expired, Replaced}
 use Rattle.nsc_model.specs.declared.record.Record.{Record}
 use Rattle.nsc_model.specs.declared.record.Record.TheVariants.{Change, Poll, Load, End, Invalid}
-use Rattle.nsc_model.specs.Answers.{answer_of}
+use Rattle.nsc_model.specs.Answers.{answer_of, request_beside}
 use Rattle.nsc_model.specs.Content.{Content}
 use Rattle.nsc_model.specs.Entry.{Entry, kept_limit}
 use Rattle.nsc_model.specs.Files.{same_files}
 use Rattle.nsc_model.specs.History.{IsPrefix, WasPolled, load_of}
 use Rattle.nsc_model.specs.Kinds.{is_request}
 use Rattle.nsc_model.specs.Live.{HasEntry}
-use Rattle.nsc_model.specs.Machine.{◌>>=◌, Cache, Candidate, Kept, Passed, Refusal, Discarded, Full, Spent, TooLarge, Stopped, all_words, by_invalidation, cached, candidate_again, candidates_of, checked, compacted_after, due_cause, due_ended, due_of, emptied, ends_of, entry_words, hit_or_load, invalidated, is_dropped, is_due, is_outdated, kept_answer, last_count, live_entry, loaded, lookup, new_entry, next_count, or_later, overtaken, polled, present_cause, pruned, reloaded, after_adds, reloaded_of, room_of, stopped, tick, tried, tried_all, tried_by, unchanged, used_now}
+use Rattle.nsc_model.specs.Machine.{◌>>=◌, Cache, Candidate, Kept, Passed, Refusal, Discarded, Full, Spent, TooLarge, Stopped, all_words, by_invalidation, cached, candidate_again, candidates_beside, made_then, tried_with, refusal, checked, compacted_after, due_cause, due_ended, due_of, emptied, ends_of, entry_words, hit_or_load, invalidated, is_dropped, is_due, is_outdated, kept_answer, last_count, live_entry, loaded, lookup, new_entry, next_count, or_later, overtaken, polled, present_cause, pruned, reloaded, after_adds, reloaded_of, room_of, stopped, tick, tried, tried_all, tried_by, unchanged, used_now}
 use Rattle.nsc_model.specs.Stores.{AreLoadedAgain, IsLoadedAfter, IsLoadedAgain, words_of}
 use Rattle.nsc_laws.specs.Calls.{Tells, entries_of}
 use Rattle.nsc_laws.specs.Reloading.{PassesThen, TurnsThen}
@@ -281,13 +281,27 @@ goes_ticked limit settings now files ticked cache h g = by_enabled settings.enab
   by_enabled true = passes_then (GoesOn (room_of settings) []) (Goes (room_of settings) []) (Stays (room_of settings)) h (polled files cache) (checked settings limit now ticked) (goes_polled (room_of settings) files cache h g) (λ c l a. by_checks c l a (is_outdated settings c.newest_version ticked))
   by_enabled false = g
 
+goes_with : (settings : DbConf) (now : ℕ) (request : Request) (c : Cache) (h : List Record) → GoesOn (room_of settings) [] c h → Goes (room_of settings) [] (tried_with settings now request c).cache ((tried_with settings now request c).adds ++ h)
+goes_with settings now request c h g =
+    by_cause (refusal (room_of settings) c.epoch (new_entry settings now (record { request = request; reloads = 0 }) c).entry c) (λ others. goes_tried settings now (record { request = request; reloads = 0 }) others c h (wider others)) where
+      wider : (others : List Candidate) → GoesOn (room_of settings) (record { request = request; reloads = 0 } ∷ others) c h
+      wider others =
+          record { goes = record { tells = g.goes.tells; used_is = g.goes.used_is; again = but_wider (room_of settings) (Waits []) (Waits (record { request = request; reloads = 0 } ∷ others)) h (λ r none. absurd none) g.goes.again }; was = g.was }
+
+      by_cause : (o : Option Refusal) → ((others : List Candidate) → GoesPast (room_of settings) others h (tried_by o (new_entry settings now (record { request = request; reloads = 0 }) c) c))
+          → let p = made_then o (tried_by o (new_entry settings now (record { request = request; reloads = 0 }) c) c) (tried_all settings now (candidates_beside settings (request_beside c.sources request))) in Goes (room_of settings) [] p.cache (p.adds ++ h)
+      by_cause None first =
+          let done = tried_by None (new_entry settings now (record { request = request; reloads = 0 }) c) c in
+          let all = candidates_beside settings (request_beside c.sources request) in
+          let rest = tried_all settings now all done.cache in
+          subst (Goes (room_of settings) [] rest.cache) (sym (append_assoc rest.adds done.adds h)) (goes_tried_all settings now all done.cache (done.adds ++ h) (first all))
+      by_cause (Some cause) first = (first []).goes
+
 pub goes_looked : (settings : DbConf) (now : ℕ) (files : Content) (request : Request) (cache : Cache) (h : List Record) → Goes (room_of settings) [] cache h → TurnsThen (Goes (room_of settings) []) (Stays (room_of settings)) h (lookup settings now files request cache)
 unfolding lookup
 goes_looked settings now files request cache h g = by_entry (cached settings request cache) where
-  by_kept : (c : Cache) (l : List Record) → GoesOn (room_of settings) [] c l → (b : Bool) → let after : Passed = cond b (tried_all settings now (candidates_of request) c) (unchanged c) in Goes (room_of settings) [] after.cache (after.adds ++ l)
-  by_kept c l a true =
-      goes_tried_all settings now (candidates_of request) c l
-      (record { goes = record { tells = a.goes.tells; used_is = a.goes.used_is; again = but_wider (room_of settings) (Waits []) (Waits (candidates_of request)) l (λ r none. absurd none) a.goes.again }; was = a.was })
+  by_kept : (c : Cache) (l : List Record) → GoesOn (room_of settings) [] c l → (b : Bool) → let after : Passed = cond b (tried_with settings now request c) (unchanged c) in Goes (room_of settings) [] after.cache (after.adds ++ l)
+  by_kept c l a true = goes_with settings now request c l a
   by_kept c l a false = a.goes
 
   by_poll : (r : Result Passed Stopped) → PassesThen (GoesOn (room_of settings) []) (Stays (room_of settings)) h r → TurnsThen (Goes (room_of settings) []) (Stays (room_of settings)) h (loaded settings now request r)

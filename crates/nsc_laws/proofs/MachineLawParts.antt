@@ -223,7 +223,7 @@ refused db a event core c cache failed s l = record {
   same_sources = refl;
 }
 
-inserts : (db : Db) (a : ℕ) (event : List Record) (core : Core) (c : Caller) (settings : DbConf) (now : ℕ) (one : Candidate) (cache : Cache) → CallerStands a event core c cache → Looked core.history c cache → MayInsert c one.request
+inserts : (db : Db) (a : ℕ) (event : List Record) (core : Core) (c : Caller) (settings : DbConf) (now : ℕ) (one : Candidate) (cache : Cache) → CallerStands a event core c cache → Looked core.history c cache → MayInsert cache.sources c one.request
     → live_entry one.request cache.entries ≡ None → Tried db a event core c cache (Load (new_entry settings now one cache).entry ∷ []) (inserted_by (new_entry settings now one cache) cache)
 inserts db a event core c settings now one cache s l may absent =
     let h = core.history in
@@ -237,7 +237,7 @@ inserts db a event core c settings now one cache s l may absent =
             k.entry,
             record {
               content = cache.sources;
-              allowed = ap (λ (x : Caller). x.request) s.caller_is ∙ may;
+              allowed = subst (λ (x : Caller). MayInsert cache.sources x one.request) (sym s.caller_is) may;
               request_is = refl;
               version_is = ap (λ (x : Caller). x.version) s.caller_is ∙ l.version_is;
               noted_is = ap (λ (x : Caller). x.noted) s.caller_is ∙ l.noted_is;
@@ -255,7 +255,7 @@ inserts db a event core c settings now one cache s l may absent =
       same_sources = refl;
     }
 
-pub tries : (db : Db) (a : ℕ) (event : List Record) (core : Core) (c : Caller) (settings : DbConf) (now : ℕ) (one : Candidate) (cache : Cache) → CallerStands a event core c cache → Looked core.history c cache → MayInsert c one.request
+pub tries : (db : Db) (a : ℕ) (event : List Record) (core : Core) (c : Caller) (settings : DbConf) (now : ℕ) (one : Candidate) (cache : Cache) → CallerStands a event core c cache → Looked core.history c cache → MayInsert cache.sources c one.request
     → Tried db a event core c cache (tried settings now one cache).adds (tried settings now one cache).cache
 tries db a event core c settings now one cache s l may = by_cause (refusal (room_of settings) cache.epoch (new_entry settings now one cache).entry cache) refl where
   by_cause : (o : Option Refusal) → refusal (room_of settings) cache.epoch (new_entry settings now one cache).entry cache ≡ o
@@ -268,17 +268,17 @@ tries db a event core c settings now one cache s l may = by_cause (refusal (room
   by_cause (Some (Full need free)) e = refused db a event core c cache (min (cache.add_failed + 1) last_count) s l
 
 -- one after the other, in one call
-abbrev pub MayInsertAll : Caller → List Candidate → Type 0
-MayInsertAll c [] = Unit {0}
-MayInsertAll c (one ∷ others) = MayInsert c one.request × MayInsertAll c others
+abbrev pub MayInsertAll : Content → Caller → List Candidate → Type 0
+MayInsertAll files c [] = Unit {0}
+MayInsertAll files c (one ∷ others) = MayInsert files c one.request × MayInsertAll files c others
 
-pub tries_all : (db : Db) (a : ℕ) (event : List Record) (core : Core) (c : Caller) (settings : DbConf) (now : ℕ) (all : List Candidate) (cache : Cache) → CallerStands a event core c cache → Looked core.history c cache → MayInsertAll c all
+pub tries_all : (db : Db) (a : ℕ) (event : List Record) (core : Core) (c : Caller) (settings : DbConf) (now : ℕ) (all : List Candidate) (cache : Cache) → CallerStands a event core c cache → Looked core.history c cache → MayInsertAll cache.sources c all
     → Tried db a event core c cache (tried_all settings now all cache).adds (tried_all settings now all cache).cache
 tries_all db a event core c settings now [] cache s l may = record { new = core; step = no_step db a event core; stands = s; looked = l; same_version = refl; same_sources = refl }
 tries_all db a event core c settings now (one ∷ others) cache s l may =
     let first = tried settings now one cache in
     let t = tries db a event core c settings now one cache s l may.0 in
-    let rest = tries_all db a event t.new c settings now others first.cache t.stands t.looked may.1 in
+    let rest = tries_all db a event t.new c settings now others first.cache t.stands t.looked (subst (λ (files : Content). MayInsertAll files c others) (sym t.same_sources) may.1) in
     record {
       new = rest.new;
       step = then_step db a event core t.new rest.new first.adds (tried_all settings now others first.cache).adds t.step rest.step;

@@ -8,13 +8,14 @@ use Rattle.nsc_model.specs.declared.record.Ending.{Ending}
 use Rattle.nsc_model.specs.declared.record.Ending.TheVariants.{Expired, Replaced}
 use Rattle.nsc_model.specs.declared.record.Record.{Record}
 use Rattle.nsc_model.specs.declared.record.Record.TheVariants.{Change, Poll, Load, End, Invalid}
+use Rattle.nsc_model.specs.Answers.{request_beside}
 use Rattle.nsc_model.specs.Content.{Content}
 use Rattle.nsc_model.specs.Entry.{Entry}
 use Rattle.nsc_model.specs.Files.{same_files}
 use Rattle.nsc_model.specs.History.{load_of}
 use Rattle.nsc_model.specs.Kinds.{is_request}
-use Rattle.nsc_model.specs.Machine.{◌>>=◌, Cache, Candidate, Kept, Passed, Refusal, Stopped, after_adds, all_words, by_invalidation, cached, candidate_again, candidates_of, checked, compacted_after, due_cause, due_ended, due_of, emptied, ends_of, hit_or_load, invalidated, is_dropped, is_outdated, kept_answer, last_count, loaded, lookup, new_entry, next_count, others_of, polled, pruned, reached, refusal, reloaded, reloaded_of, room_of, stopped, tick, tried, tried_all, tried_by, unchanged, used_now}
-use Rattle.nsc_model.specs.Reloads.{IsDropped, Reloaded, one_of, replaced}
+use Rattle.nsc_model.specs.Machine.{◌>>=◌, Cache, Candidate, Kept, Passed, Refusal, Stopped, after_adds, all_words, by_invalidation, cached, candidate_again, candidates_beside, candidates_of, made_then, tried_with, checked, compacted_after, due_cause, due_ended, due_of, emptied, ends_of, hit_or_load, invalidated, is_dropped, is_outdated, kept_answer, last_count, loaded, lookup, new_entry, next_count, others_of, polled, pruned, reached, refusal, reloaded, reloaded_of, room_of, stopped, tick, tried, tried_all, tried_by, unchanged, used_now}
+use Rattle.nsc_model.specs.Reloads.{IsDropped, Reloaded, one_of, replaced, none_brought}
 use Rattle.nsc_laws.specs.Reloading.{PassesThen, TurnsThen}
 use Rattle.nsc_laws.proofs.MachineLawEnds.{ends_after}
 use Rattle.nsc_laws.proofs.MachineLawPasses.{passes_after, passes_then}
@@ -72,12 +73,12 @@ counted_used request h n (k ∷ ks) a = (by_test (is_request request k.entry.req
 
 -- entries ended for good only as ticks and invalidations end them, and each live one is counted
 pub record Meets (limit : Option ℕ) (cache : Cache) (h : List Record) : Type 0 where
-  pub ended : Reloaded limit h
+  pub ended : Reloaded none_brought limit h
   pub entries_are : AllCounted h cache.inserted cache.entries
 
 -- what is known where an event stops
 abbrev pub Ends : Option ℕ → Cache → List Record → Type 0
-Ends limit cache h = Reloaded limit h
+Ends limit cache h = Reloaded none_brought limit h
 
 meets_polled : (limit : Option ℕ) (files : Content) (cache : Cache) (h : List Record) → Meets limit cache h → PassesThen (Meets limit) (Ends limit) h (polled files cache)
 meets_polled limit files cache h m = by_same (same_files files cache.sources) (eqb cache.newest_version last_count) where
@@ -93,7 +94,7 @@ meets_polled limit files cache h m = by_same (same_files files cache.sources) (e
   }
 
 -- a compaction, where there is one, leaves entries and history
-meets_compacted : (others : Cache → List Record → Type 0) (limit : Option ℕ) (ks : List Kept) (cache : Cache) (h : List Record) → Reloaded limit h → ((used cycle : ℕ) → others (record cache { used = used; cycle = cycle }) h) → PassesThen others (Ends limit) h (compacted_after ks cache)
+meets_compacted : (others : Cache → List Record → Type 0) (limit : Option ℕ) (ks : List Kept) (cache : Cache) (h : List Record) → Reloaded none_brought limit h → ((used cycle : ℕ) → others (record cache { used = used; cycle = cycle }) h) → PassesThen others (Ends limit) h (compacted_after ks cache)
 meets_compacted others limit [] cache h ended on = on cache.used cache.cycle
 meets_compacted others limit (k ∷ ks) cache h ended on = by_cycle (ltb cache.cycle last_count) where
   by_cycle : (b : Bool) → PassesThen others (Ends limit) h (cond b (Ok (unchanged (record cache { cycle = cache.cycle + 2; used = all_words cache.entries }))) (Err (stopped cache)))
@@ -102,9 +103,9 @@ meets_compacted others limit (k ∷ ks) cache h ended on = by_cycle (ltb cache.c
 
 -- ---- invalidations
 
-reloaded_emptied : (limit : Option ℕ) (cache : Cache) (h : List Record) → Reloaded limit h → Reloaded limit ((emptied cache).adds ++ h)
+reloaded_emptied : (limit : Option ℕ) (cache : Cache) (h : List Record) → Reloaded none_brought limit h → Reloaded none_brought limit ((emptied cache).adds ++ h)
 reloaded_emptied limit cache h r =
-    subst (λ (l : List Record). Reloaded limit (Invalid (cache.epoch + 1) ∷ l)) (sym (ends_after by_invalidation cache.entries [] h)) (record { dropped = dropped_through limit cache.entries h r.dropped; invalidated = tt })
+    subst (λ (l : List Record). Reloaded none_brought limit (Invalid (cache.epoch + 1) ∷ l)) (sym (ends_after by_invalidation cache.entries [] h)) (record { dropped = dropped_through limit cache.entries h r.dropped; invalidated = tt })
 
 pub meets_invalidated : (limit : Option ℕ) (cache : Cache) (h : List Record) → Meets limit cache h → PassesThen (Meets limit) (Ends limit) h (invalidated cache)
 unfolding invalidated
@@ -168,20 +169,20 @@ meets_tried limit settings now (one ∷ others) cache h few m =
 
 -- ---- prunings
 
-why_dropped : (limit : Option ℕ) (h : List Record) (k : Kept) → k.reloads ≤ replaced h k.entry.request → is_dropped limit k ≡ true → IsDropped limit h (Some k.entry)
+why_dropped : (limit : Option ℕ) (h : List Record) (k : Kept) → k.reloads ≤ replaced h k.entry.request → is_dropped limit k ≡ true → IsDropped none_brought limit h (Some k.entry)
 why_dropped limit h k few is = by_absent k.entry.answer.not_found refl is where
-  by_limit : (l : Option ℕ) → limit ≡ l → reached l k.reloads ≡ true → IsDropped limit h (Some k.entry)
+  by_limit : (l : Option ℕ) → limit ≡ l → reached l k.reloads ≡ true → IsDropped none_brought limit h (Some k.entry)
   by_limit None e on = absurd cc
   by_limit (Some most) e on = inr (most, e, (let low = leb-true most k.reloads on in omega arith))
 
-  by_absent : (b : Bool) → k.entry.answer.not_found ≡ b → (b || reached limit k.reloads) ≡ true → IsDropped limit h (Some k.entry)
+  by_absent : (b : Bool) → k.entry.answer.not_found ≡ b → (b || reached limit k.reloads) ≡ true → IsDropped none_brought limit h (Some k.entry)
   by_absent true e on = inl e
   by_absent false e on = by_limit limit refl on
 
 right_cause : (limit : Option ℕ) (now : ℕ) (h : List Record) (n : ℕ) (k : Kept) → IsCounted h n k → IsRight limit h k.entry.number (due_cause limit now k)
 right_cause limit now h n k c = by_drop (is_dropped limit k) refl where
   by_drop : (b : Bool) → is_dropped limit k ≡ b → IsRight limit h k.entry.number (cond b (Expired now) Replaced)
-  by_drop true is = subst (IsDropped limit h) (sym c.loaded_is) (why_dropped limit h k c.counted is)
+  by_drop true is = subst (IsDropped none_brought limit h) (sym c.loaded_is) (why_dropped limit h k c.counted is)
   by_drop false is = tt
 
 -- one end goes onward
@@ -195,7 +196,7 @@ ends_onward cause (k ∷ ks) h n =
     let rest = ends_onward cause ks (End k.entry.number (cause k) ∷ h) n in
     record { counts = λ request. (let a = first.counts request in let b = rest.counts request in omega arith); loads_are = λ i low. rest.loads_are i low ∙ first.loads_are i low; more = omega arith }
 
-reloaded_ends : (limit : Option ℕ) (now n : ℕ) (ks : List Kept) (h : List Record) → AllCounted h n ks → Reloaded limit h → Reloaded limit (ends_of (due_cause limit now) ks h)
+reloaded_ends : (limit : Option ℕ) (now n : ℕ) (ks : List Kept) (h : List Record) → AllCounted h n ks → Reloaded none_brought limit h → Reloaded none_brought limit (ends_of (due_cause limit now) ks h)
 reloaded_ends limit now n [] h a r = r
 reloaded_ends limit now n (k ∷ ks) h a r =
     let h' : List Record = End k.entry.number (due_cause limit now k) ∷ h in
@@ -224,7 +225,7 @@ meets_pruned limit settings now cache h m =
     let all = reloaded_of limit due in
     let h' : List Record = ends.adds ++ h in
     let seen : h' ≡ ends_of (due_cause limit now) due h = ends_after (due_cause limit now) due [] h in
-    let ended = subst (Reloaded limit) (sym seen) (reloaded_ends limit now cache.inserted due h counted m.ended) in
+    let ended = subst (Reloaded none_brought limit) (sym seen) (reloaded_ends limit now cache.inserted due h counted m.ended) in
     let left = subst (λ (l : List Record). AllCounted l cache.inserted (others_of now cache.entries)) (sym seen)
     (counted_on h (ends_of (due_cause limit now) due h) cache.inserted cache.inserted (others_of now cache.entries) (ends_onward (due_cause limit now) due h cache.inserted) (counted_filter (λ (k : Kept). not (ltb k.entry.timeout now)) h cache.inserted cache.entries m.entries_are)) in
     let few = subst (λ (l : List Record). AllFew l (map candidate_again all)) (sym seen) (few_again limit now cache.inserted due h counted) in
@@ -246,11 +247,29 @@ meets_ticked limit settings now files ticked cache h m = by_enabled settings.ena
   by_enabled true = passes_then (Meets limit) (Meets limit) (Ends limit) h (polled files cache) (checked settings limit now ticked) (meets_polled limit files cache h m) (λ c l a. by_checks c l a (is_outdated settings c.newest_version ticked))
   by_enabled false = m
 
+-- what goes with an entry was not reloaded
+few_beside : (settings : DbConf) (h : List Record) (o : Option Request) → AllFew h (candidates_beside settings o)
+few_beside settings h None = tt
+few_beside settings h (Some id) = elim settings.propagate as (λ v. AllFew h (cond v (candidates_of id) [])) [ true ↦ (omega arith, tt) | false ↦ tt ]
+
+meets_with : (limit : Option ℕ) (settings : DbConf) (now : ℕ) (request : Request) (c : Cache) (h : List Record) → Meets limit c h → Meets limit (tried_with settings now request c).cache ((tried_with settings now request c).adds ++ h)
+meets_with limit settings now request c h m =
+    by_cause (refusal (room_of settings) c.epoch (new_entry settings now (record { request = request; reloads = 0 }) c).entry c)
+    (tries limit (refusal (room_of settings) c.epoch (new_entry settings now (record { request = request; reloads = 0 }) c).entry c) (new_entry settings now (record { request = request; reloads = 0 }) c) c h refl (omega arith) m) where
+      by_cause : (o : Option Refusal) → Tries limit h (tried_by o (new_entry settings now (record { request = request; reloads = 0 }) c) c)
+          → let p = made_then o (tried_by o (new_entry settings now (record { request = request; reloads = 0 }) c) c) (tried_all settings now (candidates_beside settings (request_beside c.sources request))) in Meets limit p.cache (p.adds ++ h)
+      by_cause None first =
+          let done = tried_by None (new_entry settings now (record { request = request; reloads = 0 }) c) c in
+          let all = candidates_beside settings (request_beside c.sources request) in
+          subst (Meets limit (tried_all settings now all done.cache).cache) (sym (append_assoc (tried_all settings now all done.cache).adds done.adds h))
+          (meets_tried limit settings now all done.cache (done.adds ++ h) (few_beside settings (done.adds ++ h) (request_beside c.sources request)) first.meets)
+      by_cause (Some cause) first = first.meets
+
 pub meets_looked : (limit : Option ℕ) (settings : DbConf) (now : ℕ) (files : Content) (request : Request) (cache : Cache) (h : List Record) → Meets limit cache h → TurnsThen (Meets limit) (Ends limit) h (lookup settings now files request cache)
 unfolding lookup
 meets_looked limit settings now files request cache h m = by_entry (cached settings request cache) where
-  by_kept : (c : Cache) (l : List Record) → Meets limit c l → (b : Bool) → let after : Passed = cond b (tried_all settings now (candidates_of request) c) (unchanged c) in Meets limit after.cache (after.adds ++ l)
-  by_kept c l a true = meets_tried limit settings now (candidates_of request) c l (omega arith, tt) a
+  by_kept : (c : Cache) (l : List Record) → Meets limit c l → (b : Bool) → let after : Passed = cond b (tried_with settings now request c) (unchanged c) in Meets limit after.cache (after.adds ++ l)
+  by_kept c l a true = meets_with limit settings now request c l a
   by_kept c l a false = a
 
   by_poll : (r : Result Passed Stopped) → PassesThen (Meets limit) (Ends limit) h r → TurnsThen (Meets limit) (Ends limit) h (loaded settings now request r)

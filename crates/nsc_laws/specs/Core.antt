@@ -10,7 +10,7 @@ use Rattle.nsc_model.specs.Content.{Content}
 use Rattle.nsc_model.specs.Files.{part_of}
 use Rattle.nsc_model.specs.Entry.{Entry}
 use Rattle.nsc_model.specs.Live.{AreLive}
-use Rattle.nsc_model.specs.Answers.{answer_of}
+use Rattle.nsc_model.specs.Answers.{answer_of, request_beside}
 use Rattle.nsc_model.specs.History.{changes, loads, invalidations, newest, version_in, IsLive, NoneLiveOf, Allows, IsPrefix, Answered}
 
 -- A caller: its request, or none where it only learns what happened, and what it had seen at the start of its call; the number of invalidations that it noted, the
@@ -70,15 +70,15 @@ abbrev pub IsPoll : List Record → Content → Record → ℕ → Type 0
 IsPoll history content poll n =
     ((newest history ≡ Some content) × (n + 1 ≡ changes history) × (poll ≡ Poll n)) ⊎ ((newest history ≢ Some content) × (n ≡ changes history) × (poll ≡ Change n content))
 
--- the requests of which a caller may insert an entry: its own
-abbrev pub MayInsert : Caller → Request → Type 0
-MayInsert caller request = caller.request ≡ Some request
+-- the requests of which a caller may insert an entry over a content: its own, and the id request beside it, if there is one
+abbrev pub MayInsert : Content → Caller → Request → Type 0
+MayInsert content caller request = (caller.request ≡ Some request) ⊎ ((own : Request) × (caller.request ≡ Some own) × (request_beside content own ≡ Some request))
 
--- the entry of a request that a caller inserts: of one that it may insert, over its version, where it noted the present number
--- of invalidations and no entry of the request is live
+-- the entry that a caller inserts for a request: it is over the caller's version, if the caller may insert one of the request, noted the
+-- present number of invalidations, and no entry of the request is live
 pub record IsInsertion (history : List Record) (caller : Caller) (request : Request) (timeout : ℕ) (e : Entry) : Type 0 where
   pub content : Content
-  pub allowed : MayInsert caller request
+  pub allowed : MayInsert content caller request
   pub request_is : e.request ≡ request
   pub version_is : caller.version ≡ Some e.version
   pub noted_is : caller.noted ≡ Some (invalidations history)

@@ -5,20 +5,20 @@ use Rattle.nsc_model.specs.declared.record.Record.{Record}
 use Rattle.nsc_model.specs.Files.{part_of}
 use Rattle.nsc_model.specs.declared.conf.DbConf.{DbConf}
 use Rattle.nsc_model.specs.Machine.{Cache, Passed, Stopped, Turn, last_count, room_of, lookup, tick, ticked_by, invalidated}
-use Rattle.nsc_model.specs.Reloads.{Reloaded}
+use Rattle.nsc_model.specs.Reloads.{Reloaded, none_brought}
 use Rattle.nsc_model.specs.Stores.{AreLoadedAgain}
 use Rattle.nsc_laws.specs.Calls.{Event, Lookup, Tick, Invalidation}
 
 -- between two events: entries ended for good only as ticks and invalidations end them, and each one that ended to be loaded again was
 -- loaded again, or could not be
 pub record AreSettled (settings : DbConf) (limit : Option ℕ) (history : List Record) : Type 0 where
-  pub ended : Reloaded limit history
+  pub ended : Reloaded none_brought limit history
   pub again : AreLoadedAgain (room_of settings) history
 
 -- so also where an event stopped, unless no more compactions can be counted: an event that stops there may have ended entries, and loads
 -- none again
 pub record AreStopped (settings : DbConf) (limit : Option ℕ) (cache : Cache) (history : List Record) : Type 0 where
-  pub ended : Reloaded limit history
+  pub ended : Reloaded none_brought limit history
   pub again : AreLoadedAgain (room_of settings) history ⊎ (last_count ≤ cache.cycle)
 
 -- an event passes, and the first holds of what comes after it; or it stops, and the second holds of what it leaves

@@ -1,5 +1,5 @@
 -- What is answered over a content: the outcome of each service, the switch over a service list (nsswitch.conf(5)), and the reply's bytes.
-use Rattle.std.specs.Prelude.{ℕ, ◌==◌, nat_le, Bool, true, false, not, ◌&&◌, if◌then◌else◌, List, [], ◌∷◌, ◌++◌, length, map, filter, flat_map, Option, Some, None}
+use Rattle.std.specs.Prelude.{ℕ, ◌==◌, nat_le, Bool, true, false, not, ◌&&◌, if◌then◌else◌, List, [], ◌∷◌, ◌++◌, length, map, filter, flat_map, decimal, Option, Some, None}
 use Rattle.std.specs.List.{list_any}
 use Rattle.std.specs.Str.{bytes_eq}
 use Rattle.nsc_model.specs.declared.kind.Kind.{Kind}
@@ -338,3 +338,15 @@ looked_up files request = switched request.kind (service_answer files request) (
 -- the answer to a request over a content
 unfoldable pub answer_of : Content → Request → Answer
 answer_of files request = marked request.kind (looked_up files request)
+
+-- ---- the request by id beside a request by name
+
+-- the request by id for a found row of a request by name; there is none for any other
+abbrev pub id_request : Kind → Looked → Option Request
+id_request kind.PwName (Found (row.Passwd p)) = Some (record { kind = kind.PwUid; key = decimal p.uid })
+id_request kind.GrName (Found (row.Group g)) = Some (record { kind = kind.GrGid; key = decimal g.gid })
+id_request _ _ = None
+
+-- the request by id for the row that the switch finds over a content
+abbrev pub request_beside : Content → Request → Option Request
+request_beside files request = id_request request.kind (looked_up files request)

@@ -1,7 +1,6 @@
--- The machine that the cache of a database is: its events, each with the records that it adds to the history. One caller
--- drives it, and each of its insertions notes the present epoch; so none comes after an invalidation that it did not note, and,
--- since live entries have different requests, none finds its request live. The parts of the events stand apart, over what each of
--- them needs, also for many callers.
+-- The machine that the cache of a database is: its events, each with the records that it adds to the history. One caller drives it. Each
+-- of its insertions notes the present epoch, so none comes after an invalidation that it did not note. Only the insertion of an id request
+-- can find its request live. The parts of the events stand apart, over what each of them needs, also for many callers.
 use Rattle.std.specs.Prelude.{ℕ, ◌+◌, ◌-◌, ◌*◌, ◌^◌, ◌==◌, nat_lt, nat_le, min, Bool, false, not, ◌&&◌, ◌||◌, if◌then◌else◌, List, [], ◌∷◌, ◌++◌, length, map, filter, find, sum_by, Option, Some, None, Result, Ok, Err}
 use Rattle.nsc_base.specs.Nodes.{node_words}
 use Rattle.nsc_model.specs.declared.answer.Request.{Request}
@@ -15,7 +14,7 @@ use Rattle.nsc_model.specs.Files.{same_files}
 use Rattle.nsc_model.specs.Answer.{Answer}
 use Rattle.nsc_model.specs.Entry.{Entry, kept_limit}
 use Rattle.nsc_model.specs.declared.conf.DbConf.{DbConf}
-use Rattle.nsc_model.specs.Answers.{answer_of}
+use Rattle.nsc_model.specs.Answers.{answer_of, request_beside}
 
 -- where every count ends
 abbrev pub last_count : ℕ
@@ -162,7 +161,7 @@ tried_by (Some (Present number)) k cache = unchanged cache
 tried_by (Some (Spent count)) k cache = unchanged cache
 tried_by (Some (Full need free)) k cache = unchanged (record cache { add_failed = next_count cache.add_failed })
 
--- an insertion is tried, which notes the present epoch
+-- an insertion is tried; it notes the present epoch
 abbrev pub tried : DbConf → ℕ → Candidate → Cache → Passed
 tried settings now one cache = let k = new_entry settings now one cache in tried_by (refusal (room_of settings) cache.epoch k.entry cache) k cache
 
@@ -176,7 +175,7 @@ tried_all settings now (one ∷ others) cache =
 
 -- ---- lookups
 
--- the live entry that answers a request, where the database is cached
+-- the live entry that answers a request, if the database is cached
 abbrev pub cached : DbConf → Request → Cache → Option Kept
 cached settings request cache = if settings.enabled then live_entry request cache.entries else None
 
@@ -187,13 +186,30 @@ used_by request k = if is_request request k.entry.request then record k { reload
 abbrev pub used_now : Request → List Kept → List Kept
 used_now request entries = map (used_by request) entries
 
--- what a lookup inserts: an entry of its request, which was not reloaded yet
+-- what a lookup inserts for a request, with a count of reloads of 0
 abbrev pub candidates_of : Request → List Candidate
 candidates_of request = record { request = request; reloads = 0 } ∷ []
 
--- after the poll of a lookup its insertions are tried, where the database is cached
+-- a further part is done if an insertion was made, and not if it was refused
+abbrev pub made_then : Option Refusal → Passed → (Cache → Passed) → Passed
+made_then None first next = let rest = next first.cache in record { cache = rest.cache; adds = rest.adds ++ first.adds }
+made_then (Some cause) first next = first
+
+-- what a lookup by name tries to insert beside its entry, if there is an id request and `auto-propagate` is on (nscd.conf(5))
+abbrev pub candidates_beside : DbConf → Option Request → List Candidate
+candidates_beside settings None = []
+candidates_beside settings (Some id) = if settings.propagate then candidates_of id else []
+
+-- the insertion of a lookup is tried; if it was made, so is that of the id request, if there is one
+abbrev pub tried_with : DbConf → ℕ → Request → Cache → Passed
+tried_with settings now request cache =
+    let k = new_entry settings now (record { request = request; reloads = 0 }) cache in
+    let refused = refusal (room_of settings) cache.epoch k.entry cache in
+    made_then refused (tried_by refused k cache) (tried_all settings now (candidates_beside settings (request_beside cache.sources request)))
+
+-- after the poll of a lookup its insertions are tried, if the database is cached
 abbrev pub kept_answer : DbConf → ℕ → Request → Cache → Passed
-kept_answer settings now request cache = if settings.enabled then tried_all settings now (candidates_of request) cache else unchanged cache
+kept_answer settings now request cache = if settings.enabled then tried_with settings now request cache else unchanged cache
 
 -- a poll, and then the answer over the newest version
 abbrev pub loaded : DbConf → ℕ → Request → Result Passed Stopped → Result Turn Stopped
@@ -206,7 +222,8 @@ abbrev pub hit_or_load : Option Kept → DbConf → ℕ → Content → Request 
 hit_or_load (Some k) settings now files request cache = Ok (record { cache = record cache { entries = used_now request cache.entries }; adds = []; reply = k.entry.answer.bytes })
 hit_or_load None settings now files request cache = loaded settings now request (polled files cache)
 
--- a lookup: the reply of the live entry of the request, whose time is not looked at, or else a poll and its answer
+-- A lookup. A live entry of the request gives its reply, whatever its time, and its count of reloads is 0 then. Else there is a poll, the
+-- answer over the version that it found, and the insertions.
 unfoldable pub lookup : DbConf → ℕ → Content → Request → Cache → Result Turn Stopped
 lookup settings now files request cache = hit_or_load (cached settings request cache) settings now files request cache
 
@@ -216,7 +233,7 @@ lookup settings now files request cache = hit_or_load (cached settings request c
 abbrev pub compacted : Cache → Result Passed Stopped
 compacted cache = if nat_lt cache.cycle last_count then Ok (unchanged (record cache { cycle = cache.cycle + 2; used = all_words cache.entries })) else Err (stopped cache)
 
--- a compaction where any entry was ended
+-- a compaction, if any entry was ended
 abbrev pub compacted_after : List Kept → Cache → Result Passed Stopped
 compacted_after [] cache = Ok (unchanged cache)
 compacted_after (k ∷ ended) cache = compacted cache
@@ -236,7 +253,7 @@ emptied cache = record {
   adds = Invalid (cache.epoch + 1) ∷ ends_of by_invalidation cache.entries [];
 }
 
--- an invalidation: its ends, and a compaction where any entry was ended
+-- an invalidation: its ends, and a compaction if any entry was ended
 unfoldable pub invalidated : Cache → Result Passed Stopped
 invalidated cache =
     if cache.epoch == last_count then Err (stopped cache) else (
@@ -260,7 +277,7 @@ is_dropped reloads k = k.entry.answer.not_found || reached reloads k.reloads
 abbrev pub due_cause : Option ℕ → ℕ → Kept → Ending
 due_cause reloads now k = if is_dropped reloads k then Expired now else Replaced
 
--- what is inserted where an entry is reloaded
+-- what is inserted if an entry is reloaded
 abbrev pub candidate_again : Kept → Candidate
 candidate_again k = record { request = k.entry.request; reloads = next_count k.reloads }
 
@@ -286,7 +303,7 @@ due_ended reloads now cache = record {
   adds = ends_of (due_cause reloads now) (due_of now cache.entries) [];
 }
 
--- a pruning: its ends, a compaction where any entry was ended, and then those that are not dropped are reloaded
+-- a pruning: its ends, a compaction if any entry was ended, and then those that are not dropped are reloaded
 abbrev pub pruned : DbConf → Option ℕ → ℕ → Cache → Result Passed Stopped
 pruned settings reloads now cache =
     let due = due_of now cache.entries in
@@ -297,7 +314,7 @@ pruned settings reloads now cache =
 abbrev pub is_outdated : DbConf → ℕ → ℕ → Bool
 is_outdated settings newest ticked = settings.check_files && not (newest == ticked)
 
--- after the poll of a tick: an invalidation where the files changed since the version that the last tick found, after which
+-- after the poll of a tick: an invalidation if the files changed since the version that the last tick found, after which
 -- nothing is left to prune
 abbrev pub checked : DbConf → Option ℕ → ℕ → ℕ → Cache → Result Passed Stopped
 checked settings reloads now ticked cache = if is_outdated settings cache.newest_version ticked then invalidated cache else pruned settings reloads now cache
@@ -306,12 +323,12 @@ checked settings reloads now ticked cache = if is_outdated settings cache.newest
 unfoldable pub tick : DbConf → Option ℕ → ℕ → Content → ℕ → Cache → Result Passed Stopped
 tick settings reloads now files ticked cache = if settings.enabled then (polled files cache >>= checked settings reloads now ticked) else Ok (unchanged cache)
 
--- the version that a tick found which left this cache: the newest one; where the database is not cached, that of the last tick
+-- the version that a tick found which left this cache: the newest one; if the database is not cached, that of the last tick
 abbrev pub ticked_by : DbConf → ℕ → Cache → ℕ
 ticked_by settings ticked after = if settings.enabled then after.newest_version else ticked
 
--- the version that a tick keeps which stops after this poll: the newest one where it stops at its pruning, and that of the last
--- tick where it stops before
+-- the version that a tick keeps which stops after this poll: the newest one if it stops at its pruning, and that of the last tick if it
+-- stops before
 abbrev pub ticked_after : DbConf → ℕ → Result Passed Stopped → ℕ
 ticked_after settings ticked (Ok poll) = if is_outdated settings poll.cache.newest_version ticked then ticked else poll.cache.newest_version
 ticked_after settings ticked (Err stop) = ticked

@@ -23,21 +23,26 @@ replaced (End number Invalidated ∷ before) request = replaced before request
 replaced (End number Replaced ∷ before) request = replaced before request + one_of request (load_of before number)
 replaced (Invalid epoch ∷ before) request = replaced before request
 
--- an entry that ends since its time is over, and is not loaded again: its reply is a not-found one, or as many entries of its
--- request as the limit says ended before to be loaded again; none is the limit that no count reaches (nscd.conf(5), reload-count)
-abbrev pub IsDropped : Option ℕ → List Record → Option Entry → Type 0
-IsDropped limit before None = Unit {0}
-IsDropped limit before (Some e) = (e.answer.not_found ≡ true) ⊎ ((most : ℕ) × (limit ≡ Some most) × (most ≤ replaced before e.request))
+-- nothing was brought back by an image
+abbrev pub none_brought : Request → ℕ
+none_brought request = 0
 
-abbrev pub AreDropped : Option ℕ → List Record → Type 0
-AreDropped limit [] = Unit {0}
-AreDropped limit (Change version content ∷ before) = AreDropped limit before
-AreDropped limit (Poll version ∷ before) = AreDropped limit before
-AreDropped limit (Load entry ∷ before) = AreDropped limit before
-AreDropped limit (End number (Expired now) ∷ before) = IsDropped limit before (load_of before number) × AreDropped limit before
-AreDropped limit (End number Invalidated ∷ before) = AreDropped limit before
-AreDropped limit (End number Replaced ∷ before) = AreDropped limit before
-AreDropped limit (Invalid epoch ∷ before) = AreDropped limit before
+-- An entry that ends since its time is over, and is not loaded again: its reply is a not-found one, or its request was reloaded as often as
+-- the limit says (nscd.conf(5), reload-count). None is the limit that no count reaches. Each entry of the request that ended before to be
+-- loaded again is one reload, and an image brings back the count of those that it tells.
+abbrev pub IsDropped : (Request → ℕ) → Option ℕ → List Record → Option Entry → Type 0
+IsDropped brought limit before None = Unit {0}
+IsDropped brought limit before (Some e) = (e.answer.not_found ≡ true) ⊎ ((most : ℕ) × (limit ≡ Some most) × (most ≤ brought e.request + replaced before e.request))
+
+abbrev pub AreDropped : (Request → ℕ) → Option ℕ → List Record → Type 0
+AreDropped brought limit [] = Unit {0}
+AreDropped brought limit (Change version content ∷ before) = AreDropped brought limit before
+AreDropped brought limit (Poll version ∷ before) = AreDropped brought limit before
+AreDropped brought limit (Load entry ∷ before) = AreDropped brought limit before
+AreDropped brought limit (End number (Expired now) ∷ before) = IsDropped brought limit before (load_of before number) × AreDropped brought limit before
+AreDropped brought limit (End number Invalidated ∷ before) = AreDropped brought limit before
+AreDropped brought limit (End number Replaced ∷ before) = AreDropped brought limit before
+AreDropped brought limit (Invalid epoch ∷ before) = AreDropped brought limit before
 
 -- after each end by an invalidation the invalidation itself stands
 abbrev pub AreInvalidated : List Record → Type 0
@@ -51,11 +56,11 @@ AreInvalidated (End number Replaced ∷ before) = AreInvalidated before
 AreInvalidated (Invalid epoch ∷ before) = Unit {0}
 
 -- entries end for good only as ticks and invalidations end them
-pub record Reloaded (limit : Option ℕ) (history : List Record) : Type 0 where
-  pub dropped : AreDropped limit history
+pub record Reloaded (brought : Request → ℕ) (limit : Option ℕ) (history : List Record) : Type 0 where
+  pub dropped : AreDropped brought limit history
   pub invalidated : AreInvalidated history
 
--- the newest version at the last invalidation; the first one where there was none
+-- the newest version at the last invalidation; the first one if there was none
 abbrev pub invalidated_at : List Record → ℕ
 invalidated_at [] = 0
 invalidated_at (Change version content ∷ before) = invalidated_at before

@@ -25,11 +25,11 @@ use Rattle.nsc_model.specs.Files.{file_limit}
 use Rattle.nsc_model.specs.Entry.{Entry, kept_limit}
 use Rattle.nsc_model.specs.Growth.{IsArena, MayGrow, arena_after}
 use Rattle.nsc_model.specs.History.{Answered, HasLoad, HasEnd, IsFit, IsLive, EndedAfter, IsPrefix, Legal, LookedBetween, NoneLive, invalidations, load_of, loads, version_in}
-use Rattle.nsc_model.specs.Image.{ImageBytes, saved_of}
+use Rattle.nsc_model.specs.Image.{ImageBytes, image_version, saved_of}
 use Rattle.nsc_model.specs.Live.{AreLive}
 use Rattle.nsc_model.specs.Reads.{FaultsStay, FileFailed, IsLookedUp, IsMade, IsOfHeld}
 use Rattle.nsc_model.specs.Reloads.{Reloaded}
-use Rattle.nsc_model.specs.Machine.{entry_words, last_count, life_of, room_of}
+use Rattle.nsc_model.specs.Machine.{Kept, entry_words, last_count, life_of, room_of}
 
 -- what a call leaves of what its caller has seen: it goes on from what was seen before, is legal, and the files of its versions are within
 -- their limits
@@ -206,27 +206,27 @@ pub record IsCounted (settings : DbConf) (words : ℕ) (after : List Record) (st
   pub within : stats.used ≤ stats.arena
   pub newest : IsArena settings words stats.arena
 
--- the bytes are the image of the live entries of this history
+-- the bytes are the image, in version 3, of the live entries of this history, each with any count of reloads
 pub record IsImageOf (which : Db) (history : List Record) (bytes : List ℕ) : Type 0 where
-  pub entries : List Entry
-  pub live : AreLive history entries
-  pub spelled : ImageBytes which (map saved_of entries) bytes
+  pub entries : List Kept
+  pub live : AreLive history (map (λ k. k.entry) entries)
+  pub spelled : ImageBytes which image_version (map saved_of entries) bytes
 
--- a tick at this moment looked at a version, and the stale entries ended: every one that had been seen whose time was over, and, where
--- changes of the files count, whose version is another one
+-- a tick at this moment looked at a version, and the stale entries ended: every one that had been seen whose time was over, and, if
+-- changes of the files count, each whose version is another one
 pub record EndsStale (settings : DbConf) (now : ℕ) (seen after : List Record) : Type 0 where
   pub version : ℕ
   pub looked : LookedBetween seen after version
   pub over : (e : Entry) → HasLoad seen e → e.timeout < now → HasEnd after e.number
   pub outdated : OnTrue settings.check_files ((e : Entry) → HasLoad seen e → e.version ≢ version → HasEnd after e.number)
 
--- a tick at this moment read the files, looked at the version that they are, and ended what was stale
-pub record IsTicked (which : Db) (before_reads after_reads : FileId → ℕ) (latest : FileId → Option (Option (List ℕ))) (settings : DbConf) (limit : Option ℕ) (now : ℕ) (seen after : List Record) (last_cycle : Type 0) : Type 0 where
+-- a tick at this moment read the files, looked at the version that they are, ended what was stale, and loaded again what was to be
+pub record IsTicked (which : Db) (before_reads after_reads : FileId → ℕ) (latest : FileId → Option (Option (List ℕ))) (settings : DbConf) (brought : Request → ℕ) (limit : Option ℕ) (now : ℕ) (seen after : List Record) (last_cycle : Type 0) : Type 0 where
   pub ends : EndsStale settings now seen after
   pub content : Content
   pub version_is : version_in after ends.version ≡ Some content
   pub files : IsLookedUp which before_reads after_reads latest content
-  pub reloaded : Reloaded limit after
+  pub reloaded : Reloaded brought limit after
   pub again : AreLoadedAgain (room_of settings) after ⊎ last_cycle
 
 -- why a tick gave up: as a lookup does; or no count of faults changed, and one that its ends need stands at its end
@@ -273,9 +273,9 @@ GivesUpAt settings before after request cause =
     GivesUp settings before.seen after.seen request before.faults after.faults before.file_faults after.file_faults cause
 
 -- a tick at a moment did its work
-abbrev pub IsTickedAt : Db → DbConf → Option ℕ → ℕ → PassAt → PassAt → Type 0
-IsTickedAt which settings limit now before after =
-    IsTicked which before.reads after.reads after.latest settings limit now before.seen after.seen (LoadedLastCycle before after)
+abbrev pub IsTickedAt : Db → DbConf → (Request → ℕ) → Option ℕ → ℕ → PassAt → PassAt → Type 0
+IsTickedAt which settings brought limit now before after =
+    IsTicked which before.reads after.reads after.latest settings brought limit now before.seen after.seen (LoadedLastCycle before after)
 
 -- a tick at a moment gave up for this cause
 abbrev pub IsTickFaultAt : DbConf → ℕ → PassAt → PassAt → LookupFault → Type 0

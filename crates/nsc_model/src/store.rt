@@ -1,6 +1,7 @@
 ghost use Rattle.std.specs.Prelude.{◌≡◌, ◌⊎◌, ◌+◌, ◌<◌, ◌^◌, ◌≤◌, ℕ, List, Option, IsOk, length, IfOk, IfErr, OnOk};
 ghost use Rattle.std.specs.Bool.{OnFalse, OnTrue};
 ghost use Rattle.nsc_model.specs.declared.kind.Db.{Db};
+ghost use Rattle.nsc_model.specs.declared.answer.Request.{Request};
 ghost use Rattle.nsc_model.specs.declared.conf.DbConf.{DbConf};
 ghost use Rattle.nsc_model.specs.Content.{Content};
 ghost use Rattle.nsc_model.specs.Entry.{key_limit, kept_limit};
@@ -178,13 +179,16 @@ pub trait Store {
     // After how many reloads without a use an entry is dropped.
     ghost reloads: { Self → Option ℕ };
 
+    // How many reloads an image brought back for each request.
+    ghost brought: { Self → Request → ℕ };
+
     // Whether a pass is one of this store.
     ghost is_pass: { Self → Self.Pass → Type 0 };
 
     // What a pass is at a moment.
     ghost at: { Self.Pass → PassAt };
 
-    // The files that every read of the store gives, where these are told.
+    // The files that every read of the store gives, if these are told.
     ghost held: { Self → Option Content };
 
     /// A new pass. Fails only for want of memory.
@@ -193,8 +197,9 @@ pub trait Store {
         ensures legal { IfOk result (λ pass. Legal (at pass).seen) }
         ensures steady { IfOk result (λ pass. IsSteady (held self.now) (db self.now) (at pass).seen) };
 
-    /// Looks up the request of this kind and key at this moment, in seconds: the reply of its live entry, or else the answer
-    /// over the files as they are read in this call, which is then kept where nothing refuses it.
+    /// Looks up the request of this kind and key at this moment, in seconds. The reply is that of its live entry, or else the answer over
+    /// the files as they are read in this call, which is then kept if nothing refuses it. With `auto-propagate` (nscd.conf(5)) a lookup
+    /// by name that is kept has the request by id kept too, with the answer to it.
     fn lookup<R: Wait>(
         &self,
         rt: &R,
@@ -217,11 +222,14 @@ pub trait Store {
         ensures fault { IfErr result (GivesUpAt (settings self.now) (at pass.old) (at pass.new) (record { kind = kind; key = key.now })) }
         ensures no_fault { OnOk result (StaysCalm (at pass.old) (at pass.new)) };
 
-    /// What is due at this moment, in seconds, where the database is cached: the files are looked at; where they changed since the
-    /// last tick, and that counts, every entry ends; else the entries whose time is over end, and those that are not dropped are
-    /// loaded again over the files as they were found, where nothing refuses it. At `NoMemory` no entry was ended. At `Spent` of
-    /// the versions nothing changed, of the invalidations only the look at the files was entered, and of the compactions the
-    /// ended entries are not loaded again.
+    /// Does what is due at this moment, in seconds, if the database is cached. The files are looked at. If they changed since the last
+    /// tick, and that counts, every entry ends. Else the entries whose time is over end, and those that are not dropped are loaded again
+    /// over the files as they were found, if nothing refuses it.
+    ///
+    /// # Errors
+    ///
+    /// At `NoMemory` no entry was ended. At `Spent` of the versions nothing changed. At `Spent` of the invalidations only the look at the
+    /// files was entered. At `Spent` of the compactions the ended entries are not loaded again.
     fn tick<R: Wait>(
         &self,
         rt: &R,
@@ -235,7 +243,7 @@ pub trait Store {
         ensures seen { Continues (at pass.old).seen (at pass.new).seen }
         ensures steady { OnTrue (settings self.now).enabled (IsSteady (held self.now) (db self.now) (at pass.new).seen) }
         ensures searches { (at pass.old).searches ≤ (at pass.new).searches }
-        ensures ticked { OnOk result (OnTrue (settings self.now).enabled (IsTickedAt (db self.now) (settings self.now) (reloads self.now) now (at pass.old) (at pass.new))) }
+        ensures ticked { OnOk result (OnTrue (settings self.now).enabled (IsTickedAt (db self.now) (settings self.now) (brought self.now) (reloads self.now) now (at pass.old) (at pass.new))) }
         ensures uncached { OnFalse (settings self.now).enabled (IsOk result × (pass.new ≡ pass.old)) }
         ensures fault { IfErr result (IsTickFaultAt (settings self.now) now (at pass.old) (at pass.new)) }
         ensures no_fault { OnOk result (StaysCalm (at pass.old) (at pass.new)) };
