@@ -3,9 +3,9 @@ use Rattle.std.proofs.Common.{◌≡◌, ℕ, zero, suc, ◌+◌, All, inl, inr,
 use Rattle.nsc_model.specs.declared.answer.Request.{Request}
 use Rattle.nsc_model.specs.declared.conf.DbConf.{DbConf}
 use Rattle.nsc_model.specs.declared.record.Record.{Record}
-use Rattle.nsc_model.specs.Answers.{answer_of}
+use Rattle.nsc_model.specs.Answers.{answer_of, request_beside}
 use Rattle.nsc_model.specs.Content.{Content}
-use Rattle.nsc_model.specs.Machine.{◌>>=◌, Cache, Candidate, Kept, Passed, Refusal, Stopped, candidate_again, checked, compacted_after, due_ended, due_of, candidates_of, invalidated, is_dropped, kept_answer, polled, is_outdated, all_words, last_count, stopped, tick, life_of, new_entry, pruned, refusal, reloaded, reloaded_of, room_of, tried, tried_all, tried_by, unchanged, is_due, next_count}
+use Rattle.nsc_model.specs.Machine.{◌>>=◌, Cache, Candidate, Kept, Passed, Refusal, Stopped, candidate_again, candidates_beside, candidates_of, checked, compacted_after, due_ended, due_of, invalidated, is_dropped, kept_answer, polled, is_outdated, all_words, last_count, stopped, tick, life_of, new_entry, pruned, refusal, reloaded, reloaded_of, room_of, made_then, tried, tried_all, tried_by, tried_with, unchanged, is_due, next_count}
 use Rattle.std.specs.Prelude.{IfSome}
 use Rattle.std.proofs.lemmas.Bool.{ltb-true}
 use Rattle.nsc_model.specs.Entry.{Entry}
@@ -14,12 +14,13 @@ use Rattle.nsc_model.specs.Live.{HasEntry}
 use Rattle.nsc_laws.specs.Calls.{Tells, entries_of}
 use Rattle.nsc_pruner.specs.Due.{Due, IsOver, due_from, marked_by, pruned_by}
 use Rattle.nsc_writer.specs.declared.loaded.Inserted.{Inserted}
+use Rattle.nsc_writer.specs.declared.loaded.Inserted.TheVariants as inserted
 use Rattle.nsc_writer.specs.Loaded.{Loaded, kept_of}
-use Rattle.nsc_writer.specs.Writer.{Inserts, IsAnswered, Writer, passed_by, refusal_of}
+use Rattle.nsc_writer.specs.Writer.{Inserts, IsAnswered, IsRefused, Writer, passed_by, refusal_of}
 use Rattle.nsc_turns.specs.declared.answering.Answering.{Answering}
-use Rattle.nsc_turns.specs.Loads.{anew_of, loaded_of}
+use Rattle.nsc_turns.specs.Loads.{anew_of, beside_of, loaded_id, loaded_of}
 use Rattle.nsc_turns.specs.Ticks.{Reloads, ReloadsOne, Renews, compacted_for, ended_of}
-use Rattle.nsc_turns.specs.Turns.{Completes, Stops, missed, tried_on}
+use Rattle.nsc_turns.specs.Turns.{Completes, InsertsBeside, Stops, missed, tried_on}
 use Rattle.nsc_turns.proofs.Events.{inserts_tried, completes_after, completes_then, stops_after, stops_first}
 use Rattle.nsc_turns.proofs.Pruned.{due_end, gone_from}
 
@@ -135,13 +136,73 @@ tick_off settings limit now files ticked cache off = ap (λ (b : Bool). cond b (
 
 -- ---- the insertion of a lookup
 
-pub kept_by_insert : (a : Answering) (files : Content) (request : Request) (said : Inserted) (l : Loaded) (w w' : Writer) → a.settings.enabled ≡ true → IsAlone a files w → l ≡ loaded_of a files request 0 → Inserts said l (missed l w) w' → w' ≡ missed (loaded_of a files request 0) (passed_by (kept_answer a.settings a.moment request w.cache) w)
-kept_by_insert a files request said l w w' on s is i =
-    let answered = loaded_of a files request 0 in
-    let w1 = missed answered w in
-    let alone : IsAlone a files w1 = record { room = s.room; version = s.version; epoch = s.epoch; sources = s.sources } in
-    let tries : w' ≡ tried_on answered w1 = subst (λ (x : Loaded). w' ≡ tried_on x (missed x w)) is (inserts_tried said l (missed l w) w' i) in
-    tries ∙ tried_is a files request 0 w1 alone ∙ sym (ap (λ (b : Bool). missed answered (passed_by (cond b (tried_all a.settings a.moment (candidates_of request) w.cache) (unchanged w.cache)) w)) on)
+-- what goes beside an answer was inserted or refused
+abbrev TriesBeside : Option Loaded → Writer → Writer → Type 0
+TriesBeside None before after = after ≡ before
+TriesBeside (Some l) before after = (said : Inserted) × Inserts said l before after × IsRefused said l before
+
+tries_beside : (number : ℕ) (o : Option Loaded) (w w' : Writer) → InsertsBeside (inserted.Done number) o w w' → TriesBeside o w w'
+tries_beside number None w w' b = b
+tries_beside number (Some l) w w' b = b
+
+-- it is the machine's
+beside_tried : (a : Answering) (files : Content) (id : Option Request) (w w' : Writer) → IsAlone a files w → TriesBeside (cond a.settings.propagate (loaded_id a files id) None) w w' → w' ≡ passed_by (tried_all a.settings a.moment (candidates_beside a.settings id) w.cache) w
+beside_tried a files None w w' s = elim a.settings.propagate as (λ v. TriesBeside (cond v None None) w w' → w' ≡ w) [ true ↦ (λ is. is) | false ↦ (λ is. is) ]
+beside_tried a files (Some id) w w' s = by_test a.settings.propagate where
+  by_test : (b : Bool) → TriesBeside (cond b (Some (loaded_of a files id 0)) None) w w' → w' ≡ passed_by (tried_all a.settings a.moment (cond b (candidates_of id) []) w.cache) w
+  by_test true (said, i, why) = inserts_tried said (loaded_of a files id 0) w w' i ∙ tried_is a files id 0 w s
+  by_test false is = is
+
+-- the insertion of a lookup, and of what goes beside its answer
+pub kept_by_insert : (a : Answering) (files : Content) (request : Request) (said : Inserted) (l : Loaded) (w w1 w' : Writer) → a.settings.enabled ≡ true → IsAlone a files w → l ≡ loaded_of a files request 0
+    → Inserts said l (missed l w) w1 → InsertsBeside said (beside_of a files request) w1 w' → w' ≡ missed (loaded_of a files request 0) (passed_by (kept_answer a.settings a.moment request w.cache) w)
+kept_by_insert a files request said l w w1 w' on s is i b =
+    by_said said inserts b
+    ∙ ap (λ (f : Content). passed_by (made_then refused first (tried_all a.settings a.moment (candidates_beside a.settings (request_beside f request)))) w0) (sym s.sources)
+    ∙ sym (ap (λ (b : Bool). missed answered (passed_by (cond b (tried_with a.settings a.moment request w.cache) (unchanged w.cache)) w)) on) where
+      answered : Loaded
+      answered = loaded_of a files request 0
+
+      w0 : Writer
+      w0 = missed answered w
+
+      alone : IsAlone a files w0
+      alone = record { room = s.room; version = s.version; epoch = s.epoch; sources = s.sources }
+
+      inserts : Inserts said answered w0 w1
+      inserts = subst (λ (x : Loaded). Inserts said x (missed x w) w1) is i
+
+      one : Candidate
+      one = record { request = request; reloads = 0 }
+
+      first : Passed
+      first = tried a.settings a.moment one w.cache
+
+      refused : Option Refusal
+      refused = refusal (room_of a.settings) w.cache.epoch (new_entry a.settings a.moment one w.cache).entry w.cache
+
+      refused_is : refusal_of w0 answered ≡ refused
+      refused_is = λ i. refusal (s.room i) (s.epoch i) (kept_is a files request 0 w s i).entry w.cache
+
+      next : Cache → Passed
+      next = tried_all a.settings a.moment (candidates_beside a.settings (request_beside files request))
+
+      tries : (said : Inserted) → Inserts said answered w0 w1 → w1 ≡ passed_by first w0
+      tries said i = inserts_tried said answered w0 w1 i ∙ tried_is a files request 0 w0 alone
+
+      not_made : (said : Inserted) (cause : Refusal) → Inserts said answered w0 w1 → refusal_of w0 answered ≡ Some cause → w' ≡ w1 → w' ≡ passed_by (made_then refused first next) w0
+      not_made said cause i why same = same ∙ tries said i ∙ ap (λ (r : Option Refusal). passed_by (made_then r first next) w0) (sym why ∙ refused_is)
+
+      by_said : (said : Inserted) → Inserts said answered w0 w1 → InsertsBeside said (beside_of a files request) w1 w' → w' ≡ passed_by (made_then refused first next) w0
+      by_said (inserted.Done number) i b =
+          let alone1 = subst (IsAlone a files) (sym (inserts_tried (inserted.Done number) answered w0 w1 i)) (alone_tried a files w0 (refusal_of w0 answered) (kept_of answered w.cache.inserted) alone) in
+          first_then first a.settings a.moment (candidates_beside a.settings (request_beside files request)) w0 w1 w' (tries (inserted.Done number) i) (beside_tried a files (request_beside files request) w1 w' alone1 (tries_beside number (beside_of a files request) w1 w' b))
+          ∙ ap (λ (r : Option Refusal). passed_by (made_then r first next) w0) (sym i.0 ∙ refused_is)
+      by_said (inserted.TooLarge size) i b = not_made (inserted.TooLarge size) _ i i.0 b
+      by_said (inserted.Discarded noted epoch) i b = not_made (inserted.Discarded noted epoch) _ i i.0 b
+      by_said (inserted.Present number) i b = not_made (inserted.Present number) _ i i.0 b
+      by_said (inserted.Spent count) i b = not_made (inserted.Spent count) _ i i.0 b
+      by_said (inserted.Full need free) i b = not_made (inserted.Full need free) _ i i.0 b
 
 -- ---- what is due, and what is answered for it
 

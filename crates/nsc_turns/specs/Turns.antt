@@ -5,7 +5,9 @@ use Rattle.nsc_model.specs.Machine.{Kept, Passed, Stopped, Turn, tried_by, used_
 use Rattle.nsc_shelf.specs.Shelf.{GivesHit}
 use Rattle.nsc_writer.specs.Loaded.{Loaded, kept_of}
 use Rattle.nsc_shelf.specs.Uses.{counted}
-use Rattle.nsc_writer.specs.Writer.{Writer, passed_by, refusal_of}
+use Rattle.nsc_writer.specs.declared.loaded.Inserted.{Inserted}
+use Rattle.nsc_writer.specs.declared.loaded.Inserted.TheVariants as inserted
+use Rattle.nsc_writer.specs.Writer.{Inserts, IsRefused, Writer, passed_by, refusal_of}
 use Rattle.nsc_turns.specs.declared.entries.HitOrMiss.{HitOrMiss}
 use Rattle.nsc_turns.specs.declared.entries.HitOrMiss.TheVariants as looked
 
@@ -32,6 +34,11 @@ Looks found request (looked.Missed epoch) before after reply = GivesHit found No
 -- a miss is counted
 abbrev pub missed : Loaded → Writer → Writer
 missed l w = record w { misses = counted l.answer.not_found w.misses }
+
+-- an entry was inserted, or refused; if it was inserted, the insertion of what goes beside it was tried, and else nothing changed
+abbrev pub InsertsBeside : Inserted → Option Loaded → Writer → Writer → Type 0
+InsertsBeside (inserted.Done number) (Some l) before after = (said : Inserted) × Inserts said l before after × IsRefused said l before
+InsertsBeside _ _ before after = after ≡ before
 
 -- the insertion of this was tried
 abbrev pub tried_on : Loaded → Writer → Writer

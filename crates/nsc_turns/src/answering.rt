@@ -1,10 +1,12 @@
 // What is made to be inserted.
 ghost use Rattle.std.specs.Prelude.{◌≡◌, ◌≤◌, ◌<◌, ◌^◌, length, map, IfOk};
+ghost use Rattle.nsc_model.specs.Answers.{answer_of};
 ghost use Rattle.nsc_model.specs.Entry.{key_limit};
-ghost use Rattle.nsc_turns.specs.Loads.{anew_of, loaded_of};
+ghost use Rattle.nsc_turns.specs.Loads.{anew_of, beside_of, loaded_of};
 
 use nsc_base::{Bytes, NoMemory};
 use nsc_model::{Answerer, DbConf, Kind};
+use nsc_propagate::id_request;
 use nsc_pruner::Due;
 use nsc_writer::{Loaded, Stamp};
 use std::alloc::Global;
@@ -37,6 +39,42 @@ pub fn load<A: Answerer>(
     let key = Bytes::copy(alloc, key)?;
     let timeout = answering.moment + answering.settings.life_of(&answer);
     Ok(Loaded::new(kind, key, answer, answering.stamp, timeout, reloads))
+}
+
+/// Makes what is inserted beside the answer to a request by name: the answer to the request by id for the row that was found, over the
+/// version from which `ready` was made. `None` if `auto-propagate` is off, or if there is no such request.
+///
+/// # Errors
+///
+/// `NoMemory` if memory is wanting.
+pub fn load_beside<A: Answerer>(
+    alloc: Global,
+    answers: &A,
+    ready: &A::Ready,
+    answering: &Answering,
+    loaded: &Loaded,
+) -> Result<Option<Loaded>, NoMemory>
+    requires answered { loaded.now.answer ≡ answer_of (A.prepared_from ready.now) loaded.now.request }
+    requires moment { answering.now.moment < 2 ^ 62 }
+    ensures { IfOk result (λ beside. beside ≡ beside_of answering.now (A.prepared_from ready.now) loaded.now.request) }
+{
+    if !answering.settings.propagate {
+        return Ok(None);
+    }
+    let content = answers.content(ready);
+    let Some(id) = id_request(alloc, content, loaded.kind(), loaded.answer())? else {
+        return Ok(None);
+    };
+    let beside = load(
+        alloc,
+        answers,
+        ready,
+        answering,
+        id.kind,
+        id.key.as_slice(),
+        0,
+    )?;
+    Ok(Some(beside))
 }
 
 /// What is to be loaded again for those that are due, one for each: nothing for one that is dropped. Fails only for want of memory.

@@ -1,9 +1,10 @@
 // What lookups and invalidations do to the entries.
-ghost use Rattle.std.specs.Prelude.{◌≡◌, ◌<◌, ◌≤◌, None, IfOk, IfErr};
+ghost use Rattle.std.specs.Prelude.{◌≡◌, ◌<◌, ◌≤◌, None, IfOk, IfErr, IfSome};
+ghost use Rattle.std.specs.Option.{option_copied};
 ghost use Rattle.nsc_model.specs.Entry.{kept_limit};
 ghost use Rattle.nsc_model.specs.Machine.{invalidated, last_count, live_entry};
 ghost use Rattle.nsc_writer.specs.Writer.{Inserts, IsAnswered, IsRefused};
-ghost use Rattle.nsc_turns.specs.Turns.{Looks, Completes, Stops, missed};
+ghost use Rattle.nsc_turns.specs.Turns.{InsertsBeside, Looks, Completes, Stops, missed};
 
 use nsc_base::Buf;
 use nsc_compactor::compact;
@@ -49,6 +50,18 @@ pub fn insert(writer: &mut Writer, loaded: Loaded) -> (Inserted, Loaded)
 {
     writer.miss(loaded.answer().is_not_found());
     writer.insert(loaded)
+}
+
+/// Tries to insert what goes beside an entry that was inserted: `said` is what became of that entry's insertion. Nothing changes if it
+/// was refused, or if nothing goes beside it.
+pub fn insert_beside(writer: &mut Writer, said: Inserted, beside: Option<&Loaded>)
+    requires answered { IfSome (option_copied beside) (IsAnswered writer.old.seen) }
+    requires still { writer.old.slide ≡ None }
+    ensures { InsertsBeside said (option_copied beside.entry) writer.old writer.new }
+{
+    if let (Inserted::Done { number: _ }, Some(loaded)) = (said, beside) {
+        writer.insert_lent(loaded);
+    }
 }
 
 /// Ends every entry as invalidated, compacts where there was any, and gives the new number of invalidations. At `Spent` that number

@@ -5,6 +5,6 @@ mod answering;
 mod entries;
 mod ticks;
 
-pub use answering::{Answering, load, loads};
-pub use entries::{HitOrMiss, insert, invalidate, look};
+pub use answering::{Answering, load, load_beside, loads};
+pub use entries::{HitOrMiss, insert, insert_beside, invalidate, look};
 pub use ticks::{Checked, check, renew};
