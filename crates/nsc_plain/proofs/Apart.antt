@@ -82,6 +82,10 @@ module _ {X : Type 0} (p : X → Bool) where
   found_at xs i d e =
       find_at p xs ∙ (ap (slice_get xs) (place_is (nat_lt (position_or_len p xs) (length xs)) (position_or_len p xs) i e) ∙ slice_get-get_or xs i d (position-Some p xs i d e).0)
 
+  pub found_some : (xs : List X) (i : ℕ) → position p xs ≡ Some i → (x : X) × (find p xs ≡ Some x)
+  found_some [] i e = absurd cc
+  found_some (x ∷ xs) i e = (get_or (x ∷ xs) i x, found_at (x ∷ xs) i x e)
+
 count_same : {X : Type 0} (p q : X → Bool) → ((x : X) → p x ≡ q x) → (xs : List X) → count_by p xs ≡ count_by q xs
 count_same p q same [] = refl
 count_same p q same (x ∷ xs) =

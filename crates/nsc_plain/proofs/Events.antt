@@ -1,5 +1,5 @@
 -- The parts of the machine's events, one after the other.
-use Rattle.std.proofs.Common.{◌≡◌, ◌≢◌, ℕ, ◌<◌, ◌==◌, inl, inr, Bool, true, false, cond, List, [], ◌∷◌, length, find, map, Option, Some, None, Result, Ok, Err, refl, ap, sym, ◌∙◌, subst, arith}
+use Rattle.std.proofs.Common.{◌≡◌, ◌≢◌, ℕ, ◌<◌, ◌-◌, ◌==◌, nat_lt, inl, inr, Bool, true, false, cond, List, [], ◌∷◌, length, find, map, Option, Some, None, Result, Ok, Err, refl, ap, sym, ◌∙◌, subst, arith}
 use Rattle.std.proofs.lemmas.Bool.{eq-eqb}
 use Rattle.std.proofs.lemmas.Bool.Decides.{eqb_tells}
 use Rattle.std.proofs.lemmas.Simd.{map-map}
@@ -9,14 +9,15 @@ use Rattle.nsc_model.specs.declared.answer.Request.{Request}
 use Rattle.nsc_model.specs.declared.record.Record.{Record}
 use Rattle.nsc_model.specs.Kinds.{is_request}
 use Rattle.nsc_model.specs.Content.{Content}
+use Rattle.nsc_model.specs.Entry.{kept_limit}
 use Rattle.nsc_model.specs.declared.conf.DbConf.{DbConf}
-use Rattle.nsc_model.specs.Answers.{answer_of}
-use Rattle.nsc_model.specs.Machine.{Kept, Cache, Passed, Stopped, Turn, Refusal, TooLarge, Discarded, Present, Spent as Uncounted, Full, last_count, after_adds, ◌>>=◌, Candidate, refusal, room_of, tried_by, tried, tried_all, candidates_of, candidate_again, new_entry, polled, cached, kept_answer, loaded, hit_or_load, lookup, compacted, compacted_after, emptied, invalidated, ends_of, due_cause, stopped, unchanged, is_due, due_of, others_of, reloaded_of, reloaded, pruned, checked, tick, ticked_after}
+use Rattle.nsc_model.specs.Answers.{answer_of, request_beside}
+use Rattle.nsc_model.specs.Machine.{Kept, Cache, Passed, Stopped, Turn, Refusal, TooLarge, Discarded, Present, Spent as Uncounted, Full, last_count, after_adds, ◌>>=◌, Candidate, refusal, room_of, tried_by, tried, tried_all, tried_with, made_then, or_later, overtaken, present_cause, entry_words, candidates_beside, candidates_of, candidate_again, new_entry, polled, cached, kept_answer, loaded, hit_or_load, lookup, compacted, compacted_after, emptied, invalidated, ends_of, due_cause, stopped, unchanged, is_due, due_of, others_of, reloaded_of, reloaded, pruned, checked, tick, ticked_after}
 use Rattle.nsc_model.specs.Events.{TurnsTo, ComesTo, StopsAt}
 use Rattle.nsc_model.specs.Faults.{StopsBy, FaultsBy, GivesUpBy}
 use Rattle.nsc_plain.specs.PlainCache.{HitsBy}
-use Rattle.nsc_plain.specs.Insertion.{Insertion, answered, anew}
-use Rattle.nsc_plain.specs.EntryList.{put, put_all}
+use Rattle.nsc_plain.specs.Insertion.{Insertion, answered, answered_id, anew, beside}
+use Rattle.nsc_plain.specs.EntryList.{inserted_entry, is_made, put, put_all, put_beside, put_with, refused_in}
 use Rattle.nsc_plain.proofs.Ends.{none_left}
 
 at_true : {A : Type 0} (x y : A) {b : Bool} → b ≡ true → cond b x y ≡ x
@@ -77,11 +78,47 @@ invalidation_faults cache after (Spent n) ne h =
 
 -- ---- lookups
 
+-- what goes beside an answer is the machine's
+puts_beside : (settings : DbConf) (now : ℕ) (id : Option Request) (cache : Cache)
+    → (tried_all settings now (candidates_beside settings id) cache).cache ≡ put_beside true (cond settings.propagate (answered_id cache.sources id) None) settings now cache.newest_version cache
+puts_beside settings now None cache = elim settings.propagate as (λ v. cache ≡ put_beside true (cond v None None) settings now cache.newest_version cache) [ true ↦ refl | false ↦ refl ]
+puts_beside settings now (Some id) cache =
+    elim settings.propagate as (λ v. (tried_all settings now (cond v (candidates_of id) []) cache).cache ≡ put_beside true (cond v (answered_id cache.sources (Some id)) None) settings now cache.newest_version cache) [ true ↦ refl | false ↦ refl ]
+
+-- the insertion of a lookup, and of what goes beside its answer
 pub keeps : (settings : DbConf) (now : ℕ) (request : Request) (cache after : Cache) → settings.enabled ≡ true
-    → put settings now cache.newest_version (record { request = request; answer = answer_of cache.sources request; reloads = 0 }) cache ≡ after → (kept_answer settings now request cache).cache ≡ after
-keeps settings now request cache after on h =
-    let at : kept_answer settings now request cache ≡ tried_all settings now (candidates_of request) cache = at_true _ _ on in
-    ap (λ (p : Passed). p.cache) at ∙ h
+    → put_with settings now cache.newest_version (answered cache.sources (record { request = request; reloads = 0 })) (beside settings cache.sources request) cache ≡ after → (kept_answer settings now request cache).cache ≡ after
+keeps settings now request cache after on p = ap (λ (p : Passed). p.cache) (at_true (tried_with settings now request cache) (unchanged cache) on) ∙ by_refused (refused_in settings now cache.newest_version first cache) ∙ p where
+  first : Insertion
+  first = answered cache.sources (record { request = request; reloads = 0 })
+
+  k : Kept
+  k = inserted_entry settings now cache.newest_version first cache
+
+  next : Cache → Passed
+  next = tried_all settings now (candidates_beside settings (request_beside cache.sources request))
+
+  by_refused : (o : Option Refusal) → (made_then o (tried_by o k cache) next).cache ≡ put_beside (is_made o) (beside settings cache.sources request) settings now cache.newest_version (tried_by o k cache).cache
+  by_refused None = puts_beside settings now (request_beside cache.sources request) (tried_by None k cache).cache
+  by_refused (Some cause) = refl
+
+-- an insertion whose request has a live entry changes nothing
+pub present_stays : (settings : DbConf) (now version : ℕ) (i : Insertion) (cache : Cache) (k : Kept) → find (λ (x : Kept). is_request i.request x.entry.request) cache.entries ≡ Some k → put settings now version i cache ≡ cache
+present_stays settings now version i cache k found = by_large (nat_lt kept_limit (length i.answer.bytes)) where
+  e : Kept
+  e = inserted_entry settings now version i cache
+
+  later : Option Refusal
+  later = cond (cache.inserted == last_count) (Some (Uncounted last_count)) (cond (nat_lt (room_of settings - cache.used) (entry_words e.entry)) (Some (Full (entry_words e.entry) (room_of settings - cache.used))) None)
+
+  by_found : (o : Option Kept) → o ≡ Some k → (b : Bool) → (tried_by (or_later (cond b (Some (Discarded cache.epoch cache.epoch)) (present_cause o)) later) e cache).cache ≡ cache
+  by_found o is true = refl
+  by_found None is false = absurd cc
+  by_found (Some x) is false = refl
+
+  by_large : (b : Bool) → (tried_by (cond b (Some (TooLarge (length i.answer.bytes))) (or_later (overtaken cache.epoch i.request cache) later)) e cache).cache ≡ cache
+  by_large true = refl
+  by_large false = by_found (find (λ (x : Kept). is_request i.request x.entry.request) cache.entries) found (nat_lt cache.epoch cache.epoch)
 
 -- where the database is cached, an entry is searched for among those that live
 pub searched : (settings : DbConf) (request : Request) (before after : Cache) (hit : Option (List ℕ)) → settings.enabled ≡ true → HitsBy (find (λ k. is_request request k.entry.request) before.entries) request before after hit

@@ -1,9 +1,9 @@
 -- What a plain cache holds apart from its contents, and insertions into it.
-use Rattle.std.specs.Prelude.{ℕ, ◌+◌, ◌≤◌, List, [], ◌∷◌, count_by}
+use Rattle.std.specs.Prelude.{ℕ, ◌+◌, ◌≤◌, Bool, true, false, List, [], ◌∷◌, count_by, Option, Some, None}
 use Rattle.nsc_model.specs.declared.answer.Request.{Request}
 use Rattle.nsc_model.specs.Kinds.{is_request}
 use Rattle.nsc_model.specs.declared.conf.DbConf.{DbConf}
-use Rattle.nsc_model.specs.Machine.{Kept, Cache, all_words, last_count, made_entry, refusal, room_of, tried_by}
+use Rattle.nsc_model.specs.Machine.{Kept, Cache, Refusal, all_words, last_count, made_entry, refusal, room_of, tried_by}
 use Rattle.nsc_plain.specs.Insertion.{Insertion}
 
 -- the live entries, the counts that their insertions and ends change, and for how many entries there is memory
@@ -45,9 +45,27 @@ abbrev pub inserted_entry : DbConf → ℕ → ℕ → Insertion → Cache → K
 inserted_entry settings now version answered cache =
     record { entry = made_entry settings now cache.inserted version answered.request answered.answer; reloads = answered.reloads }
 
+-- what refuses its insertion, if anything does
+abbrev pub refused_in : DbConf → ℕ → ℕ → Insertion → Cache → Option Refusal
+refused_in settings now version answered cache = refusal (room_of settings) cache.epoch (inserted_entry settings now version answered cache).entry cache
+
+abbrev pub is_made : Option Refusal → Bool
+is_made None = true
+is_made (Some cause) = false
+
 -- the cache once its insertion was tried
 abbrev pub put : DbConf → ℕ → ℕ → Insertion → Cache → Cache
-put settings now version answered cache = let k = inserted_entry settings now version answered cache in (tried_by (refusal (room_of settings) cache.epoch k.entry cache) k cache).cache
+put settings now version answered cache = (tried_by (refused_in settings now version answered cache) (inserted_entry settings now version answered cache) cache).cache
+
+-- what goes beside an answered request is tried, if that one was inserted and something goes beside it
+abbrev pub put_beside : Bool → Option Insertion → DbConf → ℕ → ℕ → Cache → Cache
+put_beside true (Some beside) settings now version cache = put settings now version beside cache
+put_beside made beside settings now version cache = cache
+
+-- the cache once its insertion was tried, and what goes beside it
+abbrev pub put_with : DbConf → ℕ → ℕ → Insertion → Option Insertion → Cache → Cache
+put_with settings now version answered beside cache =
+    put_beside (is_made (refused_in settings now version answered cache)) beside settings now version (put settings now version answered cache)
 
 -- the cache once all were tried, one after the other
 abbrev pub put_all : DbConf → ℕ → ℕ → List Insertion → Cache → Cache

@@ -11,7 +11,7 @@ ghost use Rattle.nsc_model.specs.Faults.{FaultsBy, StopsBy, GivesUpBy};
 ghost use Rattle.nsc_plain.specs.PlainCache.{HitsBy, ticked_at};
 
 use crate::db_files::DbFiles;
-use crate::insertion::{Insertion, answer_due};
+use crate::insertion::{Insertion, answer_beside, answer_due};
 use crate::table::EntryList;
 use nsc_base::{Bytes, NoMemory};
 use nsc_model::{Answer, Answerer, CacheFault, Content, DbConf, Kind, LAST_COUNT, Request};
@@ -198,14 +198,16 @@ impl PlainCache {
         files.begin(alloc, answers);
         let answer = files.answer(alloc, answers, kind, key)?;
         let reply = Bytes::copy(alloc, answer.bytes())?;
-        self.keep(alloc, kind, key, answer, now)?;
+        self.keep(alloc, files, answers, kind, key, answer, now)?;
         Ok(reply)
     }
 
-    // The insertion of an answer is tried, where the database is cached.
-    fn keep(
+    // Tries to insert an answer, and what goes beside it, if the database is cached. All memory is taken before anything changes.
+    fn keep<A: Answerer>(
         &mut self,
         alloc: Global,
+        files: &mut DbFiles<A>,
+        answers: &A,
         kind: Kind,
         key: &[u8],
         answer: Answer,
@@ -213,12 +215,14 @@ impl PlainCache {
     ) -> Result<(), NoMemory>
         requires key { length key.now ≤ key_limit }
         requires moment { now < 2 ^ 62 }
+        requires sources { self.old.cache.sources ≡ files.old.files }
         requires answer { answer ≡ answer_of self.old.cache.sources (record { kind = kind; key = key.now }) }
         requires new { cached self.old.settings (record { kind = kind; key = key.now }) self.old.cache ≡ None }
         ensures settings { self.new.settings ≡ self.old.settings }
         ensures limit { self.new.reloads ≡ self.old.reloads }
         ensures ticked { self.new.ticked ≡ self.old.ticked }
         ensures sources { self.new.cache.sources ≡ self.old.cache.sources }
+        ensures files { files.new ≡ files.old }
         ensures kept { OnOk result ((kept_answer self.old.settings now (record { kind = kind; key = key.now }) self.old.cache).cache ≡ self.new.cache) }
         ensures stays { OnErr result (self.new.cache ≡ self.old.cache) }
     {
@@ -226,10 +230,12 @@ impl PlainCache {
         if !conf.enabled {
             return Ok(());
         }
+        let beside = answer_beside(alloc, files, answers, &conf, kind, &answer)?;
         let key = Bytes::copy(alloc, key)?;
-        self.table.reserve(1)?;
+        self.table.reserve(2)?;
         let fresh = Insertion::new(Request { kind, key }, answer, 0);
-        self.table.insert(&conf, now, self.newest_version, fresh);
+        self.table
+            .insert_with(&conf, now, self.newest_version, fresh, beside);
         Ok(())
     }
 

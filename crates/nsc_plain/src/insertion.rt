@@ -2,12 +2,15 @@ ghost use Rattle.std.specs.Prelude.{◌≡◌, ◌≤◌, ◌<◌, ◌+◌, ◌^
 ghost use Rattle.nsc_base.specs.Nodes.{node_words};
 ghost use Rattle.nsc_model.specs.Entry.{key_limit, kept_limit};
 ghost use Rattle.nsc_model.specs.Machine.{made_entry, due_of, reloaded_of};
-ghost use Rattle.nsc_plain.specs.Insertion.{anew};
+ghost use Rattle.std.specs.Prelude.{List, ℕ};
+ghost use Rattle.nsc_model.specs.Answers.{answer_of};
+ghost use Rattle.nsc_plain.specs.Insertion.{anew, beside};
 
 use crate::db_files::DbFiles;
 use crate::kept::Kept;
 use nsc_base::{Bytes, NoMemory};
-use nsc_model::{Answer, Answerer, DbConf, Entry, Request};
+use nsc_model::{Answer, Answerer, DbConf, Entry, Kind, Request};
+use nsc_propagate::id_request;
 use nsc_words::node_words;
 use std::alloc::Global;
 use std::marker::Model;
@@ -46,6 +49,13 @@ impl Insertion {
         }
     }
 
+    /// The request.
+    pub fn request(&self) -> &Request
+        ensures { result.now ≡ self.now.request }
+    {
+        &self.request
+    }
+
     /// How long the reply is.
     pub fn reply_len(&self) -> usize
         ensures { result ≡ length self.now.answer.bytes }
@@ -71,6 +81,34 @@ impl Insertion {
         let entry = Entry::new(number, self.request, version, self.answer, timeout);
         Kept::new(entry, self.reloads)
     }
+}
+
+/// Makes what is inserted beside the answer to a request by name: the answer to the request by id for the row that was found. `None` if
+/// `auto-propagate` is off, or if there is no such request.
+///
+/// # Errors
+///
+/// `NoMemory` if memory is wanting.
+pub fn answer_beside<A: Answerer>(
+    alloc: Global,
+    files: &mut DbFiles<A>,
+    answers: &A,
+    conf: &DbConf,
+    kind: Kind,
+    answer: &Answer,
+) -> Result<Option<Insertion>, NoMemory>
+    requires answered { (key : List ℕ) × (answer.now ≡ answer_of files.old.files (record { kind = kind; key = key })) }
+    ensures stays { files.new ≡ files.old }
+    ensures beside { (key : List ℕ) → answer.now ≡ answer_of files.old.files (record { kind = kind; key = key }) → IfOk result (λ made. made ≡ beside conf.now files.old.files (record { kind = kind; key = key })) }
+{
+    if !conf.propagate {
+        return Ok(None);
+    }
+    let Some(request) = id_request(alloc, files.content(), kind, answer)? else {
+        return Ok(None);
+    };
+    let answer = files.answer(alloc, answers, request.kind, request.key.as_slice())?;
+    Ok(Some(Insertion::new(request, answer, 0)))
 }
 
 /// What is to be inserted for the entries whose time is over and that are reloaded, in their order; `None` where the

@@ -2,17 +2,18 @@ ghost use Rattle.std.specs.Prelude.{◌≡◌, ◌≤◌, ◌<◌, ◌+◌, ◌^
 ghost use Rattle.nsc_model.specs.declared.answer.Request.{Request};
 ghost use Rattle.nsc_model.specs.Kinds.{is_request};
 ghost use Rattle.nsc_model.specs.Answer.{reply_limit};
+ghost use Rattle.std.specs.Option.{is_some};
 ghost use Rattle.nsc_model.specs.Machine.{Cache, due_of, others_of, compacted, compacted_after};
 ghost use Rattle.nsc_model.specs.Events.{ComesTo};
 ghost use Rattle.nsc_model.specs.Faults.{StopsBy};
 ghost use Rattle.nsc_plain.specs.PlainCache.{HitsBy};
-ghost use Rattle.nsc_plain.specs.EntryList.{StayApart, insertions_for, entries_for, over, put, put_all};
+ghost use Rattle.nsc_plain.specs.EntryList.{StayApart, insertions_for, is_made, entries_for, over, put, put_all, put_with, refused_in};
 
 use crate::entries::{drop_due, find_entry, words_of};
 use crate::insertion::Insertion;
 use crate::kept::Kept;
 use nsc_base::{Bytes, NoMemory};
-use nsc_model::{CacheFault, DbConf, KEPT_LIMIT, Kind, LAST_COUNT, next_count};
+use nsc_model::{CacheFault, DbConf, KEPT_LIMIT, Kind, LAST_COUNT, Request, next_count};
 use std::alloc::Global;
 use std::marker::Model;
 
@@ -83,23 +84,24 @@ impl EntryList {
         Ok(())
     }
 
-    /// An insertion is tried, with memory that was taken before.
-    pub fn insert(&mut self, conf: &DbConf, now: u64, version: u64, fresh: Insertion)
+    /// Tries an insertion, with memory that was taken before, and says whether it was made.
+    pub fn insert(&mut self, conf: &DbConf, now: u64, version: u64, fresh: Insertion) -> bool
         requires moment { now < 2 ^ 62 }
         requires memory { length self.old.entries < self.old.capacity }
         requires new { find (λ k. is_request fresh.request k.entry.request) self.old.entries ≡ None }
         ensures inserted { (cache : Cache) → put conf.now now version fresh (over cache self.old) ≡ over cache self.new }
+        ensures made { (cache : Cache) → result ≡ is_made (refused_in conf.now now version fresh (over cache self.old)) }
         ensures capacity { self.old.capacity ≤ self.new.capacity }
         ensures length { length self.new.entries ≤ length self.old.entries + 1 }
         ensures requests { (request : Request) → entries_for request self.new.entries ≤ entries_for request self.old.entries + insertions_for request (fresh ∷ []) }
     {
         if fresh.reply_len() > KEPT_LIMIT || self.inserted == LAST_COUNT {
-            return;
+            return false;
         }
         let words = fresh.words();
         if conf.room().saturating_sub(self.used) < words {
             self.add_failed = next_count(self.add_failed);
-            return;
+            return false;
         }
         let kept = fresh.into_kept(conf, now, version, self.inserted);
         match self.entries.push(kept) {
@@ -108,6 +110,49 @@ impl EntryList {
         }
         self.used += words;
         self.inserted += 1;
+        true
+    }
+
+    /// Tries an insertion, with memory that was taken before. An entry of its request may be live: then nothing changes.
+    pub fn insert_absent(&mut self, conf: &DbConf, now: u64, version: u64, fresh: Insertion)
+        requires moment { now < 2 ^ 62 }
+        requires memory { length self.old.entries < self.old.capacity }
+        ensures { (cache : Cache) → put conf.now now version fresh (over cache self.old) ≡ over cache self.new }
+    {
+        if self.is_live(fresh.request()) {
+            return;
+        }
+        self.insert(conf, now, version, fresh);
+    }
+
+    /// Tries an insertion, with memory for two that was taken before. If it is made, what goes beside it is tried too, if anything does.
+    pub fn insert_with(
+        &mut self,
+        conf: &DbConf,
+        now: u64,
+        version: u64,
+        fresh: Insertion,
+        beside: Option<Insertion>,
+    )
+        requires moment { now < 2 ^ 62 }
+        requires memory { length self.old.entries + 2 ≤ self.old.capacity }
+        requires new { find (λ k. is_request fresh.request k.entry.request) self.old.entries ≡ None }
+        ensures { (cache : Cache) → put_with conf.now now version fresh beside (over cache self.old) ≡ over cache self.new }
+    {
+        let is_made = self.insert(conf, now, version, fresh);
+        let Some(beside) = beside else {
+            return;
+        };
+        if is_made {
+            self.insert_absent(conf, now, version, beside);
+        }
+    }
+
+    // Whether an entry of the request is live.
+    fn is_live(&self, request: &Request) -> bool
+        ensures { result ≡ is_some (find (λ k. is_request request.now k.entry.request) self.now.entries) }
+    {
+        find_entry(&self.entries, request.kind, request.key.as_slice()).is_some()
     }
 
     /// Insertions are tried, one after the other, with memory that was taken before.

@@ -1,7 +1,7 @@
 -- What turns leave of a database of a replay.
 use Rattle.std.proofs.Common.{◌≡◌, ◌∙◌, ℕ, inl, inr, Bool, true, false, cond, List, map, Option, Some, None, Result, Ok, Err, refl, sym, ap, subst}
 use Rattle.std.specs.Bool.{OnTrue}
-use Rattle.std.specs.Prelude.{IfErr, IfOk}
+use Rattle.std.specs.Prelude.{IfErr, IfOk, IfSome}
 use Rattle.nsc_words.specs.declared.layout.Layout.{Layout}
 use Rattle.nsc_model.specs.declared.fault.CacheFault.{CacheFault}
 use Rattle.nsc_model.specs.declared.fault.CacheFault.TheVariants as faults
@@ -9,20 +9,20 @@ use Rattle.nsc_model.specs.Content.{Content}
 use Rattle.nsc_model.specs.declared.conf.DbConf.{DbConf}
 use Rattle.nsc_model.specs.declared.store.Spent.{Spent}
 use Rattle.nsc_model.specs.declared.answer.Request.{Request}
-use Rattle.nsc_model.specs.Answers.{answer_of}
-use Rattle.nsc_model.specs.Machine.{◌>>=◌, Cache, Passed, Stopped, cached, candidates_of, checked, due_of, kept_answer, lookup, polled, ticked_after, tried_all, unchanged, invalidated, is_outdated, pruned, room_of}
+use Rattle.nsc_model.specs.Answers.{answer_of, request_beside}
+use Rattle.nsc_model.specs.Machine.{◌>>=◌, Cache, Passed, Stopped, cached, checked, due_of, kept_answer, lookup, polled, ticked_after, tried_with, unchanged, invalidated, is_outdated, pruned, room_of}
 use Rattle.nsc_pruner.specs.Due.{Due, due_from, marked_by, pruned_by}
 use Rattle.nsc_writer.specs.Loaded.{Loaded}
 use Rattle.nsc_writer.specs.declared.loaded.Inserted.{Inserted}
 use Rattle.nsc_writer.specs.Writer.{Inserts, IsAnswered, Writer, passed_by}
 use Rattle.nsc_turns.specs.Ticks.{Checks, Renews, compacted_for, ended_of}
-use Rattle.nsc_turns.specs.Turns.{Completes, CompletesWith, Stops, missed}
+use Rattle.nsc_turns.specs.Turns.{Completes, CompletesWith, InsertsBeside, Stops, missed}
 use Rattle.nsc_turns.proofs.Emptied.{sources_left, sources_stopped}
 use Rattle.nsc_turns.proofs.Events.{stops_first, stops_then}
 use Rattle.nsc_turns.proofs.Machines.{IsAlone, current_checks, kept_by_insert, renews_pruned}
 use Rattle.nsc_turns.proofs.Polled.{KeepsAnswer, counted_as, lookup_completes, lookup_stops}
 use Rattle.nsc_turns.specs.declared.answering.Answering.{Answering}
-use Rattle.nsc_turns.specs.Loads.{anew_of, loaded_of}
+use Rattle.nsc_turns.specs.Loads.{anew_of, beside_of, loaded_id, loaded_of}
 use Rattle.nsc_writer.specs.declared.loaded.Stamp.{Stamp}
 use Rattle.nsc_laws.specs.Calls.{Tells}
 use Rattle.nsc_model.specs.History.{version_in}
@@ -127,6 +127,14 @@ lookup_faults (faults.Spent count) settings now files request w w' none g = look
 pub answered_fresh : (a : Answering) (files : Content) (request : Request) (reloads : ℕ) (l : Loaded) (w : Writer) → l ≡ loaded_of a files request reloads → IsFresh files a.stamp w → Tells w.seen w.cache → IsAnswered w.seen l
 answered_fresh a files request reloads l w is f t = subst (IsAnswered w.seen) (sym is) (record { files = files; version = version_fresh files a.stamp w f t; answer = refl; polled = f.polled })
 
+-- what goes beside an answer is answered too
+pub beside_fresh : (a : Answering) (files : Content) (request : Request) (o : Option Loaded) (w : Writer) → o ≡ beside_of a files request → IsFresh files a.stamp w → Tells w.seen w.cache → IfSome o (IsAnswered w.seen)
+beside_fresh a files request o w is f t = subst (λ (x : Option Loaded). IfSome x (IsAnswered w.seen)) (sym is) (by_test a.settings.propagate (request_beside files request)) where
+  by_test : (b : Bool) (id : Option Request) → IfSome (cond b (loaded_id a files id) None) (IsAnswered w.seen)
+  by_test true None = tt
+  by_test true (Some id) = answered_fresh a files id 0 (loaded_of a files id 0) w refl f t
+  by_test false id = tt
+
 -- after the poll of a lookup that found no entry
 pub record IsMissed (a : Answering) (request : Request) (l : Loaded) (s p : Cached) : Type 0 where
   pub none : cached s.settings request s.writer.cache ≡ None
@@ -144,17 +152,17 @@ answer_is a request l s p reply m said =
 missed_keeps : (l : Loaded) (settings : DbConf) (now : ℕ) (request : Request) (w w' : Writer) → w' ≡ missed l (passed_by (kept_answer settings now request w.cache) w) → KeepsAnswer settings now request w w'
 missed_keeps l settings now request w w' is = subst (λ (x : Writer). x ≡ counted_as x (passed_by (kept_answer settings now request w.cache) w)) (sym is) refl
 
-pub lookup_kept : (a : Answering) (request : Request) (said : Inserted) (l : Loaded) (s p : Cached) (w : Writer) (reply : List ℕ) → IsMissed a request l s p → p.settings.enabled ≡ true → p.writer.layout.arena ≡ room_of p.settings → Inserts said l (missed l p.writer) w → reply ≡ l.answer.bytes
+pub lookup_kept : (a : Answering) (request : Request) (said : Inserted) (l : Loaded) (s p : Cached) (mid w : Writer) (reply : List ℕ) → IsMissed a request l s p → p.settings.enabled ≡ true → p.writer.layout.arena ≡ room_of p.settings → Inserts said l (missed l p.writer) mid → InsertsBeside said (beside_of a p.files request) mid w → reply ≡ l.answer.bytes
     → CompletesWith (lookup s.settings a.moment s.files request s.writer.cache) s.writer w reply
-lookup_kept a request said l s p w reply m on room i said_is =
+lookup_kept a request said l s p mid w reply m on room i b said_is =
     let same = ap (λ (x : Cached). x.settings) m.rest in
     let files = ap (λ (x : Cached). x.files) m.rest in
     let alone = alone_fresh a p.files p.writer (subst (λ (f : Content). IsFresh f a.stamp p.writer) (sym files) m.fresh) (room ∙ ap room_of (sym m.settings)) in
-    let kept = missed_keeps (loaded_of a p.files request 0) a.settings a.moment request p.writer w (kept_by_insert a p.files request said l p.writer w (ap (λ (x : DbConf). x.enabled) m.settings ∙ on) alone m.loaded i) in
+    let kept = missed_keeps (loaded_of a p.files request 0) a.settings a.moment request p.writer w (kept_by_insert a p.files request said l p.writer mid w (ap (λ (x : DbConf). x.enabled) m.settings ∙ on) alone m.loaded i b) in
     lookup_completes s.settings a.moment s.files request s.writer p.writer w reply m.none m.completes (subst (λ (x : DbConf). KeepsAnswer x a.moment request p.writer w) (m.settings ∙ same) kept) (answer_is a request l s p reply m said_is)
 
 pub lookup_lone : (a : Answering) (request : Request) (l : Loaded) (s p : Cached) (reply : List ℕ) → IsMissed a request l s p → p.settings.enabled ≡ false → reply ≡ l.answer.bytes → CompletesWith (lookup s.settings a.moment s.files request s.writer.cache) s.writer p.writer reply
 lookup_lone a request l s p reply m off said_is =
     let enabled = sym (ap (λ (x : Cached). x.settings.enabled) m.rest) ∙ off in
-    let kept : KeepsAnswer s.settings a.moment request p.writer p.writer = sym (ap (λ (b : Bool). counted_as p.writer (passed_by (cond b (tried_all s.settings a.moment (candidates_of request) p.writer.cache) (unchanged p.writer.cache)) p.writer)) enabled) in
+    let kept : KeepsAnswer s.settings a.moment request p.writer p.writer = sym (ap (λ (b : Bool). counted_as p.writer (passed_by (cond b (tried_with s.settings a.moment request p.writer.cache) (unchanged p.writer.cache)) p.writer)) enabled) in
     lookup_completes s.settings a.moment s.files request s.writer p.writer p.writer reply m.none m.completes kept (answer_is a request l s p reply m said_is)

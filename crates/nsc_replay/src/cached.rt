@@ -7,7 +7,7 @@ ghost use Rattle.nsc_model.specs.Machine.{new_cache, cached, lookup, tick, check
 ghost use Rattle.nsc_model.specs.declared.record.Record.TheVariants.{Change};
 ghost use Rattle.nsc_model.specs.Sizes.{SizeFits};
 ghost use Rattle.nsc_pruner.specs.Due.{due_from};
-ghost use Rattle.nsc_turns.specs.Loads.{loaded_of};
+ghost use Rattle.nsc_turns.specs.Loads.{beside_of, loaded_of};
 ghost use Rattle.nsc_turns.specs.Turns.{Completes, CompletesWith};
 ghost use Rattle.nsc_replay.specs.Cached.{Faults, GivesUp, IsFresh, OnlyStops, ticked_at};
 
@@ -16,7 +16,8 @@ use nsc_base::{Buf, Bytes, NoMemory};
 use nsc_model::{Answerer, CacheFault, Content, DbConf, KEPT_LIMIT, Kind};
 use nsc_pruner::Due;
 use nsc_turns::{
-    Answering, Checked, HitOrMiss, check, insert, invalidate, load, loads, look, renew,
+    Answering, Checked, HitOrMiss, check, insert, insert_beside, invalidate, load, load_beside,
+    loads, look, renew,
 };
 use nsc_words::Layout;
 use nsc_writer::{Loaded, Stamp, Writer};
@@ -113,10 +114,12 @@ impl<A: Answerer> Cached<A> {
             Ok(stamp) => stamp,
             Err(fault) => return Err(fault),
         };
-        let loaded = self.load(alloc, answers, stamp, kind, key, now)?;
+        let (loaded, beside) = self.load(alloc, answers, stamp, kind, key, now)?;
         if self.settings.enabled {
             self.writer.learn();
-            let (_said, loaded) = insert(&mut self.writer, loaded);
+            let (said, loaded) = insert(&mut self.writer, loaded);
+            self.writer.learn();
+            insert_beside(&mut self.writer, said, beside.as_ref());
             return Ok(loaded.into_reply());
         }
         Ok(loaded.into_reply())
@@ -164,7 +167,7 @@ impl<A: Answerer> Cached<A> {
         }
     }
 
-    // The answer over the files, as it is to be inserted.
+    // Makes the answer over the files, as it is to be inserted, and what goes beside it.
     fn load(
         &mut self,
         alloc: Global,
@@ -173,11 +176,12 @@ impl<A: Answerer> Cached<A> {
         kind: Kind,
         key: &[u8],
         now: u64,
-    ) -> Result<Loaded, NoMemory>
+    ) -> Result<(Loaded, Option<Loaded>), NoMemory>
         requires key { length key.now ≤ key_limit }
         requires moment { now < 2 ^ 62 }
         ensures same { self.new ≡ self.old }
-        ensures loaded { IfOk result (λ l. l ≡ loaded_of (record { settings = self.old.settings; stamp = stamp; moment = now }) self.old.files (record { kind = kind; key = key.now }) 0) }
+        ensures loaded { IfOk result (λ l. l.0 ≡ loaded_of (record { settings = self.old.settings; stamp = stamp; moment = now }) self.old.files (record { kind = kind; key = key.now }) 0) }
+        ensures beside { IfOk result (λ l. l.1 ≡ beside_of (record { settings = self.old.settings; stamp = stamp; moment = now }) self.old.files (record { kind = kind; key = key.now })) }
     {
         let answering = Answering {
             settings: self.settings,
@@ -185,9 +189,9 @@ impl<A: Answerer> Cached<A> {
             moment: now,
         };
         let ready = self.files.lend(alloc, answers, 1)?;
-        let loaded = load(alloc, answers, &ready, &answering, kind, key, 0);
+        let made = load_both(alloc, answers, &ready, &answering, kind, key);
         self.files.keep(ready);
-        loaded
+        made
     }
 
     /// A tick over the files as they are, at this moment in seconds.
@@ -302,4 +306,23 @@ impl<A: Answerer> Cached<A> {
             Err(spent) => Err(CacheFault::Spent { count: spent.count }),
         }
     }
+}
+
+// Makes the answer to a request, as it is to be inserted, and what goes beside it.
+fn load_both<A: Answerer>(
+    alloc: Global,
+    answers: &A,
+    ready: &A::Ready,
+    answering: &Answering,
+    kind: Kind,
+    key: &[u8],
+) -> Result<(Loaded, Option<Loaded>), NoMemory>
+    requires key { length key.now ≤ key_limit }
+    requires moment { answering.now.moment < 2 ^ 62 }
+    ensures loaded { IfOk result (λ l. l.0 ≡ loaded_of answering.now (A.prepared_from ready.now) (record { kind = kind; key = key.now }) 0) }
+    ensures beside { IfOk result (λ l. l.1 ≡ beside_of answering.now (A.prepared_from ready.now) (record { kind = kind; key = key.now })) }
+{
+    let loaded = load(alloc, answers, ready, answering, kind, key, 0)?;
+    let beside = load_beside(alloc, answers, ready, answering, &loaded)?;
+    Ok((loaded, beside))
 }

@@ -47,3 +47,26 @@ fn ticks(rt: HostRuntime) -> Result<(), Fail> {
     assert_eq!(rt; reply.as_ref().map(|bytes| bytes.as_slice()), Some(ROOT));
     Ok(())
 }
+
+// A user who was found by name is kept by id too, with the answer over those files; without the setting he is not.
+#[test]
+fn names_with_their_ids(rt: HostRuntime) -> Result<(), Fail> {
+    let alloc = rt.alloc();
+    let none = Arc::new(alloc, Content::none())?;
+    let users = users(alloc)?;
+    for propagate in [true, false] {
+        let mut conf = Conf::defaults().passwd;
+        conf.propagate = propagate;
+        let mut cache = PlainCache::new(alloc, conf, Some(2))?;
+        let by_name = cache
+            .lookup(alloc, &users, &Plain, Kind::PwName, b"root", 0)
+            .ok();
+        assert_eq!(rt; by_name.as_ref().map(|bytes| bytes.as_slice()), Some(ROOT));
+        let by_id = cache
+            .lookup(alloc, &none, &Plain, Kind::PwUid, b"0", 0)
+            .ok();
+        let wanted = if propagate { ROOT } else { NO_USER };
+        assert_eq!(rt; by_id.as_ref().map(|bytes| bytes.as_slice()), Some(wanted));
+    }
+    Ok(())
+}
