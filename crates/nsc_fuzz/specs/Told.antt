@@ -157,7 +157,7 @@ steps_told steps = number_told (length steps) ++ flat_map step_told steps
 unfoldable pub saved_told : Saved → List ℕ
 saved_told s =
     number_told 1 ++ number_told s.number ++ number_told (type_number s.request.kind) ++ text_told s.request.key ++ text_told s.answer.bytes
-    ++ flag_told s.answer.not_found ++ number_told s.timeout
+    ++ flag_told s.answer.not_found ++ number_told s.reloads ++ number_told s.timeout
 
 -- the entries, and 0 behind them; or the check that failed
 abbrev pub image_told : Result (List Saved) ImageFault → List ℕ

@@ -1,5 +1,5 @@
 // The reader of images.
-ghost use Rattle.std.specs.Prelude.{◌≡◌, ◌++◌, List, IfNone, IfOk, IfSome, OnOk, flat_map};
+ghost use Rattle.std.specs.Prelude.{◌≡◌, ℕ, ◌++◌, List, IfNone, IfOk, IfSome, OnOk, flat_map};
 ghost use Rattle.nsc_image.specs.Faults.{IsFault};
 ghost use Rattle.nsc_image.specs.declared.fault.ImageFault.{ImageFault};
 ghost use Rattle.nsc_model.specs.Image.{ImageBytes, Saved};
@@ -16,11 +16,14 @@ use std::alloc::Global;
 /// entry, and 0 behind the last one; 1 for bytes that are no image; 2 for another version, with it; 3 for another digest, with the one
 /// in the image and the right one as texts; 4 for a fault of the layout, with its place.
 ///
-/// An entry is its number, its type, its key and its reply as texts, the flag of a not-found reply, and its timeout.
+/// An entry is its number, its type, its key and its reply as texts, the flag of a not-found reply, its count of reloads and its timeout.
+/// The count is 0 in an image of version 2.
 #[unsafe(no_mangle)]
 pub extern "C" fn nsc_verify(alloc: Global, db: u8, bytes: &[u8], room: &mut [u8]) -> usize
-    ensures images { IfSome (db_numbered db) (λ d. (entries : List Saved) → ImageBytes d entries bytes.now → IsTold (image_told (Ok entries)) room.old room.new result) }
-    ensures faults { IfSome (db_numbered db) (λ d. (fault : ImageFault) → IsFault d bytes.now fault → IsTold (image_told (Err fault)) room.old room.new result) }
+    ensures images { IfSome (db_numbered db) (λ d. (version : ℕ) (entries : List Saved) → ImageBytes d version entries bytes.now
+        → IsTold (image_told (Ok entries)) room.old room.new result) }
+    ensures faults { IfSome (db_numbered db) (λ d. (fault : ImageFault) → IsFault d bytes.now fault
+        → IsTold (image_told (Err fault)) room.old room.new result) }
     ensures none { IfNone (db_numbered db) (IsNotTold room.old room.new result) }
 {
     match Db::numbered(db) {
@@ -79,5 +82,6 @@ fn put_saved(out: &mut Vec<u8>, saved: &Saved<'_>) -> Result<(), NoMemory>
     put_text(out, saved.key())?;
     put_text(out, saved.reply())?;
     put_flag(out, saved.is_not_found())?;
+    put_number(out, u64::from(saved.reloads()))?;
     put_number(out, saved.timeout())
 }

@@ -1,6 +1,7 @@
 -- The entries of an image that are back, and those that are left.
-use Rattle.std.proofs.Common.{◌≡◌, ℕ, ◌+◌, ◌≤◌, Bool, true, false, cond, List, [], ◌∷◌, ◌++◌, length, Option, Some, None, refl, sym, ap, subst, ◌∙◌, append_assoc, arith, inl, inr}
+use Rattle.std.proofs.Common.{◌≡◌, ℕ, ◌+◌, ◌≤◌, ◌==◌, Bool, true, false, cond, List, [], ◌∷◌, ◌++◌, length, Option, Some, None, refl, sym, ap, subst, ◌∙◌, append_assoc, arith, inl, inr}
 use Rattle.std.specs.Prelude.{IfSome}
+use Rattle.std.proofs.lemmas.Bool.{eqb-true}
 use Rattle.std.proofs.lemmas.List.{append-nil, length_push}
 use Rattle.nsc_model.specs.declared.conf.DbConf.{DbConf}
 use Rattle.nsc_model.specs.declared.record.Record.{Record}
@@ -8,7 +9,7 @@ use Rattle.nsc_model.specs.declared.record.Record.TheVariants.{Change, Poll, Loa
 use Rattle.nsc_model.specs.Answers.{answer_of}
 use Rattle.nsc_model.specs.Content.{Content}
 use Rattle.nsc_model.specs.Entry.{Entry}
-use Rattle.nsc_model.specs.History.{HasEnd, HasLoad, changes, loads, newest, version_in}
+use Rattle.nsc_model.specs.History.{HasEnd, HasLoad, PolledSince, loads, version_in}
 use Rattle.nsc_model.specs.Image.{Saved}
 use Rattle.nsc_model.specs.Machine.{Cache, Kept, Passed, Refusal, refusal, tried_by}
 use Rattle.nsc_laws.specs.Calls.{Tells}
@@ -56,7 +57,7 @@ first_restored room settings now files (s ∷ entries) cache =
     let first : Passed = tried_again room (loaded_again settings now files s) cache in
     first_both (restored room settings now files entries first.cache).adds first.adds (first_restored room settings now files entries first.cache) (first_loaded room (loaded_again settings now files s) cache (first_again settings now files s))
 
--- ---- a history of a content and such records
+-- ---- a history without loads, and such records behind it
 
 version_kept : (adds h : List Record) (n : ℕ) → AreFirst adds → version_in (adds ++ h) n ≡ version_in h n
 version_kept [] h n first = refl
@@ -66,30 +67,57 @@ version_kept (Load e ∷ adds) h n first = version_kept adds h n first.1
 version_kept (End m cause ∷ adds) h n first = absurd first
 version_kept (Invalid m ∷ adds) h n first = absurd first
 
-load_first : (adds : List Record) (files : Content) (e : Entry) → AreFirst adds → HasLoad (adds ++ Change 0 files ∷ []) e → e.version ≡ 0
-load_first [] files e first a = absurd a
-load_first (Change v c ∷ adds) files e first a = absurd first
-load_first (Poll v ∷ adds) files e first a = absurd first
-load_first (Load f ∷ adds) files e first a = elim a [
+-- a history that counts no loads has none
+no_load : (h : List Record) (e : Entry) → loads h ≡ 0 → HasLoad h e → ⊥
+no_load [] e none a = a
+no_load (Change v c ∷ h) e none a = no_load h e none a
+no_load (Poll v ∷ h) e none a = no_load h e none a
+no_load (Load f ∷ h) e none a = absurd (omega (arith, none))
+no_load (End n cause ∷ h) e none a = no_load h e none a
+no_load (Invalid n ∷ h) e none a = no_load h e none a
+
+load_first : (adds h : List Record) (e : Entry) → AreFirst adds → loads h ≡ 0 → HasLoad (adds ++ h) e → e.version ≡ 0
+load_first [] h e first none a = absurd (no_load h e none a)
+load_first (Change v c ∷ adds) h e first none a = absurd first
+load_first (Poll v ∷ adds) h e first none a = absurd first
+load_first (Load f ∷ adds) h e first none a = elim a [
   | inl is ↦ ap (λ (x : Entry). x.version) (sym is) ∙ first.0
-  | inr rest ↦ load_first adds files e first.1 rest
+  | inr rest ↦ load_first adds h e first.1 none rest
 ]
-load_first (End n cause ∷ adds) files e first a = absurd first
-load_first (Invalid n ∷ adds) files e first a = absurd first
+load_first (End n cause ∷ adds) h e first none a = absurd first
+load_first (Invalid n ∷ adds) h e first none a = absurd first
 
-no_end : (adds : List Record) (files : Content) (n : ℕ) → AreFirst adds → HasEnd (adds ++ Change 0 files ∷ []) n → ⊥
-no_end [] files n first a = a
-no_end (Change v c ∷ adds) files n first a = first
-no_end (Poll v ∷ adds) files n first a = first
-no_end (Load f ∷ adds) files n first a = no_end adds files n first.1 a
-no_end (End m cause ∷ adds) files n first a = first
-no_end (Invalid m ∷ adds) files n first a = first
+end_before : (adds h : List Record) (n : ℕ) → AreFirst adds → HasEnd (adds ++ h) n → HasEnd h n
+end_before [] h n first a = a
+end_before (Change v c ∷ adds) h n first a = absurd first
+end_before (Poll v ∷ adds) h n first a = absurd first
+end_before (Load f ∷ adds) h n first a = end_before adds h n first.1 a
+end_before (End m cause ∷ adds) h n first a = absurd first
+end_before (Invalid m ∷ adds) h n first a = absurd first
 
--- what is brought back is answered over the content
-answered_first : (adds : List Record) (settings : DbConf) (now : ℕ) (files : Content) (s : Saved) → AreFirst adds → IfSome (loaded_again settings now files s) (IsAnswered (adds ++ Change 0 files ∷ []))
-answered_first adds settings now files s first = by_test (same_answer s.answer (answer_of files s.request)) where
-  by_test : (b : Bool) → IfSome (cond b (Some (answered_again settings now files s)) None) (IsAnswered (adds ++ Change 0 files ∷ []))
-  by_test true = record { files = files; version = version_kept adds (Change 0 files ∷ []) 0 first; answer = refl; polled = (Change 0 files ∷ [], (adds, refl), refl, omega arith) }
+-- what was polled stays so
+polled_behind : (adds h : List Record) (n epoch : ℕ) → PolledSince h n epoch → PolledSince (adds ++ h) n epoch
+polled_behind adds h n epoch (moment, (more, is), looks, le) =
+    (moment, (adds ++ more, ap (λ (x : List Record). adds ++ x) is ∙ sym (append_assoc adds more moment)), looks, le)
+
+-- a version that has a content was looked at
+polled_from : (h : List Record) (n : ℕ) (files : Content) → version_in h n ≡ Some files → PolledSince h n 0
+polled_from [] n files is = absurd cc
+polled_from (Change v c ∷ h) n files is = by_test (v == n) (λ e. eqb-true v n e) is (λ e. polled_from h n files e) where
+  by_test : (b : Bool) → (b ≡ true → v ≡ n) → cond b (Some c) (version_in h n) ≡ Some files → (version_in h n ≡ Some files → PolledSince h n 0) → PolledSince (Change v c ∷ h) n 0
+  by_test true same found rest = (Change v c ∷ h, ([], refl), same refl, omega arith)
+  by_test false same found rest = polled_behind (Change v c ∷ []) h n 0 (rest found)
+polled_from (Poll v ∷ h) n files is = polled_behind (Poll v ∷ []) h n 0 (polled_from h n files is)
+polled_from (Load e ∷ h) n files is = polled_behind (Load e ∷ []) h n 0 (polled_from h n files is)
+polled_from (End m cause ∷ h) n files is = polled_behind (End m cause ∷ []) h n 0 (polled_from h n files is)
+polled_from (Invalid m ∷ h) n files is = polled_behind (Invalid m ∷ []) h n 0 (polled_from h n files is)
+
+-- what is brought back is answered over the content of version 0
+answered_first : (adds h : List Record) (settings : DbConf) (now : ℕ) (files : Content) (s : Saved) → AreFirst adds → version_in h 0 ≡ Some files
+    → IfSome (loaded_again settings now files s) (IsAnswered (adds ++ h))
+answered_first adds h settings now files s first held = by_test (same_answer s.answer (answer_of files s.request)) where
+  by_test : (b : Bool) → IfSome (cond b (Some (answered_again settings now files s)) None) (IsAnswered (adds ++ h))
+  by_test true = record { files = files; version = version_kept adds h 0 first ∙ held; answer = refl; polled = polled_behind adds h 0 0 (polled_from h 0 files held) }
   by_test false = tt
 
 -- ---- what stays of a cache
@@ -116,22 +144,18 @@ keeps_restored room settings now files (s ∷ entries) cache =
     let rest = keeps_restored room settings now files entries (tried_again room o cache).cache in
     record { sources = rest.sources ∙ first.sources; version = rest.version ∙ first.version }
 
--- a history of the content alone tells it as the newest version
-newest_first : (files : Content) (h : List Record) (cache : Cache) → h ≡ Change 0 files ∷ [] → Tells h cache → IsNewest files 0 cache
-newest_first files h cache new told =
-    let content : Some files ≡ Some cache.sources = sym (ap newest new) ∙ told.newest_is in
-    let count : 1 ≡ cache.newest_version + 1 = sym (ap changes new) ∙ told.counted in
-    record { sources = (let same : files ≡ cache.sources = cc in sym same); number = omega arith }
-
-pub newest_restored : (settings : DbConf) (now : ℕ) (files : Content) (before w : Writer) (entries : List Saved) → before.seen ≡ Change 0 files ∷ [] → Tells before.seen before.cache
+pub newest_restored : (settings : DbConf) (now : ℕ) (files : Content) (before w : Writer) (entries : List Saved) → IsNewest files 0 before.cache
     → w ≡ restored_by settings now files entries before → IsNewest files 0 w.cache
-newest_restored settings now files before w entries new told is =
-    let first = newest_first files before.seen before.cache new told in
+newest_restored settings now files before w entries first is =
     let keeps = keeps_restored before.layout.arena settings now files entries before.cache in
     record {
       sources = ap (λ (x : Writer). x.cache.sources) is ∙ keeps.sources ∙ first.sources;
       number = ap (λ (x : Writer). x.cache.newest_version) is ∙ keeps.version ∙ first.number;
     }
+
+-- a writer whose newest version is 0 has its content in the history
+held_first : (files : Content) (h : List Record) (cache : Cache) → Tells h cache → IsNewest files 0 cache → version_in h 0 ≡ Some files
+held_first files h cache told first = ap (version_in h) (sym first.number) ∙ told.held ∙ ap (λ (x : Content). Some x) first.sources
 
 -- ---- one more entry
 
@@ -172,31 +196,35 @@ pub record Restores (settings : DbConf) (now : ℕ) (files : Content) (image : L
   pub counted : loads w.seen ≡ kept
   pub few : kept ≤ length entries
 
+-- the records that they add
+abbrev adds_of : DbConf → ℕ → Content → Writer → List Saved → List Record
+adds_of settings now files before entries = (restored before.layout.arena settings now files entries before.cache).adds
+
 -- the history after them
-seen_after : (settings : DbConf) (now : ℕ) (files : Content) (before w : Writer) (entries : List Saved) → before.seen ≡ Change 0 files ∷ [] → w ≡ restored_by settings now files entries before
-    → w.seen ≡ (restored before.layout.arena settings now files entries before.cache).adds ++ Change 0 files ∷ []
-seen_after settings now files before w entries new is =
-    ap (λ (x : Writer). x.seen) is ∙ ap (λ (h : List Record). (restored before.layout.arena settings now files entries before.cache).adds ++ h) new
+seen_after : (settings : DbConf) (now : ℕ) (files : Content) (before w : Writer) (entries : List Saved) → w ≡ restored_by settings now files entries before
+    → w.seen ≡ adds_of settings now files before entries ++ before.seen
+seen_after settings now files before w entries is = ap (λ (x : Writer). x.seen) is
 
-pub answered_next : (settings : DbConf) (now : ℕ) (files : Content) (before w : Writer) (entries : List Saved) (s : Saved) (o : Option Loaded) → before.seen ≡ Change 0 files ∷ []
-    → w ≡ restored_by settings now files entries before → o ≡ loaded_again settings now files s → IfSome o (IsAnswered w.seen)
-answered_next settings now files before w entries s o new is made =
-    let adds : List Record = (restored before.layout.arena settings now files entries before.cache).adds in
+pub answered_next : (settings : DbConf) (now : ℕ) (files : Content) (before w : Writer) (entries : List Saved) (s : Saved) (o : Option Loaded) → Tells before.seen before.cache
+    → IsNewest files 0 before.cache → w ≡ restored_by settings now files entries before → o ≡ loaded_again settings now files s → IfSome o (IsAnswered w.seen)
+answered_next settings now files before w entries s o told newest is made =
+    let adds : List Record = adds_of settings now files before entries in
     let first = first_restored before.layout.arena settings now files entries before.cache in
-    subst (λ (h : List Record). IfSome o (IsAnswered h)) (sym (seen_after settings now files before w entries new is))
-    (subst (λ (l : Option Loaded). IfSome l (IsAnswered (adds ++ Change 0 files ∷ []))) (sym made) (answered_first adds settings now files s first))
+    let held = held_first files before.seen before.cache told newest in
+    subst (λ (h : List Record). IfSome o (IsAnswered h)) (sym (seen_after settings now files before w entries is))
+    (subst (λ (l : Option Loaded). IfSome l (IsAnswered (adds ++ before.seen))) (sym made) (answered_first adds before.seen settings now files s first held))
 
-pub versions_first : (settings : DbConf) (now : ℕ) (files : Content) (before w : Writer) (entries : List Saved) → before.seen ≡ Change 0 files ∷ []
+pub versions_first : (settings : DbConf) (now : ℕ) (files : Content) (before w : Writer) (entries : List Saved) → loads before.seen ≡ 0
     → w ≡ restored_by settings now files entries before → (e : Entry) → HasLoad w.seen e → e.version ≡ 0
-versions_first settings now files before w entries new is e a =
-    load_first (restored before.layout.arena settings now files entries before.cache).adds files e (first_restored before.layout.arena settings now files entries before.cache)
-    (subst (λ (h : List Record). HasLoad h e) (seen_after settings now files before w entries new is) a)
+versions_first settings now files before w entries none is e a =
+    load_first (adds_of settings now files before entries) before.seen e (first_restored before.layout.arena settings now files entries before.cache) none
+    (subst (λ (h : List Record). HasLoad h e) (seen_after settings now files before w entries is) a)
 
-pub none_ended : (settings : DbConf) (now : ℕ) (files : Content) (before w : Writer) (entries : List Saved) → before.seen ≡ Change 0 files ∷ []
-    → w ≡ restored_by settings now files entries before → (n : ℕ) → HasEnd w.seen n → ⊥
-none_ended settings now files before w entries new is n a =
-    no_end (restored before.layout.arena settings now files entries before.cache).adds files n (first_restored before.layout.arena settings now files entries before.cache)
-    (subst (λ (h : List Record). HasEnd h n) (seen_after settings now files before w entries new is) a)
+pub none_ended : (settings : DbConf) (now : ℕ) (files : Content) (before w : Writer) (entries : List Saved) → w ≡ restored_by settings now files entries before
+    → (n : ℕ) → HasEnd w.seen n → HasEnd before.seen n
+none_ended settings now files before w entries is n a =
+    end_before (adds_of settings now files before entries) before.seen n (first_restored before.layout.arena settings now files entries before.cache)
+    (subst (λ (h : List Record). HasEnd h n) (seen_after settings now files before w entries is) a)
 
 -- one more entry is back, which was inserted or not
 pub restores_next : (settings : DbConf) (now : ℕ) (files : Content) (image : List Saved) (before w w' : Writer) (entries left left' : List Saved) (s : Saved) (o : Option Loaded) (kept kept' : ℕ)

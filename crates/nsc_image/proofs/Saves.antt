@@ -1,6 +1,7 @@
 -- The entries that were put into an image, and those that are left.
-use Rattle.std.proofs.Common.{◌≡◌, ℕ, ◌+◌, ◌<◌, ◌≤◌, ◌^◌, Bool, true, false, cond, leb, List, [], ◌∷◌, ◌++◌, length, Option, Some, None, refl, sym, ap, subst, ◌∙◌, arith}
+use Rattle.std.proofs.Common.{◌≡◌, ℕ, ◌+◌, ◌<◌, ◌≤◌, ◌^◌, Bool, true, false, cond, leb, nat_lt, List, [], ◌∷◌, ◌++◌, length, Option, Some, None, refl, sym, ap, subst, ◌∙◌, arith}
 use Rattle.std.specs.Prelude.{IsTrue, All}
+use Rattle.std.proofs.Math.Nat.{min-le_right}
 use Rattle.std.proofs.lemmas.Bool.{lt-ltb}
 use Rattle.std.proofs.lemmas.List.{append-nil, append_assoc, length-append, length-map}
 use Rattle.std.proofs.lemmas.List.Elements.{All-head, All-tail}
@@ -16,7 +17,8 @@ use Rattle.nsc_shelf.specs.Shelf.{IsTold, entry_from}
 use Rattle.nsc_writer.specs.Writer.{IsListed, Writer}
 use Rattle.nsc_writer.proofs.Rest.{rest_all, rest_from, rest_next, rest_none, told_of}
 use Rattle.nsc_image.specs.Draft.{Draft}
-use Rattle.nsc_model.specs.Image.{IsSaved, Saved, is_above, last_number, saved_of}
+use Rattle.nsc_model.specs.Image.{IsSaved, Saved, image_version, is_above, last_number, saved_count, saved_of}
+use Rattle.nsc_image.specs.Reading.{saved_with}
 use Rattle.nsc_image.specs.Saving.{IsEntryOf, saved_entries}
 use Rattle.nsc_image.proofs.Walk.{last_number-push}
 
@@ -62,11 +64,18 @@ listed_entry : (o : Option Kept) (e : EntryAt) (key reply : List ℕ) → IsList
 listed_entry None e key reply told = absurd cc
 listed_entry (Some k) e key reply told = (k, refl, (let is : e ≡ told_of k = cc told.0 in is), told.1, told.2)
 
+-- a count of reloads that is saved has four bytes
+count_fits : (reloads : ℕ) → nat_lt (saved_count reloads) 4294967296 ≡ true
+count_fits reloads = lt-ltb (saved_count reloads) 4294967296 (let most = min-le_right reloads 4294967295 in omega (arith, most))
+
 -- the entry that is put next, of what a call tells
 abbrev pub saved_from : EntryAt → List ℕ → List ℕ → Saved
-saved_from e key reply = record { number = e.number; request = record { kind = e.kind; key = key }; answer = record { bytes = reply; not_found = e.not_found }; timeout = e.timeout }
+saved_from e key reply = saved_with e.number e.kind key reply e.not_found (saved_count e.reloads) e.timeout
 
-saved_told : (k : Kept) (e : EntryAt) (key reply : List ℕ) → e ≡ told_of k → key ≡ k.entry.request.key → reply ≡ k.entry.answer.bytes → saved_from e key reply ≡ saved_of k.entry
+pub saved_put : (e : EntryAt) (key reply : List ℕ) (s : Saved) (count : ℕ) → s ≡ saved_with e.number e.kind key reply e.not_found count e.timeout → count ≡ saved_count e.reloads → s ≡ saved_from e key reply
+saved_put e key reply s count is count_is = is ∙ ap (λ n. saved_with e.number e.kind key reply e.not_found n e.timeout) count_is
+
+saved_told : (k : Kept) (e : EntryAt) (key reply : List ℕ) → e ≡ told_of k → key ≡ k.entry.request.key → reply ≡ k.entry.answer.bytes → saved_from e key reply ≡ saved_of k
 saved_told k e key reply e_is key_is reply_is =
     ap (λ (x : EntryAt). saved_from x key reply) e_is ∙ ap (λ (x : List ℕ). saved_from (told_of k) x reply) key_is ∙ ap (λ (x : List ℕ). saved_from (told_of k) k.entry.request.key x) reply_is
 
@@ -75,8 +84,8 @@ pub record Step (db : Db) (before : Writer) (from : ℕ) (draft : Draft) (e : En
   pub kept : Kept
   pub next_is : e.next ≡ kept.entry.number + 1
   pub left : rest_from from before.cache.entries ≡ kept ∷ rest_from e.next before.cache.entries
-  pub value : saved_from e key reply ≡ saved_of kept.entry
-  pub saved : IsSaved draft.db (saved_from e key reply)
+  pub value : saved_from e key reply ≡ saved_of kept
+  pub saved : IsSaved draft.db image_version (saved_from e key reply)
   pub above : IsTrue (is_above (last_number None draft.entries) e.number)
   pub room : length draft.entries + 1 < 2 ^ 32
 
@@ -94,7 +103,7 @@ step_of db before w from kb rb kb' rb' draft e key reply saves rising all room t
     let left : rest_from from ks ≡ k ∷ rest_from e.next ks = next.0 ∙ ap (λ n. k ∷ rest_from n ks) (sym next_is) in
     let size : length draft.entries + length (rest_from from ks) ≡ length ks =
     (let all_listed = ap length saves.listed in
-    omega (arith, all_listed, length-append draft.entries (saved_entries (rest_from from ks)), length-map (entries_of (rest_from from ks)) saved_of, length-map (rest_from from ks) (λ (k : Kept). k.entry), length-map (entries_of ks) saved_of, length-map ks (λ (k : Kept). k.entry))) in
+    omega (arith, all_listed, length-append draft.entries (saved_entries (rest_from from ks)), length-map (rest_from from ks) saved_of, length-map ks saved_of)) in
     record {
       kept = k;
       next_is = next_is;
@@ -105,6 +114,7 @@ step_of db before w from kb rb kb' rb' draft e key reply saves rising all room t
         of_database = ap (λ (x : EntryAt). database_of x.kind) t.2 ∙ own.of_database ∙ sym saves.db_is;
         key_fits = (let limit = saves.key_limit_is in omega arith);
         reply_fits = (let limit = saves.reply_limit_is in omega arith);
+        reloads_fit = count_fits e.reloads;
         timeout_fits = subst (λ (x : EntryAt). x.timeout < 2 ^ 63) (sym t.2) own.timeout_fits;
       };
       above = saves.below e.number (let low = next.1 in omega arith);
@@ -126,16 +136,16 @@ pub saves_next : (db : Db) (before w w' : Writer) (from : ℕ) (kb rb kb' rb' : 
     → Saves db before w' e.next kb' rb' draft'
 saves_next db before w w' from kb rb kb' rb' draft draft' e key reply s saves step s_is same key_is reply_is draft_is =
     let ks : List Kept = before.cache.entries in
-    let value : s ≡ saved_of step.kept.entry = s_is ∙ step.value in
-    let entries_are : draft'.entries ≡ draft.entries ++ saved_of step.kept.entry ∷ [] = ap (λ (d : Draft). d.entries) draft_is ∙ ap (λ (x : Saved). draft.entries ++ x ∷ []) value in
+    let value : s ≡ saved_of step.kept = s_is ∙ step.value in
+    let entries_are : draft'.entries ≡ draft.entries ++ saved_of step.kept ∷ [] = ap (λ (d : Draft). d.entries) draft_is ∙ ap (λ (x : Saved). draft.entries ++ x ∷ []) value in
     record {
       same = same ∙ saves.same;
       key_limit_is = key_is ∙ saves.key_limit_is;
       reply_limit_is = reply_is ∙ saves.reply_limit_is;
       db_is = ap (λ (d : Draft). d.db) draft_is ∙ saves.db_is;
-      below = subst (λ (l : List Saved). EndsBelow l e.next) (sym entries_are) (ends_below draft.entries (saved_of step.kept.entry) e.next step.next_is);
+      below = subst (λ (l : List Saved). EndsBelow l e.next) (sym entries_are) (ends_below draft.entries (saved_of step.kept) e.next step.next_is);
       listed =
-          ap (λ (l : List Saved). l ++ saved_entries (rest_from e.next ks)) entries_are ∙ append_assoc draft.entries (saved_of step.kept.entry ∷ []) (saved_entries (rest_from e.next ks))
+          ap (λ (l : List Saved). l ++ saved_entries (rest_from e.next ks)) entries_are ∙ append_assoc draft.entries (saved_of step.kept ∷ []) (saved_entries (rest_from e.next ks))
           ∙ ap (λ (l : List Kept). draft.entries ++ saved_entries l) (sym step.left) ∙ saves.listed;
     }
 

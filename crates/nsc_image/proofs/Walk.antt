@@ -22,64 +22,64 @@ last_number-push last [] s = refl
 last_number-push last (e ∷ entries) s = last_number-push (Some e.number) entries s
 
 -- so many entries were taken, the last of them with this number, and the rest is left
-pub record Walk (db : Db) (bytes : List ℕ) (count : ℕ) (last : Option ℕ) (rest : List ℕ) : Type 0 where
+pub record Walk (db : Db) (version : ℕ) (bytes : List ℕ) (count : ℕ) (last : Option ℕ) (rest : List ℕ) : Type 0 where
   pub entries : List Saved
-  pub stand : Stand db bytes entries rest
+  pub stand : Stand db version bytes entries rest
   pub count_is : length entries ≡ count
   pub last_is : last ≡ last_number None entries
 
-pub walk_start : (db : Db) (bytes : List ℕ) → Walk db bytes 0 None bytes
-walk_start db bytes = record {
+pub walk_start : (db : Db) (version : ℕ) (bytes : List ℕ) → Walk db version bytes 0 None bytes
+walk_start db version bytes = record {
   entries = [];
-  stand = record { each = All-nil (IsSaved db); rising = tt; parts = refl };
+  stand = record { each = All-nil (IsSaved db version); rising = tt; parts = refl };
   count_is = refl;
   last_is = refl;
 }
 
-pub walk_length : (db : Db) (bytes : List ℕ) (count : ℕ) (last : Option ℕ) (rest : List ℕ) → Walk db bytes count last rest → length rest ≤ length bytes
-walk_length db bytes count last rest w =
-    let parts = ap length w.stand.parts in omega (arith, parts, length-append (flat_map saved_bytes w.entries) rest)
+pub walk_length : (db : Db) (version : ℕ) (bytes : List ℕ) (count : ℕ) (last : Option ℕ) (rest : List ℕ) → Walk db version bytes count last rest → length rest ≤ length bytes
+walk_length db version bytes count last rest w =
+    let parts = ap length w.stand.parts in omega (arith, parts, length-append (flat_map (saved_bytes version) w.entries) rest)
 
 -- the place of the rest
-rest_place : (db : Db) (bytes : List ℕ) (count : ℕ) (last : Option ℕ) (rest : List ℕ) (w : Walk db bytes count last rest) → length bytes - length rest ≡ length (flat_map saved_bytes w.entries)
-rest_place db bytes count last rest w =
-    let parts = ap length w.stand.parts in omega (arith, parts, length-append (flat_map saved_bytes w.entries) rest)
+rest_place : (db : Db) (version : ℕ) (bytes : List ℕ) (count : ℕ) (last : Option ℕ) (rest : List ℕ) (w : Walk db version bytes count last rest) → length bytes - length rest ≡ length (flat_map (saved_bytes version) w.entries)
+rest_place db version bytes count last rest w =
+    let parts = ap length w.stand.parts in omega (arith, parts, length-append (flat_map (saved_bytes version) w.entries) rest)
 
-pub walk_step : (db : Db) (bytes : List ℕ) (count : ℕ) (last : Option ℕ) (rest : List ℕ) → IsBytes bytes → Walk db bytes count last rest → first_failing (entry_checks db last rest) ≡ None
-    → Walk db bytes (count + 1) (Some (wide_field_in rest 0)) (drop (saved_size rest) rest)
+pub walk_step : (db : Db) (version : ℕ) (bytes : List ℕ) (count : ℕ) (last : Option ℕ) (rest : List ℕ) → IsBytes bytes → Walk db version bytes count last rest → first_failing (entry_checks db version last rest) ≡ None
+    → Walk db version bytes (count + 1) (Some (wide_field_in rest 0)) (drop (saved_size version rest) rest)
 unfolding saved_at
-walk_step db bytes count last rest fits w none =
+walk_step db version bytes count last rest fits w none =
     let entries : List Saved = w.entries in
-    let s : Saved = saved_at rest in
-    let after : List ℕ = drop (saved_size rest) rest in
-    let t = taken db last rest (IsBytes-behind bytes (flat_map saved_bytes entries) rest w.stand.parts fits) (sound_from db last rest none) in
+    let s : Saved = saved_at version rest in
+    let after : List ℕ = drop (saved_size version rest) rest in
+    let t = taken db version last rest (IsBytes-behind bytes (flat_map (saved_bytes version) entries) rest w.stand.parts fits) (sound_from db version last rest none) in
     let above : IsTrue (is_above (last_number None entries) s.number) = ap (λ o. is_above o s.number) (sym w.last_is) ∙ t.above in
     record {
       entries = entries ++ s ∷ [];
       stand = record {
-        each = All-push (IsSaved db) entries s w.stand.each t.saved;
+        each = All-push (IsSaved db version) entries s w.stand.each t.saved;
         rising = Rise-push None entries s w.stand.rising above;
-        parts = w.stand.parts ∙ ap (λ (x : List ℕ). flat_map saved_bytes entries ++ x) t.parts ∙ sym (append_assoc (flat_map saved_bytes entries) (saved_bytes s) after)
-            ∙ ap (λ (x : List ℕ). x ++ after) (flat_map_more saved_bytes [] entries s);
+        parts = w.stand.parts ∙ ap (λ (x : List ℕ). flat_map (saved_bytes version) entries ++ x) t.parts ∙ sym (append_assoc (flat_map (saved_bytes version) entries) (saved_bytes version s) after)
+            ∙ ap (λ (x : List ℕ). x ++ after) (flat_map_more (saved_bytes version) [] entries s);
       };
       count_is = length_push entries s ∙ ap (λ n. n + 1) w.count_is;
       last_is = sym (last_number-push None entries s);
     }
 
-pub walk_breaks : (db : Db) (bytes : List ℕ) (count counter : ℕ) (last : Option ℕ) (rest : List ℕ) (at : ℕ) → Walk db bytes counter last rest → counter < count
-    → first_failing (entry_checks db last rest) ≡ Some at → EntriesBreak db count bytes (length bytes - length rest + at)
-walk_breaks db bytes count counter last rest at w more fault =
-    let here : first_failing (entry_checks db (last_number None w.entries) rest) ≡ Some at = ap (λ o. first_failing (entry_checks db o rest)) (sym w.last_is) ∙ fault in
+pub walk_breaks : (db : Db) (version : ℕ) (bytes : List ℕ) (count counter : ℕ) (last : Option ℕ) (rest : List ℕ) (at : ℕ) → Walk db version bytes counter last rest → counter < count
+    → first_failing (entry_checks db version last rest) ≡ Some at → EntriesBreak db version count bytes (length bytes - length rest + at)
+walk_breaks db version bytes count counter last rest at w more fault =
+    let here : first_failing (entry_checks db version (last_number None w.entries) rest) ≡ Some at = ap (λ o. first_failing (entry_checks db version o rest)) (sym w.last_is) ∙ fault in
     let fewer : length w.entries < count = (let e = w.count_is in omega (arith, e)) in
-    (w.entries, rest, at, w.stand, inl (fewer, here), ap (λ n. n + at) (rest_place db bytes counter last rest w))
+    (w.entries, rest, at, w.stand, inl (fewer, here), ap (λ n. n + at) (rest_place db version bytes counter last rest w))
 
-pub walk_surplus : (db : Db) (bytes : List ℕ) (count counter : ℕ) (last : Option ℕ) (rest : List ℕ) → Walk db bytes counter last rest → counter ≡ count
-    → 0 < length rest → EntriesBreak db count bytes (length bytes - length rest)
-walk_surplus db bytes count counter last rest w all left =
-    (w.entries, rest, 0, w.stand, inr (w.count_is ∙ all, left, refl), (let place = rest_place db bytes counter last rest w in omega (arith, place)))
+pub walk_surplus : (db : Db) (version : ℕ) (bytes : List ℕ) (count counter : ℕ) (last : Option ℕ) (rest : List ℕ) → Walk db version bytes counter last rest → counter ≡ count
+    → 0 < length rest → EntriesBreak db version count bytes (length bytes - length rest)
+walk_surplus db version bytes count counter last rest w all left =
+    (w.entries, rest, 0, w.stand, inr (w.count_is ∙ all, left, refl), (let place = rest_place db version bytes counter last rest w in omega (arith, place)))
 
-pub walk_all : (db : Db) (bytes : List ℕ) (count counter : ℕ) (last : Option ℕ) (rest : List ℕ) → Walk db bytes counter last rest → counter ≡ count
-    → length rest ≡ 0 → Fill db count bytes
-walk_all db bytes count counter last rest w all none =
+pub walk_all : (db : Db) (version : ℕ) (bytes : List ℕ) (count counter : ℕ) (last : Option ℕ) (rest : List ℕ) → Walk db version bytes counter last rest → counter ≡ count
+    → length rest ≡ 0 → Fill db version count bytes
+walk_all db version bytes count counter last rest w all none =
     let nothing : rest ≡ [] = nil_from_length rest none in
-    (w.entries, record { each = w.stand.each; rising = w.stand.rising; parts = w.stand.parts ∙ ap (λ (x : List ℕ). flat_map saved_bytes w.entries ++ x) nothing }, w.count_is ∙ all)
+    (w.entries, record { each = w.stand.each; rising = w.stand.rising; parts = w.stand.parts ∙ ap (λ (x : List ℕ). flat_map (saved_bytes version) w.entries ++ x) nothing }, w.count_is ∙ all)

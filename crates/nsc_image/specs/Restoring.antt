@@ -19,11 +19,12 @@ same_answer a b = bytes_eq a.bytes b.bytes && mark_of a.not_found == mark_of b.n
 abbrev pub first_stamp : Stamp
 first_stamp = record { version = 0; epoch = 0 }
 
--- the answer to an entry's request over these files, until the earlier of the entry's timeout and that of a new entry
+-- the answer to an entry's request over these files, until the earlier of the entry's timeout and that of a new entry, with the
+-- entry's count of reloads
 abbrev pub answered_again : DbConf → ℕ → Content → Saved → Loaded
 answered_again settings now files s =
     let answer = answer_of files s.request in
-    record { request = s.request; answer = answer; stamp = first_stamp; timeout = min s.timeout (now + life_of settings answer); reloads = 0 }
+    record { request = s.request; answer = answer; stamp = first_stamp; timeout = min s.timeout (now + life_of settings answer); reloads = s.reloads }
 
 -- what an entry of an image brings back: nothing where its answer is another one
 abbrev pub loaded_again : DbConf → ℕ → Content → Saved → Option Loaded

@@ -5,10 +5,9 @@ use Rattle.nsc_model.specs.Entry.{Entry}
 use Rattle.nsc_model.specs.Kinds.{database_of}
 use Rattle.nsc_model.specs.Machine.{Kept}
 use Rattle.nsc_model.specs.Image.{Saved, saved_of}
-use Rattle.nsc_laws.specs.Calls.{entries_of}
 
 abbrev pub saved_entries : List Kept → List Saved
-saved_entries entries = map saved_of (entries_of entries)
+saved_entries entries = map saved_of entries
 
 -- an entry of the database, with a timeout that an image can have
 pub record IsEntryOf (db : Db) (e : Entry) : Type 0 where

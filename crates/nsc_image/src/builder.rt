@@ -1,11 +1,13 @@
+// An image in the making.
 ghost use Rattle.std.specs.Prelude.{◌≡◌, ◌≤◌, ◌++◌, IfOk, vec_len};
 ghost use Rattle.sha2.specs.Sha256.{sha256};
 ghost use Rattle.nsc_image.specs.Draft.{counted};
-ghost use Rattle.nsc_model.specs.Image.{image_head};
+ghost use Rattle.nsc_model.specs.Image.{image_head, image_version};
 
-use crate::layout::{COUNT_FIELD, ENTRIES, MAGIC, VERSION, db_number};
+use crate::layout::{COUNT_FIELD, ENTRIES, MAGIC, db_number};
 use crate::room::{put, put_field, put_saved};
 use crate::saved::Saved;
+use crate::version::Version;
 use byteorder::{ByteOrder, LittleEndian};
 use nsc_base::{Bytes, NoMemory};
 use nsc_model::Db;
@@ -13,7 +15,7 @@ use sha2::{Digest, Sha256};
 use std::alloc::Global;
 use std::marker::Model;
 
-/// An image in the making. Contracts see it as its database and the entries that were added so far.
+/// An image of version 3 in the making. Contracts see it as its database and the entries that were added so far.
 #[derive(Debug, Drop)]
 pub struct ImageBuilder {
     db: Db,
@@ -34,9 +36,13 @@ impl Model for ImageBuilder {
 impl ImageBuilder {
     ghost use Rattle.std.specs.Prelude.{◌≡◌, ◌+◌, ◌<◌, ◌^◌, ◌++◌, ◌∷◌, [], None, IsTrue, length, IfOk, OnOk, OnErr};
     ghost use Rattle.nsc_image.specs.Draft.{Draft, IsDraft, draft_of};
-    ghost use Rattle.nsc_model.specs.Image.{ImageBytes, IsSaved, is_above, last_number};
+    ghost use Rattle.nsc_model.specs.Image.{ImageBytes, IsSaved, image_version, is_above, last_number};
 
-    /// Begins an image of this database, without entries. Fails only for want of memory.
+    /// Begins an image of a database, without entries.
+    ///
+    /// # Errors
+    ///
+    /// `NoMemory`, if memory is short.
     pub fn new(alloc: Global, db: Db) -> Result<ImageBuilder, NoMemory>
         ensures { IfOk result (λ draft. draft ≡ record { db = db; entries = [] }) }
     {
@@ -47,10 +53,17 @@ impl ImageBuilder {
         })
     }
 
-    /// Adds an entry of the database. Its number is above those of the entries before it, its timeout is below 2^63, and there are
-    /// fewer than 2^32 entries with it. Fails only for want of memory, and then nothing changes.
+    /// Adds an entry of the database.
+    ///
+    /// - Its number is above those of the entries before it.
+    /// - Its timeout is below 2^63.
+    /// - With it there are fewer than 2^32 entries.
+    ///
+    /// # Errors
+    ///
+    /// `NoMemory`, if memory is short: then nothing changes.
     pub fn push(&mut self, saved: &Saved) -> Result<(), NoMemory>
-        requires is { IsSaved self.old.db saved.now }
+        requires is { IsSaved self.old.db image_version saved.now }
         requires above { IsTrue (is_above (last_number None self.old.entries) saved.now.number) }
         requires count { length self.old.entries + 1 < 2 ^ 32 }
         ensures ok { OnOk result (self.new ≡ record self.old { entries = self.old.entries ++ saved.now ∷ [] }) }
@@ -61,28 +74,32 @@ impl ImageBuilder {
         Ok(())
     }
 
-    /// The bytes of the image, with its count and its digest. Fails only for want of memory.
+    /// Ends the image, and gives its bytes, with its count and its digest.
+    ///
+    /// # Errors
+    ///
+    /// `NoMemory`, if memory is short.
     pub fn seal(self) -> Result<Bytes, NoMemory>
-        ensures { IfOk result (ImageBytes self.db self.entries) }
+        ensures { IfOk result (ImageBytes self.db image_version self.entries) }
     {
         let count = self.count;
         Ok(Bytes::from_vec(sealed(self.bytes, count)?))
     }
 }
 
-// The head of an image without its count.
+// Makes the head of an image without its count.
 fn head(alloc: Global, db: Db) -> Result<Vec<u8>, NoMemory>
-    ensures { IfOk result (λ bytes. bytes.items ≡ image_head db 0) }
+    ensures { IfOk result (λ bytes. bytes.items ≡ image_head db image_version 0) }
 {
     let mut bytes = Vec::with_capacity(alloc, ENTRIES)?;
     put(&mut bytes, &MAGIC);
-    put_field(&mut bytes, VERSION);
+    put_field(&mut bytes, Version::Three.number());
     put_field(&mut bytes, db_number(db));
     put_field(&mut bytes, 0);
     Ok(bytes)
 }
 
-// The image of which these are the bytes before the digest, but for the count.
+// Makes the image of which these are the bytes before the digest, but for the count.
 fn sealed(bytes: Vec<u8>, count: u32) -> Result<Vec<u8>, NoMemory>
     requires { 20 ≤ vec_len bytes }
     ensures { IfOk result (λ image. image.items ≡ counted count bytes.items ++ sha256 (counted count bytes.items)) }

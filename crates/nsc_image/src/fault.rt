@@ -1,3 +1,5 @@
+// The faults of images.
+
 use thiserror::Error;
 
 /// Why bytes are no image of a database. The checks come in the order of the variants, and the first one that fails is told.
@@ -6,7 +8,7 @@ pub enum ImageFault {
     /// There are fewer than 52 bytes, or the first 8 of them are not `NSCIMAGE`.
     #[error("no image of a database")]
     NotImage,
-    /// The image has another version than 2.
+    /// The image has another version than 2 and 3.
     #[error("an image of version {0}")]
     ImageVersion(u32),
     /// The digest at the end of the image is not SHA-256 of what stands before it.

@@ -1,10 +1,14 @@
+// An image that was accepted, and its entries.
+
 use crate::layout::{behind_entry, entry_at};
 use crate::saved::Saved;
+use crate::version::Version;
 use std::marker::Model;
 
 /// An image that `verify` accepted. Contracts see it as the list of its entries, in the order of their numbers.
 #[derive(Debug, Drop)]
 pub struct Image<'a> {
+    version: Version,
     count: u32,
     bytes: &'a [u8],
 }
@@ -13,27 +17,33 @@ impl<'a> Model for Image<'a> {
     ghost use Rattle.std.specs.Prelude.{List};
     ghost use Rattle.nsc_model.specs.Image.{Saved};
     ghost use Rattle.nsc_image.specs.Reading.{AreReadable, saved_in};
+    ghost use Rattle.nsc_image.specs.Versions.{number_of};
 
     ghost Value = { List Saved };
 
-    ghost view = { λ i. saved_in i.count i.bytes.now };
+    ghost view = { λ i. saved_in (number_of i.version) i.count i.bytes.now };
 
-    ghost invariant = { λ i. AreReadable i.count i.bytes.now };
+    ghost invariant = { λ i. AreReadable (number_of i.version) i.count i.bytes.now };
 }
 
 impl<'a> Image<'a> {
     ghost use Rattle.std.specs.Prelude.{◌≡◌, ◌<◌, ◌^◌, length};
     ghost use Rattle.nsc_image.specs.Reading.{AreReadable, saved_in};
+    ghost use Rattle.nsc_image.specs.Versions.{number_of};
 
-    // The image of so many entries, which stand in these bytes.
-    pub(crate) fn new(count: u32, bytes: &'a [u8]) -> Image<'a>
-        requires { AreReadable count bytes.now }
-        ensures { result ≡ saved_in count bytes.now }
+    // Makes the image of `count` entries of a version, which are in these bytes.
+    pub(crate) fn new(version: Version, count: u32, bytes: &'a [u8]) -> Image<'a>
+        requires { AreReadable (number_of version) count bytes.now }
+        ensures { result ≡ saved_in (number_of version) count bytes.now }
     {
-        Image { count, bytes }
+        Image {
+            version,
+            count,
+            bytes,
+        }
     }
 
-    // How many entries it has.
+    // Gives the number of its entries.
     pub(crate) fn count(&self) -> u64
         ensures value { result ≡ length self.now }
         ensures bound { result < 2 ^ 32 }
@@ -41,11 +51,12 @@ impl<'a> Image<'a> {
         u64::from(self.count)
     }
 
-    /// The entries, in the order of their numbers. They are lent from the bytes of the image.
+    /// Gives the entries, in the order of their numbers. The bytes of the image lend them.
     pub fn entries(&self) -> Entries<'a>
         ensures { result ≡ self.now }
     {
         Entries {
+            version: self.version,
             left: self.count,
             bytes: self.bytes,
         }
@@ -55,6 +66,7 @@ impl<'a> Image<'a> {
 /// The entries of an image, one after the other. Contracts see it as the list of those that are left.
 #[derive(Debug, Drop)]
 pub struct Entries<'a> {
+    version: Version,
     left: u32,
     bytes: &'a [u8],
 }
@@ -63,12 +75,13 @@ impl<'a> Model for Entries<'a> {
     ghost use Rattle.std.specs.Prelude.{List};
     ghost use Rattle.nsc_model.specs.Image.{Saved};
     ghost use Rattle.nsc_image.specs.Reading.{AreReadable, saved_in};
+    ghost use Rattle.nsc_image.specs.Versions.{number_of};
 
     ghost Value = { List Saved };
 
-    ghost view = { λ e. saved_in e.left e.bytes.now };
+    ghost view = { λ e. saved_in (number_of e.version) e.left e.bytes.now };
 
-    ghost invariant = { λ e. AreReadable e.left e.bytes.now };
+    ghost invariant = { λ e. AreReadable (number_of e.version) e.left e.bytes.now };
 }
 
 impl<'a> Iterator for Entries<'a> {
@@ -84,8 +97,8 @@ impl<'a> Iterator for Entries<'a> {
         if self.left == 0 {
             return None;
         }
-        let saved = entry_at(self.bytes);
-        self.bytes = behind_entry(self.bytes);
+        let saved = entry_at(self.version, self.bytes);
+        self.bytes = behind_entry(self.version, self.bytes);
         self.left -= 1;
         Some(saved)
     }

@@ -1,6 +1,6 @@
 //! The image of a database: its entries as bytes, which outlive the process. They are written behind a head, in the order of their
 //! numbers, and SHA-256 of all that stands at the end; what is read back is checked whole first. A new database takes those entries
-//! that still are the answers to their requests.
+//! that still are the answers to their requests. Version 3 is written, and versions 2 and 3 are read.
 #![tactic(auto)]
 
 mod builder;
@@ -12,6 +12,7 @@ mod room;
 mod saved;
 mod saving;
 mod verification;
+mod version;
 
 pub use builder::ImageBuilder;
 pub use fault::ImageFault;

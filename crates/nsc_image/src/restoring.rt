@@ -1,7 +1,6 @@
 // The entries of an image, back into the cache of a new database.
-ghost use Rattle.std.specs.Prelude.{◌≡◌, ℕ, ◌+◌, ◌<◌, ◌^◌, [], ◌∷◌, None, IfOk, IfSome, OnOk, OnErr, length};
+ghost use Rattle.std.specs.Prelude.{◌≡◌, ℕ, ◌+◌, ◌<◌, ◌^◌, None, IfOk, IfSome, OnOk, OnErr, length};
 ghost use Rattle.std.specs.Bool.{OnFalse, OnTrue};
-ghost use Rattle.nsc_model.specs.declared.record.Record.TheVariants as record_of;
 ghost use Rattle.nsc_model.specs.Entry.{Entry};
 ghost use Rattle.nsc_model.specs.History.{HasEnd, HasLoad, loads};
 ghost use Rattle.nsc_writer.specs.Writer.{IsAnswered, IsNewest, passed_by};
@@ -23,14 +22,23 @@ pub struct Kept {
     pub dropped: u64,
 }
 
-/// Inserts the entries of an image into a new database, in their order, and counts them. The history of `writer` is one record: the
-/// content that `ready` was prepared from, as version 0. No compaction is under way, and `now`, in seconds, is below 2^62.
+/// Inserts the entries of an image into a new database, in their order, and counts them.
 ///
-/// An entry is dropped where the answer to its request over that content has other bytes, or another not-found mark. Else this answer
-/// is inserted, with no reloads, until the earlier of two moments: the entry's timeout, and `now` plus the time-to-live of the answer.
-/// `Writer::insert` may refuse it: then the entry is dropped too, as each but the first one of a request is. The table does not grow.
+/// The newest version of `writer` is the content that `ready` was prepared from, and its number is 0. No entry was inserted before, and
+/// no compaction is under way. The moment `now`, in seconds, is below 2^62.
 ///
-/// Fails only for want of memory: then the entries before some place in the image were treated so, and nothing came of the others.
+/// - An entry is dropped if the answer to its request over that content has other bytes, or another not-found mark.
+/// - Else the answer is inserted with the entry's count of reloads. Its timeout is the smaller of the entry's timeout, and `now` plus
+///   the time-to-live of the answer.
+/// - If `Writer::insert` refuses the answer, the entry is dropped too. So an entry is dropped if one of its request is there already,
+///   and all are dropped if the database was invalidated before.
+///
+/// The table does not grow.
+///
+/// # Errors
+///
+/// `NoMemory`, if memory is short. The entries before some place in the image are then inserted or dropped as above, and the others
+/// were not tried.
 pub fn restore<A: Answerer>(
     alloc: Global,
     image: &Image<'_>,
@@ -40,7 +48,8 @@ pub fn restore<A: Answerer>(
     now: u64,
     writer: &mut Writer,
 ) -> Result<Kept, NoMemory>
-    requires new { writer.old.seen ≡ record_of.Change 0 (A.prepared_from ready.now) ∷ [] }
+    requires newest { IsNewest (A.prepared_from ready.now) 0 writer.old.cache }
+    requires none { loads writer.old.seen ≡ 0 }
     requires still { writer.old.slide ≡ None }
     requires moment { now < 2 ^ 62 }
     ensures restored { OnOk result (writer.new ≡ restored_by settings.now now (A.prepared_from ready.now) image.now writer.old) }
@@ -48,9 +57,9 @@ pub fn restore<A: Answerer>(
     ensures dropped { IfOk result (λ counts. counts.kept + counts.dropped ≡ length image.now) }
     ensures front { OnErr result (RestoresFront settings.now now (A.prepared_from ready.now) image.now writer.old writer.new) }
     ensures newest { IsNewest (A.prepared_from ready.now) 0 writer.new.cache }
-    // Each entry that was inserted is over version 0, and none ended.
+    // Each entry that was inserted is over version 0, and only what ended before has ended.
     ensures versions { (e : Entry) → HasLoad writer.new.seen e → e.version ≡ 0 }
-    ensures none_ended { (number : ℕ) → HasEnd writer.new.seen number → ⊥ }
+    ensures none_ended { (number : ℕ) → HasEnd writer.new.seen number → HasEnd writer.old.seen number }
 {
     writer.learn();
     let count = image.count();
@@ -65,7 +74,7 @@ pub fn restore<A: Answerer>(
     Ok(Kept { kept, dropped })
 }
 
-// What an entry brings back: nothing where the answer to its request is another one.
+// Makes what an entry brings back: nothing if the answer to its request is another one.
 fn loaded_again<A: Answerer>(
     alloc: Global,
     ready: &A::Ready,
@@ -83,22 +92,23 @@ fn loaded_again<A: Answerer>(
     }
     let key = Bytes::copy(alloc, saved.key())?;
     let timeout = saved.timeout().min(now + settings.life_of(&answer));
+    let reloads = u64::from(saved.reloads());
     let stamp = Stamp {
         version: 0,
         epoch: 0,
     };
-    let loaded = Loaded::new(saved.kind(), key, answer, stamp, timeout, 0);
+    let loaded = Loaded::new(saved.kind(), key, answer, stamp, timeout, reloads);
     Ok(Some(loaded))
 }
 
-// Whether an entry has the bytes and the mark of this answer.
+// Tells whether an entry has the bytes and the mark of this answer.
 fn has_answer(saved: &Saved, answer: &Answer) -> bool
     ensures { result ≡ same_answer saved.now.answer answer.now }
 {
     equal(saved.reply(), answer.bytes()) && saved.is_not_found() == answer.is_not_found()
 }
 
-// Tries the insertion of what an entry brings back, if anything. True where it was inserted.
+// Tries the insertion of what an entry brings back, if anything. True if it was inserted.
 fn insert(writer: &mut Writer, loaded: Option<Loaded>) -> bool
     requires answered { IfSome loaded (IsAnswered writer.old.seen) }
     requires still { writer.old.slide ≡ None }

@@ -2,10 +2,10 @@
 ghost use Rattle.std.specs.Prelude.{◌≡◌, ◌+◌, ◌≤◌, ◌++◌, length, OnOk, OnErr};
 ghost use Rattle.std.specs.Vec.{vec_capacity, vec_len};
 ghost use Rattle.nsc_model.specs.Wire.{field};
-ghost use Rattle.nsc_model.specs.Image.{mark_of, saved_bytes, wide_field};
+ghost use Rattle.nsc_model.specs.Image.{image_version, mark_of, saved_bytes, wide_field};
 
-use crate::layout::KEY;
 use crate::saved::Saved;
+use crate::version::Version;
 use byteorder::{ByteOrder, LittleEndian};
 use nsc_base::NoMemory;
 
@@ -43,26 +43,27 @@ fn put_wide_field(out: &mut Vec<u8>, number: u64)
     put(out, &bytes);
 }
 
-// The mark of a not-found reply.
+// Gives the mark of a reply: 1 if it is a not-found reply, else 0.
 fn mark(not_found: bool) -> u32
     ensures { result ≡ mark_of not_found }
 {
     if not_found { 1 } else { 0 }
 }
 
-// Takes room for an entry, and puts it. Where memory is wanting, nothing is put.
+// Takes room for an entry, and puts it as version 3 has it. If memory is short, nothing is put.
 pub(crate) fn put_saved(out: &mut Vec<u8>, saved: &Saved) -> Result<(), NoMemory>
-    ensures ok { OnOk result (out.new.items ≡ out.old.items ++ saved_bytes saved.now) }
+    ensures ok { OnOk result (out.new.items ≡ out.old.items ++ saved_bytes image_version saved.now) }
     ensures err { OnErr result (out.new.items ≡ out.old.items) }
 {
     let key = saved.key();
     let reply = saved.reply();
-    out.reserve(KEY + key.len() + reply.len())?;
+    out.reserve(Version::Three.fixed_size() + key.len() + reply.len())?;
     put_wide_field(out, saved.number());
     put_field(out, saved.kind().number());
     put_field(out, key.len() as u32);
     put_field(out, reply.len() as u32);
     put_field(out, mark(saved.is_not_found()));
+    put_field(out, saved.reloads());
     put_wide_field(out, saved.timeout());
     put(out, key);
     put(out, reply);

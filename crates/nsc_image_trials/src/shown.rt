@@ -46,7 +46,8 @@ fn restored(alloc: Global, image: &Image) -> Result<(Kept, Writer), NoMemory>
     Ok((kept, writer))
 }
 
-// Tells each of so many entries in a line: its number, its kind, its key and its reply by digits, its mark and its timeout.
+// Tells each of so many entries in a line: its number, its kind, its key and its reply by digits, its mark, its count of reloads and its
+// timeout.
 fn show_entries<R: Print>(rt: &R, alloc: Global, mut writer: Writer, count: u64) -> io::Result<()>
     requires { writer.slide ≡ None }
 {
@@ -60,12 +61,13 @@ fn show_entries<R: Print>(rt: &R, alloc: Global, mut writer: Writer, count: u64)
         let asked = hex::encode(alloc, key.bytes())?;
         let said = hex::encode(alloc, reply.bytes())?;
         println!(rt;
-            "{} {:?} {} {} {} {}",
+            "{} {:?} {} {} {} {} {}",
             entry.number,
             entry.kind,
             asked.as_str(),
             said.as_str(),
             entry.not_found,
+            entry.reloads,
             entry.timeout
         )?;
         from = entry.next;

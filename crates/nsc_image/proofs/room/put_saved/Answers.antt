@@ -26,11 +26,15 @@ returns-clause-ok c =
     let p5 : c.put_field-4.new.out.items ≡ a ++ (number ++ kind ++ key_length ++ reply_length ++ mark) =
     more c.put_field-3.new.out.items a (number ++ kind ++ key_length ++ reply_length) c.put_field-4.new.out.items mark p4
     (c.put_field-4.ensures.items ∙ ap (λ n. c.put_field-3.new.out.items ++ field n) (c.mark.ensures ∙ ap mark_of c.is_not_found.ensures)) in
-    let p6 : c.put_wide_field-2.new.out.items ≡ a ++ (number ++ kind ++ key_length ++ reply_length ++ mark ++ timeout) =
-    more c.put_field-4.new.out.items a (number ++ kind ++ key_length ++ reply_length ++ mark) c.put_wide_field-2.new.out.items timeout p5
-    (c.put_wide_field-2.ensures.items ∙ ap (λ n. c.put_field-4.new.out.items ++ wide_field n) c.timeout.ensures) in
-    let p7 : c.put.new.out.items ≡ a ++ (number ++ kind ++ key_length ++ reply_length ++ mark ++ timeout ++ s.request.key) =
-    more c.put_wide_field-2.new.out.items a (number ++ kind ++ key_length ++ reply_length ++ mark ++ timeout) c.put.new.out.items s.request.key p6
+    let count : List ℕ = field s.reloads in
+    let p6 : c.put_field-5.new.out.items ≡ a ++ (number ++ kind ++ key_length ++ reply_length ++ mark ++ count) =
+    more c.put_field-4.new.out.items a (number ++ kind ++ key_length ++ reply_length ++ mark) c.put_field-5.new.out.items count p5
+    (c.put_field-5.ensures.items ∙ ap (λ n. c.put_field-4.new.out.items ++ field n) c.reloads.ensures) in
+    let p7 : c.put_wide_field-2.new.out.items ≡ a ++ (number ++ kind ++ key_length ++ reply_length ++ mark ++ count ++ timeout) =
+    more c.put_field-5.new.out.items a (number ++ kind ++ key_length ++ reply_length ++ mark ++ count) c.put_wide_field-2.new.out.items timeout p6
+    (c.put_wide_field-2.ensures.items ∙ ap (λ n. c.put_field-5.new.out.items ++ wide_field n) c.timeout.ensures) in
+    let p8 : c.put.new.out.items ≡ a ++ (number ++ kind ++ key_length ++ reply_length ++ mark ++ count ++ timeout ++ s.request.key) =
+    more c.put_wide_field-2.new.out.items a (number ++ kind ++ key_length ++ reply_length ++ mark ++ count ++ timeout) c.put.new.out.items s.request.key p7
     (c.put.ensures.items ∙ ap (λ (k : List ℕ). c.put_wide_field-2.new.out.items ++ k) c.key-key.ensures.value) in
-    more c.put.new.out.items a (number ++ kind ++ key_length ++ reply_length ++ mark ++ timeout ++ s.request.key) c.put-2.new.out.items s.answer.bytes p7
+    more c.put.new.out.items a (number ++ kind ++ key_length ++ reply_length ++ mark ++ count ++ timeout ++ s.request.key) c.put-2.new.out.items s.answer.bytes p8
     (c.put-2.ensures.items ∙ ap (λ (r : List ℕ). c.put.new.out.items ++ r) c.reply-reply.ensures.value)

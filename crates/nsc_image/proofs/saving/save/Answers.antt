@@ -2,8 +2,8 @@ use Rattle.std.proofs.Common.{None, IfOk, ap, subst, sym, ◌∙◌, arith}
 use Rattle.std.specs.Prelude.{IsTrue}
 use Rattle.nsc_base.specs.Buf.{Buf}
 use Rattle.nsc_image.specs.Draft.{Draft}
-use Rattle.nsc_model.specs.Image.{ImageBytes, IsSaved, Saved, is_above, last_number}
-use Rattle.nsc_image.proofs.Saves.{fewer_left, saves_all, saves_next, saves_none, step_of}
+use Rattle.nsc_model.specs.Image.{ImageBytes, IsSaved, Saved, image_version, is_above, last_number}
+use Rattle.nsc_image.proofs.Saves.{fewer_left, saved_put, saves_all, saves_next, saves_none, step_of}
 use Rattle.nsc_image.proofs.saving.save.Goals as goal
 
 pub entries-init : goal.entries-init
@@ -15,14 +15,14 @@ push-requires-clause-is c =
     let step = step_of c.args.db c.args.writer.now c.entries.writer c.entries.from c.entries.key c.entries.reply c.entry.new.key c.entry.new.reply c.entries.builder c.in-Some.entry c.bytes.result.now c.bytes-in-Some.result.now
     c.entries.invariant c.learn.ensures.told.entries_are.rising c.requires.entries (let few = c.learn.ensures.few c.requires.still in let room = c.learn.ensures.room in omega arith) c.in-Some.ensures.entry c.entry.ensures.key c.entry.ensures.reply
     c.bytes.ensures.content c.bytes.ensures.within c.bytes-in-Some.ensures.content c.bytes-in-Some.ensures.within (omega arith) in
-    subst (IsSaved c.entries.builder.db) (sym c.new-saved.ensures) step.saved
+    subst (IsSaved c.entries.builder.db image_version) (sym (saved_put c.in-Some.entry c.bytes.result.now c.bytes-in-Some.result.now c.new-saved.result c.saved_count.result c.new-saved.ensures c.saved_count.ensures)) step.saved
 
 pub push-requires-clause-above : goal.push-requires-clause-above
 push-requires-clause-above c =
     let step = step_of c.args.db c.args.writer.now c.entries.writer c.entries.from c.entries.key c.entries.reply c.entry.new.key c.entry.new.reply c.entries.builder c.in-Some.entry c.bytes.result.now c.bytes-in-Some.result.now
     c.entries.invariant c.learn.ensures.told.entries_are.rising c.requires.entries (let few = c.learn.ensures.few c.requires.still in let room = c.learn.ensures.room in omega arith) c.in-Some.ensures.entry c.entry.ensures.key c.entry.ensures.reply
     c.bytes.ensures.content c.bytes.ensures.within c.bytes-in-Some.ensures.content c.bytes-in-Some.ensures.within (omega arith) in
-    subst (λ (s : Saved). IsTrue (is_above (last_number None c.entries.builder.entries) s.number)) (sym c.new-saved.ensures) step.above
+    subst (λ (s : Saved). IsTrue (is_above (last_number None c.entries.builder.entries) s.number)) (sym (saved_put c.in-Some.entry c.bytes.result.now c.bytes-in-Some.result.now c.new-saved.result c.saved_count.result c.new-saved.ensures c.saved_count.ensures)) step.above
 
 pub push-requires-clause-count : goal.push-requires-clause-count
 push-requires-clause-count c =
@@ -44,9 +44,9 @@ entries-preserved c =
     c.entries.invariant c.learn.ensures.told.entries_are.rising c.requires.entries (let few = c.learn.ensures.few c.requires.still in let room = c.learn.ensures.room in omega arith) c.in-Some.ensures.entry c.entry.ensures.key c.entry.ensures.reply
     c.bytes.ensures.content c.bytes.ensures.within c.bytes-in-Some.ensures.content c.bytes-in-Some.ensures.within (omega arith) in
     saves_next c.args.db c.args.writer.now c.entries.writer c.entry.new.self c.entries.from c.entries.key c.entries.reply c.entry.new.key c.entry.new.reply c.entries.builder c.push.new.self c.in-Some.entry
-    c.bytes.result.now c.bytes-in-Some.result.now c.new-saved.result c.entries.invariant step c.new-saved.ensures c.entry.ensures.same c.entry.ensures.key c.entry.ensures.reply c.in_ok-push.ensures.ok
+    c.bytes.result.now c.bytes-in-Some.result.now c.new-saved.result c.entries.invariant step (saved_put c.in-Some.entry c.bytes.result.now c.bytes-in-Some.result.now c.new-saved.result c.saved_count.result c.new-saved.ensures c.saved_count.ensures) c.entry.ensures.same c.entry.ensures.key c.entry.ensures.reply c.in_ok-push.ensures.ok
 
 pub returns-clause-image : goal.returns-clause-image
 returns-clause-image c =
     let whole = saves_all c.args.db c.args.writer.now c.entries.writer c.entries.from c.entries.key c.entries.reply c.entries.builder c.entry.new.key.content c.entry.new.reply.content c.entries.invariant c.in_default.ensures.entry in
-    subst (λ (d : Draft). IfOk c.seal.result (ImageBytes d.db d.entries)) whole c.seal.ensures
+    subst (λ (d : Draft). IfOk c.seal.result (ImageBytes d.db image_version d.entries)) whole c.seal.ensures
