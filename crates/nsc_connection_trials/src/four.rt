@@ -1,5 +1,6 @@
 // Four databases, opened over files in memory.
 ghost use Rattle.std.specs.Prelude.{◌≡◌};
+ghost use Rattle.nsc_database.specs.Openings.{brought_in};
 ghost use Rattle.nsc_model.specs.declared.kind.Db.TheVariants as db_is;
 ghost use Rattle.nsc_model.specs.Settings.{settings_of};
 
@@ -49,6 +50,10 @@ fn in_room<B: Room, R: AllocGlobal + Wait, F: FileSet + Drop>(
     requires group { (openings.group.settings ≡ settings_of B.conf db_is.Group) × (openings.group.reloads ≡ B.conf.reloads) × (F.held openings.group.files ≡ B.held) }
     requires hosts { (openings.hosts.settings ≡ settings_of B.conf db_is.Hosts) × (openings.hosts.reloads ≡ B.conf.reloads) × (F.held openings.hosts.files ≡ B.held) }
     requires services { (openings.services.settings ≡ settings_of B.conf db_is.Services) × (openings.services.reloads ≡ B.conf.reloads) × (F.held openings.services.files ≡ B.held) }
+    requires passwd_brought { brought_in openings.passwd.begun.writer.cache.entries ≡ B.brought db_is.Passwd }
+    requires group_brought { brought_in openings.group.begun.writer.cache.entries ≡ B.brought db_is.Group }
+    requires hosts_brought { brought_in openings.hosts.begun.writer.cache.entries ≡ B.brought db_is.Hosts }
+    requires services_brought { brought_in openings.services.begun.writer.cache.entries ≡ B.brought db_is.Services }
 {
     let (stores, mut passes) = openings.enter::<B>();
     match task {

@@ -4,6 +4,7 @@ ghost use Rattle.nsc_model.specs.Exits.{IsExitOf, Serving};
 ghost use Rattle.nsc_model.specs.Sizes.{SizeFits, SizesFit};
 ghost use Rattle.nsc_model.specs.Settings.{settings_of};
 ghost use Rattle.nsc_model.specs.declared.kind.Db.TheVariants as db_is;
+ghost use Rattle.nsc_database.specs.Openings.{brought_in};
 ghost use Rattle.nsc_daemon.specs.Ends.{IsOpeningFault, TellsFileLength, opening_exit};
 
 use crate::images::image_for;
@@ -109,6 +110,10 @@ impl<F: FileSet + Drop> Openings<F> {
         requires group { (self.group.settings ≡ settings_of B.conf db_is.Group) × (self.group.reloads ≡ B.conf.reloads) × (F.held self.group.files ≡ B.held) }
         requires hosts { (self.hosts.settings ≡ settings_of B.conf db_is.Hosts) × (self.hosts.reloads ≡ B.conf.reloads) × (F.held self.hosts.files ≡ B.held) }
         requires services { (self.services.settings ≡ settings_of B.conf db_is.Services) × (self.services.reloads ≡ B.conf.reloads) × (F.held self.services.files ≡ B.held) }
+        requires passwd_brought { brought_in self.passwd.begun.writer.cache.entries ≡ B.brought db_is.Passwd }
+        requires group_brought { brought_in self.group.begun.writer.cache.entries ≡ B.brought db_is.Group }
+        requires hosts_brought { brought_in self.hosts.begun.writer.cache.entries ≡ B.brought db_is.Hosts }
+        requires services_brought { brought_in self.services.begun.writer.cache.entries ≡ B.brought db_is.Services }
         ensures named { (result.0.passwd.db ≡ db_is.Passwd) × (result.0.group.db ≡ db_is.Group) × (result.0.hosts.db ≡ db_is.Hosts) × (result.0.services.db ≡ db_is.Services) }
         ensures passes { (result.1.passwd.db ≡ result.0.passwd.db) × (result.1.group.db ≡ result.0.group.db) × (result.1.hosts.db ≡ result.0.hosts.db) × (result.1.services.db ≡ result.0.services.db) }
     {

@@ -1,5 +1,6 @@
 ghost use Rattle.std.specs.Prelude.{◌≡◌, ℕ, OnErr, OnOk, option_map};
 ghost use Rattle.nsc_outside.specs.StreamAt.{stream_out};
+ghost use Rattle.nsc_database.specs.Openings.{brought_in};
 ghost use Rattle.nsc_model.specs.Exits.{IsExitOf, Serving};
 ghost use Rattle.nsc_model.specs.Reads.{Rose};
 ghost use Rattle.nsc_model.specs.Settings.{settings_of};
@@ -131,6 +132,10 @@ where
     requires group { (openings.group.settings ≡ settings_of B.conf db_is.Group) × (openings.group.reloads ≡ B.conf.reloads) × (F.held openings.group.files ≡ B.held) }
     requires hosts { (openings.hosts.settings ≡ settings_of B.conf db_is.Hosts) × (openings.hosts.reloads ≡ B.conf.reloads) × (F.held openings.hosts.files ≡ B.held) }
     requires services { (openings.services.settings ≡ settings_of B.conf db_is.Services) × (openings.services.reloads ≡ B.conf.reloads) × (F.held openings.services.files ≡ B.held) }
+    requires passwd_brought { brought_in openings.passwd.begun.writer.cache.entries ≡ B.brought db_is.Passwd }
+    requires group_brought { brought_in openings.group.begun.writer.cache.entries ≡ B.brought db_is.Group }
+    requires hosts_brought { brought_in openings.hosts.begun.writer.cache.entries ≡ B.brought db_is.Hosts }
+    requires services_brought { brought_in openings.services.begun.writer.cache.entries ≡ B.brought db_is.Services }
     ensures exits { IsExitOf Serving result }
     ensures ends { (faults : ℕ) → EndsSo result (record { output = stream_out K.Sink output.old; source_faults = faults; given = N.given net.old; net_faults = N.faults net.old }) (record { output = stream_out K.Sink output.new; source_faults = faults; given = N.given net.new; net_faults = N.faults net.new }) }
     ensures images { result ≡ Exit.Ok → PutsImages terms.now.conf.now (images_at I.ImageStore images.old) (images_at I.ImageStore images.new) }

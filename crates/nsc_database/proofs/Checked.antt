@@ -1,5 +1,6 @@
 -- What is known once a tick looked whether every entry ends.
-use Rattle.std.proofs.Common.{◌≡◌, ℕ, List, Option, Ok, refl, sym, ap, subst}
+use Rattle.std.proofs.Common.{◌≡◌, ℕ, List, Option, Ok, sym, ap, subst}
+use Rattle.nsc_model.specs.declared.answer.Request.{Request}
 use Rattle.nsc_model.specs.declared.conf.DbConf.{DbConf}
 use Rattle.nsc_model.specs.declared.kind.Db.{Db}
 use Rattle.nsc_model.specs.declared.record.Record.{Record}
@@ -18,14 +19,14 @@ use Rattle.nsc_database.proofs.Invalidations.{completes_none, finds_emptied, res
 use Rattle.nsc_database.proofs.Listed.{are_listed}
 use Rattle.nsc_database.proofs.Standing.{at_rest_current, at_rest_on}
 
-pub at_rest_checked : {settings : DbConf} {limit : Option ℕ} {held : Option Content} {which : Db} {ticked : ℕ} (left : List Former) (c : Checked) (most : Option ℕ) (now newest : ℕ) (w w' : Writer) → Checks (is_outdated settings w.cache.newest_version ticked) most now w w' (Ok c) → Tells w.seen w.cache → newest ≡ w.cache.newest_version
-    → IsAtRest settings limit held which ticked left w → IsAtRest settings limit held which newest left w'
-at_rest_checked {settings} {limit} {held} {which} {ticked} left checked.Emptied most now newest w w' c t is s =
+pub at_rest_checked : {settings : DbConf} {brought : Request → ℕ} {limit : Option ℕ} {held : Option Content} {which : Db} {ticked : ℕ} (left : List Former) (c : Checked) (most : Option ℕ) (now newest : ℕ) (w w' : Writer) → Checks (is_outdated settings w.cache.newest_version ticked) most now w w' (Ok c) → Tells w.seen w.cache → newest ≡ w.cache.newest_version
+    → IsAtRest settings brought limit held which ticked left w → IsAtRest settings brought limit held which newest left w'
+at_rest_checked {settings} {brought} {limit} {held} {which} {ticked} left checked.Emptied most now newest w w' c t is s =
     let on = at_rest_on left w w' (rests_emptied w w' c.1 t) s in
-    (subst (λ (n : ℕ). Keeps settings limit n w') (sym is) (finds_emptied w w' c.1 t settings limit ticked s.0), on.1, on.2, on.3, on.4, on.5, on.6, on.7)
-at_rest_checked {settings} {limit} {held} {which} {ticked} left (checked.Listed due) most now newest w w' c t is s = at_rest_current left newest w w' c.2 is c.0 s
+    (subst (λ (n : ℕ). Keeps settings brought limit n w') (sym is) (finds_emptied w w' c.1 t settings limit ticked s.0), on.1, on.2, on.3, on.4, on.5, on.6, on.7)
+at_rest_checked {settings} {brought} {limit} {held} {which} {ticked} left (checked.Listed due) most now newest w w' c t is s = at_rest_current left newest w w' c.2 is c.0 s
 
-pub is_checked : {settings : DbConf} {ticked : ℕ} (c : Checked) (limit : Option ℕ) (now : ℕ) (w w' : Writer) → Checks (is_outdated settings w.cache.newest_version ticked) limit now w w' (Ok c) → Tells w.seen w.cache → Keeps settings limit ticked w → IsChecked c settings limit now w'.seen
-is_checked {settings} {ticked} checked.Emptied limit now w w' c t k = completes_none w w' c.1 t
-is_checked {settings} {ticked} (checked.Listed due) limit now w w' c t k =
-    subst (λ (x : List Record × List Due). AreListed settings limit now x.0 x.1) (λ i. (sym (ap (λ (y : Writer). y.seen) c.2) i, sym c.1 i)) (are_listed settings limit now ticked w t k c.0)
+pub is_checked : {settings : DbConf} {brought : Request → ℕ} {ticked : ℕ} (c : Checked) (limit : Option ℕ) (now : ℕ) (w w' : Writer) → Checks (is_outdated settings w.cache.newest_version ticked) limit now w w' (Ok c) → Tells w.seen w.cache → Keeps settings brought limit ticked w → IsChecked c settings brought limit now w'.seen
+is_checked {settings} {brought} {ticked} checked.Emptied limit now w w' c t k = completes_none w w' c.1 t
+is_checked {settings} {brought} {ticked} (checked.Listed due) limit now w w' c t k =
+    subst (λ (x : List Record × List Due). AreListed settings brought limit now x.0 x.1) (λ i. (sym (ap (λ (y : Writer). y.seen) c.2) i, sym c.1 i)) (are_listed settings brought limit now ticked w t k c.0)

@@ -3,6 +3,7 @@ use Rattle.std.proofs.Common.{◌≡◌, ◌∙◌, ℕ, zero, suc, ◌+◌, ◌
 use Rattle.std.proofs.lemmas.List.Elements.{All-append}
 use Rattle.std.specs.Prelude.{OnErr, OnOk}
 use Rattle.nsc_words.specs.declared.layout.Layout.{Layout}
+use Rattle.nsc_model.specs.declared.answer.Request.{Request}
 use Rattle.nsc_model.specs.declared.conf.DbConf.{DbConf}
 use Rattle.nsc_model.specs.declared.kind.Db.{Db}
 use Rattle.nsc_model.specs.Content.{Content}
@@ -29,9 +30,9 @@ steady_left held which layout w w' former left e t still all = All-append (WasSt
   one zero d low = was
   one (suc i) d low = absurd (omega arith)
 
-pub at_rest_grown : {settings : DbConf} {limit : Option ℕ} {held : Option Content} {which : Db} {ticked : ℕ} (left : List Former) (layout : Layout) (w w' : Writer) (former : Former) → IsEnlarged layout w w' former → IsSized settings layout → Tells w.seen w.cache → IsAtRest settings limit held which ticked left w
-    → IsAtRest settings limit held which ticked (left ++ former ∷ []) w'
-at_rest_grown {settings} {limit} {held} {which} {ticked} left layout w w' former e sized t s = subst (IsAtRest settings limit held which ticked (left ++ former ∷ [])) (sym e.is) (
+pub at_rest_grown : {settings : DbConf} {brought : Request → ℕ} {limit : Option ℕ} {held : Option Content} {which : Db} {ticked : ℕ} (left : List Former) (layout : Layout) (w w' : Writer) (former : Former) → IsEnlarged layout w w' former → IsSized settings layout → Tells w.seen w.cache → IsAtRest settings brought limit held which ticked left w
+    → IsAtRest settings brought limit held which ticked (left ++ former ∷ []) w'
+at_rest_grown {settings} {brought} {limit} {held} {which} {ticked} left layout w w' former e sized t s = subst (IsAtRest settings brought limit held which ticked (left ++ former ∷ [])) (sym e.is) (
   record { reloaded = s.0.reloaded; counted = s.0.counted; found = s.0.found },
   λ low. refl,
   λ files same. record { first = (s.2 files same).first; part = (s.2 files same).part },
@@ -43,10 +44,10 @@ at_rest_grown {settings} {limit} {held} {which} {ticked} left layout w w' former
 )
 
 -- it grew, or nothing changed
-pub at_rest_enlarged : {E : Type 0} {settings : DbConf} {limit : Option ℕ} {held : Option Content} {which : Db} {ticked : ℕ} (r : Result (Unit {0}) E) (layout : Layout) (left left' : List Former) (w w' : Writer)
-    → OnOk r ((former : Former) × IsEnlarged layout w w' former × (left' ≡ left ++ former ∷ [])) → OnErr r ((left' ≡ left) × (w' ≡ w)) → IsSized settings layout → Tells w.seen w.cache → IsAtRest settings limit held which ticked left w → IsAtRest settings limit held which ticked left' w'
-at_rest_enlarged {E} {settings} {limit} {held} {which} {ticked} (Ok done) layout left left' w w' (former, e, longer) stays sized t s = subst (λ (ls : List Former). IsAtRest settings limit held which ticked ls w') (sym longer) (at_rest_grown left layout w w' former e sized t s)
-at_rest_enlarged {E} {settings} {limit} {held} {which} {ticked} (Err fault) layout left left' w w' grown stays sized t s = at_rest_kept left left' w w' stays.0 stays.1 s
+pub at_rest_enlarged : {E : Type 0} {settings : DbConf} {brought : Request → ℕ} {limit : Option ℕ} {held : Option Content} {which : Db} {ticked : ℕ} (r : Result (Unit {0}) E) (layout : Layout) (left left' : List Former) (w w' : Writer)
+    → OnOk r ((former : Former) × IsEnlarged layout w w' former × (left' ≡ left ++ former ∷ [])) → OnErr r ((left' ≡ left) × (w' ≡ w)) → IsSized settings layout → Tells w.seen w.cache → IsAtRest settings brought limit held which ticked left w → IsAtRest settings brought limit held which ticked left' w'
+at_rest_enlarged {E} {settings} {brought} {limit} {held} {which} {ticked} (Ok done) layout left left' w w' (former, e, longer) stays sized t s = subst (λ (ls : List Former). IsAtRest settings brought limit held which ticked ls w') (sym longer) (at_rest_grown left layout w w' former e sized t s)
+at_rest_enlarged {E} {settings} {brought} {limit} {held} {which} {ticked} (Err fault) layout left left' w w' grown stays sized t s = at_rest_kept left left' w w' stays.0 stays.1 s
 
 -- the words that entries take then, and no others
 pub used_grown : (layout : Layout) (w w' : Writer) (former : Former) (need : ℕ) → IsEnlarged layout w w' former → all_words w.cache.entries + need ≤ layout.arena → w'.cache.used + need ≤ w'.layout.arena

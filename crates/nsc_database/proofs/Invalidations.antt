@@ -1,6 +1,7 @@
 -- What an invalidation leaves of a writer, with and without its compaction.
 use Rattle.std.proofs.Common.{◌≡◌, ℕ, ◌+◌, ◌<◌, ◌≤◌, ◌⊎◌, List, [], ◌∷◌, length, refl, sym, ap, subst, ◌∙◌, arith, inl, inr, Result, Ok, Err}
 use Rattle.std.specs.Prelude.{IfErr, IfOk}
+use Rattle.nsc_model.specs.declared.answer.Request.{Request}
 use Rattle.nsc_model.specs.declared.kind.Db.{Db}
 use Rattle.nsc_model.specs.declared.record.Record.{Record}
 use Rattle.nsc_model.specs.declared.store.Spent.{Spent}
@@ -35,30 +36,30 @@ loads_ended (k ∷ ks) h e a = loads_ended ks (End k.entry.number (by_invalidati
 loads_emptied : {which : Db} (w w' : Writer) → w' ≡ emptied_by w → (e : Entry) → HasLoad w'.seen e → HasLoad w.seen e ⊎ IsEntryOf which e
 loads_emptied w w' is e a = inl (loads_ended w.cache.entries w.seen e (subst (λ (x : Writer). HasLoad x.seen e) is a))
 
-rests_from : {which : Db} (w w' : Writer) → w' ≡ emptied_by w → Tells w.seen w.cache → (IsPacked w → IsPacked w') → Rests which w w'
-rests_from w w' is t packed =
+rests_from : {which : Db} {brought : Request → ℕ} (w w' : Writer) → w' ≡ emptied_by w → Tells w.seen w.cache → (IsPacked w → IsPacked w') → Rests which brought w w'
+rests_from {which} {brought} w w' is t packed =
     let goes = emptied_on w w' is in
-    record { on = goes.on; table = goes.table; layout = goes.layout; slide = goes.slide; keeps = λ settings limit ticked k. keeps_emptied settings limit ticked w w' is t k; packed = packed; again = again_emptied w w' is; version = version_emptied w w' is; inserts = loads_emptied w w' is }
+    record { on = goes.on; table = goes.table; layout = goes.layout; slide = goes.slide; keeps = λ settings limit ticked k. keeps_emptied settings brought limit ticked w w' is t k; packed = packed; again = again_emptied w w' is; version = version_emptied w w' is; inserts = loads_emptied w w' is }
 
 no_entries : (ks : List Kept) → length ks ≡ 0 → ks ≡ []
 no_entries [] e = refl
 no_entries (k ∷ ks) e = absurd (omega arith)
 
 -- where no entry was live
-pub rests_left : {which : Db} (w w' : Writer) → w' ≡ emptied_by w → Tells w.seen w.cache → length w.cache.entries ≡ 0 → Rests which w w'
+pub rests_left : {which : Db} {brought : Request → ℕ} (w w' : Writer) → w' ≡ emptied_by w → Tells w.seen w.cache → length w.cache.entries ≡ 0 → Rests which brought w w'
 rests_left w w' is t none = rests_from w w' is t (λ p. subst IsPacked (sym is) (λ low. p low ∙ ap all_words (no_entries w.cache.entries none)))
 
 -- where it was compacted
-pub rests_compacted : {which : Db} (w w' w'' : Writer) → w' ≡ emptied_by w → Tells w.seen w.cache → w'' ≡ compacted_by w' → Rests which w w''
-rests_compacted {which} w w' w'' empty t is =
+pub rests_compacted : {which : Db} {brought : Request → ℕ} (w w' w'' : Writer) → w' ≡ emptied_by w → Tells w.seen w.cache → w'' ≡ compacted_by w' → Rests which brought w w''
+rests_compacted {which} {brought} w w' w'' empty t is =
     let goes = emptied_on w w' empty in
     let version = version_emptied w w' empty in
-    subst (Rests which w) (sym is) (record {
+    subst (Rests which brought w) (sym is) (record {
       on = goes.on;
       table = goes.table;
       layout = goes.layout;
       slide = goes.slide;
-      keeps = λ settings limit ticked k. keeps_compacted settings limit ticked (all_words w'.cache.entries) (w'.cache.cycle + 2) w' (compacted_by w') refl (keeps_emptied settings limit ticked w w' empty t k);
+      keeps = λ settings limit ticked k. keeps_compacted settings brought limit ticked (all_words w'.cache.entries) (w'.cache.cycle + 2) w' (compacted_by w') refl (keeps_emptied settings brought limit ticked w w' empty t k);
       packed = λ p. packed_compacted w' (compacted_by w') refl;
       again = λ arena l. again_later arena w'.cache.cycle (w'.cache.cycle + 2) w'.seen (omega arith) (again_emptied w w' empty arena l);
       version = record { version = version.version; sources = version.sources };
@@ -66,25 +67,25 @@ rests_compacted {which} w w' w'' empty t is =
     })
 
 -- where the count of the beginnings and the ends of slides stands at its end
-pub rests_spent : {which : Db} (w w' w'' : Writer) → w' ≡ emptied_by w → Tells w.seen w.cache → last_count ≤ w'.cache.cycle → w'' ≡ w' → Rests which w w''
-rests_spent {which} w w' w'' empty t last is = subst (Rests which w) (sym is) (rests_from w w' empty t (λ p. packed_spent w' w' refl last))
+pub rests_spent : {which : Db} {brought : Request → ℕ} (w w' w'' : Writer) → w' ≡ emptied_by w → Tells w.seen w.cache → last_count ≤ w'.cache.cycle → w'' ≡ w' → Rests which brought w w''
+rests_spent {which} {brought} w w' w'' empty t last is = subst (Rests which brought w) (sym is) (rests_from w w' empty t (λ p. packed_spent w' w' refl last))
 
 pub is_unmoved : (w : Writer) (count : ℕ) (ended : Type 0) → last_count ≤ w.cache.cycle → count ≡ last_count → ended → IsUnmoved w.seen (last_count ≤ w.cache.cycle) count ended
 is_unmoved w count ended high is made = record { last = is; cause = inr (high, made) }
 
-pub finds_left : (w w' : Writer) → w' ≡ emptied_by w → Tells w.seen w.cache → FindsNewest w w'
-finds_left w w' is t settings limit ticked k = keeps_newest settings limit ticked w.cache.newest_version w w' is t refl k
+pub finds_left : {brought : Request → ℕ} (w w' : Writer) → w' ≡ emptied_by w → Tells w.seen w.cache → FindsNewest brought w w'
+finds_left {brought} w w' is t settings limit ticked k = keeps_newest settings brought limit ticked w.cache.newest_version w w' is t refl k
 
-pub finds_compacted : (w w' w'' : Writer) → w' ≡ emptied_by w → Tells w.seen w.cache → w'' ≡ compacted_by w' → FindsNewest w w''
-finds_compacted w w' w'' empty t is settings limit ticked k =
-    keeps_compacted settings limit w.cache.newest_version (all_words w'.cache.entries) (w'.cache.cycle + 2) w' w'' is (finds_left w w' empty t settings limit ticked k)
+pub finds_compacted : {brought : Request → ℕ} (w w' w'' : Writer) → w' ≡ emptied_by w → Tells w.seen w.cache → w'' ≡ compacted_by w' → FindsNewest brought w w''
+finds_compacted {brought} w w' w'' empty t is settings limit ticked k =
+    keeps_compacted settings brought limit w.cache.newest_version (all_words w'.cache.entries) (w'.cache.cycle + 2) w' w'' is (finds_left w w' empty t settings limit ticked k)
 
 -- ---- the turn
 
-pub rests_emptied : {which : Db} (w w' : Writer) → Completes (invalidated w.cache) w w' → Tells w.seen w.cache → Rests which w w'
+pub rests_emptied : {which : Db} {brought : Request → ℕ} (w w' : Writer) → Completes (invalidated w.cache) w w' → Tells w.seen w.cache → Rests which brought w w'
 rests_emptied w w' p t = elim (completes_left w w' p) [ inl (none, is) ↦ rests_left w w' is t none | inr (some, is) ↦ rests_compacted w (emptied_by w) w' refl t is ]
 
-pub finds_emptied : (w w' : Writer) → Completes (invalidated w.cache) w w' → Tells w.seen w.cache → FindsNewest w w'
+pub finds_emptied : {brought : Request → ℕ} (w w' : Writer) → Completes (invalidated w.cache) w w' → Tells w.seen w.cache → FindsNewest brought w w'
 finds_emptied w w' p t = elim (completes_left w w' p) [ inl (none, is) ↦ finds_left w w' is t | inr (some, is) ↦ finds_compacted w (emptied_by w) w' refl t is ]
 
 pub completes_none : (w w' : Writer) → Completes (invalidated w.cache) w w' → Tells w.seen w.cache → NoneLive w'.seen
@@ -97,7 +98,7 @@ completes_emptied w w' epoch p low t counted =
     let left : (w'.seen ≡ (emptied_by w).seen) × (w'.cache.epoch ≡ w.cache.epoch + 1) = elim (completes_left w w' p) [ inl (none, is) ↦ (ap (λ (x : Writer). x.seen) is, ap (λ (x : Writer). x.cache.epoch) is) | inr (some, is) ↦ (ap (λ (x : Writer). x.seen) is, ap (λ (x : Writer). x.cache.epoch) is) ] in
     subst (λ (h : List Record). IsEmptied w.seen h epoch) (sym left.0) (is_emptied w (emptied_by w) epoch low t (emptied_tells w.seen w.cache t) (counted ∙ left.1) refl)
 
-pub rests_stopped : {which : Db} (w w' : Writer) (count : ℕ) → Stops (invalidated w.cache) count w w' → Tells w.seen w.cache → Rests which w w'
+pub rests_stopped : {which : Db} {brought : Request → ℕ} (w w' : Writer) (count : ℕ) → Stops (invalidated w.cache) count w w' → Tells w.seen w.cache → Rests which brought w w'
 rests_stopped w w' count s t = elim (stops_left w w' count s).1 [ inl (last, is) ↦ rests_same w w' is | inr (high, is) ↦ rests_spent w (emptied_by w) w' refl t high is ]
 
 pub stops_unmoved : (w w' : Writer) (count : ℕ) → Stops (invalidated w.cache) count w w' → Tells w.seen w.cache → IsUnmoved w'.seen (last_count ≤ w'.cache.cycle) count (NoneLive w'.seen)
@@ -108,7 +109,7 @@ stops_unmoved w w' count s t = by_cause (stops_left w w' count s) where
       let none = none_after w (emptied_by w) (emptied_tells w.seen w.cache t) refl in
       is_unmoved w' count (NoneLive w'.seen) (subst (λ (x : Writer). last_count ≤ x.cache.cycle) (sym is) high) at (subst (λ (x : Writer). NoneLive x.seen) (sym is) none)
 
-pub rests_invalidated : {which : Db} (r : Result ℕ Spent) (w w' : Writer) → IfOk r (λ epoch. Completes (invalidated w.cache) w w') → IfErr r (λ spent. Stops (invalidated w.cache) spent.count w w') → Tells w.seen w.cache → Rests which w w'
+pub rests_invalidated : {which : Db} {brought : Request → ℕ} (r : Result ℕ Spent) (w w' : Writer) → IfOk r (λ epoch. Completes (invalidated w.cache) w w') → IfErr r (λ spent. Stops (invalidated w.cache) spent.count w w') → Tells w.seen w.cache → Rests which brought w w'
 rests_invalidated (Ok epoch) w w' p s t = rests_emptied w w' p t
 rests_invalidated (Err spent) w w' p s t = rests_stopped w w' spent.count s t
 

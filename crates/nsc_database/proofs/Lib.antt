@@ -15,3 +15,4 @@ pub mod Again
 pub mod Reloading
 pub mod Checked
 pub mod Grown
+pub mod Beside

@@ -39,9 +39,9 @@ cause_is now d true e = ap (λ (t : Bool). ending_of (cond t (cause.Expired now)
 cause_is now d false e = ap (λ (t : Bool). ending_of (cond t (cause.Expired now) cause.Replaced)) e
 
 -- one of them ended, where it was live
-pend_one : (limit : Option ℕ) (now arena cycle : ℕ) (those : Request → Type 0) (d : Due) (w : Writer) → IsDue limit now w.seen d → Tells w.seen w.cache → LoadsBut arena cycle those w.seen
+pend_one : (brought : Request → ℕ) (limit : Option ℕ) (now arena cycle : ℕ) (those : Request → Type 0) (d : Due) (w : Writer) → IsDue brought limit now w.seen d → Tells w.seen w.cache → LoadsBut arena cycle those w.seen
     → LoadsBut arena cycle (λ r. those r ⊎ IsPending (record d { ended = has_number d.number w.cache.entries } ∷ []) r) (pruned_one now d w).seen
-pend_one limit now arena cycle those d w due t l = by_live (has_number d.number w.cache.entries) d.dropped refl where
+pend_one brought limit now arena cycle those d w due t l = by_live (has_number d.number w.cache.entries) d.dropped refl where
   by_live : (b dropped : Bool) → d.dropped ≡ dropped → LoadsBut arena cycle (λ r. those r ⊎ IsPending (record d { ended = b } ∷ []) r) (cond b (without_entry d.number (ending_of (due_cause_of now d)) w) w).seen
   by_live false dropped e = but_wider arena cycle those (λ r. those r ⊎ IsPending (record d { ended = false } ∷ []) r) w.seen (λ r a. inl a) l
   by_live true true e = subst (λ (c : Ending). LoadsBut arena cycle (λ r. those r ⊎ IsPending (record d { ended = true } ∷ []) r) (End d.number c ∷ w.seen)) (sym (cause_is now d true e))
@@ -68,25 +68,25 @@ pend_one limit now arena cycle those d w due t l = by_live (has_number d.number 
             | inr waits ↦ inr (inl waits)
           ]
 
-pub all_pend : (settings : DbConf) (limit : Option ℕ) (now ticked arena cycle : ℕ) (those : Request → Type 0) (due : List Due) (w : Writer) → All (IsDue limit now w.seen) due → Tells w.seen w.cache → Keeps settings limit ticked w → LoadsBut arena cycle those w.seen
+pub all_pend : (settings : DbConf) (brought : Request → ℕ) (limit : Option ℕ) (now ticked arena cycle : ℕ) (those : Request → Type 0) (due : List Due) (w : Writer) → All (IsDue brought limit now w.seen) due → Tells w.seen w.cache → Keeps settings brought limit ticked w → LoadsBut arena cycle those w.seen
     → LoadsBut arena cycle (λ r. those r ⊎ IsPending (marked_by now due w) r) (pruned_by now due w).seen
-all_pend settings limit now ticked arena cycle those [] w all t k l = but_wider arena cycle those (λ r. those r ⊎ ⊥) w.seen (λ r a. inl a) l
-all_pend settings limit now ticked arena cycle those (d ∷ due) w all t k l =
-    let here = head_of (IsDue limit now w.seen) d due all in
-    let first = one_leaves settings limit now ticked d w here t k in
+all_pend settings brought limit now ticked arena cycle those [] w all t k l = but_wider arena cycle those (λ r. those r ⊎ ⊥) w.seen (λ r a. inl a) l
+all_pend settings brought limit now ticked arena cycle those (d ∷ due) w all t k l =
+    let here = head_of (IsDue brought limit now w.seen) d due all in
+    let first = one_leaves settings brought limit now ticked d w here t k in
     let w1 = pruned_one now d w in
     let m : Due = record d { ended = has_number d.number w.cache.entries } in
     let wider : Request → Type 0 = λ r. those r ⊎ IsPending (m ∷ []) r in
-    let rest = all_pend settings limit now ticked arena cycle wider due w1 (all_due_on limit now w.seen w1.seen due first.on (tail_of (IsDue limit now w.seen) d due all)) first.told first.keeps (pend_one limit now arena cycle those d w here t l) in
+    let rest = all_pend settings brought limit now ticked arena cycle wider due w1 (all_due_on brought limit now w.seen w1.seen due first.on (tail_of (IsDue brought limit now w.seen) d due all)) first.told first.keeps (pend_one brought limit now arena cycle those d w here t l) in
     but_wider arena cycle (λ r. wider r ⊎ IsPending (marked_by now due w1) r) (λ r. those r ⊎ IsPending (m ∷ marked_by now due w1) r) (pruned_by now due w1).seen
     (λ r a. elim a [ inl (inl before) ↦ inl before | inl (inr (inl this)) ↦ inr (inl this) | inl (inr (inr none)) ↦ absurd none | inr more ↦ inr (inr more) ])
     rest
 
-pub pends : (settings : DbConf) (limit : Option ℕ) (now ticked arena cycle : ℕ) (due : List Due) (w : Writer) → All (IsDue limit now w.seen) due → Tells w.seen w.cache → Keeps settings limit ticked w → LoadsAgain arena cycle w.seen
+pub pends : (settings : DbConf) (brought : Request → ℕ) (limit : Option ℕ) (now ticked arena cycle : ℕ) (due : List Due) (w : Writer) → All (IsDue brought limit now w.seen) due → Tells w.seen w.cache → Keeps settings brought limit ticked w → LoadsAgain arena cycle w.seen
     → LoadsBut arena cycle (IsPending (marked_by now due w)) (pruned_by now due w).seen
-pends settings limit now ticked arena cycle due w all t k l =
+pends settings brought limit now ticked arena cycle due w all t k l =
     but_wider arena cycle (λ r. ⊥ ⊎ IsPending (marked_by now due w) r) (IsPending (marked_by now due w)) (pruned_by now due w).seen (λ r a. elim a [ inl none ↦ absurd none | inr waits ↦ waits ])
-    (all_pend settings limit now ticked arena cycle (λ r. ⊥) due w all t k (but_none arena cycle w.seen l))
+    (all_pend settings brought limit now ticked arena cycle (λ r. ⊥) due w all t k (but_none arena cycle w.seen l))
 
 -- ---- insertions
 

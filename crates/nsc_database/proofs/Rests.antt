@@ -93,23 +93,23 @@ version_within (Invalid n ∷ before) e l a = version_within before e l.0 a
 
 -- what a record adds to these: nothing
 pub record AddsNone (h h' : List Record) : Type 0 where
-  pub reloaded : (limit : Option ℕ) → Reloaded limit h → Reloaded limit h'
+  pub reloaded : (brought : Request → ℕ) (limit : Option ℕ) → Reloaded brought limit h → Reloaded brought limit h'
   pub replaced_is : (request : Request) → replaced h' request ≡ replaced h request
   pub invalidated_is : invalidated_at h' ≡ invalidated_at h
   pub again : (arena cycle : ℕ) → LoadsAgain arena cycle h → LoadsAgain arena cycle h'
   pub loads : (e : Entry) → HasLoad h' e → HasLoad h e
 
 poll_adds_none : (v : ℕ) (h : List Record) → AddsNone h (Poll v ∷ h)
-poll_adds_none v h = record { reloaded = λ limit r. record { dropped = r.dropped; invalidated = r.invalidated }; replaced_is = λ request. refl; invalidated_is = refl; again = λ arena cycle l. again_more arena cycle (Poll v) h tt l; loads = λ e a. a }
+poll_adds_none v h = record { reloaded = λ brought limit r. record { dropped = r.dropped; invalidated = r.invalidated }; replaced_is = λ request. refl; invalidated_is = refl; again = λ arena cycle l. again_more arena cycle (Poll v) h tt l; loads = λ e a. a }
 
 change_adds_none : (v : ℕ) (c : Content) (h : List Record) → AddsNone h (Change v c ∷ h)
-change_adds_none v c h = record { reloaded = λ limit r. record { dropped = r.dropped; invalidated = r.invalidated }; replaced_is = λ request. refl; invalidated_is = refl; again = λ arena cycle l. again_more arena cycle (Change v c) h tt l; loads = λ e a. a }
+change_adds_none v c h = record { reloaded = λ brought limit r. record { dropped = r.dropped; invalidated = r.invalidated }; replaced_is = λ request. refl; invalidated_is = refl; again = λ arena cycle l. again_more arena cycle (Change v c) h tt l; loads = λ e a. a }
 
 -- a writer with such a history, and the same entries in as many words
-pub keeps_with : (settings : DbConf) (limit : Option ℕ) (ticked : ℕ) (w w' : Writer) → AddsNone w.seen w'.seen → w'.cache.entries ≡ w.cache.entries → Keeps settings limit ticked w → Keeps settings limit ticked w'
-keeps_with settings limit ticked w w' adds same k = record {
-  reloaded = adds.reloaded limit k.reloaded;
-  counted = subst (All (IsReloaded w'.seen)) (sym same) (λ i d low. subst (λ (n : ℕ). (get_or w.cache.entries i d).reloads ≤ n) (sym (adds.replaced_is (get_or w.cache.entries i d).entry.request)) (k.counted i d low));
+pub keeps_with : (settings : DbConf) (brought : Request → ℕ) (limit : Option ℕ) (ticked : ℕ) (w w' : Writer) → AddsNone w.seen w'.seen → w'.cache.entries ≡ w.cache.entries → Keeps settings brought limit ticked w → Keeps settings brought limit ticked w'
+keeps_with settings brought limit ticked w w' adds same k = record {
+  reloaded = adds.reloaded brought limit k.reloaded;
+  counted = subst (All (IsReloaded brought w'.seen)) (sym same) (λ i d low. subst (λ (n : ℕ). (get_or w.cache.entries i d).reloads ≤ brought (get_or w.cache.entries i d).entry.request + n) (sym (adds.replaced_is (get_or w.cache.entries i d).entry.request)) (k.counted i d low));
   found = subst (λ (n : ℕ). OnTrue settings.check_files (ticked ≤ n)) (sym adds.invalidated_is) k.found;
 }
 
@@ -125,15 +125,15 @@ pub record Stays (w w' : Writer) : Type 0 where
   pub layout : w'.layout ≡ w.layout
   pub slide : w'.slide ≡ w.slide
 
-pub keeps_stays : (settings : DbConf) (limit : Option ℕ) (ticked : ℕ) (w w' : Writer) → Stays w w' → Keeps settings limit ticked w → Keeps settings limit ticked w'
-keeps_stays settings limit ticked w w' s k = keeps_with settings limit ticked w w' s.adds s.entries k
+pub keeps_stays : (settings : DbConf) (brought : Request → ℕ) (limit : Option ℕ) (ticked : ℕ) (w w' : Writer) → Stays w w' → Keeps settings brought limit ticked w → Keeps settings brought limit ticked w'
+keeps_stays settings brought limit ticked w w' s k = keeps_with settings brought limit ticked w w' s.adds s.entries k
 
 pub packed_stays : (w w' : Writer) → Stays w w' → IsPacked w → IsPacked w'
 packed_stays w w' s p = packed_with w w' s.entries s.used s.cycle p
 
 -- where the newest version is the one that the last tick found, or that does not count, it may stand for that
-pub keeps_current : (settings : DbConf) (limit : Option ℕ) (ticked newest : ℕ) (w : Writer) → is_outdated settings newest ticked ≡ false → Keeps settings limit ticked w → Keeps settings limit newest w
-keeps_current settings limit ticked newest w current k = record { reloaded = k.reloaded; counted = k.counted; found = by_checks settings.check_files (eqb newest ticked) refl current k.found } where
+pub keeps_current : (settings : DbConf) (brought : Request → ℕ) (limit : Option ℕ) (ticked newest : ℕ) (w : Writer) → is_outdated settings newest ticked ≡ false → Keeps settings brought limit ticked w → Keeps settings brought limit newest w
+keeps_current settings brought limit ticked newest w current k = record { reloaded = k.reloaded; counted = k.counted; found = by_checks settings.check_files (eqb newest ticked) refl current k.found } where
   by_checks : (b same : Bool) → eqb newest ticked ≡ same → (b && not same) ≡ false → OnTrue b (ticked ≤ invalidated_at w.seen) → OnTrue b (newest ≤ invalidated_at w.seen)
   by_checks true true is off low = let e = eqb-true newest ticked is in omega arith
   by_checks true false is off low = absurd (false≢true (sym off))
@@ -155,15 +155,15 @@ polls_stay files epoch w w' stamp p = by_same (same_files files w.cache.sources)
 
 -- ---- a use
 
-reloaded_used : (h : List Record) (request : Request) (ks : List Kept) → All (IsReloaded h) ks → All (IsReloaded h) (used_now request ks)
-reloaded_used h request ks all = record_of ks all where
-  one : (k : Kept) → IsReloaded h k → IsReloaded h (used_by request k)
+reloaded_used : (brought : Request → ℕ) (h : List Record) (request : Request) (ks : List Kept) → All (IsReloaded brought h) ks → All (IsReloaded brought h) (used_now request ks)
+reloaded_used brought h request ks all = record_of ks all where
+  one : (k : Kept) → IsReloaded brought h k → IsReloaded brought h (used_by request k)
   one k low = by_test (is_request request k.entry.request) where
-    by_test : (b : Bool) → IsReloaded h (cond b (record k { reloads = 0 }) k)
+    by_test : (b : Bool) → IsReloaded brought h (cond b (record k { reloads = 0 }) k)
     by_test true = omega arith
     by_test false = low
 
-  record_of : (xs : List Kept) → All (IsReloaded h) xs → All (IsReloaded h) (used_now request xs)
+  record_of : (xs : List Kept) → All (IsReloaded brought h) xs → All (IsReloaded brought h) (used_now request xs)
   record_of [] a i d low = absurd (omega arith)
   record_of (x ∷ xs) a zero d low = one x (a 0 x (omega arith))
   record_of (x ∷ xs) a (suc i) d low = record_of xs (λ j e l. a (suc j) e (omega arith)) i d (omega arith)
@@ -180,8 +180,8 @@ words_used request (k ∷ ks) =
     let f : Kept → ℕ = λ x. entry_words x.entry in
     sum_by-cons f (used_by request k) (used_now request ks) ∙ (λ i. used_words request k i + words_used request ks i) ∙ sym (sum_by-cons f k ks)
 
-keeps_used : (settings : DbConf) (limit : Option ℕ) (ticked : ℕ) (request : Request) (w : Writer) → Keeps settings limit ticked w → Keeps settings limit ticked (record w { cache = record w.cache { entries = used_now request w.cache.entries } })
-keeps_used settings limit ticked request w k = record { reloaded = k.reloaded; counted = reloaded_used w.seen request w.cache.entries k.counted; found = k.found }
+keeps_used : (settings : DbConf) (brought : Request → ℕ) (limit : Option ℕ) (ticked : ℕ) (request : Request) (w : Writer) → Keeps settings brought limit ticked w → Keeps settings brought limit ticked (record w { cache = record w.cache { entries = used_now request w.cache.entries } })
+keeps_used settings brought limit ticked request w k = record { reloaded = k.reloaded; counted = reloaded_used brought w.seen request w.cache.entries k.counted; found = k.found }
 
 packed_used : (request : Request) (w : Writer) → IsPacked w → IsPacked (record w { cache = record w.cache { entries = used_now request w.cache.entries } })
 packed_used request w p low = p low ∙ sym (words_used request w.cache.entries)
@@ -193,26 +193,26 @@ words_one ks k =
     let f : Kept → ℕ = λ x. entry_words x.entry in
     sum_by-append f ks (k ∷ []) ∙ ap (λ (n : ℕ). sum_by f ks + n) (sum_by-cons f k [] ∙ add-zero (entry_words k.entry))
 
-pub keeps_entry : (settings : DbConf) (limit : Option ℕ) (ticked : ℕ) (k : Kept) (w : Writer) → k.reloads ≤ replaced w.seen k.entry.request → Keeps settings limit ticked w → Keeps settings limit ticked (with_entry k w)
-keeps_entry settings limit ticked k w low keeps = record {
+pub keeps_entry : (settings : DbConf) (brought : Request → ℕ) (limit : Option ℕ) (ticked : ℕ) (k : Kept) (w : Writer) → k.reloads ≤ brought k.entry.request + replaced w.seen k.entry.request → Keeps settings brought limit ticked w → Keeps settings brought limit ticked (with_entry k w)
+keeps_entry settings brought limit ticked k w low keeps = record {
   reloaded = record { dropped = keeps.reloaded.dropped; invalidated = keeps.reloaded.invalidated };
-  counted = All-append (IsReloaded w.seen) w.cache.entries (k ∷ []) keeps.counted one;
+  counted = All-append (IsReloaded brought w.seen) w.cache.entries (k ∷ []) keeps.counted one;
   found = keeps.found;
 } where
-  one : All (IsReloaded w.seen) (k ∷ [])
+  one : All (IsReloaded brought w.seen) (k ∷ [])
   one zero d l = low
   one (suc i) d l = absurd (omega arith)
 
 pub packed_entry : (k : Kept) (w : Writer) → IsPacked w → IsPacked (with_entry k w)
 packed_entry k w p low = ap (λ (n : ℕ). n + entry_words k.entry) (p low) ∙ sym (words_one w.cache.entries k)
 
-pub keeps_insert : (settings : DbConf) (limit : Option ℕ) (ticked : ℕ) (said : Inserted) (loaded : Loaded) (w w' : Writer) → Inserts said loaded w w' → loaded.reloads ≤ replaced w.seen loaded.request → Keeps settings limit ticked w → Keeps settings limit ticked w'
-keeps_insert settings limit ticked (inserted.Done number) loaded w w' i low k = subst (Keeps settings limit ticked) (sym i.2) (keeps_entry settings limit ticked (kept_of loaded w.cache.inserted) w low k)
-keeps_insert settings limit ticked (inserted.TooLarge size) loaded w w' i low k = subst (Keeps settings limit ticked) (sym i.1) k
-keeps_insert settings limit ticked (inserted.Discarded noted epoch) loaded w w' i low k = subst (Keeps settings limit ticked) (sym i.1) k
-keeps_insert settings limit ticked (inserted.Present number) loaded w w' i low k = subst (Keeps settings limit ticked) (sym i.1) k
-keeps_insert settings limit ticked (inserted.Spent count) loaded w w' i low k = subst (Keeps settings limit ticked) (sym i.1) k
-keeps_insert settings limit ticked (inserted.Full need free) loaded w w' i low k = subst (Keeps settings limit ticked) (sym i.1) (record { reloaded = k.reloaded; counted = k.counted; found = k.found })
+pub keeps_insert : (settings : DbConf) (brought : Request → ℕ) (limit : Option ℕ) (ticked : ℕ) (said : Inserted) (loaded : Loaded) (w w' : Writer) → Inserts said loaded w w' → loaded.reloads ≤ brought loaded.request + replaced w.seen loaded.request → Keeps settings brought limit ticked w → Keeps settings brought limit ticked w'
+keeps_insert settings brought limit ticked (inserted.Done number) loaded w w' i low k = subst (Keeps settings brought limit ticked) (sym i.2) (keeps_entry settings brought limit ticked (kept_of loaded w.cache.inserted) w low k)
+keeps_insert settings brought limit ticked (inserted.TooLarge size) loaded w w' i low k = subst (Keeps settings brought limit ticked) (sym i.1) k
+keeps_insert settings brought limit ticked (inserted.Discarded noted epoch) loaded w w' i low k = subst (Keeps settings brought limit ticked) (sym i.1) k
+keeps_insert settings brought limit ticked (inserted.Present number) loaded w w' i low k = subst (Keeps settings brought limit ticked) (sym i.1) k
+keeps_insert settings brought limit ticked (inserted.Spent count) loaded w w' i low k = subst (Keeps settings brought limit ticked) (sym i.1) k
+keeps_insert settings brought limit ticked (inserted.Full need free) loaded w w' i low k = subst (Keeps settings brought limit ticked) (sym i.1) (record { reloaded = k.reloaded; counted = k.counted; found = k.found })
 
 pub packed_insert : (said : Inserted) (loaded : Loaded) (w w' : Writer) → Inserts said loaded w w' → IsPacked w → IsPacked w'
 packed_insert (inserted.Done number) loaded w w' i p = subst IsPacked (sym i.2) (packed_entry (kept_of loaded w.cache.inserted) w p)
@@ -232,10 +232,10 @@ again_insert arena (inserted.Full need free) loaded w w' i l = subst (λ (x : Wr
 
 -- ---- whole calls
 
-pub rests_same : {which : Db} (w w' : Writer) → w' ≡ w → Rests which w w'
-rests_same {which} w w' is = subst (Rests which w) (sym is) (record { on = ([], refl); table = refl; layout = refl; slide = refl; keeps = λ settings limit ticked k. k; packed = λ p. p; again = λ arena l. l; version = record { version = refl; sources = refl }; inserts = λ e a. inl a })
+pub rests_same : {which : Db} {brought : Request → ℕ} (w w' : Writer) → w' ≡ w → Rests which brought w w'
+rests_same {which} {brought} w w' is = subst (Rests which brought w) (sym is) (record { on = ([], refl); table = refl; layout = refl; slide = refl; keeps = λ settings limit ticked k. k; packed = λ p. p; again = λ arena l. l; version = record { version = refl; sources = refl }; inserts = λ e a. inl a })
 
-pub rests_through : {which : Db} (a b c : Writer) → Rests which a b → Rests which b c → Rests which a c
+pub rests_through : {which : Db} {brought : Request → ℕ} (a b c : Writer) → Rests which brought a b → Rests which brought b c → Rests which brought a c
 rests_through a b c r s = record {
   on = prefix_through a.seen b.seen c.seen r.on s.on;
   table = s.table ∙ r.table;
@@ -248,8 +248,8 @@ rests_through a b c r s = record {
   inserts = λ e a. elim (s.inserts e a) [ inl old ↦ r.inserts e old | inr own ↦ inr own ];
 }
 
-pub rests_missed : {which : Db} (m : Uses) (w w' : Writer) → w' ≡ record w { misses = m } → Rests which w w'
-rests_missed {which} m w w' is = subst (Rests which w) (sym is) (record {
+pub rests_missed : {which : Db} {brought : Request → ℕ} (m : Uses) (w w' : Writer) → w' ≡ record w { misses = m } → Rests which brought w w'
+rests_missed {which} {brought} m w w' is = subst (Rests which brought w) (sym is) (record {
   on = ([], refl);
   table = refl;
   layout = refl;
@@ -261,8 +261,8 @@ rests_missed {which} m w w' is = subst (Rests which w) (sym is) (record {
   inserts = λ e a. inl a;
 })
 
-pub rests_raised : {which : Db} (h : Uses) (w w' : Writer) → w' ≡ record w { hits = h } → Rests which w w'
-rests_raised {which} h w w' is = subst (Rests which w) (sym is) (record {
+pub rests_raised : {which : Db} {brought : Request → ℕ} (h : Uses) (w w' : Writer) → w' ≡ record w { hits = h } → Rests which brought w w'
+rests_raised {which} {brought} h w w' is = subst (Rests which brought w) (sym is) (record {
   on = ([], refl);
   table = refl;
   layout = refl;
@@ -274,14 +274,14 @@ rests_raised {which} h w w' is = subst (Rests which w) (sym is) (record {
   inserts = λ e a. inl a;
 })
 
-pub rests_looked : {which : Db} (found : Option Kept) (request : Request) (r : HitOrMiss) (w w' : Writer) (reply : List ℕ) → Looks found request r w w' reply → Rests which w w'
-rests_looked {which} found request (looked.Missed epoch) w w' reply l = rests_same w w' l.2
-rests_looked {which} found request (looked.Hit hit) w w' reply l = subst (Rests which w) (sym l.1) (record {
+pub rests_looked : {which : Db} {brought : Request → ℕ} (found : Option Kept) (request : Request) (r : HitOrMiss) (w w' : Writer) (reply : List ℕ) → Looks found request r w w' reply → Rests which brought w w'
+rests_looked {which} {brought} found request (looked.Missed epoch) w w' reply l = rests_same w w' l.2
+rests_looked {which} {brought} found request (looked.Hit hit) w w' reply l = subst (Rests which brought w) (sym l.1) (record {
   on = ([], refl);
   table = refl;
   layout = refl;
   slide = refl;
-  keeps = λ settings limit ticked k. let u = keeps_used settings limit ticked request w k in record { reloaded = u.reloaded; counted = u.counted; found = u.found };
+  keeps = λ settings limit ticked k. let u = keeps_used settings brought limit ticked request w k in record { reloaded = u.reloaded; counted = u.counted; found = u.found };
   packed = λ p. λ low. packed_used request w p low;
   again = λ arena l. l;
   version = record { version = refl; sources = refl };
@@ -297,15 +297,15 @@ insert_own which (inserted.Present number) loaded w w' i own e a = inl (subst (�
 insert_own which (inserted.Spent count) loaded w w' i own e a = inl (subst (λ (x : Writer). HasLoad x.seen e) i.1 a)
 insert_own which (inserted.Full need free) loaded w w' i own e a = inl (subst (λ (x : Writer). HasLoad x.seen e) i.1 a)
 
-pub rests_inserted : {which : Db} (said : Inserted) (loaded : Loaded) (w w' : Writer) → Inserts said loaded w w' → loaded.reloads ≤ replaced w.seen loaded.request → IsLoadedOf which loaded → Rests which w w'
-rests_inserted {which} said loaded w w' i low own =
+pub rests_inserted : {which : Db} {brought : Request → ℕ} (said : Inserted) (loaded : Loaded) (w w' : Writer) → Inserts said loaded w w' → loaded.reloads ≤ brought loaded.request + replaced w.seen loaded.request → IsLoadedOf which loaded → Rests which brought w w'
+rests_inserted {which} {brought} said loaded w w' i low own =
     let goes = leaves_inserted said loaded w w' i in
     record {
       on = goes.on;
       table = goes.table;
       layout = goes.layout;
       slide = goes.slide;
-      keeps = λ settings limit ticked k. keeps_insert settings limit ticked said loaded w w' i low k;
+      keeps = λ settings limit ticked k. keeps_insert settings brought limit ticked said loaded w w' i low k;
       packed = λ q. packed_insert said loaded w w' i q;
       again = λ arena l. again_insert arena said loaded w w' i l;
       version = record { version = goes.version; sources = goes.sources };

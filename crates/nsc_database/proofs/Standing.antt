@@ -2,6 +2,7 @@
 use Rattle.std.proofs.Common.{◌≡◌, ◌∙◌, ℕ, ◌≤◌, ◌⊎◌, false, List, Option, Result, Ok, Err, arith, inl, inr, subst, sym}
 use Rattle.std.specs.Prelude.{OnOk}
 use Rattle.nsc_outside.specs.declared.files.FileSet as file_set
+use Rattle.nsc_model.specs.declared.answer.Request.{Request}
 use Rattle.nsc_model.specs.declared.conf.DbConf.{DbConf}
 use Rattle.nsc_model.specs.declared.kind.Db.{Db}
 use Rattle.nsc_model.specs.Content.{Content}
@@ -22,17 +23,17 @@ use Rattle.nsc_database.proofs.Rests.{keeps_current, keeps_stays, packed_stays, 
 use Rattle.nsc_database.proofs.Shown.{polls_spent}
 use Rattle.nsc_database.proofs.Steady.{still_kept, still_polled}
 
-pub at_rest_on : {settings : DbConf} {limit : Option ℕ} {held : Option Content} {which : Db} {ticked : ℕ} (left : List Former) (w w' : Writer) → Rests which w w' → IsAtRest settings limit held which ticked left w → IsAtRest settings limit held which ticked left w'
-at_rest_on {settings} {limit} {held} {which} {ticked} left w w' r s = (r.keeps settings limit ticked s.0, r.packed s.1, λ files e. still_kept files which w.cache w'.cache r.version (s.2 files e), r.again (room_of settings) s.3, r.slide ∙ s.4, subst (IsSized settings) (sym r.layout) s.5, s.6, λ e a. elim (r.inserts e a) [ inl old ↦ s.7 e old | inr own ↦ own ])
+pub at_rest_on : {settings : DbConf} {brought : Request → ℕ} {limit : Option ℕ} {held : Option Content} {which : Db} {ticked : ℕ} (left : List Former) (w w' : Writer) → Rests which brought w w' → IsAtRest settings brought limit held which ticked left w → IsAtRest settings brought limit held which ticked left w'
+at_rest_on {settings} {brought} {limit} {held} {which} {ticked} left w w' r s = (r.keeps settings limit ticked s.0, r.packed s.1, λ files e. still_kept files which w.cache w'.cache r.version (s.2 files e), r.again (room_of settings) s.3, r.slide ∙ s.4, subst (IsSized settings) (sym r.layout) s.5, s.6, λ e a. elim (r.inserts e a) [ inl old ↦ s.7 e old | inr own ↦ own ])
 
-pub at_rest_same : {settings : DbConf} {limit : Option ℕ} {held : Option Content} {which : Db} {ticked : ℕ} (left : List Former) (w w' : Writer) → w' ≡ w → IsAtRest settings limit held which ticked left w → IsAtRest settings limit held which ticked left w'
+pub at_rest_same : {settings : DbConf} {brought : Request → ℕ} {limit : Option ℕ} {held : Option Content} {which : Db} {ticked : ℕ} (left : List Former) (w w' : Writer) → w' ≡ w → IsAtRest settings brought limit held which ticked left w → IsAtRest settings brought limit held which ticked left w'
 at_rest_same left w w' is s = at_rest_on left w w' (rests_same w w' is) s
 
-pub at_rest_polled : {settings : DbConf} {limit : Option ℕ} {held : Option Content} {which : Db} {ticked : ℕ} (left : List Former) (fetched : Fetched) (epoch : ℕ) (b b' : SourceBook) (w w' : Writer) (result : Result Polled SpentCount) → PollsBook fetched epoch b b' w w' result → IsPart held which fetched.content
-    → IsAtRest settings limit held which ticked left w → IsAtRest settings limit held which ticked left w'
-at_rest_polled {settings} {limit} {held} {which} {ticked} left fetched epoch b b' w w' (Ok p) q part s =
+pub at_rest_polled : {settings : DbConf} {brought : Request → ℕ} {limit : Option ℕ} {held : Option Content} {which : Db} {ticked : ℕ} (left : List Former) (fetched : Fetched) (epoch : ℕ) (b b' : SourceBook) (w w' : Writer) (result : Result Polled SpentCount) → PollsBook fetched epoch b b' w w' result → IsPart held which fetched.content
+    → IsAtRest settings brought limit held which ticked left w → IsAtRest settings brought limit held which ticked left w'
+at_rest_polled {settings} {brought} {limit} {held} {which} {ticked} left fetched epoch b b' w w' (Ok p) q part s =
     let stays = polls_stay fetched.content epoch w w' p.stamp q.0 in (
-      keeps_stays settings limit ticked w w' stays s.0,
+      keeps_stays settings brought limit ticked w w' stays s.0,
       packed_stays w w' stays s.1,
       λ all e. still_polled fetched.content all which epoch w w' p.stamp q.0 (s.2 all e) (part all e),
       subst (λ (n : ℕ). LoadsAgain (room_of settings) n w'.seen) (sym stays.cycle) (stays.adds.again (room_of settings) w.cache.cycle s.3),
@@ -41,17 +42,17 @@ at_rest_polled {settings} {limit} {held} {which} {ticked} left fetched epoch b b
       s.6,
       λ e a. s.7 e (stays.adds.loads e a),
     )
-at_rest_polled {settings} {limit} {held} {which} {ticked} left fetched epoch b b' w w' (Err spent) q part s = at_rest_same left w w' (polls_spent fetched.content epoch w w' spent q.0).2 s
+at_rest_polled {settings} {brought} {limit} {held} {which} {ticked} left fetched epoch b b' w w' (Err spent) q part s = at_rest_same left w w' (polls_spent fetched.content epoch w w' spent q.0).2 s
 
 -- nothing changed
-pub at_rest_kept : {settings : DbConf} {limit : Option ℕ} {held : Option Content} {which : Db} {ticked : ℕ} (left left' : List Former) (w w' : Writer) → left' ≡ left → w' ≡ w → IsAtRest settings limit held which ticked left w → IsAtRest settings limit held which ticked left' w'
-at_rest_kept {settings} {limit} {held} {which} {ticked} left left' w w' same is s = subst (λ (ls : List Former). IsAtRest settings limit held which ticked ls w') (sym same) (at_rest_same left w w' is s)
+pub at_rest_kept : {settings : DbConf} {brought : Request → ℕ} {limit : Option ℕ} {held : Option Content} {which : Db} {ticked : ℕ} (left left' : List Former) (w w' : Writer) → left' ≡ left → w' ≡ w → IsAtRest settings brought limit held which ticked left w → IsAtRest settings brought limit held which ticked left' w'
+at_rest_kept {settings} {brought} {limit} {held} {which} {ticked} left left' w w' same is s = subst (λ (ls : List Former). IsAtRest settings brought limit held which ticked ls w') (sym same) (at_rest_same left w w' is s)
 
 -- where the newest version is the one that the last tick found, or that does not count
-pub at_rest_current : {settings : DbConf} {limit : Option ℕ} {held : Option Content} {which : Db} {ticked : ℕ} (left : List Former) (newest : ℕ) (w w' : Writer) → w' ≡ w → newest ≡ w.cache.newest_version → is_outdated settings w.cache.newest_version ticked ≡ false → IsAtRest settings limit held which ticked left w
-    → IsAtRest settings limit held which newest left w'
-at_rest_current {settings} {limit} {held} {which} {ticked} left newest w w' same is current s =
-    at_rest_same left w w' same (keeps_current settings limit ticked newest w (subst (λ (n : ℕ). is_outdated settings n ticked ≡ false) (sym is) current) s.0, s.1, s.2, s.3, s.4, s.5, s.6, s.7)
+pub at_rest_current : {settings : DbConf} {brought : Request → ℕ} {limit : Option ℕ} {held : Option Content} {which : Db} {ticked : ℕ} (left : List Former) (newest : ℕ) (w w' : Writer) → w' ≡ w → newest ≡ w.cache.newest_version → is_outdated settings w.cache.newest_version ticked ≡ false → IsAtRest settings brought limit held which ticked left w
+    → IsAtRest settings brought limit held which newest left w'
+at_rest_current {settings} {brought} {limit} {held} {which} {ticked} left newest w w' same is current s =
+    at_rest_same left w w' same (keeps_current settings brought limit ticked newest w (subst (λ (n : ℕ). is_outdated settings n ticked ≡ false) (sym is) current) s.0, s.1, s.2, s.3, s.4, s.5, s.6, s.7)
 
 -- what holds in any case
 pub in_any_case : {T E P : Type 0} (r : Result T E) → P → OnOk r P

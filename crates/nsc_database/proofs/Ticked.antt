@@ -2,6 +2,7 @@
 use Rattle.std.proofs.Common.{◌≡◌, ◌≢◌, ℕ, ◌+◌, ◌<◌, ◌≤◌, ◌⊎◌, List, [], ◌∷◌, ◌++◌, Option, Some, refl, sym, ap, subst, arith, inl, inr}
 use Rattle.std.specs.Bool.{OnTrue}
 use Rattle.std.proofs.lemmas.Bool.{OnTrue_at, OnTrue_from}
+use Rattle.nsc_model.specs.declared.answer.Request.{Request}
 use Rattle.nsc_model.specs.declared.conf.DbConf.{DbConf}
 use Rattle.nsc_model.specs.declared.kind.Db.{Db}
 use Rattle.nsc_model.specs.declared.kind.FileId.{FileId}
@@ -102,10 +103,10 @@ emptied_stale settings now seen noted mid after epoch polled t none =
       outdated = OnTrue_from settings.check_files _ (λ on' e a other. none e (load_on seen after e on a));
     }
 
-pub emptied_ticked : (which : Db) (m n : FileId → ℕ) (latest : FileId → Option (Option (List ℕ))) (settings : DbConf) (limit : Option ℕ) (now : ℕ) (seen noted mid after : List Record) (last_cycle : Type 0) (epoch : ℕ) (polled : Polled) → Ticking seen noted mid after epoch polled → IsLookedUp which m n latest polled.content → NoneLive after → Reloaded limit after
-    → AreLoadedAgain (room_of settings) after ⊎ last_cycle → IsTicked which m n latest settings limit now seen after last_cycle
+pub emptied_ticked : (which : Db) (m n : FileId → ℕ) (latest : FileId → Option (Option (List ℕ))) (settings : DbConf) (brought : Request → ℕ) (limit : Option ℕ) (now : ℕ) (seen noted mid after : List Record) (last_cycle : Type 0) (epoch : ℕ) (polled : Polled) → Ticking seen noted mid after epoch polled → IsLookedUp which m n latest polled.content → NoneLive after → Reloaded brought limit after
+    → AreLoadedAgain (room_of settings) after ⊎ last_cycle → IsTicked which m n latest settings brought limit now seen after last_cycle
 unfolding emptied_stale
-emptied_ticked which m n latest settings limit now seen noted mid after last_cycle epoch polled t files none r l = record {
+emptied_ticked which m n latest settings brought limit now seen noted mid after last_cycle epoch polled t files none r l = record {
   ends = emptied_stale settings now seen noted mid after epoch polled t none;
   content = polled.content;
   version_is = polled_still seen noted mid after after epoch polled t ([], refl) t.legal_after;
@@ -131,33 +132,33 @@ ended_all seen noted mid after last epoch polled t p legal more e a =
     let rose : invalidations noted < invalidations last = (let same = t.epoch_is in omega arith) in
     ended_by noted last e legal to_last rose (load_on seen noted e t.before a)
 
-listed_over : (settings : DbConf) (limit : Option ℕ) (now : ℕ) (seen noted mid after last : List Record) (epoch : ℕ) (polled : Polled) (due : List Due) → Ticking seen noted mid after epoch polled → AreListed settings limit now after due → IsPrefix after last → Legal last → AreOver epoch last due
+listed_over : (settings : DbConf) (brought : Request → ℕ) (limit : Option ℕ) (now : ℕ) (seen noted mid after last : List Record) (epoch : ℕ) (polled : Polled) (due : List Due) → Ticking seen noted mid after epoch polled → AreListed settings brought limit now after due → IsPrefix after last → Legal last → AreOver epoch last due
     → (e : Entry) → HasLoad seen e → e.timeout < now → HasEnd last e.number
-listed_over settings limit now seen noted mid after last epoch polled due t listed p legal (inl more) e a low = ended_all seen noted mid after last epoch polled t p legal more e a
-listed_over settings limit now seen noted mid after last epoch polled due t listed p legal (inr gone) e a low =
+listed_over settings brought limit now seen noted mid after last epoch polled due t listed p legal (inl more) e a low = ended_all seen noted mid after last epoch polled t p legal more e a
+listed_over settings brought limit now seen noted mid after last epoch polled due t listed p legal (inr gone) e a low =
     elim (listed.all e (load_on seen after e (seen_on seen noted mid after epoch polled t) a) low) [ inl ended ↦ end_on after last e.number p ended | inr has ↦ gone e.number has ]
 
-listed_outdated : (settings : DbConf) (limit : Option ℕ) (now : ℕ) (seen noted mid after last : List Record) (epoch : ℕ) (polled : Polled) (due : List Due) → Ticking seen noted mid after epoch polled → AreListed settings limit now after due → IsPrefix after last → Legal last → AreOver epoch last due
+listed_outdated : (settings : DbConf) (brought : Request → ℕ) (limit : Option ℕ) (now : ℕ) (seen noted mid after last : List Record) (epoch : ℕ) (polled : Polled) (due : List Due) → Ticking seen noted mid after epoch polled → AreListed settings brought limit now after due → IsPrefix after last → Legal last → AreOver epoch last due
     → OnTrue settings.check_files ((e : Entry) → HasLoad seen e → e.version ≢ polled.stamp.version → HasEnd last e.number)
-listed_outdated settings limit now seen noted mid after last epoch polled due t listed p legal (inl more) = OnTrue_from settings.check_files _ (λ on e a other. ended_all seen noted mid after last epoch polled t p legal more e a)
-listed_outdated settings limit now seen noted mid after last epoch polled due t listed p legal (inr gone) = OnTrue_from settings.check_files _ (λ on e a other. elim (ended_or_not after e.number) [
+listed_outdated settings brought limit now seen noted mid after last epoch polled due t listed p legal (inl more) = OnTrue_from settings.check_files _ (λ on e a other. ended_all seen noted mid after last epoch polled t p legal more e a)
+listed_outdated settings brought limit now seen noted mid after last epoch polled due t listed p legal (inr gone) = OnTrue_from settings.check_files _ (λ on e a other. elim (ended_or_not after e.number) [
   | inl ended ↦ end_on after last e.number p ended
   | inr lives ↦ absurd (other (over_polled seen noted mid after epoch polled e t a (OnTrue_at on listed.current e (record { inserted = load_on seen after e (seen_on seen noted mid after epoch polled t) a; not_ended = lives }))))
 ])
 
-pub listed_stale : (settings : DbConf) (limit : Option ℕ) (now : ℕ) (seen noted mid after last : List Record) (epoch : ℕ) (polled : Polled) (due : List Due) → Ticking seen noted mid after epoch polled → AreListed settings limit now after due → IsPrefix after last → Legal last → AreOver epoch last due → EndsStale settings now seen last
-listed_stale settings limit now seen noted mid after last epoch polled due t listed p legal over = record {
+pub listed_stale : (settings : DbConf) (brought : Request → ℕ) (limit : Option ℕ) (now : ℕ) (seen noted mid after last : List Record) (epoch : ℕ) (polled : Polled) (due : List Due) → Ticking seen noted mid after epoch polled → AreListed settings brought limit now after due → IsPrefix after last → Legal last → AreOver epoch last due → EndsStale settings now seen last
+listed_stale settings brought limit now seen noted mid after last epoch polled due t listed p legal over = record {
   version = polled.stamp.version;
   looked = looked_at seen noted mid after last epoch polled t p;
-  over = listed_over settings limit now seen noted mid after last epoch polled due t listed p legal over;
-  outdated = listed_outdated settings limit now seen noted mid after last epoch polled due t listed p legal over;
+  over = listed_over settings brought limit now seen noted mid after last epoch polled due t listed p legal over;
+  outdated = listed_outdated settings brought limit now seen noted mid after last epoch polled due t listed p legal over;
 }
 
-pub listed_ticked : (which : Db) (m n : FileId → ℕ) (latest : FileId → Option (Option (List ℕ))) (settings : DbConf) (limit : Option ℕ) (now : ℕ) (seen noted mid after last : List Record) (last_cycle : Type 0) (epoch : ℕ) (polled : Polled) (due : List Due) → Ticking seen noted mid after epoch polled → IsLookedUp which m n latest polled.content
-    → AreListed settings limit now after due → IsPrefix after last → Legal last → AreOver epoch last due → Reloaded limit last → AreLoadedAgain (room_of settings) last ⊎ last_cycle → IsTicked which m n latest settings limit now seen last last_cycle
+pub listed_ticked : (which : Db) (m n : FileId → ℕ) (latest : FileId → Option (Option (List ℕ))) (settings : DbConf) (brought : Request → ℕ) (limit : Option ℕ) (now : ℕ) (seen noted mid after last : List Record) (last_cycle : Type 0) (epoch : ℕ) (polled : Polled) (due : List Due) → Ticking seen noted mid after epoch polled → IsLookedUp which m n latest polled.content
+    → AreListed settings brought limit now after due → IsPrefix after last → Legal last → AreOver epoch last due → Reloaded brought limit last → AreLoadedAgain (room_of settings) last ⊎ last_cycle → IsTicked which m n latest settings brought limit now seen last last_cycle
 unfolding listed_stale
-listed_ticked which m n latest settings limit now seen noted mid after last last_cycle epoch polled due t files listed p legal over r l = record {
-  ends = listed_stale settings limit now seen noted mid after last epoch polled due t listed p legal over;
+listed_ticked which m n latest settings brought limit now seen noted mid after last last_cycle epoch polled due t files listed p legal over r l = record {
+  ends = listed_stale settings brought limit now seen noted mid after last epoch polled due t listed p legal over;
   content = polled.content;
   version_is = polled_still seen noted mid after last epoch polled t p legal;
   files = files;

@@ -1,7 +1,7 @@
 -- What a call leaves of a pass.
 use Rattle.std.specs.Prelude.{◌≡◌, ◌≤◌, All}
 use Rattle.nsc_model.specs.History.{IsFit, IsPrefix, Legal}
-use Rattle.nsc_model.specs.Stores.{FoundLastCycle}
+use Rattle.nsc_model.specs.Stores.{FoundLastCycle, PassAt}
 use Rattle.nsc_outside.specs.declared.files.FileSet as file_set
 use Rattle.nsc_database.specs.declared.room.Room as room
 use Rattle.nsc_database.specs.declared.pass.DbPass.{DbPass}
@@ -26,3 +26,17 @@ pub record Held {F B : Type 0} {G : file_set.Ghosts F} {R : room.Ghosts B} (p p'
 -- it loaded CYCLE as 2^62 in the call, at which there are no more compactions
 abbrev pub LoadedLastCycle : {F B : Type 0} {G : file_set.Ghosts F} {R : room.Ghosts B} → DbPass F B G R → DbPass F B G R → Type 0
 LoadedLastCycle p p' = FoundLastCycle p.pass.searching.searches p'.pass.searching.searches p'.pass.searching.last
+
+-- what the trait of stores tells of it
+abbrev pub pass_at : {F B : Type 0} {G : file_set.Ghosts F} {R : room.Ghosts B} → DbPass F B G R → PassAt
+pass_at {F} {B} {G} {R} p = record {
+  seen = p.pass.seen;
+  faults = G.faults p.files;
+  file_faults = G.file_faults p.files;
+  reads = G.reads p.files;
+  latest = G.latest p.files;
+  searches = p.pass.searching.searches;
+  first = p.pass.searching.first;
+  last = p.pass.searching.last;
+  words = p.pass.present.words;
+}

@@ -1,5 +1,6 @@
--- The tables of the four databases, by which a room knows them.
-use Rattle.std.specs.Prelude.{[]}
+-- What a room knows of each of the four databases.
+use Rattle.std.specs.Prelude.{ℕ, []}
+use Rattle.nsc_model.specs.declared.answer.Request.{Request}
 use Rattle.nsc_model.specs.declared.kind.Db.{Db}
 use Rattle.nsc_model.specs.declared.kind.Db.TheVariants as db_is
 use Rattle.atomic_table.specs.Seated.{TableId}
@@ -12,3 +13,10 @@ tables passwd group hosts services db_is.Passwd = passwd
 tables passwd group hosts services db_is.Group = group
 tables passwd group hosts services db_is.Hosts = hosts
 tables passwd group hosts services db_is.Services = services
+
+-- the reloads that images brought back into each, by request
+abbrev pub reloads_brought : (Request → ℕ) → (Request → ℕ) → (Request → ℕ) → (Request → ℕ) → Db → Request → ℕ
+reloads_brought passwd group hosts services db_is.Passwd = passwd
+reloads_brought passwd group hosts services db_is.Group = group
+reloads_brought passwd group hosts services db_is.Hosts = hosts
+reloads_brought passwd group hosts services db_is.Services = services

@@ -14,7 +14,8 @@ use Rattle.nsc_model.specs.Content.{Content}
 use Rattle.nsc_model.specs.History.{HasEnd, HasLoad, IsPrefix, NoneLive, PolledSince, invalidations, load_of, version_in}
 use Rattle.nsc_model.specs.Machine.{all_words, last_count, life_of}
 use Rattle.nsc_model.specs.Reloads.{replaced}
-use Rattle.nsc_model.specs.Stores.{IsLoadedAgain, IsUnmoved}
+use Rattle.nsc_model.specs.Stores.{IsLoadedAgain, IsTickedAt, IsUnmoved, PassAt}
+use Rattle.nsc_model.specs.declared.kind.Db.{Db}
 use Rattle.nsc_pruner.specs.Due.{Due}
 use Rattle.nsc_turns.specs.declared.answering.Answering.{Answering}
 use Rattle.nsc_turns.specs.Loads.{anew_of}
@@ -24,15 +25,15 @@ use Rattle.nsc_turns.specs.declared.ticks.Checked.{Checked}
 use Rattle.nsc_turns.specs.declared.ticks.Checked.TheVariants as checked
 use Rattle.nsc_database.specs.Rests.{IsCurrent}
 
--- an entry of this number and request was inserted, its time is over, and entries of the request ended so often to be reloaded; it is
--- dropped where its reply is a not-found one, or where the limit is reached
-pub record IsDue (limit : Option ℕ) (now : ℕ) (history : List Record) (d : Due) : Type 0 where
+-- An entry of this number and request was inserted, and its time is over. The request has at least as many reloads: those that an image
+-- brought back for it, and its entries that ended to be reloaded. It is dropped if its reply is a not-found one, or if the limit is reached.
+pub record IsDue (brought : Request → ℕ) (limit : Option ℕ) (now : ℕ) (history : List Record) (d : Due) : Type 0 where
   pub entry : Entry
   pub inserted : HasLoad history entry
   pub numbered : entry.number ≡ d.number
   pub asked : entry.request ≡ d.request
   pub over : entry.timeout < now
-  pub counted : d.reloads ≤ replaced history d.request
+  pub counted : d.reloads ≤ brought d.request + replaced history d.request
   pub dropped : OnTrue d.dropped ((entry.answer.not_found ≡ true) ⊎ ((most : ℕ) × (limit ≡ Some most) × (most ≤ d.reloads)))
 
 -- one of them has this number
@@ -46,14 +47,14 @@ AreAllDue now history due = (e : Entry) → HasLoad history e → e.timeout < no
 
 -- what is known once the versions were compared: every entry ended; or each live entry is over the newest version, where that counts,
 -- and what is due
-pub record AreListed (settings : DbConf) (limit : Option ℕ) (now : ℕ) (history : List Record) (due : List Due) : Type 0 where
+pub record AreListed (settings : DbConf) (brought : Request → ℕ) (limit : Option ℕ) (now : ℕ) (history : List Record) (due : List Due) : Type 0 where
   pub current : IsCurrent settings history
-  pub each : All (IsDue limit now history) due
+  pub each : All (IsDue brought limit now history) due
   pub all : AreAllDue now history due
 
-abbrev pub IsChecked : Checked → DbConf → Option ℕ → ℕ → List Record → Type 0
-IsChecked checked.Emptied settings limit now history = NoneLive history
-IsChecked (checked.Listed due) settings limit now history = AreListed settings limit now history due.items
+abbrev pub IsChecked : Checked → DbConf → (Request → ℕ) → Option ℕ → ℕ → List Record → Type 0
+IsChecked checked.Emptied settings brought limit now history = NoneLive history
+IsChecked (checked.Listed due) settings brought limit now history = AreListed settings brought limit now history due.items
 
 -- every entry was ended where the newest version is outdated, and only there
 abbrev pub EmptiesOutdated : Checked → Bool → Type 0
@@ -95,8 +96,8 @@ abbrev pub LoadsBut : ℕ → ℕ → (Request → Type 0) → List Record → T
 LoadsBut arena cycle those history = AreLoadedBut arena those history ⊎ (last_count ≤ cycle)
 
 -- it is ended to be loaded again, and counted as such
-abbrev pub IsRenewed : List Record → Due → Type 0
-IsRenewed history d = d.ended ≡ true → d.dropped ≡ false → d.reloads + 1 ≤ replaced history d.request
+abbrev pub IsRenewed : (Request → ℕ) → List Record → Due → Type 0
+IsRenewed brought history d = d.ended ≡ true → d.dropped ≡ false → d.reloads + 1 ≤ brought d.request + replaced history d.request
 
 -- the writer once it was compacted
 abbrev pub compacted_by : Writer → Writer
@@ -105,3 +106,7 @@ compacted_by w = record w { cache = record w.cache { cycle = w.cache.cycle + 2; 
 -- the due entries are ended, or the database was invalidated after so many invalidations
 abbrev pub AreOver : ℕ → List Record → List Due → Type 0
 AreOver epoch history due = (epoch < invalidations history) ⊎ ((n : ℕ) → HasNumber due n → HasEnd history n)
+
+-- a tick of a database that is cached did its work
+abbrev pub IsTickedIfCached : Db → DbConf → (Request → ℕ) → Option ℕ → ℕ → PassAt → PassAt → Type 0
+IsTickedIfCached which settings brought limit now before after = OnTrue settings.enabled (IsTickedAt which settings brought limit now before after)

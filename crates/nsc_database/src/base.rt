@@ -1,19 +1,17 @@
 // A database of which it is known which one it is.
-ghost use Rattle.std.specs.Prelude.{◌≡◌, ◌≤◌, ◌<◌, ◌^◌, length, IfOk, IfErr, OnOk};
+ghost use Rattle.std.specs.Prelude.{◌≡◌, ◌≤◌, ◌<◌, ◌^◌, length, IfOk, IfErr, IfSome, OnOk};
 ghost use Rattle.nsc_model.specs.Entry.{key_limit};
 ghost use Rattle.nsc_model.specs.History.{Legal, invalidations};
-ghost use Rattle.nsc_writer.specs.Writer.{IsAnswered};
 ghost use Rattle.nsc_model.specs.Reads.{IsLookedUp};
 ghost use Rattle.nsc_model.specs.Settings.{settings_of};
 ghost use Rattle.nsc_model.specs.Kinds.{database_of};
 ghost use Rattle.nsc_model.specs.Stores.{IsCounted, IsEmptied, IsFault, IsImageOf, IsInvalidateFault};
 ghost use Rattle.nsc_sourcebook.specs.Book.{FitsBook};
 ghost use Rattle.nsc_sourcebook.specs.Reads.{IsPart, NoneFailed};
-ghost use Rattle.nsc_turns.specs.Loads.{loaded_of};
-ghost use Rattle.nsc_database.specs.Frames.{Goes, Held, LoadedLastCycle};
+ghost use Rattle.nsc_database.specs.Frames.{Goes, Held, LoadedLastCycle, pass_at};
 ghost use Rattle.nsc_database.specs.Holds.{IsLooked, IsPollFault, IsPolled};
-ghost use Rattle.nsc_database.specs.Lookups.{IsTried, given_by};
-ghost use Rattle.nsc_database.specs.Rests.{IsLoadedOf};
+ghost use Rattle.nsc_database.specs.Lookups.{AreMade, IsTriedAt, given_by};
+ghost use Rattle.nsc_database.specs.Rests.{IsFirstLoad};
 ghost use Rattle.nsc_database.specs.Ticks.{EndsInTime};
 ghost use Rattle.nsc_model.specs.Steady.{IsSteady};
 ghost use Rattle.nsc_database.specs.Steady.{StaysSteady};
@@ -25,11 +23,20 @@ use nsc_base::{Buf, Bytes, NoMemory};
 use nsc_model::{Answerer, CacheFault, Db, DbConf, Given, Kind, LookupFault, Stats, Why};
 use nsc_outside::FileSet;
 use nsc_sourcebook::{Fetched, Polled};
-use nsc_turns::{Answering, HitOrMiss, load};
+use nsc_turns::{Answering, HitOrMiss, load, load_beside};
 use nsc_writer::{Inserted, Loaded, Stamp};
 use std::alloc::Global;
 use std::marker::PhantomData;
 use std::sync::{Mutex, Wait};
+
+/// What a lookup inserts.
+#[derive(Drop)]
+pub struct Insertions {
+    /// Its answer.
+    pub loaded: Loaded,
+    /// The answer to the request by id, for a user or a group that was found by name.
+    pub beside: Option<Loaded>,
+}
 
 /// A database: its source book and its writer, each behind a lock. The book's lock is taken before the writer's.
 #[derive(Drop)]
@@ -154,33 +161,44 @@ impl<D: OfDb, F: FileSet + Drop, A: Answerer + Drop, B: Room> Base<D, F, A, B> {
         }
     }
 
-    /// Counts a miss, and tries an insertion; once more in a larger table, where it finds no room and the table may become large enough.
-    /// For want of memory nothing was inserted.
+    /// Counts a miss, and tries an insertion; once more in a larger table, if it finds no room and the table may become large enough.
+    /// If the entry was inserted, tries to insert what goes beside it, in the same critical section.
+    ///
+    /// # Errors
+    ///
+    /// `NoMemory`: nothing was inserted, though the table may have grown.
     pub fn keep<R: Wait>(
         &self,
         rt: &R,
         alloc: Global,
         pass: &mut DbPass<F, B>,
-        loaded: Loaded,
+        insertions: Insertions,
     ) -> Result<Given, NoMemory>
         requires db { pass.old.db ≡ D.db }
-        requires answered { IsAnswered pass.old.pass.seen loaded }
-        requires new { loaded.reloads ≡ 0 }
-        requires own { IsLoadedOf D.db loaded }
+        requires first { IsFirstLoad D.db pass.old.pass.seen insertions.loaded }
+        requires beside { IfSome insertions.beside (IsFirstLoad D.db pass.old.pass.seen) }
         ensures frame { Held pass.old pass.new }
-        ensures kept { IfOk result (λ given. IsTried self.now.settings pass.new.pass.present.words (LoadedLastCycle pass.old pass.new) loaded pass.old.pass.seen pass.new.pass.seen given) }
+        ensures kept { IfOk result (IsTriedAt self.now.settings (pass_at pass.old) (pass_at pass.new) insertions.loaded) }
         ensures steady { IsSteady B.held D.db pass.new.pass.seen }
     {
         pass.learn();
+        let Insertions { loaded, beside } = insertions;
         let mut lock = self.desk.lock(rt);
         let desk = &mut *lock;
         desk.follow(pass)?;
         let (said, loaded) = desk.keep(alloc, &self.settings, pass, loaded)?;
+        // The pass sees the first insertion, behind which the second one goes.
+        desk.show(pass);
+        desk.keep_beside(said, beside.as_ref());
         desk.show_cycle(pass);
         Ok(given_after(said, loaded.into_reply()))
     }
 
-    /// The answer over a polled content, as it is to be inserted.
+    /// Makes what a lookup inserts, over a polled content.
+    ///
+    /// # Errors
+    ///
+    /// `NoMemory` if memory is short for either answer.
     pub fn load(
         &self,
         alloc: Global,
@@ -188,23 +206,17 @@ impl<D: OfDb, F: FileSet + Drop, A: Answerer + Drop, B: Room> Base<D, F, A, B> {
         kind: Kind,
         key: &[u8],
         now: u64,
-    ) -> Result<Loaded, NoMemory>
+    ) -> Result<Insertions, NoMemory>
         requires key { length key.now ≤ key_limit }
         requires kind { database_of kind ≡ D.db }
         requires moment { now < 2 ^ 62 }
-        ensures loaded { IfOk result (λ l. l ≡ loaded_of (record { settings = self.now.settings; stamp = polled.now.stamp; moment = now }) polled.now.content (record { kind = kind; key = key.now }) 0) }
-        ensures own { IfOk result (IsLoadedOf D.db) }
+        ensures { IfOk result (AreMade D.db self.now.settings polled.now now (record { kind = kind; key = key.now })) }
     {
         let answering = self.answering(polled, now);
-        load(
-            alloc,
-            &self.answers,
-            polled.ready(),
-            &answering,
-            kind,
-            key,
-            0,
-        )
+        let ready = polled.ready();
+        let loaded = load(alloc, &self.answers, ready, &answering, kind, key, 0)?;
+        let beside = load_beside(alloc, &self.answers, ready, &answering, &loaded)?;
+        Ok(Insertions { loaded, beside })
     }
 
     /// What answers over a polled content have in common, that are made at this moment, in seconds.

@@ -44,6 +44,8 @@ impl<F: FileSet + Drop, A: Answerer + Drop, B: Room> Store for Database<F, A, B>
 
     ghost reloads = { λ d. d.reloads };
 
+    ghost brought = { λ d. B.brought d.db };
+
     ghost is_pass = { λ d p. p.db ≡ d.db };
 
     ghost at = { λ p. record { seen = p.pass.seen; faults = F.faults p.files; file_faults = F.file_faults p.files; reads = F.reads p.files; latest = F.latest p.files; searches = p.pass.searching.searches; first = p.pass.searching.first; last = p.pass.searching.last; words = p.pass.present.words } };

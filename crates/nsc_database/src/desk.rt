@@ -53,7 +53,7 @@ impl<D: OfDb, B: Room> Model for Desk<D, B> {
 
     ghost view = { λ d. record { writer = d.writer; left = d.left; ticked = d.ticked } };
 
-    ghost invariant = { λ d. IsAtRest (settings_of B.conf D.db) B.conf.reloads B.held D.db d.ticked d.left d.writer };
+    ghost invariant = { λ d. IsAtRest (settings_of B.conf D.db) (B.brought D.db) B.conf.reloads B.held D.db d.ticked d.left d.writer };
 }
 
 /// Its source book.
@@ -113,7 +113,7 @@ impl<D: OfDb, B: Room> Desk<D, B> {
         ensures seen { pass.new.pass.seen ≡ self.old.writer.seen }
         ensures searching { pass.new.pass.searching ≡ informed pass.old.pass.searching self.old.writer.cache.cycle }
         ensures steady { IsSteady B.held D.db pass.new.pass.seen }
-        ensures reloaded { Reloaded B.conf.reloads pass.new.pass.seen }
+        ensures reloaded { Reloaded (B.brought D.db) B.conf.reloads pass.new.pass.seen }
         ensures again { LoadsAgain (room_of (settings_of B.conf D.db)) self.old.writer.cache.cycle pass.new.pass.seen }
         ensures reply { pass.new.reply ≡ pass.old.reply }
     {
@@ -133,7 +133,7 @@ impl<D: OfDb, B: Room> Desk<D, B> {
         ensures present { pass.new.pass.present ≡ pass.old.pass.present }
         ensures cycle { last_count ≤ self.old.writer.cache.cycle → LoadedLastCycle pass.old pass.new }
         ensures steady { IsSteady B.held D.db pass.new.pass.seen }
-        ensures reloaded { Reloaded B.conf.reloads pass.new.pass.seen }
+        ensures reloaded { Reloaded (B.brought D.db) B.conf.reloads pass.new.pass.seen }
         ensures again { AreLoadedAgain (room_of (settings_of B.conf D.db)) pass.new.pass.seen ⊎ LoadedLastCycle pass.old pass.new }
     {
         self.show(pass);
@@ -229,7 +229,7 @@ impl<D: OfDb, B: Room> Desk<D, B> {
         requires settings { settings.now ≡ settings_of B.conf D.db }
         requires limit { limit ≡ B.conf.reloads }
         ensures table { self.new.writer.table ≡ self.old.writer.table }
-        ensures checked { IfOk result (λ checked. IsChecked checked settings.now limit now self.new.writer.seen) }
+        ensures checked { IfOk result (λ checked. IsChecked checked settings.now (B.brought D.db) limit now self.new.writer.seen) }
         ensures cause { IfOk result (λ checked. EmptiesOutdated checked (is_outdated settings.now self.old.writer.cache.newest_version self.old.ticked)) }
         ensures fault { IfErr result (λ fault. IsHoldFault fault self.new.writer.seen (last_count ≤ self.new.writer.cache.cycle) (NoneLive self.new.writer.seen)) }
         ensures memory { IfErr result (λ fault. fault ≡ Memory → self.new.writer ≡ self.old.writer) }
@@ -257,7 +257,7 @@ impl<D: OfDb, B: Room> Desk<D, B> {
         now: u64,
     ) -> Result<(), Spent>
         requires noted { epoch ≤ invalidations self.old.writer.seen }
-        requires due { All (IsDue B.conf.reloads now self.old.writer.seen) due.old }
+        requires due { All (IsDue (B.brought D.db) B.conf.reloads now self.old.writer.seen) due.old }
         requires loads { AreAnew self.old.writer.seen epoch due.old loads.now }
         ensures table { self.new.writer.table ≡ self.old.writer.table }
         ensures over { OnOk result (AreOver epoch self.new.writer.seen due.old) }

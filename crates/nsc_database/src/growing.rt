@@ -1,6 +1,8 @@
 // Insertions, and the larger table that one goes to where it finds no room.
-ghost use Rattle.std.specs.Prelude.{◌≡◌, ◌+◌, ◌≤◌, ◌<◌, IfOk, OnErr, length};
+ghost use Rattle.std.specs.Prelude.{◌≡◌, ◌+◌, ◌≤◌, ◌<◌, IfOk, IfSome, OnErr, length};
+ghost use Rattle.std.specs.Option.{option_copied};
 ghost use Rattle.nsc_base.specs.Nodes.{node_words};
+ghost use Rattle.nsc_model.specs.History.{IsPrefix};
 ghost use Rattle.nsc_model.specs.Machine.{last_count};
 ghost use Rattle.nsc_model.specs.Settings.{settings_of};
 ghost use Rattle.nsc_model.specs.Steady.{IsSteady};
@@ -8,7 +10,8 @@ ghost use Rattle.nsc_writer.specs.Writer.{IsAnswered};
 ghost use Rattle.nsc_database.specs.Frames.{Held};
 ghost use Rattle.nsc_database.specs.Growing.{GrowsOnce, IsGrowth};
 ghost use Rattle.nsc_database.specs.Holds.{IsInserted, IsInsertedOr, IsKept, LeavesFull, needed_by};
-ghost use Rattle.nsc_database.specs.Rests.{IsLoadedOf};
+ghost use Rattle.nsc_database.specs.Rests.{IsFirstLoad, IsLoadedOf};
+ghost use Rattle.nsc_turns.specs.Turns.{InsertsBeside};
 
 use crate::desk::Desk;
 use crate::pass::DbPass;
@@ -17,7 +20,7 @@ use nsc_base::NoMemory;
 use nsc_growth::Doubling;
 use nsc_model::{CacheFault, DbConf, LAST_COUNT};
 use nsc_outside::FileSet;
-use nsc_turns::insert;
+use nsc_turns::{insert, insert_beside};
 use nsc_writer::{Inserted, Loaded};
 use std::alloc::Global;
 
@@ -58,6 +61,20 @@ impl<D: OfDb, B: Room> Desk<D, B> {
         }
         self.follow(pass)?;
         Ok(self.insert_again(loaded))
+    }
+
+    /// Tries to insert what goes beside an entry that was inserted: `said` is what became of that entry's insertion. Nothing changes if
+    /// it was refused, or if nothing goes beside it. The table does not grow, and no hit or miss is counted.
+    pub fn keep_beside(&mut self, said: Inserted, beside: Option<&Loaded>)
+        requires { IfSome (option_copied beside) (IsFirstLoad D.db self.old.writer.seen) }
+        ensures beside { InsertsBeside said (option_copied beside.entry) self.old.writer self.new.writer }
+        ensures on { IsPrefix self.old.writer.seen self.new.writer.seen }
+        ensures table { self.new.writer.table ≡ self.old.writer.table }
+        ensures left { self.new.left ≡ self.old.left }
+        ensures ticked { self.new.ticked ≡ self.old.ticked }
+    {
+        self.writer.learn();
+        insert_beside(&mut self.writer, said, beside);
     }
 
     // Counts a miss, tries an insertion, and hands back what was to be inserted.

@@ -72,11 +72,11 @@ impl<D: OfDb, F: FileSet + Drop, A: Answerer + Drop, B: Room> Base<D, F, A, B> {
                 why: Why::Disabled,
             });
         }
-        let loaded = match self.load(alloc, &polled, kind, key, now) {
-            Ok(loaded) => loaded,
+        let insertions = match self.load(alloc, &polled, kind, key, now) {
+            Ok(insertions) => insertions,
             Err(_) => return Err(LookupFault::NoMemory),
         };
-        match self.keep(rt, alloc, pass, loaded) {
+        match self.keep(rt, alloc, pass, insertions) {
             Ok(given) => Ok(given),
             Err(_) => Err(LookupFault::NoMemory),
         }

@@ -2,7 +2,7 @@ ghost use Rattle.std.specs.Prelude.{◌≡◌, ◌≤◌, ◌<◌, ◌^◌, [], 
 ghost use Rattle.nsc_model.specs.Entry.{kept_limit};
 ghost use Rattle.nsc_model.specs.Settings.{settings_of};
 ghost use Rattle.nsc_model.specs.Sizes.{SizeFits};
-ghost use Rattle.nsc_database.specs.Openings.{Begins, IsBroughtBack};
+ghost use Rattle.nsc_database.specs.Openings.{Begins, BringsReloads, IsBroughtBack, brought_in};
 ghost use Rattle.nsc_database.specs.Rests.{IsNew};
 ghost use Rattle.nsc_writer.specs.Writer.{IsNewest};
 ghost use Rattle.nsc_model.specs.Steady.{IsSteady};
@@ -36,14 +36,14 @@ struct Begun {
 
 impl Model for Begun {
     ghost use Rattle.std.specs.Prelude.{None, []};
-    ghost use Rattle.nsc_database.specs.Openings.{Begun};
+    ghost use Rattle.nsc_database.specs.Openings.{Begun, brought_in};
     ghost use Rattle.nsc_database.specs.Rests.{IsAtRest};
 
     ghost Value = { Begun };
 
     ghost view = { λ b. record { writer = b.writer; db = b.db; settings = b.settings; reloads = b.reloads } };
 
-    ghost invariant = { λ b. IsAtRest b.settings b.reloads None b.db 0 [] b.writer };
+    ghost invariant = { λ b. IsAtRest b.settings (brought_in b.writer.cache.entries) b.reloads None b.db 0 [] b.writer };
 }
 
 /// A database that has been opened, with its first pass. It has no room so far, in which threads may share it.
@@ -88,6 +88,7 @@ impl<F: FileSet + Drop, A: Answerer + Drop> Opened<F, A> {
         ensures db { IfOk result (λ o. (o.db ≡ db) × (o.settings ≡ settings_of conf.now db) × (o.reloads ≡ conf.now.reloads)) }
         ensures fetched { IfOk result (λ o. IsFetched F.FileSet db files.old files.new o.book.newest) }
         ensures begins { IfOk result (λ o. Begins o.settings now db (option_map (λ b. b.now) image.entry) o.book.newest o.pass.seen) }
+        ensures back { IfOk result (λ o. BringsReloads o.settings now db (option_map (λ b. b.now) image.entry) o.book.newest o.begun.writer.cache.entries) }
         ensures held { IfOk result (λ o. F.held o.files ≡ F.held files.old) }
         ensures stays { OnOk result (F.held files.new ≡ F.held files.old) }
         ensures no_fault { OnOk result (NoneFailed F.FileSet files.old files.new) }
@@ -139,6 +140,7 @@ impl<F: FileSet + Drop, A: Answerer + Drop> Opened<F, A> {
         requires table { self.pass.table ≡ B.table self.db }
         requires conf { (self.settings ≡ settings_of B.conf self.db) × (self.reloads ≡ B.conf.reloads) }
         requires held { F.held self.files ≡ B.held }
+        requires brought { brought_in self.begun.writer.cache.entries ≡ B.brought self.db }
         ensures database { result.0 ≡ record { db = self.db; settings = self.settings; reloads = self.reloads } }
         ensures pass { (result.1.db ≡ self.db) × (result.1.pass.seen ≡ self.pass.seen) }
         ensures steady { IsSteady B.held self.db result.1.pass.seen }
@@ -236,6 +238,7 @@ impl<F: FileSet + Drop, A: Answerer + Drop> Parts<F, A> {
         requires part { IsPart B.held D.db self.book.newest }
         requires sizes { SizeFits self.settings }
         requires held { self.book.held ≡ B.held }
+        requires brought { brought_in self.begun.writer.cache.entries ≡ B.brought D.db }
         ensures { (result.settings ≡ self.settings) × (result.reloads ≡ self.reloads) }
     {
         let Parts {

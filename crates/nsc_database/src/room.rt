@@ -1,9 +1,10 @@
 use std::marker::Brand;
 
-/// Names the words of each database, the configuration that they run under, and the files that their file sets tell.
+/// Names the words of each database, their configuration, the files that their file sets tell, and the reloads that images brought back.
 pub trait Room {
     ghost use Rattle.atomic_table.specs.Seated.{TableId};
-    ghost use Rattle.std.specs.Prelude.{Option};
+    ghost use Rattle.std.specs.Prelude.{ℕ, Option};
+    ghost use Rattle.nsc_model.specs.declared.answer.Request.{Request};
     ghost use Rattle.nsc_model.specs.Content.{Content};
     ghost use Rattle.nsc_model.specs.declared.conf.Conf.{Conf};
     ghost use Rattle.nsc_model.specs.declared.kind.Db.{Db};
@@ -14,10 +15,14 @@ pub trait Room {
 
     // The files that every file set of the room holds, where they tell them.
     ghost held: { Option Content };
+
+    // How many reloads an image brought back into each database for each request.
+    ghost brought: { Db → Request → ℕ };
 }
 
 impl Room for Brand {
     ghost use Rattle.std.specs.Prelude.{None};
+    ghost use Rattle.nsc_model.specs.Reloads.{none_brought};
     ghost use Rattle.nsc_model.specs.Settings.{default_settings};
     ghost use Rattle.nsc_database.specs.Rooms.{no_table};
 
@@ -26,6 +31,8 @@ impl Room for Brand {
     ghost conf = { default_settings };
 
     ghost held = { None };
+
+    ghost brought = { λ db. none_brought };
 }
 
 /// Names a database.

@@ -3,14 +3,14 @@ ghost use Rattle.std.specs.Bool.{OnFalse, OnTrue};
 ghost use Rattle.nsc_model.specs.History.{NoneLive, invalidations};
 ghost use Rattle.nsc_model.specs.Reloads.{Reloaded};
 ghost use Rattle.nsc_model.specs.Machine.{room_of};
-ghost use Rattle.nsc_model.specs.Stores.{AreLoadedAgain, IsTickFault, IsTicked};
+ghost use Rattle.nsc_model.specs.Stores.{AreLoadedAgain, IsTickFault};
 ghost use Rattle.nsc_sourcebook.specs.Reads.{NoneFailed};
-ghost use Rattle.nsc_database.specs.Frames.{Goes, Held, LoadedLastCycle};
+ghost use Rattle.nsc_database.specs.Frames.{Goes, Held, LoadedLastCycle, pass_at};
 ghost use Rattle.nsc_database.specs.Holds.{IsPolledVersion};
 ghost use Rattle.nsc_model.specs.Steady.{IsSteady};
 ghost use Rattle.nsc_database.specs.Steady.{StaysSteady};
 ghost use Rattle.nsc_turns.specs.Loads.{anew_of};
-ghost use Rattle.nsc_database.specs.Ticks.{AreOver, EndsInTime, IsChecked, IsDue, IsHoldFault};
+ghost use Rattle.nsc_database.specs.Ticks.{AreOver, EndsInTime, IsChecked, IsDue, IsHoldFault, IsTickedIfCached};
 
 use crate::base::Base;
 use crate::pass::DbPass;
@@ -38,7 +38,7 @@ impl<D: OfDb, F: FileSet + Drop, A: Answerer + Drop, B: Room> Base<D, F, A, B> {
         requires moment { now < 2 ^ 62 }
         ensures frame { Goes pass.old pass.new }
         ensures steady { OnTrue self.now.settings.enabled (IsSteady B.held D.db pass.new.pass.seen) }
-        ensures ticked { OnOk result (OnTrue self.now.settings.enabled (IsTicked D.db (F.reads pass.old.files) (F.reads pass.new.files) (F.latest pass.new.files) self.now.settings self.now.reloads now pass.old.pass.seen pass.new.pass.seen (LoadedLastCycle pass.old pass.new))) }
+        ensures ticked { OnOk result (IsTickedIfCached D.db self.now.settings (B.brought D.db) self.now.reloads now (pass_at pass.old) (pass_at pass.new)) }
         ensures uncached { OnFalse self.now.settings.enabled (IsOk result × (pass.new ≡ pass.old)) }
         ensures fault { IfErr result (λ fault. IsTickFault fault self.now.settings now pass.old.pass.seen pass.new.pass.seen (LoadedLastCycle pass.old pass.new) (F.faults pass.old.files) (F.faults pass.new.files) (F.file_faults pass.old.files) (F.file_faults pass.new.files)) }
         ensures no_fault { OnOk result (NoneFailed F.FileSet pass.old.files pass.new.files) }
@@ -81,8 +81,8 @@ impl<D: OfDb, F: FileSet + Drop, A: Answerer + Drop, B: Room> Base<D, F, A, B> {
         requires { pass.old.db ≡ D.db }
         ensures frame { Held pass.old pass.new }
         ensures steady { IsSteady B.held D.db pass.new.pass.seen }
-        ensures checked { IfOk result (λ checked. IsChecked checked self.now.settings self.now.reloads now pass.new.pass.seen) }
-        ensures reloaded { OnOk result (Reloaded self.now.reloads pass.new.pass.seen) }
+        ensures checked { IfOk result (λ checked. IsChecked checked self.now.settings (B.brought D.db) self.now.reloads now pass.new.pass.seen) }
+        ensures reloaded { OnOk result (Reloaded (B.brought D.db) self.now.reloads pass.new.pass.seen) }
         ensures again { OnOk result (AreLoadedAgain (room_of self.now.settings) pass.new.pass.seen ⊎ LoadedLastCycle pass.old pass.new) }
         ensures fault { IfErr result (λ fault. IsHoldFault fault pass.new.pass.seen (LoadedLastCycle pass.old pass.new) (NoneLive pass.new.pass.seen)) }
     {
@@ -108,12 +108,12 @@ impl<D: OfDb, F: FileSet + Drop, A: Answerer + Drop, B: Room> Base<D, F, A, B> {
         requires db { pass.old.db ≡ D.db }
         requires moment { now < 2 ^ 62 }
         requires noted { epoch ≤ invalidations pass.old.pass.seen }
-        requires due { All (IsDue self.now.reloads now pass.old.pass.seen) due.items }
+        requires due { All (IsDue (B.brought D.db) self.now.reloads now pass.old.pass.seen) due.items }
         requires polled { IsPolledVersion pass.old.pass.seen epoch polled.now }
         ensures frame { Held pass.old pass.new }
         ensures steady { StaysSteady B.held D.db pass.old.pass.seen pass.new.pass.seen }
         ensures over { OnOk result (AreOver epoch pass.new.pass.seen due.items) }
-        ensures reloaded { OnOk result (Reloaded self.now.reloads pass.new.pass.seen) }
+        ensures reloaded { OnOk result (Reloaded (B.brought D.db) self.now.reloads pass.new.pass.seen) }
         ensures again { OnOk result (AreLoadedAgain (room_of self.now.settings) pass.new.pass.seen ⊎ LoadedLastCycle pass.old pass.new) }
         ensures fault { IfErr result (λ fault. IsHoldFault fault pass.new.pass.seen (LoadedLastCycle pass.old pass.new) (AreOver epoch pass.new.pass.seen due.items)) }
     {

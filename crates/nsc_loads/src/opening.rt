@@ -1,4 +1,5 @@
 ghost use Rattle.std.specs.Prelude.{◌≡◌, None};
+ghost use Rattle.nsc_database.specs.Openings.{brought_in};
 ghost use Rattle.nsc_model.specs.declared.kind.Db.TheVariants as db;
 ghost use Rattle.nsc_model.specs.Settings.{settings_of};
 ghost use Rattle.nsc_model.specs.Sizes.{SizeFits};
@@ -45,6 +46,7 @@ fn done_in<B: Room + Send, R: Threads + Wait + Clock + Clone + Drop + Send + Syn
     requires settings { (opened.settings ≡ settings_of conf.now opened.db) × (opened.reloads ≡ conf.now.reloads) }
     requires users { opened.db ≡ db.Passwd }
     requires held { B.held ≡ None }
+    requires brought { brought_in opened.begun.writer.cache.entries ≡ B.brought opened.db }
 {
     let (database, pass) = opened.enter::<B>();
     mode.run(rt, alloc, &database, pass)

@@ -36,6 +36,8 @@ pub struct Script {
     pub positive: u32,
     /// After how many reloads without a use an entry is dropped.
     pub reloads: u32,
+    /// Whether a name that is found is kept by number too.
+    pub propagate: bool,
     /// Its steps.
     pub steps: &'static [Step],
 }
@@ -48,6 +50,7 @@ impl Script {
         let mut conf = Conf::defaults();
         conf.passwd.check_files = self.check_files;
         conf.passwd.positive = self.positive;
+        conf.passwd.propagate = self.propagate;
         conf.reloads = Some(self.reloads);
         conf
     }

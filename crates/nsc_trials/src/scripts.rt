@@ -27,6 +27,7 @@ const EXPIRY: Script = Script {
     check_files: false,
     positive: 3600,
     reloads: 5,
+    propagate: true,
     steps: &[
         Step::Find(Asked::Root, 0, Wanted::Loaded(0), ROOT_BASH),
         Step::Change,
@@ -34,7 +35,8 @@ const EXPIRY: Script = Script {
         Step::Tick(3600),
         Step::Find(Asked::Root, 3600, Wanted::Hit(0), ROOT_BASH),
         Step::Tick(3601),
-        Step::Find(Asked::Root, 3601, Wanted::Hit(1), ROOT_SH),
+        Step::Find(Asked::Root, 3601, Wanted::Hit(2), ROOT_SH),
+        Step::Find(Asked::RootId, 3601, Wanted::Hit(3), ROOT_SH),
     ],
 };
 
@@ -44,12 +46,14 @@ const CHECK_FILES: Script = Script {
     check_files: true,
     positive: 3600,
     reloads: 5,
+    propagate: true,
     steps: &[
         Step::Find(Asked::Root, 0, Wanted::Loaded(0), ROOT_BASH),
         Step::Change,
         Step::Find(Asked::Root, 0, Wanted::Hit(0), ROOT_BASH),
         Step::Tick(1),
-        Step::Find(Asked::Root, 1, Wanted::Loaded(1), ROOT_SH),
+        Step::Find(Asked::Root, 1, Wanted::Loaded(2), ROOT_SH),
+        Step::Find(Asked::RootId, 1, Wanted::Hit(3), ROOT_SH),
     ],
 };
 
@@ -59,13 +63,14 @@ const UNUSED: Script = Script {
     check_files: false,
     positive: 10,
     reloads: 2,
+    propagate: true,
     steps: &[
         Step::Find(Asked::Root, 0, Wanted::Loaded(0), ROOT_BASH),
         Step::Tick(11),
         Step::Tick(22),
         Step::Tick(33),
         Step::Change,
-        Step::Find(Asked::Root, 33, Wanted::Loaded(3), ROOT_SH),
+        Step::Find(Asked::Root, 33, Wanted::Loaded(6), ROOT_SH),
     ],
 };
 
@@ -75,14 +80,17 @@ const USED: Script = Script {
     check_files: false,
     positive: 10,
     reloads: 2,
+    propagate: true,
     steps: &[
         Step::Find(Asked::Root, 0, Wanted::Loaded(0), ROOT_BASH),
         Step::Tick(11),
         Step::Tick(22),
-        Step::Find(Asked::Root, 22, Wanted::Hit(2), ROOT_BASH),
+        Step::Find(Asked::Root, 22, Wanted::Hit(4), ROOT_BASH),
         Step::Tick(33),
         Step::Change,
-        Step::Find(Asked::Root, 33, Wanted::Hit(3), ROOT_BASH),
+        Step::Find(Asked::Root, 33, Wanted::Hit(6), ROOT_BASH),
+        // His number was not used, so its entry was dropped.
+        Step::Find(Asked::RootId, 33, Wanted::Loaded(7), ROOT_SH),
     ],
 };
 
@@ -92,6 +100,7 @@ const STATISTICS: Script = Script {
     check_files: true,
     positive: 3600,
     reloads: 5,
+    propagate: false,
     steps: &[
         Step::Count(NONE),
         Step::Find(Asked::Root, 0, Wanted::Loaded(0), ROOT_BASH),
@@ -120,6 +129,7 @@ const HITS: Script = Script {
     check_files: true,
     positive: 3600,
     reloads: 5,
+    propagate: true,
     steps: &[
         Step::Find(Asked::Root, 0, Wanted::Loaded(0), ROOT_BASH),
         Step::Find(Asked::Root, 0, Wanted::Hit(0), ROOT_BASH),
@@ -129,8 +139,8 @@ const HITS: Script = Script {
             negative_hits: 0,
             misses: 1,
             negative_misses: 0,
-            entries: 1,
-            used: 17,
+            entries: 2,
+            used: 34,
             arena: 27_008,
             invalidations: 0,
             compactions: 0,
@@ -146,6 +156,7 @@ const MEETINGS: Script = Script {
     check_files: true,
     positive: 3600,
     reloads: 5,
+    propagate: false,
     steps: &[
         Step::Meet(Asked::Root, 0, Wanted::Loaded(0), ROOT_BASH),
         Step::Find(Asked::Root, 0, Wanted::Hit(0), ROOT_BASH),
@@ -159,9 +170,10 @@ const INVALIDATIONS: Script = Script {
     check_files: true,
     positive: 3600,
     reloads: 5,
+    propagate: true,
     steps: &[
         Step::Find(Asked::Root, 0, Wanted::Loaded(0), ROOT_BASH),
-        Step::Find(Asked::Nobody, 0, Wanted::Loaded(1), ABSENT),
+        Step::Find(Asked::Nobody, 0, Wanted::Loaded(2), ABSENT),
         Step::Invalidate(1),
         Step::Count(Stats {
             enabled: true,
@@ -176,7 +188,7 @@ const INVALIDATIONS: Script = Script {
             compactions: 1,
             addfailed: 0,
         }),
-        Step::Find(Asked::Root, 0, Wanted::Loaded(2), ROOT_BASH),
+        Step::Find(Asked::Root, 0, Wanted::Loaded(3), ROOT_BASH),
         Step::Invalidate(2),
     ],
 };
@@ -187,6 +199,7 @@ const QUIET: Script = Script {
     check_files: true,
     positive: 3600,
     reloads: 5,
+    propagate: true,
     steps: &[
         Step::Find(Asked::Root, 0, Wanted::Loaded(0), ROOT_BASH),
         Step::Tick(0),
@@ -197,8 +210,8 @@ const QUIET: Script = Script {
             negative_hits: 0,
             misses: 1,
             negative_misses: 0,
-            entries: 1,
-            used: 17,
+            entries: 2,
+            used: 34,
             arena: 27_008,
             invalidations: 0,
             compactions: 0,
@@ -208,8 +221,38 @@ const QUIET: Script = Script {
     ],
 };
 
+// A user who was asked by name is kept by number too, and the other way round he is not. Neither counts as a hit or as a miss.
+const IDS: Script = Script {
+    name: "ids beside names",
+    check_files: false,
+    positive: 3600,
+    reloads: 5,
+    propagate: true,
+    steps: &[
+        Step::Find(Asked::Root, 0, Wanted::Loaded(0), ROOT_BASH),
+        Step::Change,
+        Step::Find(Asked::RootId, 0, Wanted::Hit(1), ROOT_BASH),
+        Step::Invalidate(1),
+        Step::Find(Asked::RootId, 0, Wanted::Loaded(2), ROOT_SH),
+        Step::Find(Asked::Root, 0, Wanted::Loaded(3), ROOT_SH),
+        Step::Count(Stats {
+            enabled: true,
+            hits: 1,
+            negative_hits: 0,
+            misses: 3,
+            negative_misses: 0,
+            entries: 2,
+            used: 34,
+            arena: 27_008,
+            invalidations: 1,
+            compactions: 1,
+            addfailed: 0,
+        }),
+    ],
+};
+
 /// Each of them.
-pub const SCRIPTS: [Script; 9] = [
+pub const SCRIPTS: [Script; 10] = [
     EXPIRY,
     CHECK_FILES,
     UNUSED,
@@ -219,4 +262,5 @@ pub const SCRIPTS: [Script; 9] = [
     MEETINGS,
     INVALIDATIONS,
     QUIET,
+    IDS,
 ];

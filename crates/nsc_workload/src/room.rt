@@ -1,4 +1,5 @@
 ghost use Rattle.std.specs.Prelude.{◌≡◌, ◌≤◌, ◌<◌, IfOk, Some};
+ghost use Rattle.nsc_database.specs.Openings.{brought_in};
 ghost use Rattle.nsc_model.specs.declared.kind.Db.TheVariants as db;
 ghost use Rattle.nsc_model.specs.Settings.{settings_of};
 ghost use Rattle.nsc_workload.specs.Runs.{CountsDiffering, replies_from};
@@ -67,6 +68,7 @@ fn lines_in<B: Room + Send, C: OfContent + Send, R: Threads + Wait + Sync>(
     requires settings { (opened.settings ≡ settings_of conf.now opened.db) × (opened.reloads ≡ conf.now.reloads) }
     requires users { opened.db ≡ db.Passwd }
     requires held { B.held ≡ Some C.files }
+    requires brought { brought_in opened.begun.writer.cache.entries ≡ B.brought opened.db }
     ensures text { IfOk result (λ outcome. outcome.text.items ≡ workload_of number) }
     ensures differing { IfOk result (λ outcome. CountsDiffering (replies_from number 0 (request_count number)) outcome.differing) }
 {

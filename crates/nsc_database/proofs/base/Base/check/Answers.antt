@@ -17,7 +17,7 @@ pub returns-clause-frame : goal.returns-clause-frame
 returns-clause-frame g c = held_through _ _ _ c.in_ok-follow.ensures.frame c.show_cycle.ensures.frame
 
 pub returns-clause-reloaded : goal.returns-clause-reloaded
-returns-clause-reloaded g c = in_any_case c.check-checked.result (subst (λ (limit : Option ℕ). Reloaded limit c.show_cycle.new.pass.pass.seen) (sym c.args.self.now.conf.1) c.show_cycle.ensures.reloaded)
+returns-clause-reloaded g c = in_any_case c.check-checked.result (subst (λ (limit : Option ℕ). Reloaded (g.B.Room.brought g.D.OfDb.db) limit c.show_cycle.new.pass.pass.seen) (sym c.args.self.now.conf.1) c.show_cycle.ensures.reloaded)
 
 pub returns-clause-again : goal.returns-clause-again
 returns-clause-again g c =

@@ -1,13 +1,18 @@
-use Rattle.std.proofs.Common.{◌∙◌, ℕ, List, [], ap, inl, refl, rules, sym, subst}
+use Rattle.std.proofs.Common.{◌∙◌, ℕ, List, [], Option, ap, inl, refl, rules, sym, subst}
+use Rattle.std.specs.Prelude.{IfSome}
 use Rattle.std.proofs.lemmas.Bool.{OnFalse_from, false≢true}
 use Rattle.nsc_model.specs.declared.answer.Request.{Request}
+use Rattle.nsc_model.specs.History.{PolledSince}
 use Rattle.nsc_model.specs.Stores.{IsHit, reply_of}
+use Rattle.nsc_turns.specs.declared.answering.Answering.{Answering}
 use Rattle.nsc_writer.specs.Loaded.{Loaded}
 use Rattle.nsc_writer.specs.Writer.{IsAnswered}
 use Rattle.nsc_database.specs.Frames.{LoadedLastCycle}
 use Rattle.nsc_turns.specs.declared.entries.HitOrMiss.TheVariants as looked
 use Rattle.nsc_database.specs.Lookups.{IsFoundIfCached, IsTried}
-use Rattle.nsc_database.proofs.Lookups.{Anew, anew_answers, anew_given, answered_before, found_none, given_before, hit_answer, is_missed, kept_reply, missed_at, poll_answered, tried_to}
+use Rattle.nsc_database.specs.Rests.{IsFirstLoad, IsLoadedOf}
+use Rattle.nsc_database.proofs.Beside.{beside_first}
+use Rattle.nsc_database.proofs.Lookups.{Anew, anew_answers, anew_given, answered_before, found_none, given_before, hit_answer, is_missed, kept_reply, loaded_of, missed_at, poll_answered, tried_to}
 use Rattle.nsc_database.proofs.Standing.{goes_after, goes_on, loaded_before}
 use Rattle.nsc_database.proofs.Steady.{is_of_held}
 use Rattle.nsc_database.proofs.base.Base.lookup.Goals as goal
@@ -71,10 +76,26 @@ returns-then-not-self-clause-answer g c =
 
 -- ---- an answer that may be kept
 
-pub keep-requires-clause-answered : goal.keep-requires-clause-answered
-keep-requires-clause-answered g c =
+pub keep-requires-clause-first : goal.keep-requires-clause-first
+keep-requires-clause-first g c =
     let request : Request = record { kind = c.args.kind; key = c.args.key.now } in
-    subst (IsAnswered c.poll.new.pass.pass.seen) (sym c.in-Ok-load.ensures.loaded) (anew_answers c.find.new.pass.pass.seen c.poll.new.pass.pass.seen request c.in-Missed.epoch c.in-Ok-poll.polled c.args.self.now.settings c.args.now c.in-Ok-poll.ensures.polled)
+    let made : Loaded = loaded_of c.args.self.now.settings c.args.now request c.in-Ok-poll.polled in
+    let answered = anew_answers c.find.new.pass.pass.seen c.poll.new.pass.pass.seen request c.in-Missed.epoch c.in-Ok-poll.polled c.args.self.now.settings c.args.now c.in-Ok-poll.ensures.polled in
+    record {
+      answered = subst (IsAnswered c.poll.new.pass.pass.seen) (sym c.in-Ok-load.ensures.loaded) answered;
+      new = ap (λ (l : Loaded). l.reloads) c.in-Ok-load.ensures.loaded;
+      own = c.in-Ok-load.ensures.own;
+    }
+
+pub keep-requires-clause-beside : goal.keep-requires-clause-beside
+keep-requires-clause-beside g c =
+    let request : Request = record { kind = c.args.kind; key = c.args.key.now } in
+    let polled = c.in-Ok-poll.ensures.polled in
+    let a : Answering = record { settings = c.args.self.now.settings; stamp = c.in-Ok-poll.polled.stamp; moment = c.args.now } in
+    let since = subst (PolledSince c.poll.new.pass.pass.seen c.in-Ok-poll.polled.stamp.version) (sym polled.epoch_is) polled.since in
+    let which = g.D.OfDb.db in
+    let own = subst (λ (o : Option Loaded). IfSome o (IsLoadedOf which)) c.in-Ok-load.ensures.beside c.in-Ok-load.ensures.beside_own in
+    subst (λ (o : Option Loaded). IfSome o (IsFirstLoad which c.poll.new.pass.pass.seen)) (sym c.in-Ok-load.ensures.beside) (beside_first which a c.in-Ok-poll.polled.content request c.poll.new.pass.pass.seen polled.version since own)
 
 pub returns-in-Err-load-clause-frame : goal.returns-in-Err-load-clause-frame
 returns-in-Err-load-clause-frame g c = goes_after _ _ _ c.find.ensures.frame c.poll.ensures.frame
@@ -96,8 +117,8 @@ returns-in-Ok-keep-clause-answer g c =
     let last_cycle : Type 0 = LoadedLastCycle c.args.pass.now c.keep.new.pass in
     let begun = (goes_after _ _ _ c.find.ensures.frame c.poll.ensures.frame).searches in
     let words = c.keep.new.pass.pass.present.words in
-    let tried = tried_to settings words _ last_cycle c.in-Ok-load.loaded mid after c.in-Ok-keep.given (loaded_before c.args.pass.now c.poll.new.pass c.keep.new.pass begun) c.in-Ok-keep.ensures.kept in
-    let reply = kept_reply settings words last_cycle c.in-Ok-load.loaded mid after c.in-Ok-keep.given tried ∙ ap (λ (l : Loaded). l.answer.bytes) c.in-Ok-load.ensures.loaded in
+    let tried = tried_to settings words _ last_cycle c.in-Ok-load.insertions.loaded mid after c.in-Ok-keep.given (loaded_before c.args.pass.now c.poll.new.pass c.keep.new.pass begun) c.in-Ok-keep.ensures.kept in
+    let reply = kept_reply settings words last_cycle c.in-Ok-load.insertions.loaded mid after c.in-Ok-keep.given tried ∙ ap (λ (l : Loaded). l.answer.bytes) c.in-Ok-load.ensures.loaded in
     let none = found_none settings found request c.in-Missed.epoch c.find.new.pass.reply.content c.if-not-self.false found_is in
     let anew : Anew found mid request c.in-Missed.epoch c.in-Ok-poll.polled = record { legal = c.find.ensures.frame.legal; legal_mid = c.poll.ensures.frame.legal; on = c.poll.ensures.frame.before; none = none.1; noted = none.0; is_polled = c.in-Ok-poll.ensures.polled } in
     record {

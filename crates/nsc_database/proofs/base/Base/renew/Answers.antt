@@ -26,8 +26,8 @@ renew-renewed-requires-clause-noted g c =
 pub renew-renewed-requires-clause-due : goal.renew-renewed-requires-clause-due
 renew-renewed-requires-clause-due g c =
     let seen = c.in_ok-follow.ensures.seen ∙ sym (ap (λ (d : Desk). d.writer.seen) c.in_ok-follow.ensures.same) in
-    let due = all_due_on c.args.self.now.reloads c.args.now c.args.pass.now.pass.seen c.follow.new.pass.pass.seen c.args.due.items c.in_ok-follow.ensures.frame.before c.requires.due in
-    subst (λ (x : Option ℕ × List Record × List Due). All (IsDue x.0 c.args.now x.1) x.2) (λ i. (c.args.self.now.conf.1 i, seen i, sym c.deref_mut.ensures.value i)) due
+    let due = all_due_on (g.B.Room.brought g.D.OfDb.db) c.args.self.now.reloads c.args.now c.args.pass.now.pass.seen c.follow.new.pass.pass.seen c.args.due.items c.in_ok-follow.ensures.frame.before c.requires.due in
+    subst (λ (x : Option ℕ × List Record × List Due). All (IsDue (g.B.Room.brought g.D.OfDb.db) x.0 c.args.now x.1) x.2) (λ i. (c.args.self.now.conf.1 i, seen i, sym c.deref_mut.ensures.value i)) due
 
 pub renew-renewed-requires-clause-loads : goal.renew-renewed-requires-clause-loads
 renew-renewed-requires-clause-loads g c =

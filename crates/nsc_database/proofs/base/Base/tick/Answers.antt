@@ -33,7 +33,7 @@ returns-in-Emptied-clause-ticked g c = OnTrue_from c.args.self.now.settings.enab
     let t = ticking _ _ _ _ _ _ c.in-Ok.ensures.frame c.in-Ok.ensures.noted c.in-Ok-poll.ensures.frame c.in-Ok-poll.ensures.polled c.in-Ok-check.ensures.frame in
     let none : NoneLive c.check.new.pass.pass.seen = rw c.in-Emptied.is at c.in-Ok-check.ensures.checked in
     let begun = (goes_after _ _ _ c.in-Ok.ensures.frame c.in-Ok-poll.ensures.frame).searches in
-    emptied_ticked _ _ _ _ _ _ _ _ _ _ _ _ _ _ t
+    emptied_ticked _ _ _ _ _ _ _ _ _ _ _ _ _ _ _ t
     (files_kept (λ a b. IsLookedUp g.D.OfDb.db (g.F.FileSet.reads a) (g.F.FileSet.reads b) (g.F.FileSet.latest b) c.in-Ok-poll.polled.content) _ _ _ _ c.in-Ok.ensures.frame.files c.in-Ok-check.ensures.frame.files c.in-Ok-poll.ensures.files)
     none c.in-Ok-check.ensures.reloaded (again_before _ c.args.pass.now c.poll.new.pass c.check.new.pass begun c.in-Ok-check.ensures.again))
 
@@ -55,17 +55,17 @@ pub returns-clause-fault : goal.returns-clause-fault
 returns-clause-fault g c =
     let last = c.renew.new.pass.pass.seen in
     let t = ticking _ _ _ _ _ _ c.in-Ok.ensures.frame c.in-Ok.ensures.noted c.in-Ok-poll.ensures.frame c.in-Ok-poll.ensures.polled c.in-Ok-check.ensures.frame in
-    let listed : AreListed c.args.self.now.settings c.args.self.now.reloads c.args.now c.check.new.pass.pass.seen c.in-Listed.due.items = rw c.in-Listed.is at c.in-Ok-check.ensures.checked in
+    let listed : AreListed c.args.self.now.settings (g.B.Room.brought g.D.OfDb.db) c.args.self.now.reloads c.args.now c.check.new.pass.pass.seen c.in-Listed.due.items = rw c.in-Listed.is at c.in-Ok-check.ensures.checked in
     let begun = (goes_on _ _ _ (goes_after _ _ _ c.in-Ok.ensures.frame c.in-Ok-poll.ensures.frame) c.in-Ok-check.ensures.frame).searches in
     hold_fault c.in-Err-renew.fault c.args.self.now.settings c.args.now c.args.pass.now.pass.seen last _ _ _ _ _ _ (AreOver c.in-Ok.epoch last c.in-Listed.due.items) (loaded_before c.args.pass.now c.check.new.pass c.renew.new.pass begun)
-    (listed_stale _ _ _ _ _ _ _ _ _ _ _ t listed c.renew.ensures.frame.before c.renew.ensures.frame.legal)
+    (listed_stale _ _ _ _ _ _ _ _ _ _ _ _ t listed c.renew.ensures.frame.before c.renew.ensures.frame.legal)
     (files_kept (NoneFailed g.F.FileSet) _ _ _ _ c.in-Ok.ensures.frame.files (c.renew.ensures.frame.files ∙ c.in-Ok-check.ensures.frame.files) c.in-Ok-poll.ensures.no_fault) c.in-Err-renew.ensures.fault
 
 pub returns-in-Ok-renew-clause-ticked : goal.returns-in-Ok-renew-clause-ticked
 returns-in-Ok-renew-clause-ticked g c = OnTrue_from c.args.self.now.settings.enabled _ (λ on.
     let t = ticking _ _ _ _ _ _ c.in-Ok.ensures.frame c.in-Ok.ensures.noted c.in-Ok-poll.ensures.frame c.in-Ok-poll.ensures.polled c.in-Ok-check.ensures.frame in
-    let listed : AreListed c.args.self.now.settings c.args.self.now.reloads c.args.now c.check.new.pass.pass.seen c.in-Listed.due.items = rw c.in-Listed.is at c.in-Ok-check.ensures.checked in
+    let listed : AreListed c.args.self.now.settings (g.B.Room.brought g.D.OfDb.db) c.args.self.now.reloads c.args.now c.check.new.pass.pass.seen c.in-Listed.due.items = rw c.in-Listed.is at c.in-Ok-check.ensures.checked in
     let begun = (goes_on _ _ _ (goes_after _ _ _ c.in-Ok.ensures.frame c.in-Ok-poll.ensures.frame) c.in-Ok-check.ensures.frame).searches in
-    listed_ticked _ _ _ _ _ _ _ _ _ _ _ _ _ _ _ _ t
+    listed_ticked _ _ _ _ _ _ _ _ _ _ _ _ _ _ _ _ _ t
     (files_kept (λ a b. IsLookedUp g.D.OfDb.db (g.F.FileSet.reads a) (g.F.FileSet.reads b) (g.F.FileSet.latest b) c.in-Ok-poll.polled.content) _ _ _ _ c.in-Ok.ensures.frame.files (c.renew.ensures.frame.files ∙ c.in-Ok-check.ensures.frame.files) c.in-Ok-poll.ensures.files) listed
     c.renew.ensures.frame.before c.renew.ensures.frame.legal c.in-Ok-renew.ensures.over c.in-Ok-renew.ensures.reloaded (again_before _ c.args.pass.now c.check.new.pass c.renew.new.pass begun c.in-Ok-renew.ensures.again))

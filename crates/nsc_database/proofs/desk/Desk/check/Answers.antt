@@ -30,7 +30,7 @@ invariant_of-self-in-Err-Spent g c =
 pub returns-in-Ok-clause-checked : goal.returns-in-Ok-clause-checked
 returns-in-Ok-clause-checked g c =
     let w = c.self.inside.writer in
-    let keeps = subst (λ (x : DbConf × Option ℕ). Keeps x.0 x.1 c.self.inside.ticked w) (λ i. (sym c.requires.settings i, sym c.requires.limit i)) c.self.invariant.0 in
+    let keeps = subst (λ (x : DbConf × Option ℕ). Keeps x.0 (g.B.Room.brought g.D.OfDb.db) x.1 c.self.inside.ticked w) (λ i. (sym c.requires.settings i, sym c.requires.limit i)) c.self.invariant.0 in
     is_checked c.in-Ok.checked c.args.limit c.args.now w c.check.new.writer c.in-Ok.ensures c.learn.ensures.told keeps
 
 pub returns-in-Err-Spent-clause-fault : goal.returns-in-Err-Spent-clause-fault

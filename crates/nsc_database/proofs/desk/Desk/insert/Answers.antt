@@ -17,14 +17,14 @@ invariant_of-self g c =
     let w = c.self.inside.writer in
     let w1 = missed c.args.loaded w in
     let none = c.requires.new in
-    let counts : Rests g.D.OfDb.db w w1 = rests_missed (counted c.args.loaded.answer.not_found w.misses) w w1 refl in
+    let counts : Rests g.D.OfDb.db (g.B.Room.brought g.D.OfDb.db) w w1 = rests_missed (counted c.args.loaded.answer.not_found w.misses) w w1 refl in
     at_rest_on c.self.inside.left w c.insert.new.writer (rests_through w w1 c.insert.new.writer counts (rests_inserted c.insert.result.0 c.args.loaded w1 c.insert.new.writer c.insert.ensures.inserted (omega arith) c.requires.own)) c.self.invariant
 
 pub returns-clause-inserted : goal.returns-clause-inserted
 returns-clause-inserted g c =
     let w = c.self.inside.writer in
     let w1 = missed c.args.loaded w in
-    let counts : Rests g.D.OfDb.db w w1 = rests_missed (counted c.args.loaded.answer.not_found w.misses) w w1 refl in
+    let counts : Rests g.D.OfDb.db (g.B.Room.brought g.D.OfDb.db) w w1 = rests_missed (counted c.args.loaded.answer.not_found w.misses) w w1 refl in
     let layout = (leaves_inserted c.insert.result.0 c.args.loaded w1 c.insert.new.writer c.insert.ensures.inserted).layout in
     subst (λ (x : Layout × List Record). IsInserted x.0.arena (last_count ≤ c.insert.new.writer.cache.cycle) c.insert.result.0 c.args.loaded x.1 c.insert.new.writer.seen) (λ i. (sym layout i, ap (λ (d : Desk). d.writer.seen) c.self.view_is i))
     (is_inserted c.insert.result.0 c.args.loaded w1 c.insert.new.writer c.learn.ensures.told (counts.packed c.self.invariant.1) c.insert.ensures.inserted c.insert.ensures.why)
