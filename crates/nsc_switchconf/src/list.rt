@@ -1,6 +1,7 @@
 ghost use Rattle.std.specs.Prelude.{◌≡◌, ◌≤◌, ◌∷◌, [], length, IfOk, IfSome};
 ghost use Rattle.std.specs.Option.{option_map};
 ghost use Rattle.nsc_model.specs.Switches.{default_list, list_of, spelled_list};
+ghost use Rattle.nsc_laws.specs.ServiceLists.{GivesList};
 
 use crate::line::first_part;
 use crate::place::{Move, Place, move_at};
@@ -9,10 +10,24 @@ use nsc_base::NoMemory;
 use nsc_model::{DbName, SwitchService, SwitchStep};
 use std::alloc::Global;
 
-/// The service list of this name in the text of an nsswitch.conf(5): what the first line of the name spells, and where
-/// there is none, or it breaks the grammar, `files`, or for the compat lists a service that is not built in. An absent
-/// file is passed as the empty text. The list has a step at least. Fails only for want of memory.
+/// Reads the service list of this name in the text of an nsswitch.conf(5): what the first line of the name spells. If there is no such
+/// line, or if it breaks the grammar, the list is `files`, or for the compat lists a service that is not built in. An absent file is
+/// passed as the empty text. The list has a step at least.
+///
+/// # Errors
+///
+/// `NoMemory` if memory is wanting.
 pub fn service_list(alloc: Global, text: &[u8], name: DbName) -> Result<Vec<SwitchStep>, NoMemory>
+    // By the grammar, and by a reader's machine.
+    ensures given { IfOk result (λ list. GivesList text.now name list.items) }
+    ensures list { IfOk result (λ list. list.items ≡ list_of text.now name) }
+    ensures some { IfOk result (λ list. 1 ≤ length list.items) }
+{
+    read_list(alloc, text, name)
+}
+
+// Reads it token by token.
+fn read_list(alloc: Global, text: &[u8], name: DbName) -> Result<Vec<SwitchStep>, NoMemory>
     ensures list { IfOk result (λ list. list.items ≡ list_of text.now name) }
     ensures some { IfOk result (λ list. 1 ≤ length list.items) }
 {
