@@ -9,6 +9,8 @@ mod caches;
 #[cfg(test)]
 mod indexes;
 #[cfg(test)]
+mod memory;
+#[cfg(test)]
 mod settings;
 #[cfg(test)]
 mod texts;
