@@ -7,12 +7,13 @@
 
 namespace {
 
-constexpr uint32_t VERSION = 2;
 constexpr size_t HEAD = 20;
 constexpr size_t DIGEST = 32;
-constexpr size_t ENTRY = 32;
 constexpr uint32_t LONGEST_KEY = 1024;
 constexpr uint32_t LONGEST_REPLY = 65536;
+
+// The fixed part of an entry: version 3 has a count of reloads before the timeout, and version 2 has none.
+size_t fixed_part(uint32_t version) { return version == 3 ? 36 : 32; }
 
 enum Answer { IMAGE, NOT_IMAGE, OTHER_VERSION, OTHER_DIGEST, LAYOUT };
 
@@ -48,17 +49,20 @@ struct Entry {
     uint32_t key;
     uint32_t reply;
     uint32_t mark;
+    uint32_t reloads;
     uint64_t timeout;
 };
 
-Entry entry_at(Text bytes, size_t at) {
+Entry entry_at(Text bytes, size_t at, uint32_t version) {
+    uint32_t reloads = version == 3 ? field(bytes, at + 24) : 0;
+    size_t timeout = at + fixed_part(version) - 8;
     return {
-        wide_field(bytes, at), field(bytes, at + 8), field(bytes, at + 12), field(bytes, at + 16), field(bytes, at + 20), wide_field(bytes, at + 24),
+        wide_field(bytes, at), field(bytes, at + 8), field(bytes, at + 12), field(bytes, at + 16), field(bytes, at + 20), reloads, wide_field(bytes, timeout),
     };
 }
 
 // The first field at fault, by its place in the entry. The entry before it has the number last.
-std::optional<size_t> field_at_fault(const Entry& entry, std::optional<uint64_t> last, uint32_t database) {
+std::optional<size_t> field_at_fault(const Entry& entry, std::optional<uint64_t> last, uint32_t database, uint32_t version) {
     if (last && entry.number <= *last) {
         return 0;
     }
@@ -74,11 +78,12 @@ std::optional<size_t> field_at_fault(const Entry& entry, std::optional<uint64_t>
     if (entry.mark > 1) {
         return 20;
     }
-    return entry.timeout >> 63 != 0 ? std::optional<size_t>(24) : std::nullopt;
+    return entry.timeout >> 63 != 0 ? std::optional<size_t>(fixed_part(version) - 8) : std::nullopt;
 }
 
 // The entries of an image, up to the place of its digest.
-Told entries(Text bytes, uint32_t database) {
+Told entries(Text bytes, uint32_t database, uint32_t version) {
+    const size_t ENTRY = fixed_part(version);
     uint32_t count = field(bytes, 16);
     Told told;
     told.number(IMAGE);
@@ -88,8 +93,8 @@ Told entries(Text bytes, uint32_t database) {
         if (bytes.size() - at < ENTRY) {
             return fault(at);
         }
-        Entry entry = entry_at(bytes, at);
-        if (std::optional<size_t> place = field_at_fault(entry, last, database)) {
+        Entry entry = entry_at(bytes, at, version);
+        if (std::optional<size_t> place = field_at_fault(entry, last, database, version)) {
             return fault(at + *place);
         }
         Text texts = bytes.substr(at + ENTRY);
@@ -97,7 +102,7 @@ Told entries(Text bytes, uint32_t database) {
             return fault(at);
         }
         told.number(1).number(entry.number).number(entry.type).text(texts.substr(0, entry.key)).text(texts.substr(entry.key, entry.reply));
-        told.number(entry.mark).number(entry.timeout);
+        told.number(entry.mark).number(entry.reloads).number(entry.timeout);
         last = entry.number;
         at += ENTRY + entry.key + entry.reply;
     }
@@ -109,7 +114,7 @@ Told second(Text bytes, uint32_t database) {
         return Told().number(NOT_IMAGE);
     }
     uint32_t version = field(bytes, 8);
-    if (version != VERSION) {
+    if (version != 2 && version != 3) {
         return Told().number(OTHER_VERSION).number(version);
     }
     Text front = bytes.substr(0, bytes.size() - DIGEST);
@@ -121,15 +126,17 @@ Told second(Text bytes, uint32_t database) {
     if (field(bytes, 12) != database) {
         return fault(12);
     }
-    return entries(front, database);
+    return entries(front, database, version);
 }
 
 const std::string USER = hex("0700000000000000 00000000 04000000 05000000 00000000 100e000000000000") + "root" + "reply";
+const std::string USER_3 = hex("0700000000000000 00000000 04000000 05000000 00000000 05000000 100e000000000000") + "root" + "reply";
+const std::string NO_USER_3 = hex("0900000000000000 01000000 01000000 00000000 01000000 ffffffff ffffffffffffff7f") + "7";
 const std::string NO_USER = hex("0900000000000000 01000000 01000000 00000000 01000000 ffffffffffffff7f") + "7";
 const std::string HOST = hex("0000000000000000 0e000000 01000000 02000000 00000000 0000000000000000") + "a" + "bc";
 
-std::string head(const char* database, const char* count) {
-    return "NSCIMAGE" + hex("02000000") + hex(database) + hex(count);
+std::string head(const char* database, const char* count, const char* version = "02000000") {
+    return "NSCIMAGE" + hex(version) + hex(database) + hex(count);
 }
 
 }  // namespace
@@ -146,13 +153,17 @@ const std::vector<std::string> seeds = {
     "\5" + head("00000000", "01000000") + USER,
     "\6" + head("02000000", "01000000") + HOST,
     "\2" + head("02000000", "01000000") + HOST + std::string(32, 'd'),
+    "\4" + head("00000000", "02000000", "03000000") + USER_3 + NO_USER_3,
+    "\4" + head("00000000", "01000000", "03000000") + USER_3.substr(0, 35),
+    "\4" + head("00000000", "01000000", "03000000") + USER,
+    "\4" + head("00000000", "01000000") + USER_3,
     "\4NSCIMAGE" + hex("09000000 00000000 00000000"),
     "\4NSCIMAGE" + hex("02000000"),
 };
 
 const std::vector<std::string> words = {
     "NSCIMAGE", hex("02000000"), hex("01000000"), hex("00000000"), hex("03000000"), hex("0f000000"), hex("11000000"), hex("00040000"), hex("01040000"),
-    hex("00000100"), hex("01000100"), hex("0000000000000080"), USER, NO_USER, HOST,
+    hex("00000100"), hex("01000100"), hex("0000000000000080"), USER, NO_USER, HOST, USER_3, NO_USER_3,
 };
 
 void read_twice(Text input) {

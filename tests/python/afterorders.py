@@ -8,6 +8,7 @@ from inplace import ASK_MAUD
 from running import INVALIDATE, check, daemon, request
 
 CLIENTS = 16
+ASK_BY = (ASK_MAUD, request(1, b"1\0"))  # by name, which keeps the answer by id, and by id
 REPLIES, MANY_REPLIES = 20_000, 1_000_000
 SHELL = re.compile(rb"/\0/bin/sh(\d+)\0\Z")
 
@@ -26,11 +27,12 @@ class Changes:
         os.rename(new, self.run.etc / "passwd")
         check(self.run.ask(request(INVALIDATE, b"passwd\0"), "admin") == bytes(4), f"order {number} is not answered")
         self.known = number
-        check(self.given() == number, f"after order {number} another entry is given")
+        for how in range(len(ASK_BY)):
+            check(self.given(how) == number, f"after order {number} another entry is given")
 
-    def given(self):
-        """The number of the change that is given now."""
-        said = self.run.ask(ASK_MAUD)
+    def given(self, how):
+        """The number of the change that is given now, by name or by id."""
+        said = self.run.ask(ASK_BY[how])
         found = SHELL.search(said)
         check(found is not None, f"another reply: {said!r}")
         return int(found.group(1))
@@ -44,7 +46,7 @@ class Changes:
     def asks(self, place):
         while not self.over.is_set():
             known = self.known
-            given = self.given()
+            given = self.given(place % len(ASK_BY))
             check(given >= known, f"after order {known} an entry of change {given} is given")
             self.counts[place] += 1
 

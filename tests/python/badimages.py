@@ -10,7 +10,7 @@ import time
 import frames
 import images
 from kept import (
-    MODE, PERSISTENT, ROOM, SLACK, answer, asked, check_answer, check_counts, ends, entries_of, entries_told, identity, image_of, left_in,
+    ALONE, MODE, PERSISTENT, ROOM, SLACK, answer, asked, check_answer, check_counts, ends, entries_of, entries_told, identity, image_of, left_in,
     not_got, not_kept, put, root_entry, sets,
 )  # fmt: skip
 from running import PATIENCE, PROGRAM, ROOT_REPLY, check, daemon, read_all
@@ -23,18 +23,38 @@ SEED = 3
 # ---- bytes that are no image of this database
 
 
-def with_field(at, value, form="<I"):
+def with_field(at, value, form="<I", version=images.SAVED):
     """The image of root with another field and the digest of that."""
-    body = bytearray(images.image([root_entry(time.time() + 600)])[: -images.DIGEST])
+    body = bytearray(images.image([root_entry(time.time() + 600, 1, version)], version=version)[: -images.DIGEST])
     struct.pack_into(form, body, at, value)
     return images.sealed(bytes(body))
+
+
+def no_images_of(version):
+    """Images of a version with a fault in their entries: what it is, and its bytes."""
+    later = int(time.time()) + 600
+    entry = root_entry(later, 1, version)
+    good = images.image([entry], version=version)
+    fixed = len(entry) - len(b"root" + ROOT_REPLY)
+    ends = len(good) - images.DIGEST
+    for at in (20, 28, 36, 40, 44, 20 + fixed - 1, 20 + fixed, ends - 1, ends, len(good) - 1):
+        yield f"byte {at} changed", good[:at] + bytes([good[at] ^ 1]) + good[at + 1 :]
+    yield "the entry twice", images.image([entry, entry], version=version)
+    yield "numbers that fall", images.image([images.entry(1, 0, b"root", ROOT_REPLY, 0, later, 1, version), entry], version=version)
+    for at, value in ((16, 0), (16, 2), (16, 2**32 - 1), (28, 2), (28, 2**32 - 1), (32, 5), (32, 1025), (32, 2**31), (36, 65), (36, 65537), (40, 2)):
+        yield f"{value} at byte {at}", with_field(at, value, version=version)
+    yield "a time of 2^63", with_field(20 + fixed - 8, 2**63, "<Q", version)
+    yield "an entry that ends in its fixed part", images.sealed(good[: 20 + fixed - 1])
+    yield "a byte behind the entry", images.sealed(good[: -images.DIGEST] + b"\0")
+    yield "the fields of another version", images.image([root_entry(later, 1, 5 - version)], version=version)
+    # Where all other fields are 0 by chance, too.
+    yield "the fields of another version, of times and counts of 0", images.image([root_entry(0, 0, 5 - version)], version=version)
 
 
 def no_images():
     """What it is, and its bytes."""
     dice = random.Random(SEED)
-    entry = root_entry(time.time() + 600)
-    good = images.image([entry])
+    good = images.image([root_entry(time.time() + 600)])
     yield "an image without its last byte", good[:-1]
     yield "an image with a byte more", good + b"\0"
     yield "51 bytes of an image", good[:51]
@@ -43,20 +63,18 @@ def no_images():
         yield f"{length} bytes by chance", dice.randbytes(length)
         yield f"{length} bytes by chance behind the magic", b"NSCIMAGE" + dice.randbytes(length)
     yield "a head and a digest alone, of two entries", images.sealed(good[:16] + struct.pack("<I", 2))
-    yield "version 9", with_field(8, 9)
-    yield "version 1", with_field(8, 1)
+    for version in (0, 1, 4, 9, 2**32 - 1):
+        yield f"version {version}", with_field(8, version)
+        yield f"version {version} without entries", images.image([], version=version)
     yield "another magic", with_field(0, b"nSCIMAGE", "8s")
     for database in (1, 2, 3, 4, 2**32 - 1):
         yield f"an image of database {database}", with_field(12, database)
     yield "an image of groups", images.image([images.entry(0, 2, b"friends", b"", 0, 2**62)], 1)
-    for at in (0, 8, 12, 16, 20, 28, 36, 44, 52, 60, 119, 120, 151):
+    for at in (0, 8, 12, 16):
         yield f"byte {at} changed", good[:at] + bytes([good[at] ^ 1]) + good[at + 1 :]
-    yield "the entry twice", images.image([entry, entry])
-    yield "numbers that fall", images.image([images.entry(1, 0, b"root", ROOT_REPLY, 0, 2**62), entry])
-    for at, value in ((16, 0), (16, 2), (16, 2**32 - 1), (28, 2), (32, 5), (32, 2**31), (36, 65), (36, 65537), (40, 2)):
-        yield f"{value} at byte {at}", with_field(at, value)
-    yield "a time of 2^63", with_field(44, 2**63, "<Q")
-    yield "a byte behind the entry", images.sealed(good[: -images.DIGEST] + b"\0")
+    for version in images.FIXED:
+        for what, data in no_images_of(version):
+            yield f"version {version}: {what}", data
     yield "the head of another daemon's cache", struct.pack("<3i", 2, 92, 0) + bytes(217_032)
 
 
@@ -73,7 +91,7 @@ def starts_empty(run, text):
 
 def bad_images():
     with daemon(started=False) as run:
-        sets(run, PERSISTENT)
+        sets(run, PERSISTENT, ALONE)
         count = 0
         for what, data in no_images():
             put(run, data)
@@ -126,7 +144,7 @@ def left_alone():
 
 def unreadable():
     with daemon(started=False) as run:
-        sets(run, PERSISTENT)
+        sets(run, PERSISTENT, ALONE)
         put(run, images.image([root_entry(time.time() + 600)]))
         image_of(run).chmod(0)
         how = {}
@@ -210,8 +228,8 @@ def lies(dice, answers, reply, mark):
 
 
 def forged(dice, answers, now):
-    """An image by chance, of entries that are true and of others."""
-    entries, number = [], -1
+    """An image by chance, of either version, and of entries that are true and of others."""
+    entries, number, version = [], -1, dice.choice((2, 3))
     for _ in range(dice.choice((1, 5, 20, 60))):
         kind, key = dice.choice(KEYS)
         reply, mark = answers[kind, key]
@@ -219,8 +237,9 @@ def forged(dice, answers, now):
             reply, mark = lies(dice, answers, reply, mark)
         number += dice.choice((1, 1, 2, 10**6))
         timeout = dice.choice((0, now - 10, now + 5, now + 600, now + 10**6, 2**63 - 1))
-        entries.append(images.entry(number, frames.TYPES[kind], key, reply, mark, timeout))
-    return images.image(entries)
+        reloads = dice.choice((0, 1, 5, images.MOST_RELOADS))
+        entries.append(images.entry(number, frames.TYPES[kind], key, reply, mark, timeout, reloads, version))
+    return images.image(entries, version=version)
 
 
 def requests_of(dice, entries):
@@ -241,23 +260,26 @@ def replies_of(run, pairs):
     return said
 
 
-def check_saved(run, kept, more, before):
+def check_saved(run, kept, wanted, more, before):
     """Sees that the image at the end holds what came back, and then what was asked, in any order, until their times."""
     after, found = time.time() + SLACK, entries_of(run)
     held = [entry[:4] for entry in found]
     right = held[: len(kept)] == [entry[:4] for entry in kept] and sorted(held[len(kept) :]) == sorted(more)
     check(right, f"the image at the end holds {found}")
-    for place, (*_, mark, timeout) in enumerate(found):
-        life = images.ABSENT_LIFE if mark else images.FOUND_LIFE
-        # What came back is kept until its own time at most.
-        most = kept[place][-1] if place < len(kept) else timeout
-        check(min(most, before + life) <= timeout <= min(most, after + life), f"entry {place} is kept until {timeout}, and the image said {most}")
+    used = {(frames.TYPES[kind], key) for kind, key in wanted}
+    for place, one in enumerate(found):
+        life = images.ABSENT_LIFE if one.is_not_found else images.FOUND_LIFE
+        # What came back is kept until its own time at most, and a use begins its count anew.
+        most = kept[place].timeout if place < len(kept) else one.timeout
+        check(min(most, before + life) <= one.timeout <= min(most, after + life), f"entry {place} is kept until {one.timeout}, and the image said {most}")
+        reloads = 0 if one[:2] in used else kept[place].reloads
+        check(one.reloads == reloads, f"entry {place} has a count of {one.reloads}, and not {reloads}")
 
 
 def lie(run, dice, answers):
     """Starts a daemon over a forged image, and looks at all that it says. Gives how many entries there were, and how many came back."""
     before, size = int(time.time()), dice.choice(SIZES)
-    sets(run, PERSISTENT, f"suggested-size passwd {size}\n")
+    sets(run, PERSISTENT, ALONE, f"suggested-size passwd {size}\n")
     data = forged(dice, answers, before)
     put(run, data)
     entries = images.read(data)
@@ -272,7 +294,7 @@ def lie(run, dice, answers):
         if (frames.TYPES[kind], key) not in known:
             more.append((frames.TYPES[kind], key, reply, mark))
     ends(run)
-    check_saved(run, kept, more, before)
+    check_saved(run, kept, wanted, more, before)
     return len(entries), len(kept)
 
 

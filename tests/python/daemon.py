@@ -27,9 +27,11 @@ import gone
 import inplace
 import invented
 import kept
+import keptcounts
 import lines
 import lingering
 import parts
+import propagating
 import reloading
 import scarce
 import scopes
@@ -326,6 +328,8 @@ CASES = {
     **unread.CASES,
     **written.CASES,
     **kept.CASES,
+    **keptcounts.CASES,
+    **propagating.CASES,
     **lines.CASES,
     **lingering.CASES,
     **badimages.CASES,

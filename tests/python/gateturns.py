@@ -3,6 +3,7 @@
 import ctypes
 import fcntl
 import os
+import select
 import socket
 import struct
 import termios
@@ -191,6 +192,14 @@ def send_until_full(peer, lines):
     peer.setblocking(True)
 
 
+def all_gone(peers):
+    """Whether the daemon has let all of them go."""
+    told = select.poll()
+    for peer in peers:
+        told.register(peer, select.POLLRDHUP)
+    return len(told.poll(0)) == len(peers)
+
+
 def left_for(peers):
     """How many bytes are left for each peer, once the daemon has let all of them go."""
     found, lock = [], threading.Lock()
@@ -225,7 +234,8 @@ def gate_room():
         for peer in peers:
             send_until_full(peer, b"group middle\n" * UNREAD)
         ends = time.monotonic() + 4 * PATIENCE
-        while run.opened() > before and time.monotonic() < ends:
+        # Who is not accepted yet has no descriptor of the daemon, and is not let go.
+        while (run.opened() > before or not all_gone(peers)) and time.monotonic() < ends:
             time.sleep(0.1)
         check(run.opened() <= before, f"{run.opened() - before} peers that do not read are not let go")
         found = left_for(peers)

@@ -10,7 +10,7 @@ from running import ROOT_REPLY, check, request
 from serving import FILES_ALONE, asked, served
 from tables import DATABASES
 
-SETTINGS = "".join(f"persistent {name} yes\n" for name in DATABASES) + "negative-time-to-live hosts 3600\n"
+SETTINGS = "".join(f"persistent {name} yes\n" for name in DATABASES) + "negative-time-to-live hosts 3600\nauto-propagate passwd no\n"
 IMAGES = sorted(f"{name}.img" for name in DATABASES)
 RUNNING = ["admin", "begun", "lock", "socket", "starting"]
 ENDED = ["begun", "lock", "starting"]

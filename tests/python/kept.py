@@ -1,4 +1,7 @@
-"""Caches that outlive their daemon, by images in its folder: cases of tests/daemon. Images are read and made by images.py."""
+"""Caches that outlive their daemon, by images in its folder: cases of tests/daemon. Images are read and made by images.py.
+
+A lookup by name keeps the answer by id, too, where its entry is new. Cases that are about images alone switch that off.
+"""
 
 import os
 import re
@@ -12,6 +15,7 @@ import rules
 from running import FILES, GETSTAT, NO_REPLY, PATIENCE, ROOT_REPLY, check, check_refused, daemon, request
 
 PERSISTENT = "persistent passwd yes\n"
+ALONE = "auto-propagate passwd no\n"  # no answer by id beside one by name
 LIVES = {"passwd": 3600, "group": 3600, "hosts": 3600, "services": 28800}  # seconds that what is found is kept
 ABSENT_LIVES = {"passwd": 20, "group": 60, "hosts": 20, "services": 20}
 SLACK = 1  # seconds by which a clock of whole seconds may be ahead
@@ -73,11 +77,15 @@ def entries_told(run):
     return int(told.group(1))
 
 
+def files_of(run):
+    """The daemon's files as they are."""
+    texts = {name: (run.etc / name).read_bytes() for name in FILES}
+    return {**dict.fromkeys(frames.FILES), "switch": texts.pop("nsswitch.conf"), **texts}
+
+
 def answer(run, kind, key):
     """The right reply over the files as they are, and whether it says that there is none."""
-    texts = {name: (run.etc / name).read_bytes() for name in FILES}
-    files = {**dict.fromkeys(frames.FILES), "switch": texts.pop("nsswitch.conf"), **texts}
-    return rules.answer(files, kind, key)
+    return rules.answer(files_of(run), kind, key)
 
 
 def asked(kind, key):
@@ -107,8 +115,8 @@ def ends(run, *told):
     check(len(lines) == len(told) and all(map(re.fullmatch, told, lines)), f"it told {lines}, and not {list(told)}")
 
 
-def root_entry(timeout):
-    return images.entry(0, 0, b"root", ROOT_REPLY, 0, int(timeout))
+def root_entry(timeout, reloads=0, version=images.SAVED):
+    return images.entry(0, 0, b"root", ROOT_REPLY, 0, int(timeout), reloads, version)
 
 
 def put(run, data):
@@ -121,10 +129,12 @@ def put(run, data):
 
 
 def entries_of(run, database="passwd"):
-    """What stands in the image of a database, which must be in form and its owner's alone."""
+    """What stands in the image of a database, which must be in form, of the version that is written, and its owner's alone."""
     path = image_of(run, database)
-    entries = images.read(path.read_bytes(), frames.DATABASES.index(database))
+    data = path.read_bytes()
+    entries = images.read(data, frames.DATABASES.index(database))
     check(isinstance(entries, list) and stat.S_IMODE(os.lstat(path).st_mode) == MODE, f"{path.name}: {entries}, mode {os.lstat(path).st_mode:o}")
+    check(images.version_of(data) == images.SAVED, f"{path.name}: version {images.version_of(data)}")
     return entries
 
 
@@ -134,29 +144,53 @@ def identity(path):
     return seen.st_ino, seen.st_mtime_ns, seen.st_mode, Path(path).read_bytes()
 
 
+def root_alone(run, before, settings, keys, used):
+    """The image of a daemon that was asked for root alone, by name, and what the next one has of it. Gives the bytes of the image."""
+    sets(run, *settings)
+    run.start()
+    run.is_well("at first")
+    ends(run)
+    check(left_in(run) == ["passwd.img"], f"images: {left_in(run)}")
+    found = entries_of(run)
+    check([one.key for one in found] == keys, f"root alone was asked: {found}")
+    timeout = found[0].timeout
+    life = timeout - LIVES["passwd"]
+    check(before <= life <= time.time() + SLACK, f"root was asked after {before}, and is kept for an hour from {life}")
+    data = image_of(run).read_bytes()
+    rows = [root_entry(timeout), images.entry(1, 1, b"0", ROOT_REPLY, 0, timeout)]
+    check(data == images.image(rows[: len(keys)]), f"another image: {data}")
+    run.start()
+    check_counts(run, "before anything was asked", entries=len(keys), used_words=f"{used} of 27008", hits=0, misses=0)
+    run.is_well("at the second start")
+    check_counts(run, "once root was asked", entries=len(keys), hits=1, misses=0, negative_misses=0)
+    check_answer(run, "uid", b"0", "at the second start")
+    check_counts(run, "once 0 was asked", entries=2, hits=len(keys), misses=2 - len(keys))
+    check(run.command("-i", "passwd") == (b"", b"", 0), "-i passwd")
+    ends(run)
+    check(image_of(run).read_bytes() == images.image([]), "once passwd was invalidated its image is not empty")
+    return len(data)
+
+
 def kept():
+    before = int(time.time())
     with daemon(started=False) as run:
-        sets(run, PERSISTENT)
-        before = int(time.time())
-        run.start()
-        run.is_well("at first")
-        ends(run)
-        check(left_in(run) == ["passwd.img"], f"images: {left_in(run)}")
-        found = entries_of(run)
-        check(len(found) == 1, f"root alone was asked: {found}")
-        timeout = found[0][-1]
-        life = timeout - LIVES["passwd"]
-        check(before <= life <= time.time() + SLACK, f"root was asked after {before}, and is kept for an hour from {life}")
-        data = image_of(run).read_bytes()
-        check(len(data) == 152 and data == images.image([root_entry(timeout)]), f"another image: {data}")
-        run.start()
-        check_counts(run, "before anything was asked", entries=1, used_words="17 of 27008", hits=0, misses=0)
-        run.is_well("at the second start")
-        check_counts(run, "once root was asked", entries=1, hits=1, misses=0, negative_misses=0)
-        check(run.command("-i", "passwd") == (b"", b"", 0), "-i passwd")
-        ends(run)
-        check(image_of(run).read_bytes() == images.image([]), "once passwd was invalidated its image is not empty")
-        return "a user is answered as a hit by the next daemon; the image has 152 bytes, mode 600 and its time, and is empty after -i"
+        both = root_alone(run, before, (PERSISTENT,), [b"root", b"0"], 34)
+        alone = root_alone(run, before, (PERSISTENT, ALONE), [b"root"], 17)
+        check((both, alone) == (257, 156), f"images of {both} and {alone} bytes")
+        return (
+            f"a user is answered as a hit by the next daemon, by name and by id; the image has {both} bytes, or {alone} without auto-propagate, mode 600"
+            " and its time, and is empty after -i"
+        )
+
+
+def kept_by(run, pairs):
+    """The requests that have an entry once these were made, in the order of the entries."""
+    found = []
+    for pair in pairs:
+        if pair not in found:
+            beside = rules.by_id(files_of(run), *pair)
+            found += [pair] + [beside] * bool(beside and beside not in found)
+    return found
 
 
 def all_four():
@@ -164,7 +198,7 @@ def all_four():
         sets(run, *(f"persistent {database} yes\n" for database in ASKED))
         before = int(time.time())
         run.start()
-        # A reply that is too long to be kept.
+        # A reply that is too long to be kept, by name and so by id.
         check_answer(run, "group", b"big", "at first")
         for pairs in ASKED.values():
             for kind, key in pairs:
@@ -174,13 +208,13 @@ def all_four():
         check(left_in(run) == sorted(f"{database}.img" for database in ASKED), f"images: {left_in(run)}")
         for database, pairs in ASKED.items():
             found = entries_of(run, database)
-            wanted = [(frames.TYPES[kind], key, *answer(run, kind, key)) for kind, key in pairs]
+            wanted = [(frames.TYPES[kind], key, *answer(run, kind, key)) for kind, key in kept_by(run, pairs)]
             check([entry[:4] for entry in found] == wanted, f"{database}.img: {found}, and not {wanted}")
-            lives = [timeout - (ABSENT_LIVES if mark else LIVES)[database] for *_, mark, timeout in found]
+            lives = [one.timeout - (ABSENT_LIVES if one.is_not_found else LIVES)[database] for one in found]
             check(all(before <= life <= after for life in lives), f"{database}.img: timeouts of {lives}")
         run.start()
         for database, pairs in ASKED.items():
-            check_counts(run, "before anything was asked", database, entries=len(pairs))
+            check_counts(run, "before anything was asked", database, entries=len(kept_by(run, pairs)))
             for kind, key in pairs:
                 check_answer(run, kind, key, "at the second start")
             check_counts(run, "once all was asked", database, hits=len(pairs) - 1, negative_hits=1, misses=0, negative_misses=0)
@@ -190,7 +224,7 @@ def all_four():
 
 def changed_files():
     with daemon(started=False) as run:
-        sets(run, PERSISTENT)
+        sets(run, PERSISTENT, ALONE)
         run.start()
         run.is_well("at first")
         ends(run)
@@ -282,7 +316,7 @@ def refused_start():
             check(identity(new) == written, "a start that is refused touches the image that is being written")
         check_answer(run, "user", b"maud", "beside starts that are refused")
         ends(run)
-        check([key for _, key, *_ in entries_of(run)] == [b"root", b"maud"], f"image: {entries_of(run)}")
+        check([one.key for one in entries_of(run)] == [b"root", b"maud", b"4242"], f"image: {entries_of(run)}")
         check(left_in(run) == ["passwd.img"], f"at the end there are {left_in(run)}")
         return "a second start, which is refused, leaves the image as it is, and the one that is being written"
 

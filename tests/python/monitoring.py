@@ -48,7 +48,7 @@ def stands_for(top, status, text):
 
 
 # What is told of a daemon that was asked for root three times, nobody1 twice and maud once, reloaded, and asked for root again. Before the
-# reload two replies were kept that were found, and one that was not.
+# reload the replies for two users were kept, by name and by id, and one of not found.
 PASSWD = 'database="passwd"'
 WANTED = (
     "nscd_up 1",
@@ -61,9 +61,9 @@ WANTED = (
     f'nscd_lookups_total{{{PASSWD},found="no",kept="yes"}} 1',
     f'nscd_lookups_total{{{PASSWD},found="yes",kept="no"}} 3',
     f'nscd_lookups_total{{{PASSWD},found="no",kept="no"}} 1',
-    f"nscd_entries{{{PASSWD}}} 1",
-    # A key of five bytes takes one word, a reply of 64 eight, and an entry eight beside them.
-    f"nscd_used_words{{{PASSWD}}} 17",
+    # Root by name and by id: a key of up to eight bytes takes one word, a reply of 64 eight, and an entry eight beside them.
+    f"nscd_entries{{{PASSWD}}} 2",
+    f"nscd_used_words{{{PASSWD}}} 34",
     f"nscd_room_words{{{PASSWD}}} 27008",
     f"nscd_invalidations_total{{{PASSWD}}} 1",
     f"nscd_not_added_total{{{PASSWD}}} 0",

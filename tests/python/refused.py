@@ -21,6 +21,9 @@ compactions 0
 not added 0
 
 """
+# The second line asks for an answer that the first one has kept.
+LINES = b"passwd root\npasswd 0\npasswd maud\n"
+ANSWERS = 2 * ROOT_LINE + FILES["passwd"].splitlines(keepends=True)[1]
 STATISTICS = "".join(map(FRESH.format, ("passwd", "group", "hosts", "services"))).encode()
 
 
@@ -48,7 +51,8 @@ def lookup(made, first, last, kind, key):
         check(came in (b"", wanted), f"another reply: {came!r}")
         check(run.ask(sent) == wanted, "the next connection gets another reply")
         hits, misses = ("negative_hits", "negative_misses") if is_absent else ("hits", "misses")
-        counts = {misses: 1, hits: 1 if came else 0, "entries": 1}
+        # Both answers are there before the first of them is kept, so none is where memory was refused for the second.
+        counts = {misses: 1, hits: 1 if came else 0, "entries": 2 if rules.by_id(kept.files_of(run), kind, key) else 1}
         check_told(run, f"the first connection was {word(came)}", rules.DATABASE[kind], **counts)
         run.ends_well()
     return refused, word(came)
@@ -74,7 +78,7 @@ def invalidation(made, first, last):
         refused = run.orders.stop()
         check(came in (b"", bytes(4)), f"another reply: {came!r}")
         done = 1 if came else 0
-        check_told(run, f"it was {word(came)}", misses=1, entries=1 - done, invalidations=done, compactions=done)
+        check_told(run, f"it was {word(came)}", misses=1, entries=2 * (1 - done), invalidations=done, compactions=done)
         run.is_well("after")
         check(run.ask(request(INVALIDATE, b"passwd\0"), "admin") == bytes(4), "the next one gets another reply")
         check(told(run)["entries"] == "0", "after the next one there are entries")
@@ -88,22 +92,22 @@ def line(made, first, last):
         run.start()
         run.settles()
         run.orders.refuse(first, last)
-        came = run.closed_or(b"passwd root\n" b"passwd 0\n", "gate", is_last=True)
+        came = run.closed_or(LINES, "gate", is_last=True)
         refused = run.orders.stop()
-        check(came in (b"", ROOT_LINE, 2 * ROOT_LINE), f"another answer: {came!r}")
-        check(run.closed_or(b"passwd root\n" b"passwd 0\n", "gate", is_last=True) == 2 * ROOT_LINE, "the next connection gets other answers")
-        check_told(run, f"{came.count(bytes([10]))} lines were answered", misses=2, entries=2)
+        check(came in (b"", ROOT_LINE, 2 * ROOT_LINE, ANSWERS), f"another answer: {came!r}")
+        check(run.closed_or(LINES, "gate", is_last=True) == ANSWERS, "the next connection gets other answers")
+        check_told(run, f"{came.count(bytes([10]))} lines were answered", misses=2, entries=4)
         run.is_well("after")
         run.ends_well()
-    return refused, ("closed", "closed after a line", "answered")[came.count(b"\n")]
+    return refused, ("closed", "closed after a line", "closed after two lines", "answered")[came.count(b"\n")]
 
 
 # Ticks. Before each one the entry's time is over, or its file has changed.
 
 SHORT = "positive-time-to-live passwd 1\nreload-count {}\n"
-# What is told of entries, invalidations and compactions before the tick, and what after it.
-BEFORE = (1, 0, 0)
-EXPIRED, LOADED_AGAIN, CHANGED = (0, 0, 1), (1, 0, 1), (0, 1, 1)
+# What is told of entries, by name and by id, of invalidations and of compactions before the tick, and what after it.
+BEFORE = (2, 0, 0)
+EXPIRED, LOADED_AGAIN, CHANGED = (0, 0, 1), (2, 0, 1), (0, 1, 1)
 
 
 def state(run):

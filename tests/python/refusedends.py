@@ -114,7 +114,7 @@ def end(made, first, last):
             refused = run.orders.stop()
             run.is_well("the order was not taken")
             run.ends_well()
-            check(len(kept.entries_of(run)) == 2, "after the next order: another image")
+            check([one.key for one in kept.entries_of(run)] == [b"root", b"maud", b"4242"], "after the next order: another image")
             return refused, "not taken"
         said = (*run.process.communicate(timeout=4 * PATIENCE), run.process.returncode)
         refused = run.orders.stop()
@@ -128,7 +128,7 @@ def end(made, first, last):
             return refused, "told that it is not kept"
         check(not is_former, "it ends with 0 and without a word, and the former image is there")
         rows = [row[1:4] for row in kept.entries_of(run)]
-        check(rows == [(b"root", ROOT_REPLY, False), (b"maud", MAUD_REPLY, False)], f"another image: {rows}")
+        check(rows == [(b"root", ROOT_REPLY, False), (b"maud", MAUD_REPLY, False), (b"4242", MAUD_REPLY, False)], f"another image: {rows}")
         return refused, "put"
 
 

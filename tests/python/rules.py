@@ -293,6 +293,14 @@ def switch(files, name, kind, key):
     return asked_in_turn(files, name, kind, key)[:2]
 
 
+def by_id(files, kind, key):
+    """The request by id that belongs to the row of a request by name; None where no row is found, and for every other request."""
+    if kind not in ("user", "group"):
+        return None
+    status, row = switch(files, DATABASE[kind], kind, key)
+    return ("uid" if kind == "user" else "gid", b"%d" % row[2]) if status == SUCCESS else None
+
+
 # Replies.
 
 

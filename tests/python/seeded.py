@@ -14,6 +14,14 @@ READ_BY = {
     "hosts": ["switch", "hosts"],
     "services": ["switch", "services"],
 }
+SETTINGS = {
+    "enabled": "enable-cache",
+    "check": "check-files",
+    "propagate": "auto-propagate",
+    "size": "suggested-size",
+    "positive": "positive-time-to-live",
+    "negative": "negative-time-to-live",
+}
 LIVES = {"passwd": (3600, 20), "group": (3600, 60), "hosts": (3600, 20), "services": (28800, 20)}
 
 # What files are made of: lines in form and out of it.
@@ -55,6 +63,14 @@ COMPAT = [
     *["+", "-NAME", "+NAME", "-", "-@x", "+@x", " \t-NAME", "-NAME:x", "-NAME\0"],
     *["+NAME:P:1:2:G:/d:/s", "+::::H::", "+NAME:x:1:OTHER"],
 ]
+IN_FORM = {
+    "switch": [f"{name}: {own}" for name in ("passwd", "group") for own in ("compat", "files extrausers", "files [SUCCESS=merge] extrausers")]
+    + [f"{name}_compat: extrausers" for name in ("passwd", "group")] * 2,
+    "passwd": [*ACCOUNTS[:3], "-NAME", "+"],
+    "extra-passwd": ACCOUNTS[:1],
+    "group": [*GROUPS[:3], "-NAME", "+"],
+    "extra-group": GROUPS[:1],
+}
 HOSTS = [
     *["10.0.0.ID NAME", "10.0.0.ID NAME OTHER # ann", "fd00::ID NAME", "\tFD00::ID\tOTHER NAME"],
     *["::ffff:10.0.0.ID NAME", "10.0.0 NAME", "10.0.0.ID # NAME", "fd00:::ID NAME"],
@@ -89,6 +105,7 @@ class Cache:
     version: int = 0
     ticked: int = 0
     entries: list = field(default_factory=list)
+    propagated: int = 0  # entries by id that requests by name have made
 
     def poll(self, files):
         part = {name: files[name] if name in READ_BY[self.database] else None for name in frames.FILES}
@@ -96,23 +113,37 @@ class Cache:
             self.newest = part
             self.version += 1
 
+    def live(self, kind, key):
+        """The live entry of a request; None where there is none."""
+        return next((entry for entry in self.entries if (entry.kind, entry.key) == (kind, key)), None)
+
     def insert(self, kind, key, now, reloads):
-        """The reply to a request over the newest files, which is kept where it fits."""
+        """The reply to a request over the newest files, and whether it is kept: where the cache is enabled and it fits."""
         reply, is_not_found = rules.answer(self.newest, kind, key)
         lives = self.settings["negative" if is_not_found else "positive"]
         entry = Entry(kind, key, reply, is_not_found, now + lives, reloads)
         free = 128 * self.settings["size"] - sum(other.words() for other in self.entries)
-        if self.settings["enabled"] and len(reply) <= 65536 and entry.words() <= free:
+        is_kept = self.settings["enabled"] and len(reply) <= 65536 and entry.words() <= free
+        if is_kept:
             self.entries.append(entry)
-        return reply
+        return reply, is_kept
+
+    def propagate(self, kind, key, now):
+        """Keeps the answer to the request by the id of the row that a request by name finds, unless one is live."""
+        beside = rules.by_id(self.newest, kind, key) if self.settings["propagate"] else None
+        if beside and not self.live(*beside):
+            self.propagated += self.insert(*beside, now, 0)[1]
 
     def look_up(self, files, kind, key, now):
-        for entry in self.entries:
-            if (entry.kind, entry.key) == (kind, key):
-                entry.reloads = 0
-                return entry.reply
+        entry = self.live(kind, key)
+        if entry:
+            entry.reloads = 0
+            return entry.reply
         self.poll(files)
-        return self.insert(kind, key, now, 0)
+        reply, is_kept = self.insert(kind, key, now, 0)
+        if is_kept:
+            self.propagate(kind, key, now)
+        return reply
 
     def tick(self, files, now):
         if not self.settings["enabled"]:
@@ -137,10 +168,15 @@ def spelled(value):
 class Maker:
     """A replay at random, and the replies that it must have."""
 
+    ASKED = [*frames.DATABASES, "group"]
+    REQUESTS = [2, 4, 8]
+    STEPS = 60
+    SHARES = [40, 8, 12, 1]  # of lookups, changes, times and invalidations
+
     def __init__(self, seed):
         self.dice = random.Random(seed)
-        self.database = self.dice.choice([*frames.DATABASES, "group"])  # the one that is asked most
-        self.requests = [self.request() for _ in range(self.dice.choice([2, 4, 8]))]
+        self.database = self.dice.choice(self.ASKED)  # the one that is asked most
+        self.requests = [self.request() for _ in range(self.dice.choice(self.REQUESTS))]
         self.files = dict.fromkeys(frames.FILES)
         self.now = 0
         self.frames = b""
@@ -154,17 +190,18 @@ class Maker:
         if reloads != 5:
             lines.append(f"reload-count {'unlimited' if reloads is None else reloads}")
         for database, (positive, negative) in LIVES.items():
-            own = {"enabled": True, "check": True, "size": 211, "positive": positive, "negative": negative}
-            for name, key, values in (
-                ("enable-cache", "enabled", [False]),
-                ("check-files", "check", [False, False, True]),
-                ("suggested-size", "size", [1, 2]),
-                ("positive-time-to-live", "positive", [0, 10, 10, 40]),
-                ("negative-time-to-live", "negative", [0, 10, 40]),
-            ):
-                if self.dice.random() < (0.1 if name == "enable-cache" else 0.7):
+            own = {"enabled": True, "check": True, "propagate": True, "size": 211, "positive": positive, "negative": negative}
+            for key, values in {
+                "enabled": [False],
+                "check": [False, False, True],
+                "propagate": [False, True],
+                "size": [1, 2],
+                "positive": [0, 10, 10, 40],
+                "negative": [0, 10, 40],
+            }.items():
+                if self.dice.random() < (0.1 if key == "enabled" else 0.7):
                     own[key] = self.dice.choice(values)
-                    lines.append(f"{name} {database} {spelled(own[key])}")
+                    lines.append(f"{SETTINGS[key]} {database} {spelled(own[key])}")
             caches[database] = Cache(database, own, float("inf") if reloads is None else reloads)
         self.dice.shuffle(lines)
         return "\n".join(lines).encode(), caches
@@ -212,8 +249,12 @@ class Maker:
         self.wanted.append(reply)
         self.frames += frames.look_up(kind, key if kind.startswith("address") and kind != "addresses" else key + b"\0")
 
+    def changed(self):
+        """The name of the file that changes next."""
+        return self.dice.choice(READ_BY[self.database] + frames.FILES)
+
     def set_file(self):
-        name = self.dice.choice(READ_BY[self.database] + frames.FILES)
+        name = self.changed()
         self.files[name] = self.file(name) if self.dice.random() < 0.9 else None
         self.frames += frames.set_file(name, self.files[name])
 
@@ -225,7 +266,7 @@ class Maker:
             cache.tick(self.files, self.now)
 
     def invalidate(self):
-        database = self.dice.choice(frames.DATABASES)
+        database = self.dice.choice([self.database, *frames.DATABASES])
         self.caches[database].entries = []
         self.frames += frames.invalidate(database)
 
@@ -234,9 +275,38 @@ class Maker:
             if self.dice.random() < 0.8:
                 self.files[name] = self.file(name)
                 self.frames += frames.set_file(name, self.files[name])
-        for _ in range(60):
-            self.dice.choices([self.ask, self.set_file, self.pass_time, self.invalidate], [40, 8, 12, 1])[0]()
+        for _ in range(self.STEPS):
+            self.dice.choices([self.ask, self.set_file, self.pass_time, self.invalidate], self.SHARES)[0]()
         self.frames += frames.END
+
+
+class AccountMaker(Maker):
+    """A replay of users or groups by name and by id, over files that are mostly in form, and whose changes end no entry."""
+
+    ASKED = ["passwd", "group"]
+    REQUESTS = [8, 16, 32]
+    STEPS = 120
+    SHARES = [30, 8, 12, 4]
+
+    def request(self):
+        pick = self.dice.choice
+        by_name, by_number = {"passwd": ("user", "uid"), "group": ("group", "gid")}[self.database]
+        return pick([(by_name, pick(NAMES + ["zed", "yan"]).encode()), (by_number, b"%d" % pick([1, 2, 3, 4, 5, 6]))])
+
+    def settings(self):
+        pick, (conf, caches) = self.dice.choice, super().settings()
+        own = {"enabled": True, "check": False, "size": pick([1, 1, 211]), "positive": pick([0, 10, 40]), "negative": pick([0, 10, 40])}
+        caches[self.database].settings |= own
+        # Of two lines the second one counts.
+        return conf + "\n".join(["", *(f"{SETTINGS[key]} {self.database} {spelled(value)}" for key, value in own.items())]).encode(), caches
+
+    def file(self, name):
+        if name not in IN_FORM or self.dice.random() < 0.2:
+            return super().file(name)
+        return "\n".join(self.filled(self.dice.choice(IN_FORM[name])) for _ in range(self.dice.choice([2, 4, 8]))).encode()
+
+    def changed(self):
+        return self.dice.choice(READ_BY[self.database])
 
 
 def argument(place, otherwise):
@@ -246,18 +316,19 @@ def argument(place, otherwise):
 def main():
     program = frames.program()
     count, start = argument(1, 200), argument(2, 0)
-    found = broken = 0
+    found = propagated = broken = 0
     for seed in range(start, start + count):
-        maker = Maker(seed)
+        maker = (Maker if seed % 2 else AccountMaker)(seed)
         maker.make()
         status, output, said = frames.replay(program, maker.frames, maker.conf)
         came, rest = frames.replies(output)
+        propagated += sum(cache.propagated for cache in maker.caches.values())
         found += sum(reply[4:5] == b"\x01" for reply in maker.wanted)
         if (status, came, rest) != (0, maker.wanted, b""):
             broken += 1
             wrong = [place for place, pair in enumerate(zip(came, maker.wanted)) if pair[0] != pair[1]]
             print(f"seeded-replays: seed {seed}: status {status} {said}, other replies at {wrong[:5]}", file=sys.stderr)
-    print(f"seeded-replays: {count} replays, {found} entries found, {broken} faults")
+    print(f"seeded-replays: {count} replays, {found} entries found, {propagated} propagated, {broken} faults")
     sys.exit(bool(broken))
 
 

@@ -165,6 +165,7 @@ def calls_case():
         serve = installed(top, a_program(top), *changes, ("\nstate=/var/lib/nscd\n", f"\nstate={state}\n"))
         (top / "etc/nscd.conf").write_text("persistent passwd yes\n")
         began = [obeys(serve, top / "usr/sbin/nscd", etc, run, confined) for _ in range(2)]
-        check(began == [0, 1], f"it begins with {began} entries, and not with the one that was kept")
+        # Root by name and by id.
+        check(began == [0, 2], f"it begins with {began} entries, and not with those that were kept")
     calls = f"with the {count} system calls of the unit's list, and sockets of the machine alone,"
     return f"{calls} it starts, answers, obeys, ends, and begins again with what it kept"

@@ -339,7 +339,8 @@ def reload_case():
         run.does("reload")
         run.awaited(before)
         counts = run.order("-g").stdout.decode().split("\n\n")[1]
-        check("entries 1\n" in counts, f"after a reload nothing of its cache is back: {counts}")
+        # A group by name and by id.
+        check("entries 2\n" in counts, f"after a reload nothing of its cache is back: {counts}")
         check(b"/bin/dash" in run.ask(b"root"), "a reload empties nothing")
         check(run.order("-K").returncode == 0 and run.process.wait(10) == 0, "it does not end as it is told")
         said = run.process.stderr.read().decode().splitlines()

@@ -82,6 +82,16 @@ def changes(story):
     story.ask("here", "gone")
 
 
+def propagates(story):
+    """By id the answer is that of before a change of the file where the name has kept it."""
+    story.file(["here"], "a")
+    story.passes(1)
+    story.ask("here")
+    story.file(["here"], "b")
+    story.frames += look_up({"passwd": "uid", "group": "gid"}[story.database], b"1\0")
+    story.passes(1)
+
+
 def shown(database, positive, negative, reloads):
     """Replays that tell a setting of the database from another: the frames, by the name of the attribute."""
     stories = {"enable-cache": changes, "check-files": changes, "suggested-size": room}
@@ -90,6 +100,8 @@ def shown(database, positive, negative, reloads):
         lives(story, seconds, times, ["here"]) for seconds in (positive, positive + 1) for times in (reloads, reloads + 1)
     ]
     stories["reload-count"] = stories["positive-time-to-live"]
+    if database in ("passwd", "group"):
+        stories["auto-propagate"] = propagates
     found = {}
     for name, tells in stories.items():
         story = Story(database)
@@ -109,6 +121,12 @@ def others(attribute, value):
     if attribute.value == "answer":
         return ["no" if value == "yes" else "yes"]
     return [str(int(value) - 1), str(int(value) + 1)]
+
+
+def idle_lines(table, at):
+    """Lines about this database whose attribute has an effect for others alone."""
+    database = DATABASES[at]
+    return [f"{one.name} {database} {value}\n" for one in table if database in one.idle for value in others(one, one.defaults[at])]
 
 
 def threads_of(*words):
@@ -153,7 +171,7 @@ def settings_case():
     conf = (DIST / "nscd.conf").read_bytes()
     table = {attribute.name: attribute for attribute in attributes()}
     reloads = int(table["reload-count"].defaults[0])
-    near = 0
+    near, idle = 0, set()
     for at, database in enumerate(DATABASES):
         positive = int(table["positive-time-to-live"].defaults[at])
         negative = int(table["negative-time-to-live"].defaults[at])
@@ -166,6 +184,9 @@ def settings_case():
                 line = " ".join([name] + ([database] if attribute.is_of_database() else []) + [value])
                 check(output(frames, conf + line.encode() + b"\n") != plain, f"{line}: the replay does not show it")
                 near += 1
+            for line in idle_lines(table.values(), at):
+                check(output(frames, conf + line.encode()) == plain, f"{line}: it has an effect")
+                idle.add(line)
     told = {name for name, attribute in table.items() if attribute.has_effect} - OF_DAEMON
     check(told == set(shown("passwd", 1, 1, 1)), f"no replay shows {told ^ set(shown('passwd', 1, 1, 1))}")
     near += check_tables(conf, int(table["suggested-size"].defaults[0]))
@@ -175,5 +196,5 @@ def settings_case():
     check(threads_of("-t", more) == threads + 1, f"threads: a daemon with -t {more} has no thread more")
     return (
         f"replays over each database and a daemon's threads and tables are under nscd.conf what they are without it;"
-        f" {near} settings beside those are told from them"
+        f" {near} settings beside those are told from them, and {len(idle)} that have an effect for other databases alone are not"
     )

@@ -32,7 +32,8 @@ class Option:
 class Attribute:
     name: str
     value: str
-    has_effect: bool
+    has_effect: bool  # for any database
+    idle: tuple  # databases for which it has none, if it has one for others
     defaults: tuple  # of each database, or one of the daemon, or none
 
     def is_of_database(self):
@@ -54,8 +55,10 @@ def options():
 def attributes():
     found = []
     for name, value, effect, defaults in rows("attributes", 4):
-        check(effect in ("effect", "none"), f"{name}: {effect}")
-        found.append(Attribute(name, value, effect == "effect", () if defaults == "-" else tuple(defaults.split())))
+        some = [] if effect in ("effect", "none") else effect.split(",")
+        check(set(some) < set(DATABASES), f"{name}: {effect}")
+        idle = tuple(database for database in DATABASES if some and database not in some)
+        found.append(Attribute(name, value, effect != "none", idle, () if defaults == "-" else tuple(defaults.split())))
     return found
 
 
@@ -110,6 +113,12 @@ def defaults_said(text):
         if word in DATABASES:
             found[word] = words[at + 1]
     return tuple(found[name] for name in DATABASES)
+
+
+def idle_said(text):
+    """The databases for which a manual page says that an attribute has no effect; none where it says so of all, or nothing."""
+    said = re.search(r"Has no effect for\n(.+?\.)\n", text, re.S)
+    return tuple(re.findall(r"\.Cm (\w+)", said.group(1))) if said else ()
 
 
 # ---- cases
@@ -242,7 +251,8 @@ def check_manual(table):
     alike("attributes of the table and of nscd.conf(5)", [attribute.name for attribute in table], said)
     for attribute in table:
         text = said[attribute.name]
-        check(("Has no effect" in text) != attribute.has_effect, f"{attribute.name}: its effect in nscd.conf(5)")
+        is_whole = attribute.has_effect and not attribute.idle
+        check(("Has no effect" in text) != is_whole and idle_said(text) == attribute.idle, f"{attribute.name}: its effect in nscd.conf(5)")
         head = text.splitlines()[0]
         check(head.startswith("Ar database ") == attribute.is_of_database(), f"{attribute.name}: {head}")
         check(("Cm yes | no" in head) == (attribute.value == "answer"), f"{attribute.name}: {head}")
