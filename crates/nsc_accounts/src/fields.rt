@@ -1,3 +1,4 @@
+// Fields of lines of passwd(5) and group(5): names, ids, and an exact number of fields.
 ghost use Rattle.std.specs.Prelude.{◌≡◌, ◌≤◌, All, IfSome, length};
 ghost use Rattle.nsc_base.specs.Decimal.{decimal_of};
 ghost use Rattle.nsc_base.specs.Text.{LiesIn, fields_of, part, trimmed};

@@ -1,3 +1,4 @@
+// Lines of group(5): the id of an entry, and the places of its texts.
 ghost use Rattle.std.specs.Prelude.{◌≡◌, ◌≤◌, All, IfSome, length};
 ghost use Rattle.std.specs.Option.{option_map};
 ghost use Rattle.nsc_base.specs.declared.span.Span.{Span};

@@ -1,3 +1,4 @@
+// Members in group(5): the ids of a user's groups, and whether a user is a member.
 ghost use Rattle.std.specs.Prelude.{◌≡◌, ◌≤◌, ◌&&◌, IfOk, length};
 ghost use Rattle.std.specs.List.{list_any};
 ghost use Rattle.std.specs.Option.{option_map};

@@ -1,3 +1,4 @@
+// `OnceIds`: ids in the order of arrival, without duplicates.
 ghost use Rattle.std.specs.Prelude.{◌≡◌, [], OnErr, OnOk};
 ghost use Rattle.nsc_accounts.specs.Once.{with_id};
 

@@ -1,3 +1,4 @@
+// Rows of users and groups: copies of the texts of an entry of passwd(5) or group(5).
 ghost use Rattle.std.specs.Prelude.{◌≡◌, ◌≤◌, length, IfOk};
 ghost use Rattle.nsc_base.specs.Text.{part};
 ghost use Rattle.nsc_model.specs.Groups.{members_of};

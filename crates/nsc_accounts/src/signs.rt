@@ -1,3 +1,4 @@
+// The name after the plus or minus sign of a compat line, nsswitch.conf(5).
 ghost use Rattle.std.specs.Prelude.{◌≡◌, ◌≤◌, ◌<◌, ◌∷◌, ℕ, List, IfSome, Some, length};
 ghost use Rattle.std.specs.Option.{option_map};
 ghost use Rattle.nsc_base.specs.Text.{part};

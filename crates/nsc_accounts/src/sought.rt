@@ -1,3 +1,4 @@
+// `Sought`: what the lines of a passwd or group file are searched for.
 use nsc_model::FileId;
 
 /// What lines of a passwd or group file are looked through for, passwd(5) and group(5).

@@ -1,3 +1,4 @@
+// Printing of addresses: IPv4 in dotted decimal, IPv6 in the form of RFC 5952.
 ghost use Rattle.std.specs.Prelude.{◌≡◌, ◌+◌, ◌*◌, ◌<◌, ◌≤◌, ◌++◌, decimal, false, length};
 ghost use Rattle.std.specs.Fmt.{digit_glyph, digits};
 ghost use Rattle.nsc_base.specs.Addresses.{colon_text, longest_run, v4_text, v6_text};

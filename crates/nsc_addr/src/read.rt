@@ -1,3 +1,4 @@
+// Reading of addresses from texts: IPv4 in dotted decimal, IPv6 in the forms of RFC 4291.
 ghost use Rattle.std.specs.Prelude.{◌≡◌};
 ghost use Rattle.nsc_base.specs.Addresses.{v4_of, v6_of};
 

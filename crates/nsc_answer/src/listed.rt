@@ -1,3 +1,4 @@
+// `Listed`: a content with its service lists, and the outcome of the switch over the lists.
 ghost use Rattle.std.specs.Prelude.{◌≡◌, IfOk};
 ghost use Rattle.std.specs.Arc.{arc_value};
 ghost use Rattle.nsc_model.specs.Answers.{looked_up};

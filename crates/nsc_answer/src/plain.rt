@@ -1,3 +1,4 @@
+// `Plain`: answers by a search through a content's files, and an outcome's answer.
 ghost use Rattle.std.specs.Prelude.{◌≡◌, ◌≤◌, IfOk, length};
 ghost use Rattle.nsc_model.specs.Answers.{marked};
 ghost use Rattle.nsc_model.specs.Answer.{reply_limit};

@@ -1,3 +1,4 @@
+// Linking of a new node into the chain of its bucket.
 ghost use Rattle.std.specs.Prelude.{◌≡◌, ◌≢◌, ℕ, ◌+◌, ◌≤◌, true, List, ◌∷◌, length, slice_index, slice_set};
 ghost use Rattle.nsc_words.specs.declared.node.Placed.{Placed};
 ghost use Rattle.nsc_words.specs.Hash.{hash_of};

@@ -1,3 +1,4 @@
+// `Words`: the trait of a table's words under one caller; and `VecWords`, words in a `Vec`.
 ghost use Rattle.std.specs.Prelude.{◌≡◌, ◌<◌, replicate, length, slice_index, slice_set, true, IfOk};
 
 use nsc_base::NoMemory;

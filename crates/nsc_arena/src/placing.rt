@@ -1,3 +1,4 @@
+// Writing of a new node behind the others, before a chain leads to the node.
 ghost use Rattle.std.specs.Prelude.{◌≡◌, ◌+◌, ◌≤◌, ◌<◌, ◌^◌, List, [], ◌∷◌, length};
 ghost use Rattle.nsc_words.specs.declared.node.Placed.{Placed};
 ghost use Rattle.nsc_words.specs.Laid.{Laid, Stands, words_in};

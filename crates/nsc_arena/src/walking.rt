@@ -1,3 +1,4 @@
+// The walk along a bucket's chain to the newest usable node of a request.
 ghost use Rattle.std.specs.Prelude.{◌≡◌, ◌↔◌, ◌+◌, ◌<◌, ◌≤◌, ◌^◌, IsTrue, List, length};
 ghost use Rattle.nsc_words.specs.declared.node.Placed.{Placed};
 ghost use Rattle.nsc_words.specs.Hash.{hash_of};

@@ -1,3 +1,4 @@
+-- The definitions of texts: spans, lines, fields, words, numbers, addresses and buffers.
 pub mod Span
 pub mod Text
 pub mod Found

@@ -1,3 +1,4 @@
+// `Buf`: a byte buffer of a fixed capacity.
 ghost use Rattle.std.specs.Prelude.{◌≡◌, ◌↔◌, ◌+◌, ◌≤◌, ◌++◌, [], length, IfOk, IsTrue};
 
 use crate::memory::NoMemory;

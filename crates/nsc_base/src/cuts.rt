@@ -1,3 +1,4 @@
+// Cuts of bytes: after white space, before a byte, before a remark; and zero bytes.
 ghost use Rattle.std.specs.Prelude.{◌≡◌, ◌≤◌, ◌==◌, ◌+◌, false, true, length, MatchOption};
 ghost use Rattle.std.specs.List.{after_first, before_first, list_any, position_or_len};
 ghost use Rattle.nsc_base.specs.Text.{LiesIn, before_remark as without_remark, is_white, part, trimmed};

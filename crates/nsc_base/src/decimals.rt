@@ -1,3 +1,4 @@
+// Reading of a decimal number below 2^32.
 ghost use Rattle.std.specs.Prelude.{◌≡◌};
 ghost use Rattle.nsc_base.specs.Decimal.{decimal_of};
 

@@ -1,3 +1,4 @@
+// Fields of a part of a text between separators: the field at a place, or exactly `N` fields.
 ghost use Rattle.std.specs.Prelude.{◌≡◌, ◌<◌, ◌≤◌, ◌↔◌, All, length, map, IfSome, IsNone};
 ghost use Rattle.std.specs.Option.{option_map};
 ghost use Rattle.nsc_base.specs.Fields.{exactly};

@@ -1,3 +1,4 @@
+// The line of a text that begins at a place.
 ghost use Rattle.std.specs.Prelude.{◌≡◌, ◌≤◌, ◌↔◌, length, IfSome, IsNone};
 ghost use Rattle.nsc_base.specs.Text.{IsLine};
 

@@ -1,3 +1,4 @@
+// `NoMemory`: the error of calls for which memory is short.
 ghost use Rattle.std.specs.Prelude.{⊤};
 
 use std::alloc::{AllocError, AllocFailed};

@@ -1,3 +1,4 @@
+// Numbers of four and of eight bytes, read in little-endian order.
 ghost use Rattle.std.specs.Prelude.{◌≡◌, ◌+◌, ◌≤◌, drop, length};
 ghost use Rattle.byteorder.specs.Endian.{little_number, twos_complement};
 

@@ -1,3 +1,4 @@
+// Search for the first line of a text with an entry, past the lines that lack a needle.
 ghost use Rattle.std.specs.Prelude.{◌≡◌, ◌<◌, ◌≤◌, [], length, MatchOption};
 ghost use Rattle.nsc_base.specs.Found.{FirstOf, IsLineStart, IsLineWith, NoneBefore, OrLacks, PassesOver, same_by};
 ghost use Rattle.nsc_base.specs.Text.{line_spans};

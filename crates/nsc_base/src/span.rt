@@ -1,3 +1,4 @@
+// `Span` and `Line`: parts of a text by their places, and the cuts of a part.
 ghost use Rattle.std.specs.Prelude.{◌≡◌, ◌≤◌, ◌==◌, length};
 
 use crate::cuts::{before_byte, trim_front};

@@ -1,3 +1,4 @@
+// `Caller`: a caller of a database of users, with a pass and the calls of a store.
 ghost use Rattle.std.specs.Prelude.{◌≡◌, ◌≤◌, length};
 ghost use Rattle.nsc_model.specs.declared.kind.Db.TheVariants as db;
 ghost use Rattle.nsc_model.specs.Entry.{key_limit, kept_limit};

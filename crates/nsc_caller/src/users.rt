@@ -1,3 +1,4 @@
+// A content with a passwd file and no other file.
 use nsc_base::{Bytes, NoMemory};
 use nsc_model::{Content, FileId};
 use std::alloc::Global;

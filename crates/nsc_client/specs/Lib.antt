@@ -1,3 +1,4 @@
+-- The definitions of clients and of the gate: links, requests, lines, answers and connections.
 pub mod Links
 pub mod Sent
 pub mod Lookups

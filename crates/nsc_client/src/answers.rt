@@ -1,3 +1,4 @@
+// The last reply to a line of the gate, and the line of the answer.
 ghost use Rattle.std.specs.Prelude.{◌≡◌, ◌≤◌, ◌<◌, ◌^◌, ◌++◌, ◌∷◌, [], length, IfErr, IfOk, IfSome, Some};
 ghost use Rattle.nsc_model.specs.Entry.{key_limit, kept_limit};
 ghost use Rattle.nsc_client.specs.declared.line.LineAsks.TheVariants.{HostNamed};

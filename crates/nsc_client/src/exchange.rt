@@ -1,3 +1,4 @@
+// One request and its reply over a connection, in the bytes of protocol version 2.
 ghost use Rattle.std.specs.Prelude.{◌≡◌, ◌≤◌, Some, length, IfErr, IfOk};
 ghost use Rattle.nsc_outside.specs.StreamAt.{stream_in, stream_out};
 ghost use Rattle.nsc_model.specs.Entry.{key_limit};

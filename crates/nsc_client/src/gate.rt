@@ -1,3 +1,4 @@
+// `serve_gate`: one connection to the gate, its lines answered in turn, and its outcomes.
 ghost use Rattle.std.specs.Prelude.{◌≡◌, ◌<◌, ◌≤◌, ◌^◌, ◌∷◌, [], IfErr, IfOk, OnOk, drop, length};
 ghost use Rattle.nsc_outside.specs.StreamAt.{stream_in, stream_out};
 ghost use Rattle.nsc_model.specs.Entry.{kept_limit, line_limit};

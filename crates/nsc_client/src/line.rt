@@ -1,3 +1,4 @@
+// Reading of a line of the gate: a database, a key, and the requests for both.
 ghost use Rattle.std.specs.Prelude.{◌≡◌, ◌≤◌, ◌==◌, ◌++◌, ◌∷◌, IfOk, length, MatchOption, decimal, false, true};
 ghost use Rattle.nsc_model.specs.declared.kind.Kind.TheVariants as Kind;
 ghost use Rattle.std.specs.List.{after_first, before_first, list_any};

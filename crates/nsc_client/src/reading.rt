@@ -1,3 +1,4 @@
+// Reading of the next bytes of a connection behind the bytes that are held.
 ghost use Rattle.std.specs.Prelude.{◌<◌, length, IfErr, IfOk};
 ghost use Rattle.std.specs.Bool.{OnTrue};
 ghost use Rattle.nsc_outside.specs.StreamAt.{stream_in};

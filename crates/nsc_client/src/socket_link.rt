@@ -1,3 +1,4 @@
+// `SocketLink`: a link whose calls are connections to a socket.
 ghost use Rattle.std.specs.Prelude.{◌≡◌, ◌≤◌, length};
 ghost use Rattle.nsc_model.specs.Entry.{key_limit};
 ghost use Rattle.nsc_model.specs.Reads.{Rose};

@@ -1,3 +1,4 @@
+// `StoreLink`: a link whose calls are lookups in a store of this process.
 ghost use Rattle.std.specs.Prelude.{◌≡◌};
 ghost use Rattle.nsc_model.specs.Stores.{reply_of};
 

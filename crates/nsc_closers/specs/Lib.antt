@@ -1,1 +1,2 @@
+-- The definitions of closers, and of jobs that wait or are left open.
 pub mod Closing

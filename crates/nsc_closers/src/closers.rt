@@ -1,3 +1,4 @@
+// `Closers`: the bounded list of jobs to close, and the start of the threads that close.
 use crate::closing::Closing;
 use crate::queue::Queue;
 use crate::threads::{Shared, start_closer, start_watcher};

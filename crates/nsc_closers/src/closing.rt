@@ -1,3 +1,4 @@
+// `Closing`: the trait of values whose close may hold a thread.
 use std::alloc::Global;
 use std::fs::File;
 use std::rt::Files;

@@ -1,3 +1,4 @@
+// `Account`: the trait of entries of passwd or group that compat lines give.
 ghost use Rattle.std.specs.Prelude.{◌≡◌, ◌≤◌, ℕ, List, true, IfOk, IfSome, length};
 ghost use Rattle.nsc_base.specs.Text.{fields_of, part};
 ghost use Rattle.nsc_model.specs.Answers.{sub_looked};

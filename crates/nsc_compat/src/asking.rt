@@ -1,3 +1,4 @@
+// `Asking`: a compat request for one entry, by name or by id.
 ghost use Rattle.std.specs.Prelude.{◌≡◌};
 ghost use Rattle.nsc_compat.specs.Accounts.{names_entry};
 

@@ -1,3 +1,4 @@
+// `Excluded`: the names that minus lines have excluded so far in a scan.
 ghost use Rattle.std.specs.Prelude.{◌≡◌, [], ◌∷◌, ℕ, List, OnOk};
 ghost use Rattle.nsc_model.specs.Compat.{is_excluded};
 ghost use Rattle.nsc_compat.specs.Names.{SameNames};

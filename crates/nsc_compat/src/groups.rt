@@ -1,3 +1,4 @@
+// Groups of group(5) as accounts of the service compat.
 ghost use Rattle.std.specs.Prelude.{◌≡◌, ◌≤◌, IfSome, length, refl};
 ghost use Rattle.std.specs.Option.{option_map};
 ghost use Rattle.nsc_base.specs.Text.{part};

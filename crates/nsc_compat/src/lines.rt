@@ -1,3 +1,4 @@
+// `LineScan`: the trait of scans over the lines of a passwd or group file, and their outcome.
 ghost use Rattle.std.specs.Prelude.{◌≡◌, ◌≤◌, ◌++◌, List, [], All, IfOk, flat_map, length, map};
 ghost use Rattle.nsc_base.specs.Text.{part};
 ghost use Rattle.nsc_model.specs.declared.row.Looked.{Looked};

@@ -1,3 +1,4 @@
+// The outcome of the service compat, nsswitch.conf(5), for a request of any kind.
 ghost use Rattle.std.specs.Prelude.{◌≡◌, IfOk};
 ghost use Rattle.nsc_model.specs.Answers.{compat_answer};
 

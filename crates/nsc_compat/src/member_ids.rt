@@ -1,3 +1,4 @@
+// Compat requests for the groups of a user: a scan that gathers group ids.
 ghost use Rattle.std.specs.Prelude.{◌≡◌, ◌≤◌, ◌∷◌, ℕ, List, [], IfOk, OnOk, length, map, true};
 ghost use Rattle.std.specs.Option.{option_map};
 ghost use Rattle.nsc_base.specs.Text.{part};

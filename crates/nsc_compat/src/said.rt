@@ -1,3 +1,4 @@
+// `LineSays`: the meaning of one line to the service compat, by the line's sign.
 ghost use Rattle.std.specs.Prelude.{◌≡◌, ◌≤◌, ℕ, List, length};
 ghost use Rattle.nsc_base.specs.Text.{fields_of, part};
 ghost use Rattle.nsc_model.specs.Compat.{sayings, sayings_by, sayings_minus, sayings_plus};

@@ -1,3 +1,4 @@
+// `SubLookup`: the trait of further services that plus lines ask.
 ghost use Rattle.std.specs.Prelude.{◌≡◌, true, IfOk, map};
 ghost use Rattle.nsc_model.specs.Content.{Content};
 ghost use Rattle.nsc_model.specs.Compat.{has_compat};

@@ -1,3 +1,4 @@
+// Users of passwd(5) as accounts of the service compat, with the fields of plus lines.
 ghost use Rattle.std.specs.Prelude.{◌≡◌, ◌≤◌, All, IfOk, IfSome, length, map, refl};
 ghost use Rattle.std.specs.Option.{option_map};
 ghost use Rattle.nsc_base.specs.Text.{LiesIn, fields_of, part};
