@@ -1,3 +1,4 @@
+// A connection of the trials: its bytes, its failing calls, its outcome and its replies.
 ghost use Rattle.nsc_server.specs.Passes.{AreNamed, ArePasses};
 ghost use Rattle.nsc_server.specs.Requests.{TakesRequests};
 

@@ -1,3 +1,4 @@
+// `Growing`: a set of files in memory that changes after a database is opened.
 ghost use Rattle.std.specs.Prelude.{None};
 ghost use Rattle.nsc_outside.specs.FileSets.{latest_of};
 ghost use Rattle.nsc_outside.specs.Tally.{count_of};

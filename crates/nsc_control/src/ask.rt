@@ -1,3 +1,4 @@
+// `AdminAsk`: the control requests GETSTAT, INVALIDATE and SHUTDOWN, as bytes.
 ghost use Rattle.std.specs.Prelude.{◌≡◌, IfOk};
 ghost use Rattle.nsc_control.specs.Asks.{key_of, request_for, type_of};
 

@@ -1,3 +1,4 @@
+// `command`: one control request over the admin socket, and the exit by the reply.
 ghost use Rattle.nsc_outside.specs.StreamAt.{stream_out};
 ghost use Rattle.nsc_model.specs.Exits.{IsExitOf, Asking};
 ghost use Rattle.nsc_control.specs.Commands.{Commands, Finishes, Judges, command_at};

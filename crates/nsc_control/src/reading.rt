@@ -1,3 +1,4 @@
+// Reading of a daemon's reply to a control request, at most `ADMIN_REPLY_LIMIT` bytes.
 ghost use Rattle.std.specs.Prelude.{◌≡◌, ◌≤◌, length, IfErr, IfOk, OnOk};
 ghost use Rattle.nsc_outside.specs.Stream.{IsDrained, Moves};
 ghost use Rattle.nsc_outside.specs.StreamAt.{stream_in};

@@ -1,3 +1,4 @@
+-- The definitions of the daemon: its threads, lookups in place, ends and images.
 pub mod Workers
 pub mod Holds
 pub mod FastPath

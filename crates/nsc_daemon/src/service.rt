@@ -1,3 +1,4 @@
+// `daemon`: the daemon's run, from the opened databases to the images at its end.
 ghost use Rattle.std.specs.Prelude.{◌≡◌, ℕ, OnErr, OnOk, option_map};
 ghost use Rattle.nsc_outside.specs.StreamAt.{stream_out};
 ghost use Rattle.nsc_database.specs.Openings.{brought_in};

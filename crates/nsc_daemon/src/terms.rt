@@ -1,3 +1,4 @@
+// `Terms`: the options of a daemon.
 use nsc_model::Conf;
 use nsc_server::Scopes;
 

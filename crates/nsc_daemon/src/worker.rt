@@ -1,3 +1,4 @@
+// `Worker`: one thread that serves connections, with its passes and its buffer.
 ghost use Rattle.std.specs.Prelude.{IfOk};
 ghost use Rattle.std.specs.Arc.{arc_value};
 ghost use Rattle.nsc_server.specs.Passes.{AreNamed, ArePasses};

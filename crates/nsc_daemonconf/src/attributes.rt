@@ -1,3 +1,4 @@
+// Attributes of nscd.conf(5) by name, and the setting that each attribute changes.
 ghost use Rattle.std.specs.Prelude.{◌≡◌, IfSome};
 ghost use Rattle.std.specs.Option.{option_map};
 ghost use Rattle.nsc_daemonconf.specs.Lines.{attribute_named, daemon_sets, database_sets, service_by_name};

@@ -1,3 +1,4 @@
+// Reading of nscd.conf(5) line by line, up to the first line at fault.
 ghost use Rattle.std.specs.Prelude.{◌≡◌, ◌≤◌, IfOk, length};
 ghost use Rattle.nsc_base.specs.Text.{part, words_of};
 ghost use Rattle.nsc_daemonconf.specs.Lines.{after_line, attribute_does, conf_of, line_does, with_service};

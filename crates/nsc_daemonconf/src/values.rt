@@ -1,3 +1,4 @@
+// Values in nscd.conf(5): yes or no, suggested sizes, and limits of reloads.
 ghost use Rattle.std.specs.Prelude.{◌≡◌, ◌≤◌, IfSome};
 ghost use Rattle.nsc_daemonconf.specs.Lines.{hexadecimal_of, limit_in, reloads_of, size_in, size_of, yes_or_no as yes_or_no_of};
 

@@ -1,3 +1,4 @@
+// Texts of exactly one word or exactly two words, in lines of nscd.conf(5).
 ghost use Rattle.std.specs.Prelude.{◌≡◌, ◌≢◌, ◌∷◌, [], length, MatchOption};
 ghost use Rattle.nsc_base.specs.Text.{words_of};
 

@@ -1,3 +1,4 @@
+-- The definitions of a shared database: its brand, critical sections, lookups and ticks.
 pub mod Rooms
 pub mod Steady
 pub mod Rests

@@ -1,3 +1,4 @@
+// `Database`: one database as a store that many threads call.
 ghost use Rattle.std.specs.Prelude.{◌≡◌};
 
 use crate::base::Base;

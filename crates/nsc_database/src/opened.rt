@@ -1,3 +1,4 @@
+// `Opened`: a database that is opened and that threads do not share yet.
 ghost use Rattle.std.specs.Prelude.{◌≡◌, ◌≤◌, ◌<◌, ◌^◌, [], None, IfOk, IfErr, OnOk, option_map};
 ghost use Rattle.nsc_model.specs.Entry.{kept_limit};
 ghost use Rattle.nsc_model.specs.Settings.{settings_of};

@@ -1,3 +1,4 @@
+// `DbPass`: a caller's pass: reader's handles at the tables, a file set, a reply buffer.
 ghost use Rattle.std.specs.Prelude.{◌≡◌, ◌+◌, ◌≤◌, All, length};
 ghost use Rattle.nsc_model.specs.Entry.{key_limit, kept_limit};
 ghost use Rattle.nsc_model.specs.History.{IsFit, IsPrefix, Legal};

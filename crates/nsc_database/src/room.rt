@@ -1,3 +1,4 @@
+// `Room` and `OfDb`: the brand of a group of databases, and the name of each database.
 use std::marker::Brand;
 
 /// Names the words of each database, their configuration, the files that their file sets tell, and the reloads that images brought back.

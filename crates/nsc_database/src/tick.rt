@@ -1,3 +1,4 @@
+// The tick of a database: the poll, an invalidation, or the expiry and reload of entries.
 ghost use Rattle.std.specs.Prelude.{◌≡◌, ◌<◌, ◌≤◌, ◌⊎◌, ◌^◌, All, map, IsOk, IfOk, IfErr, IfSome, OnOk};
 ghost use Rattle.std.specs.Bool.{OnFalse, OnTrue};
 ghost use Rattle.nsc_model.specs.History.{NoneLive, invalidations};

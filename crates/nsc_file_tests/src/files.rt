@@ -1,3 +1,4 @@
+// The test of configuration files in a set of files in memory.
 use nsc_base::Bytes;
 use nsc_outside::{FileSet, MemFiles};
 use std::test::Fail;

@@ -1,3 +1,4 @@
+// Tests of streams in memory, and of a sink over a writer of the standard library.
 use nsc_outside::{Failed, MemSink, MemSource, Sink, StdSink, fill, write_all};
 use std::test::Fail;
 

@@ -1,3 +1,4 @@
+// Lookups of groups over the text of a group file: by name, by id, and of a user's groups.
 ghost use Rattle.std.specs.Prelude.{◌≡◌, IfOk, Some};
 ghost use Rattle.nsc_model.specs.Answers.{file_entry, file_ids, found_ids, group_named, group_numbered};
 ghost use Rattle.nsc_model.specs.Files.{file_of};

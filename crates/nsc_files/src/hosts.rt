@@ -1,3 +1,4 @@
+// Lookups of hosts over the text of a hosts file: by name, by address, and all addresses.
 ghost use Rattle.std.specs.Prelude.{◌≡◌, IfOk, Some};
 ghost use Rattle.nsc_model.specs.Answers.{file_addresses, file_entry};
 ghost use Rattle.nsc_model.specs.Files.{file_of};

@@ -1,3 +1,4 @@
+// The outcomes of the services `files` and `extrausers` for a request of any kind.
 ghost use Rattle.std.specs.Prelude.{◌≡◌, IfOk};
 ghost use Rattle.nsc_model.specs.declared.switch.SwitchService.TheVariants.{Files, Extrausers};
 ghost use Rattle.nsc_model.specs.Answers.{answer_by, service_answer};

@@ -1,3 +1,4 @@
+// Lookups of services over the text of a services file: by name and by port.
 ghost use Rattle.std.specs.Prelude.{◌≡◌, IfOk, Some};
 ghost use Rattle.nsc_model.specs.Answers.{file_entry, key_named, key_ported};
 ghost use Rattle.nsc_model.specs.Files.{file_of};

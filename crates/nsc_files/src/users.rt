@@ -1,3 +1,4 @@
+// Lookups of users over the text of a passwd file: by name and by user id.
 ghost use Rattle.std.specs.Prelude.{◌≡◌, IfOk, Some};
 ghost use Rattle.nsc_model.specs.Answers.{file_entry, user_named, user_numbered};
 ghost use Rattle.nsc_model.specs.Files.{file_of};

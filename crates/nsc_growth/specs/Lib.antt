@@ -1,2 +1,3 @@
+-- The definitions of a table's growth: layouts, and layouts doubled.
 pub mod Doubled
 pub mod Sized

@@ -1,3 +1,4 @@
+// `Doubling`: the next layout of a table that grows, within a limit in bytes.
 ghost use Rattle.std.specs.Prelude.{◌≡◌, ◌+◌, ◌<◌, ◌≤◌, ◌^◌, ◌↔◌, IsTrue};
 ghost use Rattle.nsc_words.specs.Layout.{IsLayout};
 ghost use Rattle.nsc_growth.specs.Doubled.{Fits, IsNext, doubled};

@@ -1,3 +1,4 @@
+-- The definitions of images: versions, layout, faults, and how images are made and restored.
 pub mod Versions
 pub mod Reading
 pub mod Layout

@@ -1,3 +1,4 @@
+-- The definitions of indexes: names, numbers, chains, and the index of each file.
 pub mod Indexes
 pub mod Names
 pub mod Numbers

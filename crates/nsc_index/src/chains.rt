@@ -1,3 +1,4 @@
+// `Chains`: the numbers of lines in hash buckets, each bucket a chain of rows.
 ghost use Rattle.std.specs.Prelude.{◌≡◌, ◌+◌, ◌<◌, ◌≤◌, ◌^◌, ℕ, IfOk, filter, length, map, replicate, slice_index, vec_len};
 ghost use Rattle.nsc_index.specs.Numbers.{has_number};
 ghost use Rattle.nsc_index.specs.Chains.{AreHeads, AreNexts, bucket};

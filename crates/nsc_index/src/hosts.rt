@@ -1,3 +1,4 @@
+// `HostIndex`: the index of a hosts file by name and by address.
 ghost use Rattle.std.specs.Prelude.{◌≡◌, ◌==◌, ◌≤◌, IfOk, IfSome, filter, length};
 ghost use Rattle.std.specs.Option.{option_map};
 ghost use Rattle.nsc_model.specs.Answers.{addresses_of};

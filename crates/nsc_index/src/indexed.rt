@@ -1,3 +1,4 @@
+// `Indexed`: answers by a search at first, and by indexes of a content prepared further.
 ghost use Rattle.std.specs.Prelude.{◌≡◌, IfOk};
 ghost use Rattle.std.specs.Arc.{arc_value};
 ghost use Rattle.nsc_model.specs.Answers.{looked_up};

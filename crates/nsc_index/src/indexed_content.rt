@@ -1,3 +1,4 @@
+// `IndexedContent`: a content with its service lists and the indexes of its files.
 ghost use Rattle.std.specs.Arc.{arc_value};
 
 use crate::groups::GroupIndex;

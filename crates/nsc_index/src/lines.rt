@@ -1,3 +1,4 @@
+// Lines of a text to be indexed: the next line, and the line at a place.
 ghost use Rattle.std.specs.Prelude.{◌≡◌, ◌≤◌, ◌↔◌, IfSome, IsNone, length};
 ghost use Rattle.nsc_base.specs.Text.{IsLine, line_spans};
 ghost use Rattle.nsc_model.specs.Entries.{first_of};

@@ -1,3 +1,4 @@
+// `ServiceIndex`: the index of a services file by name and by port.
 ghost use Rattle.std.specs.Prelude.{◌≡◌, ◌≤◌, IfOk, IfSome, length};
 ghost use Rattle.std.specs.Option.{option_map};
 ghost use Rattle.nsc_model.specs.Entries.{first_named, if_named};

@@ -1,3 +1,4 @@
+// `UserIndex`: the index of a passwd file by name, user id and sign.
 ghost use Rattle.std.specs.Prelude.{◌≡◌, ◌==◌, ◌≤◌, IfOk, IfSome, filter, length, true};
 ghost use Rattle.std.specs.List.{filter_map};
 ghost use Rattle.std.specs.Option.{is_some, option_map};

@@ -1,3 +1,4 @@
+// Words of a part of a line, added to the names of an index.
 ghost use Rattle.std.specs.Prelude.{◌≡◌, ◌≤◌, ◌<◌, ◌^◌, ◌++◌, OnOk, length};
 ghost use Rattle.nsc_index.specs.Names.{words_at};
 

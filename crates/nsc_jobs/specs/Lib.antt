@@ -1,1 +1,2 @@
+-- The definitions of a job list and of its workers.
 pub mod Jobs

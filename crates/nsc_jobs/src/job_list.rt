@@ -1,3 +1,4 @@
+// `JobList`: the list of jobs between one thread that puts and workers that take.
 use crate::queue::{Next, Queue};
 use nsc_base::NoMemory;
 use nsc_yields::Yields;

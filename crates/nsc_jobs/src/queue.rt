@@ -1,3 +1,4 @@
+// `Queue`: the jobs of a list in order, and what a worker does next.
 ghost use Rattle.std.specs.Prelude.{◌≡◌, ◌<◌, [], ◌↔◌, ◌-◌, IsTrue, length, false, true, if◌then◌else◌, IfOk, OnErr};
 ghost use Rattle.std.specs.Duration.{as_nanos};
 ghost use Rattle.nsc_jobs.specs.Jobs.{DoesNext, HasGone, HasNoWorker, IsWorkerWanted, Puts};

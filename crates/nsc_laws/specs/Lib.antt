@@ -1,3 +1,4 @@
+-- The definitions of the laws: the core of a database, whole runs, replays and switches.
 pub mod Core
 pub mod Calls
 pub mod Reloading

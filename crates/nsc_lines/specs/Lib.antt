@@ -1,1 +1,2 @@
+-- The definitions of the list of lines for standard error.
 pub mod Backlog

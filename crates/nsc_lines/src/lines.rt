@@ -1,3 +1,4 @@
+// `Lines`: a handle on the lines for standard error, and the thread that writes the lines.
 use crate::backlog::{Backlog, Entry, LINE_LIMIT};
 use nsc_base::NoMemory;
 use std::alloc::Global;

@@ -1,3 +1,4 @@
+// `Load`: hits, misses, ticks and compactions of a database of users, for their time.
 ghost use Rattle.std.specs.Prelude.{◌<◌, ◌*◌, ◌^◌};
 
 use nsc_base::NoMemory;

@@ -1,3 +1,4 @@
+// `Mode`: the load or the searches that the program's words ask for, and the settings.
 ghost use Rattle.std.specs.Prelude.{◌≡◌};
 ghost use Rattle.nsc_model.specs.declared.kind.Db.TheVariants as db;
 ghost use Rattle.nsc_model.specs.Sizes.{SizeFits};

@@ -1,3 +1,4 @@
+// The passwd file with a mode's users, and the run of the mode over that file.
 use crate::mode::Mode;
 use crate::opening::done;
 use crate::reads::Took;

@@ -1,3 +1,4 @@
+-- The definitions of a name service: contents, answers, histories, the machine and images.
 pub mod Kinds
 pub mod Held
 pub mod Content

@@ -1,3 +1,4 @@
+// `Request` and `Answer`: the kind and key of a lookup, and the bytes of a reply.
 use crate::kind::Kind;
 use nsc_base::Bytes;
 use std::marker::Model;

@@ -1,3 +1,4 @@
+// `Answerer`: the trait of values that answer requests over a content.
 ghost use Rattle.std.specs.Prelude.{◌≡◌, ◌≤◌, IfOk, IfSome, length};
 ghost use Rattle.std.specs.Arc.{arc_value};
 ghost use Rattle.nsc_model.specs.Content.{Content};

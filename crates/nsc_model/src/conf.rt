@@ -1,3 +1,4 @@
+// `Conf` and `DbConf`: the settings of nscd.conf(5) and their defaults.
 ghost use Rattle.std.specs.Prelude.{◌≡◌, ◌<◌, ◌^◌};
 ghost use Rattle.nsc_model.specs.Machine.{is_outdated, life_of, room_of};
 ghost use Rattle.nsc_model.specs.Settings.{cached_for, default_settings, settings_of};

@@ -1,3 +1,4 @@
+// `Databases`: one value for each of the four databases.
 use crate::kind::Db;
 
 /// One value for each database.
