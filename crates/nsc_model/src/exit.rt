@@ -1,3 +1,4 @@
+// `Exit`: how the program ends, its status, and its text for standard error.
 ghost use Rattle.std.specs.Prelude.{◌≡◌};
 ghost use Rattle.nsc_model.specs.declared.exit.Exit.TheVariants.{BadConf, NoMemory as Memory};
 

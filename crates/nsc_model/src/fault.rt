@@ -1,3 +1,4 @@
+// `CacheFault`: why a call of a cache, or an invalidation, gave up.
 ghost use Rattle.std.specs.Prelude.{◌≡◌};
 ghost use Rattle.nsc_model.specs.declared.fault.CacheFault.TheVariants.{NoMemory as Memory};
 

@@ -1,3 +1,4 @@
+// Databases, kinds of requests, layouts of replies and source files, with their numbers.
 ghost use Rattle.std.specs.Prelude.{◌≡◌};
 ghost use Rattle.nsc_model.specs.Files.{is_read};
 ghost use Rattle.nsc_model.specs.Kinds.{database_of, db_named, db_numbered, name_of, file_numbered, file_number, kind_numbered, type_number};

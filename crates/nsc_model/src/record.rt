@@ -1,3 +1,4 @@
+// `Entry` and `Record`: an entry of a cache, and a record of a database's history.
 use crate::answer::{Answer, Request};
 use crate::content::Content;
 use std::marker::Model;

@@ -1,3 +1,4 @@
+// Rows of users, groups, hosts and services; outcomes of lookups; what replies say.
 ghost use Rattle.std.specs.Prelude.{◌≡◌, ◌==◌, length};
 
 use nsc_base::{Bytes, Ids, Texts};

@@ -1,3 +1,4 @@
+// Keys of requests for services: the name or the port, and the protocol.
 ghost use Rattle.std.specs.Prelude.{◌≡◌};
 ghost use Rattle.std.specs.Option.{option_map};
 ghost use Rattle.nsc_model.specs.ServiceLines.{ServiceKey, exchanged, port_of, service_key};

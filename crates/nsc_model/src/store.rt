@@ -1,3 +1,4 @@
+// `Store`: the trait of one database for many threads; its results, faults and statistics.
 ghost use Rattle.std.specs.Prelude.{◌≡◌, ◌⊎◌, ◌+◌, ◌<◌, ◌^◌, ◌≤◌, ℕ, List, Option, IsOk, length, IfOk, IfErr, OnOk};
 ghost use Rattle.std.specs.Bool.{OnFalse, OnTrue};
 ghost use Rattle.nsc_model.specs.declared.kind.Db.{Db};

@@ -1,3 +1,4 @@
+// Service lists of nsswitch.conf(5): the lists' names, services, actions and steps.
 ghost use Rattle.std.specs.Prelude.{◌≡◌};
 ghost use Rattle.nsc_model.specs.Services.{plain_step};
 

@@ -1,3 +1,4 @@
+// Lookups in hosts(5) by name and by address, and in services(5) by name and by port.
 ghost use Rattle.std.specs.Prelude.{◌≡◌, ◌≢◌, ◌↔◌, ◌+◌, ◌*◌, ◌<◌, ◌≤◌, ◌||◌, ◌∷◌, ◌++◌, [], decimal, drop, false, length, not, slice_index, slice_range, IfSome, IsTrue};
 ghost use Rattle.std.specs.Fmt.{digit_glyph, digits};
 ghost use Rattle.std.specs.Option.{option_map};

@@ -1,3 +1,4 @@
+// Lines of hosts(5): the address of an entry, and the places of its names.
 ghost use Rattle.std.specs.Prelude.{◌≡◌, ◌≤◌, ◌∷◌, false, drop, length, replicate, take, IfSome};
 ghost use Rattle.std.specs.Option.{option_map, option_map_or};
 ghost use Rattle.std.specs.Str.{bytes_eq};

@@ -1,3 +1,4 @@
+// Rows of hosts and services: copies of the texts of an entry of hosts(5) or services(5).
 ghost use Rattle.std.specs.Prelude.{◌≡◌, ◌≤◌, length, IfOk};
 ghost use Rattle.nsc_base.specs.Text.{part, words_of};
 ghost use Rattle.nsc_nets.specs.Hosts.{HostLiesIn, host_at};

@@ -1,3 +1,4 @@
+// Lines of services(5): the port of an entry, and the places of its names and protocol.
 ghost use Rattle.std.specs.Prelude.{◌≡◌, ◌≤◌, ◌∷◌, length, IfSome};
 ghost use Rattle.std.specs.Option.{option_map};
 ghost use Rattle.nsc_base.specs.Text.{LiesIn, part, word_spans};

@@ -1,3 +1,4 @@
+// Words of a line of hosts(5) or services(5) before its remark, and its names and aliases.
 ghost use Rattle.std.specs.Prelude.{◌≡◌, ◌≤◌, ◌∷◌, length, IfSome};
 ghost use Rattle.std.specs.List.{list_any};
 ghost use Rattle.std.specs.Option.{option_map};

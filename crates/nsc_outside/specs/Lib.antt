@@ -1,3 +1,4 @@
+-- The definitions of the outside: streams, sets of files, stores of images, and faults.
 pub mod Stream
 pub mod StreamAt
 pub mod StdStream

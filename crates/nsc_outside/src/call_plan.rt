@@ -1,3 +1,4 @@
+// `CallPlan`: how many bytes a call of a stream in memory moves, and which calls fail.
 ghost use Rattle.std.specs.Prelude.{◌≡◌, ◌<◌, ◌≤◌, [], OnOk, OnErr, is_err};
 ghost use Rattle.nsc_model.specs.Reads.{greatest, Rose};
 ghost use Rattle.nsc_outside.specs.CallPlan.{CallPlan, is_next_failing, after_call, after_fault};

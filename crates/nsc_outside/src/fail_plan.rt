@@ -1,3 +1,4 @@
+// `FailPlan`: which calls of one kind fail, by their numbers.
 ghost use Rattle.std.specs.Prelude.{◌≡◌};
 ghost use Rattle.nsc_outside.specs.FailPlan.{next_fails, no_failing, one_more};
 

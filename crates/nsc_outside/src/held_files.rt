@@ -1,3 +1,4 @@
+// `HeldFiles`: a set of files in memory that changes at a flag, and whose reads may wait.
 ghost use Rattle.std.specs.Prelude.{◌≡◌, None, Some, IfOk, IfErr, OnOk, OnErr, IsSomeAnd, false, []};
 ghost use Rattle.std.specs.Option.{option_copied};
 ghost use Rattle.nsc_model.specs.Files.{FileFits, file_of};

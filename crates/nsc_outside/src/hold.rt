@@ -1,3 +1,4 @@
+// `Hold`: which reads of `HeldFiles` wait, and until when.
 ghost use Rattle.std.specs.Prelude.{◌≡◌, [], IfOk, is_err};
 ghost use Rattle.std.specs.Option.{option_map};
 ghost use Rattle.nsc_outside.specs.Hold.{shared_gate, Meets, MeetsAny};

@@ -1,3 +1,4 @@
+// Paths of images in a folder: of a database's image, and of the image before its rename.
 ghost use Rattle.std.specs.Prelude.{◌≡◌, IfOk, string_bytes};
 ghost use Rattle.nsc_outside.specs.ImageStores.{image_name, new_name, path_in};
 

@@ -1,3 +1,4 @@
+// `ImageTally`: the counts of a store of images: faults, puts and failed puts.
 ghost use Rattle.std.specs.Prelude.{◌≡◌};
 ghost use Rattle.nsc_model.specs.Reads.{Rose};
 ghost use Rattle.nsc_outside.specs.FileSets.{RoseBy};

@@ -1,3 +1,4 @@
+// `ImageStore`: the trait of stores of the databases' images.
 ghost use Rattle.std.specs.Prelude.{◌≡◌, ℕ, List, Option, IfOk, IfErr, OnOk, OnErr};
 ghost use Rattle.nsc_model.specs.Reads.{IsAsTold, Rose};
 ghost use Rattle.nsc_model.specs.declared.kind.Db.{Db};

@@ -1,3 +1,4 @@
+// `MemImages`: a store of images in memory, with planned failures of gets and puts.
 ghost use Rattle.std.specs.Prelude.{◌≡◌, length, nat_lt, not, false, Some, ◌||◌, IfOk, IfErr, OnOk, OnErr, is_err};
 ghost use Rattle.std.specs.Bool.{OnTrue, OnFalse};
 ghost use Rattle.std.specs.Option.{option_copied};

@@ -1,3 +1,4 @@
+// `MemSink`: a sink in memory of a fixed capacity, with planned failures of calls.
 ghost use Rattle.std.specs.Prelude.{◌≡◌, ◌-◌, ◌<◌, ◌≤◌, [], length, min, nat_lt, take, ◌||◌, IfOk, OnOk, OnErr, is_err};
 ghost use Rattle.nsc_outside.specs.Stream.{Grows};
 ghost use Rattle.nsc_model.specs.Reads.{Rose};

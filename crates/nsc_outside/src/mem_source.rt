@@ -1,3 +1,4 @@
+// `MemSource`: a source over bytes in memory, with planned failures of calls.
 ghost use Rattle.std.specs.Prelude.{◌≡◌, ◌<◌, ◌≤◌, [], length, min, take, IfOk, OnOk, OnErr, is_err};
 ghost use Rattle.nsc_outside.specs.Stream.{Moves, IsAhead, IsDrained};
 ghost use Rattle.nsc_model.specs.Reads.{Rose};

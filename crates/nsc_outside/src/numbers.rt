@@ -1,3 +1,4 @@
+// `Numbering`: the numbers of reads, drawn together by sets of files split from one set.
 ghost use Rattle.std.specs.Prelude.{◌≡◌, ◌%◌, ◌^◌, [], IfOk};
 ghost use Rattle.nsc_outside.specs.Numbers.{Draws};
 

@@ -1,3 +1,4 @@
+// Paths of the source files: on the system, or in a folder.
 ghost use Rattle.std.specs.Prelude.{◌≡◌, IfOk, string_bytes};
 ghost use Rattle.std.specs.Option.{option_copied};
 ghost use Rattle.nsc_outside.specs.FileSets.{system_path, folder_path, path_of};

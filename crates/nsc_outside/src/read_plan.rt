@@ -1,3 +1,4 @@
+// `ReadPlan`: which reads of a set of files fail, by numbers that split sets share.
 ghost use Rattle.std.specs.Prelude.{◌≡◌, [], IfOk, is_err};
 ghost use Rattle.nsc_outside.specs.ReadPlan.{new_plan, FailsAsPlanned};
 

@@ -1,3 +1,4 @@
+// `Release`: a flag that threads share and that is set once.
 ghost use Rattle.std.specs.Prelude.{◌≡◌, true, false, IfOk, IsTrue};
 ghost use Rattle.std.specs.Bool.{OnTrue};
 

@@ -1,3 +1,4 @@
+// `Shared`: the bytes of a file that several sets of files hold, and copies of files.
 ghost use Rattle.std.specs.Prelude.{◌≡◌, ◌≢◌, Some, IfOk, IfErr};
 ghost use Rattle.std.specs.Option.{option_copied};
 ghost use Rattle.nsc_model.specs.Files.{FileFits};

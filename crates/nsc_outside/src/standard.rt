@@ -1,3 +1,4 @@
+// `StdSource` and `StdSink`: streams over readers and writers of the standard library.
 ghost use Rattle.std.specs.Prelude.{◌≡◌, ◌<◌, ◌≤◌, length, take, IfOk, OnOk, OnErr};
 ghost use Rattle.std.specs.Io.KnownBytes.{Keeps, Consumes, Appends, IsAtEnd};
 ghost use Rattle.nsc_model.specs.Reads.{Rose};

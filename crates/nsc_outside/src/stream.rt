@@ -1,3 +1,4 @@
+// `Source` and `Sink`: the traits of streams of bytes.
 ghost use Rattle.std.specs.Prelude.{◌≡◌, ℕ, ◌<◌, ◌≤◌, List, Option, length, take, IfOk, OnOk, OnErr};
 ghost use Rattle.nsc_outside.specs.Stream.{Moves, IsAhead, IsDrained, Grows};
 ghost use Rattle.nsc_model.specs.Reads.{Rose};

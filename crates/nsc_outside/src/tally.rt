@@ -1,3 +1,4 @@
+// `Tally`: the counts of a set of files: faults and reads.
 ghost use Rattle.std.specs.Prelude.{◌≡◌};
 ghost use Rattle.nsc_model.specs.Reads.{Rose};
 ghost use Rattle.nsc_outside.specs.FileSets.{RoseBy, ChangesOnly};

@@ -1,3 +1,4 @@
+// Filling of a buffer from a source, and writing of all bytes to a sink.
 ghost use Rattle.std.specs.Prelude.{◌≡◌, ◌<◌, ◌≤◌, length, take, IfOk, OnOk, OnErr};
 ghost use Rattle.nsc_outside.specs.Stream.{Moves, MovesFewer, IsDrained, Grows, GrowsByFront};
 ghost use Rattle.nsc_model.specs.Reads.{Rose};

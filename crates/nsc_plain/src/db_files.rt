@@ -1,3 +1,4 @@
+// `DbFiles`: the files that a database reads, polled or not, and prepared for answers.
 ghost use Rattle.std.specs.Prelude.{◌≡◌, true, false, IfOk};
 ghost use Rattle.std.specs.Arc.{arc_value};
 ghost use Rattle.nsc_model.specs.Answers.{answer_of};

@@ -1,3 +1,4 @@
+// Entries in a list: the entry of a request, the end of due entries, and the words in use.
 ghost use Rattle.std.specs.Prelude.{◌≡◌, ◌<◌, ◌^◌, position};
 ghost use Rattle.std.specs.Vec.{vec_capacity};
 ghost use Rattle.nsc_model.specs.Kinds.{is_request};

@@ -1,3 +1,4 @@
+// `Kept`: a live entry with its count of reloads without a use.
 ghost use Rattle.std.specs.Prelude.{◌≡◌};
 ghost use Rattle.nsc_model.specs.Kinds.{is_request};
 ghost use Rattle.nsc_model.specs.Machine.{entry_words, is_due, is_dropped, next_count};

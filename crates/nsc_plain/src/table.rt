@@ -1,3 +1,4 @@
+// `EntryList`: the live entries of a plain cache, from the oldest on.
 ghost use Rattle.std.specs.Prelude.{◌≡◌, ◌≤◌, ◌<◌, ◌+◌, ◌^◌, [], ◌∷◌, None, find, length, IfOk, IfErr, IfSome, OnOk, OnErr};
 ghost use Rattle.nsc_model.specs.declared.answer.Request.{Request};
 ghost use Rattle.nsc_model.specs.Kinds.{is_request};

@@ -1,1 +1,2 @@
+-- The definitions of the expiry of entries.
 pub mod Due

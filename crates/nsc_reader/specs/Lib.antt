@@ -1,1 +1,2 @@
+-- The definitions of searches without a lock.
 pub mod Stages

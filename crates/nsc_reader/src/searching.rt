@@ -1,3 +1,4 @@
+// `search` and `seek`: whole searches without a lock.
 ghost use Rattle.std.specs.Prelude.{◌≡◌, ◌+◌, ◌≤◌, Some, length};
 ghost use Rattle.atomic_table.specs.Seated.{TableId};
 ghost use Rattle.nsc_model.specs.Entry.{key_limit, kept_limit};

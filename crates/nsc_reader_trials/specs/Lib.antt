@@ -1,1 +1,2 @@
+-- The definitions of the trials of readers.
 pub mod First

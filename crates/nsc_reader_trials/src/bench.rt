@@ -1,3 +1,4 @@
+// `Bench`: a writer of a database of users, and the files of its answers.
 ghost use Rattle.std.specs.Prelude.{◌≡◌, None};
 ghost use Rattle.nsc_words.specs.Layout.{IsLayout};
 

@@ -1,3 +1,4 @@
+// `Caller`: a caller that searches in place while the writer's table grows.
 ghost use Rattle.std.specs.Prelude.{◌≡◌, ◌≤◌, None, IfOk, length};
 ghost use Rattle.nsc_model.specs.Entry.{key_limit};
 ghost use Rattle.nsc_seats.specs.Tables.{IsChain};

@@ -1,3 +1,4 @@
+// The names of the trials' users, and the content of each version.
 ghost use Rattle.std.specs.Prelude.{◌≡◌, length};
 
 // The users of the trials.

@@ -1,3 +1,4 @@
+// Polls and insertions by a writer, for a user or for a key.
 ghost use Rattle.std.specs.Prelude.{◌≡◌, ◌≤◌, None, length};
 ghost use Rattle.nsc_model.specs.Entry.{key_limit};
 

@@ -1,3 +1,4 @@
+// `Lookout`: a reader that makes whole searches.
 ghost use Rattle.std.specs.Prelude.{◌≡◌};
 
 use crate::files::name_of;

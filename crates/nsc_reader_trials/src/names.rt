@@ -1,3 +1,4 @@
+// Names for the trials of growth: users, and names that the files do not have.
 ghost use Rattle.std.specs.Prelude.{◌≡◌, length};
 
 // The names that are looked up where a table grows.

@@ -1,3 +1,4 @@
+// `Reader`: a reader of one request, whose search goes step by step.
 ghost use Rattle.std.specs.Prelude.{◌≡◌, ◌≤◌, length};
 ghost use Rattle.nsc_model.specs.Entry.{key_limit};
 

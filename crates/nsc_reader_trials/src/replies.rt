@@ -1,3 +1,4 @@
+// `Replies`: the contents of the files by version, with the reply for each user.
 use crate::files::{CONTENTS, USERS, files_of, name_of};
 use nsc_answer::Plain;
 use nsc_base::{Bytes, NoMemory, equal};

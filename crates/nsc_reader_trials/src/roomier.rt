@@ -1,3 +1,4 @@
+// The layout of a larger table for a writer's live entries and more words.
 ghost use Rattle.std.specs.Prelude.{◌≡◌, None, IfSome};
 ghost use Rattle.nsc_reader_trials.specs.First.{HoldsAll};
 

@@ -1,3 +1,4 @@
+// `Told`: the replies over one content for users and for absent names.
 use crate::names::{USERS, absent_name, user_name};
 use nsc_answer::Plain;
 use nsc_base::{Bytes, NoMemory, equal};

@@ -1,3 +1,4 @@
+-- The definitions of replays: frames, databases, the machine, streams and runs.
 pub mod Frame
 pub mod Cached
 pub mod Parts
