@@ -1,3 +1,4 @@
+// `Frame`: the frames of a replay, and their sizes.
 use nsc_base::Bytes;
 use nsc_model::{Db, FileId};
 

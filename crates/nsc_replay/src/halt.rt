@@ -1,3 +1,4 @@
+// `Halt`: why no frame was read, and the exit that follows.
 ghost use Rattle.std.specs.Prelude.{◌≡◌};
 ghost use Rattle.nsc_replay.specs.declared.halt.Halt.TheVariants.{ReadFault, NoMemory as Memory};
 

@@ -1,3 +1,4 @@
+// `Machine`: the state of a replay, and its change by one frame.
 ghost use Rattle.std.specs.Prelude.{◌≡◌, ◌≤◌, length, Some, None, IfOk, IfErr, IfSome, OnOk};
 ghost use Rattle.nsc_model.specs.Answer.{reply_limit};
 ghost use Rattle.nsc_model.specs.Files.{FileFits, with_file};

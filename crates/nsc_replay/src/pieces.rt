@@ -1,3 +1,4 @@
+// Pieces of frames, read from a source: numbers, inputs, files and databases.
 ghost use Rattle.std.specs.Prelude.{◌≡◌, ◌≤◌, length, IfOk};
 ghost use Rattle.nsc_model.specs.Kinds.{file_numbered};
 ghost use Rattle.nsc_model.specs.Files.{file_limit, FileFits};

@@ -1,3 +1,4 @@
+// `Prepared`: the files that a database reads in a replay, prepared for answers.
 ghost use Rattle.std.specs.Prelude.{◌≡◌, IfOk};
 ghost use Rattle.std.specs.Arc.{arc_value};
 

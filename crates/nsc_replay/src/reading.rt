@@ -1,3 +1,4 @@
+// Reading of the next frame of a replay.
 ghost use Rattle.std.specs.Prelude.{IfOk};
 ghost use Rattle.nsc_model.specs.Frames.{frame_after, frame_at};
 ghost use Rattle.nsc_replay.specs.Frame.{FrameFits, said};

@@ -1,3 +1,4 @@
+// Writing of a reply after its length.
 ghost use Rattle.std.specs.Prelude.{◌≡◌, ◌≤◌, ◌<◌, ◌^◌, ◌++◌, ◌+◌, length, take, OnOk, OnErr};
 ghost use Rattle.nsc_outside.specs.Stream.{Grows, GrowsByFront};
 ghost use Rattle.nsc_model.specs.Reads.{Rose};

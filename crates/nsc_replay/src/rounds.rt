@@ -1,3 +1,4 @@
+// `replay`: all frames of an input in turn, from the first byte to the exit.
 ghost use Rattle.std.specs.Prelude.{◌≡◌, ◌<◌, IfOk, IfErr, OnOk};
 ghost use Rattle.nsc_model.specs.Exits.{IsExitOf, Replaying};
 ghost use Rattle.nsc_model.specs.Frames.{place_limit};

@@ -1,3 +1,4 @@
+// `Sources`: all files of a replay, whose bytes the databases' contents share.
 ghost use Rattle.std.specs.Prelude.{◌≡◌, unwrap_or, IfOk, OnOk};
 ghost use Rattle.std.specs.Arc.{arc_value};
 ghost use Rattle.std.specs.Option.{option_map};

@@ -1,3 +1,4 @@
+-- The definitions of the shared words: the writer's plan, its steps, readers and searches.
 pub mod Entries
 pub mod Map
 pub mod Plans

@@ -1,3 +1,4 @@
+// `Map`: a handle on the shared words of a database, and the making of new words.
 ghost use Rattle.std.specs.Prelude.{◌≡◌, None, IfOk};
 ghost use Rattle.nsc_words.specs.Layout.{IsLayout, table_words};
 ghost use Rattle.nsc_rule.specs.Plans.{Sound, cycle_of, first_plan, no_nodes};

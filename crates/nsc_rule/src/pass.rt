@@ -1,3 +1,4 @@
+// `Pass`: a reader's handle on the shared words, with its part of the history.
 ghost use Rattle.std.specs.Prelude.{◌≡◌, ◌+◌, ◌⊎◌, All, Some, IsSome, [], ◌∷◌};
 ghost use Rattle.atomic_table.specs.Seated.{TableId};
 ghost use Rattle.nsc_model.specs.History.{IsFit, IsPrefix, Legal};

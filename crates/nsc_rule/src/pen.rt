@@ -1,3 +1,4 @@
+// `Pen`: the one writer's handle on the shared words.
 ghost use Rattle.std.specs.Prelude.{◌≡◌, ℕ, ◌<◌, ◌≤◌, true, [], length, slice_index, slice_set, take};
 ghost use Rattle.nsc_model.specs.History.{IsPrefix};
 ghost use Rattle.nsc_words.specs.Laid.{Laid};

@@ -1,3 +1,4 @@
+-- The definitions of the program's runs: command words, configuration and exits.
 pub mod Exits
 pub mod Lists
 pub mod Named

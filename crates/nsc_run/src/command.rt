@@ -1,3 +1,4 @@
+// `run` and `replay`: the command of the program's words, and the replay of an input.
 ghost use Rattle.std.specs.Prelude.{◌≡◌, IfSome, None};
 ghost use Rattle.nsc_model.specs.Replay.{first_state, replay};
 ghost use Rattle.nsc_model.specs.Sizes.{SizesFit};

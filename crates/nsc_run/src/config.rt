@@ -1,3 +1,4 @@
+// The settings of a configuration file, and the path of a daemon's nscd.conf(5).
 ghost use Rattle.std.specs.Prelude.{◌≡◌, IfOk, IfErr, option_map};
 ghost use Rattle.std.specs.String.{string_bytes};
 ghost use Rattle.nsc_run.specs.Commands.{IsSet, NotSet, conf_path, config_told};

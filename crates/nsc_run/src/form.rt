@@ -1,3 +1,4 @@
+// `Form`: what the command words ask for, made from the options among the words.
 ghost use Rattle.std.specs.Prelude.{◌≡◌, ◌<◌, ◌≤◌, IfSome, option_map, unwrap_or};
 ghost use Rattle.nsc_run.specs.Forms.{ask_form, daemon_form, form_with, has_flag, is_no_service, number_below, options_of, replay_form, run_dir_of, workers_of, workload_form};
 ghost use Rattle.nsc_run.specs.Shown.{CanRun, shown};

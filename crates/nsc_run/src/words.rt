@@ -1,3 +1,4 @@
+// Reading of the command words by the program's options.
 ghost use Rattle.std.specs.Prelude.{◌≡◌, ◌⊎◌, IfOk, IfErr, Some, None, true, false};
 ghost use Rattle.clap.specs.Words.{app_of, found_of, kind_of, matches_of, rows_of, rule_of};
 ghost use Rattle.nsc_run.specs.Commands.{RefusesForm, RefusesWords};

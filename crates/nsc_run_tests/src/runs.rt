@@ -1,3 +1,4 @@
+// Tests of replays over slow and failing streams, of rare exits, and of a workload's readers.
 ghost use Rattle.std.specs.Prelude.{◌<◌};
 
 use nsc_base::NoMemory;

@@ -1,3 +1,4 @@
+// `Left`: the older tables of a writer, and the writer's move to a larger table.
 ghost use Rattle.std.specs.Prelude.{◌≡◌, ◌≤◌, ◌++◌, ◌∷◌, [], None, IfErr, OnOk, OnErr};
 ghost use Rattle.atomic_table.specs.Seated.{TableId};
 ghost use Rattle.nsc_words.specs.Layout.{IsLayout};

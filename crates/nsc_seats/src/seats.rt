@@ -1,3 +1,4 @@
+// `Seats`: a caller's handles at all tables, from the first to the present table.
 ghost use Rattle.std.specs.Prelude.{◌≡◌, ◌+◌, ◌<◌, ◌≤◌, All, IfOk, OnOk, OnErr, None, Some, length, slice_index_or};
 ghost use Rattle.nsc_model.specs.Entry.{key_limit, kept_limit};
 ghost use Rattle.nsc_model.specs.History.{IsFit, IsPrefix, Legal};

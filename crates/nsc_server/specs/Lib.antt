@@ -1,3 +1,4 @@
+-- The definitions of one served connection: requests, scopes, outcomes, replies and jobs.
 pub mod Scopes
 pub mod Requests
 pub mod Passes

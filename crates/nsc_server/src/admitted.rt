@@ -1,3 +1,4 @@
+// Admission of a request by the role of its socket and the scope of its database.
 ghost use Rattle.std.specs.Prelude.{◌≡◌, IfErr, IfOk, None, false, true};
 ghost use Rattle.nsc_model.specs.Kinds.{database_of};
 ghost use Rattle.nsc_server.specs.Admitted.{IsAdmitted, IsNotAdmitted};

@@ -1,3 +1,4 @@
+// The statistics of the four databases, from their stores.
 ghost use Rattle.std.specs.Prelude.{IfOk};
 ghost use Rattle.nsc_server.specs.Outcomes.{AreCounts};
 ghost use Rattle.nsc_server.specs.Passes.{ArePasses, SawMore, passes_at, settings_of};

@@ -1,3 +1,4 @@
+// `RequestBuffer`: a worker's buffer, and the reading of one request.
 ghost use Rattle.std.specs.Prelude.{◌≡◌, ◌+◌, ◌≤◌, [], length, IfOk, OnOk, OnErr};
 ghost use Rattle.nsc_outside.specs.Stream.{Moves, MovesFewer};
 ghost use Rattle.nsc_model.specs.Reads.{Rose};

@@ -1,3 +1,4 @@
+// `Scope`: which lookups of a database are answered, and which are left to the client.
 ghost use Rattle.std.specs.Prelude.{◌≡◌};
 ghost use Rattle.nsc_model.specs.Kinds.{database_of};
 ghost use Rattle.nsc_server.specs.Scopes.{is_left, scope_in, scopes_with, whole};

@@ -1,3 +1,4 @@
+// `serve_one`: one connection, from its request to its reply.
 ghost use Rattle.std.specs.Prelude.{◌≡◌, ◌^◌, ◌<◌, ◌≤◌, ℕ, List, length, IfErr, IfOk};
 ghost use Rattle.std.specs.Bool.{OnFalse, OnTrue};
 ghost use Rattle.nsc_outside.specs.StreamAt.{stream_in, stream_out};

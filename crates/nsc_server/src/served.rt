@@ -1,3 +1,4 @@
+// `Served`: what came of one connection.
 use nsc_base::NoMemory;
 use nsc_model::{CacheFault, FileId, LookupFault};
 

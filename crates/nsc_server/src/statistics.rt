@@ -1,3 +1,4 @@
+// The text that tells the statistics of the four databases.
 ghost use Rattle.std.specs.Prelude.{◌≡◌, ◌++◌, IfOk, OnOk};
 ghost use Rattle.nsc_server.specs.Stats.{counts_text, database_text, ending_text, heading_text, line, stats_text, words_text};
 

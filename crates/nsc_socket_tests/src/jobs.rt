@@ -1,3 +1,4 @@
+// The test of a job list between one thread and two workers.
 use nsc_jobs::JobList;
 use std::sync::atomic::AtomicU64;
 use std::sync::{Arc, Wait};

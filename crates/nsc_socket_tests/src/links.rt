@@ -1,3 +1,4 @@
+// The test of a link over a socket: one reply, and then a failure.
 use nsc_base::Bytes;
 use nsc_client::{Link, LinkFault, SocketLink};
 use nsc_model::Kind;

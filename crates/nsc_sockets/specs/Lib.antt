@@ -1,3 +1,4 @@
+-- The definitions of clocks, listeners, connections, socket modes and whole lines.
 pub mod Adapters
 pub mod Connections
 pub mod MemClock

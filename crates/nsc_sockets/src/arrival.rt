@@ -1,3 +1,4 @@
+// `Arrival` and `Peer`: the connections to a listener in memory, and the peers of its own.
 use crate::role::Role;
 use crate::shared_sink::SharedSink;
 use nsc_base::Bytes;

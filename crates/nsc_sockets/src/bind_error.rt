@@ -1,3 +1,4 @@
+// `BindError`: why a socket could not be bound, and the path at fault.
 use std::alloc::AllocError;
 use std::io;
 

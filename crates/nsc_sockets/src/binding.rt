@@ -1,3 +1,4 @@
+// Binding of a socket at a path, with the mode of its role.
 ghost use Rattle.std.specs.Prelude.{◌≡◌};
 ghost use Rattle.nsc_sockets.specs.Modes.{mode_of};
 

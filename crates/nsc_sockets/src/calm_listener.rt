@@ -1,3 +1,4 @@
+// `CalmListener`: a listener without arrivals, which connects to peers in memory.
 ghost use Rattle.std.specs.Prelude.{◌≡◌, ◌≤◌, ◌<◌, drop, length, slice_get, is_err, is_none, Some, IfOk, IfErr, OnOk, OnErr};
 ghost use Rattle.nsc_model.specs.Reads.{Rose};
 ghost use Rattle.nsc_outside.specs.CallPlan.{risen};

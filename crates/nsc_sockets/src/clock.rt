@@ -1,3 +1,4 @@
+// `Clock`: the trait of moments in whole seconds.
 ghost use Rattle.std.specs.Prelude.{◌≡◌, ◌<◌, ◌≤◌, ◌^◌, ℕ};
 
 /// Moments, in whole seconds.

@@ -1,3 +1,4 @@
+// `Guest`: a pending connection, and the peek at the bytes that its peer has sent.
 ghost use Rattle.std.specs.Prelude.{◌≤◌, length, IfSome};
 
 use crate::lease::Lease;

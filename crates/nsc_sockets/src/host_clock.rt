@@ -1,3 +1,4 @@
+// `HostClock`: the system's clock in whole seconds since 1970.
 ghost use Rattle.std.specs.Prelude.{◌≡◌, ◌^◌, ◌<◌, ◌≤◌};
 
 use crate::clock::Clock;

@@ -1,3 +1,4 @@
+// `Lease`: the return of a connection of the gate from a worker to its pending slot.
 use crate::departure::{Departure, Taking};
 use crate::peer::Peer;
 use mio::Registry;

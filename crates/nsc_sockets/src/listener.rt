@@ -1,3 +1,4 @@
+// `Listener`: the trait of sockets that accept connections or make connections.
 ghost use Rattle.std.specs.Prelude.{◌≡◌, ℕ, List, Option, IfOk, OnOk, OnErr};
 ghost use Rattle.nsc_model.specs.Reads.{Rose};
 ghost use Rattle.nsc_sockets.specs.Connections.{BindsOne, Connection, Gives, IsPeer, Socket};

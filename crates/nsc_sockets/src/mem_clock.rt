@@ -1,3 +1,4 @@
+// `MemClock`: a clock in memory, whose moments follow at a fixed step.
 ghost use Rattle.std.specs.Prelude.{◌≡◌, ◌<◌, ◌≤◌, ◌^◌};
 ghost use Rattle.nsc_sockets.specs.MemClock.{MemClock, clock_from, after_telling};
 

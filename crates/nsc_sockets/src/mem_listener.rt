@@ -1,3 +1,4 @@
+// `MemListener`: a listener in memory, with arrivals and peers given beforehand.
 ghost use Rattle.std.specs.Prelude.{◌≡◌, ◌∷◌, ◌<◌, ◌≤◌, [], drop, reverse, vec_len, slice_get, false, ◌+◌, is_err, is_none, option_map, None, Some, Ok, IfOk, IfErr, OnOk, OnErr, IfSome};
 ghost use Rattle.std.specs.Vec.{vec_capacity};
 ghost use Rattle.nsc_model.specs.Reads.{Rose};

@@ -1,3 +1,4 @@
+// `NoDeparture`: the type of jobs for closers of a listener in memory, which has none.
 use nsc_closers::Closing;
 use std::alloc::Global;
 use std::fs::File;

@@ -1,3 +1,4 @@
+// `Pace`: how closely connections follow one another, and when the next sweep is due.
 use std::time::Duration;
 
 // Connections are near each other where so much time at most lies between two, in microseconds.

@@ -1,3 +1,4 @@
+// `Peer`: a handle on a connection to another process, and the hand-over to closers.
 use crate::departure::Departure;
 use crate::stream::Stream;
 use nsc_base::NoMemory;

@@ -1,3 +1,4 @@
+// `PeerSource`: the bytes that a peer in memory sends.
 ghost use Rattle.std.specs.Prelude.{◌≡◌, ◌<◌, ◌≤◌, length, min, take, Some, IfOk, IfErr, OnOk, OnErr};
 ghost use Rattle.nsc_outside.specs.Stream.{Moves, IsDrained};
 ghost use Rattle.nsc_model.specs.Reads.{Rose};

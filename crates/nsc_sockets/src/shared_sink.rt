@@ -1,3 +1,4 @@
+// `SharedSink`: a sink in memory, whose bytes other threads read.
 ghost use Rattle.std.specs.Prelude.{◌≡◌, ◌-◌, ◌≤◌, ◌<◌, length, vec_len, nat_lt, is_err, None, Some, IfOk, OnOk, OnErr};
 ghost use Rattle.nsc_model.specs.Reads.{Rose};
 ghost use Rattle.nsc_outside.specs.CallPlan.{risen};

@@ -1,3 +1,4 @@
+// `UnixInput`: the bytes that a peer sends over a socket of the system.
 ghost use Rattle.std.specs.Prelude.{◌≡◌, ◌≤◌, length, IfOk, OnOk, OnErr};
 ghost use Rattle.nsc_model.specs.Reads.{Rose};
 

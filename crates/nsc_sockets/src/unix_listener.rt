@@ -1,3 +1,4 @@
+// `UnixListener`: the listener over sockets of the system at paths.
 ghost use Rattle.std.specs.Prelude.{◌≡◌, None, OnOk, OnErr, IfOk};
 ghost use Rattle.nsc_model.specs.Reads.{Rose};
 

@@ -1,3 +1,4 @@
+// `UnixOutput`: the bytes that a peer is sent over a socket, and the waits for a slow peer.
 ghost use Rattle.std.specs.Prelude.{◌≡◌, ◌<◌, ◌≤◌, length, IfOk, OnOk, OnErr};
 ghost use Rattle.nsc_model.specs.Reads.{Rose};
 

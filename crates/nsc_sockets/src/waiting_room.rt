@@ -1,3 +1,4 @@
+// `WaitingRoom`: the pending set: connections that cannot be served yet, and their slots.
 use crate::guest::{Glance, Guest, ReadyGuest, nanoseconds};
 use crate::shares::Places;
 use mio::unix::SourceFd;

@@ -1,3 +1,4 @@
+// `SourceBook`: the newest content of a database, and the fetch and poll of its files.
 ghost use Rattle.std.specs.Prelude.{◌≡◌, ◌≤◌, ◌∷◌, [], None, Some, IfOk, IfErr, IfSome, MatchResult, OnOk, OnErr};
 ghost use Rattle.std.specs.Bool.{OnTrue, OnFalse};
 ghost use Rattle.std.specs.Arc.{arc_value};

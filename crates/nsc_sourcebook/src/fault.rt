@@ -1,3 +1,4 @@
+// `PollFault`: why the files of a database gave no version.
 ghost use Rattle.std.specs.Prelude.{◌≡◌};
 ghost use Rattle.nsc_sourcebook.specs.Faults.{fault_of, lookup_fault};
 ghost use Rattle.nsc_sourcebook.specs.declared.fault.PollFault.TheVariants.{NoMemory as Memory};

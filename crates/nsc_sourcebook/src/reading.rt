@@ -1,3 +1,4 @@
+// Reading of the files of a database into a content.
 ghost use Rattle.std.specs.Prelude.{◌≡◌, true, IfOk, IfErr, OnOk};
 ghost use Rattle.nsc_model.specs.Files.{FileFits, file_of, is_read, part_of};
 ghost use Rattle.nsc_model.specs.Reads.{IsAsTold, Rose};

@@ -1,3 +1,4 @@
+// `decide`: the services of a list asked in turn, by the action at each status.
 ghost use Rattle.std.specs.Prelude.{◌≡◌, ◌∷◌, ◌++◌, [], IfOk};
 ghost use Rattle.nsc_model.specs.Answers.{is_joined, joined, merges, switched, takers};
 ghost use Rattle.nsc_model.specs.Services.{action_at};
