@@ -1,3 +1,4 @@
+// Rows joined at the action merge: members of groups, and ids of a user's groups.
 ghost use Rattle.std.specs.Prelude.{◌≡◌, ◌++◌, IfOk, OnOk, length};
 ghost use Rattle.std.specs.BTreeSet.{IsFromIterResult};
 ghost use Rattle.std.specs.Ordering.{nat_cmp};

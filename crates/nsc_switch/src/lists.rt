@@ -1,3 +1,4 @@
+// `Lists`: the service lists of a content's nsswitch.conf(5).
 ghost use Rattle.std.specs.Prelude.{◌≡◌, IfOk};
 ghost use Rattle.nsc_model.specs.Files.{FilesFit, file_of};
 ghost use Rattle.nsc_model.specs.Switches.{compat_list, compat_name, list_name, list_of, service_list, text_of};

@@ -1,3 +1,4 @@
+// The outcome of the service switch, nsswitch.conf(5), for a request.
 ghost use Rattle.std.specs.Prelude.{◌≡◌, IfOk};
 ghost use Rattle.nsc_model.specs.Answers.{looked_up, switched};
 ghost use Rattle.nsc_model.specs.Files.{FilesFit};

@@ -1,3 +1,4 @@
+// `ServiceLook`: the trait of the services of a list; and the services over a content.
 ghost use Rattle.std.specs.Prelude.{◌≡◌, IfOk};
 ghost use Rattle.nsc_model.specs.declared.answer.Request.{Request};
 ghost use Rattle.nsc_model.specs.declared.row.Looked.{Looked};

@@ -1,3 +1,4 @@
+// The first line of a list in nsswitch.conf(5), and its part after the colon.
 ghost use Rattle.std.specs.Prelude.{◌≡◌, length};
 ghost use Rattle.std.specs.Option.{option_copied};
 ghost use Rattle.nsc_model.specs.Switches.{first_line, name_text, own_part};

@@ -1,3 +1,4 @@
+// Reading of a service list of nsswitch.conf(5), and the list if no line spells one.
 ghost use Rattle.std.specs.Prelude.{◌≡◌, ◌≤◌, ◌∷◌, [], length, IfOk, IfSome};
 ghost use Rattle.std.specs.Option.{option_map};
 ghost use Rattle.nsc_model.specs.Switches.{default_list, list_of, spelled_list};

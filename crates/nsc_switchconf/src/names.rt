@@ -1,3 +1,4 @@
+// Names in a service list: of services, statuses and actions.
 ghost use Rattle.std.specs.Prelude.{◌≡◌};
 ghost use Rattle.std.specs.Option.{option_map};
 ghost use Rattle.nsc_model.specs.Switches.{action_named, service_of_word, status_named};

@@ -1,3 +1,4 @@
+// `Place`: the states of the reading of a service list, and the move of each token.
 ghost use Rattle.std.specs.Prelude.{◌≡◌};
 ghost use Rattle.nsc_model.specs.Switches.{Rest, at_begin, at_between, at_equated, at_first, at_named, at_negated, at_next, at_place, at_ruled};
 ghost use Rattle.nsc_model.specs.declared.switch.SwitchStep.{SwitchStep};

@@ -1,3 +1,4 @@
+// `Rule`: a rule in brackets of a service list, and its effect on a step.
 ghost use Rattle.std.specs.Prelude.{◌≡◌};
 ghost use Rattle.nsc_model.specs.Switches.{ruled};
 ghost use Rattle.nsc_switchconf.specs.Places.{rule_of};

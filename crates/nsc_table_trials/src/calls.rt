@@ -1,3 +1,4 @@
+// `Calls`: pseudo-random calls of a writer, each told in a line.
 ghost use Rattle.std.specs.Prelude.{◌≡◌};
 
 use crate::dice::{below, dice_of};

@@ -1,3 +1,4 @@
+// Pseudo-random numbers from a seed, by PCG.
 ghost use Rattle.std.specs.Prelude.{◌<◌};
 
 use rand_core::utils::NextWord;

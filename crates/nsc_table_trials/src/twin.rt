@@ -1,3 +1,4 @@
+// Pseudo-random events for a replay and for a plain cache, whose replies must agree.
 ghost use Rattle.std.specs.Prelude.{◌≤◌};
 ghost use Rattle.nsc_model.specs.Sizes.{SizesFit};
 

@@ -1,3 +1,4 @@
+// The print of every word of a table, once a compaction has begun.
 ghost use Rattle.std.specs.Prelude.{◌≡◌, None};
 
 // The words of a table, as a slide finds them.

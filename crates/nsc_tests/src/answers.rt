@@ -1,3 +1,4 @@
+// The test of answers over a content with one user.
 use nsc_answer::Plain;
 use nsc_base::{Bytes, NoMemory};
 use nsc_model::{Answerer, Content, FileId, Kind};

@@ -1,3 +1,4 @@
+// Tests of a plain cache: lookups, invalidations, ticks, and names kept with their ids.
 use super::answers::{NO_USER, ROOT, users};
 use nsc_answer::Plain;
 use nsc_model::{Conf, Content, Kind};

@@ -1,3 +1,4 @@
+// Tests of answers with indexes and without: first lines, and lines with signs.
 use nsc_base::{Bytes, NoMemory};
 use nsc_index::{Indexed, ReadyContent};
 use nsc_model::{Answerer, Content, FileId, Kind};

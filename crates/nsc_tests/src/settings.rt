@@ -1,3 +1,4 @@
+// Tests of lines of nscd.conf(5) and of the rules of service lists.
 use nsc_daemonconf::read_conf;
 use nsc_model::{Conf, ConfFault, Db, DbName, SwitchAction, SwitchService, SwitchStep};
 use nsc_switchconf::service_list;

@@ -1,3 +1,4 @@
+// Tests of copies, buffers, and white space in addresses.
 use nsc_addr::{read_v4, read_v6};
 use nsc_base::{Buf, Bytes};
 use std::test::Fail;

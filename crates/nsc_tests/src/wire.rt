@@ -1,3 +1,4 @@
+// Tests of replies as bytes: made, read back, and broken.
 ghost use Rattle.std.specs.Prelude.{◌≤◌, length, IfOk};
 ghost use Rattle.nsc_model.specs.Answer.{reply_limit};
 ghost use Rattle.nsc_model.specs.Wire.{IsReplyOf, spelled};

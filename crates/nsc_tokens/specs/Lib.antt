@@ -1,1 +1,2 @@
+-- The definitions of a table of values under tokens.
 pub mod Tokens

@@ -1,3 +1,4 @@
+// `Tokens`: the table of values under tokens, each token given once.
 ghost use Rattle.std.specs.Prelude.{◌≡◌, ℕ, IfErr, IfOk, None, count_by, is_some, slice_index_or};
 ghost use Rattle.std.specs.Option.{option_copied};
 ghost use Rattle.nsc_tokens.specs.Tokens.{LeavesUnder, PutsUnder, find, token_in};

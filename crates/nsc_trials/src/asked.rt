@@ -1,3 +1,4 @@
+// `Asked`: the users that the trials ask for, their requests and the right replies.
 ghost use Rattle.std.specs.Prelude.{◌≡◌, ◌≤◌, length};
 ghost use Rattle.nsc_model.specs.declared.kind.Db.TheVariants as db;
 ghost use Rattle.nsc_model.specs.Entry.{key_limit};

@@ -1,3 +1,4 @@
+// `Dice`: pseudo-random numbers from a seed.
 ghost use Rattle.std.specs.Prelude.{◌<◌};
 
 /// Numbers that look like chance, and are the same in each run.

@@ -1,3 +1,4 @@
+// The trial of a lookup during an invalidation: its answer is given, and not kept.
 use crate::asked::Asked;
 use crate::texts::{ROOT_BASH, ROOT_SH};
 use crate::wanted::Wanted;

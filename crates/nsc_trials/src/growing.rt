@@ -1,3 +1,4 @@
+// The trial of a table that becomes larger, up to max-db-size.
 ghost use Rattle.std.specs.Prelude.{◌≡◌, ◌≤◌, length};
 ghost use Rattle.nsc_model.specs.Entry.{key_limit, kept_limit};
 ghost use Rattle.nsc_model.specs.Sizes.{SizeFits};

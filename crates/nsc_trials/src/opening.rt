@@ -1,3 +1,4 @@
+// A database of users opened over files for a task.
 ghost use Rattle.std.specs.Prelude.{◌≡◌, None};
 ghost use Rattle.nsc_database.specs.Openings.{brought_in};
 ghost use Rattle.nsc_model.specs.declared.kind.Db.TheVariants as db;

@@ -1,3 +1,4 @@
+// The outcome of a trial of a database, and its text.
 use std::fmt;
 use std::fmt::{Display, Formatter, Write};
 

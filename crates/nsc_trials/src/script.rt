@@ -1,3 +1,4 @@
+// `Script`: a trial by one caller, with the expected result of each step.
 ghost use Rattle.nsc_model.specs.Sizes.{SizeFits};
 
 use crate::asked::Asked;

@@ -1,3 +1,4 @@
+// `Task`: what a trial does with a database of users.
 ghost use Rattle.std.specs.Prelude.{◌≡◌};
 ghost use Rattle.nsc_model.specs.declared.kind.Db.TheVariants as db;
 

@@ -1,3 +1,4 @@
+// `run_trials`: all trials, each with the line that is printed.
 use crate::discarded::Gates;
 use crate::growing::growing;
 use crate::kept::{Beginning, TRUE, UNTRUE, persistent};

@@ -1,3 +1,4 @@
+// `Wanted`: whether a lookup's reply is to come from an entry or from a new answer.
 use nsc_base::{Bytes, equal};
 use nsc_model::{Given, LookupFault, Why};
 

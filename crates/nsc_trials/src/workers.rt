@@ -1,3 +1,4 @@
+// Interleavings of threads that look up, tick, invalidate and change the file.
 use crate::asked::Asked;
 use crate::dice::Dice;
 use crate::wanted::reply_of;

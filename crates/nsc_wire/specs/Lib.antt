@@ -1,3 +1,4 @@
+-- The definitions of requests and replies that are read from bytes.
 pub mod Request
 pub mod Fields
 pub mod Replies

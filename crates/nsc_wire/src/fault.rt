@@ -1,3 +1,4 @@
+// `ReplyFault`: why a reply could not be read back.
 ghost use Rattle.std.specs.Prelude.{◌≡◌};
 ghost use Rattle.nsc_wire.specs.declared.fault.Broken.TheVariants.{NoMemory as Memory};
 

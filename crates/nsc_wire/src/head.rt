@@ -1,3 +1,4 @@
+// The head of a request, and whether the bytes so far settle the request.
 ghost use Rattle.std.specs.Prelude.{◌≡◌, ◌≢◌, ◌≤◌, ℕ, length};
 ghost use Rattle.std.specs.Bool.{OnFalse, OnTrue};
 ghost use Rattle.nsc_model.specs.Wire.{Short, request_of};

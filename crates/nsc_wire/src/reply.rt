@@ -1,3 +1,4 @@
+// `encode`: the bytes of a reply of any kind.
 ghost use Rattle.std.specs.Prelude.{◌≡◌, ◌+◌, ◌<◌, ◌≤◌, ◌++◌, length, IfOk, OnOk};
 ghost use Rattle.nsc_model.specs.Answer.{reply_limit};
 ghost use Rattle.nsc_model.specs.Wire.{IsReplyOf, Spells, lacking, row_found, shape_of, spelled, text};

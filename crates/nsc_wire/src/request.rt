@@ -1,3 +1,4 @@
+// `Wire`: what the bytes of a request ask, or why the request is refused.
 ghost use Rattle.std.specs.Prelude.{◌≡◌, ◌+◌, ◌≤◌, length};
 ghost use Rattle.nsc_base.specs.Text.{part};
 ghost use Rattle.nsc_model.specs.Entry.{key_limit};

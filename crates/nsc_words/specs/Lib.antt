@@ -1,3 +1,4 @@
+-- The definitions of a table's words: bytes, packing, hashes, layout and nodes.
 pub mod Words
 pub mod Packing
 pub mod Hash

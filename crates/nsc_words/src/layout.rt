@@ -1,3 +1,4 @@
+// `Layout`: the head words, buckets and arena of a table, with their places.
 ghost use Rattle.std.specs.Prelude.{◌≡◌, ◌<◌, ◌^◌};
 ghost use Rattle.nsc_words.specs.Layout.{IsLayout, arena_start, bucket_at, table_words};
 

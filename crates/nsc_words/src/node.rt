@@ -1,3 +1,4 @@
+// `Node`: what the words of a node hold, their places, and the length of a node.
 ghost use Rattle.std.specs.Prelude.{◌≡◌, ◌≤◌};
 ghost use Rattle.nsc_base.specs.Nodes.{node_words};
 

@@ -1,3 +1,4 @@
+// `Assignment`: a workload to be done over one database, and the share of each thread.
 ghost use Rattle.std.specs.Prelude.{◌≡◌, ◌≤◌, ◌<◌, Some};
 ghost use Rattle.nsc_model.specs.declared.kind.Db.TheVariants as db;
 ghost use Rattle.nsc_workload.specs.Runs.{first_of};

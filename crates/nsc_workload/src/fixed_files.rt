@@ -1,3 +1,4 @@
+// `FixedFiles`: a set of files in memory, whose one content its type names.
 ghost use Rattle.std.specs.Prelude.{◌≡◌, IfOk, IfErr, Some, None};
 ghost use Rattle.std.specs.Arc.{arc_value};
 ghost use Rattle.std.specs.Option.{option_copied};

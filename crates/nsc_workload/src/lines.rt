@@ -1,3 +1,4 @@
+// The lines of a workload: counts of replies, and the digest of all replies.
 ghost use Rattle.std.specs.Prelude.{◌≡◌, IfOk, count_by, flat_map, not};
 ghost use Rattle.sha2.specs.Sha256.{sha256};
 ghost use Rattle.nsc_workload.specs.Runs.{has_row as has_row_of};

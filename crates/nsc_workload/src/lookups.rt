@@ -1,3 +1,4 @@
+// The lookups of one worker: the replies to consecutive requests.
 ghost use Rattle.std.specs.Prelude.{◌≡◌, ◌≤◌, ◌<◌, ◌+◌, IfOk};
 ghost use Rattle.nsc_model.specs.Stores.{reply_of};
 ghost use Rattle.nsc_workload.specs.Runs.{replies_from};

@@ -1,3 +1,4 @@
+// `Outcome`: the lines of a workload that was run, and the count of differing answers.
 ghost use Rattle.std.specs.Prelude.{◌≡◌, IfOk, count_by, flat_map, not};
 ghost use Rattle.nsc_workload.specs.Runs.{has_row};
 ghost use Rattle.nsc_workload.specs.Workload.{lines_of};

@@ -1,3 +1,4 @@
+// `ReplyList`: replies in the order of their requests.
 use nsc_base::Bytes;
 use std::marker::Model;
 

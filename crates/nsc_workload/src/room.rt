@@ -1,3 +1,4 @@
+// The database of a workload, opened over its content under a brand.
 ghost use Rattle.std.specs.Prelude.{◌≡◌, ◌≤◌, ◌<◌, IfOk, Some};
 ghost use Rattle.nsc_database.specs.Openings.{brought_in};
 ghost use Rattle.nsc_model.specs.declared.kind.Db.TheVariants as db;

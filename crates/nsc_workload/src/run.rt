@@ -1,3 +1,4 @@
+// `workload`: the run of a workload, from its number to the lines that are written.
 ghost use Rattle.std.specs.Prelude.{◌≡◌, ◌≤◌, ◌<◌, IfOk};
 ghost use Rattle.nsc_outside.specs.StreamAt.{stream_out};
 ghost use Rattle.nsc_model.specs.Exits.{IsExitOf, Working};

@@ -1,3 +1,4 @@
+// The users of a workload as lines of passwd(5).
 ghost use Rattle.std.specs.Prelude.{◌≡◌, ◌≤◌, ◌+◌, ◌++◌, IfOk, OnOk, decimal, vec_len};
 ghost use Rattle.nsc_model.specs.Files.{file_limit};
 ghost use Rattle.nsc_workload.specs.Workload.{files_of, user_line, user_name, users as users_of};

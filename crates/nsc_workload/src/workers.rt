@@ -1,3 +1,4 @@
+// The threads of a workload: workers, two readers and a ticker, and their replies.
 ghost use Rattle.std.specs.Prelude.{◌≡◌, ◌≤◌, ◌<◌, ◌++◌, All, IfOk, OnOk, Some, length, map, sum_by, vec_len};
 ghost use Rattle.nsc_workload.specs.Runs.{AreRead, AreShares, CountsDiffering, IsRead, IsShare, asked_count, differing_of, reader_count, replies_from};
 ghost use Rattle.nsc_workload.specs.Workload.{request_count};

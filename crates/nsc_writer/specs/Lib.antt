@@ -1,3 +1,4 @@
+-- The definitions of the writer: insertions, compactions, growth, older tables and counts.
 pub mod Loaded
 pub mod Writer
 pub mod Slide

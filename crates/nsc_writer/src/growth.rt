@@ -1,3 +1,4 @@
+// The writer's move of its live entries to a larger table.
 ghost use Rattle.std.specs.Prelude.{◌≡◌, ◌≤◌, None, IfOk, IfErr};
 ghost use Rattle.nsc_words.specs.Layout.{IsLayout};
 ghost use Rattle.nsc_model.specs.Machine.{all_words};

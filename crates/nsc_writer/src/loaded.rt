@@ -1,3 +1,4 @@
+// `Loaded` and `Inserted`: an answer to be inserted, and what became of an insertion.
 ghost use Rattle.std.specs.Prelude.{◌≡◌, ◌≤◌, ◌^◌, length};
 ghost use Rattle.nsc_model.specs.Entry.{key_limit};
 

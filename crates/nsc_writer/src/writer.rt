@@ -1,3 +1,4 @@
+// `Writer`: the one writer of a database, its newest content and its statistics.
 ghost use Rattle.std.specs.Prelude.{◌≡◌, true, ◌≤◌, ◌*◌, ◌/◌, ◌==◌, [], ◌∷◌, None, length, IfOk};
 ghost use Rattle.std.specs.Arc.{arc_value};
 ghost use Rattle.nsc_base.specs.Nodes.{most_words};

@@ -1,3 +1,4 @@
+// `Yields`: whether a thread may yield the processor, as past yields tell.
 ghost use Rattle.std.specs.Prelude.{◌≡◌, ◌≤◌, ◌<◌, ◌^◌, nat_lt, not};
 ghost use Rattle.std.specs.Duration.{as_nanos};
 ghost use Rattle.nsc_yields.specs.Yields.{after_late, after_yield, longest, lost_after, next_pause};
