@@ -4,7 +4,7 @@ ghost use Rattle.std.specs.Prelude.{⊤};
 use std::alloc::{AllocError, AllocFailed};
 use thiserror::Error;
 
-/// Memory was wanting. What the call was to change is as before, where the call says nothing else.
+/// Memory was short. What the call was to change is as before, where the call says nothing else.
 #[derive(Clone, Copy, Debug, PartialEq, Eq, Error)]
 #[error("out of memory")]
 pub struct NoMemory;

@@ -71,7 +71,7 @@ GaveUp g stores before after request cause =
     let pass' = database_in after which in
     GivesUpAt (g.settings (database_in stores which)) (g.at pass) (g.at pass') request cause
 
--- memory was wanting; or the lookup of one of these requests gave up
+-- memory was short; or the lookup of one of these requests gave up
 abbrev pub IsCause : {S P : Type 0} → store.Ghosts S P → Databases S → Databases P → Databases P → List Request → LookupFault → Type 0
 IsCause g stores before after requests fault.NoMemory = AreCalm g before after
 IsCause g stores before after requests cause = (request : Request) × Contains requests request × GaveUp g stores before after request cause

@@ -21,14 +21,14 @@ abbrev pub ComesOrEnds : StreamAt → StreamAt → List ℕ → List ℕ → Boo
 ComesOrEnds before after held new true = ComesIn before after held new
 ComesOrEnds before after held new false = ComesIn before after held new × (new ≡ held) × IsDrained after.bytes
 
--- nothing was read: memory was wanting, or the input failed
+-- nothing was read: memory was short, or the input failed
 abbrev pub ReadsNone : StreamAt → StreamAt → LinkFault → Type 0
 ReadsNone before after link.NoMemory = after ≡ before
 ReadsNone before after link.Failed = (after.bytes ≡ before.bytes) × Rose before.faults after.faults
 ReadsNone before after (link.Refused cause) = ⊥
 ReadsNone before after (link.BadReply at) = ⊥
 
--- the bytes that are held are no line; or the input failed; or memory was wanting
+-- the bytes that are held are no line; or the input failed; or memory was short
 abbrev pub GivesNone : StreamAt → StreamAt → List ℕ → Gated → Type 0
 GivesNone before after held (gated.TooLongLine size) = (after ≡ before) × (size ≡ line_limit + 1) × (line_limit < length held)
 GivesNone before after held gated.ReadFault = (after.bytes ≡ before.bytes) × Rose before.faults after.faults × (length held ≤ line_limit)

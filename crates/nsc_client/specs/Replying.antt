@@ -29,7 +29,7 @@ pub record IsReplied {S P : Type 0} (g : store.Ghosts S P) (before after : P) (r
   pub searched : (g.at before).searches + 1 ≤ (g.at after).searches
   pub calm : StaysCalm (g.at before) (g.at after)
 
--- memory was wanting; or the lookup gave up
+-- memory was short; or the lookup gave up
 abbrev pub IsCauseAt : {S P : Type 0} → store.Ghosts S P → S → P → P → Request → LookupFault → Type 0
 IsCauseAt g base before after request fault.NoMemory = StaysCalm (g.at before) (g.at after)
 IsCauseAt g base before after request cause = GivesUpAt (g.settings base) (g.at before) (g.at after) request cause

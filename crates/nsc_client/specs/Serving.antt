@@ -46,7 +46,7 @@ pub record MeetsTooLong {S P : Type 0} (g : store.Ghosts S P) (before after : Ga
   pub counted : size ≡ line_limit + 1
   pub calm : after.input.faults ≡ before.input.faults
 
--- the next line was refused, by the passes as the lines before it left them; it is whole, unless memory was wanting
+-- the next line was refused, by the passes as the lines before it left them; it is whole, unless memory was short
 pub record MeetsRefusal {S P : Type 0} (g : store.Ghosts S P) (stores : Databases S) (before after : GateAt P) (refused : LinkFault) : Type 0 where
   pub lines : List (List ℕ)
   pub rest : List ℕ

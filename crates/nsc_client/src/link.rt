@@ -17,7 +17,7 @@ use thiserror::Error;
 /// Why a link gave no reply.
 #[derive(Clone, Copy, Debug, PartialEq, Eq, Error)]
 pub enum LinkFault {
-    /// Memory was wanting.
+    /// Memory was short.
     #[error("out of memory")]
     NoMemory,
     /// The link itself failed, and its count of faults rose.

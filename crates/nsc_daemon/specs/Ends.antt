@@ -120,7 +120,7 @@ abbrev pub TellsHeldLength : Exit → Option Content → Type 0
 TellsHeldLength (exits.TooLong size) held = (file : FileId) × IsPastLimit (told_of held file) size
 TellsHeldLength _ held = Unit {0}
 
--- why the databases were not opened: memory was wanting, or a file failed or was too long, as its set counts it
+-- why the databases were not opened: memory was short, or a file failed or was too long, as its set counts it
 abbrev pub IsOpeningFault : PollFault → ℕ → ℕ → Type 0
 IsOpeningFault poll.NoMemory faults faults' = Unit {0}
 IsOpeningFault (poll.SourceFault file) faults faults' = Rose faults faults'

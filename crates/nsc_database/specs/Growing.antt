@@ -22,7 +22,7 @@ pub record GoesOver (settings : DbConf) (need : ℕ) (before after : Desk) : Typ
   pub room : after.writer.cache.used + need ≤ after.writer.layout.arena
 
 -- the writer went over; or it did not, since no table that it may go over to has room, or there are no more compactions; or memory was
--- wanting, and nothing changed
+-- short, and nothing changed
 abbrev pub IsGrowth : {A : Type 0} → DbConf → ℕ → Desk → Desk → Result Bool A → Type 0
 IsGrowth settings need before after (Ok true) = GoesOver settings need before after
 IsGrowth settings need before after (Ok false) = (after ≡ before) × IsArena settings before.writer.table.words before.writer.layout.arena × (IsAboveAll settings (before.writer.cache.used + need) ⊎ (last_count ≤ before.writer.cache.cycle))

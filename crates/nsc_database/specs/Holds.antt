@@ -38,7 +38,7 @@ pub record IsPolled (seen after : List Record) (epoch : ℕ) (polled : Polled) :
   pub newest : changes after ≡ polled.stamp.version + 1
   pub looked : LookedBetween seen after polled.stamp.version
 
--- why a poll could not be entered: memory was wanting, or a new version cannot be counted
+-- why a poll could not be entered: memory was short, or a new version cannot be counted
 abbrev pub IsPollFault : CacheFault → List Record → Type 0
 IsPollFault fault.NoMemory after = Unit {0}
 IsPollFault (fault.Spent count) after = IsSpent after count

@@ -61,7 +61,7 @@ abbrev pub EmptiesOutdated : Checked → Bool → Type 0
 EmptiesOutdated checked.Emptied outdated = outdated ≡ true
 EmptiesOutdated (checked.Listed due) outdated = outdated ≡ false
 
--- why a hold gave up: memory was wanting, or a count stands at its end, and the ends were made all the same
+-- why a hold gave up: memory was short, or a count stands at its end, and the ends were made all the same
 abbrev pub IsHoldFault : LookupFault → List Record → Type 0 → Type 0 → Type 0
 IsHoldFault fault.NoMemory after last_cycle ended = Unit {0}
 IsHoldFault (fault.Spent count) after last_cycle ended = IsUnmoved after last_cycle count ended

@@ -26,7 +26,7 @@ impl<D: OfDb, B: Room> Desk<D, B> {
 
 impl<D: OfDb, F: FileSet + Drop, A: Answerer + Drop, B: Room> Base<D, F, A, B> {
     /// Goes on to the table that is written, if the writer's lock is free. It adds no record, and waits for no one. `false` if the lock
-    /// is held, which leaves the pass as it is, or if memory is wanting.
+    /// is held, which leaves the pass as it is, or if memory is short.
     pub fn catch_up(&self, pass: &mut DbPass<F, B>) -> bool
         requires { pass.old.db ≡ D.db }
         ensures frame { Held pass.old pass.new }

@@ -55,7 +55,7 @@ abbrev pub IsNotTold : List ℕ → List ℕ → ℕ → Type 0
 IsNotTold before after size = (size ≡ 0) × (after ≡ before)
 
 -- what is told stands at the front of a room, whose rest is as it was, and this is its size; or nothing is told, where memory was
--- wanting or the room was too small
+-- short or the room was too small
 abbrev pub IsTold : List ℕ → List ℕ → List ℕ → ℕ → Type 0
 IsTold told before after size = IsNotTold before after size ⊎ ((size ≡ length told) × (take size after ≡ told) × (drop size after ≡ drop size before))
 

@@ -10,7 +10,7 @@ use Rattle.nsc_model.specs.Events.{ComesTo, StopsAt}
 abbrev pub IsPolledAtMost : Content → Cache → Cache → Type 0
 IsPolledAtMost files before after = (after ≡ before) ⊎ ComesTo (polled files before) after
 
--- an event gave up: memory was wanting, and at most a poll was made; or the machine stops there
+-- an event gave up: memory was short, and at most a poll was made; or the machine stops there
 abbrev pub FaultsBy : {A : Type 0} → Result A Stopped → Content → Cache → Cache → CacheFault → Type 0
 FaultsBy event files before after NoMemory = IsPolledAtMost files before after
 FaultsBy event files before after (Spent count) = StopsAt event after count
@@ -20,7 +20,7 @@ abbrev pub StopsBy : {A : Type 0} → Result A Stopped → Cache → CacheFault 
 StopsBy event after NoMemory = ⊥
 StopsBy event after (Spent count) = StopsAt event after count
 
--- a part of an event gave up: memory was wanting, and nothing changed; or the machine stops there
+-- a part of an event gave up: memory was short, and nothing changed; or the machine stops there
 abbrev pub GivesUpBy : {A : Type 0} → Result A Stopped → Cache → Cache → CacheFault → Type 0
 GivesUpBy event before after NoMemory = after ≡ before
 GivesUpBy event before after (Spent count) = StopsAt event after count

@@ -136,7 +136,7 @@ pub record IsSpent (after : List Record) (count : ℕ) : Type 0 where
   pub content : Content
   pub version : version_in after count ≡ Some content
 
--- why a lookup gave up: memory was wanting, or a count stands at its end, as what was seen says, and no count of faults changed; or
+-- why a lookup gave up: memory was short, or a count stands at its end, as what was seen says, and no count of faults changed; or
 -- a file gave no answer, and is at fault
 abbrev pub IsFault : LookupFault → List Record → ℕ → ℕ → (FileId → ℕ) → (FileId → ℕ) → Type 0
 IsFault fault.NoMemory after before_faults after_faults before_each after_each = FaultsStay before_faults after_faults before_each after_each
@@ -148,7 +148,7 @@ IsFault (fault.TooLong file size) after before_faults after_faults before_each a
 abbrev pub IsMissed : DbConf → List Record → List Record → Request → Type 0
 IsMissed settings seen after request = (settings.enabled ≡ false) ⊎ EndedAfter seen after request
 
--- a lookup gives up only where no entry answers, unless memory was wanting
+-- a lookup gives up only where no entry answers, unless memory was short
 abbrev pub IsMissedAt : LookupFault → DbConf → List Record → List Record → Request → Type 0
 IsMissedAt fault.NoMemory settings seen after request = Unit {0}
 IsMissedAt _ settings seen after request = IsMissed settings seen after request
@@ -159,7 +159,7 @@ IsGiven (given.Hit bytes number) settings words now seen after last_cycle reques
 IsGiven (given.Loaded bytes number) settings words now seen after last_cycle request = IsLoaded settings now seen after request bytes number × EndedAfter seen after request
 IsGiven (given.Fresh bytes why) settings words now seen after last_cycle request = IsWhy why settings words seen after last_cycle request bytes × IsMissed settings seen after request
 
--- a lookup gave up, for this cause, and no entry answers, unless memory was wanting
+-- a lookup gave up, for this cause, and no entry answers, unless memory was short
 pub record GivesUp (settings : DbConf) (seen after : List Record) (request : Request) (before_faults after_faults : ℕ) (before_each after_each : FileId → ℕ) (cause : LookupFault) : Type 0 where
   pub missed : IsMissedAt cause settings seen after request
   pub fault : IsFault cause after before_faults after_faults before_each after_each

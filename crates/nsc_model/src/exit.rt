@@ -61,7 +61,7 @@ pub enum Exit {
         /// The count.
         count: u64,
     },
-    /// Memory was wanting.
+    /// Memory was short.
     NoMemory,
     /// A file is announced, or was to be read, that is longer than a file may be.
     TooLong {

@@ -9,7 +9,7 @@ use thiserror::Error;
 /// Why a call of a cache, or an invalidation of a database, gave up.
 #[derive(Clone, Copy, Debug, PartialEq, Eq, Error)]
 pub enum CacheFault {
-    /// Memory was wanting.
+    /// Memory was short.
     #[error("out of memory")]
     NoMemory,
     /// A count that the call needs stands at its end: that of the versions, and nothing changed; that of the invalidations, and a

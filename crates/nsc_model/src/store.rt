@@ -119,7 +119,7 @@ pub enum Why {
 /// Why a lookup or a tick gave up.
 #[derive(Clone, Copy, Debug, PartialEq, Eq, Error)]
 pub enum LookupFault {
-    /// Memory was wanting.
+    /// Memory was short.
     #[error("out of memory")]
     NoMemory,
     /// A count that the call needs stands at its end.
@@ -289,7 +289,7 @@ pub trait Store {
         ensures no_fault { StaysCalm (at pass.old) (at pass.new) };
 
     /// Goes on to the table that is written, if the writer's lock is free, so that searches in place find its entries. It adds no record.
-    /// `false` if the lock is held, which leaves the pass as it is, or if memory is wanting.
+    /// `false` if the lock is held, which leaves the pass as it is, or if memory is short.
     fn catch_up(&self, pass: &mut Self::Pass) -> bool
         requires { is_pass self.now pass.old }
         ensures pass { is_pass self.now pass.new }

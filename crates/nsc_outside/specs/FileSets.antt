@@ -31,7 +31,7 @@ is_failed (Err causes.NoMemory) = false
 is_failed (Err causes.Failed) = true
 is_failed (Err (causes.TooLong size)) = false
 
--- what a read with no answer does to a count of faults: that memory was wanting is no fault
+-- what a read with no answer does to a count of faults: that memory was short is no fault
 abbrev pub RoseBy : ReadCause → ℕ → ℕ → Type 0
 RoseBy causes.NoMemory before after = after ≡ before
 RoseBy causes.Failed before after = Rose before after

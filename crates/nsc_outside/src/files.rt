@@ -18,7 +18,7 @@ use thiserror::Error;
 /// Why a read of a file, or of an image, gave no answer.
 #[derive(Clone, Copy, Debug, PartialEq, Eq, Error)]
 pub enum ReadCause {
-    /// Memory was wanting: no fault of the file, and none is counted.
+    /// Memory was short: no fault of the file, and none is counted.
     #[error("out of memory")]
     NoMemory,
     /// The file is there, or may be, and could not be read.

@@ -57,7 +57,7 @@ impl ImageTally {
         self.failed_puts[db as usize]
     }
 
-    // Counts why an image was not given. That memory was wanting is no fault.
+    // Counts why an image was not given. That memory was short is no fault.
     pub(crate) fn count_cause(&mut self, cause: ReadCause)
         ensures faults { RoseBy cause self.old.faults self.new.faults }
         ensures rest { self.new ≡ record self.old { faults = self.new.faults } }

@@ -65,7 +65,7 @@ impl Tally {
         self.reads[place] = self.reads[place].saturating_add(1);
     }
 
-    // Counts why a read had no answer. That memory was wanting is no fault.
+    // Counts why a read had no answer. That memory was short is no fault.
     pub(crate) fn count_cause(&mut self, cause: ReadCause)
         ensures faults { RoseBy cause self.old.faults self.new.faults }
         ensures file_faults { self.new.file_faults ≡ self.old.file_faults }

@@ -17,7 +17,7 @@ abbrev pub HitsBy : Option Kept → Request → Cache → Cache → Option (List
 HitsBy None request before after hit = (hit ≡ None) × (after ≡ before)
 HitsBy (Some k) request before after hit = (hit ≡ Some k.entry.answer.bytes) × (after ≡ record before { entries = used_now request before.entries })
 
--- the version that a tick keeps which gave up: where memory was wanting, that of the last tick
+-- the version that a tick keeps which gave up: where memory was short, that of the last tick
 abbrev pub ticked_at : CacheFault → ℕ → ℕ → ℕ
 ticked_at NoMemory ticked kept = ticked
 ticked_at (Spent count) ticked kept = kept

@@ -89,7 +89,7 @@ impl Insertion {
 ///
 /// # Errors
 ///
-/// `NoMemory` if memory is wanting.
+/// `NoMemory` if memory is short.
 pub fn answer_beside<A: Answerer>(
     alloc: Global,
     files: &mut DbFiles<A>,

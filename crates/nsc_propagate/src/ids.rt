@@ -18,7 +18,7 @@ const ID: usize = 16;
 ///
 /// # Errors
 ///
-/// `NoMemory` if memory is wanting.
+/// `NoMemory` if memory is short.
 pub fn id_request(
     alloc: Global,
     content: &Content,

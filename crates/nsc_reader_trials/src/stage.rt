@@ -21,7 +21,7 @@ pub struct Stage {
     files: Arc<Content>,
     crowds: Vec<Crowd>,
     truth: Truth,
-    // Whether memory was wanting.
+    // Whether memory was short.
     is_cut_off: bool,
 }
 
@@ -128,7 +128,7 @@ impl Stage {
         }
     }
 
-    /// Lets each search go on to its end: in how many ways they came to their answers. `None` where memory was wanting.
+    /// Lets each search go on to its end: in how many ways they came to their answers. `None` where memory was short.
     pub fn finish(self) -> Option<Tally> {
         let mut all = Tally::NOTHING;
         for crowd in self.crowds {

@@ -113,6 +113,6 @@ module _ (settings : Conf) (s : State) (place : ℕ) (streams : Streams) (same :
 pub late : (settings : Conf) (s : State) (place : ℕ) (at : StreamsAt) → place_limit ≤ place → ReplayRun settings s place (record { before = at; after = at }) (exits.BadFrame place)
 late settings s place at le = record { front = []; out = []; transfers = record { moved = Moves-nothing at.input.bytes; grown = Grows-nothing at.output.bytes }; ends = inl (λ more. round_late settings s place more le) }
 
--- memory was wanting before anything was read
+-- memory was short before anything was read
 pub no_start : (settings : Conf) (s : State) (place : ℕ) (at : StreamsAt) → ReplayRun settings s place (record { before = at; after = at }) exits.NoMemory
 no_start settings s place at = record { front = []; out = []; transfers = record { moved = Moves-nothing at.input.bytes; grown = Grows-nothing at.output.bytes }; ends = inl (sym (no_output settings s place)) }

@@ -25,7 +25,7 @@ pub record IsFresh (files : Content) (stamp : Stamp) (w : Writer) : Type 0 where
   pub sources : w.cache.sources ≡ files
   pub polled : PolledSince w.seen stamp.version stamp.epoch
 
--- a part of an event gave up: memory was wanting, and the writer is as before; or the machine stops there
+-- a part of an event gave up: memory was short, and the writer is as before; or the machine stops there
 abbrev pub GivesUp : Result Passed Stopped → Writer → Writer → CacheFault → Type 0
 GivesUp part before after faults.NoMemory = after ≡ before
 GivesUp part before after (faults.Spent count) = Stops part count before after
@@ -34,7 +34,7 @@ GivesUp part before after (faults.Spent count) = Stops part count before after
 abbrev pub IsPolledAtMost : Content → Writer → Writer → Type 0
 IsPolledAtMost files before after = (after ≡ before) ⊎ Completes (polled files before.cache) before after
 
--- an event gave up: memory was wanting, and at most a poll was made; or the machine stops there
+-- an event gave up: memory was short, and at most a poll was made; or the machine stops there
 abbrev pub Faults : {A : Type 0} → Result A Stopped → Content → Writer → Writer → CacheFault → Type 0
 Faults event files before after faults.NoMemory = IsPolledAtMost files before after
 Faults event files before after (faults.Spent count) = Stops event count before after
@@ -44,7 +44,7 @@ abbrev pub OnlyStops : Result Passed Stopped → Writer → Writer → CacheFaul
 OnlyStops event before after faults.NoMemory = ⊥
 OnlyStops event before after (faults.Spent count) = Stops event count before after
 
--- the version that a tick keeps which gave up: where memory was wanting, that of the last tick
+-- the version that a tick keeps which gave up: where memory was short, that of the last tick
 abbrev pub ticked_at : CacheFault → ℕ → ℕ → ℕ
 ticked_at faults.NoMemory ticked kept = ticked
 ticked_at (faults.Spent count) ticked kept = kept

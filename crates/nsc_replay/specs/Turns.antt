@@ -19,7 +19,7 @@ abbrev pub GoesTo : Result Went Finish → State → Option (List ℕ) → Type 
 GoesTo (Ok went) state reply = (went.state ≡ state) × (went.writes ≡ written reply)
 GoesTo (Err finish) state reply = ⊥
 
--- the machine ends so; nothing is claimed where memory was wanting
+-- the machine ends so; nothing is claimed where memory was short
 abbrev pub TurnFaults : Result Went Finish → CacheFault → Type 0
 TurnFaults turn faults.NoMemory = Unit {0}
 TurnFaults turn (faults.Spent count) = turn ≡ Err (Spent count)

@@ -21,7 +21,7 @@ pub enum Halt {
     },
     /// The input failed.
     ReadFault,
-    /// Memory was wanting.
+    /// Memory was short.
     NoMemory,
 }
 

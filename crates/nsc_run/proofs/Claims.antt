@@ -149,7 +149,7 @@ module _ {I O : Type 0} (i : source.Ghosts I) (o : sink.Ghosts O) (a b : Outside
   run_tells (Some (Daemon service)) h = served_tells _ _ _ _ _ _ _ exit h.0
 
 module _ {I O : Type 0} (i : source.Ghosts I) (o : sink.Ghosts O) (a : Outside) where
-  -- memory was wanting for the words
+  -- memory was short for the words
   unread : (form : Option Form) → RunsByForm i o form a a exits.NoMemory
   unread None = (inr refl, refl)
   unread (Some (Replay config)) = (inr (refl, refl), record { input_stays = refl; output_stays = refl }, record { given_stays = refl; peer_stays = refl; calm = refl }, refl)

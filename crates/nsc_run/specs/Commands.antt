@@ -15,7 +15,7 @@ use Rattle.nsc_model.specs.Sizes.{SizesFit}
 use Rattle.nsc_replay.specs.Streams.{Streams}
 use Rattle.nsc_replay.specs.Runs.{ReplayRun}
 
--- why words are refused, by the exit: memory was wanting, or they are not what they should be
+-- why words are refused, by the exit: memory was short, or they are not what they should be
 abbrev pub RefusesWords : Bool → Exit → Type 0
 RefusesWords good exit = (exit ≡ exits.NoMemory) ⊎ ((exit ≡ exits.Usage) × (good ≡ false))
 
@@ -76,7 +76,7 @@ pub record IsReplayed (settings : Conf) (bytes : List ℕ) (streams : Streams) :
   pub left_is : streams.after.input.bytes ≡ Some (drop place bytes)
   pub grown : Grows streams.before.output.bytes streams.after.output.bytes (replay settings bytes).output
 
--- the exit that tells how a replay ends, unless memory was wanting
+-- the exit that tells how a replay ends, unless memory was short
 abbrev pub exit_at : Finish → Exit
 exit_at (Done place) = exits.Ok
 exit_at (Bad place) = exits.BadFrame place
@@ -91,7 +91,7 @@ pub record StreamsCalm (streams : Streams) : Type 0 where
   pub input : Rose streams.before.input.faults streams.after.input.faults → ⊥
   pub output : Rose streams.before.output.faults streams.after.output.faults → ⊥
 
--- the exit tells why a line is refused, unless memory was wanting
+-- the exit tells why a line is refused, unless memory was short
 abbrev pub TellsFault : ConfFault → Exit → Type 0
 TellsFault fault exit = (exit ≡ exits.BadConf fault) ⊎ (exit ≡ exits.NoMemory)
 

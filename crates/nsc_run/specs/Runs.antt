@@ -97,7 +97,7 @@ pub record IsAsked {I O : Type 0} (i : source.Ghosts I) (o : sink.Ghosts O) (ask
       (record { conn_in = stream_in i conn_in'; conn_out = stream_out o conn_out'; output = after })
       exit
 
--- what came of it: it was asked, or memory was wanting for a path, or there was no connection
+-- what came of it: it was asked, or memory was short for a path, or there was no connection
 abbrev pub Asks : {I O : Type 0} → source.Ghosts I → sink.Ghosts O → AdminAsk → Option (List ℕ) → StreamAt → StreamAt → ℕ → ℕ → Exit → Type 0
 Asks i o asked peer before after faults faults' exit =
     (IsAsked i o asked peer before after exit × (faults' ≡ faults))
@@ -109,13 +109,13 @@ pub record NeverFail {I O : Type 0} (i : source.Ghosts I) (o : sink.Ghosts O) : 
   pub inputs : (x : I) → i.faults x ≡ 0
   pub outputs : (x : O) → o.faults x ≡ 0
 
--- an answer came, good or bad, unless memory was wanting
+-- an answer came, good or bad, unless memory was short
 abbrev pub TellsAnswered : Exit → Type 0
 TellsAnswered exit = (exit ≡ exits.Ok) ⊎ (exit ≡ exits.NoMemory) ⊎ (exit ≡ exits.BadReply)
 
 -- ---- a workload
 
--- it was run, unless memory was wanting
+-- it was run, unless memory was short
 abbrev pub TellsWorked : Exit → Type 0
 TellsWorked exit = (exit ≡ exits.Ok) ⊎ (exit ≡ exits.NoMemory)
 
@@ -141,7 +141,7 @@ DaemonCourse told service held images images' before after exit =
     DaemonRan told service held images images' before after exit
     ⊎ (NotSet told before.source_faults after.source_faults exit × (after ≡ record before { source_faults = after.source_faults }) × (images' ≡ images))
 
--- the daemon was told to end, or why a line is refused, unless memory was wanting
+-- the daemon was told to end, or why a line is refused, unless memory was short
 abbrev pub TellsServed : Result Conf ConfFault → Exit → Type 0
 TellsServed (Ok settings) exit = (exit ≡ exits.Ok) ⊎ (exit ≡ exits.NoMemory)
 TellsServed (Err fault) exit = TellsFault fault exit

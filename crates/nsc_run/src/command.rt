@@ -28,7 +28,7 @@ use std::time;
 /// At `Ok` the input stands right after its first E, and what was written is the whole output of the replay. At
 /// `BadFrame`, `TooLong` and `Spent` it is the output of the frames before. At `ReadFault` it is that of the whole frames
 /// that were read, at `NoMemory` that of these or of all but the last, and at `WriteFault` a front of it. `ReadFault` and
-/// `WriteFault` come only where a call on that stream failed, and its count of faults rose. Memory may be wanting at any
+/// `WriteFault` come only where a call on that stream failed, and its count of faults rose. Memory may be short at any
 /// time.
 pub fn replay<RT: AllocGlobal, R: Source, K: Sink>(
     rt: &RT,
@@ -47,7 +47,7 @@ pub fn replay<RT: AllocGlobal, R: Source, K: Sink>(
     // A fault of a stream is told only where one came.
     ensures counts { Counted result (streams R.Source K.Sink input.old input.new output.old output.new) }
 
-    // Where no fault came, the exit tells how the replay of the input ends, unless memory was wanting.
+    // Where no fault came, the exit tells how the replay of the input ends, unless memory was short.
     ensures complete { StreamsCalm (streams R.Source K.Sink input.old input.new output.old output.new) → IfSome (R.left input.old) (λ bytes. TellsFinish (replay conf.now bytes).finish result) }
 {
     nsc_replay::replay(rt.alloc(), conf, &Indexed, input, output)
@@ -118,7 +118,7 @@ where
     // At Ok a daemon bound its sockets, with the gate where one is said, and no others.
     ensures bound { result ≡ Exit.Ok → BindsByForm (form_of (texts words.now)) (N.bound net.old) (N.bound net.new) }
 
-    // Where no fault came, the exit tells what is known of it, unless memory was wanting.
+    // Where no fault came, the exit tells what is known of it, unless memory was short.
     ensures complete { TellsByForm N.In.Source N.Out.Sink (form_of (texts words.now)) (outside R.Source K.Sink F.FileSet I.ImageStore N.Listener input.old output.old files.old images.old net.old) (outside R.Source K.Sink F.FileSet I.ImageStore N.Listener input.new output.new files.new images.new net.new) result }
 {
     match read_words(rt.alloc(), words) {

@@ -55,7 +55,7 @@ abbrev IsClosed : Option Closing → Type 0
 IsClosed None = ⊥
 IsClosed (Some why) = Unit {0}
 
--- where nothing failed, what may be asked is answered, or memory was wanting
+-- where nothing failed, what may be asked is answered, or memory was short
 pub completes : (settings : Databases DbConf) (scopes : Scopes) (moment : ℕ) (on : Role) (asked : Asked) (left : Option (List ℕ)) (input input' : StreamAt) (before after : Side) (by : Served)
     → Ends settings scopes moment on asked left before after by → CountsInput by input.faults input'.faults → Completes scopes on asked input input' before after by
 completes settings scopes moment on asked left input input' before after served.Replied e n a f = inl (sym e.2.0)

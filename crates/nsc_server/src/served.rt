@@ -37,7 +37,7 @@ pub enum Served {
         /// The count, 2^62.
         count: u64,
     },
-    /// Memory was wanting. Nothing was written.
+    /// Memory was short. Nothing was written.
     NoMemory,
 }
 

@@ -300,7 +300,7 @@ impl<R: Wait + Clock + Clone + Drop> Entrance<R> {
         }
     }
 
-    // Some that wait are closed where descriptors or memory were wanting. Where none is, the next try comes a little later.
+    // Some that wait are closed where descriptors or memory were short. Where none is, the next try comes a little later.
     fn make_room(&mut self, system: &R, now: Duration, error: &io::Error) {
         let is_wanting = is_wanting(error);
         let is_scarce = is_wanting || error.kind() == io::ErrorKind::OutOfMemory;

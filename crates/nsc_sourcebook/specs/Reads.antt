@@ -22,7 +22,7 @@ pub record IsFetched {F : Type 0} (g : file_set.Ghosts F) (which : Db) (files fi
 abbrev pub NoneFailed : {F : Type 0} → file_set.Ghosts F → F → F → Type 0
 NoneFailed g files files' = FaultsStay (g.faults files) (g.faults files') (g.file_faults files) (g.file_faults files')
 
--- the files gave no content: memory was wanting, which counts as no fault, or one is at fault; of one that is too long the length is told
+-- the files gave no content: memory was short, which counts as no fault, or one is at fault; of one that is too long the length is told
 abbrev pub NotFetched : {F : Type 0} → file_set.Ghosts F → F → F → PollFault → Type 0
 NotFetched g files files' poll.NoMemory = NoneFailed g files files'
 NotFetched g files files' (poll.SourceFault file) = FileFailed file (g.faults files) (g.faults files') (g.file_faults files) (g.file_faults files')

@@ -12,7 +12,7 @@ use thiserror::Error;
 /// Why a database's files gave no version.
 #[derive(Clone, Copy, Debug, PartialEq, Eq, Error)]
 pub enum PollFault {
-    /// Memory was wanting.
+    /// Memory was short.
     #[error("out of memory")]
     NoMemory,
     /// A file is there, or may be, and could not be read.

@@ -17,7 +17,7 @@ use std::alloc::Global;
 ///
 /// # Errors
 ///
-/// `NoMemory` if memory is wanting.
+/// `NoMemory` if memory is short.
 pub fn service_list(alloc: Global, text: &[u8], name: DbName) -> Result<Vec<SwitchStep>, NoMemory>
     // By the grammar, and by a reader's machine.
     ensures given { IfOk result (λ list. GivesList text.now name list.items) }

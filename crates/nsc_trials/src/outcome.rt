@@ -9,7 +9,7 @@ pub enum Outcome {
     Right,
     /// Something did not: the number of the step, from 1 on, or of the interleaving, from 0 on.
     Wrong(usize),
-    /// Memory was wanting.
+    /// Memory was short.
     NoMemory,
 }
 

@@ -46,7 +46,7 @@ pub fn load<A: Answerer>(
 ///
 /// # Errors
 ///
-/// `NoMemory` if memory is wanting.
+/// `NoMemory` if memory is short.
 pub fn load_beside<A: Answerer>(
     alloc: Global,
     answers: &A,

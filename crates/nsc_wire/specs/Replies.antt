@@ -239,7 +239,7 @@ whole_reply kind bytes = do
 
 -- ---- what a reader returned
 
--- what was read, seen by view, is what reading gives, unless memory was wanting
+-- what was read, seen by view, is what reading gives, unless memory was short
 abbrev pub Breaks : {Y : Type 0} → Broken → Result Y ℕ → Type 0
 Breaks broken.NoMemory read = Unit {0}
 Breaks (broken.Left left) read = read ≡ Err left
@@ -257,7 +257,7 @@ placed size (Err left) = Err (size - left)
 abbrev pub decoded : Kind → List ℕ → Result Reply ℕ
 decoded kind bytes = placed (length bytes) (whole_reply kind bytes)
 
--- a decoder answered this, unless memory was wanting
+-- a decoder answered this, unless memory was short
 abbrev pub Answers : Result Reply ReplyFault → Result Reply ℕ → Type 0
 Answers (Ok reply) read = read ≡ Ok reply
 Answers (Err fault.NoMemory) read = Unit {0}

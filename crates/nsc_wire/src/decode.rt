@@ -23,7 +23,7 @@ const LIMIT: usize = 1 << 30;
 pub fn decode_reply(alloc: Global, kind: Kind, bytes: &[u8]) -> Result<Reply, ReplyFault>
     // What is read is spelled so.
     ensures spelled { IfOk result (λ reply. Spells kind reply bytes.now) }
-    // What is spelled so is read, unless memory is wanting.
+    // What is spelled so is read, unless memory is short.
     ensures only { (reply : Reply) → Spells kind reply bytes.now → Answers result (Ok reply) }
     // Where the fault is that the bytes have.
     ensures fault { Answers result (decoded kind bytes.now) }

@@ -9,7 +9,7 @@ use thiserror::Error;
 /// Why a reply could not be read back.
 #[derive(Clone, Copy, Debug, PartialEq, Eq, Error)]
 pub enum ReplyFault {
-    /// Memory was wanting.
+    /// Memory was short.
     #[error("out of memory")]
     NoMemory,
     /// The bytes are no reply of the kind.
@@ -24,7 +24,7 @@ pub enum ReplyFault {
 // Why the readers of fields, texts and rows gave up.
 #[derive(Clone, Copy, Debug, PartialEq, Eq)]
 pub(crate) enum Broken {
-    // Memory was wanting.
+    // Memory was short.
     NoMemory,
     // The layout is broken where so many bytes are left.
     Left(usize),

@@ -36,7 +36,7 @@ impl<C: OfContent, B: Room> Assignment<'_, C, B> {
         Ok(ReplyList::from_vec(replies))
     }
 
-    // The reply to the request of a place, looked up at moment 0. No file is ever at fault, so that only memory may be wanting.
+    // The reply to the request of a place, looked up at moment 0. No file is ever at fault, so that only memory may be short.
     fn reply<R: Wait>(
         &self,
         rt: &R,

@@ -21,7 +21,7 @@ use std::thread::Threads;
 pub struct Worked {
     /// The exit.
     pub exit: Exit,
-    /// How many answers of the readers differ from the reply to the same request; 0 where memory was wanting.
+    /// How many answers of the readers differ from the reply to the same request; 0 where memory was short.
     pub differing: u64,
 }
 

@@ -25,12 +25,12 @@ pub(crate) trait Work {
         ensures count { result ≡ workers self.now }
         ensures some { 0 < result };
 
-    /// The replies of a worker; `None` where memory was wanting.
+    /// The replies of a worker; `None` where memory was short.
     fn share<R: Wait>(&self, rt: &R, alloc: Global, worker: usize) -> Option<ReplyList>
         requires { worker < workers self.now }
         ensures { IsShare (number self.now) (workers self.now) worker result };
 
-    /// What a reader is answered to the first requests, in order; `None` where memory was wanting.
+    /// What a reader is answered to the first requests, in order; `None` where memory was short.
     fn read<R: Wait>(&self, rt: &R, alloc: Global) -> Option<ReplyList>
         ensures { IsRead result };
 

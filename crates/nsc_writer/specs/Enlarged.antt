@@ -15,7 +15,7 @@ pub record IsEnlarged (layout : Layout) (before after : Writer) (former : Former
   pub is : after ≡ record before { table = former.newer.table; layout = layout; cache = record before.cache { cycle = before.cache.cycle + 2; used = all_words before.cache.entries } }
   pub left : former ≡ record { table = before.table; seen = before.seen; cycle = before.cache.cycle + 1; newer = record { table = former.newer.table; layout = layout }; stock = record { table = former.newer.table; seen = before.seen; retired = None; searching = rested (before.cache.cycle + 1) } }
 
--- it cannot, where the count of the beginnings and the ends of slides stands at its end, or memory is wanting
+-- it cannot, where the count of the beginnings and the ends of slides stands at its end, or memory is short
 abbrev pub IsStuck : CacheFault → Writer → Type 0
 IsStuck fault.NoMemory w = Unit {0}
 IsStuck (fault.Spent count) w = (count ≡ last_count) × (w.cache.cycle ≡ last_count)
