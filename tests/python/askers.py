@@ -70,7 +70,7 @@ class Askers:
 
 @contextmanager
 def asking(run, count, seconds, request, reply=b""):
-    """So many processes, which ask the daemon for so long."""
+    """`count` processes, which ask the daemon for `seconds` seconds."""
     words = [sys.executable, "-B", Path(__file__).resolve(), run.run / "socket"]
     pipes = {"stdin": subprocess.PIPE, "stdout": subprocess.PIPE, "stderr": subprocess.PIPE}
     made = [subprocess.Popen(words, **pipes) for _ in range(count)]

@@ -77,7 +77,7 @@ class Room:
         return ROOM_WORDS * self.size
 
     def grows(self, need):
-        """Whether a larger table has room for so many words more. The first that has goes on."""
+        """Whether a larger table has room for `need` words more. The first that has goes on."""
         size = 2 * self.size
         while 8 * (HEAD_WORDS + size + ROOM_WORDS * size) <= self.limit and ROOM_WORDS * size <= MOST_WORDS:
             if self.used + need <= ROOM_WORDS * size:
@@ -146,7 +146,7 @@ def names_of_one_hash(count):
 
 
 class Trial:
-    """A daemon whose table of users begins with this size, and grows up to so many bytes, and the list beside it."""
+    """A daemon whose table of users begins with this size, and grows up to `limit` bytes, and the list beside it."""
 
     def __init__(self, run, size, users, limit=0, propagates=True, settings=None):
         self.run, self.users, self.room = run, users, Room(size, limit, propagates)

@@ -95,7 +95,7 @@ def serve(listener, sent, reply, dice):
 
 
 def commands(work):
-    """So many commands of one seed: how they ended, and the first differences."""
+    """`count` commands of one seed: how they ended, and the first differences."""
     seed, count = work
     dice, statuses, faults = random.Random(f"replies {seed}"), {}, []
     with tempfile.TemporaryDirectory(prefix="nscd-forged-") as folder, socket.socket(socket.AF_UNIX) as listener:

@@ -27,14 +27,14 @@ ABSENT_WORDS = 8 + words_of(ABSENT) + words_of(9 * 4)
 
 
 def doubled(arena, wanted):
-    """The arena after as few doublings as give so many words."""
+    """The arena after as few doublings as give `wanted` words."""
     while arena < wanted:
         arena *= 2
     return arena
 
 
 def grown():
-    """The arena after so many growths, and how many entries were inserted then."""
+    """The arena after `GROWTHS` growths, and how many entries were inserted then."""
     arena, used, entries, growths = 128, 0, 0, 0
     while growths < GROWTHS:
         used += user_words(LETTERS) if entries < USERS else ABSENT_WORDS

@@ -16,7 +16,7 @@ PROGRAM = Path(os.environ.get("IMAGES", ROOT / "build" / "nscd-image-trials")).r
 COUNT = 100_000
 BATCH = 10_000
 SEED = 1
-# The users of the program; the first line of a name or of an id counts. Its table has room for so many words, and the moment is this one.
+# The users of the program; the first line of a name or of an id counts. Its table has room for `ROOM` words, and the moment is `NOW`.
 USERS = (
     ("root", "x", 0, 0, "root", "/root", "/bin/bash"),
     ("ann", "x", 1000, 1000, "Ann,,,", "/home/ann", "/bin/sh"),
@@ -118,7 +118,7 @@ def words(length):
 
 
 def brought_back(entries, answered, room, now):
-    """Those of the entries that come back into a table with so many words, at a moment at which the requests are answered so."""
+    """Those of the entries that come back into a table with `room` words, at a moment at which the requests are answered so."""
     kept, known, used = [], set(), 0
     for one in entries:
         size = 8 + words(len(one.key)) + words(len(one.reply))

@@ -179,7 +179,7 @@ class Subject:
 
 
 def refuse_all(work):
-    """Tries a subject with an allocation refused, then the one that is so many steps later, and so on until there are no more.
+    """Tries a subject with an allocation refused, then the one `step` later, and so on until there are no more.
 
     Each is refused alone, or with all that follow. Answers how many there were, how often each word came, and the faults.
     """
@@ -208,7 +208,7 @@ def listed(words):
 
 @contextmanager
 def workers(count):
-    """So many processes, and the library."""
+    """`count` processes, and the library."""
     with tempfile.TemporaryDirectory(prefix="nscd-refuse-") as folder:
         made = library(folder)
         with multiprocessing.get_context("fork").Pool(count) as pool:

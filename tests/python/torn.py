@@ -33,7 +33,7 @@ def passwd(count):
 
 
 def two_images(count):
-    """Images of so many users, whose numbers rise by three, and by one: a daemon that brings back those of the first puts the second."""
+    """Images of `count` users, whose numbers rise by three, and by one: a daemon that brings back those of the first puts the second."""
     timeout = int(time.time()) + 1800
     rows = [(number, f"u{number:04}".encode(), images.found(user(number))) for number in range(count)]
     return [images.image([images.entry(step * number, 0, key, reply, 0, timeout) for number, key, reply in rows]) for step in (3, 1)]
@@ -148,7 +148,7 @@ def small_disk(path):
 
 
 def fill(path, free):
-    """Fills the disk but for so many pages."""
+    """Fills the disk but for `free` pages."""
     with open(path, "wb", buffering=0) as sink:
         try:
             while sink.write(bytes(PAGE)):

@@ -139,7 +139,7 @@ def judged_in_time(name, path, sent, chance, answers):
 
 
 def at_sockets(work):
-    """So many requests of one seed at a socket: how many they were, how many connections had an answer, and the first differences."""
+    """`count` requests of one seed at a socket: how many they were, how many connections had an answer, and the first differences."""
     seed, name, path, count, files = work
     wild, answers = Wild(f"{seed}"), protocol.Answers(files)
     makes = {"socket": wild.request, "admin": wild.order, "gate": wild.lines}[name]
@@ -193,7 +193,7 @@ def memory_of(run, name):
 
 
 def phase(pool, folder, seed, count, files):
-    """So many requests, by pieces with a seed each; what they found, by socket."""
+    """`count` requests, by pieces with a seed each; what they found, by socket."""
     work = []
     for name, pieces in PIECES.items():
         each = count * pieces // sum(PIECES.values()) // pieces

@@ -11,7 +11,7 @@ PROGRAM = os.environ.get("NSCD", os.path.join(ROOT, "build", "nscd"))
 
 
 def reply(user, users):
-    """The reply on a user, where there are so many."""
+    """The reply on a user, where there are `users` users."""
     if user >= users:
         return struct.pack("<9i", 2, 0, 0, 0, -1, -1, 0, 0, 0)
     name = f"u{user}"

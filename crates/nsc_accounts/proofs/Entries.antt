@@ -13,7 +13,7 @@ use Rattle.nsc_accounts.specs.Fields.{exact_line_fields, line_fields, trimmed_sp
 use Rattle.nsc_accounts.specs.Group.{group_at, group_of_spans, group_places}
 use Rattle.nsc_accounts.specs.Passwd.{user_at, user_of_spans, user_places}
 
--- exactly so many
+-- exactly `n` items
 exactly_is : {A : Type 0} (n : ℕ) (items found : List A) → Some found ≡ exactly n items → items ≡ found
 exactly_is n items found h =
     elim (nat_eq (length items) n) as (λ v. nat_eq (length items) n ≡ v → Some found ≡ (if v then Some items else None) → items ≡ found) [

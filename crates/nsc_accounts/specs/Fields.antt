@@ -14,7 +14,7 @@ trimmed_span text line = record { from = line.to - length (trimmed (part text li
 abbrev pub line_fields : List ℕ → Span → List Span
 line_fields text line = field_spans 58 text (trimmed_span text line)
 
--- the same, where there are exactly so many and no byte is zero
+-- the fields of a line, if there are exactly `count` and no byte is zero
 abbrev pub exact_line_fields : ℕ → List ℕ → Span → Option (List Span)
 exact_line_fields count text line = if has_zero (part text line) then None else exactly count (line_fields text line)
 

@@ -17,7 +17,7 @@ byte_of_word words at i k low high =
     let rest : k - 8 * i ≡ k % 8 = omega arith in
     ap (λ (n : ℕ). slice_index (little_bytes 8 (slice_index words (at + n))) (k - 8 * i)) word ∙ ap (λ (n : ℕ). slice_index (little_bytes 8 (slice_index words (at + k / 8))) n) rest
 
--- a byte of words that begin so many words later
+-- a byte of words that begin `j` words later
 byte_later : (words : List ℕ) (at j k : ℕ) → byte_in words (at + j) k ≡ byte_in words at (8 * j + k)
 unfolding byte_in
 byte_later words at j k =

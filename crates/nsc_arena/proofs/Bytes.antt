@@ -14,7 +14,7 @@ use Rattle.nsc_words.proofs.Lows.{low_of_word}
 pub all_below : (bytes : List ℕ) → All (λ b. b < 256) bytes → (i : ℕ) → slice_index bytes i < 256
 all_below bytes all i = ⊎_elim (λ (h : i < length bytes). all i 0 h) (λ (h : length bytes ≤ i). let e : slice_index bytes i ≡ 0 = get_or_past bytes i 0 h in omega arith) (cases_lt i (length bytes))
 
--- the first eight bytes, where there are so many, and all of them where there are fewer
+-- the first eight bytes, if there are eight, and all of them if there are fewer
 first_eight : (xs : List ℕ) (c : ℕ) → c ≡ min (length xs) 8 → take 8 xs ≡ take c xs
 first_eight xs c is = ⊎_elim
     (λ (h : length xs < 8). let e : take 8 xs ≡ xs = take_all 8 xs (omega arith) in let f : take c xs ≡ xs = take_all c xs (omega arith) in e ∙ sym f)

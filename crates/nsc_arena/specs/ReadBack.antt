@@ -9,7 +9,7 @@ use Rattle.nsc_words.specs.declared.node.Placed.{Placed}
 use Rattle.nsc_words.specs.Laid.{words_in}
 use Rattle.nsc_words.specs.Layout.{arena_start}
 
--- a byte of the words from a place on, and so many of them
+-- a byte of the words from a place on, and `count` bytes
 unfoldable pub byte_in : List ℕ → ℕ → ℕ → ℕ
 byte_in words place i = slice_index (little_bytes 8 (slice_index words (place + i / 8))) (i % 8)
 
@@ -36,7 +36,7 @@ placed_in words place = record {
   usable = slice_index words (place + 6) == 1;
 }
 
--- the nodes from a place on up to another, before which these stand, the newest first; at most so many of them
+-- the nodes from a place on up to another, before which these stand, the newest first; at most `count` more
 abbrev pub nodes_from : ℕ → List ℕ → ℕ → ℕ → List Placed → List Placed
 nodes_from zero words from end before = before
 nodes_from (suc count) words from end before = if nat_lt from end then nodes_from count words (from + words_in (placed_in words from).node) end (placed_in words from ∷ before) else before

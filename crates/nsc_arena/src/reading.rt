@@ -84,7 +84,7 @@ pub fn has_bytes<W: Words>(table: &mut W, at: usize, bytes: &[u8]) -> bool
     true
 }
 
-/// Puts so many bytes of the words from a place on after those of a buffer. The caller knows that they fit.
+/// Puts `len` bytes of the words from a place on after those of a buffer. The caller knows that they fit.
 pub fn read_bytes<W: Words>(table: &mut W, at: usize, len: usize, out: &mut Buf)
     requires size { length (W.words table.old) < 2 ^ 63 }
     requires inside { at + words_for len ≤ length (W.words table.old) }
@@ -102,7 +102,7 @@ pub fn read_bytes<W: Words>(table: &mut W, at: usize, len: usize, out: &mut Buf)
     }
 }
 
-// The bytes of so many words from a place on, and zeros after them.
+// The bytes of `count` words from a place on, and zeros after them.
 fn block_at<W: Words>(table: &mut W, at: usize, count: usize) -> [u8; 64]
     requires size { length (W.words table.old) < 2 ^ 63 }
     requires inside { at + count ≤ length (W.words table.old) }

@@ -9,7 +9,7 @@ use Rattle.nsc_base.specs.Addresses.{around_pair, between_colons, each_spelled, 
 use Rattle.nsc_base.specs.Text.{fields_of}
 use Rattle.nsc_base.proofs.Options.{map_keeps, when_true}
 
--- so many numbers, where there are any
+-- `n` numbers, if there are any
 abbrev HasLength : ℕ → Option (List ℕ) → Type 0
 HasLength n o = IfSome o (λ numbers. length numbers ≡ n)
 

@@ -1,4 +1,4 @@
--- So many fields and no other number of them, found one after another.
+-- An exact number of fields, found one after another.
 use Rattle.std.proofs.Common.{◌≡◌, ◌≢◌, ℕ, ◌+◌, ◌-◌, ◌<◌, ◌≤◌, Bool, true, false, nat_eq, ◌==◌, if◌then◌else◌, List, [], ◌∷◌, ◌++◌, length, map, take, slice_range, Option, Some, None, refl, sym, ◌∙◌, ap, arith, set, append_assoc, length-append}
 use Rattle.std.specs.List.{AllWithin}
 use Rattle.std.specs.Option.{option_map}
@@ -41,7 +41,7 @@ field_stands cut text within from field inside is =
     ∙ ap (λ n. record { from = n; to = field.span.to } ∷ spans_of (from + length (part text field.span) + 1) others) (sym is.begins)
     ∙ ap (λ n. field.span ∷ spans_of n others) next
 
--- ---- exactly so many
+-- ---- exactly `n` items
 
 other_count : {A : Type 0} (n : ℕ) (items : List A) → length items ≢ n → exactly n items ≡ None
 other_count n items ne =

@@ -1,4 +1,4 @@
--- A text that is cut into the pieces between certain bytes, those without the empty ones: what stands after so many of its bytes.
+-- A text that is cut into the pieces between certain bytes, those without the empty ones: what stands after a number of its bytes.
 use Rattle.std.proofs.Common.{◌≡◌, ℕ, ◌==◌, ◌+◌, ◌<◌, ◌≤◌, true, false, List, [], ◌∷◌, ◌++◌, filter, length, get_or, set, take, drop, refl, sym, ap, subst, ◌∙◌, append_assoc, length-append, arith}
 use Rattle.std.specs.List.{list_any}
 use Rattle.std.proofs.lemmas.List.{append-nil, drop-append-le, drop_all, drop_more, get_or-set_other, length-set, length-take, length-take-le, take-append-drop, take-append-le, take_all, take_more, take_more_set}

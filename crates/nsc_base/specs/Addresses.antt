@@ -22,7 +22,7 @@ each_spelled spelled (text ∷ texts) = do
   others ← each_spelled spelled texts
   Some (first ∷ others)
 
--- so many, or nothing
+-- `count` numbers, or nothing
 abbrev pub exactly : ℕ → Option (List ℕ) → Option (List ℕ)
 exactly count None = None
 exactly count (Some numbers) = if length numbers == count then Some numbers else None

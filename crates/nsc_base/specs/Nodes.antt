@@ -1,11 +1,11 @@
 -- How much of a cache's room an entry takes, in words of eight bytes.
 use Rattle.std.specs.Prelude.{ℕ, ◌+◌, ◌/◌}
 
--- how many words hold so many bytes
+-- how many words hold `bytes` bytes
 abbrev pub words_for : ℕ → ℕ
 words_for bytes = (bytes + 7) / 8
 
--- an entry takes eight words, and those of its key and of its reply, of so many bytes each
+-- an entry takes eight words, and those of its key, of `key` bytes, and of its reply, of `reply` bytes
 abbrev pub node_words : ℕ → ℕ → ℕ
 node_words key reply = 8 + words_for key + words_for reply
 

@@ -239,7 +239,7 @@ fn read_more<R: Source>(conn_in: &mut R, held: &mut Vec<u8>) -> Result<bool, Gat
     }
 }
 
-// Drops so many bytes at the front.
+// Drops `count` bytes at the front.
 fn drop_front(held: &mut Vec<u8>, count: usize)
     requires { count ≤ length held.old.items }
     ensures { held.new.items ≡ drop count held.old.items }

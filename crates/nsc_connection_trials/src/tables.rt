@@ -87,7 +87,7 @@ pub fn failing_writes<R: AllocGlobal + Wait>(rt: &R) -> Result<Outcome, NoMemory
     Ok(Outcome::Right)
 }
 
-// The first bytes of these, so many, or all where there are no more.
+// The first `count` of these bytes, or all if there are no more.
 fn front(bytes: &'static [u8], count: usize) -> &'static [u8] {
     bytes.get(..count).unwrap_or(bytes)
 }

@@ -31,7 +31,7 @@ pub enum Step {
     LongLines,
     /// Nobody, until the flag is set.
     QuietUntilSet,
-    /// Nobody, so many times.
+    /// Nobody, this number of times.
     Quiet(u32),
 }
 

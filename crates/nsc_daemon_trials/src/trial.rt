@@ -69,7 +69,7 @@ impl Trial {
         }
     }
 
-    // Nobody comes so many times.
+    // Nobody comes, `times` times.
     fn rest(&mut self, times: u32) -> Result<(), NoMemory> {
         for _ in 0..times {
             self.arrivals.push(Arrival::Quiet)?;

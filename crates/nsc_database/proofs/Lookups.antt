@@ -136,7 +136,7 @@ missed_at (fault.TooLong file size) settings seen after request m = m
 
 -- ---- a lookup that makes its answer anew
 
--- what it knows before its insertion: no entry of the request was live, and the content was polled since so many invalidations
+-- what it knows before its insertion: no entry of the request was live, and the content was polled since `epoch` invalidations
 pub record Anew (seen mid : List Record) (request : Request) (epoch : ℕ) (polled : Polled) : Type 0 where
   pub legal : Legal seen
   pub legal_mid : Legal mid

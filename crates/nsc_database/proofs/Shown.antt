@@ -248,7 +248,7 @@ leaves_full (inserted.Present number) loaded before w w' same failed i r = tt
 leaves_full (inserted.Spent count) loaded before w w' same failed i r = tt
 leaves_full (inserted.Full need free) loaded before w w' same failed i r = (ap (λ (x : Writer). x.seen) i.1 ∙ same, subst (λ (x : Writer). free + x.cache.used ≡ x.layout.arena) (sym i.1) r.1, ap (λ (x : Writer). x.cache.add_failed) i.1 ∙ ap next_count failed)
 
--- so an insertion was that needs so many words
+-- so an insertion was that needs `need` words
 pub record WasFull (need : ℕ) (loaded : Loaded) (w w' : Writer) : Type 0 where
   pub needed : need ≡ node_words (length loaded.request.key) (length loaded.answer.bytes)
   pub full : w'.layout.arena < w'.cache.used + need

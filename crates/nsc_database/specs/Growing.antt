@@ -8,11 +8,11 @@ use Rattle.nsc_writer.specs.Former.{Former}
 use Rattle.nsc_growth.specs.Doubled.{IsNext}
 use Rattle.nsc_database.specs.Rests.{Desk}
 
--- no table that a database may grow to has so many words for its entries
+-- no table that a database may grow to has `words` words for its entries
 abbrev pub IsAboveAll : DbConf → ℕ → Type 0
 IsAboveAll settings words = (doublings : ℕ) → MayGrow settings doublings → arena_after settings doublings < words
 
--- the writer went over to the first of the larger tables that has room for so many words beside its entries, and left its own
+-- the writer went over to the first of the larger tables that has room for `need` words beside its entries, and left its own
 pub record GoesOver (settings : DbConf) (need : ℕ) (before after : Desk) : Type 0 where
   pub former : Former
   pub next : IsNext settings.max_size before.writer.layout (before.writer.cache.used + need) (Some after.writer.layout)

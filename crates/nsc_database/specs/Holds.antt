@@ -24,13 +24,13 @@ abbrev pub IsLooked : HitOrMiss → List Record → Request → List ℕ → Typ
 IsLooked (looked.Hit hit) after request reply = IsHit after request reply hit.number
 IsLooked (looked.Missed epoch) after request reply = (epoch ≡ invalidations after) × NoneLiveOf after request
 
--- this content is a version, polled after so many invalidations
+-- this content is a version, polled after at least `epoch` invalidations
 pub record IsPolledVersion (seen : List Record) (epoch : ℕ) (polled : Polled) : Type 0 where
   pub epoch_is : polled.stamp.epoch ≡ epoch
   pub version : version_in seen polled.stamp.version ≡ Some polled.content
   pub since : PolledSince seen polled.stamp.version polled.stamp.epoch
 
--- a poll of this content, after so many invalidations
+-- a poll of this content, after at least `epoch` invalidations
 pub record IsPolled (seen after : List Record) (epoch : ℕ) (polled : Polled) : Type 0 where
   pub epoch_is : polled.stamp.epoch ≡ epoch
   pub version : version_in after polled.stamp.version ≡ Some polled.content
@@ -51,7 +51,7 @@ pub record HasFree (arena free : ℕ) (history : List Record) : Type 0 where
   pub live : AreLive history entries
   pub rest : free + words_of entries ≡ arena
 
--- an entry needs more words than are free of a table of so many, unless there are no more compactions
+-- an entry needs more words than are free of a table of `arena` words, unless there are no more compactions
 pub record FindsNoRoom (arena : ℕ) (last_cycle : Type 0) (loaded : Loaded) (after : List Record) (need free : ℕ) : Type 0 where
   pub needed : need ≡ node_words (length loaded.request.key) (length loaded.answer.bytes)
   pub less : free < need
@@ -66,11 +66,11 @@ IsInsertedOr no_room (inserted.Present number) loaded seen after = (e : Entry) �
 IsInsertedOr no_room (inserted.Spent count) loaded seen after = (count ≡ last_count) × (loads after ≡ count)
 IsInsertedOr no_room (inserted.Full need free) loaded seen after = no_room need free
 
--- of an insertion into a table of so many words; there may be no more compactions
+-- of an insertion into a table of `arena` words; there may be no more compactions
 abbrev pub IsInserted : ℕ → Type 0 → Inserted → Loaded → List Record → List Record → Type 0
 IsInserted arena last_cycle said loaded seen after = IsInsertedOr (FindsNoRoom arena last_cycle loaded after) said loaded seen after
 
--- and of one that was tried once more where the table could become large enough, which has so many words then
+-- and of one that was tried once more where the table could become large enough, which has `words` words then
 abbrev pub IsKept : DbConf → ℕ → Type 0 → Inserted → Loaded → List Record → List Record → Type 0
 IsKept settings words last_cycle said loaded seen after = IsInsertedOr (IsFull settings words after last_cycle loaded.request loaded.answer.bytes) said loaded seen after
 

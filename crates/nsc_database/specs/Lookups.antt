@@ -46,7 +46,7 @@ given_by (inserted.Present number) bytes = given.Fresh bytes (why.Present number
 given_by (inserted.Spent count) bytes = given.Fresh bytes (why.Spent count)
 given_by (inserted.Full need free) bytes = given.Fresh bytes (why.Full need free)
 
--- an insertion was tried, and once more where the table could become large enough, which has so many words then; there may be no more
+-- an insertion was tried, and once more where the table could become large enough, which has `words` words then; there may be no more
 -- compactions; and the lookup gives this
 pub record IsTried (settings : DbConf) (words : ℕ) (last_cycle : Type 0) (loaded : Loaded) (seen after : List Record) (g : Given) : Type 0 where
   pub said : Inserted

@@ -21,7 +21,7 @@ use Rattle.nsc_image.specs.Saving.{IsEntryOf}
 use Rattle.nsc_database.specs.Steady.{KeepsVersion, StaysStill, WasSteady}
 
 -- The reloads of a request are those that an image brought back for it, and its entries that ended to be reloaded. An entry counts at
--- most so many.
+-- most the sum of both.
 abbrev pub IsReloaded : (Request → ℕ) → List Record → Kept → Type 0
 IsReloaded brought history k = k.reloads ≤ brought k.entry.request + replaced history k.entry.request
 

@@ -72,7 +72,7 @@ IsHoldFault (fault.TooLong file size) after last_cycle ended = ⊥
 abbrev pub EndsInTime : Answering → Type 0
 EndsInTime a = (answer : Answer) → a.moment + life_of a.settings answer < 2 ^ 63
 
--- what is to be loaded again for those that are due, over one version, polled after so many invalidations
+-- what is to be loaded again for those that are due, over one version, polled after at least `epoch` invalidations
 pub record AreAnew (history : List Record) (epoch : ℕ) (due : List Due) (loads : List (Option Loaded)) : Type 0 where
   pub answering : Answering
   pub files : Content
@@ -103,7 +103,7 @@ IsRenewed brought history d = d.ended ≡ true → d.dropped ≡ false → d.rel
 abbrev pub compacted_by : Writer → Writer
 compacted_by w = record w { cache = record w.cache { cycle = w.cache.cycle + 2; used = all_words w.cache.entries } }
 
--- the due entries are ended, or the database was invalidated after so many invalidations
+-- the due entries are ended, or the database was invalidated after `epoch` invalidations
 abbrev pub AreOver : ℕ → List Record → List Due → Type 0
 AreOver epoch history due = (epoch < invalidations history) ⊎ ((n : ℕ) → HasNumber due n → HasEnd history n)
 

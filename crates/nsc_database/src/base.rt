@@ -101,7 +101,7 @@ impl<D: OfDb, F: FileSet + Drop, A: Answerer + Drop, B: Room> Base<D, F, A, B> {
         Ok(desk.look(kind, key, &mut pass.reply))
     }
 
-    /// Reads the files of the database and polls them, where so many invalidations were noted before.
+    /// Reads the files of the database and polls them, where `epoch` invalidations were noted before.
     pub fn poll<R: Wait>(
         &self,
         rt: &R,

@@ -180,7 +180,7 @@ impl<D: OfDb, B: Room> Desk<D, B> {
         look(&mut self.writer, kind, key, reply)
     }
 
-    /// Enters that the files were looked at, after so many invalidations: what was fetched becomes the newest version, or confirms
+    /// Enters that the files were looked at, after `epoch` invalidations: what was fetched becomes the newest version, or confirms
     /// it. At `Spent` a new version is needed, and the count of versions stands at its end.
     pub fn poll<F: FileSet + Drop, A: Answerer>(
         &mut self,
@@ -246,7 +246,7 @@ impl<D: OfDb, B: Room> Desk<D, B> {
         }
     }
 
-    /// Ends those that are due, unless the database was invalidated since so many invalidations, and loads those again that are
+    /// Ends those that are due, unless the database was invalidated since `epoch` invalidations, and loads those again that are
     /// to be. At `Spent` the count of the beginnings and the ends of slides stands at its end, and the ended ones are not loaded
     /// again.
     pub fn renew(

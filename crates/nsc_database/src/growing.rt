@@ -108,7 +108,7 @@ impl<D: OfDb, B: Room> Desk<D, B> {
         self.writer.insert(loaded)
     }
 
-    // The writer goes over to a larger table, where one that it may go over to has room for so many words beside its entries. Says
+    // The writer goes over to a larger table, where one that it may go over to has room for `need` words beside its entries. Says
     // whether it did. For want of memory nothing changed.
     fn grow(&mut self, alloc: Global, settings: &DbConf, need: u64) -> Result<bool, NoMemory>
         requires settings { settings.now ≡ settings_of B.conf D.db }

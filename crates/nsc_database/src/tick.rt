@@ -156,7 +156,7 @@ impl<D: OfDb, F: FileSet + Drop, A: Answerer + Drop, B: Room> Base<D, F, A, B> {
         loads(alloc, &self.answers, ready, &answering, due)
     }
 
-    // The content that was polled, prepared further where that serves so many answers better.
+    // The content that was polled, prepared further if that serves `count` answers better.
     fn further(&self, alloc: Global, polled: &Polled<A>, count: usize) -> Option<A::Ready>
         ensures { IfSome result (λ made. A.prepared_from made ≡ polled.now.content) }
     {

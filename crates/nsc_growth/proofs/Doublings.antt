@@ -25,7 +25,7 @@ fewer_fit limit j k layout low fits =
     let arena = product_less layout.arena j k low in
     record { bytes = omega arith; words = omega arith }
 
--- this is how large it became so far, and no table before has room for so many words
+-- this is how large it became so far, and no table before has room for `wanted` words
 pub record Tried (layout : Layout) (wanted : ℕ) (larger : Layout) : Type 0 where
   pub doublings : ℕ
   pub is : larger ≡ doubled (doublings + 1) layout

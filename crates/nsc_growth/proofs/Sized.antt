@@ -20,7 +20,7 @@ sized_first settings = record {
   is = λ i. record { buckets = sym (mul-one settings.size) i; arena = sym (mul-one (room_of settings)) i };
 }
 
--- entries may take so many words of the whole table
+-- entries may take `layout.arena` words of the whole table
 pub sized_arena : (settings : DbConf) (layout : Layout) → IsSized settings layout → IsArena settings (table_words layout) layout.arena
 sized_arena settings layout sized = record { doublings = sized.doublings; grown = sized.grown; all = ap table_words sized.is; is = ap (λ (l : Layout). l.arena) sized.is }
 
@@ -68,7 +68,7 @@ larger_short settings layout wanted sized none k may =
     let is : doubled (k + 1) layout ≡ doubled (sized.doublings + (k + 1)) (first_layout settings) = doubled_on settings layout sized.doublings (k + 1) sized.is in
     subst (λ (l : Layout). l.arena < wanted) is (none k (subst (Fits settings.max_size) (sym is) (grown_fits settings (sized.doublings + (k + 1)) may)))
 
--- where it has no room for so many words, and growth finds none that has, no table that the first one may become has room for them
+-- where it has no room for `wanted` words, and growth finds none that has, no table that the first one may become has room for them
 pub sized_largest : (settings : DbConf) (layout : Layout) (wanted : ℕ) → IsSized settings layout → layout.arena < wanted → IsNext settings.max_size layout wanted None → (d : ℕ) → MayGrow settings d → arena_after settings d < wanted
 sized_largest settings layout wanted sized short none d may = by_order (cases_lt sized.doublings d) where
   by_order : (sized.doublings < d) ⊎ (d ≤ sized.doublings) → arena_after settings d < wanted

@@ -8,12 +8,12 @@ use Rattle.nsc_words.specs.Layout.{table_words}
 abbrev pub doubled : ℕ → Layout → Layout
 doubled k layout = record { buckets = layout.buckets * 2 ^ k; arena = layout.arena * 2 ^ k }
 
--- the whole table takes at most so many bytes, and its entries at most 64 MiB
+-- the whole table takes at most `limit` bytes, and its entries at most 64 MiB
 pub record Fits (limit : ℕ) (layout : Layout) : Type 0 where
   pub bytes : 8 * table_words layout ≤ limit
   pub words : layout.arena ≤ most_words
 
--- the next layout is this one doubled once or more: it fits, it has room for so many words, and fewer doublings give no room for them
+-- the next layout is this one doubled once or more: it fits, it has room for `wanted` words, and fewer doublings give no room for them
 pub record HasRoom (limit : ℕ) (layout : Layout) (wanted : ℕ) (next : Layout) : Type 0 where
   pub doublings : ℕ
   pub is : next ≡ doubled (doublings + 1) layout
@@ -21,7 +21,7 @@ pub record HasRoom (limit : ℕ) (layout : Layout) (wanted : ℕ) (next : Layout
   pub room : wanted ≤ next.arena
   pub first : (j : ℕ) → j < doublings → (doubled (j + 1) layout).arena < wanted
 
--- the next layout with room for so many words, if there is one that fits
+-- the next layout with room for `wanted` words, if there is one that fits
 abbrev pub IsNext : ℕ → Layout → ℕ → Option Layout → Type 0
 IsNext limit layout wanted None = (k : ℕ) → Fits limit (doubled (k + 1) layout) → (doubled (k + 1) layout).arena < wanted
 IsNext limit layout wanted (Some next) = HasRoom limit layout wanted next

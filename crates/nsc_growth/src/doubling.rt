@@ -6,10 +6,10 @@ ghost use Rattle.nsc_growth.specs.Doubled.{Fits, IsNext, doubled};
 use nsc_words::{HEAD_WORDS, Layout};
 use std::marker::Model;
 
-// Entries take at most so many words of eight bytes, which are 64 MiB.
+// Entries take at most `MOST_WORDS` words of eight bytes, which are 64 MiB.
 const MOST_WORDS: usize = 8_388_608;
 
-/// Growth by doubling, both of the buckets and of the words that entries may take, as long as a table takes at most so many bytes.
+/// Growth by doubling, both of the buckets and of the words that entries may take, as long as a table takes at most `limit` bytes.
 #[derive(Clone, Copy, Debug)]
 pub struct Doubling {
     limit: u32,
@@ -26,7 +26,7 @@ impl Model for Doubling {
 }
 
 impl Doubling {
-    /// Growth up to so many bytes.
+    /// Growth up to `limit` bytes.
     pub fn new(limit: u32) -> Doubling
         ensures { result ≡ limit }
     {

@@ -189,7 +189,7 @@ restored_next settings now files entries s before w w' is next =
 
 -- ---- the loop
 
--- of the entries of an image these are back, so many of which were inserted, and those are left
+-- of the entries of an image these are back, `kept` of which were inserted, and those are left
 pub record Restores (settings : DbConf) (now : ℕ) (files : Content) (image : List Saved) (before w : Writer) (entries left : List Saved) (kept : ℕ) : Type 0 where
   pub is : w ≡ restored_by settings now files entries before
   pub parts : image ≡ entries ++ left

@@ -21,7 +21,7 @@ pub last_number-push : (last : Option ℕ) (entries : List Saved) (s : Saved) �
 last_number-push last [] s = refl
 last_number-push last (e ∷ entries) s = last_number-push (Some e.number) entries s
 
--- so many entries were taken, the last of them with this number, and the rest is left
+-- `count` entries were taken, the last of them with this number, and the rest is left
 pub record Walk (db : Db) (version : ℕ) (bytes : List ℕ) (count : ℕ) (last : Option ℕ) (rest : List ℕ) : Type 0 where
   pub entries : List Saved
   pub stand : Stand db version bytes entries rest

@@ -11,7 +11,7 @@ pub record Draft : Type 0 where
   pub db : Db
   pub entries : List Saved
 
--- the bytes are a head without its count, and so many entries
+-- the bytes are a head without its count, and `count` entries
 abbrev pub draft_of : Db → ℕ → List ℕ → Draft
 draft_of db count bytes = record { db = db; entries = saved_in image_version count (drop 20 bytes) }
 

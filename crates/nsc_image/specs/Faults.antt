@@ -40,7 +40,7 @@ abbrev pub first_failing : List (ℕ × Bool) → Option ℕ
 first_failing [] = None
 first_failing (check ∷ checks) = if check.1 then first_failing checks else Some check.0
 
--- behind these entries, this place is told: a fault of the next of so many entries, or the first byte behind the last one
+-- behind these entries, this place is told: a fault of the next of `count` entries, or the first byte behind the last one
 abbrev pub BreaksBehind : Db → ℕ → ℕ → List Saved → List ℕ → ℕ → Type 0
 BreaksBehind db version count entries rest at =
     ((length entries < count) × (first_failing (entry_checks db version (last_number None entries) rest) ≡ Some at))
@@ -74,7 +74,7 @@ HasDigest bytes = HasVersion bytes × (kept_digest bytes ≡ sha256 (front_of by
 abbrev pub HasDatabase : Db → List ℕ → Type 0
 HasDatabase db bytes = HasDigest bytes × (field_in bytes 12 ≡ db_number db)
 
--- each check up to those of the entries passes; there are to be so many entries of this version, in these bytes
+-- each check up to those of the entries passes; there are to be `count` entries of this version, in these bytes
 pub record IsOpened (db : Db) (bytes : List ℕ) (version count : ℕ) (entries : List ℕ) : Type 0 where
   pub passes : HasDatabase db bytes
   pub version_is : version ≡ field_in bytes 8

@@ -10,6 +10,6 @@ pub record Stand (db : Db) (version : ℕ) (bytes : List ℕ) (entries : List Sa
   pub rising : Rise None entries
   pub parts : bytes ≡ flat_map (saved_bytes version) entries ++ rest
 
--- so many entries fill the bytes
+-- `count` entries fill the bytes
 abbrev pub Fill : Db → ℕ → ℕ → List ℕ → Type 0
 Fill db version count bytes = (entries : List Saved) × Stand db version bytes entries [] × (length entries ≡ count)

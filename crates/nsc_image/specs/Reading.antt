@@ -44,7 +44,7 @@ saved_at version bytes =
     saved_with (wide_field_in bytes 0) (kind_or_any (kind_numbered (field_in bytes 8))) (key_in version bytes) (reply_in version bytes)
     (nat_lt 0 (field_in bytes 20)) (reloads_in version bytes) (wide_field_in bytes (timeout_at version))
 
--- so many entries, one after the other
+-- a number of entries, one after the other
 unfoldable pub saved_in : ℕ → ℕ → List ℕ → List Saved
 saved_in version zero bytes = []
 saved_in version (suc count) bytes = saved_at version bytes ∷ saved_in version count (drop (saved_size version bytes) bytes)
@@ -56,7 +56,7 @@ pub record IsReadable (version : ℕ) (bytes : List ℕ) : Type 0 where
   pub reply_fits : field_in bytes 16 ≤ kept_limit
   pub whole : saved_size version bytes ≤ length bytes
 
--- so many entries are, one after the other
+-- a number of entries are readable, one after the other
 unfoldable pub AreReadable : ℕ → ℕ → List ℕ → Type 0
 AreReadable version zero bytes = Unit {0}
 AreReadable version (suc count) bytes = IsReadable version bytes × AreReadable version count (drop (saved_size version bytes) bytes)

@@ -46,7 +46,7 @@ fn restored(alloc: Global, image: &Image) -> Result<(Kept, Writer), NoMemory>
     Ok((kept, writer))
 }
 
-// Tells each of so many entries in a line: its number, its kind, its key and its reply by digits, its mark, its count of reloads and its
+// Tells each of `count` entries in a line: its number, its kind, its key and its reply by digits, its mark, its count of reloads and its
 // timeout.
 fn show_entries<R: Print>(rt: &R, alloc: Global, mut writer: Writer, count: u64) -> io::Result<()>
     requires { writer.slide ≡ None }

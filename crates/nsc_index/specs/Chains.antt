@@ -4,7 +4,7 @@ use Rattle.std.specs.List.{position_or_len}
 use Rattle.nsc_index.specs.declared.numbers.NumberAt.{NumberAt}
 use Rattle.nsc_index.specs.declared.chains.Chains.TheInside.{Inside}
 
--- the bucket of a number, of so many: what is said of chains holds for any function
+-- the bucket of a number, of `count` buckets: what is said of chains holds for any function
 unfoldable pub bucket : ℕ → ℕ → ℕ
 bucket count number = number * 2654435761 % 2 ^ 32 * count / 2 ^ 32
 

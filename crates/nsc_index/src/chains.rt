@@ -63,7 +63,7 @@ impl Chains {
     }
 }
 
-// So many numbers that are all the same: a fill of memory at one go.
+// `count` numbers that are all `number`: a fill of memory at one go.
 fn filled(alloc: Global, number: u32, count: usize) -> Result<Vec<u32>, NoMemory>
     ensures items { IfOk result (λ numbers. numbers.items ≡ replicate count number) }
     ensures len { IfOk result (λ numbers. vec_len numbers ≡ count) }
@@ -73,7 +73,7 @@ fn filled(alloc: Global, number: u32, count: usize) -> Result<Vec<u32>, NoMemory
     Ok(numbers)
 }
 
-// The bucket of a number, of so many.
+// The bucket of a number, of `count` buckets.
 #[tactic(auto, unfolding(crate::specs::Chains::bucket))]
 fn bucket_of(number: u32, count: usize) -> usize
     requires some { 0 < count }

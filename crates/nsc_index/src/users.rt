@@ -24,7 +24,7 @@ use nsc_accounts::{PasswdAt, user_named, user_numbered};
 use nsc_base::{NoMemory, Span};
 use std::alloc::Global;
 
-// The bytes of a short line: there is room at once for the rows of so many lines as stand in the text at this length.
+// The bytes of a short line: there is room at once for the rows of as many lines as stand in the text at this length.
 const SHORT_LINE: usize = 32;
 
 // The most rows that there is room for at once.

@@ -26,7 +26,7 @@ pub(crate) struct Timed<T: Drop> {
 #[derive(Drop)]
 pub(crate) struct Queue<T: Drop> {
     pub(crate) jobs: VecDeque<Timed<T>>,
-    // So many jobs there may be.
+    // How many jobs there may be.
     pub(crate) most: usize,
     pub(crate) sleeping: u64,
     pub(crate) looking: u64,
@@ -55,7 +55,7 @@ pub(crate) enum Next<T: Drop> {
 }
 
 impl<T: Drop> Queue<T> {
-    /// No job, of so many that there may be, and no worker.
+    /// No job, of at most `most` jobs, and no worker.
     pub(crate) fn new(alloc: Global, most: usize) -> Queue<T>
         ensures jobs { result.jobs.items ≡ [] }
         ensures most { result.most ≡ most }

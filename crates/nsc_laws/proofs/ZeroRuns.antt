@@ -4,7 +4,7 @@ use Rattle.std.proofs.lemmas.Bool.{eqb-true}
 use Rattle.std.proofs.lemmas.List.{take-append-drop, drop-drop}
 use Rattle.nsc_base.specs.Addresses.{zeros_at_front, Run, longest_run}
 
--- so many zeros stand after so many items
+-- `count` zeros stand after `before` items
 pub record HasZeros (xs : List ℕ) (before count : ℕ) : Type 0 where
   pub within : before + count ≤ length xs
   pub zeros : take count (drop before xs) ≡ replicate count 0

@@ -12,7 +12,7 @@ use std::thread::Threads;
 /// Calls of one kind, for their time.
 #[derive(Clone, Copy, Debug)]
 pub enum Load {
-    /// Lookups of users in turn, by so many threads together.
+    /// Lookups of users in turn, by `threads` threads together.
     Hits {
         /// How many threads.
         threads: u32,
@@ -120,7 +120,7 @@ pub fn name_of(number: u32) -> [u8; 11] {
     name
 }
 
-// Looks up as many users, from the one with this number on, so many seconds after each other, and says whether none of them had
+// Looks up as many users, from the one with this number on, `apart` seconds after each other, and says whether none of them had
 // an entry.
 fn misses<S: Store, R: Wait>(
     caller: &mut Caller<'_, '_, S, R>,
@@ -149,7 +149,7 @@ struct Users {
 }
 
 impl Users {
-    // So many of the users with entries, at least one and at most all.
+    // `asked` of the `entries` users with entries, at least one and at most all.
     fn of(entries: u32, asked: u32) -> Users {
         let users = asked.min(entries).max(1);
         Users {
@@ -200,7 +200,7 @@ where
     Ok(right.iter().all(|right| *right))
 }
 
-// Ticks as often, so many seconds after the last time, from a moment on, and says whether each tick was well.
+// Ticks `count` times, `apart` seconds after the last time, from a moment on, and says whether each tick was well.
 fn ticks<S: Store, R: Wait>(
     caller: &mut Caller<'_, '_, S, R>,
     from: u32,

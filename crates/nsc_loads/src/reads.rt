@@ -34,7 +34,7 @@ const BILLION: u64 = 1_000_000_000;
 // The length of the reply where no user was found.
 const ABSENT: usize = 36;
 
-/// Searches for users in turn, each of whom has an entry, by so many threads together; one that a compaction disturbs is made again as a
+/// Searches for users in turn, each of whom has an entry, by `threads` threads together; one that a compaction disturbs is made again as a
 /// lookup.
 #[derive(Clone, Copy, Debug)]
 pub struct Reads {

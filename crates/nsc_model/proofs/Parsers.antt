@@ -51,7 +51,7 @@ finds_now x = record { whatever = λ more. refl }
 
 -- ---- how many bytes a piece takes
 
--- what a parser finds takes so many bytes of those that it was given
+-- what a parser finds takes `size` bytes of those that it was given
 record Takes {A : Type 0} (p : Parser A) (size : A → ℕ) : Type 0 where
   parts : (bytes : List ℕ) (x : A × List ℕ) → p bytes ≡ Ok x → length bytes ≡ size x.0 + length x.1
 
@@ -69,7 +69,7 @@ guard_ok : {A : Type 0} (b : Bool) (d : Fault) (x : Result A Fault) (y : A) → 
 guard_ok true d x y e = absurd cc
 guard_ok false d x y e = (refl, e)
 
--- a piece that takes n bytes, and after it one that takes so many more
+-- a piece that takes n bytes, and after it one that takes `size` more
 takes_then : {A B : Type 0} (n : ℕ) (p : Parser A) (q : A → Parser B) (size whole : B → ℕ) → Takes p (λ _. n) → ((x : A) → Takes (q x) size) → ((y : B) → n + size y ≡ whole y) → Takes (then p q) whole
 takes_then n p q size whole a b sum = record {
   parts = λ bytes y e.
@@ -213,7 +213,7 @@ frame_sum (frame.Time moment) = refl
 frame_sum (frame.Invalidate db) = refl
 frame_sum frame.End = refl
 
--- a frame takes so many bytes
+-- a frame takes `frame_size` bytes
 frame_takes : Takes frame_at frame_size
 unfolding frame_at
 frame_takes = takes_then 1 (number_at 1) frame_after after_size frame_size (number_takes 1) after_takes frame_sum

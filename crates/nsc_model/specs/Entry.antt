@@ -10,14 +10,14 @@ pub record Entry : Type 0 where
   pub answer : Answer
   pub timeout : ℕ
 
--- a key has at most so many bytes (nscd-client.h)
+-- a key has at most `key_limit` bytes (nscd-client.h)
 abbrev pub key_limit : ℕ
 key_limit = 1024
 
--- a line of the gate has at most so many bytes, its newline not counted
+-- a line of the gate has at most `line_limit` bytes, its newline not counted
 abbrev pub line_limit : ℕ
 line_limit = 1100
 
--- a reply that is kept has at most so many bytes
+-- a reply that is kept has at most `kept_limit` bytes
 abbrev pub kept_limit : ℕ
 kept_limit = 65536

@@ -8,7 +8,7 @@ use Rattle.nsc_model.specs.declared.kind.Db.TheVariants as db
 use Rattle.nsc_model.specs.declared.kind.FileId.{FileId}
 use Rattle.nsc_model.specs.declared.kind.FileId.TheVariants as file
 
--- a file has at most so many bytes
+-- a file has at most `file_limit` bytes
 abbrev pub file_limit : ℕ
 file_limit = 16777216
 

@@ -45,7 +45,7 @@ made make parser bytes = parser bytes >>= λ piece. Ok (make piece.0, piece.1)
 unfoldable pub input_at : ℕ → List ℕ → Result (List ℕ × List ℕ) Fault
 input_at size bytes = if nat_lt input_limit size then Err NoFrame else chunk size bytes
 
--- after a Q: a length of four bytes, and so many bytes
+-- after a Q: a length of four bytes, and as many bytes as it says
 unfoldable pub request_at : List ℕ → Result (List ℕ × List ℕ) Fault
 request_at bytes = number_at 4 bytes >>= λ size. input_at size.0 size.1
 
@@ -53,7 +53,7 @@ request_at bytes = number_at 4 bytes >>= λ size. input_at size.0 size.1
 unfoldable pub held_at : ℕ → List ℕ → Result (List ℕ × List ℕ) Fault
 held_at size bytes = if nat_lt file_limit size then Err (LongFile size) else chunk size bytes
 
--- a length of four bytes, and so many bytes of a file
+-- a length of four bytes, and as many bytes of a file as it says
 unfoldable pub present_at : List ℕ → Result (List ℕ × List ℕ) Fault
 present_at bytes = number_at 4 bytes >>= λ size. held_at size.0 size.1
 

@@ -18,7 +18,7 @@ pub record MayGrow (settings : DbConf) (doublings : ℕ) : Type 0 where
   pub bytes : 8 * words_after settings doublings ≤ settings.max_size
   pub words : arena_after settings doublings ≤ most_words
 
--- a table of so many words is the first one, or one that it may become, and entries may take so many of them
+-- a table of `words` words is the first one, or one that it may become, and entries may take `arena` of them
 pub record IsArena (settings : DbConf) (words arena : ℕ) : Type 0 where
   pub doublings : ℕ
   pub grown : (doublings ≡ 0) ⊎ MayGrow settings doublings

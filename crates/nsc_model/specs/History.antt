@@ -160,7 +160,7 @@ EndedAfter seen history request = (e : Entry) → HasLoad seen e → e.request �
 abbrev pub LookedBetween : List Record → List Record → ℕ → Type 0
 LookedBetween seen history n = (moment : List Record) × IsPrefix moment history × (length seen < length moment) × LooksAt moment n
 
--- the version was looked at after at least so many invalidations
+-- the version was looked at after at least `epoch` invalidations
 abbrev pub PolledSince : List Record → ℕ → ℕ → Type 0
 PolledSince history n epoch = (moment : List Record) × IsPrefix moment history × LooksAt moment n × (epoch ≤ invalidations moment)
 

@@ -105,7 +105,7 @@ IsLoadedAgain arena ended request history = IsLoadedAfter ended request history 
 abbrev pub AreLoadedAgain : ℕ → List Record → Type 0
 AreLoadedAgain arena history = (number : ℕ) (before : List Record) (e : Entry) → IsPrefix (End number Replaced ∷ before) history → load_of before number ≡ Some e → IsLoadedAgain arena (End number Replaced ∷ before) e.request history
 
--- so many words of the table of this size are free, those that no live entry takes, and the live entries leave fewer than are needed of
+-- `free` words of the table of this size are free, those that no live entry takes, and the live entries leave fewer than are needed of
 -- every table that it may become
 pub record HasNoRoom (settings : DbConf) (words need free : ℕ) (history : List Record) : Type 0 where
   pub entries : List Entry
@@ -121,7 +121,7 @@ pub record IsFull (settings : DbConf) (words : ℕ) (history : List Record) (las
   pub less : free < need
   pub left : HasNoRoom settings words need free history ⊎ last_cycle
 
--- why a reply that was made anew is not kept, where the table has so many words
+-- why a reply that was made anew is not kept, where the table has `words` words
 abbrev pub IsWhy : Why → DbConf → ℕ → List Record → List Record → Type 0 → Request → List ℕ → Type 0
 IsWhy why.Disabled settings words seen after last_cycle request bytes = settings.enabled ≡ false
 IsWhy (why.TooLarge size) settings words seen after last_cycle request bytes = (size ≡ length bytes) × (kept_limit < size)

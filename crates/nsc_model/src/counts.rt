@@ -5,13 +5,13 @@ ghost use Rattle.nsc_model.specs.Machine.{next_count, reached};
 /// Where every count ends: 2^62.
 pub const LAST_COUNT: u64 = 4_611_686_018_427_387_904;
 
-/// A key has at most so many bytes (glibc's nscd-client.h).
+/// A key has at most `KEY_LIMIT` bytes (glibc's nscd-client.h).
 pub const KEY_LIMIT: usize = 1_024;
 
-/// A line of the gate has at most so many bytes, its newline not counted.
+/// A line of the gate has at most `LINE_LIMIT` bytes, its newline not counted.
 pub const LINE_LIMIT: usize = 1_100;
 
-/// A reply that is kept has at most so many bytes.
+/// A reply that is kept has at most `KEPT_LIMIT` bytes.
 pub const KEPT_LIMIT: usize = 65_536;
 
 /// The next count, which stays at its end.

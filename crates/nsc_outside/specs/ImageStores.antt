@@ -5,7 +5,7 @@ use Rattle.nsc_model.specs.declared.kind.Db.TheVariants as db
 use Rattle.nsc_outside.specs.declared.files.ReadCause.{ReadCause}
 use Rattle.nsc_outside.specs.declared.files.ReadCause.TheVariants as causes
 
--- an image that is given has at most so many bytes
+-- an image that is given has at most `image_limit` bytes
 abbrev pub image_limit : ℕ
 image_limit = 134217728
 

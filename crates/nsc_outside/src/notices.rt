@@ -4,7 +4,7 @@ ghost use Rattle.std.specs.Prelude.{◌≡◌, ◌+◌, ◌≤◌, ◌⊎◌, �
 use nsc_model::FileId;
 use std::sync::atomic::{AtomicBool, AtomicU64, Ordering};
 
-// A file is told of at most once in so many seconds.
+// A file is told of at most once in `PAUSE` seconds.
 const PAUSE: u64 = 60;
 
 /// When a fault of each file was told last, and whether that it is over is to be told, for all sets that share this.

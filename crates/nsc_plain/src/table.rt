@@ -76,7 +76,7 @@ impl EntryList {
         Ok(Some(reply))
     }
 
-    /// Takes the memory for so many more entries.
+    /// Takes the memory for `more` further entries.
     pub fn reserve(&mut self, more: usize) -> Result<(), NoMemory>
         ensures stays { self.new ≡ record self.old { capacity = self.new.capacity } }
         ensures room { OnOk result (length self.new.entries + more ≤ self.new.capacity) }

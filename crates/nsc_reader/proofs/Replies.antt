@@ -203,7 +203,7 @@ said_more layout place size number version copied known content count word p c s
     let count_is : count ≡ min (length e.answer.bytes - 8 * copied) 8 = c.count_is ∙ ap (λ (n : ℕ). min (n - 8 * copied) 8) is in
     (sym is, word_said e.answer.bytes content copied count word within.reply_bytes more count_is holds (c.at.said before e on))
 
--- so many words of the reply are copied, or all of it
+-- `copied` words of the reply are copied, or all of it
 pub record IsCopying (layout : Layout) (place size number version copied : ℕ) (content : List ℕ) (p : Pass) : Type 0 where
   pub found : AtVersion layout place size number p
   pub of_version : Tells p (λ e. e.version ≡ version)

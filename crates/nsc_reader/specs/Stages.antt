@@ -56,7 +56,7 @@ pub record OnNode (layout : Layout) (place : ℕ) (p : Pass) : Type 0 where
 abbrev pub key_words : Pass → ℕ
 key_words p = words_for (length p.searching.request.key)
 
--- so many words of an entry's key are those of the key that is searched for
+-- the first `compared` words of an entry's key are those of the key that is searched for
 abbrev pub HasWords : Pass → ℕ → Entry → Type 0
 HasWords p compared e = (i : ℕ) → i < compared → i < words_for (length e.request.key) → word_of e.request.key i ≡ word_of p.searching.request.key i
 
@@ -167,7 +167,7 @@ AtStage layout content (Last answer) p = AtLast content answer p
 
 -- ---- steps
 
--- at most so many are left. A node takes fewer than 20,000
+-- the most steps that are left. A node takes fewer than 20,000
 abbrev pub left_at : Layout → Stage → ℕ
 left_at layout (Bucket bucket) = 20000 * table_words layout
 left_at layout (FirstWord place) = 20000 * place + 9500
@@ -202,7 +202,7 @@ pub record Goes (layout : Layout) (old new : Pass) (content : List ℕ) (most : 
   pub at : AtStage layout content stage new
   pub fewer : left_at layout stage < most
 
--- any number of steps of a search under way, which then comes to a stage with at most so many left
+-- any number of steps of a search under way, which then is at a stage with at most `most` left
 pub record Comes (layout : Layout) (old new : Pass) (content : List ℕ) (most : ℕ) (stage : Stage) : Type 0 where
   pub keeps : Keeps old new
   pub at : AtStage layout content stage new

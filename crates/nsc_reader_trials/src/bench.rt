@@ -34,7 +34,7 @@ impl Model for Bench {
 }
 
 impl Bench {
-    /// No entry, over the first files, whose comments have at most so many letters. Fails only for want of memory.
+    /// No entry, over the first files, whose comments have at most `longest` letters. Fails only for want of memory.
     pub fn new(alloc: Global, layout: Layout, longest: u32) -> Result<Bench, NoMemory>
         requires { IsLayout layout }
     {

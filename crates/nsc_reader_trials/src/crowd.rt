@@ -10,7 +10,7 @@ use std::sync::Arc;
 // A search takes fewer steps.
 const MOST_STEPS: u32 = 1_000;
 
-// A search that has taken so many steps as others of its rank, and in how many ways it comes there.
+// A search that has taken as many steps as others of its rank, and in how many ways it comes there.
 #[derive(Drop)]
 struct Member {
     reader: Reader,
@@ -60,7 +60,7 @@ impl Tally {
             .saturating_add(self.moved)
     }
 
-    /// An answer that is reached in so many ways.
+    /// An answer that is reached in `ways` ways.
     pub fn count(&mut self, answer: InPlace, ways: u128, is_right: bool) {
         let kind = match answer {
             InPlace::Hit { .. } => &mut self.hits,

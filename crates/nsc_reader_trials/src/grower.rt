@@ -106,7 +106,7 @@ impl Grower {
         insert_key(alloc, &mut self.writer, &self.files, name)
     }
 
-    // Goes over to the next table that has room for so many more words, and says whether there is one.
+    // Goes over to the next table that has room for `need` more words, and says whether there is one.
     fn grow(&mut self, alloc: Global, need: u64) -> Result<bool, CacheFault>
         ensures { self.new ≡ self.old }
     {

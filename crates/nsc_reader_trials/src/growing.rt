@@ -17,7 +17,7 @@ use std::io::Print;
 use std::marker::Model;
 use std::sync::Arc;
 
-// The entry of a user takes sixteen words with a comment of so many letters, and that of an absent name 128.
+// The entry of a user takes sixteen words with a comment of `LETTERS` letters, and that of an absent name 128.
 const LETTERS: u32 = 11;
 
 const FIRST: Layout = Layout {

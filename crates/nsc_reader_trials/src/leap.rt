@@ -6,7 +6,7 @@ use nsc_words::Layout;
 use std::alloc::Global;
 use std::sync::Arc;
 
-// Three doublings make 1,024 words of the 128, and an entry takes 896 with a comment of so many letters.
+// Three doublings make 1,024 words of the 128, and an entry takes 896 with a comment of `LETTERS` letters.
 const FIRST: Layout = Layout {
     buckets: 1,
     arena: 128,

@@ -33,7 +33,7 @@ pub fn absent_name(number: u64) -> [u8; 920]
     name
 }
 
-/// The files: every user has a comment of so many letters. Fails only for want of memory.
+/// The files: every user has a comment of `letters` letters. Fails only for want of memory.
 pub fn files_with(alloc: Global, letters: u32) -> Result<Content, NoMemory> {
     let mut text = String::new(alloc);
     for user in 0..USERS {

@@ -92,7 +92,7 @@ impl Reader {
         self.answer
     }
 
-    /// Takes so many steps, or fewer, where it answers before.
+    /// Takes `steps` steps, or fewer if it answers before.
     pub fn take(&mut self, steps: u32) {
         for _ in 0..steps {
             self.step();

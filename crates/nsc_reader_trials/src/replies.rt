@@ -14,7 +14,7 @@ pub struct Replies {
 }
 
 impl Replies {
-    /// Those of comments of at most so many letters. Fails only for want of memory.
+    /// Those of comments of at most `longest` letters. Fails only for want of memory.
     pub fn new(alloc: Global, longest: u32) -> Result<Replies, NoMemory> {
         let mut contents = Vec::new(alloc);
         let mut replies = Vec::new(alloc);

@@ -7,7 +7,7 @@ use nsc_growth::Doubling;
 use nsc_words::Layout;
 use nsc_writer::Writer;
 
-/// The layout of the next table that takes at most so many bytes and has room for so many more words, if there is one. It compacts
+/// The layout of the next table that takes at most `limit` bytes and has room for `need` more words, if there is one. It compacts
 /// first, so that the words in use are those of live entries.
 pub fn roomier(writer: &mut Writer, limit: u32, need: u64) -> Option<Layout>
     requires { writer.old.slide ≡ None }

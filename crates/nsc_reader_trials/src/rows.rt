@@ -103,7 +103,7 @@ fn takes_two_out(bench: &mut Bench) -> bool {
     are_ended && are_out && !bench.unlink(0)
 }
 
-// So many entries, and a reader of one of them.
+// A writer of `entries` entries, and a reader of one of them.
 fn filled(alloc: Global, entries: u32, user: u32) -> Result<(Bench, Reader), NoMemory> {
     let mut bench = Bench::new(alloc, ONE_CHAIN, 0)?;
     for entry in 0..entries {

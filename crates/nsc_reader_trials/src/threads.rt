@@ -18,7 +18,7 @@ const LAYOUT: Layout = Layout {
     arena: 1024,
 };
 
-// A comment has at most so many letters.
+// A comment has at most `LONGEST` letters.
 const LONGEST: u32 = 180;
 
 // How many threads search.
@@ -29,10 +29,10 @@ const TURNS_TO_COMPACTION: u64 = 16;
 
 const TURNS_TO_CHANGE: u64 = 40;
 
-// The clock is asked after so many insertions.
+// The clock is asked after every `TURNS_TO_LOOK` insertions.
 const TURNS_TO_LOOK: u64 = 64;
 
-// So many of the newest entries stay live.
+// `LIVE` of the newest entries stay live.
 const LIVE: u64 = 6;
 
 /// What the threads did together.
@@ -86,7 +86,7 @@ enum Task {
     Search(Lookout),
 }
 
-/// Lets the threads go on for so many seconds. Fails only for want of memory.
+/// Lets the threads go on for `seconds` seconds. Fails only for want of memory.
 pub fn run_threads<R: Threads + Clock + Sync>(
     rt: &R,
     alloc: Global,
@@ -165,7 +165,7 @@ fn searched(replies: &Replies, lookout: &mut Lookout, user: u32) -> Done {
     done
 }
 
-// Writes for so many seconds.
+// Writes for `seconds` seconds.
 fn write_on<R: Clock>(
     rt: &R,
     alloc: Global,
@@ -205,7 +205,7 @@ fn written(alloc: Global, bench: &mut Bench, turn: u64) -> Result<Done, NoMemory
     Ok(done)
 }
 
-// Whether so many seconds have passed since a moment, or the clock does not tell.
+// Whether `seconds` seconds have passed since a moment, or the clock does not tell.
 fn has_passed<R: Clock>(rt: &R, start: Option<Instant>, seconds: u32) -> bool {
     let Some(start) = start else {
         return true;

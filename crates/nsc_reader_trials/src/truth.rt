@@ -1,7 +1,7 @@
 // What is true of the entries of a trial, and which answers that allows.
 use nsc_model::InPlace;
 
-// So many entries stand in the words before the trial begins: those of the users of the same numbers.
+// `FIRST_LOADS` entries stand in the words before the trial begins: those of the users of the same numbers.
 const FIRST_LOADS: u64 = 6;
 
 /// What a writer has done so far.

@@ -48,7 +48,7 @@ impl<A: Answerer> Prepared<A> {
         Ok(self.content.clone()?)
     }
 
-    /// What answers are made from over these files, for a lookup, or for so many entries that are loaded again; it is to be handed
+    /// What answers are made from over these files, for a lookup, or for `count` entries that are loaded again; it is to be handed
     /// back. For many answers it is prepared further, if there is memory for that. Fails only for want of memory.
     pub fn lend(&mut self, alloc: Global, answers: &A, count: usize) -> Result<A::Ready, NoMemory>
         ensures same { self.new ≡ self.old }

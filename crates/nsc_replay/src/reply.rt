@@ -7,7 +7,7 @@ ghost use Rattle.nsc_model.specs.Replay.{framed};
 use byteorder::{ByteOrder, LittleEndian};
 use nsc_outside::{Failed, Sink, write_all};
 
-// A reply of up to so many bytes goes out in one call with its length, and a longer one is not copied.
+// A reply of up to `SHORT_LIMIT` bytes goes out in one call with its length, and a longer one is not copied.
 const SHORT_LIMIT: usize = 508;
 
 // Its length and its bytes.

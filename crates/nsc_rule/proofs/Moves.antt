@@ -174,7 +174,7 @@ absorbs key id other v w s kept at apart there = joins key s id other v w (absor
 
 -- ---- what a seat knows once it was told
 
--- a search that counts so many more
+-- a search that counts `more` searches more
 abbrev pub with_searches : ℕ → Search → Search
 with_searches more w = record w { searches = w.searches + more }
 

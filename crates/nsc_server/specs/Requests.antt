@@ -48,7 +48,7 @@ abbrev pub IsDrainedIfShort : Option (List ℕ) → Asked → Type 0
 IsDrainedIfShort left (Short have) = IsDrained left
 IsDrainedIfShort left _ = Unit {0}
 
--- a source gave so many more bytes, or fewer where it ended
+-- a source gave `size` more bytes, or fewer if it ended
 pub record GetsMore (before after : Option (List ℕ)) (old new : List ℕ) (size : ℕ) : Type 0 where
   pub more : List ℕ
   pub moved : Moves before after more

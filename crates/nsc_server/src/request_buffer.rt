@@ -73,7 +73,7 @@ impl RequestBuffer {
         self.have = 0;
     }
 
-    // Reads so many bytes more, or fewer where the input ends.
+    // Reads `more` further bytes, or fewer if the input ends.
     fn read_on<R: Source>(&mut self, input: &mut R, more: usize) -> Result<(), Failed>
         requires { length self.old + more ≤ 1036 }
         ensures more { OnOk result (GetsMore (R.left input.old) (R.left input.new) self.old self.new more) }

@@ -13,6 +13,6 @@ abbrev pub known : Option Release → Option Release
 known None = None
 known (Some flag) = Some (record flag { is_set = true })
 
--- the flag once so many bytes came
+-- the flag once `count` bytes came
 abbrev pub signalled : ℕ → Option Release → Option Release
 signalled count first = if count == 0 then first else known first

@@ -3,7 +3,7 @@ use Rattle.std.specs.Prelude.{◌≡◌, ℕ, ◌+◌, Bool, false, true, List, 
 use Rattle.nsc_model.specs.Entry.{line_limit}
 use Rattle.memchr.specs.Find.{IsLastByte, is_byte}
 
--- how many of so many bytes can be served, by the place of the last newline among them: the whole lines, or all where they are one
+-- how many of `count` bytes can be served, by the place of the last newline among them: the whole lines, or all where they are one
 -- line that is too long
 abbrev pub size_by : Option ℕ → ℕ → ℕ
 size_by (Some last) count = last + 1

@@ -164,7 +164,7 @@ impl<R: Wait + Clock + Clone + Drop> Entrance<R> {
         }
     }
 
-    /// So many workers serve what it gives from now on, and share the patience that they may have.
+    /// Sets the number of workers, and with it how many slow peers may be waited for at once.
     pub(crate) fn set_workers(&self, workers: u64) {
         self.patience.allow(patient_of(workers));
     }

@@ -71,7 +71,7 @@ pub trait Listener {
         ensures peer { peer self.new ≡ peer self.old }
         ensures faults { faults self.new ≡ faults self.old };
 
-    /// So many workers serve what it gives from now on. All but one, and two at most, may wait long for a peer that does not read.
+    /// From now on `workers` workers serve what it gives. All but one, and two at most, may wait long for a peer that does not read.
     fn set_workers(&mut self, workers: usize)
         ensures given { given self.new ≡ given self.old }
         ensures bound { bound self.new ≡ bound self.old }

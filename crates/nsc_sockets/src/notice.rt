@@ -4,7 +4,7 @@ ghost use Rattle.std.specs.Duration.{as_nanos};
 
 use std::time::Duration;
 
-// A cause is told of at most once in so many seconds.
+// A cause is told of at most once in `PAUSE` seconds.
 const PAUSE: u64 = 60;
 
 /// When a cause was told of last, and whether that it is over is to be told.

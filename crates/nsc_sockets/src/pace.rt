@@ -4,7 +4,7 @@ use std::time::Duration;
 // Connections are near each other where so much time at most lies between two, in microseconds.
 const NEAR: u64 = 100;
 
-// How often connections that have waited long enough are looked for: once in so many seconds.
+// How often connections that have waited long enough are looked for: once in `ROUND` seconds.
 const ROUND: u64 = 1;
 
 /// How connections follow one another.

@@ -5,7 +5,7 @@ ghost use Rattle.std.specs.Duration.{as_nanos};
 use std::sync::atomic::{AtomicU64, Ordering};
 use std::time::Duration;
 
-// So many writers at most wait with patience.
+// At most `MOST` writers wait with patience.
 const MOST: u64 = 2;
 
 // How long a whole write may wait, with patience in seconds, and without in milliseconds.
@@ -21,7 +21,7 @@ pub(crate) struct Patience {
 }
 
 impl Patience {
-    /// For so many writers at a time.
+    /// For `most` writers at a time.
     pub(crate) fn new(most: u64) -> Patience {
         Patience {
             most: AtomicU64::new(most),
@@ -29,7 +29,7 @@ impl Patience {
         }
     }
 
-    /// For so many from now on. With none, those that have it lose it at their next turn.
+    /// For `most` writers from now on. With none, those that have it lose it at their next turn.
     pub(crate) fn allow(&self, most: u64) {
         self.most.store(most, Ordering::SeqCst);
     }
@@ -50,7 +50,7 @@ impl Patience {
     }
 }
 
-/// How many of so many workers may wait with patience: all but one, so that one is always free, and two at most.
+/// How many of `workers` workers may wait with patience: all but one, so that one is always free, and two at most.
 pub(crate) fn patient_of(workers: u64) -> u64
     ensures { result ≡ min (workers - 1) 2 }
 {

@@ -126,7 +126,7 @@ impl SinkReader {
     }
 }
 
-// So many cells.
+// `room` cells.
 fn blank(alloc: Global, room: usize) -> Result<Vec<AtomicU8>, NoMemory>
     ensures { IfOk result (λ cells. vec_len cells ≡ room) }
 {

@@ -8,7 +8,7 @@ const NEEDED: u64 = 23;
 // Each worker needs one for its connection, and one for the file that it reads.
 const OF_A_WORKER: u64 = 2;
 
-// So many connections may wait in each place, however few descriptors there are, and however many.
+// At least `LEAST` and at most `MOST` connections may wait in each place, whatever the number of descriptors.
 const LEAST: u64 = 4;
 
 const MOST: u64 = 4096;

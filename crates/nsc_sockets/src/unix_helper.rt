@@ -21,12 +21,12 @@ use std::{io, thread};
 // The turns of a wait: more than there can be.
 const TURNS: u64 = u64::MAX;
 
-// So many looks that find nothing come before a sleep, and while connections are kept, before a wait.
+// `LOOKS` looks that find nothing come before a sleep; while connections are kept, `LOOKS_KEPT` before a wait.
 const LOOKS: u32 = 5;
 
 const LOOKS_KEPT: u32 = 50;
 
-// So many connections whose requests are not whole are kept, and each for so long, in nanoseconds: most requests come at once.
+// At most `MOST_KEPT` connections whose requests are not whole are kept, each for `KEPT` nanoseconds: most requests come at once.
 const MOST_KEPT: usize = 8;
 
 const KEPT: u64 = 2_000_000;

@@ -60,7 +60,7 @@ pub struct UnixListener<R: Files<File = File> + Net + Wait + Clock + Clone + Dro
     processors: usize,
     // How many workers are to serve.
     workers: u32,
-    // So many connections may wait in each place.
+    // How many connections may wait in each place.
     share: usize,
     departures: Option<Departures<R>>,
     // How many connections wait for a worker.

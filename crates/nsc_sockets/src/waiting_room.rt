@@ -10,15 +10,15 @@ use std::os::fd::AsRawFd;
 use std::sync::Wait;
 use std::time::{Clock, Duration};
 
-// So many new connections are looked at again on each turn, and so often each. Most requests come at once.
+// At most `STANDING` new connections are looked at again on each turn, `LOOKS` times each. Most requests come at once.
 const STANDING: usize = 8;
 
 const LOOKS: u32 = 50;
 
-// So many connections may wait for bytes that the system tells of.
+// The most connections that may wait for bytes that the system tells of.
 const SLOTS: usize = 256;
 
-// Where the process has no descriptor left, so many leave, since files are to be read too.
+// If the process has no descriptor left, `SPARE` connections leave, since files are to be read too.
 const SPARE: usize = 8;
 
 // How long a connection may sit without a whole request, in nanoseconds.
@@ -33,12 +33,12 @@ pub(crate) struct WaitingRoom<R: Wait + Clock + Drop> {
     alloc: Global,
     standing: VecDeque<Guest<R>>,
     seats: Tokens<Guest<R>>,
-    // So many may sit.
+    // How many may sit.
     places: Places,
 }
 
 impl<R: Wait + Clock + Drop> WaitingRoom<R> {
-    /// A room with nobody in it, for so many at most, those that stand among them.
+    /// A room with nobody in it, for at most `most` connections, those that stand among them.
     pub(crate) fn new(alloc: Global, most: usize) -> Result<WaitingRoom<R>, AllocError> {
         Ok(WaitingRoom {
             alloc,

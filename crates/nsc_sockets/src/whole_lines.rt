@@ -5,10 +5,10 @@ ghost use Rattle.nsc_sockets.specs.WholeLines.{AreWholeLines};
 use memchr::memrchr;
 use nsc_model::LINE_LIMIT;
 
-/// So many bytes of a peer are seen ahead at most: a line of the gate and its newline, or a line that is too long.
+/// The most bytes of a peer that are seen ahead: a line of the gate and its newline, or a line that is too long.
 pub(crate) const MOST_SEEN: usize = LINE_LIMIT + 1;
 
-// So many bytes of lines are served before others have their turn.
+// At most `TURN` bytes of whole lines are served before others have their turn.
 const TURN: usize = 256;
 
 /// How many bytes at the front of those that were seen are served in one turn: the whole lines among the first 256, or where none ends

@@ -122,7 +122,7 @@ pub record IsReadAs (reads0 reads : FileId → ℕ) (latest : FileId → Option 
   pub told : IsAsTold (latest f) (file_of content f)
   pub part : IsAsTold (told_of held f) (file_of content f)
 
--- each of so many files that the database reads was
+-- each file of a number below `i` that the database reads was
 pub record AreRead (which : Db) (i : ℕ) (reads0 reads : FileId → ℕ) (latest : FileId → Option (Option (List ℕ))) (held : Option Content) (content : Content) : Type 0 where
   pub kept : NoneFell reads0 reads
   pub each : (f : FileId) → file_number f < i → is_read which f ≡ true → IsReadAs reads0 reads latest held content f
@@ -130,7 +130,7 @@ pub record AreRead (which : Db) (i : ℕ) (reads0 reads : FileId → ℕ) (lates
 pub none_read : (which : Db) (reads : FileId → ℕ) (latest : FileId → Option (Option (List ℕ))) (held : Option Content) (content : Content) → AreRead which 0 reads reads latest held content
 none_read which reads latest held content = record { kept = λ f. inl refl; each = λ f low. absurd (omega arith) }
 
--- of so many files and one more
+-- of the files of numbers below `i`, and one more
 by_next : (P : FileId → Type 0) (which : Db) (i : ℕ) (id : FileId) → file_number id ≡ i → ((f : FileId) → f ≢ id → file_number f < i → is_read which f ≡ true → P f) → (is_read which id ≡ true → P id)
     → (f : FileId) → file_number f < i + 1 → is_read which f ≡ true → P f
 by_next P which i id number others own f low on = elim (file_or_other f id) [

@@ -40,7 +40,7 @@ fn main(rt: HostRuntime) -> io::Result<ExitCode> {
     Ok(ExitCode::from(0))
 }
 
-// Makes so many calls, and tells each and then the words, where it is to.
+// Makes `calls` calls, and tells each and then the words, where it is to.
 fn make_calls<R: Print>(
     rt: &R,
     alloc: Global,
@@ -61,7 +61,7 @@ fn make_calls<R: Print>(
     println!(rt; "{calls} calls")
 }
 
-// Makes so many events, and tells whether the replay and the list replied the same.
+// Makes `events` events, and tells whether the replay and the list replied the same.
 fn make_events<R: Print>(rt: &R, alloc: Global, seed: u32, events: u32) -> io::Result<()> {
     match are_same(alloc, seed, events) {
         Ok(true) => println!(rt; "{events} events: same"),

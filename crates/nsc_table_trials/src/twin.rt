@@ -37,7 +37,7 @@ struct Twin {
     dice: Pcg32,
 }
 
-/// Makes so many events, and says whether the replay of their frames writes what the list replied. Fails only for want of memory, and
+/// Makes `events` events, and says whether the replay of their frames writes what the list replied. Fails only for want of memory, and
 /// where the list's counts came to their ends.
 pub fn are_same(alloc: Global, seed: u32, events: u32) -> Result<bool, CacheFault> {
     let settings = settings_of(seed);

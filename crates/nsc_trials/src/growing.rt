@@ -113,7 +113,7 @@ fn is_hit<S: Store, R: Wait>(
     }
 }
 
-// Whether entries take so many words of so many, and so many insertions found no room.
+// Whether entries take `used` words of `arena`, and `failed` insertions found no room.
 fn counts<S: Store, R: Wait>(
     caller: &mut Caller<'_, '_, S, R>,
     used: u64,

@@ -9,10 +9,10 @@ pub enum Wanted {
     Hit(u64),
     /// It was made anew, and inserted with this number.
     Loaded(u64),
-    /// It was made anew, and is not kept, since the database was invalidated so many times before the files were read, and so
-    /// many times by the insertion.
+    /// It was made anew, and is not kept, since the database was invalidated meanwhile: the number of
+    /// invalidations before the files were read, and by the insertion.
     Discarded(u64, u64),
-    /// It was made anew, and is not kept, since it needs so many words, and so many are free.
+    /// It was made anew, and is not kept, for want of room: the number of words that it needs, and of free words.
     Full(u64, u64),
 }
 

@@ -20,8 +20,8 @@ pub struct Answering {
     pub moment: u64,
 }
 
-/// The answer to the request of this kind and key over the version from which `ready` was made, as it is to be inserted with so many
-/// reloads without a use. Fails only for want of memory.
+/// The answer to the request of this kind and key over the version from which `ready` was made, as it is to be inserted with
+/// `reloads` reloads without a use. Fails only for want of memory.
 pub fn load<A: Answerer>(
     alloc: Global,
     answers: &A,

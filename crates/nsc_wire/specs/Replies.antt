@@ -31,7 +31,7 @@ abbrev pub ◌>>=◌ : {A B : Type 0} → Result A ℕ → (A → Result B ℕ) 
 
 -- ---- fields
 
--- the next bytes, so many of them
+-- the next `size` bytes
 unfoldable pub piece_at : ℕ → List ℕ → Result (List ℕ × List ℕ) ℕ
 piece_at size bytes = if nat_lt (length bytes) size then Err 0 else Ok (take size bytes, drop size bytes)
 

@@ -52,7 +52,7 @@ KeyFits bytes (wire.BadVersion version) = Unit {0}
 KeyFits bytes (wire.BadType type) = Unit {0}
 KeyFits bytes (wire.BadLength length) = Unit {0}
 
--- the head of a request, or a front of it, wants so many bytes of a key
+-- the head of a request, or a front of it, wants `size` bytes of a key
 pub record Wants (fields : List ℕ) (size : ℕ) : Type 0 where
   pub limit : size ≤ key_limit
   pub whole : 0 < size → length fields ≡ 12

@@ -26,7 +26,7 @@ pub enum ReplyFault {
 pub(crate) enum Broken {
     // Memory was short.
     NoMemory,
-    // The layout is broken where so many bytes are left.
+    // The layout is broken; this number of bytes is left there.
     Left(usize),
 }
 

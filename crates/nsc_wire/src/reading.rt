@@ -8,7 +8,7 @@ use crate::reply::FIELD;
 use nsc_base::{Bytes, Texts, before_byte, u32_at};
 use std::alloc::Global;
 
-// The next bytes, so many of them.
+// The next `size` bytes.
 #[tactic(auto, unfolding(crate::specs::Replies::piece_at))]
 pub(crate) fn piece(bytes: &[u8], size: usize) -> Result<(&[u8], &[u8]), Broken>
     ensures { Gives (λ x. (x.0.now, x.1.now)) result (piece_at size bytes.now) }
@@ -80,7 +80,7 @@ pub(crate) fn size(bytes: &[u8]) -> Result<(u32, &[u8]), Broken>
     Ok((size, rest))
 }
 
-// The bytes after the lengths of so many texts.
+// The bytes after the lengths of `count` texts.
 pub(crate) fn after_sizes(bytes: &[u8], count: u32) -> Result<&[u8], Broken>
     ensures { Gives (λ x. x.now) result (sizes_at count bytes.now) }
 {

@@ -57,7 +57,7 @@ AreRead given = (reader : ℕ) (d : Option (List (List ℕ))) → reader < reade
 abbrev pub differing_of : List (List ℕ) → List (List ℕ) → ℕ
 differing_of replies answers = count_by (λ p. not (bytes_eq p.0 p.1)) (zip replies answers)
 
--- each reader has an answer to each request that it asked, and so many answers of all differ from the reply to the same request
+-- each reader has an answer to each request that it asked, and `count` answers of all differ from the reply to the same request
 pub record CountsDiffering (replies : List (List ℕ)) (count : ℕ) : Type 0 where
   pub answers : List (List (List ℕ))
   pub readers : length answers ≡ reader_count

@@ -22,7 +22,7 @@ use Rattle.nsc_writer.specs.Writer.{IsAnswered}
 
 -- ---- polls
 
--- a poll that the newest record of a history is, after so many invalidations
+-- a poll that the newest record of a history is, after at least `epoch` invalidations
 pub polled_last : (r : Record) (h : List Record) (n epoch : ℕ) → LooksAt (r ∷ h) n → epoch ≤ invalidations (r ∷ h) → PolledSince (r ∷ h) n epoch
 polled_last r h n epoch looks low = (r ∷ h, ([], refl), looks, low)
 

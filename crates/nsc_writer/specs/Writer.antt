@@ -71,7 +71,8 @@ pub record IsNewest (content : Content) (version : ℕ) (cache : Cache) : Type 0
 
 -- ---- insertions
 
--- the answer is that of the request over the content of the stamp's version, which was looked at after so many invalidations
+-- the answer is that of the request over the content of the stamp's version, which was looked at after at least as many invalidations as
+-- its epoch says
 pub record IsAnswered (history : List Record) (loaded : Loaded) : Type 0 where
   pub files : Content
   pub version : version_in history loaded.stamp.version ≡ Some files

@@ -40,7 +40,7 @@ impl Model for Loaded {
 
 impl Loaded {
     /// The request of this kind and key, whose answer is this one over the version of the stamp. Its entry ends after the
-    /// moment `timeout`, in seconds, and counts so many reloads without a use.
+    /// moment `timeout`, in seconds, and counts `reloads` reloads without a use.
     pub fn new(
         kind: Kind,
         key: Bytes,

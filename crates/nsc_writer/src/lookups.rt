@@ -112,7 +112,7 @@ impl Writer {
     }
 }
 
-// Raises the count at a head word by so many. It stays at 2^62.
+// Raises the count at a head word by `more`. It stays at 2^62.
 fn raise(sheet: &mut Sheet, at: usize, more: u64)
     requires low { 5 ≤ at }
     requires high { at ≤ 9 }
@@ -122,7 +122,7 @@ fn raise(sheet: &mut Sheet, at: usize, more: u64)
     sheet.set_count(at, raised_count(count, more));
 }
 
-// Adds so many to a count, which stays at 2^62.
+// Adds `more` to a count, which stays at 2^62.
 fn raised_count(count: u64, more: u64) -> u64
     ensures { result ≡ min (count + more) last_count }
 {

@@ -9,7 +9,7 @@ use std::time::Duration;
 // A yield is late that took so long: others ran meanwhile. All times are in nanoseconds.
 const LATE: u128 = 500_000;
 
-// So much may be lost to late yields, and of the time that passes one part in so many.
+// `MOST_LOST` may be lost to late yields, and of the time that passes one part in `PART`.
 const MOST_LOST: u128 = 20_000_000;
 
 const PART: u128 = 8;
