@@ -1,7 +1,7 @@
 """Processes that ask a daemon without rest, each in a connection of its own for each request, and note how long the replies take.
 
 As a program: askers.py SOCKET, with lines on standard input: SECONDS, the request and the reply in hexadecimal digits. An empty reply is any. In
-a request this part `NUMBER####` stands for a number, which is another one each time. It writes the seconds of each reply as doubles.
+a request this part `NUMBER####` is a number, another one each time. It writes the seconds of each reply as doubles.
 """
 
 import array

@@ -47,7 +47,7 @@ def folder():
 
 
 def a_program(where):
-    """A program that is newer than the sources: the built one, or where there is none one that stands for it."""
+    """A program that is newer than the sources: the built one, or where there is none a stub of it."""
     path = where / "nscd"
     if PROGRAM.exists():
         shutil.copy(PROGRAM, path)

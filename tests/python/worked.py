@@ -16,7 +16,7 @@ begins with a blank goes on with the line before it.
   bytes BYTES        bytes of the replay, whatever they are
   end                the replay ends; without this line it ends behind the last one, unless a status is given
   status N WORDS     the program exits so, and says this; without this line it exits with 0 and says nothing
-  let NAME BYTES     the name stands for these bytes from here on, as $NAME
+  let NAME BYTES     the name means these bytes from here on, as $NAME
 
   accepts TEXT       a case in which a configuration is accepted
   refuses N CAUSE | TEXT    a case in which its line N is refused

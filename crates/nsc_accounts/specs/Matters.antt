@@ -27,7 +27,7 @@ abbrev pub speaks_on : (List ℕ → Bool) → Option (List ℕ) → Bool
 speaks_on these None = false
 speaks_on these (Some name) = not (is_filled name) || these name
 
--- whether a line may change what a request comes to: its entry is named, or it speaks by a sign on one of these names
+-- whether a line may change the outcome of a request: its entry is named, or it speaks by a sign on one of these names
 abbrev pub matters : {A : Type 0} → (List ℕ → Option A) → (A → Bool) → (List ℕ → Bool) → List ℕ → Bool
 matters entry_of names these line = is_some (if_named names (entry_of line)) || speaks_on these (sign_name (sayings line))
 

@@ -44,7 +44,7 @@ fn after_sign(text: &[u8], all: Span) -> Span
     Span::new(all.from() + 1, all.to()).before_byte(text, b':')
 }
 
-// The name of a plus line, where a netgroup stands for every name.
+// The name of a plus line, where a netgroup means every name.
 fn plus_name(text: &[u8], name: Span) -> Span
     requires { name.to ≤ length text.now }
     ensures name { (fields : List (List ℕ)) → Some (part text.now result) ≡ sign_name (sayings_plus fields (part text.now name)) }

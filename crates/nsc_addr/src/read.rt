@@ -16,7 +16,7 @@ pub fn read_v4(text: &[u8]) -> Option<[u8; 4]>
 }
 
 /// The IPv6 address that a text spells, its first byte first, as in RFC 4291, 2.2: eight groups of one to four hexadecimal
-/// digits with colons between them, or fewer with one `::` that stands for one group or more. The last two groups may be
+/// digits with colons between them, or fewer with one `::` that means one group or more. The last two groups may be
 /// an IPv4 address. `None` where the text is anything else; no zone may stand after.
 pub fn read_v6(text: &[u8]) -> Option<[u8; 16]>
     ensures { result ≡ v6_of text.now }

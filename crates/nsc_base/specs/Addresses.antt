@@ -75,7 +75,7 @@ abbrev pub around_pair : List ℕ → Option (List ℕ × List ℕ)
 around_pair [] = None
 around_pair (b ∷ bytes) = if is_pair b bytes then Some ([], drop 1 bytes) else option_map (λ halves. (b ∷ halves.0, halves.1)) (around_pair bytes)
 
--- eight groups, of which the pair stands for those between: one or more, each 0
+-- eight groups, of which the pair means those between: one or more, each 0
 abbrev pub with_zeros : List ℕ → List ℕ → Option (List ℕ)
 with_zeros front back = if nat_lt (length front + length back) 8 then Some (front ++ replicate (8 - length front - length back) 0 ++ back) else None
 

@@ -77,7 +77,7 @@ module _ {A : Type 0} (scan : Scan A) (these : List ℕ → Bool) (among : Answe
   after_said [] these those same excluded = same excluded
   after_said (saying ∷ said) these those same excluded = ap (scan_saying scan excluded saying) (same_functions (scanned scan (said ++ these)) (scanned scan (said ++ those)) (after_said said these those same))
 
-  -- a scan comes to the same over the lines that matter
+  -- the outcome of a scan is the same over the lines that matter
   pub filtered : (lines excluded : List (List ℕ)) → scanned scan (flat_map sayings (filter (matters scan.entry_of scan.names these) lines)) excluded ≡ scanned scan (flat_map sayings lines) excluded
   filtered [] excluded = refl
   filtered (line ∷ lines) excluded =

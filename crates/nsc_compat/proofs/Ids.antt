@@ -87,7 +87,7 @@ after_ids scan ids later excluded = option_map (all_ids ids) (gathered scan late
 abbrev pub outcome_after : IdScan → List ℕ → List Saying → List (List ℕ) → Looked
 outcome_after scan ids later excluded = ids_or_unavail (after_ids scan ids later excluded)
 
--- a line comes to what it says
+-- the outcome of a line is that of what it says
 said_line : (scan : IdScan) (line : List ℕ) (excluded : List (List ℕ)) (ids : List ℕ) (said : List Saying) → said ≡ sayings line → (later : List Saying) → outcome_after scan ids (said ++ later) excluded ≡ outcome_after scan ids (sayings line ++ later) excluded
 said_line scan line excluded ids said is later = ap (λ (s : List Saying). outcome_after scan ids (s ++ later) excluded) is
 

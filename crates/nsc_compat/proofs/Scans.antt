@@ -63,7 +63,7 @@ scanned_same scan later these those same = scanned_among scan (λ name. Unit {0}
 
 -- ---- line by line
 
--- a line comes to what it says
+-- the outcome of a line is that of what it says
 said_line : {A : Type 0} (scan : Scan A) (line : List ℕ) (said : List Saying) (excluded : List (List ℕ)) (later : List Saying) → said ≡ sayings line → scanned scan (said ++ later) excluded ≡ scanned scan (sayings line ++ later) excluded
 said_line scan line said excluded later is = ap (λ (s : List Saying). scanned scan (s ++ later) excluded) is
 

@@ -90,8 +90,8 @@ impl<'s, 'k, 't, E: Account, S: SubLookup> LineScan<'t> for EntryScan<'s, 'k, E,
     }
 }
 
-// What further services found for the name of a plus line comes to: as in the line itself, it answers where the request
-// names it.
+// The outcome of what further services found for the name of a plus line: as in the line itself, it answers where the
+// request names it.
 fn named<E: Account>(
     alloc: Global,
     wanted: &Naming,
@@ -110,7 +110,7 @@ fn named<E: Account>(
     asked(alloc, Some(entry), all, excluded)
 }
 
-// What further services found for the request itself comes to: it answers where its name is not excluded.
+// The outcome of what further services found for the request itself: it answers where its name is not excluded.
 fn asked<E: Account>(
     alloc: Global,
     found: Option<E>,

@@ -11,8 +11,8 @@ use nsc_base::{NoMemory, decimal};
 use nsc_model::{Group, Kind, Looked, Passwd};
 use std::alloc::Global;
 
-/// The outcome of the service compat for the request of this kind and key, over the content that the sub-lookup stands
-/// for: the lines of the database's file in turn, with the names that are excluded so far. Unavailable where the file is
+/// The outcome of the service compat for the request of this kind and key, over the content of the sub-lookup: the
+/// lines of the database's file in turn, with the names that are excluded so far. Unavailable where the file is
 /// absent, where a netgroup is reached, and for hosts and services, which have no compat. Fails only for want of memory.
 #[tactic(auto, unfolding(nsc_model::specs::Answers::compat_answer))]
 pub fn compat_lookup<S: SubLookup>(

@@ -84,7 +84,7 @@ pub fn serve_all<R: AllocGlobal + Wait, S: Store>(
     Ok(Outcome::Right)
 }
 
-// Whether a connection comes to what it must.
+// Whether the outcome of a connection is the right one.
 fn comes<R: AllocGlobal + Wait, S: Store>(
     rt: &R,
     stores: &Databases<S>,

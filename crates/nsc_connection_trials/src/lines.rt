@@ -116,7 +116,7 @@ pub fn connections<R: AllocGlobal + Wait, S: Store>(
     Ok(Outcome::Right)
 }
 
-// Whether a connection comes to what it must.
+// Whether the outcome of a connection is the right one.
 fn comes<R: AllocGlobal + Wait, S: Store>(
     rt: &R,
     stores: &Databases<S>,

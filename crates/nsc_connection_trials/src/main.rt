@@ -1,4 +1,4 @@
-//! Trials of connections, one after another, over four databases in memory: to the sockets, with what each comes to and what it is sent,
+//! Trials of connections, one after another, over four databases in memory: to the sockets, with the outcome of each and what it is sent,
 //! and to the gate. Each trial prints a line.
 #![tactic(auto)]
 

@@ -31,7 +31,7 @@ pub fn root(alloc: Global) -> Result<MemFiles, NoMemory> {
     users(alloc, Bytes::copy(alloc, ROOT_LINE)?)
 }
 
-// Whether a connection comes to what it must, and then one that asks for root, over new databases.
+// Whether the outcomes of a connection, and then of one that asks for root, are the right ones, over new databases.
 fn is_right<R: AllocGlobal + Wait>(rt: &R, connection: Connection<'_>) -> Result<bool, NoMemory> {
     let outcome = over(rt, root(rt.alloc())?, Task::Sockets(&[connection, GOOD]))?;
     Ok(outcome == Outcome::Right)

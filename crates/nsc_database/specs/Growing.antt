@@ -1,4 +1,4 @@
--- What a growth of a database's table comes to.
+-- What becomes of a database by a growth of its table.
 use Rattle.std.specs.Prelude.{◌≡◌, ℕ, ◌+◌, ◌<◌, ◌≤◌, ◌⊎◌, [], ◌∷◌, ◌++◌, Bool, true, false, Some, Result, Ok, Err}
 use Rattle.nsc_model.specs.declared.conf.DbConf.{DbConf}
 use Rattle.nsc_model.specs.Growth.{IsArena, MayGrow, arena_after}

@@ -87,7 +87,7 @@ pub record IsTurned (db : Db) (a : ℕ) (old : Core) (request : Request) (adds :
   pub live : (e : Entry) → (new.callers a).taken ≡ Some e → IsLive new.history e
   pub answered : Answered old.history new.history request reply
 
--- what an event comes to is moves of the core, also where it stops
+-- the outcome of an event is moves of the core, also where it stops
 abbrev pub PassesBy : Db → ℕ → Core → Result Passed Stopped → Type 0
 PassesBy db a old (Ok passed) = (new : Core) × IsMoved db a old passed.adds passed.cache new
 PassesBy db a old (Err stop) = (new : Core) × IsMoved db a old stop.adds stop.cache new

@@ -89,7 +89,7 @@ answers_or scan names excluded None replaced next = next
 answers_or scan names excluded (Some entry) replaced next =
     if names entry && not (is_excluded excluded (scan.name_of entry)) then scan.found (replaced entry) else next
 
--- what a saying comes to, where `next` is what those after it come to with these names excluded
+-- the outcome of a saying, where `next` is the outcome of those after it with these names excluded
 abbrev pub scan_saying : {A : Type 0} → Scan A → List (List ℕ) → Saying → (List (List ℕ) → Looked) → Looked
 scan_saying scan excluded (Own line) next = answers_or scan scan.names excluded (scan.entry_of line) (λ e. e) (next excluded)
 scan_saying scan excluded (Excludes name) next = next (name ∷ excluded)

@@ -21,7 +21,7 @@ pub record Saved : Type 0 where
   pub reloads : ℕ
   pub timeout : ℕ
 
--- a saved count of reloads has four bytes: 4,294,967,295 stands for a greater one
+-- a saved count of reloads has four bytes: 4,294,967,295 means any greater one too
 abbrev pub saved_count : ℕ → ℕ
 saved_count reloads = min reloads 4294967295
 

@@ -41,7 +41,7 @@ cache_of s db = database_in s.caches db
 abbrev pub with_cache : State → Db → Cache → State
 with_cache s db cache = record s { caches = with_database s.caches db cache }
 
--- what a frame comes to: the state after it, and what is written for it
+-- the outcome of a frame: the state after it, and what is written for it
 pub record Went : Type 0 where
   pub state : State
   pub writes : List ℕ

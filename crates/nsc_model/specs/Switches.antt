@@ -227,7 +227,7 @@ pub data Place : Type 0 where
   Ruled : Place
   Next : Place
 
--- what the rest comes to, from a place and a step on
+-- the steps that the rest spells, from a place and a step on
 abbrev pub Rest : Type 0
 Rest = Place → SwitchStep → Option (List SwitchStep)
 

@@ -195,7 +195,7 @@ pub record Keeps (old new : Pass) : Type 0 where
   pub first : new.searching.first ≡ old.searching.first
   pub request : new.searching.request ≡ old.searching.request
 
--- a step of a search under way, which loads one word, and then comes to a stage with fewer steps left
+-- a step of a search under way, which loads one word, and then is at a stage with fewer steps left
 pub record Goes (layout : Layout) (old new : Pass) (content : List ℕ) (most : ℕ) (stage : Stage) : Type 0 where
   pub keeps : Keeps old new
   pub steps : new.searching.steps ≡ old.searching.steps + 1

@@ -133,7 +133,7 @@ impl Crowd {
         Ok(())
     }
 
-    // What each of these comes to by one more step.
+    // What each of these becomes by one more step.
     fn stepped(
         &mut self,
         alloc: Global,

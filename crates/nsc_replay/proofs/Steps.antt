@@ -45,7 +45,7 @@ halts_then p q a b c x halt g h = record { front = g.front ++ h.front; moved = M
 pub gets_then : {A B : Type 0} (p : Parser A) (q : A → Parser B) (a b c : Told) (x : A) (y : B) → Gets p a b x → Gets (q x) b c y → Gets (then p q) a c y
 gets_then p q a b c x y g h = record { front = g.front ++ h.front; moved = Moves-then a b c g.front h.front g.moved h.moved; finds = finds_then p q g.front h.front x y g.finds h.finds }
 
--- whatever the second reader comes to
+-- whatever the result of the second reader is
 pub reads_then : {X A B : Type 0} (view : X → B) (p : Parser A) (q : A → Parser B) (a b c : Told) (x : A) (r : Result X Halt) → Gets p a b x → Reads view (q x) b c r → Reads view (then p q) a c r
 reads_then view p q a b c x (Ok y) g h = gets_then p q a b c x (view y) g h
 reads_then view p q a b c x (Err halt) g h = halts_then p q a b c x halt g h

@@ -18,7 +18,7 @@ use Rattle.nsc_rule.specs.declared.view.Stroke.TheVariants as stroke
 use Rattle.nsc_rule.specs.Entries.{entry_of, kind_of}
 use Rattle.nsc_rule.specs.Plans.{IsEven, Shows, end_in}
 
--- ---- any step: the word at a place becomes this one, and this is what it comes to
+-- ---- any step: the word at a place becomes this one, and the plan changes by the stroke
 
 abbrev pub seen_after : Stroke → ℕ → Plan → List Record
 seen_after stroke.Plain word p = p.seen

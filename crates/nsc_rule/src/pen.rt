@@ -128,7 +128,7 @@ impl Pen {
         words.load::<Learns>(&mut self.seat, CYCLE);
     }
 
-    // One step: the word at a place becomes this one, which comes to what the stroke says.
+    // Stores `word` at `at` in one step; `stroke` says how the plan changes.
     pub(crate) fn write(&mut self, map: &Map, at: usize, word: u64, stroke: &Stroke)
         requires map { map.now.table ≡ self.old.table }
         requires inside { at < table_words self.old.plan.layout }

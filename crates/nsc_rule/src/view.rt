@@ -106,7 +106,7 @@ pub enum Origin {
     After(Snapshot<Seat<(), View>>),
 }
 
-/// What a step of the pen comes to, beside the word that it writes.
+/// How a step of the pen changes its plan, beside the word that it writes.
 #[derive(Drop)]
 pub enum Stroke {
     /// Nothing more.

@@ -86,7 +86,7 @@ fn failing_writes(rt: HostRuntime) -> Result<(), Fail> {
     Ok(())
 }
 
-// The exits that no run of the program comes to.
+// The exits with which no run of the program ends.
 #[test]
 fn rare_exits(rt: HostRuntime) -> Result<(), Fail> {
     let spent = Exit::Spent { count: 1 << 62 };

@@ -65,7 +65,7 @@ find_one test (p ∷ older) n rising (inr m) usable passes alone = by p.usable (
 
 -- ---- changes
 
--- a change of nodes that leaves them usable, or not, comes to a change of their entries
+-- a change of nodes that leaves them usable, or not, is a change of their entries
 pub mapped : (change : Placed → Placed) (f : Kept → Kept) (nodes : List Placed) → ((p : Placed) → (change p).usable ≡ p.usable) → ((p : Placed) → Among p nodes → p.usable ≡ true → kept_in (change p) ≡ f (kept_in p)) → entries_in (map change nodes) ≡ map f (entries_in nodes)
 mapped change f [] usable same = refl
 mapped change f (p ∷ older) usable same = by p.usable refl (mapped change f older usable (λ q m. same q (inr m))) where

@@ -18,7 +18,7 @@ by_action Return ended merged passed = ended
 by_action Merge ended merged passed = merged
 by_action Continue ended merged passed = passed
 
--- what a step comes to, by the action that is taken
+-- the outcome of a step, by the action that is taken
 stepped_is : (by : Kind) (action : SwitchAction) (held : Option Row) (outcome : Looked) (next : Option Row → Looked)
     → stepped by action held outcome next ≡ by_action (action_taken by action outcome) (joined held outcome) (next (row_in (joined held outcome))) (next held)
 stepped_is by Return held outcome next = refl

@@ -1,4 +1,4 @@
--- The reading of a list, token by token: the steps that are done stand before what the rest comes to.
+-- The reading of a list, token by token: the steps that are done stand before those that the rest spells.
 use Rattle.std.proofs.Common.{◌≡◌, ℕ, List, [], ◌∷◌, ◌++◌, Option, Some, None, refl, sym, ◌∙◌, ap, append_assoc}
 use Rattle.std.specs.Option.{option_map}
 use Rattle.nsc_model.specs.declared.switch.SwitchStep.{SwitchStep}

@@ -31,7 +31,7 @@ place_of (places.Equated negated status) = switches.Equated negated (status_of s
 place_of places.Ruled = switches.Ruled
 place_of places.Next = switches.Next
 
--- what the rest comes to after a move, from a step on
+-- the steps that the rest spells after a move, from a step on
 abbrev pub moved : SwitchStep → Rest → Option Move → Option (List SwitchStep)
 moved step rest None = None
 moved step rest (Some (moves.To place)) = rest (place_of place) step

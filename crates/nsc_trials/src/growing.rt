@@ -73,7 +73,7 @@ fn all<S: Store, R: Wait>(
     names.iter().zip(first..).all(|(name, number)| finds(caller, name, Wanted::Loaded(number)))
 }
 
-// Whether a lookup of a name that no user has comes to this.
+// Whether the reply to a lookup of a name that no user has is the wanted one.
 fn finds<S: Store, R: Wait>(
     caller: &mut Caller<'_, '_, S, R>,
     name: &[u8],
@@ -82,7 +82,7 @@ fn finds<S: Store, R: Wait>(
     name.len() <= KEY_LIMIT && wanted.is(&caller.find(Kind::PwName, name, 0), ABSENT)
 }
 
-// What a search in place for a name comes to.
+// The answer of a search in place for a name.
 fn searches<S: Store, R: Wait>(
     caller: &mut Caller<'_, '_, S, R>,
     name: &[u8],

@@ -56,7 +56,7 @@ impl Script {
         conf
     }
 
-    /// Takes its steps, up to the first that comes to anything else.
+    /// Takes its steps, up to the first whose result is not the right one.
     pub fn run<S: Store, R: Wait>(
         &self,
         caller: &mut Caller<'_, '_, S, R>,

@@ -95,7 +95,7 @@ fn run_kept<R: Threads + Wait + Clock + Clone + Drop + Send + Sync>(
     Ok(done(rt, alloc, &persistent(), files, Task::Kept(beginning)))
 }
 
-// Up to the first that comes to anything else.
+// Up to the first whose outcome is not the right one.
 fn run_interleavings<R: Threads + Wait + Clock + Clone + Drop + Send + Sync>(
     rt: &R,
     alloc: Global,

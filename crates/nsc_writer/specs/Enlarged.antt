@@ -1,4 +1,4 @@
--- What a growth comes to.
+-- What a writer becomes by a growth.
 use Rattle.std.specs.Prelude.{◌≡◌, ◌+◌, ◌<◌, None}
 use Rattle.nsc_words.specs.declared.layout.Layout.{Layout}
 use Rattle.nsc_model.specs.declared.fault.CacheFault.{CacheFault}

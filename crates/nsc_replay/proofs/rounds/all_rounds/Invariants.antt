@@ -5,7 +5,7 @@ use Rattle.nsc_replay.specs.Streams.{StreamsAt, Calm, streams_at}
 use Rattle.nsc_replay.specs.Runs.{ReplayRun}
 use Rattle.nsc_replay.proofs.rounds.all_rounds.Given as goal
 
--- whatever the rest comes to, the whole comes to it
+-- whatever the outcome of the rest is, it is that of the whole
 abbrev pub invariant-loop-place : goal.invariant-loop-place
 invariant-loop-place g l =
     let begun = streams_at g.R.Source g.K.Sink l.fn.input l.fn.output in
