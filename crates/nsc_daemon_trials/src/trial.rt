@@ -1,4 +1,5 @@
 // `Trial`: one trial of a daemon: its files, arrivals, peers and reads that wait.
+
 use crate::plans::{Plan, Step};
 use crate::requests::{LINE, LONGEST_KEY};
 use nsc_base::{Bytes, NoMemory};

@@ -1,4 +1,4 @@
-// `Made`: the reply to an admitted request, from the store of a database.
+// `Made`: the reply to an admitted request; lookups and invalidations in the stores.
 ghost use Rattle.std.specs.Prelude.{◌≡◌, ◌≤◌, ◌<◌, ◌^◌, length, IfErr, IfOk};
 ghost use Rattle.nsc_model.specs.Databases.{database_in};
 ghost use Rattle.nsc_model.specs.Stores.{GivesAnswer, GivesUp, IsEmptied, IsInvalidateFault, LoadedLastCycle, reply_of};

@@ -110,8 +110,8 @@ fn find_hinted<W: Words>(
     None
 }
 
-// The first of the hints of a hash, of `count` hints. The hashes of names that follow one another mostly differ in their lower bits alone, so
-// that their hints lie side by side.
+// The first of the hints of a hash, of `count` hints. The hashes of names that follow one another mostly differ in their lower bits alone,
+// so that their hints lie side by side.
 fn row_of(hash: u32, count: usize) -> usize
     requires { 4 ≤ count }
     ensures { result + 4 ≤ count }

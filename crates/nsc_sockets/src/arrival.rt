@@ -1,4 +1,4 @@
-// `Arrival` and `Peer`: the connections to a listener in memory, and the peers of its own.
+// `Arrival` and `Peer`: what a listener in memory finds, and a peer to connect to.
 use crate::role::Role;
 use crate::shared_sink::SharedSink;
 use nsc_base::Bytes;
