@@ -54,6 +54,11 @@ asking_in (Some db.Group) key = by_id_or_name kind.GrGid kind.GrName key
 asking_in (Some db.Hosts) key = by_address_or_name (v4_of key) (v6_of key) key
 asking_in (Some db.Services) key = by_port_or_name (port_of (service_key key).asked) (service_key key).proto key
 
+-- a text contains this byte, and the first such byte cuts the text: `front` is before it, and `rest` after it
+abbrev pub IsCutAt : ℕ → List ℕ → List ℕ → List ℕ → Type 0
+IsCutAt byte text front rest =
+    (list_any (λ b. b == byte) text ≡ true) × (front ≡ before_first (λ b. b == byte) text) × (rest ≡ after_first (λ b. b == byte) text)
+
 abbrev pub is_blank : ℕ → Bool
 is_blank b = b == 32
 

@@ -1,6 +1,8 @@
 -- What came of a connection to the gate.
 use Rattle.std.specs.Prelude.{◌≡◌, ◌≢◌, ℕ, ◌+◌, ◌<◌, ◌≤◌, List, length, min}
-use Rattle.nsc_outside.specs.StreamAt.{StreamAt}
+use Rattle.nsc_outside.specs.StreamAt.{StreamAt, stream_in, stream_out}
+use Rattle.nsc_outside.specs.declared.stream.Source as source
+use Rattle.nsc_outside.specs.declared.stream.Sink as sink
 use Rattle.nsc_model.specs.declared.databases.Databases.{Databases}
 use Rattle.nsc_model.specs.declared.store.Store as store
 use Rattle.nsc_model.specs.Machine.{last_count}
@@ -23,6 +25,10 @@ pub record GateAt (P : Type 0) : Type 0 where
 
 abbrev pub gate_at : {P : Type 0} → Databases P → StreamAt → StreamAt → GateAt P
 gate_at passes input output = record { passes = passes; input = input; output = output }
+
+-- `gate_at`, by the source and the sink of a connection
+abbrev pub gate_over : {P R K : Type 0} → source.Ghosts R → sink.Ghosts K → Databases P → R → K → GateAt P
+gate_over r k passes input output = gate_at passes (stream_in r input) (stream_out k output)
 
 -- the input was read to its end, and each of its lines was answered; their number stays at its end
 pub record AnswersAll {S P : Type 0} (g : store.Ghosts S P) (before after : GateAt P) (count : ℕ) : Type 0 where

@@ -5,7 +5,7 @@ ghost use Rattle.nsc_model.specs.Entry.{kept_limit, line_limit};
 ghost use Rattle.nsc_client.specs.Gathered.{AnswersEnded, GathersAnswers, IsStopped};
 ghost use Rattle.nsc_client.specs.Gate.{AreNamed, ArePasses, SeeMore};
 ghost use Rattle.nsc_client.specs.Held.{ComesOrEnds, GivesNone};
-ghost use Rattle.nsc_client.specs.Serving.{AnswersAll, ServesGate, gate_at};
+ghost use Rattle.nsc_client.specs.Serving.{AnswersAll, ServesGate, gate_over};
 
 use crate::line::cut_at;
 use crate::link::LinkFault;
@@ -60,7 +60,8 @@ pub fn serve_gate<RT: AllocGlobal + Wait, S: Store, R: Source, K: Sink>(
     ensures passes { ArePasses S.Store stores.now passes.new }
     ensures limit { out.new.limit ≡ out.old.limit }
     ensures seen { SeeMore S.Store passes.old passes.new }
-    ensures served { ServesGate S.Store stores.now (gate_at passes.old (stream_in R.Source conn_in.old) (stream_out K.Sink conn_out.old)) (gate_at passes.new (stream_in R.Source conn_in.new) (stream_out K.Sink conn_out.new)) result }
+    ensures served { ServesGate S.Store stores.now (gate_over R.Source K.Sink passes.old conn_in.old conn_out.old)
+        (gate_over R.Source K.Sink passes.new conn_in.new conn_out.new) result }
 {
     match serve_lines(rt, stores, passes, out, conn_in, conn_out, now) {
         Ok(lines) => Gated::Done { lines },
@@ -85,8 +86,10 @@ fn serve_lines<RT: AllocGlobal + Wait, S: Store, R: Source, K: Sink>(
     ensures passes { ArePasses S.Store stores.now passes.new }
     ensures limit { out.new.limit ≡ out.old.limit }
     ensures seen { SeeMore S.Store passes.old passes.new }
-    ensures answered { IfOk result (AnswersAll S.Store (gate_at passes.old (stream_in R.Source conn_in.old) (stream_out K.Sink conn_out.old)) (gate_at passes.new (stream_in R.Source conn_in.new) (stream_out K.Sink conn_out.new))) }
-    ensures stopped { IfErr result (ServesGate S.Store stores.now (gate_at passes.old (stream_in R.Source conn_in.old) (stream_out K.Sink conn_out.old)) (gate_at passes.new (stream_in R.Source conn_in.new) (stream_out K.Sink conn_out.new))) }
+    ensures answered { IfOk result (AnswersAll S.Store (gate_over R.Source K.Sink passes.old conn_in.old conn_out.old)
+        (gate_over R.Source K.Sink passes.new conn_in.new conn_out.new)) }
+    ensures stopped { IfErr result (ServesGate S.Store stores.now (gate_over R.Source K.Sink passes.old conn_in.old conn_out.old)
+        (gate_over R.Source K.Sink passes.new conn_in.new conn_out.new)) }
 {
     let Ok(mut pending) = Pending::new(rt.alloc()) else {
         return Err(Gated::Refused(LinkFault::NoMemory));
@@ -143,8 +146,10 @@ fn serve_ended<RT: AllocGlobal + Wait, S: Store, R: Source, K: Sink>(
     ensures limit { out.new.limit ≡ out.old.limit }
     ensures emptied { OnOk result (pending.new ≡ []) }
     ensures seen { SeeMore S.Store passes.old passes.new }
-    ensures answered { IfOk result (λ end. AnswersEnded S.Store (gate_at passes.old (stream_in R.Source conn_in.old) (stream_out K.Sink conn_out.old)) (gate_at passes.new (stream_in R.Source conn_in.new) (stream_out K.Sink conn_out.new)) end.1 end.0.items) }
-    ensures stopped { IfErr result (ServesGate S.Store stores.now (gate_at passes.old (stream_in R.Source conn_in.old) (stream_out K.Sink conn_out.old)) (gate_at passes.new (stream_in R.Source conn_in.new) (stream_out K.Sink conn_out.new))) }
+    ensures answered { IfOk result (λ end. AnswersEnded S.Store (gate_over R.Source K.Sink passes.old conn_in.old conn_out.old)
+        (gate_over R.Source K.Sink passes.new conn_in.new conn_out.new) end.1 end.0.items) }
+    ensures stopped { IfErr result (ServesGate S.Store stores.now (gate_over R.Source K.Sink passes.old conn_in.old conn_out.old)
+        (gate_over R.Source K.Sink passes.new conn_in.new conn_out.new)) }
 {
     // The bytes that came, and from where on they are not answered.
     let mut held = Vec::new(rt.alloc());

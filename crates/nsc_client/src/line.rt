@@ -1,13 +1,13 @@
 // Reading of a line of the gate: a database, a key, and the requests for both.
-ghost use Rattle.std.specs.Prelude.{◌≡◌, ◌≤◌, ◌==◌, ◌++◌, ◌∷◌, IfOk, length, MatchOption, decimal, false, true};
+ghost use Rattle.std.specs.Prelude.{◌≡◌, ◌≤◌, ◌==◌, ◌++◌, ◌∷◌, IfOk, length, MatchOption, decimal, false};
 ghost use Rattle.nsc_model.specs.declared.kind.Kind.TheVariants as Kind;
-ghost use Rattle.std.specs.List.{after_first, before_first, list_any};
+ghost use Rattle.std.specs.List.{list_any};
 ghost use Rattle.nsc_base.specs.Addresses.{v4_of, v6_of};
 ghost use Rattle.nsc_base.specs.Text.{is_white};
 ghost use Rattle.nsc_model.specs.ServiceLines.{port_of, service_key};
 ghost use Rattle.nsc_model.specs.Entry.{key_limit};
 ghost use Rattle.nsc_client.specs.Replying.{KeysFit};
-ghost use Rattle.nsc_client.specs.GateText.{asking_in, asking_of, by_address_or_name, by_id_or_name, by_port_or_name, is_key as is_a_key, one};
+ghost use Rattle.nsc_client.specs.GateText.{IsCutAt, asking_in, asking_of, by_address_or_name, by_id_or_name, by_port_or_name, is_key as is_a_key, one};
 
 use itoa::Buffer;
 use nsc_addr::{read_v4, read_v6};
@@ -39,7 +39,7 @@ pub(crate) fn read_line(alloc: Global, line: &[u8]) -> Result<LineAsks, NoMemory
 
 /// What stands before the first byte of this kind, and what stands after it. `None` where there is none.
 pub(crate) fn cut_at(text: &[u8], byte: u8) -> Option<(&[u8], &[u8])>
-    ensures { MatchOption result (list_any (λ b. b == byte) text.now ≡ false) (λ halves. (list_any (λ b. b == byte) text.now ≡ true) × (halves.0.now ≡ before_first (λ b. b == byte) text.now) × (halves.1.now ≡ after_first (λ b. b == byte) text.now)) }
+    ensures { MatchOption result (list_any (λ b. b == byte) text.now ≡ false) (λ halves. IsCutAt byte text.now halves.0.now halves.1.now) }
 {
     let (front, rest) = Span::whole(text).split_at_byte(text, byte)?;
     Some((front.of(text), rest.of(text)))
