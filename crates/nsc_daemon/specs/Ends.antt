@@ -96,6 +96,10 @@ pub record DaemonAt : Type 0 where
 abbrev pub daemon_at : {K F N I O D H : Type 0} → sink.Ghosts K → files.Ghosts F → listener.Ghosts N I O D H → K → F → N → DaemonAt
 daemon_at k f n output set net = record { output = stream_out k output; source_faults = f.faults set; given = n.given net; net_faults = n.faults net }
 
+-- as `daemon_at`, where the files have failed `faults` times
+abbrev pub daemon_of : {K N I O D H : Type 0} → sink.Ghosts K → listener.Ghosts N I O D H → K → N → ℕ → DaemonAt
+daemon_of k n output net faults = record { output = stream_out k output; source_faults = faults; given = n.given net; net_faults = n.faults net }
+
 -- nothing was written
 abbrev pub IsSilent : DaemonAt → DaemonAt → Type 0
 IsSilent before after = after.output ≡ before.output

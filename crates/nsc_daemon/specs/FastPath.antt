@@ -1,10 +1,14 @@
 -- Lookups that the thread that accepts answers in place, and how they are counted.
-use Rattle.std.specs.Prelude.{ℕ, ◌+◌, Bool, if◌then◌else◌, min}
+use Rattle.std.specs.Prelude.{ℕ, ◌+◌, Bool, if◌then◌else◌, List, Option, min}
+use Rattle.nsc_outside.specs.Stream.{IsAhead}
 use Rattle.nsc_model.specs.declared.databases.Databases.{Databases}
 use Rattle.nsc_model.specs.Databases.{database_in, with_database}
 use Rattle.nsc_model.specs.Machine.{last_count, next_count}
 use Rattle.nsc_server.specs.declared.in_place.ServedInPlace.{ServedInPlace}
 use Rattle.nsc_server.specs.declared.in_place.ServedInPlace.TheVariants.{Found, Not, Broken}
+use Rattle.nsc_server.specs.declared.scope.Scopes.{Scopes}
+use Rattle.nsc_server.specs.InPlace.{ServesInPlace}
+use Rattle.nsc_server.specs.Outcomes.{Side}
 use Rattle.nsc_daemon.specs.declared.fast_path.Hits.{Hits}
 
 -- the hits that the databases were not told of yet
@@ -34,3 +38,7 @@ abbrev pub noted : ServedInPlace → Databases Hits → Databases Hits
 noted (Found which not_found) hits = with_database hits which (one_more not_found (database_in hits which))
 noted (Not stale) hits = hits
 noted Broken hits = hits
+
+-- bytes at the front of what an input has left were looked up in place, and this came of it
+abbrev pub ServesAhead : Scopes → Option (List ℕ) → Side → Side → ServedInPlace → Type 0
+ServesAhead scopes left before after by = (bytes : List ℕ) × IsAhead left bytes × ServesInPlace scopes bytes before after by

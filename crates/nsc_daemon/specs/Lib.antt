@@ -3,4 +3,5 @@ pub mod Workers
 pub mod Holds
 pub mod FastPath
 pub mod Ends
+pub mod Openings
 pub mod Images

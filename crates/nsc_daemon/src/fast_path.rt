@@ -1,11 +1,9 @@
 // Lookups that the thread that accepts answers in place.
-ghost use Rattle.std.specs.Prelude.{◌≡◌, ℕ, List, IfOk};
-ghost use Rattle.nsc_outside.specs.Stream.{IsAhead};
+ghost use Rattle.std.specs.Prelude.{◌≡◌, IfOk};
 ghost use Rattle.nsc_model.specs.Databases.{database_in, with_database};
-ghost use Rattle.nsc_server.specs.InPlace.{ServesInPlace};
 ghost use Rattle.nsc_server.specs.Outcomes.{side};
 ghost use Rattle.nsc_server.specs.Passes.{AreNamed, ArePasses};
-ghost use Rattle.nsc_daemon.specs.FastPath.{none_of_all, noted, one_more, sum_of, sum_of_all};
+ghost use Rattle.nsc_daemon.specs.FastPath.{ServesAhead, none_of_all, noted, one_more, sum_of, sum_of_all};
 
 use nsc_base::{Buf, NoMemory};
 use nsc_model::{Databases, Db, Store, next_count};
@@ -97,7 +95,7 @@ impl FastPath {
         requires passes { ArePasses S.Store stores.now passes.old }
         ensures passes { ArePasses S.Store stores.now passes.new }
         ensures noted { self.new.hits ≡ noted result self.old.hits }
-        ensures served { (bytes : List ℕ) × IsAhead (R.left input.now) bytes × ServesInPlace scopes bytes (side S.Store K.Sink passes.old output.old) (side S.Store K.Sink passes.new output.new) result }
+        ensures served { ServesAhead scopes (R.left input.now) (side S.Store K.Sink passes.old output.old) (side S.Store K.Sink passes.new output.new) result }
     {
         let served = serve_in_place(
             stores,

@@ -6,6 +6,7 @@ ghost use Rattle.nsc_model.specs.Settings.{settings_of};
 ghost use Rattle.nsc_model.specs.declared.kind.Db.TheVariants as db_is;
 ghost use Rattle.nsc_database.specs.Openings.{brought_in};
 ghost use Rattle.nsc_daemon.specs.Ends.{IsOpeningFault, TellsFileLength, opening_exit};
+ghost use Rattle.nsc_daemon.specs.Openings.{AreTables, IsOpenedBy};
 
 use crate::images::image_for;
 use nsc_database::{Database, DbPass, Opened, Room};
@@ -80,10 +81,14 @@ impl<F: FileSet + Drop> Openings<F> {
     ) -> Result<Openings<F>, PollFault>
         requires sizes { SizesFit conf.now }
         requires moment { now < 2 ^ 62 }
-        ensures passwd { IfOk result (λ o. (o.passwd.db ≡ db_is.Passwd) × (o.passwd.settings ≡ settings_of conf.now db_is.Passwd) × (o.passwd.reloads ≡ conf.now.reloads) × (F.held o.passwd.files ≡ F.held files.old)) }
-        ensures group { IfOk result (λ o. (o.group.db ≡ db_is.Group) × (o.group.settings ≡ settings_of conf.now db_is.Group) × (o.group.reloads ≡ conf.now.reloads) × (F.held o.group.files ≡ F.held files.old)) }
-        ensures hosts { IfOk result (λ o. (o.hosts.db ≡ db_is.Hosts) × (o.hosts.settings ≡ settings_of conf.now db_is.Hosts) × (o.hosts.reloads ≡ conf.now.reloads) × (F.held o.hosts.files ≡ F.held files.old)) }
-        ensures services { IfOk result (λ o. (o.services.db ≡ db_is.Services) × (o.services.settings ≡ settings_of conf.now db_is.Services) × (o.services.reloads ≡ conf.now.reloads) × (F.held o.services.files ≡ F.held files.old)) }
+        ensures passwd { IfOk result (λ o. IsOpenedBy conf.now db_is.Passwd (F.held files.old)
+            o.passwd.db o.passwd.settings o.passwd.reloads (F.held o.passwd.files)) }
+        ensures group { IfOk result (λ o. IsOpenedBy conf.now db_is.Group (F.held files.old)
+            o.group.db o.group.settings o.group.reloads (F.held o.group.files)) }
+        ensures hosts { IfOk result (λ o. IsOpenedBy conf.now db_is.Hosts (F.held files.old)
+            o.hosts.db o.hosts.settings o.hosts.reloads (F.held o.hosts.files)) }
+        ensures services { IfOk result (λ o. IsOpenedBy conf.now db_is.Services (F.held files.old)
+            o.services.db o.services.settings o.services.reloads (F.held o.services.files)) }
         ensures calm { OnOk result (F.faults files.new ≡ F.faults files.old) }
         ensures fault { IfErr result (λ fault. IsOpeningFault fault (F.faults files.old) (F.faults files.new)) }
         ensures length { IfErr result (λ fault. TellsFileLength fault (F.held files.old)) }
@@ -105,7 +110,7 @@ impl<F: FileSet + Drop> Openings<F> {
     /// Enters a room, in which threads may share them: the databases, and the first pass of each.
     pub fn enter<B: Room>(self) -> (Databases<Database<F, Indexed, B>>, Databases<DbPass<F, B>>)
         requires names { (self.passwd.db ≡ db_is.Passwd) × (self.group.db ≡ db_is.Group) × (self.hosts.db ≡ db_is.Hosts) × (self.services.db ≡ db_is.Services) }
-        requires tables { (self.passwd.pass.table ≡ B.table db_is.Passwd) × (self.group.pass.table ≡ B.table db_is.Group) × (self.hosts.pass.table ≡ B.table db_is.Hosts) × (self.services.pass.table ≡ B.table db_is.Services) }
+        requires tables { AreTables B.table self.passwd.pass.table self.group.pass.table self.hosts.pass.table self.services.pass.table }
         requires passwd { (self.passwd.settings ≡ settings_of B.conf db_is.Passwd) × (self.passwd.reloads ≡ B.conf.reloads) × (F.held self.passwd.files ≡ B.held) }
         requires group { (self.group.settings ≡ settings_of B.conf db_is.Group) × (self.group.reloads ≡ B.conf.reloads) × (F.held self.group.files ≡ B.held) }
         requires hosts { (self.hosts.settings ≡ settings_of B.conf db_is.Hosts) × (self.hosts.reloads ≡ B.conf.reloads) × (F.held self.hosts.files ≡ B.held) }

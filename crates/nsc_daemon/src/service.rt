@@ -1,6 +1,5 @@
 // `daemon`: the daemon's run, from the opened databases to the images at its end.
 ghost use Rattle.std.specs.Prelude.{◌≡◌, ℕ, OnErr, OnOk, option_map};
-ghost use Rattle.nsc_outside.specs.StreamAt.{stream_out};
 ghost use Rattle.nsc_database.specs.Openings.{brought_in};
 ghost use Rattle.nsc_model.specs.Exits.{IsExitOf, Serving};
 ghost use Rattle.nsc_model.specs.Reads.{Rose};
@@ -9,7 +8,8 @@ ghost use Rattle.nsc_model.specs.Sizes.{SizesFit};
 ghost use Rattle.nsc_model.specs.declared.kind.Db.TheVariants as db_is;
 ghost use Rattle.nsc_server.specs.Passes.{AreNamed, ArePasses};
 ghost use Rattle.nsc_daemon.specs.Images.{PutsImages, images_at};
-ghost use Rattle.nsc_daemon.specs.Ends.{EndsSo, IsBound, StopsSo, TellsHeldLength, daemon_at, sockets_at, sockets_of};
+ghost use Rattle.nsc_daemon.specs.Ends.{EndsSo, IsBound, StopsSo, TellsHeldLength, daemon_at, daemon_of, sockets_at, sockets_of};
+ghost use Rattle.nsc_daemon.specs.Openings.{AreTables};
 
 use crate::acceptor::{Acceptor, accept_all};
 use crate::images::save_all;
@@ -128,7 +128,7 @@ where
     N::Out: 'static,
     N::Helper: Helps<N::In, N::Out> + 'static,
     requires names { (openings.passwd.db ≡ db_is.Passwd) × (openings.group.db ≡ db_is.Group) × (openings.hosts.db ≡ db_is.Hosts) × (openings.services.db ≡ db_is.Services) }
-    requires tables { (openings.passwd.pass.table ≡ B.table db_is.Passwd) × (openings.group.pass.table ≡ B.table db_is.Group) × (openings.hosts.pass.table ≡ B.table db_is.Hosts) × (openings.services.pass.table ≡ B.table db_is.Services) }
+    requires tables { AreTables B.table openings.passwd.pass.table openings.group.pass.table openings.hosts.pass.table openings.services.pass.table }
     requires passwd { (openings.passwd.settings ≡ settings_of B.conf db_is.Passwd) × (openings.passwd.reloads ≡ B.conf.reloads) × (F.held openings.passwd.files ≡ B.held) }
     requires group { (openings.group.settings ≡ settings_of B.conf db_is.Group) × (openings.group.reloads ≡ B.conf.reloads) × (F.held openings.group.files ≡ B.held) }
     requires hosts { (openings.hosts.settings ≡ settings_of B.conf db_is.Hosts) × (openings.hosts.reloads ≡ B.conf.reloads) × (F.held openings.hosts.files ≡ B.held) }
@@ -138,7 +138,8 @@ where
     requires hosts_brought { brought_in openings.hosts.begun.writer.cache.entries ≡ B.brought db_is.Hosts }
     requires services_brought { brought_in openings.services.begun.writer.cache.entries ≡ B.brought db_is.Services }
     ensures exits { IsExitOf Serving result }
-    ensures ends { (faults : ℕ) → EndsSo result (record { output = stream_out K.Sink output.old; source_faults = faults; given = N.given net.old; net_faults = N.faults net.old }) (record { output = stream_out K.Sink output.new; source_faults = faults; given = N.given net.new; net_faults = N.faults net.new }) }
+    ensures ends { (faults : ℕ) → EndsSo result (daemon_of K.Sink N.Listener output.old net.old faults)
+        (daemon_of K.Sink N.Listener output.new net.new faults) }
     ensures images { result ≡ Exit.Ok → PutsImages terms.now.conf.now (images_at I.ImageStore images.old) (images_at I.ImageStore images.new) }
     ensures bound { result ≡ Exit.Ok → IsBound (N.bound net.old) (N.bound net.new) (sockets_of terms.now.run_dir.now (option_map (λ p. p.now) terms.now.gate)) }
 {
@@ -183,7 +184,8 @@ where
     requires named { AreNamed S.Store stores }
     requires passes { ArePasses S.Store stores passes }
     ensures exits { IsExitOf Serving result }
-    ensures ends { (faults : ℕ) → EndsSo result (record { output = stream_out K.Sink output.old; source_faults = faults; given = N.given net.old; net_faults = N.faults net.old }) (record { output = stream_out K.Sink output.new; source_faults = faults; given = N.given net.new; net_faults = N.faults net.new }) }
+    ensures ends { (faults : ℕ) → EndsSo result (daemon_of K.Sink N.Listener output.old net.old faults)
+        (daemon_of K.Sink N.Listener output.new net.new faults) }
     ensures images { result ≡ Exit.Ok → PutsImages terms.now.conf.now (images_at I.ImageStore images.old) (images_at I.ImageStore images.new) }
     ensures bound { result ≡ Exit.Ok → IsBound (N.bound net.old) (N.bound net.new) (sockets_of terms.now.run_dir.now (option_map (λ p. p.now) terms.now.gate)) }
 {
@@ -225,7 +227,8 @@ where
     requires named { AreNamed S.Store stores }
     requires passes { ArePasses S.Store stores passes }
     ensures exits { IsExitOf Serving result }
-    ensures ends { (faults : ℕ) → EndsSo result (record { output = stream_out K.Sink output.old; source_faults = faults; given = N.given net.old; net_faults = N.faults net.old }) (record { output = stream_out K.Sink output.new; source_faults = faults; given = N.given net.new; net_faults = N.faults net.new }) }
+    ensures ends { (faults : ℕ) → EndsSo result (daemon_of K.Sink N.Listener output.old net.old faults)
+        (daemon_of K.Sink N.Listener output.new net.new faults) }
     ensures images { result ≡ Exit.Ok → PutsImages terms.now.conf.now (images_at I.ImageStore images.old) (images_at I.ImageStore images.new) }
     ensures bound { result ≡ Exit.Ok → IsBound (N.bound net.old) (N.bound net.new) (sockets_of terms.now.run_dir.now (option_map (λ p. p.now) terms.now.gate)) }
 {
