@@ -3,6 +3,7 @@ ghost use Rattle.std.specs.Prelude.{◌≡◌};
 ghost use Rattle.nsc_database.specs.Openings.{brought_in};
 ghost use Rattle.nsc_model.specs.declared.kind.Db.TheVariants as db_is;
 ghost use Rattle.nsc_model.specs.Settings.{settings_of};
+ghost use Rattle.nsc_daemon.specs.Openings.{AreTables};
 
 use crate::connection::{Connection, serve_all};
 use crate::lines::connections;
@@ -45,7 +46,7 @@ fn in_room<B: Room, R: AllocGlobal + Wait, F: FileSet + Drop>(
     task: Task<'_>,
 ) -> Result<Outcome, NoMemory>
     requires names { (openings.passwd.db ≡ db_is.Passwd) × (openings.group.db ≡ db_is.Group) × (openings.hosts.db ≡ db_is.Hosts) × (openings.services.db ≡ db_is.Services) }
-    requires tables { (openings.passwd.pass.table ≡ B.table db_is.Passwd) × (openings.group.pass.table ≡ B.table db_is.Group) × (openings.hosts.pass.table ≡ B.table db_is.Hosts) × (openings.services.pass.table ≡ B.table db_is.Services) }
+    requires tables { AreTables B.table openings.passwd.pass.table openings.group.pass.table openings.hosts.pass.table openings.services.pass.table }
     requires passwd { (openings.passwd.settings ≡ settings_of B.conf db_is.Passwd) × (openings.passwd.reloads ≡ B.conf.reloads) × (F.held openings.passwd.files ≡ B.held) }
     requires group { (openings.group.settings ≡ settings_of B.conf db_is.Group) × (openings.group.reloads ≡ B.conf.reloads) × (F.held openings.group.files ≡ B.held) }
     requires hosts { (openings.hosts.settings ≡ settings_of B.conf db_is.Hosts) × (openings.hosts.reloads ≡ B.conf.reloads) × (F.held openings.hosts.files ≡ B.held) }
