@@ -15,5 +15,8 @@ ghost use Rattle.nsc_server.specs.Outcomes.{Serves, Side};
 /// Says that a connection which was not answered in place is served by `serve_one` as if nobody had looked at it. So what is complete of
 /// that call is complete of both.
 pub fn lookups_in_place_leave_all_to_serve_one()
-    ensures { (settings : Databases DbConf) (scopes : Scopes) (moment : ℕ) (bytes : List ℕ) (before mid : Side) (stale : Option Db) (theirs : Databases PassAt) (input input' : StreamAt) (after : Side) (by : Served) → ServesInPlace scopes bytes before mid (Not stale) → Serves settings scopes moment role.Plain input input' (record { output = mid.output; passes = theirs }) after by → Serves settings scopes moment role.Plain input input' (record { output = before.output; passes = theirs }) after by }
+    ensures { (settings : Databases DbConf) (scopes : Scopes) (moment : ℕ) (bytes : List ℕ) (before mid : Side) (stale : Option Db)
+        (theirs : Databases PassAt) (input input' : StreamAt) (after : Side) (by : Served) → ServesInPlace scopes bytes before mid (Not stale)
+        → Serves settings scopes moment role.Plain input input' (record { output = mid.output; passes = theirs }) after by
+        → Serves settings scopes moment role.Plain input input' (record { output = before.output; passes = theirs }) after by }
 {}

@@ -1,12 +1,12 @@
 // `Made`: the reply to an admitted request; lookups and invalidations in the stores.
 ghost use Rattle.std.specs.Prelude.{◌≡◌, ◌≤◌, ◌<◌, ◌^◌, length, IfErr, IfOk};
 ghost use Rattle.nsc_model.specs.Databases.{database_in};
-ghost use Rattle.nsc_model.specs.Stores.{GivesAnswer, GivesUp, IsEmptied, IsInvalidateFault, LoadedLastCycle, reply_of};
+ghost use Rattle.nsc_model.specs.Stores.{IsEmptied, reply_of};
 ghost use Rattle.nsc_model.specs.History.{Legal};
 ghost use Rattle.nsc_model.specs.Entry.{key_limit};
 ghost use Rattle.nsc_model.specs.Kinds.{database_of};
-ghost use Rattle.nsc_server.specs.Made.{bytes_of};
-ghost use Rattle.nsc_server.specs.Passes.{AreNamed, ArePasses, SawMore, OthersThan, passes_at, settings_of};
+ghost use Rattle.nsc_server.specs.Made.{GivesAnswerIn, GivesUpIn, IsInvalidateFaultIn, bytes_of};
+ghost use Rattle.nsc_server.specs.Passes.{AreNamed, ArePasses, SawMore, OthersThan, passes_at};
 
 use crate::served::Served;
 use nsc_base::Bytes;
@@ -74,8 +74,8 @@ pub(crate) fn look_up<R: Wait, S: Store>(
     ensures before { SawMore (passes_at S.Store passes.old) (passes_at S.Store passes.new) }
     ensures others { OthersThan db (passes_at S.Store passes.old) (passes_at S.Store passes.new) }
     ensures legal { Legal (database_in (passes_at S.Store passes.new) db).seen }
-    ensures answer { IfOk result (GivesAnswer (database_in (settings_of S.Store stores.now) db) (database_in (passes_at S.Store passes.new) db).words now (database_in (passes_at S.Store passes.old) db).seen (database_in (passes_at S.Store passes.new) db).seen (LoadedLastCycle (database_in (passes_at S.Store passes.old) db) (database_in (passes_at S.Store passes.new) db)) (record { kind = kind; key = key.now })) }
-    ensures fault { IfErr result (GivesUp (database_in (settings_of S.Store stores.now) db) (database_in (passes_at S.Store passes.old) db).seen (database_in (passes_at S.Store passes.new) db).seen (record { kind = kind; key = key.now }) (database_in (passes_at S.Store passes.old) db).faults (database_in (passes_at S.Store passes.new) db).faults (database_in (passes_at S.Store passes.old) db).file_faults (database_in (passes_at S.Store passes.new) db).file_faults) }
+    ensures answer { IfOk result (GivesAnswerIn S.Store stores.now now passes.old passes.new db (record { kind = kind; key = key.now })) }
+    ensures fault { IfErr result (GivesUpIn S.Store stores.now passes.old passes.new db (record { kind = kind; key = key.now })) }
 {
     match db {
         Db::Passwd => stores
@@ -106,7 +106,7 @@ pub(crate) fn empty<R: Wait, S: Store>(
     ensures others { OthersThan db (passes_at S.Store passes.old) (passes_at S.Store passes.new) }
     ensures legal { Legal (database_in (passes_at S.Store passes.new) db).seen }
     ensures done { IfOk result (λ epoch. IsEmptied (database_in (passes_at S.Store passes.old) db).seen (database_in (passes_at S.Store passes.new) db).seen epoch) }
-    ensures fault { IfErr result (λ fault. IsInvalidateFault fault (database_in (passes_at S.Store passes.new) db).seen (LoadedLastCycle (database_in (passes_at S.Store passes.old) db) (database_in (passes_at S.Store passes.new) db))) }
+    ensures fault { IfErr result (λ fault. IsInvalidateFaultIn S.Store passes.old passes.new db fault) }
 {
     match db {
         Db::Passwd => stores.passwd.invalidate(rt, &mut passes.passwd),

@@ -2,14 +2,13 @@
 ghost use Rattle.std.specs.Prelude.{◌≡◌, ◌^◌, ◌<◌, ◌≤◌, ℕ, List, length, IfErr, IfOk};
 ghost use Rattle.std.specs.Bool.{OnFalse, OnTrue};
 ghost use Rattle.nsc_outside.specs.StreamAt.{stream_in, stream_out};
-ghost use Rattle.nsc_model.specs.Databases.{database_in};
 ghost use Rattle.nsc_model.specs.Entry.{key_limit};
 ghost use Rattle.nsc_model.specs.Kinds.{database_of, db_named};
 ghost use Rattle.nsc_model.specs.Wire.{Invalidate};
 ghost use Rattle.nsc_wire.specs.Request.{KeyFits, KeyIsIn, asked_by};
 ghost use Rattle.nsc_server.specs.Admitted.{wire_of};
-ghost use Rattle.nsc_server.specs.Made.{bytes_of};
-ghost use Rattle.nsc_server.specs.Outcomes.{Answers, IsInvalidateRefusal, IsInvalidateReply, IsLookFault, IsLookReply, IsRefusal, IsReply, IsStatReply, OthersStay, Serves, WritesReply, side};
+ghost use Rattle.nsc_server.specs.Made.{IsLookFaultIn, IsLookReplyIn, IsReplyIn, bytes_of};
+ghost use Rattle.nsc_server.specs.Outcomes.{Answers, IsInvalidateRefusal, IsInvalidateReply, IsRefusal, IsStatReply, OthersStay, Serves, WritesReply, side};
 ghost use Rattle.nsc_server.specs.Passes.{AreNamed, ArePasses, OthersThan, SawMore, passes_at, settings_of};
 ghost use Rattle.nsc_server.specs.Requests.{TakesRequests};
 ghost use Rattle.nsc_server.specs.Scopes.{IsKeptBack, is_absent};
@@ -47,7 +46,8 @@ pub fn serve_one<RT: AllocGlobal + Wait, S: Store, R: Source, K: Sink>(
     requires moment { now < 2 ^ 62 }
     ensures passes { ArePasses S.Store stores.now passes.new }
     ensures before { SawMore (passes_at S.Store passes.old) (passes_at S.Store passes.new) }
-    ensures served { Serves (settings_of S.Store stores.now) scopes now role (stream_in R.Source conn_in.old) (stream_in R.Source conn_in.new) (side S.Store K.Sink passes.old conn_out.old) (side S.Store K.Sink passes.new conn_out.new) result }
+    ensures served { Serves (settings_of S.Store stores.now) scopes now role (stream_in R.Source conn_in.old) (stream_in R.Source conn_in.new)
+        (side S.Store K.Sink passes.old conn_out.old) (side S.Store K.Sink passes.new conn_out.new) result }
 {
     let wire = match buffer.read(conn_in) {
         Ok(wire) => wire,
@@ -87,7 +87,8 @@ fn answer<RT: AllocGlobal + Wait, S: Store, K: Sink>(
     ensures passes { ArePasses S.Store stores.now passes.new }
     ensures before { SawMore (passes_at S.Store passes.old) (passes_at S.Store passes.new) }
     ensures others { OthersStay (asked_by bytes.now (wire_of admitted.now)) (passes_at S.Store passes.old) (passes_at S.Store passes.new) }
-    ensures answers { Answers (settings_of S.Store stores.now) scopes now (asked_by bytes.now (wire_of admitted.now)) (side S.Store K.Sink passes.old conn_out.old) (side S.Store K.Sink passes.new conn_out.new) result }
+    ensures answers { Answers (settings_of S.Store stores.now) scopes now (asked_by bytes.now (wire_of admitted.now))
+        (side S.Store K.Sink passes.old conn_out.old) (side S.Store K.Sink passes.new conn_out.new) result }
 {
     match make(rt, stores, passes, bytes, admitted, now) {
         Ok(made) if keeps_back(scopes, admitted, made.as_slice()) => {
@@ -145,7 +146,7 @@ fn make<RT: AllocGlobal + Wait, S: Store>(
     ensures passes { ArePasses S.Store stores.now passes.new }
     ensures before { SawMore (passes_at S.Store passes.old) (passes_at S.Store passes.new) }
     ensures others { OthersStay (asked_by bytes.now (wire_of admitted.now)) (passes_at S.Store passes.old) (passes_at S.Store passes.new) }
-    ensures made { IfOk result (λ made. IsReply (settings_of S.Store stores.now) now (asked_by bytes.now (wire_of admitted.now)) (passes_at S.Store passes.old) (passes_at S.Store passes.new) (bytes_of made)) }
+    ensures made { IfOk result (λ made. IsReplyIn S.Store stores.now now passes.old passes.new (asked_by bytes.now (wire_of admitted.now)) made) }
     ensures refused { IfErr result (IsRefusal (settings_of S.Store stores.now) (asked_by bytes.now (wire_of admitted.now)) (passes_at S.Store passes.old) (passes_at S.Store passes.new)) }
 {
     match admitted {
@@ -172,8 +173,8 @@ fn looked<RT: AllocGlobal + Wait, S: Store>(
     ensures passes { ArePasses S.Store stores.now passes.new }
     ensures before { SawMore (passes_at S.Store passes.old) (passes_at S.Store passes.new) }
     ensures others { OthersThan (database_of kind) (passes_at S.Store passes.old) (passes_at S.Store passes.new) }
-    ensures made { IfOk result (λ made. IsLookReply (database_in (settings_of S.Store stores.now) (database_of kind)) now (record { kind = kind; key = key.now }) (database_in (passes_at S.Store passes.old) (database_of kind)) (database_in (passes_at S.Store passes.new) (database_of kind)) (bytes_of made)) }
-    ensures refused { IfErr result (IsLookFault (database_in (settings_of S.Store stores.now) (database_of kind)) (record { kind = kind; key = key.now }) (database_in (passes_at S.Store passes.old) (database_of kind)) (database_in (passes_at S.Store passes.new) (database_of kind))) }
+    ensures made { IfOk result (λ made. IsLookReplyIn S.Store stores.now now passes.old passes.new (record { kind = kind; key = key.now }) made) }
+    ensures refused { IfErr result (IsLookFaultIn S.Store stores.now passes.old passes.new (record { kind = kind; key = key.now })) }
 {
     let db = Db::of(kind);
     let given = look_up(rt, rt.alloc(), stores, passes, kind, key, now, db)?;
