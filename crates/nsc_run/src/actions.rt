@@ -34,7 +34,8 @@ pub fn replay_under<RT: AllocGlobal, R: Source, K: Sink, F: FileSet>(
     output: &mut K,
     files: &mut F,
 ) -> Exit
-    ensures run { Course (config_told (F.conf_held files.old) (option_map (λ p. p.now) config.entry)) (F.faults files.old) (F.faults files.new) (streams R.Source K.Sink input.old input.new output.old output.new) result }
+    ensures run { Course (config_told (F.conf_held files.old) (option_map (λ p. p.now) config.entry)) (F.faults files.old) (F.faults files.new)
+        (streams R.Source K.Sink input.old input.new output.old output.new) result }
     ensures counts { Counted result (streams R.Source K.Sink input.old input.new output.old output.new) }
 {
     match conf_at(rt.alloc(), config, files) {
@@ -98,7 +99,9 @@ where
     N::In: 'static,
     N::Out: 'static,
     N::Helper: Helps<N::In, N::Out> + 'static,
-    ensures course { DaemonCourse (F.conf_held files.old (conf_path_for service.now)) (service_shown service.now) (F.held files.old) (images_at I.ImageStore images.old) (images_at I.ImageStore images.new) (daemon_at K.Sink F.FileSet N.Listener output.old files.old net.old) (daemon_at K.Sink F.FileSet N.Listener output.new files.new net.new) result }
+    ensures course { DaemonCourse (F.conf_held files.old (conf_path_for service.now)) (service_shown service.now) (F.held files.old)
+        (images_at I.ImageStore images.old) (images_at I.ImageStore images.new)
+        (daemon_at K.Sink F.FileSet N.Listener output.old files.old net.old) (daemon_at K.Sink F.FileSet N.Listener output.new files.new net.new) result }
     ensures bound { result ≡ Exit.Ok → IsBound (N.bound net.old) (N.bound net.new) (sockets_of service.now.run_dir.now (option_map (λ p. p.now) service.now.gate)) }
 {
     match settings(rt.alloc(), service, files) {

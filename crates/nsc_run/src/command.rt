@@ -110,16 +110,22 @@ where
     ensures usage { result ≡ Exit.Usage → form_of (texts words.now) ≡ None }
 
     // What was read and written, which images were put, and which counts of faults rose, by the form and the exit.
-    ensures runs { RunsByForm N.In.Source N.Out.Sink (form_of (texts words.now)) (outside R.Source K.Sink F.FileSet I.ImageStore N.Listener input.old output.old files.old images.old net.old) (outside R.Source K.Sink F.FileSet I.ImageStore N.Listener input.new output.new files.new images.new net.new) result }
+    ensures runs { RunsByForm N.In.Source N.Out.Sink (form_of (texts words.now))
+        (outside R.Source K.Sink F.FileSet I.ImageStore N.Listener input.old output.old files.old images.old net.old)
+        (outside R.Source K.Sink F.FileSet I.ImageStore N.Listener input.new output.new files.new images.new net.new) result }
 
     // At Ok the command was done.
-    ensures ok { result ≡ Exit.Ok → IsDone N.In.Source N.Out.Sink (form_of (texts words.now)) (outside R.Source K.Sink F.FileSet I.ImageStore N.Listener input.old output.old files.old images.old net.old) (outside R.Source K.Sink F.FileSet I.ImageStore N.Listener input.new output.new files.new images.new net.new) }
+    ensures ok { result ≡ Exit.Ok → IsDone N.In.Source N.Out.Sink (form_of (texts words.now))
+        (outside R.Source K.Sink F.FileSet I.ImageStore N.Listener input.old output.old files.old images.old net.old)
+        (outside R.Source K.Sink F.FileSet I.ImageStore N.Listener input.new output.new files.new images.new net.new) }
 
     // At Ok a daemon bound its sockets, with the gate where one is said, and no others.
     ensures bound { result ≡ Exit.Ok → BindsByForm (form_of (texts words.now)) (N.bound net.old) (N.bound net.new) }
 
     // Where no fault came, the exit tells what is known of it, unless memory was short.
-    ensures complete { TellsByForm N.In.Source N.Out.Sink (form_of (texts words.now)) (outside R.Source K.Sink F.FileSet I.ImageStore N.Listener input.old output.old files.old images.old net.old) (outside R.Source K.Sink F.FileSet I.ImageStore N.Listener input.new output.new files.new images.new net.new) result }
+    ensures complete { TellsByForm N.In.Source N.Out.Sink (form_of (texts words.now))
+        (outside R.Source K.Sink F.FileSet I.ImageStore N.Listener input.old output.old files.old images.old net.old)
+        (outside R.Source K.Sink F.FileSet I.ImageStore N.Listener input.new output.new files.new images.new net.new) result }
 {
     match read_words(rt.alloc(), words) {
         Ok(Form::Replay { config }) => replay_under(rt, config, input, output, files),
