@@ -20,7 +20,8 @@ pub(crate) struct Outcome {
 impl Outcome {
     /// What these replies tell. Fails only for want of memory.
     pub(crate) fn of(alloc: Global, replies: &Replies) -> Result<Outcome, NoMemory>
-        ensures text { IfOk result (λ outcome. outcome.text.items ≡ lines_of (count_by has_row replies.now.all.items) (count_by (λ r. not (has_row r)) replies.now.all.items) (flat_map (λ r. r) replies.now.all.items)) }
+        ensures text { IfOk result (λ outcome. outcome.text.items ≡ lines_of (count_by has_row replies.now.all.items)
+            (count_by (λ r. not (has_row r)) replies.now.all.items) (flat_map (λ r. r) replies.now.all.items)) }
         ensures differing { IfOk result (λ outcome. outcome.differing ≡ replies.now.differing) }
     {
         Ok(Outcome {
