@@ -33,7 +33,8 @@ impl Model for Reader {
 
     ghost view = { λ r. r.answer };
 
-    ghost invariant = { λ r. (r.pass.table ≡ r.map.table) × (length r.key ≤ key_limit) × (r.out.limit ≡ kept_limit) × (r.answer ≡ answer_in r.walk.progress) × HasCome r.map.layout (asked r.walk.kind r.key) r.out.content r.pass r.walk.progress };
+    ghost invariant = { λ r. (r.pass.table ≡ r.map.table) × (length r.key ≤ key_limit) × (r.out.limit ≡ kept_limit)
+        × (r.answer ≡ answer_in r.walk.progress) × HasCome r.map.layout (asked r.walk.kind r.key) r.out.content r.pass r.walk.progress };
 }
 
 impl Reader {
