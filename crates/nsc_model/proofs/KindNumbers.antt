@@ -2,7 +2,7 @@
 use Rattle.std.proofs.Common.{◌≡◌, ℕ, ◌≤◌, Bool, true, false, cond, eqb, Option, Some, None, refl, sym, ◌∙◌, ap, arith}
 use Rattle.std.proofs.lemmas.Bool.{eqb-true}
 use Rattle.nsc_model.specs.declared.kind.Kind.{Kind}
-use Rattle.nsc_model.specs.declared.kind.Kind.TheVariants.{PwName, PwUid, GrName, GrGid, HostName, HostName6, HostAddr, HostAddr6, Ai, InitGroups, ServName, ServPort}
+use Rattle.nsc_model.specs.declared.kind.Kind.TheVariants.{PwName, PwUid, GrName, GrGid, HostName, HostName6, HostAddr, HostAddr6, Ai, InitGroups, ServName, ServPort, NetgrEnt, InNetgr}
 use Rattle.nsc_model.specs.Kinds.{kind_numbered, type_number}
 
 -- if there is a kind, it has this number
@@ -24,7 +24,7 @@ on n x o others = tested_numbers (eqb n (type_number x)) n (type_number x) x o (
 all_numbers : (n : ℕ) → Numbers n (kind_numbered n)
 all_numbers n =
     on n PwName _ (on n PwUid _ (on n GrName _ (on n GrGid _ (on n HostName _ (on n HostName6 _ (on n HostAddr _ (on n HostAddr6 _
-    (on n Ai _ (on n InitGroups _ (on n ServName _ (on n ServPort _ (none_numbers n))))))))))))
+    (on n Ai _ (on n InitGroups _ (on n ServName _ (on n ServPort _ (on n NetgrEnt _ (on n InNetgr _ (none_numbers n))))))))))))))
 
 -- the kind of a number has that number, and the number of a kind is that of this kind
 pub number_again : (n : ℕ) (k : Kind) → kind_numbered n ≡ Some k → type_number k ≡ n
@@ -44,8 +44,10 @@ kind_again Ai = refl
 kind_again InitGroups = refl
 kind_again ServName = refl
 kind_again ServPort = refl
+kind_again NetgrEnt = refl
+kind_again InNetgr = refl
 
-pub type_low : (k : Kind) → type_number k ≤ 17
+pub type_low : (k : Kind) → type_number k ≤ 20
 type_low PwName = omega arith
 type_low PwUid = omega arith
 type_low GrName = omega arith
@@ -58,3 +60,5 @@ type_low Ai = omega arith
 type_low InitGroups = omega arith
 type_low ServName = omega arith
 type_low ServPort = omega arith
+type_low NetgrEnt = omega arith
+type_low InNetgr = omega arith

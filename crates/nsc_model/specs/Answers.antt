@@ -109,7 +109,7 @@ is_port (Some port) proto s = service_ported (exchanged port) proto s
 abbrev pub key_ported : ServiceKey → Service → Bool
 key_ported key s = is_port (port_of key.asked) key.proto s
 
--- a request over the bytes of one file, by the request's kind
+-- a request over the bytes of one file, by the request's kind; no service answers for netgroups yet
 abbrev pub answer_by : Kind → Option (List ℕ) → List ℕ → Looked
 answer_by kind.PwName file key = file_entry row.Passwd user_of_line (user_named key) file
 answer_by kind.PwUid file key = file_entry row.Passwd user_of_line (user_numbered key) file
@@ -123,6 +123,8 @@ answer_by kind.HostAddr6 file key = file_entry row.Host host_of_line (host_addre
 answer_by kind.Ai file key = file_addresses key file
 answer_by kind.ServName file key = file_entry row.Service service_of_line (key_named (service_key key)) file
 answer_by kind.ServPort file key = file_entry row.Service service_of_line (key_ported (service_key key)) file
+answer_by kind.NetgrEnt file key = Unavail
+answer_by kind.InNetgr file key = Unavail
 
 abbrev pub file_answer : Option (List ℕ) → Request → Looked
 file_answer file request = answer_by request.kind file request.key

@@ -1,4 +1,4 @@
--- A content: seven files, each absent or its bytes.
+-- A content: eight files, each absent or its bytes.
 use Rattle.std.specs.Prelude.{ℕ, List, Option}
 
 pub record Content : Type 0 where
@@ -9,3 +9,4 @@ pub record Content : Type 0 where
   pub services : Option (List ℕ)
   pub extra_passwd : Option (List ℕ)
   pub extra_group : Option (List ℕ)
+  pub netgroup : Option (List ℕ)

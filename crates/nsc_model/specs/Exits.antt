@@ -20,6 +20,7 @@ status_of (exits.Spent count) = 9
 status_of exits.NoMemory = 10
 status_of (exits.TooLong size) = 11
 status_of exits.BadReply = 12
+status_of (exits.AuditNo item) = 14
 
 -- the line of a configuration that is refused, and why
 abbrev pub conf_text : ConfFault → List ℕ
@@ -41,6 +42,7 @@ text_of (exits.Spent count) = codes "nscd: counter spent"
 text_of exits.NoMemory = codes "nscd: no memory"
 text_of (exits.TooLong size) = codes "nscd: file of " ++ decimal size ++ codes " bytes is too long"
 text_of exits.BadReply = codes "nscd: bad reply from server"
+text_of (exits.AuditNo item) = codes "nscd: audit failed at item " ++ decimal item
 
 -- the same with a newline, and nothing at all where the command was done
 abbrev pub line_of : Exit → List ℕ
@@ -52,12 +54,13 @@ abbrev pub exit_by : CacheFault → Exit
 exit_by faults.NoMemory = exits.NoMemory
 exit_by (faults.Spent count) = exits.Spent count
 
--- what the program is at: a replay, a daemon's service, a question to a daemon, or a workload
+-- what the program is at: a replay, a daemon's service, a question to a daemon, a workload, or an audit
 pub data Task : Type 0 where
   Replaying : Task
   Serving : Task
   Asking : Task
   Working : Task
+  Auditing : Task
 
 -- a task may end so, once its words and its settings were read
 abbrev pub IsExitOf : Task → Exit → Type 0
@@ -73,4 +76,7 @@ IsExitOf Serving exits.SourceFault = Unit {0}
 IsExitOf Serving exits.NetFault = Unit {0}
 IsExitOf Asking exits.NetFault = Unit {0}
 IsExitOf Asking exits.BadReply = Unit {0}
+IsExitOf Auditing exits.ReadFault = Unit {0}
+IsExitOf Auditing (exits.BadFrame offset) = Unit {0}
+IsExitOf Auditing (exits.AuditNo item) = Unit {0}
 IsExitOf _ _ = ⊥

@@ -24,6 +24,7 @@ pub record FilesFit (files : Content) : Type 0 where
   pub services_fits : FileFits files.services
   pub extra_passwd_fits : FileFits files.extra_passwd
   pub extra_group_fits : FileFits files.extra_group
+  pub netgroup_fits : FileFits files.netgroup
 
 -- the files in the order of their numbers
 abbrev pub files_in : List (Option (List ℕ)) → Content
@@ -35,11 +36,12 @@ files_in all = record {
   services = slice_index_or all 4 None;
   extra_passwd = slice_index_or all 5 None;
   extra_group = slice_index_or all 6 None;
+  netgroup = slice_index_or all 7 None;
 }
 
 -- every file is absent
 abbrev pub no_files : Content
-no_files = record { switch = None; passwd = None; group = None; hosts = None; services = None; extra_passwd = None; extra_group = None }
+no_files = record { switch = None; passwd = None; group = None; hosts = None; services = None; extra_passwd = None; extra_group = None; netgroup = None }
 
 abbrev pub file_of : Content → FileId → Option (List ℕ)
 file_of files file.Switch = files.switch
@@ -49,6 +51,7 @@ file_of files file.Hosts = files.hosts
 file_of files file.Services = files.services
 file_of files file.ExtraPasswd = files.extra_passwd
 file_of files file.ExtraGroup = files.extra_group
+file_of files file.Netgroup = files.netgroup
 
 -- one file becomes this, and the others stay
 abbrev pub with_file : Content → FileId → Option (List ℕ) → Content
@@ -59,8 +62,9 @@ with_file files file.Hosts f = record files { hosts = f }
 with_file files file.Services f = record files { services = f }
 with_file files file.ExtraPasswd f = record files { extra_passwd = f }
 with_file files file.ExtraGroup f = record files { extra_group = f }
+with_file files file.Netgroup f = record files { netgroup = f }
 
--- whether a database reads a file
+-- whether a database reads a file; no answer depends on netgroups yet, so no database reads those
 abbrev pub is_read : Db → FileId → Bool
 is_read which file.Switch = true
 is_read db.Passwd file.Passwd = true
@@ -85,6 +89,7 @@ part_of which files = record {
   services = read_file which files file.Services;
   extra_passwd = read_file which files file.ExtraPasswd;
   extra_group = read_file which files file.ExtraGroup;
+  netgroup = read_file which files file.Netgroup;
 }
 
 -- whether two files are the same, and whether two contents are
@@ -98,3 +103,4 @@ abbrev pub same_files : Content → Content → Bool
 same_files a b =
     same_file a.switch b.switch && same_file a.passwd b.passwd && same_file a.group b.group && same_file a.hosts b.hosts
     && same_file a.services b.services && same_file a.extra_passwd b.extra_passwd && same_file a.extra_group b.extra_group
+    && same_file a.netgroup b.netgroup

@@ -1,10 +1,10 @@
 -- Databases, kinds of lookups and files, with their numbers (glibc's nscd-client.h, protocol version 2).
-use Rattle.std.specs.Prelude.{ℕ, Bool, ◌==◌, ◌&&◌, if◌then◌else◌, List, [], ◌∷◌, Option, Some, None, codes}
+use Rattle.std.specs.Prelude.{ℕ, Bool, true, false, ◌==◌, ◌&&◌, if◌then◌else◌, List, [], ◌∷◌, Option, Some, None, codes}
 use Rattle.std.specs.Str.{bytes_eq}
 use Rattle.nsc_model.specs.declared.kind.Db.{Db}
 use Rattle.nsc_model.specs.declared.kind.Db.TheVariants as db
 use Rattle.nsc_model.specs.declared.kind.Kind.{Kind}
-use Rattle.nsc_model.specs.declared.kind.Kind.TheVariants.{PwName, PwUid, GrName, GrGid, HostName, HostName6, HostAddr, HostAddr6, Ai, InitGroups, ServName, ServPort}
+use Rattle.nsc_model.specs.declared.kind.Kind.TheVariants.{PwName, PwUid, GrName, GrGid, HostName, HostName6, HostAddr, HostAddr6, Ai, InitGroups, ServName, ServPort, NetgrEnt, InNetgr}
 use Rattle.nsc_model.specs.declared.kind.FileId.{FileId}
 use Rattle.nsc_model.specs.declared.kind.FileId.TheVariants as file
 use Rattle.nsc_model.specs.declared.answer.Request.{Request}
@@ -23,6 +23,8 @@ database_of Ai = db.Hosts
 database_of InitGroups = db.Group
 database_of ServName = db.Services
 database_of ServPort = db.Services
+database_of NetgrEnt = db.Passwd
+database_of InNetgr = db.Passwd
 
 -- the database of a number in replay frames
 abbrev pub db_numbered : ℕ → Option Db
@@ -60,6 +62,8 @@ type_number Ai = 14
 type_number InitGroups = 15
 type_number ServName = 16
 type_number ServPort = 17
+type_number NetgrEnt = 19
+type_number InNetgr = 20
 
 -- the kind of a request type, where it is a lookup
 abbrev pub kind_numbered : ℕ → Option Kind
@@ -75,11 +79,19 @@ kind_numbered n =
     if n == 14 then Some Ai else (
     if n == 15 then Some InitGroups else (
     if n == 16 then Some ServName else (
-    if n == 17 then Some ServPort else None)))))))))))
+    if n == 17 then Some ServPort else (
+    if n == 19 then Some NetgrEnt else (
+    if n == 20 then Some InNetgr else None)))))))))))))
+
+-- whether a kind asks for a netgroup
+abbrev pub is_netgroup : Kind → Bool
+is_netgroup NetgrEnt = true
+is_netgroup InNetgr = true
+is_netgroup _ = false
 
 -- every file, in the order of their numbers
 abbrev pub all_files : List FileId
-all_files = file.Switch ∷ file.Passwd ∷ file.Group ∷ file.Hosts ∷ file.Services ∷ file.ExtraPasswd ∷ file.ExtraGroup ∷ []
+all_files = file.Switch ∷ file.Passwd ∷ file.Group ∷ file.Hosts ∷ file.Services ∷ file.ExtraPasswd ∷ file.ExtraGroup ∷ file.Netgroup ∷ []
 
 -- the number of a file in replay frames
 abbrev pub file_number : FileId → ℕ
@@ -90,6 +102,7 @@ file_number file.Hosts = 3
 file_number file.Services = 4
 file_number file.ExtraPasswd = 5
 file_number file.ExtraGroup = 6
+file_number file.Netgroup = 7
 
 abbrev pub file_numbered : ℕ → Option FileId
 file_numbered n =
@@ -99,7 +112,8 @@ file_numbered n =
     if n == 3 then Some file.Hosts else (
     if n == 4 then Some file.Services else (
     if n == 5 then Some file.ExtraPasswd else (
-    if n == 6 then Some file.ExtraGroup else None))))))
+    if n == 6 then Some file.ExtraGroup else (
+    if n == 7 then Some file.Netgroup else None)))))))
 
 -- two requests are one: the same kind, and the same bytes of the key
 abbrev pub is_request : Request → Request → Bool

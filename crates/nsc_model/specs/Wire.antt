@@ -1,5 +1,5 @@
 -- Requests and replies as bytes: protocol version 2 of glibc's nscd-client.h, in little-endian fields of four bytes.
-use Rattle.std.specs.Prelude.{◌≡◌, ◌≢◌, ◌⊎◌, ℕ, ◌+◌, ◌≤◌, ◌<◌, ◌^◌, ℤ, ◌==◌, nat_lt, if◌then◌else◌, List, [], ◌∷◌, ◌++◌, length, map, take, drop, flat_map, All, Option, Some, None}
+use Rattle.std.specs.Prelude.{◌≡◌, ◌≢◌, ◌⊎◌, ℕ, ◌+◌, ◌/◌, ◌%◌, ◌≤◌, ◌<◌, ◌^◌, ℤ, Bool, ◌==◌, nat_lt, if◌then◌else◌, List, [], ◌∷◌, ◌++◌, length, map, take, drop, flat_map, All, Option, Some, None}
 use Rattle.std.specs.List.{before_first}
 use Rattle.byteorder.specs.Endian.{little_number, little_bytes, twos_complement}
 use Rattle.nsc_model.specs.declared.kind.Kind.{Kind}
@@ -16,7 +16,7 @@ use Rattle.nsc_model.specs.declared.row.Row.{Row}
 use Rattle.nsc_model.specs.declared.row.Row.TheVariants as row
 use Rattle.nsc_model.specs.declared.row.Reply.{Reply}
 use Rattle.nsc_model.specs.declared.row.Reply.TheVariants.{Found, Absent, Disabled}
-use Rattle.nsc_model.specs.Kinds.{kind_numbered}
+use Rattle.nsc_model.specs.Kinds.{is_netgroup, kind_numbered}
 use Rattle.nsc_model.specs.Hosts.{ipv4, ipv6}
 use Rattle.nsc_model.specs.ServiceLines.{exchanged}
 use Rattle.nsc_model.specs.Answer.{reply_limit}
@@ -59,12 +59,11 @@ abbrev pub asked_otherwise : ℕ → List ℕ → Asked
 asked_otherwise type key =
     if type == 8 then Shutdown else (
     if type == 9 then Stat else (
-    if type == 10 then Invalidate (text_key key) else (
-    if type == 19 then Netgroup else (
-    if type == 20 then Netgroup else Descriptor))))
+    if type == 10 then Invalidate (text_key key) else Descriptor))
 
+-- a lookup, or a request for a netgroup, which is not looked up yet
 abbrev pub asked_look : Option Kind → ℕ → List ℕ → Asked
-asked_look (Some k) type key = Look (record { kind = k; key = stored_key k key })
+asked_look (Some k) type key = if is_netgroup k then Netgroup else Look (record { kind = k; key = stored_key k key })
 asked_look None type key = asked_otherwise type key
 
 -- the three fields version, type and key length, and then the key; what stands after the key is not looked at.
@@ -113,6 +112,8 @@ shape_of kind.Ai = shape.Addresses
 shape_of kind.InitGroups = shape.Ids
 shape_of kind.ServName = shape.Service
 shape_of kind.ServPort = shape.Service
+shape_of kind.NetgrEnt = shape.Netgroup
+shape_of kind.InNetgr = shape.Member
 
 -- the shape of the reply that has a row
 abbrev pub row_shape : Row → Shape
@@ -122,6 +123,8 @@ row_shape (row.Host h) = shape.Host
 row_shape (row.Service s) = shape.Service
 row_shape (row.Ai a) = shape.Addresses
 row_shape (row.Groups ids) = shape.Ids
+row_shape (row.Netgroup texts) = shape.Netgroup
+row_shape (row.Member has) = shape.Member
 
 -- ---- the bytes of rows
 
@@ -163,6 +166,14 @@ service_found s =
     field 2 ++ field 1 ++ text_len s.name ++ text_len s.proto ++ field (length s.aliases) ++ field (exchanged s.port)
     ++ text s.name ++ text s.proto ++ flat_map text_len s.aliases ++ flat_map text s.aliases
 
+-- version, found, triple count, byte length of the texts, and host, user and domain of each triple
+abbrev pub netgroup_found : List (List ℕ) → List ℕ
+netgroup_found texts = field 2 ++ field 1 ++ field (length texts / 3) ++ field (length (flat_map text texts)) ++ flat_map text texts
+
+-- version, found, and 1 if the netgroup has such a triple, else 0
+abbrev pub member_found : Bool → List ℕ
+member_found has = field 2 ++ field 1 ++ field (if has then 1 else 0)
+
 -- the bytes of the reply that has a row
 abbrev pub row_found : Row → List ℕ
 row_found (row.Passwd p) = passwd_found p
@@ -171,6 +182,8 @@ row_found (row.Host h) = host_found h
 row_found (row.Service s) = service_found s
 row_found (row.Ai a) = addresses_found a
 row_found (row.Groups ids) = ids_found ids
+row_found (row.Netgroup texts) = netgroup_found texts
+row_found (row.Member has) = member_found has
 
 -- the fields of a shape without a row, by their fields found and error: an id, a port, an address type and an address length
 -- are -1, a length and a count 0
@@ -181,6 +194,8 @@ lacking shape.Ids found error = field 2 ++ field found ++ field 0
 lacking shape.Host found error = field 2 ++ field found ++ field 0 ++ field 0 ++ field minus_one ++ field minus_one ++ field 0 ++ field error
 lacking shape.Addresses found error = field 2 ++ field found ++ field 0 ++ field 0 ++ field 0 ++ field error
 lacking shape.Service found error = field 2 ++ field found ++ field 0 ++ field 0 ++ field 0 ++ field minus_one
+lacking shape.Netgroup found error = field 2 ++ field found ++ field 0 ++ field 0
+lacking shape.Member found error = field 2 ++ field found ++ field 0
 
 -- the bytes of a reply of a kind: where there is no entry, found is 0 and the error 1; where the database is not cached, both are -1
 abbrev pub spelled : Kind → Reply → List ℕ
@@ -229,6 +244,11 @@ pub record IsService (s : Service) : Type 0 where
   pub aliases_are : All IsText s.aliases
   pub port_fits : s.port < 2 ^ 16
 
+-- whole triples of texts that can be sent: host, user and domain of each
+pub record AreTriples (texts : List (List ℕ)) : Type 0 where
+  pub whole : length texts % 3 ≡ 0
+  pub texts_are : All IsText texts
+
 -- a row can be sent; ids are numbers of four bytes
 abbrev pub IsRow : Row → Type 0
 IsRow (row.Passwd p) = IsUser p
@@ -237,6 +257,8 @@ IsRow (row.Host h) = IsHost h
 IsRow (row.Service s) = IsService s
 IsRow (row.Ai a) = AreAddresses a
 IsRow (row.Groups ids) = All (λ id. id < 2 ^ 32) ids
+IsRow (row.Netgroup texts) = AreTriples texts
+IsRow (row.Member has) = Unit {0}
 
 -- a reply is of a kind: a row has the kind's shape, and can be sent
 abbrev pub IsReplyOf : Kind → Reply → Type 0

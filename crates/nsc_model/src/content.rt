@@ -72,10 +72,10 @@ impl Text {
     }
 }
 
-/// The seven source files as they stood at one moment, each absent or its bytes, at most 16,777,216 of them.
+/// The eight source files as they stood at one moment, each absent or its bytes, at most 16,777,216 of them.
 #[derive(Debug, Drop)]
 pub struct Content {
-    files: [Option<Text>; 7],
+    files: [Option<Text>; 8],
 }
 
 impl Model for Content {
@@ -105,7 +105,7 @@ impl Content {
         ensures { result ≡ no_files }
     {
         Content {
-            files: [None, None, None, None, None, None, None],
+            files: [None, None, None, None, None, None, None, None],
         }
     }
 
@@ -147,6 +147,7 @@ impl Content {
             && self.has_same(other, FileId::Services)
             && self.has_same(other, FileId::ExtraPasswd)
             && self.has_same(other, FileId::ExtraGroup)
+            && self.has_same(other, FileId::Netgroup)
     }
 
     // Whether one file is the same in both.

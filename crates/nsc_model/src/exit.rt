@@ -70,6 +70,11 @@ pub enum Exit {
     },
     /// What a daemon replied is no reply.
     BadReply,
+    /// An item of an audited trace breaks a rule.
+    AuditNo {
+        /// The number of the first such item, from 0.
+        item: u64,
+    },
 }
 
 impl Exit {
@@ -93,6 +98,7 @@ impl Exit {
             Exit::NoMemory => 10,
             Exit::TooLong { .. } => 11,
             Exit::BadReply => 12,
+            Exit::AuditNo { .. } => 14,
         }
     }
 
@@ -138,6 +144,7 @@ impl fmt::Display for Exit {
             Exit::NoMemory => write!(f, "nscd: no memory"),
             Exit::TooLong { length } => write!(f, "nscd: file of {length} bytes is too long"),
             Exit::BadReply => write!(f, "nscd: bad reply from server"),
+            Exit::AuditNo { item } => write!(f, "nscd: audit failed at item {item}"),
         }
     }
 }

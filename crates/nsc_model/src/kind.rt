@@ -1,7 +1,7 @@
 // Databases, kinds of requests, layouts of replies and source files, with their numbers.
 ghost use Rattle.std.specs.Prelude.{◌≡◌};
 ghost use Rattle.nsc_model.specs.Files.{is_read};
-ghost use Rattle.nsc_model.specs.Kinds.{database_of, db_named, db_numbered, name_of, file_numbered, file_number, kind_numbered, type_number};
+ghost use Rattle.nsc_model.specs.Kinds.{database_of, db_named, db_numbered, name_of, file_numbered, file_number, is_netgroup, kind_numbered, type_number};
 ghost use Rattle.nsc_model.specs.Wire.{shape_of};
 
 /// A database of the name service: each has its own files, cache and settings.
@@ -45,6 +45,10 @@ pub enum Kind {
     ServName = 16,
     /// GETSERVBYPORT: a service by port and protocol.
     ServPort = 17,
+    /// GETNETGRENT: the triples of a netgroup.
+    NetgrEnt = 19,
+    /// INNETGR: whether a netgroup has a triple of these parts.
+    InNetgr = 20,
 }
 
 /// The layouts of replies, protocol version 2.
@@ -62,6 +66,10 @@ pub enum Shape {
     Addresses,
     /// A service.
     Service,
+    /// The triples of a netgroup.
+    Netgroup,
+    /// Whether a netgroup has a triple.
+    Member,
 }
 
 /// A source file of the name service, with its number in replay frames.
@@ -81,6 +89,8 @@ pub enum FileId {
     ExtraPasswd = 5,
     /// The groups of the service `extrausers`, usually /var/lib/extrausers/group.
     ExtraGroup = 6,
+    /// netgroup(5), usually /etc/netgroup. No database reads it yet.
+    Netgroup = 7,
 }
 
 impl Db {
@@ -133,7 +143,7 @@ impl Db {
         ensures { result ≡ database_of kind }
     {
         match kind {
-            Kind::PwName | Kind::PwUid => Db::Passwd,
+            Kind::PwName | Kind::PwUid | Kind::NetgrEnt | Kind::InNetgr => Db::Passwd,
             Kind::GrName | Kind::GrGid | Kind::InitGroups => Db::Group,
             Kind::HostName | Kind::HostName6 | Kind::HostAddr | Kind::HostAddr6 | Kind::Ai =>
                 Db::Hosts,
@@ -160,6 +170,8 @@ impl Kind {
             15 => Some(Kind::InitGroups),
             16 => Some(Kind::ServName),
             17 => Some(Kind::ServPort),
+            19 => Some(Kind::NetgrEnt),
+            20 => Some(Kind::InNetgr),
             _ => None,
         }
     }
@@ -175,7 +187,16 @@ impl Kind {
             Kind::HostName | Kind::HostName6 | Kind::HostAddr | Kind::HostAddr6 => Shape::Host,
             Kind::Ai => Shape::Addresses,
             Kind::ServName | Kind::ServPort => Shape::Service,
+            Kind::NetgrEnt => Shape::Netgroup,
+            Kind::InNetgr => Shape::Member,
         }
+    }
+
+    /// Whether the kind asks for a netgroup.
+    pub fn is_netgroup(self) -> bool
+        ensures { result ≡ is_netgroup self }
+    {
+        matches!(self, Kind::NetgrEnt | Kind::InNetgr)
     }
 
     /// The number of the kind's request type.
@@ -188,7 +209,7 @@ impl Kind {
 
 impl FileId {
     /// Every file, in the order of their numbers.
-    pub const ALL: [FileId; 7] = [
+    pub const ALL: [FileId; 8] = [
         FileId::Switch,
         FileId::Passwd,
         FileId::Group,
@@ -196,6 +217,7 @@ impl FileId {
         FileId::Services,
         FileId::ExtraPasswd,
         FileId::ExtraGroup,
+        FileId::Netgroup,
     ];
 
     /// Whether a database reads the file.
@@ -208,10 +230,11 @@ impl FileId {
             FileId::Group | FileId::ExtraGroup => db == Db::Group,
             FileId::Hosts => db == Db::Hosts,
             FileId::Services => db == Db::Services,
+            FileId::Netgroup => false,
         }
     }
 
-    /// The file of this number; `None` above 6.
+    /// The file of this number; `None` above 7.
     pub fn numbered(number: u8) -> Option<FileId>
         ensures { result ≡ file_numbered number }
     {
@@ -223,6 +246,7 @@ impl FileId {
             4 => Some(FileId::Services),
             5 => Some(FileId::ExtraPasswd),
             6 => Some(FileId::ExtraGroup),
+            7 => Some(FileId::Netgroup),
             _ => None,
         }
     }

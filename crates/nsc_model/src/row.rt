@@ -140,6 +140,10 @@ pub enum Row {
     Ai(Ai),
     /// The ids of a user's groups.
     Groups(Ids),
+    /// The triples of a netgroup: host, user and domain of each in turn.
+    Netgroup(Texts),
+    /// Whether a netgroup has a triple.
+    Member(bool),
 }
 
 /// The outcome of one service or of the whole switch, nsswitch.conf(5). TRYAGAIN never arises from contents.
