@@ -3,6 +3,7 @@ pub mod Spellings
 pub mod GroupSpellings
 pub mod HostSpellings
 pub mod ServiceSpellings
+pub mod NetgroupSpellings
 pub mod OneReply
 pub mod Prefixes
 pub mod CoreLawRecords

@@ -2,7 +2,7 @@
 use Rattle.std.proofs.Common.{◌≡◌, ℕ, ◌<◌, ◌≤◌, List, length, refl, sym, ap, subst, ◌∙◌, arith}
 use Rattle.nsc_model.specs.declared.kind.Kind.{Kind}
 use Rattle.nsc_model.specs.declared.row.Row.{Row}
-use Rattle.nsc_model.specs.declared.row.Row.TheVariants.{Passwd, Group, Host, Service, Ai, Groups}
+use Rattle.nsc_model.specs.declared.row.Row.TheVariants.{Passwd, Group, Host, Service, Ai, Groups, Netgroup, Member}
 use Rattle.nsc_model.specs.declared.row.Reply.{Reply}
 use Rattle.nsc_model.specs.declared.row.Reply.TheVariants.{Found, Absent, Disabled}
 use Rattle.nsc_model.specs.Answer.{reply_limit}
@@ -13,6 +13,7 @@ use Rattle.nsc_laws.proofs.Spellings.{same_user}
 use Rattle.nsc_laws.proofs.GroupSpellings.{same_group, same_ids}
 use Rattle.nsc_laws.proofs.HostSpellings.{same_host, same_addresses}
 use Rattle.nsc_laws.proofs.ServiceSpellings.{same_service}
+use Rattle.nsc_laws.proofs.NetgroupSpellings.{same_netgroup, same_member}
 
 same_row : (a b : Row) → row_shape a ≡ row_shape b → IsRow a → IsRow b → length (row_found a) ≤ reply_limit → length (row_found b) ≤ reply_limit → row_found a ≡ row_found b → a ≡ b
 same_row (Passwd p) (Passwd q) shape a_is b_is a_short b_short e = ap (λ x. Passwd x) (same_user p q a_is b_is a_short b_short e)
@@ -21,6 +22,8 @@ same_row (Host h) (Host k) shape a_is b_is a_short b_short e = ap (λ x. Host x)
 same_row (Service s) (Service t) shape a_is b_is a_short b_short e = ap (λ x. Service x) (same_service s t a_is b_is a_short b_short e)
 same_row (Ai x) (Ai y) shape a_is b_is a_short b_short e = ap (λ z. Ai z) (same_addresses x y a_is b_is a_short b_short e)
 same_row (Groups xs) (Groups ys) shape a_is b_is a_short b_short e = ap (λ z. Groups z) (same_ids xs ys a_is b_is a_short b_short e)
+same_row (Netgroup xs) (Netgroup ys) shape a_is b_is a_short b_short e = ap (λ z. Netgroup z) (same_netgroup xs ys a_is b_is e)
+same_row (Member x) (Member y) shape a_is b_is a_short b_short e = ap (λ z. Member z) (same_member x y e)
 same_row _ _ shape a_is b_is a_short b_short e = absurd cc
 
 -- the field found tells the three replies apart

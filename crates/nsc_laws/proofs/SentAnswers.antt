@@ -3,7 +3,7 @@ use Rattle.std.proofs.Common.{ℕ, Bool, ◌+◌, ◌*◌, ◌^◌, ◌<◌, ◌
 use Rattle.std.specs.List.{AllByRecursion}
 use Rattle.std.proofs.lemmas.List.{length-map}
 use Rattle.nsc_model.specs.declared.kind.Kind.{Kind}
-use Rattle.nsc_model.specs.declared.kind.Kind.TheVariants.{PwName, PwUid, GrName, GrGid, HostName, HostName6, HostAddr, HostAddr6, Ai, InitGroups, ServName, ServPort}
+use Rattle.nsc_model.specs.declared.kind.Kind.TheVariants.{PwName, PwUid, GrName, GrGid, HostName, HostName6, HostAddr, HostAddr6, Ai, InitGroups, ServName, ServPort, NetgrEnt, InNetgr}
 use Rattle.nsc_model.specs.declared.row.Group.{Group}
 use Rattle.nsc_model.specs.declared.row.Host.{Host}
 use Rattle.nsc_model.specs.declared.row.Passwd.{Passwd}
@@ -79,3 +79,5 @@ file_sent HostAddr6 file key fits = hosts_sent (host_addressed key) file fits
 file_sent Ai file key fits = addresses_sent_by key file fits
 file_sent ServName file key fits = services_sent (key_named (service_key key)) file fits
 file_sent ServPort file key fits = services_sent (key_ported (service_key key)) file fits
+file_sent NetgrEnt file key fits = none_sent NetgrEnt
+file_sent InNetgr file key fits = none_sent InNetgr
