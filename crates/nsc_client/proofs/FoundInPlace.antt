@@ -130,6 +130,8 @@ lacks shape.Ids = (refl, refl, omega arith, omega arith)
 lacks shape.Host = (refl, refl, omega arith, omega arith)
 lacks shape.Addresses = (refl, refl, omega arith, omega arith)
 lacks shape.Service = (refl, refl, omega arith, omega arith)
+lacks shape.Netgroup = (refl, refl, omega arith, omega arith)
+lacks shape.Member = (refl, refl, omega arith, omega arith)
 
 has : (row : Row) → ((field_in (row_found row) 4 == 1) ≡ true) × (8 ≤ length (row_found row))
 has (row.Passwd p) = (refl, omega arith)
@@ -138,6 +140,8 @@ has (row.Host h) = (refl, omega arith)
 has (row.Service s) = (refl, omega arith)
 has (row.Ai a) = (refl, omega arith)
 has (row.Groups ids) = (refl, omega arith)
+has (row.Netgroup texts) = (refl, omega arith)
+has (row.Member is) = (refl, omega arith)
 
 entry_field : (by : Kind) (reply : Reply) → ((field_in (spelled by reply) 4 == 1) ≡ has_entry reply) × (8 ≤ length (spelled by reply))
 entry_field by (Found row) = has row

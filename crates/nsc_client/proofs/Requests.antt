@@ -7,7 +7,7 @@ use Rattle.nsc_model.specs.declared.kind.Kind.{Kind}
 use Rattle.nsc_model.specs.Entry.{key_limit}
 use Rattle.nsc_model.specs.Kinds.{kind_numbered, type_number}
 use Rattle.nsc_model.proofs.KindNumbers.{kind_again, type_low}
-use Rattle.nsc_model.specs.Wire.{Asked, Look, Short, BadVersion, BadType, BadLength, asked_look, field, field_in, request_of, signed_field_in, stored_key}
+use Rattle.nsc_model.specs.Wire.{Asked, Short, BadVersion, BadType, BadLength, asked_look, field, field_in, request_of, signed_field_in}
 use Rattle.nsc_client.specs.SocketLink.{request_for}
 
 -- what is read of fields and of what stands after them
@@ -22,7 +22,7 @@ read_of count version type size v t s rest =
     else BadVersion v)
 
 read_as : (count version type size : ℕ) (v t s : ℤ) (rest key : List ℕ) (by : Kind) → count ≡ 12 + length key → version ≡ 2 → type ≡ type_number by → size ≡ length key → rest ≡ key
-    → length key ≤ key_limit → read_of count version type size v t s rest ≡ Look (record { kind = by; key = stored_key by key })
+    → length key ≤ key_limit → read_of count version type size v t s rest ≡ asked_look (Some by) (type_number by) key
 read_as count version type size v t s rest key by count_is version_is type_is size_is rest_is fits =
     let few : nat_lt count 12 ≡ false = le-ltb count 12 (omega arith) in
     let known : (version == 2) ≡ true = ap (λ (n : ℕ). n == 2) version_is in
@@ -33,7 +33,7 @@ read_as count version type size v t s rest key by count_is version_is type_is si
     let all : take size rest ≡ key = ap (λ (l : List ℕ). take size l) rest_is ∙ take_all size key (omega arith) in
     rw (few, known, low, short, whole, look, all) refl
 
-pub asks : (by : Kind) (key : List ℕ) → length key ≤ key_limit → request_of (request_for by key) ≡ Look (record { kind = by; key = stored_key by key })
+pub asks : (by : Kind) (key : List ℕ) → length key ≤ key_limit → request_of (request_for by key) ≡ asked_look (Some by) (type_number by) key
 asks by key fits =
     let bytes = request_for by key in
     let type : field_in bytes 4 ≡ type_number by = little_number-reads_back 4 (type_number by) (field (length key) ++ key) (let low = type_low by in omega arith) in

@@ -117,7 +117,7 @@ host_text h = join_with_byte 32 (address_text h.family h.address ∷ h.name ∷ 
 abbrev pub service_text : Service → List ℕ
 service_text s = join_with_byte 32 (s.name ∷ (decimal s.port ++ 47 ∷ s.proto) ∷ s.aliases)
 
--- no line asks for the addresses of a host, or for the groups of a user
+-- no line asks for the addresses of a host, for the groups of a user, or for a netgroup
 abbrev pub row_text : Row → List ℕ
 row_text (row.Passwd p) = user_text p
 row_text (row.Group g) = group_text g
@@ -125,6 +125,8 @@ row_text (row.Host h) = host_text h
 row_text (row.Service s) = service_text s
 row_text (row.Ai a) = []
 row_text (row.Groups ids) = []
+row_text (row.Netgroup texts) = []
+row_text (row.Member has) = []
 
 abbrev pub reply_text : Reply → List ℕ
 reply_text (Found row) = row_text row

@@ -2,7 +2,7 @@
 ghost use Rattle.std.specs.Prelude.{◌≡◌, ◌≤◌, Some, length, IfErr, IfOk};
 ghost use Rattle.nsc_outside.specs.StreamAt.{stream_in, stream_out};
 ghost use Rattle.nsc_model.specs.Entry.{key_limit};
-ghost use Rattle.nsc_model.specs.Wire.{Look, request_of, stored_key};
+ghost use Rattle.nsc_model.specs.Wire.{asked_look, request_of};
 ghost use Rattle.nsc_sockets.specs.Connections.{IsPeer};
 ghost use Rattle.nsc_client.specs.SocketLink.{FailsOnlyBy, IsCut, IsOfPeer, IsSent, IsUnread, request_for};
 
@@ -51,7 +51,7 @@ fn request(alloc: Global, kind: Kind, key: &[u8]) -> Result<Bytes, NoMemory>
     requires { length key.now ≤ key_limit }
     ensures bytes { IfOk result (λ bytes. bytes ≡ request_for kind key.now) }
     // Whoever reads it is asked for this kind and key.
-    ensures asks { IfOk result (λ bytes. request_of bytes ≡ Look (record { kind = kind; key = stored_key kind key.now })) }
+    ensures asks { IfOk result (λ bytes. request_of bytes ≡ asked_look (Some kind) (type_number kind) key.now) }
 {
     let mut head = [0; HEAD];
     LittleEndian::write_u32_into(&[VERSION, kind.number(), key.len() as u32], &mut head);

@@ -56,7 +56,7 @@ fn put_spelled(out: &mut Vec<u8>, kind: Kind, bytes: &[u8]) -> Result<(), NoMemo
         Shape::Host => put_host(out, &lend_host(bytes)),
         Shape::Service => put_service(out, &lend_service(bytes)),
         // No line asks for these.
-        Shape::Addresses | Shape::Ids => Ok(()),
+        Shape::Addresses | Shape::Ids | Shape::Netgroup | Shape::Member => Ok(()),
     }
 }
 

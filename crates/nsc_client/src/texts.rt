@@ -35,7 +35,7 @@ fn put_row(out: &mut Vec<u8>, row: &Row) -> Result<(), NoMemory>
         Row::Host(host) => put_host(out, host),
         Row::Service(service) => put_service(out, service),
         // No line asks for these.
-        Row::Ai(_) | Row::Groups(_) => Ok(()),
+        Row::Ai(_) | Row::Groups(_) | Row::Netgroup(_) | Row::Member(_) => Ok(()),
     }
 }
 

@@ -61,6 +61,8 @@ pub fn compat_lookup<S: SubLookup>(
         | Kind::HostAddr6
         | Kind::Ai
         | Kind::ServName
-        | Kind::ServPort => Ok(Looked::Unavail),
+        | Kind::ServPort
+        | Kind::NetgrEnt
+        | Kind::InNetgr => Ok(Looked::Unavail),
     }
 }

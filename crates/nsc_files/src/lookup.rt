@@ -80,5 +80,7 @@ fn look_in<F: Finder>(
         Kind::Ai => addresses_by_name(alloc, finder, file, text, key),
         Kind::ServName => service_by_name(alloc, finder, file, text, key),
         Kind::ServPort => service_by_port(alloc, finder, file, text, key),
+        // No service answers for netgroups yet.
+        Kind::NetgrEnt | Kind::InNetgr => Ok(Looked::Unavail),
     }
 }

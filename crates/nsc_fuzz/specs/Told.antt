@@ -87,6 +87,8 @@ row_told (row.Host h) = host_told h
 row_told (row.Service s) = service_told s
 row_told (row.Ai a) = addresses_told a
 row_told (row.Groups ids) = numbers_told ids
+row_told (row.Netgroup texts) = texts_told texts
+row_told (row.Member has) = flag_told has
 
 -- ---- requests and replies
 

@@ -17,6 +17,8 @@ pub(crate) fn put_row(out: &mut Vec<u8>, row: &Row) -> Result<(), NoMemory>
         Row::Service(service) => put_service(out, service),
         Row::Ai(ai) => put_addresses(out, ai),
         Row::Groups(ids) => put_numbers(out, ids.as_slice()),
+        Row::Netgroup(texts) => put_texts(out, texts),
+        Row::Member(has) => put_flag(out, *has),
     }
 }
 

@@ -54,6 +54,7 @@ system_path file.Hosts = codes "/etc/hosts"
 system_path file.Services = codes "/etc/services"
 system_path file.ExtraPasswd = codes "/var/lib/extrausers/passwd"
 system_path file.ExtraGroup = codes "/var/lib/extrausers/group"
+system_path file.Netgroup = codes "/etc/netgroup"
 
 -- where a folder keeps them, after its own path and a slash
 abbrev pub folder_path : FileId → List ℕ
@@ -64,6 +65,7 @@ folder_path file.Hosts = codes "hosts"
 folder_path file.Services = codes "services"
 folder_path file.ExtraPasswd = codes "extrausers/passwd"
 folder_path file.ExtraGroup = codes "extrausers/group"
+folder_path file.Netgroup = codes "netgroup"
 
 -- the path of a file: in this folder, or where the system keeps it
 abbrev pub path_of : Option (List ℕ) → FileId → List ℕ

@@ -19,7 +19,7 @@ pub record HeldFiles : Type 0 where
 
 -- it holds this and does not change, no read waits, no configuration is there, and no read was made
 abbrev pub steady : Content → Release → HeldFiles
-steady content changed = record { first = content; second = content; changed = changed; gate = None; conf = None; latest = replicate 7 None; counts = no_counts }
+steady content changed = record { first = content; second = content; changed = changed; gate = None; conf = None; latest = replicate 8 None; counts = no_counts }
 
 -- what a set gives that found the flag set, or did not
 abbrev pub given : Bool → HeldFiles → Content
@@ -27,4 +27,4 @@ given found set = if found then set.second else set.first
 
 -- the same files, of which nothing was read, for another set, which knows nothing of the flags
 abbrev pub shared_files : HeldFiles → HeldFiles
-shared_files set = record set { changed = unknown set.changed; gate = option_map shared_gate set.gate; latest = replicate 7 None; counts = no_counts }
+shared_files set = record set { changed = unknown set.changed; gate = option_map shared_gate set.gate; latest = replicate 8 None; counts = no_counts }

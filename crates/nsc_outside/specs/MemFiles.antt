@@ -17,8 +17,8 @@ pub record MemFiles : Type 0 where
 
 -- nothing is held, no read of this numbering fails, and none was made
 abbrev pub empty_set : TableId → MemFiles
-empty_set numbering = record { files = no_files; confs = []; plan = new_plan [] numbering; latest = replicate 7 None; counts = no_counts }
+empty_set numbering = record { files = no_files; confs = []; plan = new_plan [] numbering; latest = replicate 8 None; counts = no_counts }
 
 -- the same files, of which nothing was read
 abbrev pub unread : MemFiles → MemFiles
-unread set = record set { plan = new_plan set.plan.failing set.plan.numbering; latest = replicate 7 None; counts = no_counts }
+unread set = record set { plan = new_plan set.plan.failing set.plan.numbering; latest = replicate 8 None; counts = no_counts }

@@ -11,7 +11,7 @@ pub record Tally : Type 0 where
 
 -- no count has begun
 abbrev pub no_counts : Tally
-no_counts = record { faults = 0; file_faults = replicate 7 0; reads = replicate 7 0 }
+no_counts = record { faults = 0; file_faults = replicate 8 0; reads = replicate 8 0 }
 
 -- the count of a file among those by number
 abbrev pub count_of : List ℕ → FileId → ℕ

@@ -58,7 +58,7 @@ pub struct HeldFiles<R: Clock + Clone + Drop> {
     changed: Release,
     gate: Option<Gate>,
     conf: Option<Shared>,
-    latest: [Option<Told>; 7],
+    latest: [Option<Told>; 8],
     tally: Tally,
 }
 
@@ -89,7 +89,7 @@ impl<R: Clock + Clone + Drop> HeldFiles<R> {
             changed,
             gate: None,
             conf: None,
-            latest: [None, None, None, None, None, None, None],
+            latest: [None, None, None, None, None, None, None, None],
             tally,
         })
     }
@@ -216,7 +216,7 @@ impl<R: Clock + Clone + Drop> FileSet for HeldFiles<R> {
             changed: self.changed.share()?,
             gate: share_gate(&self.gate)?,
             conf: share_file(&self.conf)?,
-            latest: [None, None, None, None, None, None, None],
+            latest: [None, None, None, None, None, None, None, None],
             tally,
         })
     }

@@ -44,7 +44,7 @@ pub struct HostFiles<R: Files + Clone + Drop> {
     // The path of the configuration that was read last.
     conf: Option<String>,
     // Of each file, by its number: whether it is taken for absent, and not looked at.
-    left: [bool; 7],
+    left: [bool; 8],
 }
 
 impl<R: Files + Clone + Drop> Model for HostFiles<R> {
@@ -69,7 +69,7 @@ impl<R: Files + Clone + Drop> HostFiles<R> {
             tally: Tally::new(),
             notices: Arc::new(alloc, Notices::new())?,
             conf: None,
-            left: [false; 7],
+            left: [false; 8],
         })
     }
 

@@ -91,10 +91,10 @@ fn conf_bytes<'a>(confs: &'a [ConfFile], path: &str) -> Option<&'a [u8]>
 /// fails exactly where the plan says so. After a read its set tells which number it had. A read gives a copy.
 #[derive(Drop)]
 pub struct MemFiles {
-    files: [Option<Shared>; 7],
+    files: [Option<Shared>; 8],
     confs: Vec<ConfFile>,
     plan: ReadPlan,
-    latest: [Option<Option<Shared>>; 7],
+    latest: [Option<Option<Shared>>; 8],
     tally: Tally,
 }
 
@@ -113,10 +113,10 @@ impl MemFiles {
         ensures { IfOk result (λ set. set ≡ empty_set set.plan.numbering) }
     {
         Ok(MemFiles {
-            files: [None, None, None, None, None, None, None],
+            files: [None, None, None, None, None, None, None, None],
             confs: Vec::new(alloc),
             plan: ReadPlan::new(alloc, Vec::new(alloc))?,
-            latest: [None, None, None, None, None, None, None],
+            latest: [None, None, None, None, None, None, None, None],
             tally: Tally::new(),
         })
     }
@@ -254,10 +254,11 @@ impl FileSet for MemFiles {
                 share_file(&files[4])?,
                 share_file(&files[5])?,
                 share_file(&files[6])?,
+                share_file(&files[7])?,
             ],
             confs: share_confs(alloc, self.confs.as_slice())?,
             plan: self.plan.share()?,
-            latest: [None, None, None, None, None, None, None],
+            latest: [None, None, None, None, None, None, None, None],
             tally,
         })
     }

@@ -11,10 +11,10 @@ const PAUSE: u64 = 60;
 #[derive(Drop)]
 pub(crate) struct Notices {
     // One more than the second, and 0 where it was told never.
-    told: [AtomicU64; 7],
-    is_open: [AtomicBool; 7],
+    told: [AtomicU64; 8],
+    is_open: [AtomicBool; 8],
     // Whether the file was read, or found absent, at least once.
-    is_known: [AtomicBool; 7],
+    is_known: [AtomicBool; 8],
 }
 
 impl Notices {
@@ -22,6 +22,7 @@ impl Notices {
     pub(crate) fn new() -> Notices {
         Notices {
             told: [
+                AtomicU64::new(0),
                 AtomicU64::new(0),
                 AtomicU64::new(0),
                 AtomicU64::new(0),
@@ -38,8 +39,10 @@ impl Notices {
                 AtomicBool::new(false),
                 AtomicBool::new(false),
                 AtomicBool::new(false),
+                AtomicBool::new(false),
             ],
             is_known: [
+                AtomicBool::new(false),
                 AtomicBool::new(false),
                 AtomicBool::new(false),
                 AtomicBool::new(false),

@@ -19,6 +19,7 @@ fn system_path(file: FileId) -> &'static str
         FileId::Services => "/etc/services",
         FileId::ExtraPasswd => "/var/lib/extrausers/passwd",
         FileId::ExtraGroup => "/var/lib/extrausers/group",
+        FileId::Netgroup => "/etc/netgroup",
     }
 }
 
@@ -34,6 +35,7 @@ fn folder_path(file: FileId) -> &'static str
         FileId::Services => "services",
         FileId::ExtraPasswd => "extrausers/passwd",
         FileId::ExtraGroup => "extrausers/group",
+        FileId::Netgroup => "netgroup",
     }
 }
 

@@ -12,8 +12,8 @@ use std::marker::Model;
 #[derive(Debug, Drop)]
 pub(crate) struct Tally {
     faults: u64,
-    file_faults: [u64; 7],
-    reads: [u64; 7],
+    file_faults: [u64; 8],
+    reads: [u64; 8],
 }
 
 impl Model for Tally {
@@ -31,8 +31,8 @@ impl Tally {
     {
         Tally {
             faults: 0,
-            file_faults: [0; 7],
-            reads: [0; 7],
+            file_faults: [0; 8],
+            reads: [0; 8],
         }
     }
 

@@ -30,6 +30,7 @@ numbered file.Hosts = refl
 numbered file.Services = refl
 numbered file.ExtraPasswd = refl
 numbered file.ExtraGroup = refl
+numbered file.Netgroup = refl
 
 one_file : (f g : FileId) → file_number f ≡ file_number g → f ≡ g
 one_file f g e = same_Some f g (sym (numbered f) ∙ ap file_numbered e ∙ numbered g)
@@ -40,7 +41,7 @@ file_or_other f g = by_test (eqb (file_number f) (file_number g)) refl where
   by_test true e = inl (one_file f g (eqb-true (file_number f) (file_number g) e))
   by_test false e = inr (λ same. eqb-false (file_number f) (file_number g) e (ap file_number same))
 
-number_at : (i : ℕ) (d : FileId) → i < 7 → file_number (get_or all_files i d) ≡ i
+number_at : (i : ℕ) (d : FileId) → i < 8 → file_number (get_or all_files i d) ≡ i
 number_at zero d low = refl
 number_at (suc zero) d low = refl
 number_at (suc (suc zero)) d low = refl
@@ -48,9 +49,10 @@ number_at (suc (suc (suc zero))) d low = refl
 number_at (suc (suc (suc (suc zero)))) d low = refl
 number_at (suc (suc (suc (suc (suc zero))))) d low = refl
 number_at (suc (suc (suc (suc (suc (suc zero)))))) d low = refl
-number_at (suc (suc (suc (suc (suc (suc (suc i))))))) d low = absurd (omega arith)
+number_at (suc (suc (suc (suc (suc (suc (suc zero))))))) d low = refl
+number_at (suc (suc (suc (suc (suc (suc (suc (suc i)))))))) d low = absurd (omega arith)
 
-number_below : (f : FileId) → file_number f < 7
+number_below : (f : FileId) → file_number f < 8
 number_below file.Switch = omega arith
 number_below file.Passwd = omega arith
 number_below file.Group = omega arith
@@ -58,6 +60,7 @@ number_below file.Hosts = omega arith
 number_below file.Services = omega arith
 number_below file.ExtraPasswd = omega arith
 number_below file.ExtraGroup = omega arith
+number_below file.Netgroup = omega arith
 
 -- ---- counts
 
@@ -139,11 +142,11 @@ by_next P which i id number others own f low on = elim (file_or_other f id) [
 ]
 
 pub next_skipped : (d : FileId) {which : Db} {i : ℕ} {reads0 reads : FileId → ℕ} {latest : FileId → Option (Option (List ℕ))} {held : Option Content} {content : Content}
-    → i < 7 → is_read which (get_or all_files i d) ≡ false → AreRead which i reads0 reads latest held content → AreRead which (i + 1) reads0 reads latest held content
+    → i < 8 → is_read which (get_or all_files i d) ≡ false → AreRead which i reads0 reads latest held content → AreRead which (i + 1) reads0 reads latest held content
 next_skipped d {which} {i} {reads0} {reads} {latest} {held} {content} low off a = record { kept = a.kept; each = by_next (IsReadAs reads0 reads latest held content) which i (get_or all_files i d) (number_at i d low) (λ f other. a.each f) (λ on. absurd (true≢false (sym on ∙ off))) }
 
 pub next_read : (d : FileId) {which : Db} {i : ℕ} {reads0 reads reads' : FileId → ℕ} {latest latest' : FileId → Option (Option (List ℕ))} {held : Option Content} {content content' : Content} {gave : Option (List ℕ)}
-    → i < 7 → ChangesOnly (get_or all_files i d) reads reads' → ChangesOnly (get_or all_files i d) latest latest' → ChangesOnly (get_or all_files i d) (file_of content) (file_of content')
+    → i < 8 → ChangesOnly (get_or all_files i d) reads reads' → ChangesOnly (get_or all_files i d) latest latest' → ChangesOnly (get_or all_files i d) (file_of content) (file_of content')
     → Rose (reads (get_or all_files i d)) (reads' (get_or all_files i d)) → file_of content' (get_or all_files i d) ≡ gave → IsAsTold (latest' (get_or all_files i d)) gave → IsAsTold (told_of held (get_or all_files i d)) gave
     → AreRead which i reads0 reads latest held content → AreRead which (i + 1) reads0 reads' latest' held content'
 next_read d {which} {i} {reads0} {reads} {reads'} {latest} {latest'} {held} {content} {content'} low counts tells stays rose is told part a =
@@ -163,17 +166,17 @@ next_read d {which} {i} {reads0} {reads} {reads'} {latest} {latest'} {held} {con
 
 -- ---- all files
 
-all_read : {which : Db} {i : ℕ} {reads0 reads : FileId → ℕ} {latest : FileId → Option (Option (List ℕ))} {held : Option Content} {content : Content} → 7 ≤ i → AreRead which i reads0 reads latest held content
+all_read : {which : Db} {i : ℕ} {reads0 reads : FileId → ℕ} {latest : FileId → Option (Option (List ℕ))} {held : Option Content} {content : Content} → 8 ≤ i → AreRead which i reads0 reads latest held content
     → (f : FileId) → is_read which f ≡ true → IsReadAs reads0 reads latest held content f
-all_read all a f on = let low : file_number f < 7 = number_below f in a.each f (omega arith) on
+all_read all a f on = let low : file_number f < 8 = number_below f in a.each f (omega arith) on
 
 part_told : (which : Db) (files content : Content) → content ≡ part_of which content → AreAsTold which (told_of (Some files)) content → content ≡ part_of which files
-part_told db.Passwd files c only told = only ∙ (λ i. record { switch = told file.Switch refl i; passwd = told file.Passwd refl i; group = None; hosts = None; services = None; extra_passwd = told file.ExtraPasswd refl i; extra_group = None })
-part_told db.Group files c only told = only ∙ (λ i. record { switch = told file.Switch refl i; passwd = None; group = told file.Group refl i; hosts = None; services = None; extra_passwd = None; extra_group = told file.ExtraGroup refl i })
-part_told db.Hosts files c only told = only ∙ (λ i. record { switch = told file.Switch refl i; passwd = None; group = None; hosts = told file.Hosts refl i; services = None; extra_passwd = None; extra_group = None })
-part_told db.Services files c only told = only ∙ (λ i. record { switch = told file.Switch refl i; passwd = None; group = None; hosts = None; services = told file.Services refl i; extra_passwd = None; extra_group = None })
+part_told db.Passwd files c only told = only ∙ (λ i. record { switch = told file.Switch refl i; passwd = told file.Passwd refl i; group = None; hosts = None; services = None; extra_passwd = told file.ExtraPasswd refl i; extra_group = None; netgroup = None })
+part_told db.Group files c only told = only ∙ (λ i. record { switch = told file.Switch refl i; passwd = None; group = told file.Group refl i; hosts = None; services = None; extra_passwd = None; extra_group = told file.ExtraGroup refl i; netgroup = None })
+part_told db.Hosts files c only told = only ∙ (λ i. record { switch = told file.Switch refl i; passwd = None; group = None; hosts = told file.Hosts refl i; services = None; extra_passwd = None; extra_group = None; netgroup = None })
+part_told db.Services files c only told = only ∙ (λ i. record { switch = told file.Switch refl i; passwd = None; group = None; hosts = None; services = told file.Services refl i; extra_passwd = None; extra_group = None; netgroup = None })
 
-pub all_fetched : {F : Type 0} (g : file_set.Ghosts F) (which : Db) (i : ℕ) (files files' : F) (content : Content) → 7 ≤ i → content ≡ part_of which content → AreRead which i (g.reads files) (g.reads files') (g.latest files') (g.held files) content → IsFetched g which files files' content
+pub all_fetched : {F : Type 0} (g : file_set.Ghosts F) (which : Db) (i : ℕ) (files files' : F) (content : Content) → 8 ≤ i → content ≡ part_of which content → AreRead which i (g.reads files) (g.reads files') (g.latest files') (g.held files) content → IsFetched g which files files' content
 all_fetched g which i files files' content all only a = record {
   looked = record { read = λ f on. (all_read all a f on).rose; only = only; told = λ f on. (all_read all a f on).told };
   part = λ held is. part_told which held content only (subst (λ (h : Option Content). AreAsTold which (told_of h) content) is (λ f on. (all_read all a f on).part));

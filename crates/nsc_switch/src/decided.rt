@@ -136,6 +136,8 @@ fn is_joined(kind: Kind) -> bool
         | Kind::HostAddr6
         | Kind::Ai
         | Kind::ServName
-        | Kind::ServPort => false,
+        | Kind::ServPort
+        | Kind::NetgrEnt
+        | Kind::InNetgr => false,
     }
 }

@@ -5,9 +5,10 @@ use Rattle.std.proofs.lemmas.Bool.{cases_lt, lt-ltb, le-ltb, ltb-true, ltb-false
 use Rattle.byteorder.specs.Endian.{little_number, twos_complement}
 use Rattle.byteorder.specs.Numbers.{little_from-take}
 use Rattle.nsc_model.specs.declared.kind.Kind.{Kind}
+use Rattle.nsc_model.specs.declared.answer.Request.{Request}
 use Rattle.nsc_model.specs.Entry.{key_limit}
-use Rattle.nsc_model.specs.Kinds.{kind_numbered}
-use Rattle.nsc_model.specs.Wire.{Asked, Shutdown, Stat, Invalidate, Descriptor, Netgroup, Short, BadVersion, BadType, BadLength, request_of, field_in, signed_field_in, asked_look, text_key}
+use Rattle.nsc_model.specs.Kinds.{is_netgroup, kind_numbered}
+use Rattle.nsc_model.specs.Wire.{Asked, Look, Shutdown, Stat, Invalidate, Descriptor, Netgroup, Short, BadVersion, BadType, BadLength, request_of, field_in, signed_field_in, asked_look, stored_key, text_key}
 use Rattle.nsc_wire.specs.Request.{Wants, asked_by}
 use Rattle.nsc_wire.specs.declared.request.Wire.{Wire}
 use Rattle.nsc_wire.specs.declared.request.Wire.TheVariants as wire
@@ -60,17 +61,19 @@ is_cut_by : (few known high long cut : Bool) (size : ℕ) (version type key : �
     → tested few known high long cut size version type key asked ≡ Short size
 is_cut_by few known high long cut size version type key asked f c = rw (f, c.is_known, c.not_high, c.not_long, c.is_cut) refl
 
-whole_otherwise : (a b c d e : Bool) (key : List ℕ) → Whole (if a then Shutdown else (if b then Stat else (if c then Invalidate key else (if d then Netgroup else (if e then Netgroup else Descriptor)))))
-whole_otherwise true b c d e key = tt
-whole_otherwise false true c d e key = tt
-whole_otherwise false false true d e key = tt
-whole_otherwise false false false true e key = tt
-whole_otherwise false false false false true key = tt
-whole_otherwise false false false false false key = tt
+whole_otherwise : (a b c : Bool) (key : List ℕ) → Whole (if a then Shutdown else (if b then Stat else (if c then Invalidate key else Descriptor)))
+whole_otherwise true b c key = tt
+whole_otherwise false true c key = tt
+whole_otherwise false false true key = tt
+whole_otherwise false false false key = tt
+
+whole_kind : (netgroup : Bool) (request : Request) → Whole (if netgroup then Netgroup else Look request)
+whole_kind true request = tt
+whole_kind false request = tt
 
 whole_look : (kind : Option Kind) (type : ℕ) (key : List ℕ) → Whole (asked_look kind type key)
-whole_look (Some kind) type key = tt
-whole_look None type key = whole_otherwise (type == 8) (type == 9) (type == 10) (type == 19) (type == 20) (text_key key)
+whole_look (Some kind) type key = whole_kind (is_netgroup kind) (record { kind = kind; key = stored_key kind key })
+whole_look None type key = whole_otherwise (type == 8) (type == 9) (type == 10) (text_key key)
 
 -- ---- a request that is whole, or refused
 

@@ -4,7 +4,7 @@ use Rattle.std.proofs.lemmas.List.{append-nil, drop_all}
 use Rattle.nsc_model.specs.declared.row.Found6.{Found6}
 use Rattle.nsc_wire.specs.declared.fault.Broken.{Broken}
 use Rattle.nsc_wire.specs.declared.fault.Broken.TheVariants as broken
-use Rattle.nsc_wire.specs.Replies.{◌>>=◌, Breaks, number_at, numbers_at, fixed_at, all_fixed, size_at, sizes_at, text_at, texts_at, found_at, founds_at}
+use Rattle.nsc_wire.specs.Replies.{◌>>=◌, Breaks, number_at, numbers_at, fixed_at, all_fixed, size_at, sizes_at, text_at, texts_at, ended_text_at, ended_texts_at, found_at, founds_at}
 
 -- what was read before, and what is still read
 abbrev pub with_front : {A : Type 0} → List A → Result (List A × List ℕ) ℕ → Result (List A × List ℕ) ℕ
@@ -127,6 +127,33 @@ unfolding texts_at
 texts_done front count i lengths bytes total le so_far =
     let k : count - i ≡ 0 = omega arith in
     let step : with_front front (texts_at (count - i) lengths bytes) ≡ Ok (front, bytes) = rw k (ap (λ (all : List (List ℕ)). Ok (all, bytes)) (append-nil front)) in
+    sym so_far ∙ step
+
+-- ---- texts that end at their zero bytes
+
+pub ended_go_on : (front : List (List ℕ)) (count i : ℕ) (bytes one after : List ℕ) (total : Texts) → i < count → ended_text_at bytes ≡ Ok (one, after)
+    → with_front front (ended_texts_at (count - i) bytes) ≡ total → with_front (front ++ one ∷ []) (ended_texts_at (count - (i + 1)) after) ≡ total
+unfolding ended_texts_at
+ended_go_on front count i bytes one after total lt h so_far =
+    let k : count - i ≡ suc (count - (i + 1)) = omega arith in
+    let more : Texts = ended_texts_at (count - (i + 1)) after in
+    let step : with_front front (ended_texts_at (count - i) bytes) ≡ with_front (front ++ one ∷ []) more = rw (k, h) (regroup front one more) in
+    sym step ∙ so_far
+
+pub ended_end : (e : Broken) (front : List (List ℕ)) (count i : ℕ) (bytes : List ℕ) (total : Texts) → i < count → Breaks e (ended_text_at bytes)
+    → with_front front (ended_texts_at (count - i) bytes) ≡ total → Breaks e total
+unfolding ended_texts_at
+ended_end broken.NoMemory front count i bytes total lt h so_far = tt
+ended_end (broken.Left left) front count i bytes total lt h so_far =
+    let k : count - i ≡ suc (count - (i + 1)) = omega arith in
+    let step : with_front front (ended_texts_at (count - i) bytes) ≡ Err left = rw (k, h) refl in
+    sym so_far ∙ step
+
+pub ended_done : (front : List (List ℕ)) (count i : ℕ) (bytes : List ℕ) (total : Texts) → count ≤ i → with_front front (ended_texts_at (count - i) bytes) ≡ total → total ≡ Ok (front, bytes)
+unfolding ended_texts_at
+ended_done front count i bytes total le so_far =
+    let k : count - i ≡ 0 = omega arith in
+    let step : with_front front (ended_texts_at (count - i) bytes) ≡ Ok (front, bytes) = rw k (ap (λ (all : List (List ℕ)). Ok (all, bytes)) (append-nil front)) in
     sym so_far ∙ step
 
 -- ---- addresses with their families

@@ -14,10 +14,11 @@ use Rattle.nsc_model.specs.declared.kind.Shape.{Shape}
 use Rattle.nsc_model.specs.declared.kind.Shape.TheVariants as shape
 use Rattle.nsc_model.specs.Wire.{shape_of, row_shape, row_found, lacking, spelled, minus_one, field, text, text_len, IsRow, IsReplyOf, Spells}
 use Rattle.nsc_wire.specs.Fields.{fields}
-use Rattle.nsc_wire.specs.Replies.{◌>>=◌, number_at, fixed_at, all_fixed, user_at, group_at, ids_at, host_at, addresses_at, service_at, row_at, lacking_fields, said_at, reply_at, ended, whole_reply}
-use Rattle.nsc_wire.proofs.ReplyFields.{IsBytes, bind_is, bind_ok, guard_is, guard_not, ok_is, Takes, Takes-then, number_again, number_takes, fixed_again, fixed_takes, all_fixed_again, all_fixed_takes}
+use Rattle.nsc_wire.specs.Replies.{◌>>=◌, number_at, fixed_at, all_fixed, user_at, group_at, ids_at, host_at, addresses_at, service_at, netgroup_at, member_at, row_at, lacking_fields, said_at, reply_at, ended, whole_reply}
+use Rattle.nsc_wire.proofs.ReplyFields.{IsBytes, bind_is, bind_ok, chosen, guard_is, guard_not, ok_is, Takes, Takes-then, number_again, number_takes, fixed_again, fixed_takes, all_fixed_again, all_fixed_takes}
 use Rattle.nsc_wire.proofs.ReplyRows.{user_body, user_takes, group_body, group_takes, ids_body, ids_take, service_body, service_takes}
 use Rattle.nsc_wire.proofs.ReplyAddresses.{address_of, family_of, host_body, host_takes, addresses_body, addresses_take}
+use Rattle.nsc_wire.proofs.ReplyNetgroups.{netgroup_body, netgroup_takes, netgroup_again, member_body, member_takes, member_again}
 use Rattle.nsc_wire.proofs.ReplyAgain.{user_again, group_again, host_again, service_again, addresses_again, ids_again}
 
 -- ---- rows
@@ -30,6 +31,8 @@ row_body (row.Host h) = host_body h
 row_body (row.Service s) = service_body s
 row_body (row.Ai a) = addresses_body a
 row_body (row.Groups ids) = ids_body ids
+row_body (row.Netgroup texts) = netgroup_body texts
+row_body (row.Member has) = member_body has
 
 three_right : (a b c : List ℕ) → a ++ b ++ c ≡ a ++ (b ++ c)
 three_right a b c = append_assoc a b c
@@ -58,6 +61,8 @@ found_body (row.Ai a) =
     ap (λ (texts : List ℕ). field 2 ++ field 1 ++ field (length a.list) ++ field (length (flat_map address_of a.list)) ++ text_len a.canon ++ field 0 ++ texts)
     (three_right (flat_map address_of a.list) (map family_of a.list) (text a.canon))
 found_body (row.Groups ids) = refl
+found_body (row.Netgroup texts) = refl
+found_body (row.Member has) = refl
 
 -- a row that was read, of a shape
 record TakesRow (shape : Shape) (bytes : List ℕ) (r : Row) (rest : List ℕ) : Type 0 where
@@ -91,6 +96,14 @@ row_takes shape.Service bytes x fits e =
     let a = bind_ok (service_at bytes) (λ p. Ok (row.Service p.0, p.1)) x e in
     let t = service_takes bytes a.0 fits a.1 in
     subst (λ (y : Row × List ℕ). TakesRow shape.Service bytes y.0 y.1) (ok_is (row.Service a.0.0, a.0.1) x a.2) (record { takes = t.0; shape_is = refl; is = t.1 })
+row_takes shape.Netgroup bytes x fits e =
+    let a = bind_ok (netgroup_at bytes) (λ p. Ok (row.Netgroup p.0, p.1)) x e in
+    let t = netgroup_takes bytes a.0 fits a.1 in
+    subst (λ (y : Row × List ℕ). TakesRow shape.Netgroup bytes y.0 y.1) (ok_is (row.Netgroup a.0.0, a.0.1) x a.2) (record { takes = t.0; shape_is = refl; is = t.1 })
+row_takes shape.Member bytes x fits e =
+    let a = bind_ok (member_at bytes) (λ p. Ok (row.Member p.0, p.1)) x e in
+    let t = member_takes bytes a.0 fits a.1 in
+    subst (λ (y : Row × List ℕ). TakesRow shape.Member bytes y.0 y.1) (ok_is (row.Member a.0.0, a.0.1) x a.2) (record { takes = t; shape_is = refl; is = tt })
 
 -- ---- replies
 
@@ -107,16 +120,13 @@ lacking_body shape.Ids found error = refl
 lacking_body shape.Host found error = refl
 lacking_body shape.Addresses found error = refl
 lacking_body shape.Service found error = refl
+lacking_body shape.Netgroup found error = refl
+lacking_body shape.Member found error = refl
 
 pub spelled_body : (kind : Kind) (reply : Reply) → spelled kind reply ≡ field 2 ++ said_body kind reply
 spelled_body kind (Found r) = found_body r
 spelled_body kind Absent = lacking_body (shape_of kind) 0 1
 spelled_body kind Disabled = lacking_body (shape_of kind) minus_one minus_one
-
--- which way a test went
-chosen : {A : Type 0} (b : Bool) (x y z : A) → cond b x y ≡ z → ((b ≡ true) × (x ≡ z)) ⊎ ((b ≡ false) × (y ≡ z))
-chosen true x y z e = inl (refl, e)
-chosen false x y z e = inr (refl, e)
 
 -- what was read after the field version
 record TakesSaid (kind : Kind) (bytes : List ℕ) (reply : Reply) (rest : List ℕ) : Type 0 where
@@ -187,6 +197,8 @@ row_again (row.Host h) is few = rw (host_again h is few) refl
 row_again (row.Service s) is few = rw (service_again s is few) refl
 row_again (row.Ai a) is few = rw (addresses_again a is few) refl
 row_again (row.Groups ids) is few = rw (ids_again ids is few) refl
+row_again (row.Netgroup texts) is few = rw (netgroup_again texts is few) refl
+row_again (row.Member has) is few = rw (member_again has) refl
 
 lacking_fit : (shape : Shape) (error : ℕ) → error < 2 ^ 32 → AllByRecursion (λ n. n < 2 ^ 32) (lacking_fields shape error)
 lacking_fit shape.User error fits = (omega arith, (omega arith, (omega arith, (omega arith, (omega arith, (omega arith, (omega arith, tt)))))))
@@ -195,6 +207,8 @@ lacking_fit shape.Ids error fits = (omega arith, tt)
 lacking_fit shape.Host error fits = (omega arith, (omega arith, (omega arith, (omega arith, (omega arith, (fits, tt))))))
 lacking_fit shape.Addresses error fits = (omega arith, (omega arith, (omega arith, (fits, tt))))
 lacking_fit shape.Service error fits = (omega arith, (omega arith, (omega arith, (omega arith, tt))))
+lacking_fit shape.Netgroup error fits = (omega arith, (omega arith, tt))
+lacking_fit shape.Member error fits = (omega arith, tt)
 
 lacking_again : (shape : Shape) (error : ℕ) → error < 2 ^ 32 → all_fixed (lacking_fields shape error) (fields (lacking_fields shape error)) ≡ Ok []
 lacking_again shape error fits =

@@ -9,7 +9,7 @@ use Rattle.nsc_model.specs.Wire.{field, text, text_len, text_key, IsText}
 use Rattle.nsc_wire.specs.Replies.{◌>>=◌, piece_at, number_at, size_at, sizes_at, text_at, texts_at}
 use Rattle.nsc_wire.proofs.ReplyFields.{IsBytes, bind_ok, bind_is, guard_is, guard_not, ok_is, Takes, Takes-then, piece_takes, piece_again, number_again, size_takes, size_again}
 
-abbrev is_zero : ℕ → Bool
+abbrev pub is_zero : ℕ → Bool
 is_zero b = eqb b 0
 
 -- the bytes before the first zero byte, where it is the last byte

@@ -1,6 +1,6 @@
 -- A reply read from left to right, or the first field or text that breaks the layout of its kind. Its place is told by how many
 -- bytes are left from there on: none where the bytes end early.
-use Rattle.std.specs.Prelude.{◌≡◌, ℕ, zero, suc, ◌+◌, ◌-◌, ◌==◌, nat_lt, if◌then◌else◌, List, [], ◌∷◌, length, take, drop, Result, Ok, Err}
+use Rattle.std.specs.Prelude.{◌≡◌, ℕ, zero, suc, ◌+◌, ◌-◌, ◌*◌, Bool, true, false, ◌==◌, nat_lt, if◌then◌else◌, List, [], ◌∷◌, length, take, drop, Result, Ok, Err}
 use Rattle.byteorder.specs.Endian.{little_number}
 use Rattle.nsc_model.specs.declared.kind.Kind.{Kind}
 use Rattle.nsc_model.specs.declared.row.Passwd.{Passwd}
@@ -86,6 +86,17 @@ texts_at (suc count) lengths bytes = do
   size ← number_at lengths
   first ← text_at size.0 bytes
   others ← texts_at count size.1 first.1
+  Ok (first.0 ∷ others.0, others.1)
+
+-- a text that ends at its first zero byte; where there is none, the bytes end early
+unfoldable pub ended_text_at : List ℕ → Result (List ℕ × List ℕ) ℕ
+ended_text_at bytes = if nat_lt (length (text_key bytes)) (length bytes) then Ok (text_key bytes, drop (length (text_key bytes) + 1) bytes) else Err 0
+
+unfoldable pub ended_texts_at : ℕ → List ℕ → Result (List (List ℕ) × List ℕ) ℕ
+ended_texts_at zero bytes = Ok ([], bytes)
+ended_texts_at (suc count) bytes = do
+  first ← ended_text_at bytes
+  others ← ended_texts_at count first.1
   Ok (first.0 ∷ others.0, others.1)
 
 -- ---- rows, after the fields version and found
@@ -190,6 +201,20 @@ service_at bytes = do
   aliases ← texts_at count.0 proto.1 rest
   Ok (record { name = name.0; proto = proto.0; aliases = aliases.0; port = port.0 }, aliases.1)
 
+-- three texts for each triple; if the texts take more or fewer bytes than announced, the byte length is at fault
+unfoldable pub netgroup_at : List ℕ → Result (List (List ℕ) × List ℕ) ℕ
+netgroup_at bytes = do
+  count ← number_at bytes
+  size ← number_at count.1
+  texts ← ended_texts_at (3 * count.0) size.1
+  if length texts.1 + size.0 == length size.1 then Ok texts else Err (length count.1)
+
+-- 1 or 0
+unfoldable pub member_at : List ℕ → Result (Bool × List ℕ) ℕ
+member_at bytes = do
+  n ← number_at bytes
+  if n.0 == 1 then Ok (true, n.1) else (if n.0 == 0 then Ok (false, n.1) else Err (length bytes))
+
 -- what is found, made from what is read
 abbrev pub found_by : {A : Type 0} → (A → Row) → Result (A × List ℕ) ℕ → Result (Row × List ℕ) ℕ
 found_by make read = read >>= λ x. Ok (make x.0, x.1)
@@ -201,6 +226,8 @@ row_at shape.Ids bytes = found_by row.Groups (ids_at bytes)
 row_at shape.Host bytes = found_by row.Host (host_at bytes)
 row_at shape.Addresses bytes = found_by row.Ai (addresses_at bytes)
 row_at shape.Service bytes = found_by row.Service (service_at bytes)
+row_at shape.Netgroup bytes = found_by row.Netgroup (netgroup_at bytes)
+row_at shape.Member bytes = found_by row.Member (member_at bytes)
 
 -- ---- replies
 
@@ -212,6 +239,8 @@ lacking_fields shape.Ids error = 0 ∷ []
 lacking_fields shape.Host error = 0 ∷ 0 ∷ minus_one ∷ minus_one ∷ 0 ∷ error ∷ []
 lacking_fields shape.Addresses error = 0 ∷ 0 ∷ 0 ∷ error ∷ []
 lacking_fields shape.Service error = 0 ∷ 0 ∷ 0 ∷ minus_one ∷ []
+lacking_fields shape.Netgroup error = 0 ∷ 0 ∷ []
+lacking_fields shape.Member error = 0 ∷ []
 
 -- what stands after the field version
 unfoldable pub said_at : Shape → List ℕ → Result (Reply × List ℕ) ℕ

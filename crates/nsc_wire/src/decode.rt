@@ -9,6 +9,7 @@ use crate::addresses::decode_addresses;
 use crate::fault::{Broken, ReplyFault};
 use crate::groups::{decode_group, decode_ids};
 use crate::hosts::decode_host;
+use crate::netgroups::{decode_member, decode_netgroup};
 use crate::reading::{fixed, fixed_fields, number};
 use crate::reply::{MINUS_ONE, NOT_FOUND, VERSION};
 use crate::services::decode_service;
@@ -123,6 +124,14 @@ fn decode_row(alloc: Global, kind: Kind, bytes: &[u8]) -> Result<(Row, &[u8]), B
             let (service, rest) = decode_service(alloc, bytes)?;
             Ok((Row::Service(service), rest))
         }
+        Shape::Netgroup => {
+            let (texts, rest) = decode_netgroup(alloc, bytes)?;
+            Ok((Row::Netgroup(texts), rest))
+        }
+        Shape::Member => {
+            let (has, rest) = decode_member(bytes)?;
+            Ok((Row::Member(has), rest))
+        }
     }
 }
 
@@ -137,5 +146,7 @@ fn after_lacking(kind: Kind, error: u32, bytes: &[u8]) -> Result<&[u8], Broken>
         Shape::Host => fixed_fields(bytes, &[0, 0, MINUS_ONE, MINUS_ONE, 0, error]),
         Shape::Addresses => fixed_fields(bytes, &[0, 0, 0, error]),
         Shape::Service => fixed_fields(bytes, &[0, 0, 0, MINUS_ONE]),
+        Shape::Netgroup => fixed_fields(bytes, &[0, 0]),
+        Shape::Member => fixed_fields(bytes, &[0]),
     }
 }

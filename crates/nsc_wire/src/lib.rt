@@ -10,6 +10,7 @@ mod fault;
 mod groups;
 mod head;
 mod hosts;
+mod netgroups;
 mod reading;
 mod reply;
 mod request;

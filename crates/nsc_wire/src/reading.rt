@@ -1,7 +1,7 @@
 //! The fields and the texts of a reply, each read from the front of the bytes, together with the bytes after it.
 
 ghost use Rattle.std.specs.Prelude.{◌≡◌};
-ghost use Rattle.nsc_wire.specs.Replies.{Gives, all_fixed, fixed_at, number_at, numbers_at, piece_at, size_at, sizes_at, text_at, texts_at};
+ghost use Rattle.nsc_wire.specs.Replies.{Gives, all_fixed, ended_text_at, ended_texts_at, fixed_at, number_at, numbers_at, piece_at, size_at, sizes_at, text_at, texts_at};
 
 use crate::fault::Broken;
 use crate::reply::FIELD;
@@ -130,6 +130,36 @@ pub(crate) fn texts<'a>(
         let (one, after) = lent_text(size, rest)?;
         texts.push(one)?;
         lengths = others;
+        rest = after;
+    }
+    Ok((texts, rest))
+}
+
+// Lends the text at the front, which ends at its first zero byte.
+#[tactic(auto, unfolding(crate::specs::Replies::ended_text_at))]
+fn ended_text(bytes: &[u8]) -> Result<(&[u8], &[u8]), Broken>
+    ensures { Gives (λ x. (x.0.now, x.1.now)) result (ended_text_at bytes.now) }
+{
+    let front = before_byte(bytes, 0);
+    if front.len() >= bytes.len() {
+        return Err(Broken::Left(0));
+    }
+    Ok((front, &bytes[front.len() + 1..]))
+}
+
+// Reads `count` texts, each of which ends at its first zero byte.
+pub(crate) fn ended_texts(
+    alloc: Global,
+    count: u64,
+    bytes: &[u8],
+) -> Result<(Texts, &[u8]), Broken>
+    ensures { Gives (λ x. (x.0, x.1.now)) result (ended_texts_at count bytes.now) }
+{
+    let mut texts = Texts::new(alloc);
+    let mut rest = bytes;
+    for _ in 0..count {
+        let (one, after) = ended_text(rest)?;
+        texts.push(one)?;
         rest = after;
     }
     Ok((texts, rest))

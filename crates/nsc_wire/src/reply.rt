@@ -7,6 +7,7 @@ ghost use Rattle.nsc_wire.specs.Fields.{fields};
 use crate::addresses::encode_addresses;
 use crate::groups::{encode_group, encode_ids};
 use crate::hosts::encode_host;
+use crate::netgroups::{encode_member, encode_netgroup};
 use crate::services::encode_service;
 use crate::users::encode_user;
 use byteorder::{ByteOrder, LittleEndian};
@@ -52,6 +53,8 @@ fn encode_row(alloc: Global, row: &Row) -> Result<Bytes, NoMemory>
         Row::Service(service) => encode_service(alloc, service),
         Row::Ai(ai) => encode_addresses(alloc, ai),
         Row::Groups(ids) => encode_ids(alloc, ids.as_slice()),
+        Row::Netgroup(texts) => encode_netgroup(alloc, texts),
+        Row::Member(has) => encode_member(alloc, *has),
     }
 }
 
@@ -72,11 +75,13 @@ fn encode_lacking(alloc: Global, kind: Kind, found: u32, error: u32) -> Result<B
         ),
         Shape::Addresses => encode_fields(alloc, &[VERSION, found, 0, 0, 0, error]),
         Shape::Service => encode_fields(alloc, &[VERSION, found, 0, 0, 0, MINUS_ONE]),
+        Shape::Netgroup => encode_fields(alloc, &[VERSION, found, 0, 0]),
+        Shape::Member => encode_fields(alloc, &[VERSION, found, 0]),
     }
 }
 
 // A few fields, in memory that is taken once.
-fn encode_fields(alloc: Global, numbers: &[u32]) -> Result<Bytes, NoMemory>
+pub(crate) fn encode_fields(alloc: Global, numbers: &[u32]) -> Result<Bytes, NoMemory>
     requires { length numbers.now < 10 }
     ensures { IfOk result (λ bytes. bytes ≡ fields numbers.now) }
 {

@@ -86,12 +86,15 @@ fn asked(bytes: &[u8], number: u32, key: Span) -> Wire
     ensures key { KeyIsIn bytes.now result }
     ensures limit { KeyFits bytes.now result }
 {
-    match Kind::numbered(number) {
-        Some(kind) => Wire::Request {
-            kind,
-            key: stored(bytes, kind, key),
-        },
-        None => other(bytes, number, key),
+    let Some(kind) = Kind::numbered(number) else {
+        return other(bytes, number, key);
+    };
+    if kind.is_netgroup() {
+        return Wire::Netgroup;
+    }
+    Wire::Request {
+        kind,
+        key: stored(bytes, kind, key),
     }
 }
 
@@ -113,7 +116,9 @@ fn stored(bytes: &[u8], kind: Kind, key: Span) -> Span
         | Kind::Ai
         | Kind::InitGroups
         | Kind::ServName
-        | Kind::ServPort => text(bytes, key),
+        | Kind::ServPort
+        | Kind::NetgrEnt
+        | Kind::InNetgr => text(bytes, key),
     }
 }
 
@@ -134,10 +139,6 @@ const STAT: u32 = 9;
 
 const INVALIDATE: u32 = 10;
 
-const NETGROUP_ENTRIES: u32 = 19;
-
-const IN_NETGROUP: u32 = 20;
-
 // What a type that is no lookup asks.
 fn other(bytes: &[u8], number: u32, key: Span) -> Wire
     requires key { IsKeyIn bytes.now key }
@@ -152,7 +153,6 @@ fn other(bytes: &[u8], number: u32, key: Span) -> Wire
         INVALIDATE => Wire::Invalidate {
             key: text(bytes, key),
         },
-        NETGROUP_ENTRIES | IN_NETGROUP => Wire::Netgroup,
         _ => Wire::Descriptor,
     }
 }

@@ -18,6 +18,8 @@ lacks shape.Ids = refl
 lacks shape.Host = refl
 lacks shape.Addresses = refl
 lacks shape.Service = refl
+lacks shape.Netgroup = refl
+lacks shape.Member = refl
 
 tells : (kind : Kind) (looked : Looked) → has_row (marked kind looked).bytes ≡ not (marked kind looked).not_found
 tells kind (Found (row.Passwd p)) = refl
@@ -26,6 +28,8 @@ tells kind (Found (row.Host h)) = refl
 tells kind (Found (row.Service s)) = refl
 tells kind (Found (row.Ai a)) = refl
 tells kind (Found (row.Groups ids)) = refl
+tells kind (Found (row.Netgroup texts)) = refl
+tells kind (Found (row.Member has)) = refl
 tells kind NotFound = lacks (shape_of kind)
 tells kind Unavail = lacks (shape_of kind)
 

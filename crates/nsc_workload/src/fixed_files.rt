@@ -30,7 +30,7 @@ impl OfContent for Brand {
 #[derive(Drop)]
 pub struct FixedFiles<C: OfContent> {
     content: Arc<Content>,
-    reads: [u64; 7],
+    reads: [u64; 8],
     of: PhantomData<C>,
     pub ghost named: { arc_value content ≡ C.files },
 }
@@ -42,7 +42,7 @@ impl<C: OfContent> FixedFiles<C> {
     {
         Ok(FixedFiles {
             content: Arc::new(alloc, content)?,
-            reads: [0; 7],
+            reads: [0; 8],
             of: PhantomData,
         })
     }
@@ -85,7 +85,7 @@ impl<C: OfContent> FileSet for FixedFiles<C> {
     fn split(&self, _alloc: Global) -> Result<FixedFiles<C>, NoMemory> {
         Ok(FixedFiles {
             content: self.content.clone()?,
-            reads: [0; 7],
+            reads: [0; 8],
             of: PhantomData,
         })
     }

@@ -50,7 +50,7 @@ no_node : (layout : Layout) → IsLayout layout → Laid (no_nodes layout) layou
 no_node layout sizes =
     let z = zeros layout in
     let even : slice_index (no_nodes layout) 0 % 2 ≡ 0 = ap (λ (n : ℕ). n % 2) (z.zero 0 (omega arith)) in
-    whole (first_plan layout no_files) (sound_first layout no_files (record { switch_fits = tt; passwd_fits = tt; group_fits = tt; hosts_fits = tt; services_fits = tt; extra_passwd_fits = tt; extra_group_fits = tt }) sizes) refl even
+    whole (first_plan layout no_files) (sound_first layout no_files (record { switch_fits = tt; passwd_fits = tt; group_fits = tt; hosts_fits = tt; services_fits = tt; extra_passwd_fits = tt; extra_group_fits = tt; netgroup_fits = tt }) sizes) refl even
 
 pub invariant_of-writer : goal.invariant_of-writer
 invariant_of-writer c =
